@@ -1,0 +1,5 @@
+pub mod Bits
+pub mod Circle
+pub mod First
+pub mod Picking
+pub mod Sets

@@ -1,0 +1,180 @@
+ghost use Rattle.std.specs.Prelude.{◌≡◌, ℕ, Some, ◌+◌, ◌%◌, ◌<◌, ◌≤◌, ◌↔◌, IsNone, IfSome};
+ghost use Rattle.rotating_pick.specs.PortSets.{Has, IsAmong};
+ghost use Rattle.rotating_pick.specs.Rotation.{distance, IsFirstFrom};
+
+use crate::limits::MAX_PORTS;
+use crate::port_set::Ports;
+
+/// How many steps port `x` is past port `from`, round the circle of `n` ports, for `n` from 1 to 64:
+/// `(x - from) mod n`.
+pub fn dist(n: u32, from: u32, x: u32) -> u32
+    requires size { n ≤ MAX_PORTS }
+    requires from_in { from < n }
+    requires x_in { x < n }
+    ensures { result ≡ distance n from x }
+{
+    if x >= from { x - from } else { x + (n - from) }
+}
+
+/// The port after `x`, round the circle of `n` ports, for `n` from 1 to 64.
+pub fn next(n: u32, x: u32) -> u32
+    requires size { n ≤ MAX_PORTS }
+    requires x_in { x < n }
+    ensures value { result ≡ (x + 1) % n }
+    ensures within { result < n }
+{
+    if x + 1 == n { 0 } else { x + 1 }
+}
+
+/// The least member; None exactly where the set is empty.
+pub fn lowest(ports: Ports) -> Option<u32>
+    ensures none { IsNone result ↔ (ports ≡ 0) }
+    ensures member { IfSome result (Has ports) }
+    ensures least { IfSome result (λ x. (y : ℕ) → Has ports y → x ≤ y) }
+{
+    if ports == 0 {
+        None
+    } else {
+        Some(ports.trailing_zeros())
+    }
+}
+
+/// The set as seen from port `by` on, for `n` from 1 to 64: port `x` is a member of the answer where
+/// port `(x + by) mod n` is one of the set.
+pub fn rotate(n: u32, ports: Ports, by: u32) -> Ports
+    requires size { n ≤ MAX_PORTS }
+    requires by_in { by < n }
+    requires among { IsAmong n ports }
+    ensures among { IsAmong n result }
+    ensures members { (x : ℕ) → x < n → Has result x ↔ Has ports ((x + by) % n) }
+{
+    if by == 0 {
+        return ports;
+    }
+    let wrapped = ports & ((1 << by) - 1);
+    (wrapped << (n - by)) | (ports >> by)
+}
+
+/// The member that comes first from port `from` on, round the circle of `n` ports, for `n` from 1 to
+/// 64: the one of least distance. None exactly where the set is empty.
+///
+/// This is the round-robin choice of the iSLIP paper (McKeown 1999, section III), made by two words
+/// and no walk.
+pub fn pick(n: u32, from: u32, ports: Ports) -> Option<u32>
+    requires size { n ≤ MAX_PORTS }
+    requires from_in { from < n }
+    requires among { IsAmong n ports }
+    ensures none { IsNone result ↔ (ports ≡ 0) }
+    ensures first { IfSome result (IsFirstFrom n from (Has ports)) }
+    ensures exact { (x : ℕ) → (result ≡ Some x) ↔ IsFirstFrom n from (Has ports) x }
+{
+    let steps = lowest(rotate(n, ports, from))?;
+    Some(advance(n, from, steps))
+}
+
+// The port `steps` past port `from`.
+fn advance(n: u32, from: u32, steps: u32) -> u32
+    requires size { n ≤ MAX_PORTS }
+    requires from_in { from < n }
+    requires steps_in { steps < n }
+    ensures { result ≡ (steps + from) % n }
+{
+    let place = steps + from;
+    if place >= n { place - n } else { place }
+}
+
+#[cfg(test)]
+mod tests {
+    use crate::{
+        MAX_PORTS, Ports, all, contains, difference, dist, intersection, is_among, is_empty,
+        is_subset, lowest, next, pick, rotate, union, with, without,
+    };
+
+    // A choice among `n` ports, from a pointer on, and the port that it takes.
+    #[derive(Clone, Copy)]
+    struct Choice {
+        n: u32,
+        from: u32,
+        ports: Ports,
+        picked: Option<u32>,
+    }
+
+    #[test]
+    fn picks_round_the_circle(rt: HostRuntime) {
+        let rows = [
+            Choice {
+                n: 64,
+                from: 63,
+                ports: 1 | 1 << 62,
+                picked: Some(0),
+            },
+            Choice {
+                n: 5,
+                from: 2,
+                ports: 0b01010,
+                picked: Some(3),
+            },
+            Choice {
+                n: 5,
+                from: 4,
+                ports: 0b01010,
+                picked: Some(1),
+            },
+            Choice {
+                n: 5,
+                from: 1,
+                ports: 0b01010,
+                picked: Some(1),
+            },
+            Choice {
+                n: 1,
+                from: 0,
+                ports: 1,
+                picked: Some(0),
+            },
+            Choice {
+                n: 64,
+                from: 5,
+                ports: 0,
+                picked: None,
+            },
+        ];
+        for Choice {
+            n,
+            from,
+            ports,
+            picked,
+        } in rows {
+            assert!(rt; n <= MAX_PORTS && from < n);
+            assert!(rt; is_among(n, ports));
+            assert_eq!(rt; pick(n, from, ports), picked, "{n} ports from {from}");
+        }
+    }
+
+    #[test]
+    fn turns_and_counts_steps(rt: HostRuntime) {
+        assert_eq!(rt; rotate(5, 0b10010, 3), 0b01010);
+        assert_eq!(rt; rotate(1, 1, 0), 1);
+        assert_eq!(rt; rotate(64, 1, 1), 1 << 63);
+        assert_eq!(rt; lowest(0), None);
+        assert_eq!(rt; lowest(0b01010), Some(1));
+        assert_eq!(rt; dist(64, 63, 0), 1);
+        assert_eq!(rt; dist(64, 63, 62), 63);
+        assert_eq!(rt; next(5, 4), 0);
+        assert_eq!(rt; next(5, 3), 4);
+    }
+
+    #[test]
+    fn sets_have_their_members(rt: HostRuntime) {
+        assert_eq!(rt; all(5), 0b11111);
+        assert_eq!(rt; with(0b01010, 0), 0b01011);
+        assert_eq!(rt; without(0b01010, 3), 0b00010);
+        assert_eq!(rt; union(0b01010, 0b00110), 0b01110);
+        assert_eq!(rt; intersection(0b01010, 0b00110), 0b00010);
+        assert_eq!(rt; difference(0b01010, 0b00110), 0b01000);
+        assert!(rt; contains(0b01010, 3));
+        assert!(rt; is_subset(0b00010, 0b01010));
+        assert!(rt; !is_subset(0b00110, 0b01010));
+        assert!(rt; is_empty(0));
+    }
+}
