@@ -1,5 +1,5 @@
 -- Members of a set with one port more, with one less, and of what two sets share.
-use Rattle.std.proofs.Common.{◌≡◌, ℕ, ◌-◌, ◌*◌, ◌%◌, ◌/◌, ◌^◌, ◌<◌, ◌≤◌, ◌∙◌, ◌≢◌, ◌↔◌, ◌⊎◌, bit_and, bit_or, w64, sym, arith, inl, inr}
+use Rattle.std.proofs.Common.{◌≡◌, ℕ, ◌-◌, ◌*◌, ◌%◌, ◌/◌, ◌^◌, ◌<◌, ◌≤◌, ◌∙◌, ◌≢◌, ◌↔◌, ◌⊎◌, bit_and, bit_or, w64, refl, sym, subst, arith, inl, inr}
 use Rattle.std.specs.Int.{bit_at, bit_not}
 use Rattle.std.proofs.lemmas.Bool.{cases_eq, cases_lt}
 use Rattle.std.proofs.lemmas.Nat.{and_le_l}
@@ -31,6 +31,16 @@ Has-without ports x y fits within =
         λ h. (other, sym (bit_at_clear_other w64 ports x within y (Has-lt 64 _ y (omega arith) h) other) ∙ h),
         λ s. bit_at_clear_other w64 ports x within y (Has-lt 64 ports y fits s.1) other ∙ s.1,
       )
+    ]
+
+-- a set without one of its members is a smaller number
+pub without-lt : (ports x : ℕ) → ports < 2 ^ 64 → x < 64 → Has ports x → bit_and ports (bit_not w64 (1 * 2 ^ x % 2 ^ 64)) < ports
+without-lt ports x fits within has =
+    let kept = bit_and ports (bit_not w64 (1 * 2 ^ x % 2 ^ 64)) in
+    let fewer : kept ≤ ports = and_le_l ports (bit_not w64 (1 * 2 ^ x % 2 ^ 64)) in
+    elim (cases_eq kept ports) [
+      | inl same ↦ absurd (((Has-without ports x x fits within).0 (subst (λ set. Has set x) (sym same) has)).0 refl)
+      | inr other ↦ omega arith
     ]
 
 pub Has-difference : (a b y : ℕ) → a < 2 ^ 64 → b < 2 ^ 64 → Has (bit_and a (bit_not w64 b)) y ↔ (Has a y × (Has b y → ⊥))

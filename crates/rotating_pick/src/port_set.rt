@@ -60,7 +60,10 @@ pub fn with(ports: Ports, x: u32) -> Ports
 /// The set without port `x`.
 pub fn without(ports: Ports, x: u32) -> Ports
     requires { x < MAX_PORTS }
-    ensures { (y : ℕ) → Has result y ↔ ((y ≢ x) × Has ports y) }
+    ensures members { (y : ℕ) → Has result y ↔ ((y ≢ x) × Has ports y) }
+
+    // What a loop over the members counts down: the word falls with each that is taken out.
+    ensures fewer { Has ports x → result < ports }
 {
     ports & !(1 << x)
 }
