@@ -1,0 +1,7 @@
+pub mod Collecting
+pub mod Lasts
+pub mod Moving
+pub mod Rounding
+pub mod Running
+pub mod Scattering
+pub mod Tables

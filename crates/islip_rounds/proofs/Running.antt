@@ -1,0 +1,76 @@
+-- Rounds one after another, with their numbers.
+use Rattle.std.proofs.Common.{◌≡◌, ◌+◌, ◌-◌, ℕ, ◌<◌, ◌∙◌, List, [], ◌∷◌, ◌++◌, Option, None, length, map, slice_index_or, refl, sym, ap, subst, arith, inl, inr, length-append}
+use Rattle.rotating_pick.proofs.First.{IsFirstFrom-only}
+use Rattle.std.proofs.Common.{slice_index}
+use Rattle.islip_rounds.specs.declared.numbers.RoundsUsed.{RoundsUsed}
+use Rattle.islip_rounds.specs.declared.unicast.UniPointers.{UniPointers}
+use Rattle.islip_rounds.specs.Numbers.{last_of, matched_count, added_from, numbers_of, slot_numbers}
+use Rattle.islip_rounds.specs.Rounds.{Feeds, IsRound, AreRounds, Grants}
+use Rattle.islip_rounds.specs.Slots.{unmatched}
+use Rattle.islip_rounds.proofs.Lasts.{last_of-append, added_from-append, length-added_from, length-map_counts, first-append}
+use Rattle.islip_rounds.proofs.Tables.{get_or-same}
+
+-- one more round at the end
+pub AreRounds-append : (n : ℕ) (asks : List ℕ) (pointers : UniPointers) (before after : List (Option ℕ)) (steps : List (List (Option ℕ))) → AreRounds n asks pointers before steps → IsRound n asks pointers (last_of before steps) after → AreRounds n asks pointers before (steps ++ after ∷ [])
+AreRounds-append n asks pointers before after [] chain next = (next, tt)
+AreRounds-append n asks pointers before after (step ∷ steps) chain next = (chain.0, AreRounds-append n asks pointers step after steps chain.1 next)
+
+-- nothing is matched at first
+pub nothing_fed : (i j : ℕ) → Feeds unmatched i j → ⊥
+nothing_fed i j feeds = let none : slice_index_or unmatched j None ≡ None = get_or-same None 64 j in absurd (cc)
+
+-- k rounds from nothing matched made this match, `first` being the match after the first of them
+pub record IsRun (n k : ℕ) (asks : List ℕ) (pointers : UniPointers) (first fed : List (Option ℕ)) (matched : ℕ) (numbers : RoundsUsed) : Type 0 where
+  pub steps : List (List (Option ℕ))
+  pub count : length steps ≡ k
+  pub some : 0 < length steps
+  pub chain : AreRounds n asks pointers unmatched steps
+  pub result : fed ≡ last_of unmatched steps
+  pub opening : first ≡ slice_index_or steps 0 unmatched
+  pub counted : matched ≡ matched_count fed
+  pub numbered : numbers ≡ slot_numbers steps
+
+-- after the first round
+pub IsRun-first : (n : ℕ) (asks : List ℕ) (pointers : UniPointers) (fed : List (Option ℕ)) (matched : ℕ) (numbers : RoundsUsed) → IsRound n asks pointers unmatched fed → matched ≡ matched_count fed → numbers ≡ numbers_of (matched ∷ []) → IsRun n 1 asks pointers fed fed matched numbers
+IsRun-first n asks pointers fed matched numbers round counted numbered = record {
+  steps = fed ∷ [];
+  count = refl;
+  some = omega arith;
+  chain = (round, tt);
+  result = refl;
+  opening = refl;
+  counted = counted;
+  numbered = let from_nothing : matched ≡ matched_count fed - matched_count unmatched = omega arith in numbered ∙ ap (λ k. numbers_of (k ∷ [])) from_nothing;
+}
+
+-- after one more round
+pub IsRun-next : (n k : ℕ) (asks : List ℕ) (pointers : UniPointers) (first fed after : List (Option ℕ)) (matched now : ℕ) (numbers more : RoundsUsed) → IsRun n k asks pointers first fed matched numbers → IsRound n asks pointers fed after → now ≡ matched_count after
+    → ((each : List ℕ) → length each ≡ k → numbers ≡ numbers_of each → more ≡ numbers_of (each ++ (now - matched) ∷ [])) → IsRun n (k + 1) asks pointers first after now more
+IsRun-next n k asks pointers first fed after matched now numbers more run round counted numbered =
+    let each = added_from 0 (map matched_count run.steps) in
+    let long : length each ≡ k = length-added_from 0 (map matched_count run.steps) ∙ (length-map_counts matched_count run.steps ∙ run.count) in
+    let last_count : matched_count (last_of unmatched run.steps) ≡ matched = sym (run.counted ∙ ap matched_count run.result) in
+    let grown : added_from 0 (map matched_count (run.steps ++ after ∷ [])) ≡ each ++ (now - matched) ∷ [] =
+    added_from-append matched_count unmatched after run.steps
+    ∙ ap (λ d. each ++ d ∷ []) (ap (λ m. matched_count after - m) last_count ∙ ap (λ m. m - matched) (sym counted)) in
+    record {
+      steps = run.steps ++ after ∷ [];
+      count = length-append run.steps (after ∷ []) ∙ ap (λ m. m + 1) run.count;
+      some = omega (arith, length-append run.steps (after ∷ []));
+      chain = AreRounds-append n asks pointers unmatched after run.steps run.chain (subst (λ m. IsRound n asks pointers m after) run.result round);
+      result = sym (last_of-append unmatched after run.steps);
+      opening = run.opening ∙ sym (first-append unmatched after run.steps run.some);
+      counted = counted;
+      numbered = numbered each long run.numbered ∙ ap numbers_of (sym grown);
+    }
+
+-- in a round from nothing matched no input accepts two outputs
+pub once_in_first : (n : ℕ) (asks : List ℕ) (pointers : UniPointers) (fed : List (Option ℕ)) (i j k : ℕ) → ((x : ℕ) → x < n → slice_index pointers.accept x < n) → IsRound n asks pointers unmatched fed → Feeds fed i j → Feeds fed i k → j ≡ k
+once_in_first n asks pointers fed i j k in_ports round feeds also =
+    elim ((round i j).0 feeds) [
+      | inl old ↦ absurd (nothing_fed i j old)
+      | inr accepts ↦ elim ((round i k).0 also) [
+        | inl old ↦ absurd (nothing_fed i k old)
+        | inr other ↦ IsFirstFrom-only n (slice_index pointers.accept i) (λ y. Grants n asks pointers unmatched i y) j k (in_ports i accepts.member.first.below) accepts other
+      ]
+    ]

@@ -1,0 +1,26 @@
+-- Tables that are filled one place after another.
+use Rattle.std.proofs.Common.{◌≡◌, ◌+◌, ℕ, zero, suc, ◌<◌, List, length, replicate, slice_index, slice_index_or, slice_set, refl, sym, ◌∙◌, ap, subst, arith, inl, inr, get_or-set_same, get_or-set_other}
+use Rattle.std.specs.Int.{bit_at}
+use Rattle.rotating_pick.specs.PortSets.{Has}
+use Rattle.rotating_pick.proofs.Bits.{no_member-zero}
+use Rattle.std.proofs.lemmas.Bool.{cases_eq}
+
+-- place m is next
+pub below-next : {X : Type 0} (P : ℕ → X → Type 0) (d : X) (xs : List X) (m : ℕ) (x : X) → m < length xs → P m x → ((k : ℕ) → k < m → P k (slice_index_or xs k d)) → (k : ℕ) → k < m + 1 → P k (slice_index_or (slice_set xs m x) k d)
+below-next P d xs m x m_in here below k k_in =
+    elim (cases_eq k m) [
+      | inl same ↦
+          let at_m : P m (slice_index_or (slice_set xs m x) m d) = rw get_or-set_same here in
+          subst (λ y. P y (slice_index_or (slice_set xs m x) y d)) (sym same) at_m
+      | inr other ↦ rw get_or-set_other (below k (omega arith))
+    ]
+
+-- a table of one value has it at each place, and no other beyond
+pub get_or-same : {X : Type 0} (d : X) (m k : ℕ) → slice_index_or (replicate m d) k d ≡ d
+get_or-same d zero k = refl
+get_or-same d (suc m) zero = refl
+get_or-same d (suc m) (suc k) = get_or-same d m k
+
+-- a table of empty sets has no member at any place
+pub no_members : (m k x : ℕ) → Has (slice_index (replicate m 0) k) x → ⊥
+no_members m k x has = no_member-zero x (ap (λ set. bit_at set x) (sym (get_or-same 0 m k)) ∙ has)

@@ -1,0 +1,5 @@
+pub mod Numbers
+pub mod Choices
+pub mod Columns
+pub mod Rounds
+pub mod Slots

@@ -1,0 +1,17 @@
+//! The rounds of iSLIP for one level of unicast, and the two kernels of every scheduler here: rows of
+//! requests turned into columns, and the rotating choice of many ports at once.
+//!
+//! N. McKeown, "The iSLIP Scheduling Algorithm for Input-Queued Switches", IEEE/ACM Transactions on
+//! Networking 7(2), 1999, section III.
+#![tactic(auto)]
+
+mod kernels;
+mod numbers;
+mod rounds;
+mod slot;
+mod unicast;
+
+pub use kernels::{picks, transpose};
+pub use numbers::RoundsUsed;
+pub use slot::islip_slot;
+pub use unicast::{UniMatch, UniPointers};

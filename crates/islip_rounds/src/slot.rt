@@ -1,0 +1,195 @@
+ghost use Rattle.std.specs.Prelude.{◌≡◌, ℕ, ◌+◌, ◌%◌, ◌<◌, ◌≤◌, Some, None, length, slice_index, slice_index_or, All};
+ghost use Rattle.rotating_pick.specs.PortSets.{IsAmong};
+ghost use Rattle.islip_rounds.specs.Numbers.{matched_count};
+ghost use Rattle.islip_rounds.specs.Rounds.{Feeds};
+ghost use Rattle.islip_rounds.specs.Slots.{AreMoved, IsSlot};
+
+use crate::kernels::transpose;
+use crate::numbers::RoundsUsed;
+use crate::rounds::{PORTS, no_ports, no_sets, round};
+use crate::unicast::{UniMatch, UniPointers};
+use rotating_pick::{MAX_PORTS, MAX_ROUNDS, Ports, next};
+
+/// One slot of iSLIP for one level of unicast: sets `out` to the match of so many rounds and moves the
+/// pointers, for `n` and `rounds` from 1 to 64. `asks` has for each input the outputs that it asks, and
+/// the pointers of the `n` ports are at ports. Takes no memory.
+pub fn islip_slot(
+    n: u32,
+    rounds: u32,
+    asks: &[Ports],
+    p: &mut UniPointers,
+    out: &mut UniMatch,
+) -> RoundsUsed
+    requires some { 0 < n }
+    requires size { n ≤ MAX_PORTS }
+    requires rounds_some { 0 < rounds }
+    requires rounds_few { rounds ≤ MAX_ROUNDS }
+    requires asks { length asks.now ≡ n }
+    requires among { All (IsAmong n) asks.now }
+    requires grant { (j : ℕ) → j < n → slice_index p.old.grant j < n }
+    requires accept { (i : ℕ) → i < n → slice_index p.old.accept i < n }
+    ensures slot { IsSlot n rounds asks.now p.old out.new.fed result p.new }
+    ensures grant { (j : ℕ) → j < n → slice_index p.new.grant j < n }
+    ensures accept { (i : ℕ) → i < n → slice_index p.new.accept i < n }
+{
+    let mut columns = no_sets();
+    transpose(n, asks, &mut columns);
+    let mut fed = no_ports();
+    round(n, &columns, p, &mut fed);
+    let first = fed;
+    let mut matched = matched_outputs(&fed);
+    let mut numbers = RoundsUsed::none().after_round(0, matched);
+    for done in 1..rounds {
+        round(n, &columns, p, &mut fed);
+        let now = matched_outputs(&fed);
+        numbers = numbers.after_round(done, now.saturating_sub(matched));
+        matched = now;
+    }
+    move_pointers(n, &first, &mut p.grant, &mut p.accept);
+    out.fed = fed;
+    numbers
+}
+
+// How many outputs are matched.
+fn matched_outputs(fed: &[Option<u32>; PORTS]) -> u32
+    ensures { result ≡ matched_count fed.now }
+{
+    fed.iter().filter(|input| input.is_some()).count() as u32
+}
+
+// Moves the pointers of each pair of the first round one beyond each other.
+fn move_pointers(
+    n: u32,
+    first: &[Option<u32>; PORTS],
+    grant: &mut [u32; PORTS],
+    accept: &mut [u32; PORTS],
+)
+    requires size { n ≤ MAX_PORTS }
+    requires within { (i j : ℕ) → Feeds first.now i j → (i < n) × (j < n) }
+    requires once { (i j k : ℕ) → Feeds first.now i j → Feeds first.now i k → j ≡ k }
+    requires grant { (j : ℕ) → j < n → slice_index grant.old j < n }
+    requires accept { (i : ℕ) → i < n → slice_index accept.old i < n }
+    ensures grant { (j : ℕ) → j < n → slice_index grant.new j < n }
+    ensures accept { (i : ℕ) → i < n → slice_index accept.new i < n }
+    ensures moved { AreMoved n first.now (record { grant = grant.old; accept = accept.old }) (record { grant = grant.new; accept = accept.new }) }
+{
+    for j in 0..n {
+        if let Some(i) = first[j as usize] {
+            grant[j as usize] = next(n, i);
+            accept[i as usize] = next(n, j);
+        }
+    }
+}
+
+#[cfg(test)]
+mod tests {
+    use crate::{RoundsUsed, UniMatch, UniPointers, islip_slot, picks, transpose};
+    use rotating_pick::Ports;
+
+    const NO_MATCH: UniMatch = UniMatch { fed: [None; 64] };
+
+    const AT_ZERO: UniPointers = UniPointers {
+        grant: [0; 64],
+        accept: [0; 64],
+    };
+
+    // What one slot of three ports gives, as its first three places.
+    #[derive(Clone, Copy, Debug, PartialEq)]
+    struct Given {
+        fed: [Option<u32>; 3],
+        numbers: RoundsUsed,
+        grant: [u32; 3],
+        accept: [u32; 3],
+    }
+
+    fn slot_of_three(rounds: u32, asks: [Ports; 3], pointers: &mut UniPointers) -> Given
+        requires some { 0 < rounds }
+        requires few { rounds ≤ 64 }
+        requires asks { All (λ set. set < 8) asks }
+        requires grant { (j : ℕ) → j < 3 → slice_index pointers.old.grant j < 3 }
+        requires accept { (i : ℕ) → i < 3 → slice_index pointers.old.accept i < 3 }
+        ensures grant { (j : ℕ) → j < 3 → slice_index pointers.new.grant j < 3 }
+        ensures accept { (i : ℕ) → i < 3 → slice_index pointers.new.accept i < 3 }
+    {
+        let mut matched = NO_MATCH;
+        let numbers = islip_slot(3, rounds, &asks, pointers, &mut matched);
+        Given {
+            fed: [matched.fed[0], matched.fed[1], matched.fed[2]],
+            numbers,
+            grant: [pointers.grant[0], pointers.grant[1], pointers.grant[2]],
+            accept: [pointers.accept[0], pointers.accept[1], pointers.accept[2]],
+        }
+    }
+
+    fn numbers(used: u32, first: u32, last_added: u32) -> RoundsUsed {
+        RoundsUsed {
+            used,
+            first,
+            last_added,
+        }
+    }
+
+    // All queues of three ports are full: from slot 2 on every slot matches all.
+    #[test]
+    fn full_load_of_three(rt: HostRuntime) {
+        let mut pointers = AT_ZERO;
+        let slots = [
+            slot_of_three(1, [7, 7, 7], &mut pointers),
+            slot_of_three(1, [7, 7, 7], &mut pointers),
+            slot_of_three(1, [7, 7, 7], &mut pointers),
+            slot_of_three(1, [7, 7, 7], &mut pointers),
+        ];
+        let rows = [
+            ([Some(0), None, None], 1),
+            ([Some(1), Some(0), None], 2),
+            ([Some(2), Some(1), Some(0)], 3),
+            ([Some(0), Some(2), Some(1)], 3),
+        ];
+        for ((fed, matched), given) in rows.iter().zip(slots.iter()) {
+            assert_eq!(rt; given.fed, *fed);
+            assert_eq!(rt; given.numbers, numbers(1, *matched, *matched));
+        }
+    }
+
+    // The pair of the second round moves no pointer.
+    #[test]
+    fn later_round_moves_no_pointer(rt: HostRuntime) {
+        let given = slot_of_three(2, [7, 7, 7], &mut AT_ZERO);
+        assert_eq!(rt;
+            given,
+            Given {
+                fed: [Some(0), Some(1), None],
+                numbers: numbers(2, 1, 1),
+                grant: [1, 0, 0],
+                accept: [1, 0, 0],
+            }
+        );
+    }
+
+    // Output 0 grants input 1, which accepts output 1.
+    #[test]
+    fn refused_grant_moves_no_pointer(rt: HostRuntime) {
+        let mut pointers = AT_ZERO;
+        pointers.accept[1] = 1;
+        let given = slot_of_three(1, [0, 3, 1], &mut pointers);
+        assert_eq!(rt;
+            given,
+            Given {
+                fed: [None, Some(1), None],
+                numbers: numbers(1, 1, 1),
+                grant: [0, 2, 0],
+                accept: [0, 2, 0],
+            }
+        );
+    }
+
+    #[test]
+    fn kernels_answer(rt: HostRuntime) {
+        let mut columns = [0; 4];
+        transpose(4, &[0x9, 0x9, 0x4, 0xd], &mut columns);
+        assert_eq!(rt; columns, [0xb, 0x0, 0xc, 0xb]);
+        let mut chosen = [None; 4];
+        picks(4, &[0, 0, 3, 2], &[0x4, 0x0, 0xd, 0x8], 0xc, &mut chosen);
+        assert_eq!(rt; chosen, [None, None, Some(3), Some(3)]);
+    }
+}
