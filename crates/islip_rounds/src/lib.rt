@@ -6,6 +6,7 @@
 #![tactic(auto)]
 
 mod kernels;
+pub mod laws;
 mod numbers;
 mod rounds;
 mod slot;

@@ -12,7 +12,7 @@ use rotating_pick::{MAX_PORTS, MAX_ROUNDS, Ports, next};
 
 /// One slot of iSLIP for one level of unicast: sets `out` to the match of so many rounds and moves the
 /// pointers, for `n` and `rounds` from 1 to 64. `asks` has for each input the outputs that it asks, and
-/// the pointers of the `n` ports are at ports. Takes no memory.
+/// the pointers of the `n` ports are at ports, before and after. Takes no memory.
 pub fn islip_slot(
     n: u32,
     rounds: u32,
@@ -29,6 +29,7 @@ pub fn islip_slot(
     requires grant { (j : ℕ) → j < n → slice_index p.old.grant j < n }
     requires accept { (i : ℕ) → i < n → slice_index p.old.accept i < n }
     ensures slot { IsSlot n rounds asks.now p.old out.new.fed result p.new }
+    ensures within { (i j : ℕ) → Feeds out.new.fed i j → (i < n) × (j < n) }
     ensures grant { (j : ℕ) → j < n → slice_index p.new.grant j < n }
     ensures accept { (i : ℕ) → i < n → slice_index p.new.accept i < n }
 {
