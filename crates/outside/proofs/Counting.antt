@@ -1,0 +1,23 @@
+-- Counts that never fall, and one that rose: what calls one after another say together.
+use Rattle.std.proofs.Common.{◌≤◌, ℕ, inl, inr, arith}
+use Rattle.outside.specs.Faults.{Place, NeverFall, Rose}
+
+pub NeverFall-refl : (counts : Place → ℕ) → NeverFall counts counts
+NeverFall-refl counts p = omega arith
+
+pub NeverFall-trans : (a b c : Place → ℕ) → NeverFall a b → NeverFall b c → NeverFall a c
+NeverFall-trans a b c first then p = omega (arith, first p, then p)
+
+-- what rose, and did not fall afterwards, rose
+pub Rose-le : (a b c : ℕ) → Rose a b → b ≤ c → Rose a c
+Rose-le a b c rose kept = elim rose [ inl more ↦ inl (omega arith) | inr last ↦ inr (omega arith) ]
+
+-- what did not fall, and then rose, rose
+pub le-Rose : (a b c : ℕ) → a ≤ b → Rose b c → Rose a c
+le-Rose a b c kept rose = elim rose [ inl more ↦ inl (omega arith) | inr last ↦ inr (omega arith) ]
+
+pub Rose-NeverFall : (a b c : Place → ℕ) (p : Place) → Rose (a p) (b p) → NeverFall b c → Rose (a p) (c p)
+Rose-NeverFall a b c p rose kept = Rose-le (a p) (b p) (c p) rose (kept p)
+
+pub NeverFall-Rose : (a b c : Place → ℕ) (p : Place) → NeverFall a b → Rose (b p) (c p) → Rose (a p) (c p)
+NeverFall-Rose a b c p kept rose = le-Rose (a p) (b p) (c p) (kept p) rose

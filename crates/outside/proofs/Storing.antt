@@ -1,0 +1,231 @@
+-- What a change of one file makes of the contents and of the counts.
+use Rattle.std.proofs.Common.{◌≡◌, ◌+◌, ◌^◌, ◌≤◌, ℕ, List, [], ◌++◌, Bool, true, false, cond, Option, Some, None, refl, sym, ◌∙◌, ap, arith, inl, inr}
+use Rattle.std.specs.Prelude.{option_map, unwrap_or, is_none, bytes_eq, nat_lt, ◌||◌, ◌&&◌}
+use Rattle.std.proofs.lemmas.Bool.{ltb-false}
+use Rattle.std.proofs.lemmas.Slice.Eq.{bytes_eq-Decides}
+use Rattle.outside.specs.Calls.{one_more, raised, NamesFile}
+use Rattle.outside.specs.Contents.{Contents, begin_file, append_file}
+use Rattle.outside.specs.Faults.{Place, ReadOf, BeginOf, WriteOf, ToOut, ToErr, NeverFall, Rose}
+use Rattle.outside.specs.MemoryFiles.{FileState, file_named, contents_among, counts_at, faults_among, is_counted, is_alike, PutsFile, CountsFault}
+use Rattle.outside.specs.declared.memory_files.calls.Call.{Call}
+use Rattle.outside.specs.declared.memory_files.calls.Call.TheVariants.{Read, Begin, Write}
+use Rattle.outside.specs.declared.memory_files.calls.CallCounts.{CallCounts}
+use Rattle.outside.proofs.Effects.{bytes_eq-same}
+
+-- One file in place of another under a name
+
+finds_same : (name n : List ℕ) (fs : List FileState) (f : FileState) → file_named name fs ≡ Some f → bytes_eq n name ≡ true → file_named n fs ≡ Some f
+finds_same name n fs f there same = let e : n ≡ name = (bytes_eq-Decides n name).0 same in rw e there
+
+-- what the new file has as the old one, each name finds as before
+kept_at : {X : Type 0} (g : FileState → X) (name n : List ℕ) (old : List FileState) (f after : FileState) → file_named name old ≡ Some f → g after ≡ g f
+    → (same : Bool) → bytes_eq n name ≡ same → option_map g (cond same (Some after) (file_named n old)) ≡ option_map g (file_named n old)
+kept_at g name n old f after there e true same = ap Some e ∙ sym (ap (option_map g) (finds_same name n old f there same))
+kept_at g name n old f after there e false same = refl
+
+kept : {X : Type 0} (g : FileState → X) (name n : List ℕ) (old new : List FileState) (f after : FileState) → file_named name old ≡ Some f → PutsFile old new name after → g after ≡ g f
+    → option_map g (file_named n new) ≡ option_map g (file_named n old)
+kept g name n old new f after there puts e = ap (option_map g) (puts.finds n) ∙ kept_at g name n old f after there e (bytes_eq n name) refl
+
+-- A refused call
+
+-- a change of a file's counts alone changes no content
+counted_contents : (name : List ℕ) (old new : List FileState) (f after : FileState) → file_named name old ≡ Some f → PutsFile old new name after → after.bytes ≡ f.bytes → after.begun ≡ f.begun
+    → (out err : List ℕ) → contents_among new out err ≡ contents_among old out err
+counted_contents name old new f after there puts bytes begun out err = λ j. record {
+  file = λ n. kept (λ (g : FileState). g.bytes) name n old new f after there puts bytes j;
+  begun = λ n. unwrap_or (kept (λ (g : FileState). g.begun) name n old new f after there puts begun j) false;
+  out = out;
+  err = err;
+}
+
+found_counts : (call : Call) (name n : List ℕ) (old : List FileState) (f : FileState) (was : CallCounts) → file_named name old ≡ Some f
+    → (same : Bool) → bytes_eq n name ≡ same
+    → unwrap_or (option_map (λ (g : FileState). g.faults) (cond same (Some (record f { faults = one_more call f.faults })) (file_named n old))) was
+    ≡ cond (same || (is_none (option_map (λ (g : FileState). g.bytes) (file_named name old)) && is_none (option_map (λ (g : FileState). g.bytes) (file_named n old)))) (one_more call (counts_at old was n)) (counts_at old was n)
+found_counts call name n old f was there true same = rw (finds_same name n old f there same) refl
+found_counts call name n old f was there false same = rw there refl
+
+-- it counts in the file of its name
+pub counted_found : (call : Call) (name : List ℕ) (old new : List FileState) (f : FileState) (was : CallCounts) → file_named name old ≡ Some f → PutsFile old new name (record f { faults = one_more call f.faults })
+    → CountsFault call name old new was was
+counted_found call name old new f was there puts = record {
+  contents = counted_contents name old new f (record f { faults = one_more call f.faults }) there puts refl refl;
+  counts = λ n. ap (λ o. unwrap_or (option_map (λ (g : FileState). g.faults) o) was) (puts.finds n) ∙ found_counts call name n old f was there (bytes_eq n name) refl;
+  out = refl;
+  err = refl;
+}
+
+missing_counts : (call : Call) (name n : List ℕ) (old : List FileState) (was : CallCounts) → file_named name old ≡ None
+    → (o : Option FileState) → file_named n old ≡ o → (same : Bool) → bytes_eq n name ≡ same
+    → unwrap_or (option_map (λ (g : FileState). g.faults) o) (one_more call was)
+    ≡ cond (same || (is_none (option_map (λ (g : FileState). g.bytes) (file_named name old)) && is_none (option_map (λ (g : FileState). g.bytes) o))) (one_more call (unwrap_or (option_map (λ (g : FileState). g.faults) o) was)) (unwrap_or (option_map (λ (g : FileState). g.faults) o) was)
+missing_counts call name n old was none None at true same = refl
+missing_counts call name n old was none None at false same = rw none refl
+missing_counts call name n old was none (Some f) at true same =
+    let e : n ≡ name = (bytes_eq-Decides n name).0 same in
+    let there : file_named name old ≡ Some f = rw (← e) at in
+    absurd (cc)
+missing_counts call name n old was none (Some f) at false same = rw none refl
+
+others_kept : (call : Call) (was : CallCounts) → NamesFile call → ((one_more call was).out ≡ was.out) × ((one_more call was).err ≡ was.err)
+others_kept Read was names = (refl, refl)
+others_kept Begin was names = (refl, refl)
+others_kept Write was names = (refl, refl)
+others_kept _ was names = absurd names
+
+-- it counts elsewhere, at all names that are not there
+pub counted_missing : (call : Call) (name : List ℕ) (old : List FileState) (was : CallCounts) → NamesFile call → file_named name old ≡ None → CountsFault call name old old was (one_more call was)
+counted_missing call name old was names none = record {
+  contents = λ out err. refl;
+  counts = λ n. missing_counts call name n old was none (file_named n old) refl (bytes_eq n name) refl;
+  out = (others_kept call was names).0;
+  err = (others_kept call was names).1;
+}
+
+part_of : (g : CallCounts → ℕ) (here : Bool) (a b : CallCounts) → g (cond here a b) ≡ cond here (g a) (g b)
+part_of g true a b = refl
+part_of g false a b = refl
+
+part_kept : (g : CallCounts → ℕ) (here : Bool) (a b : CallCounts) → g a ≡ g b → g (cond here a b) ≡ g b
+part_kept g true a b e = e
+part_kept g false a b e = refl
+
+-- the counts after a refused call that names a file
+
+pub read_counted : (name : List ℕ) (old new : List FileState) (was now : CallCounts) (out err : List ℕ) → CountsFault Read name old new was now
+    → (p : Place) → faults_among new now p ≡ cond (is_counted (contents_among old out err) (ReadOf name) p) (raised (faults_among old was p)) (faults_among old was p)
+read_counted name old new was now out err c (ReadOf n) = ap (λ x. x.read) (c.counts n) ∙ part_of (λ (x : CallCounts). x.read) (is_alike (contents_among old [] []).file name n) (one_more Read (counts_at old was n)) (counts_at old was n)
+read_counted name old new was now out err c (BeginOf n) = ap (λ x. x.begin) (c.counts n) ∙ part_kept (λ (x : CallCounts). x.begin) (is_alike (contents_among old [] []).file name n) (one_more Read (counts_at old was n)) (counts_at old was n) refl
+read_counted name old new was now out err c (WriteOf n) = ap (λ x. x.write) (c.counts n) ∙ part_kept (λ (x : CallCounts). x.write) (is_alike (contents_among old [] []).file name n) (one_more Read (counts_at old was n)) (counts_at old was n) refl
+read_counted name old new was now out err c ToOut = c.out
+read_counted name old new was now out err c ToErr = c.err
+
+pub begin_counted : (name : List ℕ) (old new : List FileState) (was now : CallCounts) (out err : List ℕ) → CountsFault Begin name old new was now
+    → (p : Place) → faults_among new now p ≡ cond (is_counted (contents_among old out err) (BeginOf name) p) (raised (faults_among old was p)) (faults_among old was p)
+begin_counted name old new was now out err c (ReadOf n) = ap (λ x. x.read) (c.counts n) ∙ part_kept (λ (x : CallCounts). x.read) (is_alike (contents_among old [] []).file name n) (one_more Begin (counts_at old was n)) (counts_at old was n) refl
+begin_counted name old new was now out err c (BeginOf n) = ap (λ x. x.begin) (c.counts n) ∙ part_of (λ (x : CallCounts). x.begin) (is_alike (contents_among old [] []).file name n) (one_more Begin (counts_at old was n)) (counts_at old was n)
+begin_counted name old new was now out err c (WriteOf n) = ap (λ x. x.write) (c.counts n) ∙ part_kept (λ (x : CallCounts). x.write) (is_alike (contents_among old [] []).file name n) (one_more Begin (counts_at old was n)) (counts_at old was n) refl
+begin_counted name old new was now out err c ToOut = c.out
+begin_counted name old new was now out err c ToErr = c.err
+
+pub write_counted : (name : List ℕ) (old new : List FileState) (was now : CallCounts) (out err : List ℕ) → CountsFault Write name old new was now
+    → (p : Place) → faults_among new now p ≡ cond (is_counted (contents_among old out err) (WriteOf name) p) (raised (faults_among old was p)) (faults_among old was p)
+write_counted name old new was now out err c (ReadOf n) = ap (λ x. x.read) (c.counts n) ∙ part_kept (λ (x : CallCounts). x.read) (is_alike (contents_among old [] []).file name n) (one_more Write (counts_at old was n)) (counts_at old was n) refl
+write_counted name old new was now out err c (BeginOf n) = ap (λ x. x.begin) (c.counts n) ∙ part_kept (λ (x : CallCounts). x.begin) (is_alike (contents_among old [] []).file name n) (one_more Write (counts_at old was n)) (counts_at old was n) refl
+write_counted name old new was now out err c (WriteOf n) = ap (λ x. x.write) (c.counts n) ∙ part_of (λ (x : CallCounts). x.write) (is_alike (contents_among old [] []).file name n) (one_more Write (counts_at old was n)) (counts_at old was n)
+write_counted name old new was now out err c ToOut = c.out
+write_counted name old new was now out err c ToErr = c.err
+
+-- What a raised count says
+
+raised_by : (n : ℕ) (below : Bool) → nat_lt (n + 1) (2 ^ 64) ≡ below → Rose n (cond below (n + 1) n)
+raised_by n true is = inl (omega arith)
+raised_by n false is = inr (ltb-false _ _ is)
+
+pub raised-Rose : (n : ℕ) → Rose n (raised n)
+raised-Rose n = raised_by n (nat_lt (n + 1) (2 ^ 64)) refl
+
+not_below : (n : ℕ) (here below : Bool) → n ≤ cond here (cond below (n + 1) n) n
+not_below n true true = omega arith
+not_below n true false = omega arith
+not_below n false below = omega arith
+
+pub none_fell : (c : Contents) (place : Place) (before after : Place → ℕ) → ((p : Place) → after p ≡ cond (is_counted c place p) (raised (before p)) (before p)) → NeverFall before after
+none_fell c place before after is p = rw (is p) (not_below (before p) (is_counted c place p) (nat_lt (before p + 1) (2 ^ 64)))
+
+alike : (file : List ℕ → Option (List ℕ)) (name : List ℕ) → is_alike file name name ≡ true
+alike file name = rw (bytes_eq-same name) refl
+
+counts_itself : (c : Contents) (place : Place) → is_counted c place place ≡ true
+counts_itself c (ReadOf name) = alike c.file name
+counts_itself c (BeginOf name) = alike c.file name
+counts_itself c (WriteOf name) = alike c.file name
+counts_itself c ToOut = refl
+counts_itself c ToErr = refl
+
+pub own_rose : (c : Contents) (place : Place) (before after : Place → ℕ) → ((p : Place) → after p ≡ cond (is_counted c place p) (raised (before p)) (before p)) → Rose (before place) (after place)
+own_rose c place before after is = rw (is place) (rw (counts_itself c place) (raised-Rose (before place)))
+
+-- A file that is begun
+
+begun_file : (here : Bool) (after : FileState) (o : Option FileState) → after.bytes ≡ [] → option_map (λ (f : FileState). f.bytes) (cond here (Some after) o) ≡ cond here (Some []) (option_map (λ (f : FileState). f.bytes) o)
+begun_file true after o empty = ap Some empty
+begun_file false after o empty = refl
+
+begun_flag : (here : Bool) (after : FileState) (o : Option FileState) → after.begun ≡ true
+    → unwrap_or (option_map (λ (f : FileState). f.begun) (cond here (Some after) o)) false ≡ (here || unwrap_or (option_map (λ (f : FileState). f.begun) o) false)
+begun_flag true after o begun = begun
+begun_flag false after o begun = refl
+
+pub begun_contents : (name : List ℕ) (old new : List FileState) (after : FileState) (out err : List ℕ) → PutsFile old new name after → after.bytes ≡ [] → after.begun ≡ true
+    → contents_among new out err ≡ begin_file name (contents_among old out err)
+begun_contents name old new after out err puts empty begun = λ j. record {
+  file = λ n. begun_file_at n j;
+  begun = λ n. begun_flag_at n j;
+  out = out;
+  err = err;
+}
+  where
+    begun_file_at : (n : List ℕ) → option_map (λ (f : FileState). f.bytes) (file_named n new) ≡ cond (bytes_eq n name) (Some []) (option_map (λ (f : FileState). f.bytes) (file_named n old))
+    begun_file_at n = ap (option_map (λ (f : FileState). f.bytes)) (puts.finds n) ∙ begun_file (bytes_eq n name) after (file_named n old) empty
+
+    begun_flag_at : (n : List ℕ) → unwrap_or (option_map (λ (f : FileState). f.begun) (file_named n new)) false ≡ (bytes_eq n name || unwrap_or (option_map (λ (f : FileState). f.begun) (file_named n old)) false)
+    begun_flag_at n = ap (λ o. unwrap_or (option_map (λ (f : FileState). f.begun) o) false) (puts.finds n) ∙ begun_flag (bytes_eq n name) after (file_named n old) begun
+
+begun_counts : (name n : List ℕ) (old : List FileState) (after : FileState) (was : CallCounts) → after.faults ≡ counts_at old was name
+    → (same : Bool) → bytes_eq n name ≡ same → unwrap_or (option_map (λ (f : FileState). f.faults) (cond same (Some after) (file_named n old))) was ≡ counts_at old was n
+begun_counts name n old after was faults true same = let e : n ≡ name = (bytes_eq-Decides n name).0 same in rw e faults
+begun_counts name n old after was faults false same = refl
+
+-- A file that is written
+
+appended_file : (name n : List ℕ) (old : List FileState) (f after : FileState) (more : List ℕ) → file_named name old ≡ Some f → after.bytes ≡ f.bytes ++ more
+    → (same : Bool) → bytes_eq n name ≡ same
+    → option_map (λ (g : FileState). g.bytes) (cond same (Some after) (file_named n old))
+    ≡ cond same (option_map (λ bytes. bytes ++ more) (option_map (λ (g : FileState). g.bytes) (file_named n old))) (option_map (λ (g : FileState). g.bytes) (file_named n old))
+appended_file name n old f after more there e true same = rw (finds_same name n old f there same) (ap Some e)
+appended_file name n old f after more there e false same = refl
+
+pub appended_contents : (name : List ℕ) (old new : List FileState) (f after : FileState) (more out err : List ℕ) → file_named name old ≡ Some f → PutsFile old new name after
+    → after.bytes ≡ f.bytes ++ more → after.begun ≡ f.begun
+    → contents_among new out err ≡ append_file name more (contents_among old out err)
+appended_contents name old new f after more out err there puts bytes begun = λ j. record {
+  file = λ n. appended_file_at n j;
+  begun = λ n. unwrap_or (kept (λ (g : FileState). g.begun) name n old new f after there puts begun j) false;
+  out = out;
+  err = err;
+}
+  where
+    appended_file_at : (n : List ℕ) → option_map (λ (g : FileState). g.bytes) (file_named n new)
+        ≡ cond (bytes_eq n name) (option_map (λ bytes. bytes ++ more) (option_map (λ (g : FileState). g.bytes) (file_named n old))) (option_map (λ (g : FileState). g.bytes) (file_named n old))
+    appended_file_at n = ap (option_map (λ (g : FileState). g.bytes)) (puts.finds n) ∙ appended_file name n old f after more there bytes (bytes_eq n name) refl
+
+-- Counts that stay at each name stay at each place
+
+same_faults : (old new : List FileState) (was : CallCounts) → ((n : List ℕ) → counts_at new was n ≡ counts_at old was n) → (p : Place) → faults_among new was p ≡ faults_among old was p
+same_faults old new was same (ReadOf n) = ap (λ x. x.read) (same n)
+same_faults old new was same (BeginOf n) = ap (λ x. x.begin) (same n)
+same_faults old new was same (WriteOf n) = ap (λ x. x.write) (same n)
+same_faults old new was same ToOut = refl
+same_faults old new was same ToErr = refl
+
+pub begun_faults : (name : List ℕ) (old new : List FileState) (after : FileState) (was : CallCounts) → PutsFile old new name after → after.faults ≡ counts_at old was name
+    → (p : Place) → faults_among new was p ≡ faults_among old was p
+begun_faults name old new after was puts faults =
+    same_faults old new was (λ n. ap (λ o. unwrap_or (option_map (λ (f : FileState). f.faults) o) was) (puts.finds n) ∙ begun_counts name n old after was faults (bytes_eq n name) refl)
+
+pub appended_faults : (name : List ℕ) (old new : List FileState) (f after : FileState) (was : CallCounts) → file_named name old ≡ Some f → PutsFile old new name after → after.faults ≡ f.faults
+    → (p : Place) → faults_among new was p ≡ faults_among old was p
+appended_faults name old new f after was there puts faults =
+    same_faults old new was (λ n. ap (λ o. unwrap_or o was) (kept (λ (g : FileState). g.faults) name n old new f after there puts faults))
+
+-- the file that is begun in place of the one that was there
+pub begun_is : (name : List ℕ) (fs : List FileState) (d : FileState) (elsewhere : CallCounts) → file_named name fs ≡ Some d → d.name ≡ name
+    → record d { bytes = []; begun = true } ≡ record { name = name; bytes = []; begun = true; faults = counts_at fs elsewhere name }
+begun_is name fs d elsewhere there is = λ j. record {
+  name = is j;
+  bytes = [];
+  begun = true;
+  faults = unwrap_or (option_map (λ (f : FileState). f.faults) (sym there j)) elsewhere;
+}

@@ -1,0 +1,29 @@
+use Rattle.std.proofs.Common.{◌≡◌, ℕ, List, ◌++◌, Some, length, take, min, ap, sym, ◌∙◌, refl, arith}
+use Rattle.std.proofs.lemmas.List.{length-take-le}
+use Rattle.outside.specs.MemoryFiles.{FileState, contents_among}
+use Rattle.outside.proofs.Storing.{appended_contents}
+use Rattle.outside.proofs.memory_files.MemFilesFiles.write.Goals as goal
+
+-- a first piece is as many bytes from the front as it is long
+piece_again : (piece bytes : List ℕ) (most : ℕ) → piece ≡ take (min most (length bytes)) bytes → take (length piece) bytes ≡ piece
+piece_again piece bytes most is =
+    let long : length piece ≡ min most (length bytes) = ap length is ∙ length-take-le (min most (length bytes)) bytes (omega arith) in
+    rw long (sym is)
+
+pub returns-then-refuses-clause-told : goal.returns-then-refuses-clause-told
+returns-then-refuses-clause-told c =
+    rw (← c.self.view_is) (ap Some (c.count_fault.ensures.contents c.self.inside.out.items c.self.inside.err.items))
+
+pub returns-in-Ok-clause-told : goal.returns-in-Ok-clause-told
+returns-in-Ok-clause-told c =
+    let m = c.self.inside in
+    let piece = c.first_piece-piece.result.now in
+    let f : FileState = c.in-Ok.ensures.ok.0 in
+    rw (piece_again piece c.args.bytes.now m.piece c.first_piece-piece.ensures, ← c.self.view_is)
+    (ap Some (appended_contents c.args.name.now m.files.items c.append_to.new.files.items f (record f { bytes = f.bytes ++ piece }) piece m.out.items m.err.items c.in-Ok.ensures.ok.1 c.in-Ok.ensures.ok.2 refl refl))
+
+pub returns-in-Err-clause-told : goal.returns-in-Err-clause-told
+returns-in-Err-clause-told c =
+    let m = c.self.inside in
+    rw (← c.self.view_is)
+    (ap Some (c.count_fault-in-Err.ensures.contents m.out.items m.err.items ∙ ap (λ fs. contents_among fs m.out.items m.err.items) c.in-Err.ensures.err))

@@ -1,0 +1,16 @@
+use Rattle.std.specs.Prelude.{option_map}
+use Rattle.outside.specs.Contents.{begin_file}
+use Rattle.outside.proofs.Effects.{is_begun, is_begun-after_write}
+use Rattle.outside.proofs.memory_files.tests.begin_and_write.Goals as goal
+
+pub write-wrote-requires : goal.write-wrote-requires
+write-wrote-requires g c = record { begun = rw c.in_ok-begin.ensures.told (is_begun c.args.name.now _) }
+
+pub write-requires : goal.write-requires
+write-requires g c =
+    let name = c.args.name.now in
+    let told = g.F.Files.told c.args.files.now in
+    record {
+      begun = rw (c.write-wrote.ensures.told, c.in_ok-begin.ensures.told)
+          (is_begun-after_write c.write-wrote.result name c.args.first.now name (option_map (begin_file name) told) (is_begun name told));
+    }

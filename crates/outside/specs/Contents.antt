@@ -1,0 +1,63 @@
+-- What is told of the outside, and what each call makes of it.
+use Rattle.std.specs.Prelude.{◌≡◌, ◌<◌, ◌≤◌, ◌↔◌, ℕ, Bool, ◌||◌, List, [], ◌++◌, take, drop, length, Option, Some, Result, Ok, Err, option_map, bytes_eq, if◌then◌else◌}
+
+-- The bytes of each file that is there, by its name; the names that were begun; and all bytes that standard output and standard error were given.
+pub record Contents : Type 0 where
+  pub file : List ℕ → Option (List ℕ)
+  pub begun : List ℕ → Bool
+  pub out : List ℕ
+  pub err : List ℕ
+
+-- the named file is there, empty and begun; all else as before
+abbrev pub begin_file : List ℕ → Contents → Contents
+begin_file name c = record {
+  file = λ n. if bytes_eq n name then Some [] else c.file n;
+  begun = λ n. bytes_eq n name || c.begun n;
+  out = c.out;
+  err = c.err;
+}
+
+-- the named file, if it is there, has these bytes at its end too; all else as before
+abbrev pub append_file : List ℕ → List ℕ → Contents → Contents
+append_file name more c = record {
+  file = λ n. if bytes_eq n name then option_map (λ bytes. bytes ++ more) (c.file n) else c.file n;
+  begun = c.begun;
+  out = c.out;
+  err = c.err;
+}
+
+-- standard output was given these bytes too; all else as before
+abbrev pub append_out : List ℕ → Contents → Contents
+append_out more c = record { file = c.file; begun = c.begun; out = c.out ++ more; err = c.err }
+
+-- standard error was given these bytes too; all else as before
+abbrev pub append_err : List ℕ → Contents → Contents
+append_err more c = record { file = c.file; begun = c.begun; out = c.out; err = c.err ++ more }
+
+-- what is told after a `begin` that answered this: the file is begun, or all is as before
+abbrev pub after_begin : {T E : Type 0} → Result T E → List ℕ → Option Contents → Option Contents
+after_begin (Ok done) name told = option_map (begin_file name) told
+after_begin (Err refusal) name told = told
+
+-- after a `write` of these bytes: the first k of them are at the file's end, or all is as before
+abbrev pub after_write : {E : Type 0} → Result ℕ E → List ℕ → List ℕ → Option Contents → Option Contents
+after_write (Ok k) name bytes told = option_map (append_file name (take k bytes)) told
+after_write (Err refusal) name bytes told = told
+
+-- after an `out` of these bytes: the first k of them were given to standard output, or all is as before
+abbrev pub after_out : {E : Type 0} → Result ℕ E → List ℕ → Option Contents → Option Contents
+after_out (Ok k) bytes told = option_map (append_out (take k bytes)) told
+after_out (Err refusal) bytes told = told
+
+-- after an `err` of these bytes: the first k of them were given to standard error, or all is as before
+abbrev pub after_err : {E : Type 0} → Result ℕ E → List ℕ → Option Contents → Option Contents
+after_err (Ok k) bytes told = option_map (append_err (take k bytes)) told
+after_err (Err refusal) bytes told = told
+
+-- The file is there, and the first k places of a buffer with this much room are its bytes from `at` on. There are none exactly where `at` is at or past its end.
+pub record GivesPiece (file : Option (List ℕ)) (at room : ℕ) (buf : List ℕ) (k : ℕ) : Type 0 where
+  pub bytes : List ℕ
+  pub there : file ≡ Some bytes
+  pub within : k ≤ length (drop at bytes)
+  pub same : take k buf ≡ take k (drop at bytes)
+  pub end : 0 < room → (k ≡ 0) ↔ (length bytes ≤ at)

@@ -1,0 +1,189 @@
+ghost use Rattle.std.specs.Prelude.{◌≡◌, ◌≤◌, None, length, IfOk};
+ghost use Rattle.outside.specs.Faults.{Rose};
+
+use crate::files::{Failed, Files};
+use crate::standard_error::StandardError;
+use std::fs::OpenOptions;
+use std::io::{Read, Seek, SeekFrom, Write};
+use std::marker::Model;
+use std::{fs, io, rt};
+
+/// The files of the system, standard output and standard error. Nothing is told of what they hold,
+/// and one count stands for the faults of all kinds and names: after 2^64 - 1 of them it stays.
+///
+/// The file that is read and the file that is written are left open from one piece to the next.
+#[derive(Drop)]
+pub struct DiskFiles<'r, R: rt::Files + Print + StandardError + AllocGlobal> {
+    rt: &'r R,
+    faults: u64,
+    reading: Option<OpenFile<R::File>>,
+    writing: Option<OpenFile<R::File>>,
+}
+
+// An open file, with the name that it was opened by.
+#[derive(Drop)]
+struct OpenFile<F: Drop> {
+    name: String,
+    file: F,
+}
+
+impl<'r, R: rt::Files + Print + StandardError + AllocGlobal> Model for DiskFiles<'r, R> {
+    ghost use Rattle.std.specs.Prelude.{ℕ};
+
+    // the count of faults
+    ghost Value = { ℕ };
+
+    ghost view = { λ files. files.faults };
+}
+
+impl<F: Drop> OpenFile<F> {
+    fn has_name(&self, name: &str) -> bool {
+        self.name.as_str() == name
+    }
+}
+
+impl<'r, R: rt::Files + Print + StandardError + AllocGlobal> DiskFiles<'r, R> {
+    /// Over the runtime's files, standard output and standard error. No file is opened yet, and no
+    /// fault is counted.
+    pub fn make(rt: &'r R) -> DiskFiles<'r, R>
+        ensures { result ≡ 0 }
+    {
+        DiskFiles {
+            rt,
+            faults: 0,
+            reading: None,
+            writing: None,
+        }
+    }
+
+    // Counts a fault.
+    fn fail(&mut self) -> Failed
+        ensures rose { Rose self.old self.new }
+        ensures never_fall { self.old ≤ self.new }
+    {
+        self.faults = self.faults.saturating_add(1);
+        Failed
+    }
+
+    fn name_of(&self, name: &str) -> io::Result<String> {
+        Ok(String::from_str(self.rt.alloc(), name)?)
+    }
+
+    // A file is opened anew for its first piece, and closed behind its last.
+    fn read_at(&mut self, name: &str, at: u64, buf: &mut [u8]) -> io::Result<usize>
+        ensures room { IfOk result (λ k. k ≤ length buf.old) }
+        ensures faults { self.new ≡ self.old }
+    {
+        let mut open = match self.reading.take() {
+            Some(open) if at > 0 && open.has_name(name) => open,
+            _ => OpenFile {
+                name: self.name_of(name)?,
+                file: fs::open(self.rt, name)?,
+            },
+        };
+        open.file.seek(SeekFrom::Start(at))?;
+        let count = open.file.read(buf)?;
+        if count > 0 {
+            self.reading = Some(open);
+        }
+        Ok(count)
+    }
+
+    fn create(&mut self, name: &str) -> io::Result<()>
+        ensures faults { self.new ≡ self.old }
+    {
+        let name_kept = self.name_of(name)?;
+        let file = fs::create(self.rt, name)?;
+        self.writing = Some(OpenFile {
+            name: name_kept,
+            file,
+        });
+        Ok(())
+    }
+
+    fn append(&mut self, name: &str, bytes: &[u8]) -> io::Result<usize>
+        ensures room { IfOk result (λ k. k ≤ length bytes.now) }
+        ensures faults { self.new ≡ self.old }
+    {
+        let mut open = match self.writing.take() {
+            Some(open) if open.has_name(name) => open,
+            _ => OpenFile {
+                name: self.name_of(name)?,
+                file: OpenOptions::new().append(true).open(self.rt, name)?,
+            },
+        };
+        let count = open.file.write(bytes)?;
+        self.writing = Some(open);
+        Ok(count)
+    }
+}
+
+impl<'r, R: rt::Files + Print + StandardError + AllocGlobal> Files for DiskFiles<'r, R> {
+    ghost told = { λ _. None };
+
+    ghost faults = { λ faults _. faults };
+
+    fn read(&mut self, name: &str, at: u64, buf: &mut [u8]) -> Result<usize, Failed> {
+        match self.read_at(name, at, buf) {
+            Ok(count) => Ok(count),
+            Err(_) => Err(self.fail()),
+        }
+    }
+
+    fn begin(&mut self, name: &str) -> Result<(), Failed> {
+        match self.create(name) {
+            Ok(()) => Ok(()),
+            Err(_) => Err(self.fail()),
+        }
+    }
+
+    fn write(&mut self, name: &str, bytes: &[u8]) -> Result<usize, Failed> {
+        match self.append(name, bytes) {
+            Ok(count) if count > 0 || bytes.is_empty() => Ok(count),
+            _ => Err(self.fail()),
+        }
+    }
+
+    fn out(&mut self, bytes: &[u8]) -> Result<usize, Failed> {
+        match self.rt.write_some(bytes) {
+            Ok(count) if count > 0 || bytes.is_empty() => Ok(count),
+            _ => Err(self.fail()),
+        }
+    }
+
+    fn err(&mut self, bytes: &[u8]) -> Result<usize, Failed> {
+        match self.rt.write_error(bytes) {
+            Ok(count) if count > 0 || bytes.is_empty() => Ok(count),
+            _ => Err(self.fail()),
+        }
+    }
+}
+
+#[cfg(test)]
+mod tests {
+    use crate::{DiskFiles, Failed, Files};
+    use std::test::Fail;
+    use std::{env, fs, process};
+
+    #[test]
+    fn writes_and_reads_back(rt: HostRuntime) -> Result<(), Fail> {
+        let name = format!(in rt.alloc(); "outside-test-{}", process::id(rt.process()))?;
+        let path = env::temp_dir(&rt)?.join(rt.alloc(), name.as_str())?;
+        let path = path.as_str();
+        let mut files = DiskFiles::make(&rt);
+        assert_eq!(rt; files.read(path, 0, &mut [0; 4]), Err(Failed));
+        files.begin(path)?;
+        assert_eq!(rt; files.write(path, b"one "), Ok(4));
+        assert_eq!(rt; files.write(path, b"two"), Ok(3));
+        let mut buf = [0; 5];
+        assert_eq!(rt; files.read(path, 0, &mut buf), Ok(5));
+        assert_eq!(rt; &buf, b"one t");
+        assert_eq!(rt; files.read(path, 5, &mut buf), Ok(2));
+        assert_eq!(rt; &buf[..2], b"wo".as_slice());
+        assert_eq!(rt; files.read(path, 7, &mut buf), Ok(0));
+        fs::remove_file(&rt, path)?;
+        assert_eq!(rt; files.out(b"out\n"), Ok(4));
+        assert_eq!(rt; files.err(b"err \xff\n"), Ok(6));
+        Ok(())
+    }
+}

@@ -1,0 +1,75 @@
+ghost use Rattle.std.specs.Prelude.{◌≡◌, ◌≤◌, ◌<◌, ℕ, Option, true, length, IfOk, IfSome, OnErr};
+ghost use Rattle.outside.specs.Contents.{Contents, GivesPiece, after_begin, after_err, after_out, after_write};
+ghost use Rattle.outside.specs.Faults.{Place, ReadOf, BeginOf, WriteOf, ToOut, ToErr, NeverFall, Rose};
+
+use std::error::Error;
+use std::fmt;
+
+/// A call was refused by what lies outside. Its count of faults rose, and the contents stay.
+#[derive(Clone, Copy, Debug, PartialEq, Eq, Hash)]
+pub struct Failed;
+
+impl fmt::Display for Failed {
+    fn fmt<W: fmt::Write>(&self, f: &mut fmt::Formatter<W>) -> fmt::Result {
+        f.write_str("the call failed")
+    }
+}
+
+impl Error for Failed {}
+
+/// Files, standard output and standard error.
+///
+/// Each call may be refused at any time, and a refusal is counted: for each kind of call and each
+/// name there is a count of faults, which never falls. What the files hold is told, or it is not.
+pub trait Files {
+    /// What the files hold, which names were begun, and what standard output and standard error
+    /// were given; None where it is not told.
+    ghost told: { Self → Option Contents };
+
+    /// How often a call of this kind and name was refused.
+    ghost faults: { Self → Place → ℕ };
+
+    /// Reads a piece of the named file, from byte `at` on, and answers its length in bytes. Where
+    /// `buf` is not empty, 0 comes exactly where `at` is at or past the end. A name that is not
+    /// there is a fault.
+    fn read(&mut self, name: &str, at: u64, buf: &mut [u8]) -> Result<usize, Failed>
+        ensures told { told self.new ≡ told self.old }
+        ensures piece { IfOk result (λ k. IfSome (told self.old) (λ c. GivesPiece (c.file name.now) at (length buf.old) buf.new k)) }
+        ensures room { IfOk result (λ k. k ≤ length buf.old) }
+        ensures cause { OnErr result (Rose (faults self.old (ReadOf name.now)) (faults self.new (ReadOf name.now))) }
+        ensures never_fall { NeverFall (faults self.old) (faults self.new) };
+
+    /// Makes the named file empty and begun, also where it was there.
+    fn begin(&mut self, name: &str) -> Result<(), Failed>
+        ensures told { told self.new ≡ after_begin result name.now (told self.old) }
+        ensures cause { OnErr result (Rose (faults self.old (BeginOf name.now)) (faults self.new (BeginOf name.now))) }
+        ensures never_fall { NeverFall (faults self.old) (faults self.new) };
+
+    /// Appends a first part of `bytes` to a file that was begun, and answers its length in bytes: at
+    /// least 1 where there are any.
+    fn write(&mut self, name: &str, bytes: &[u8]) -> Result<usize, Failed>
+        requires begun { IfSome (told self.old) (λ c. c.begun name.now ≡ true) }
+        ensures told { told self.new ≡ after_write result name.now bytes.now (told self.old) }
+        ensures room { IfOk result (λ k. k ≤ length bytes.now) }
+        ensures some { IfOk result (λ k. 0 < length bytes.now → 0 < k) }
+        ensures cause { OnErr result (Rose (faults self.old (WriteOf name.now)) (faults self.new (WriteOf name.now))) }
+        ensures never_fall { NeverFall (faults self.old) (faults self.new) };
+
+    /// Gives a first part of `bytes` to standard output, and answers its length in bytes: at least 1
+    /// where there are any.
+    fn out(&mut self, bytes: &[u8]) -> Result<usize, Failed>
+        ensures told { told self.new ≡ after_out result bytes.now (told self.old) }
+        ensures room { IfOk result (λ k. k ≤ length bytes.now) }
+        ensures some { IfOk result (λ k. 0 < length bytes.now → 0 < k) }
+        ensures cause { OnErr result (Rose (faults self.old ToOut) (faults self.new ToOut)) }
+        ensures never_fall { NeverFall (faults self.old) (faults self.new) };
+
+    /// Gives a first part of `bytes` to standard error, and answers its length in bytes: at least 1
+    /// where there are any.
+    fn err(&mut self, bytes: &[u8]) -> Result<usize, Failed>
+        ensures told { told self.new ≡ after_err result bytes.now (told self.old) }
+        ensures room { IfOk result (λ k. k ≤ length bytes.now) }
+        ensures some { IfOk result (λ k. 0 < length bytes.now → 0 < k) }
+        ensures cause { OnErr result (Rose (faults self.old ToErr) (faults self.new ToErr)) }
+        ensures never_fall { NeverFall (faults self.old) (faults self.new) };
+}

@@ -1,0 +1,12 @@
+//! What lies outside the program: files, standard output and standard error.
+#![tactic(auto)]
+
+mod disk_files;
+mod files;
+mod memory_files;
+mod standard_error;
+
+pub use disk_files::DiskFiles;
+pub use files::{Failed, Files};
+pub use memory_files::{Call, Fail, MemFiles, names_differ};
+pub use standard_error::StandardError;
