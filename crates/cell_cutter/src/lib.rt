@@ -1,0 +1,21 @@
+//! Packets as messages, and messages as the cells of fixed size that cross the switch.
+//!
+//! A packet's message is a header of 16 bytes and its captured bytes. A cell is 8 bytes of header and
+//! 56 bytes of payload; a message's cells are by place and length alone, so each can be cut by itself,
+//! with no copy of the message.
+#![tactic(auto)]
+
+mod cell;
+mod cutting;
+mod joining;
+mod sizes;
+#[cfg(test)]
+mod tests;
+
+pub use cell::{Cell, CellName};
+pub use cutting::{Packet, cells_of, cut};
+pub use joining::cells_join;
+pub use sizes::{
+    CELL_BYTES, HEADER_BYTES, MAX_CAPTURED, MAX_FORWARDED, MAX_NUMBER, MESSAGE_HEADER,
+    PAYLOAD_BYTES,
+};
