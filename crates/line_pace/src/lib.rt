@@ -1,0 +1,12 @@
+//! When the packets of a capture come to their port: in which slot each is whole.
+#![tactic(auto)]
+
+mod arriving;
+mod fault;
+mod pace;
+#[cfg(test)]
+mod tests;
+
+pub use arriving::{MAX_ARRIVAL_SLOTS, MAX_PACKETS, arrivals};
+pub use fault::PaceFault;
+pub use pace::{MAX_CELLS, MAX_SLOT_MICROS, Pace, Stamp};

@@ -1,0 +1,61 @@
+ghost use Rattle.std.specs.Prelude.{◌≡◌, ◌≤◌, ◌<◌, ◌^◌, ◌+◌, max};
+
+/// The most cells that a record of a capture can have: those of 262,144 bytes.
+pub const MAX_CELLS: u32 = 4_682;
+
+/// The longest slot, in microseconds.
+pub const MAX_SLOT_MICROS: u32 = 1_000_000;
+
+/// Nanoseconds of a microsecond.
+const NANOS_OF_MICRO: u64 = 1_000;
+
+/// When a packet was captured and how long it occupies the line.
+#[derive(Clone, Copy, Debug, PartialEq, Eq, Hash)]
+pub struct Stamp {
+    /// Its time, in nanoseconds.
+    pub time: u64,
+    /// Its cells, 1 to 4,682.
+    pub cells: u32,
+}
+
+/// How fast a port's packets come.
+#[derive(Clone, Copy, Debug, PartialEq, Eq, Hash)]
+pub enum Pace {
+    /// One after the other from slot 0 on, whatever their times.
+    Line,
+    /// By their times.
+    Micros {
+        /// Microseconds of a slot, 1 to 1,000,000.
+        slot: u32,
+        /// The time that slot 0 begins at, in nanoseconds.
+        base: u64,
+    },
+}
+
+impl Pace {
+    ghost use Rattle.line_pace.specs.Arrivals.{IsPace, CanCome, base_of, slot_of, arrival};
+
+    // The slot in which a time falls.
+    fn slot_of(&self, time: u64) -> u64
+        requires pace { IsPace self.now }
+        requires time { base_of self.now ≤ time }
+        ensures value { result ≡ slot_of self.now time }
+        ensures few { result < 2 ^ 60 }
+    {
+        match self {
+            Pace::Line => 0,
+            Pace::Micros { slot, base } => (time - base) / (NANOS_OF_MICRO * u64::from(*slot)),
+        }
+    }
+
+    // The arrival slot of a packet on a line that is free from slot `free` on.
+    pub(crate) fn arrival(&self, free: u64, packet: &Stamp) -> u64
+        requires pace { IsPace self.now }
+        requires packet { CanCome self.now packet.now }
+        requires free { free < 2 ^ 62 }
+        ensures value { result ≡ arrival self.now free packet.now }
+        ensures bound { result < max (2 ^ 60) free + MAX_CELLS }
+    {
+        self.slot_of(packet.time).max(free) + u64::from(packet.cells) - 1
+    }
+}
