@@ -1,0 +1,4 @@
+pub mod Cutting
+pub mod Flows
+pub mod Buffers
+pub mod Lending
