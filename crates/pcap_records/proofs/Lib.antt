@@ -1,0 +1,9 @@
+pub mod Numbers
+pub mod Headers
+pub mod Whole
+pub mod Walk
+pub mod Filling
+pub mod Once
+pub mod Outcomes
+pub mod Output
+pub mod Readable

@@ -1,0 +1,88 @@
+-- The records of a file, one after another.
+use Rattle.std.proofs.Common.{◌≡◌, ℕ, ◌+◌, ◌≤◌, Bool, List, [], ◌∷◌, ◌++◌, length, drop, map, refl, sym, ap, ◌∙◌, subst, append_assoc, arith, All}
+use Rattle.std.specs.List.{AllByRecursion}
+use Rattle.std.proofs.lemmas.List.{append-nil, drop_all, length-drop, map_push}
+use Rattle.std.proofs.lemmas.List.Concat.{flat_map-append}
+use Rattle.std.proofs.lemmas.List.Elements.{All-nil, All-push}
+use Rattle.pcap_records.specs.declared.capture.Stored.{Stored}
+use Rattle.pcap_records.specs.declared.fault.PcapFault.{PcapFault}
+use Rattle.pcap_records.specs.declared.fault.PcapFault.TheVariants.{ShortHeader, BadMagic, BadVersion, BadLink, CutRecord, LongRecord, OutOfMemory}
+use Rattle.pcap_records.specs.declared.link.Link.{Link}
+use Rattle.pcap_records.specs.declared.order.Order.{Order}
+use Rattle.pcap_records.specs.Packets.{packet_in, IsWithin}
+use Rattle.pcap_records.specs.Format.{header_of, Record, IsRecord, record_bytes, packet_of}
+use Rattle.pcap_records.specs.Captures.{HasHeader, records_bytes, IsCapture}
+use Rattle.pcap_records.specs.Faults.{IsWholeBefore, IsFault}
+use Rattle.pcap_records.specs.Records.{IsStored, IsBroken}
+
+-- the records between the header and a place are read, and their packets stored
+pub record IsReadBefore (order : Order) (nano : Bool) (file : List ℕ) (at : ℕ) (packets : List Stored) : Type 0 where
+  pub records : List Record
+  pub each : AllByRecursion IsRecord records
+  pub spelled : drop 24 file ≡ records_bytes order records ++ drop at file
+  pub within_file : at ≤ length file
+  pub packets_are : map (packet_in file) packets ≡ map (packet_of nano) records
+  pub within : All (IsWithin file) packets
+
+each_push : {X : Type 0} (P : X → Type 0) (xs : List X) (x : X) → AllByRecursion P xs → P x → AllByRecursion P (xs ++ x ∷ [])
+each_push P [] x all p = (p, tt)
+each_push P (y ∷ ys) x all p = (all.0, each_push P ys x all.1 p)
+
+pub read_none : (order : Order) (nano : Bool) (file : List ℕ) → 24 ≤ length file → IsReadBefore order nano file 24 []
+read_none order nano file long =
+    record { records = []; each = tt; spelled = refl; within_file = long; packets_are = refl; within = All-nil (IsWithin file) }
+
+pub read_more : (order : Order) (nano : Bool) (file : List ℕ) (at : ℕ) (packets : List Stored) (s : Stored) → IsReadBefore order nano file at packets → IsStored order nano file at s
+    → IsReadBefore order nano file (s.start + s.len) (packets ++ s ∷ [])
+read_more order nano file at packets s before next =
+    let r = next.record_there in
+    let front = records_bytes order before.records in
+    let more : records_bytes order (before.records ++ r ∷ []) ≡ front ++ record_bytes order r =
+    flat_map-append (record_bytes order) before.records (r ∷ []) ∙ ap (λ (w : List ℕ). front ++ w) (append-nil (record_bytes order r)) in
+    record {
+      records = before.records ++ r ∷ [];
+      each = each_push IsRecord before.records r before.each next.each;
+      spelled =
+          before.spelled ∙ ap (λ (w : List ℕ). front ++ w) next.spelled ∙ sym (append_assoc front (record_bytes order r) (drop (s.start + s.len) file))
+          ∙ ap (λ (w : List ℕ). w ++ drop (s.start + s.len) file) (sym more);
+      within_file = next.within;
+      packets_are = map_push (packet_in file) packets s ∙ ap (λ w. w ++ packet_in file s ∷ []) before.packets_are ∙ ap (λ p. map (packet_of nano) before.records ++ p ∷ []) next.packet ∙ sym (map_push (packet_of nano) before.records r);
+      within = All-push (IsWithin file) packets s before.within next.within;
+    }
+
+-- at the end of the file it is a capture with these packets
+pub read_all : (order : Order) (nano : Bool) (link : Link) (file : List ℕ) (at : ℕ) (packets : List Stored) → HasHeader file (header_of order nano link) (drop 24 file)
+    → IsReadBefore order nano file at packets → length file ≤ at → IsCapture file nano link (map (packet_in file) packets)
+read_all order nano link file at packets header before done =
+    let end : drop 24 file ≡ records_bytes order before.records =
+    before.spelled ∙ ap (λ (w : List ℕ). records_bytes order before.records ++ w) (drop_all at file done) ∙ append-nil (records_bytes order before.records) in
+    record {
+      order = order;
+      records = before.records;
+      each = before.each;
+      header = subst (λ (w : List ℕ). HasHeader file (header_of order nano link) w) end header;
+      packets_are = before.packets_are;
+    }
+
+whole_before : (order : Order) (nano : Bool) (link : Link) (file : List ℕ) (at place : ℕ) (packets : List Stored) → HasHeader file (header_of order nano link) (drop 24 file)
+    → IsReadBefore order nano file at packets → place ≡ at → IsWholeBefore file order place (drop at file)
+whole_before order nano link file at place packets header before e =
+    record {
+      nano = nano;
+      link = link;
+      records = before.records;
+      each = before.each;
+      header = subst (λ (w : List ℕ). HasHeader file (header_of order nano link) w) before.spelled header;
+      place = omega (arith, length-drop at file, before.within_file);
+    }
+
+-- where no whole record stands at a place, the file has that fault
+pub broken : (order : Order) (nano : Bool) (link : Link) (file : List ℕ) (at : ℕ) (packets : List Stored) (fault : PcapFault) → HasHeader file (header_of order nano link) (drop 24 file)
+    → IsReadBefore order nano file at packets → IsBroken order (drop at file) at fault → IsFault file fault
+broken order nano link file at packets (ShortHeader len) header before is = absurd is
+broken order nano link file at packets (BadMagic found) header before is = absurd is
+broken order nano link file at packets (BadVersion major minor) header before is = absurd is
+broken order nano link file at packets (BadLink found) header before is = absurd is
+broken order nano link file at packets (CutRecord place) header before is = (order, drop at file, whole_before order nano link file at place packets header before is.0, is.1)
+broken order nano link file at packets (LongRecord place len) header before is = (order, drop at file, whole_before order nano link file at place packets header before is.0, is.1)
+broken order nano link file at packets OutOfMemory header before is = absurd is

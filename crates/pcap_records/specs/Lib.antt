@@ -1,0 +1,6 @@
+pub mod Packets
+pub mod Format
+pub mod Captures
+pub mod Faults
+pub mod Records
+pub mod Output
