@@ -1,0 +1,12 @@
+pub mod HistoryLemmas
+pub mod SeatLemmas
+mod Seen
+mod Changed
+mod Taking
+mod Counting
+mod Freeing
+mod OneTurn
+mod Splitting
+mod Ends
+mod Joining
+mod Collecting

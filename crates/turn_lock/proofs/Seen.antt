@@ -1,0 +1,35 @@
+-- What the views have seen of a history that grows.
+use Rattle.std.proofs.Common.{◌≡◌, ◌≢◌, ◌⊎◌, inl, inr, ⊎_elim, ℕ, List, [], ◌∷◌, ◌++◌, refl, sym, ap, ◌∙◌, subst, arith, zero, suc}
+use Rattle.std.proofs.lemmas.List.{append_assoc}
+use Rattle.turn_lock.specs.declared.history.TurnOf.{TurnOf}
+use Rattle.turn_lock.specs.declared.view.JoinedSeat.{JoinedSeat}
+use Rattle.turn_lock.specs.Histories.{turns_of, IsBelow}
+use Rattle.turn_lock.specs.Views.{joined_numbers}
+use Rattle.turn_lock.specs.Rule.{IsIn, HasSeen, JoinedHaveSeen}
+use Rattle.turn_lock.proofs.HistoryLemmas.{append_same-nil, turns_of-append, turns_of-other, turns_of-all, IsBelow-append}
+
+pub same_or_not : (a b : ℕ) → (a ≡ b) ⊎ (a ≢ b)
+same_or_not zero zero = inl refl
+same_or_not zero (suc b) = inr (λ e. omega arith)
+same_or_not (suc a) zero = inr (λ e. omega arith)
+same_or_not (suc a) (suc b) = ⊎_elim (λ (e : a ≡ b). inl (ap suc e)) (λ (n : a ≢ b). inr (λ e. n (omega arith))) (same_or_not a b)
+
+module _ {E : Type 0} where
+  -- what a seat had seen, beside a further turn of another
+  pub HasSeen-more : (h : List (TurnOf E)) (t : TurnOf E) (n : ℕ) (seen : List (TurnOf E)) → n ≢ t.seat → HasSeen h n seen → HasSeen (h ++ t ∷ []) n seen
+  HasSeen-more h t n seen ne s = ((s.0.0 ++ t ∷ [], ap (λ ts. ts ++ t ∷ []) s.0.1 ∙ append_assoc seen s.0.0 (t ∷ [])), turns_of-other n h t ne ∙ s.1)
+
+  pub JoinedHaveSeen-more : (h : List (TurnOf E)) (t : TurnOf E) (ms : List (JoinedSeat E)) → (IsIn t.seat (joined_numbers ms) → ⊥) → JoinedHaveSeen h ms → JoinedHaveSeen (h ++ t ∷ []) ms
+  JoinedHaveSeen-more h t [] out f = tt
+  JoinedHaveSeen-more h t (m ∷ ms) out f = (HasSeen-more h t m.number m.seen (λ e. out (inl (sym e))) f.0, JoinedHaveSeen-more h t ms (λ x. out (inr x)) f.1)
+
+  -- what was not seen has no turn of the seat's own
+  pub others_between : (h : List (TurnOf E)) (n : ℕ) (seen : List (TurnOf E)) (s : HasSeen h n seen) → turns_of n s.0.0 ≡ []
+  others_between h n seen s = append_same-nil (turns_of n seen) (turns_of n s.0.0) (sym (turns_of-append n seen s.0.0) ∙ ap (λ ts. turns_of n ts) (sym s.0.1) ∙ s.1)
+
+  -- where one number was given, its seat has seen the whole history
+  pub one_has_seen : (h : List (TurnOf E)) (n : ℕ) (seen : List (TurnOf E)) → n ≡ 0 → IsBelow 1 h → HasSeen h n seen → h ≡ seen
+  one_has_seen h n seen z b s =
+      let own : turns_of 0 h ≡ turns_of 0 seen = subst (λ k. turns_of k h ≡ turns_of k seen) z s.1 in
+      let within : IsBelow 1 seen = (IsBelow-append 1 seen s.0.0 (subst (λ ts. IsBelow 1 ts) s.0.1 b)).0 in
+      sym (turns_of-all h b) ∙ own ∙ turns_of-all seen within
