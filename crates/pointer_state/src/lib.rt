@@ -1,0 +1,6 @@
+//! The rotating pointers of a switch's scheduler.
+#![tactic(auto)]
+
+mod pointers;
+
+pub use pointers::Pointers;

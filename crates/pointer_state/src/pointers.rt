@@ -1,0 +1,196 @@
+ghost use Rattle.std.specs.Prelude.{◌≡◌, ℕ, ◌+◌, ◌%◌, ◌<◌, ◌≤◌, replicate};
+ghost use Rattle.pointer_state.specs.Places.{grant_of, accept_of, shared_of, with_place, AreAtPorts, places_at_first, places_met, places_passed, places_held};
+
+use rotating_pick::{LEVELS, MAX_PORTS, next};
+use std::marker::Model;
+
+// The ports and levels as lengths of arrays.
+const PORTS: usize = MAX_PORTS as usize;
+
+const LEVEL_COUNT: usize = LEVELS as usize;
+
+/// Where each output grants from, each input accepts from, and each level's multicast is picked from.
+///
+/// Contracts see the [`Places`] of `specs/`, and of those each pointer by `grant_of`, `accept_of` and
+/// `shared_of`. Every pointer is at one of the switch's ports. Levels are 0 to 3.
+#[derive(Clone, Copy, Debug, PartialEq, Eq)]
+pub struct Pointers {
+    ports: u32,
+    grant: [[u32; PORTS]; LEVEL_COUNT],
+    accept: [[u32; PORTS]; LEVEL_COUNT],
+    shared: [u32; LEVEL_COUNT],
+}
+
+impl Model for Pointers {
+    ghost use Rattle.pointer_state.specs.Places.{Places, AreAtPorts};
+
+    ghost Value = { Places };
+
+    ghost view = { λ p. record { ports = p.ports; grant = p.grant; accept = p.accept; shared = p.shared } };
+
+    ghost invariant = { λ p. AreAtPorts (record { ports = p.ports; grant = p.grant; accept = p.accept; shared = p.shared }) };
+
+    ghost inverse = { λ v. record { ports = v.ports; grant = v.grant; accept = v.accept; shared = v.shared } };
+}
+
+// A table in which every place is port 0.
+fn table_at_first() -> [[u32; PORTS]; LEVEL_COUNT]
+    ensures { result ≡ replicate LEVELS (replicate MAX_PORTS 0) }
+{
+    [[0; PORTS]; LEVEL_COUNT]
+}
+
+// Sets the place of the level and port.
+fn point(table: &mut [[u32; PORTS]; LEVEL_COUNT], level: u8, port: u32, place: u32)
+    requires level_in { level < LEVELS }
+    requires port_in { port < MAX_PORTS }
+    ensures { table.new ≡ with_place table.old level port place }
+{
+    table[level as usize][port as usize] = place;
+}
+
+impl Pointers {
+    /// The pointers of a switch of `n` ports, 1 to 64, before its first slot: all are at port 0.
+    pub fn new(n: u32) -> Pointers
+        requires some { 0 < n }
+        requires size { n ≤ MAX_PORTS }
+        ensures value { result ≡ places_at_first n }
+        ensures at_ports { AreAtPorts result }
+        ensures ports { result.ports ≡ n }
+        ensures grant { (j level : ℕ) → grant_of result j level ≡ 0 }
+        ensures accept { (i level : ℕ) → accept_of result i level ≡ 0 }
+        ensures shared { (level : ℕ) → shared_of result level ≡ 0 }
+    {
+        Pointers {
+            ports: n,
+            grant: table_at_first(),
+            accept: table_at_first(),
+            shared: [0; LEVEL_COUNT],
+        }
+    }
+
+    /// The number of ports of the switch, 1 to 64.
+    pub fn ports(&self) -> u32
+        ensures value { result ≡ self.now.ports }
+        ensures at_ports { AreAtPorts self.now }
+    {
+        self.ports
+    }
+
+    /// From where an output picks among the unicast requests of the level.
+    pub fn grant(&self, output: u32, level: u8) -> u32
+        requires output_in { output < self.now.ports }
+        requires level_in { level < LEVELS }
+        ensures value { result ≡ grant_of self.now output level }
+        ensures within { result < self.now.ports }
+    {
+        self.grant[level as usize][output as usize]
+    }
+
+    /// From where an input picks among the unicast grants of the level.
+    pub fn accept(&self, input: u32, level: u8) -> u32
+        requires input_in { input < self.now.ports }
+        requires level_in { level < LEVELS }
+        ensures value { result ≡ accept_of self.now input level }
+        ensures within { result < self.now.ports }
+    {
+        self.accept[level as usize][input as usize]
+    }
+
+    /// From where every output picks among the multicast requests of the level.
+    pub fn shared(&self, level: u8) -> u32
+        requires { level < LEVELS }
+        ensures value { result ≡ shared_of self.now level }
+        ensures within { result < self.now.ports }
+    {
+        self.shared[level as usize]
+    }
+
+    /// Moves the pointers of a pair that was matched as unicast of the level: the output's grant
+    /// pointer to one beyond the input, and the input's accept pointer to one beyond the output.
+    /// This is the rule of the iSLIP paper (McKeown 1999, section III).
+    pub fn met(&mut self, input: u32, output: u32, level: u8)
+        requires input_in { input < self.old.ports }
+        requires output_in { output < self.old.ports }
+        requires level_in { level < LEVELS }
+        ensures value { self.new ≡ places_met self.old input output level }
+        ensures at_ports { AreAtPorts self.new }
+
+        // The two pointers move, and all others stay.
+        ensures grant { grant_of self.new output level ≡ (input + 1) % self.old.ports }
+        ensures accept { accept_of self.new input level ≡ (output + 1) % self.old.ports }
+        ensures ports { self.new.ports ≡ self.old.ports }
+        ensures grants { (j other : ℕ) → (j ≡ output → other ≡ level → ⊥) → grant_of self.new j other ≡ grant_of self.old j other }
+        ensures accepts { (i other : ℕ) → (i ≡ input → other ≡ level → ⊥) → accept_of self.new i other ≡ accept_of self.old i other }
+        ensures shared { (other : ℕ) → shared_of self.new other ≡ shared_of self.old other }
+    {
+        point(&mut self.grant, level, output, next(self.ports, input));
+        point(&mut self.accept, level, input, next(self.ports, output));
+    }
+
+    /// Moves the shared pointer of the level to one beyond an input whose multicast head completed.
+    pub fn passed(&mut self, level: u8, input: u32)
+        requires level_in { level < LEVELS }
+        requires input_in { input < self.old.ports }
+        ensures value { self.new ≡ places_passed self.old level input }
+        ensures at_ports { AreAtPorts self.new }
+
+        // The one pointer moves, and all others stay.
+        ensures shared { shared_of self.new level ≡ (input + 1) % self.old.ports }
+        ensures ports { self.new.ports ≡ self.old.ports }
+        ensures grants { (j other : ℕ) → grant_of self.new j other ≡ grant_of self.old j other }
+        ensures accepts { (i other : ℕ) → accept_of self.new i other ≡ accept_of self.old i other }
+        ensures others { (other : ℕ) → (other ≡ level → ⊥) → shared_of self.new other ≡ shared_of self.old other }
+    {
+        self.shared[level as usize] = next(self.ports, input);
+    }
+
+    /// Moves an output's grant pointer to an input that refused its grant, so that no other input is
+    /// granted before it.
+    pub fn held(&mut self, input: u32, output: u32, level: u8)
+        requires input_in { input < self.old.ports }
+        requires output_in { output < self.old.ports }
+        requires level_in { level < LEVELS }
+        ensures value { self.new ≡ places_held self.old input output level }
+        ensures at_ports { AreAtPorts self.new }
+
+        // The one pointer moves, and all others stay.
+        ensures grant { grant_of self.new output level ≡ input }
+        ensures ports { self.new.ports ≡ self.old.ports }
+        ensures grants { (j other : ℕ) → (j ≡ output → other ≡ level → ⊥) → grant_of self.new j other ≡ grant_of self.old j other }
+        ensures accepts { (i other : ℕ) → accept_of self.new i other ≡ accept_of self.old i other }
+        ensures shared { (other : ℕ) → shared_of self.new other ≡ shared_of self.old other }
+    {
+        point(&mut self.grant, level, output, input);
+    }
+}
+
+#[cfg(test)]
+mod tests {
+    use crate::Pointers;
+
+    #[test]
+    fn moves_one_pointer_or_two(rt: HostRuntime) {
+        let first = Pointers::new(3);
+        assert_eq!(rt; first.ports(), 3);
+        assert_eq!(rt; first.grant(2, 3), 0);
+        let mut pointers = first;
+        assert!(rt; pointers == first);
+
+        pointers.met(2, 1, 0);
+        assert_eq!(rt; pointers.ports(), 3);
+        assert_eq!(rt; pointers.grant(1, 0), 0);
+        assert_eq!(rt; pointers.accept(2, 0), 2);
+        assert_eq!(rt; pointers.accept(2, 1), 0);
+        assert!(rt; pointers != first);
+
+        pointers.held(2, 1, 0);
+        assert_eq!(rt; pointers.grant(1, 0), 2);
+        assert_eq!(rt; pointers.accept(2, 0), 2);
+
+        pointers.passed(3, 0);
+        assert_eq!(rt; pointers.shared(3), 1);
+        assert_eq!(rt; pointers.shared(2), 0);
+        assert_eq!(rt; pointers.grant(1, 0), 2);
+    }
+}
