@@ -1,0 +1,173 @@
+-- The fields behind a match: at first, and after some pairs were added.
+use Rattle.std.proofs.Common.{◌≡◌, ◌≢◌, ℕ, zero, ◌+◌, ◌^◌, ◌<◌, ◌≤◌, ◌↔◌, ◌⊎◌, ◌∙◌, List, Option, None, Some, length, replicate, take, count_by, is_some, slice_index, sym, ap, subst, inl, inr, arith}
+use Rattle.std.proofs.lemmas.Bool.{cases_lt}
+use Rattle.std.proofs.lemmas.Option.{none-some}
+use Rattle.std.proofs.lemmas.List.{get_or-replicate, get_or_past, length-replicate, length-take-le, take-replicate}
+use Rattle.std.proofs.lemmas.List.Sums.{count_by-le-length}
+use Rattle.rotating_pick.specs.PortSets.{Has}
+use Rattle.rotating_pick.specs.declared.kinds.Kind.{Kind}
+use Rattle.rotating_pick.specs.declared.kinds.Kind.TheVariants.{Multi}
+use Rattle.rotating_pick.specs.declared.limits.TheConstants.{LEVELS, MAX_PORTS}
+use Rattle.slot_match.specs.declared.matching.Fed.{Fed}
+use Rattle.slot_match.specs.Matches.{unmatched, fed_of, Serves, IsFreeInput, IsServed, IsMatch, MayAdd}
+use Rattle.slot_match.specs.Fields.{AreSets, AreKept}
+use Rattle.slot_match.proofs.Sets.{zero-has}
+use Rattle.slot_match.proofs.Pairs.{Serves-from, Serves-once, Serves-alike, Serves-along, fed_of-lt}
+use Rattle.slot_match.proofs.Tables.{fed_of-take, fed_of-past, count_by-take}
+use Rattle.slot_match.proofs.Adding.{IsAdded, IsMatch-added, AreSets-added}
+
+-- nothing is fed at first
+pub fed_of-unmatched : (n j : ℕ) → fed_of (unmatched n) j ≡ None
+fed_of-unmatched n j =
+    let nothing : Option Fed = None in
+    elim (cases_lt j n) [
+      | inl below ↦ get_or-replicate n j nothing nothing below
+      | inr above ↦ get_or_past (unmatched n) j nothing (let long : length (unmatched n) ≡ n = length-replicate n nothing in omega arith)
+    ]
+
+pub nobody_at_first : (n i j level : ℕ) (kind : Kind) → Serves (unmatched n) i j level kind → ⊥
+nobody_at_first n i j level kind s = none-some (record { input = i; level = level; kind = kind }) (sym (fed_of-unmatched n j) ∙ s)
+
+pub IsMatch-unmatched : (n : ℕ) → IsMatch n (unmatched n)
+IsMatch-unmatched n =
+    let nothing : Option Fed = None in
+    record {
+      count = length-replicate n nothing;
+      input_in = λ i j level kind s. absurd (nobody_at_first n i j level kind s);
+      level_in = λ i j level kind s. absurd (nobody_at_first n i j level kind s);
+      once = λ i j level kind k other again s r. absurd (nobody_at_first n i j level kind s);
+    }
+
+no_zero_member : (n i j : ℕ) → Has (slice_index (replicate n 0) i) j → ⊥
+no_zero_member n i j =
+    let zero_there : slice_index (replicate n 0) i ≡ 0 = elim (cases_lt i n) [
+      | inl below ↦ get_or-replicate n i 0 0 below
+      | inr above ↦ get_or_past (replicate n 0) i 0 (let long : length (replicate {A = ℕ} n 0) ≡ n = length-replicate n 0 in omega arith)
+    ] in
+    λ has. zero-has (slice_index (replicate n 0) i) j zero_there has
+
+pub AreKept-new : (n : ℕ) (fed : List (Option Fed)) (fans : List ℕ) (inputs outputs : ℕ) → 0 < n → n ≤ MAX_PORTS → fed ≡ unmatched MAX_PORTS → fans ≡ replicate MAX_PORTS 0 → ((x : ℕ) → Has inputs x ↔ (x < n)) → ((x : ℕ) → Has outputs x ↔ (x < n)) → AreKept n fed 0 fans inputs outputs (replicate LEVELS 0)
+AreKept-new n fed fans inputs outputs some size e d all_inputs all_outputs =
+    let nothing : Option Fed = None in
+    let front : take n fed ≡ unmatched n = ap (take n) e ∙ take-replicate n MAX_PORTS nothing size in
+    let sets : AreSets n (unmatched n) 0 (replicate MAX_PORTS 0) inputs outputs (replicate LEVELS 0) = record {
+      some = some;
+      size = size;
+      whole = IsMatch-unmatched n;
+      counts = count_zero n;
+      feeds = λ i j. (λ has. absurd (no_zero_member MAX_PORTS i j has), λ s. absurd (nobody_at_first n i j s.0 s.1 s.2));
+      inputs_left = λ i. (λ has. ((all_inputs i).0 has, nobody_at_first n i), λ p. (all_inputs i).1 p.0);
+      outputs_left = λ j. (λ has. ((all_outputs j).0 has, fed_of-unmatched n j), λ p. (all_outputs j).1 p.0);
+      go_on = λ level i. (λ has. absurd (no_zero_member LEVELS level i has), λ on. absurd (nobody_at_first n i on.some.0 level Multi on.some.1));
+    } in
+    record {
+      long = ap length e ∙ length-replicate MAX_PORTS nothing;
+      beyond = λ j above. ap (λ m. fed_of m j) e ∙ fed_of-unmatched MAX_PORTS j;
+      sets = rw (front, d) sets;
+    } where
+      count_zero : (k : ℕ) → 0 ≡ count_by is_some (unmatched k)
+      count_zero k = count_by-take zero (unmatched k) (λ j above. fed_of-unmatched k j)
+
+module _ (n count : ℕ) (table : List (Option Fed)) (fans : List ℕ) (free_inputs free_outputs : ℕ) (on : List ℕ) (kept : AreKept n table count fans free_inputs free_outputs on) where
+  long : n ≤ length table
+  long = let e = kept.long in let size = kept.sets.size in omega arith
+
+  -- an input that feeds no output is free
+  pub free_from_fan : (i : ℕ) → slice_index fans i ≡ 0 → IsFreeInput (take n table) i
+  free_from_fan i e j level kind s = zero-has (slice_index fans i) j e ((kept.sets.feeds i j).1 (level, kind, s))
+
+  -- the part of an input, from one of the outputs that it feeds
+  pub IsServed-from_fan : (i j : ℕ) (f : Fed) → Has (slice_index fans i) j → fed_of table j ≡ Some f → IsServed (take n table) i (record { outputs = slice_index fans i; level = f.level; kind = f.kind })
+  IsServed-from_fan i j f has e =
+      let m = take n table in
+      let whole = kept.sets.whole in
+      let there = (kept.sets.feeds i j).0 has in
+      let lt = fed_of-lt m j (record { input = i; level = there.0; kind = there.1 }) there.2 in
+      let below : j < n = let count = whole.count in omega arith in
+      let fed : fed_of m j ≡ Some f = fed_of-take n table j below ∙ e in
+      let once = Serves-once m j i f.input there.0 f.level there.1 f.kind there.2 (Serves-from m j f fed) in
+      let mine : Serves m i j f.level f.kind = Serves-along m i j there.0 f.level there.1 f.kind once.1 once.2 there.2 in
+      record {
+        some = (j, has);
+        outputs = λ y. (
+          λ h. let s = (kept.sets.feeds i y).0 h in let alike = Serves-alike n m whole i y j s.0 f.level s.1 f.kind s.2 mine in Serves-along m i y s.0 f.level s.1 f.kind alike.0 alike.1 s.2,
+          λ s. (kept.sets.feeds i y).1 (f.level, f.kind, s),
+        );
+        only = λ y l k s. Serves-alike n m whole i y j l f.level k f.kind s mine;
+      }
+
+  -- an output that an input feeds is fed
+  pub fan_is_fed : (i j : ℕ) → Has (slice_index fans i) j → fed_of table j ≡ None → ⊥
+  fan_is_fed i j has e =
+      let there = (kept.sets.feeds i j).0 has in
+      let f : Fed = record { input = i; level = there.0; kind = there.1 } in
+      let lt = fed_of-lt (take n table) j f there.2 in
+      let below : j < n = let count = kept.sets.whole.count in omega arith in
+      none-some f (sym (fed_of-take n table j below ∙ e) ∙ there.2)
+
+  module _ (now : List (Option Fed)) (view : take n table ≡ now) (input outputs level : ℕ) (kind : Kind) (input_in : input < length now) (level_in : level < LEVELS) (may : MayAdd (length now) now input outputs level kind) (after : List (Option Fed)) (more : ℕ) (after_long : length after ≡ MAX_PORTS) (fed : (j : ℕ) → Has outputs j → fed_of after j ≡ Some (record { input = input; level = level; kind = kind })) (stays : (j : ℕ) → (Has outputs j → ⊥) → fed_of after j ≡ fed_of table j) (counted : count_by is_some after ≡ count_by is_some table + more) where
+    ports : length now ≡ n
+    ports = sym (ap length view) ∙ kept.sets.whole.count
+
+    -- none of the outputs that are added is fed
+    pub waiting : (j : ℕ) → Has outputs j → fed_of table j ≡ None
+    waiting j has = let free = may.free j has in let below : j < n = let lt = free.0 in let size = ports in omega arith in sym (fed_of-take n table j below) ∙ (ap (λ m. fed_of m j) view ∙ free.1)
+
+    may_here : MayAdd n (take n table) input outputs level kind
+    may_here = let P : ℕ → Type 0 = λ k. MayAdd k now input outputs level kind in subst (λ m. MayAdd n m input outputs level kind) (sym view) (subst P ports may)
+
+    outside : (j : ℕ) → n ≤ j → Has outputs j → ⊥
+    outside j above has = let below = (may_here.free j has).0 in absurd (omega arith)
+
+    beyond : (j : ℕ) → n ≤ j → fed_of after j ≡ None
+    beyond j above = stays j (outside j above) ∙ kept.beyond j above
+
+    after_reaches : n ≤ length after
+    after_reaches = let size = kept.sets.size in omega arith
+
+    added : IsAdded (take n table) (take n after) input outputs level kind
+    added =
+        record {
+          count = length-take-le n after after_reaches ∙ sym kept.sets.whole.count;
+          fed = λ j has. let below = (may_here.free j has).0 in fed_of-take n after j below ∙ fed j has;
+          stays = λ j lacks. elim (cases_lt j n) [
+            | inl below ↦ fed_of-take n after j below ∙ (stays j lacks ∙ sym (fed_of-take n table j below))
+            | inr above ↦ fed_of-past n after j after_reaches above ∙ sym (fed_of-past n table j long above)
+          ];
+        }
+
+    counts : count_by is_some (take n after) ≡ count_by is_some (take n table) + more
+    counts = count_by-take n after beyond ∙ (counted ∙ ap (λ c. c + more) (sym (count_by-take n table kept.beyond)))
+
+    pub count_fits : count + more < 2 ^ 32
+    count_fits =
+        let most = count_by-le-length is_some after in
+        let here = kept.sets.counts in
+        let whole = count_by-take n table kept.beyond in
+        omega arith
+
+    pub AreKept-added : (later_fans : List ℕ) (later_inputs later_outputs : ℕ) (later_on : List ℕ) → ((i j : ℕ) → Has (slice_index later_fans i) j ↔ (Has (slice_index fans i) j ⊎ ((i ≡ input) × Has outputs j))) → ((i : ℕ) → Has later_inputs i ↔ ((i ≢ input) × Has free_inputs i)) → ((j : ℕ) → Has later_outputs j ↔ (Has free_outputs j × (Has outputs j → ⊥))) → ((l i : ℕ) → Has (slice_index later_on l) i ↔ (((i ≡ input) × (l ≡ level) × (kind ≡ Multi)) ⊎ Has (slice_index on l) i)) → AreKept n after (count + more) later_fans later_inputs later_outputs later_on
+    AreKept-added later_fans later_inputs later_outputs later_on fan inputs outs ons =
+        let input_here : input < n = let size = ports in omega arith in
+        record {
+          long = after_long;
+          beyond = beyond;
+          sets = AreSets-added n (take n table) (take n after) input outputs level kind kept.sets.whole may_here input_here level_in added count more fans later_fans free_inputs later_inputs free_outputs later_outputs on later_on kept.sets counts fan inputs outs ons;
+        }
+
+    -- the new match, as callers see it
+    pub after_count : length (take n after) ≡ length now
+    after_count = added.count ∙ ap length view
+
+    pub after_stays : (j : ℕ) → (Has outputs j → ⊥) → fed_of (take n after) j ≡ fed_of now j
+    after_stays j lacks = added.stays j lacks ∙ ap (λ m. fed_of m j) view
+
+    pub after_fed : (j : ℕ) → Has outputs j → Serves (take n after) input j level kind
+    after_fed j has = added.fed j has
+
+    pub after_whole : IsMatch (length (take n after)) (take n after)
+    after_whole =
+        let input_here : input < n = let size = ports in omega arith in
+        let whole = IsMatch-added n (take n table) (take n after) input outputs level kind kept.sets.whole may_here input_here level_in added in
+        let P : ℕ → Type 0 = λ k. IsMatch k (take n after) in
+        subst P (sym whole.count) whole

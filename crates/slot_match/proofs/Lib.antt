@@ -1,0 +1,9 @@
+pub mod Sets
+pub mod Pairs
+pub mod ServedParts
+pub mod Tables
+pub mod Adding
+pub mod Kept
+pub mod Maximal
+pub mod KeepingParts
+pub mod KeepingSets

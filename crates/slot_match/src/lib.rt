@@ -1,0 +1,9 @@
+//! What the inputs of a switch post in a slot, and which of them the slot matches with which outputs.
+#![tactic(auto)]
+
+pub mod laws;
+mod matching;
+mod rows;
+
+pub use matching::{Fed, Match, Served};
+pub use rows::{Row, are_within};

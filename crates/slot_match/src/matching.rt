@@ -1,0 +1,347 @@
+ghost use Rattle.std.specs.Prelude.{◌≡◌, ℕ, Some, None, ◌+◌, ◌<◌, ◌≤◌, ◌↔◌, ◌⊎◌, List, Option, length, replicate, count_by, is_some, slice_index, IsTrue, IsNone, IfSome};
+ghost use Rattle.rotating_pick.specs.PortSets.{Has};
+ghost use Rattle.rotating_pick.specs.declared.kinds.Kind.{Kind};
+ghost use Rattle.rotating_pick.specs.declared.kinds.Kind.TheVariants.{Multi};
+ghost use Rattle.slot_match.specs.declared.matching.Fed.{Fed};
+ghost use Rattle.slot_match.specs.Rows.{AreWithin};
+ghost use Rattle.slot_match.specs.Matches.{unmatched, fed_of, Serves, IsFreeInput, IsFreeOutput, IsMulticasting, IsServed, IsMatch, MayAdd, IsMaximal};
+ghost use Rattle.slot_match.specs.Parts.{served_of};
+ghost use Rattle.slot_match.specs.Steps.{IsReady, Wants};
+
+use crate::rows::{LEVEL_COUNT, Row};
+use rotating_pick::{
+    Kind, LEVELS, MAX_PORTS, Ports, all, contains, difference, intersection, is_empty, is_subset,
+    lowest, union, with, without,
+};
+use std::marker::Model;
+use std::mem::size_of;
+
+// The ports as the length of an array.
+const PORTS: usize = MAX_PORTS as usize;
+
+// A journal has a match for each slot.
+const _: () = prove!(size_of::<Match>() <= 1536);
+
+/// What feeds an output in a slot.
+#[derive(Clone, Copy, Debug, PartialEq, Eq)]
+pub struct Fed {
+    pub input: u32,
+    pub level: u8,
+    pub kind: Kind,
+}
+
+/// What a slot gives an input: all outputs that it is matched with.
+#[derive(Clone, Copy, Debug, PartialEq, Eq)]
+pub struct Served {
+    pub outputs: Ports,
+    pub level: u8,
+    pub kind: Kind,
+}
+
+/// The match of a slot: what feeds each output.
+///
+/// Contracts see the list of what feeds each output, as many as there are ports. No output is fed
+/// twice, and no input feeds two outputs but those of one multicast head.
+#[derive(Debug, Drop)]
+pub struct Match {
+    ports: u32,
+    // How many outputs are matched.
+    count: u32,
+    // For each output what feeds it.
+    fed: [Option<Fed>; PORTS],
+    // For each input the outputs that it feeds.
+    outputs: [Ports; PORTS],
+    free_inputs: Ports,
+    free_outputs: Ports,
+    // For each level the inputs that are matched as multicast of it.
+    multicasting: [Ports; LEVEL_COUNT],
+}
+
+impl Model for Match {
+    ghost use Rattle.std.specs.Prelude.{List, Option, take};
+    ghost use Rattle.slot_match.specs.declared.matching.Fed.{Fed};
+    ghost use Rattle.slot_match.specs.Fields.{AreKept};
+
+    ghost Value = { List (Option Fed) };
+
+    ghost view = { λ m. take m.ports m.fed };
+
+    ghost invariant = { λ m. AreKept m.ports m.fed m.count m.outputs m.free_inputs m.free_outputs m.multicasting };
+}
+
+impl Match {
+    /// The match of a switch of `n` ports, 1 to 64, in which nothing is matched.
+    pub fn new(n: u32) -> Match
+        requires some { 0 < n }
+        requires size { n ≤ MAX_PORTS }
+        ensures value { result ≡ unmatched n }
+        ensures whole { IsMatch n result }
+    {
+        Match {
+            ports: n,
+            count: 0,
+            fed: no_feeds(),
+            outputs: no_outputs(),
+            free_inputs: all(n),
+            free_outputs: all(n),
+            multicasting: [0; LEVEL_COUNT],
+        }
+    }
+
+    /// The number of ports of the switch, 1 to 64.
+    pub fn ports(&self) -> u32
+        ensures value { result ≡ length self.now }
+        ensures some { 0 < result }
+        ensures size { result ≤ MAX_PORTS }
+        ensures whole { IsMatch result self.now }
+    {
+        self.ports
+    }
+
+    /// How many outputs are matched.
+    pub fn count(&self) -> u32
+        ensures { result ≡ count_by is_some self.now }
+    {
+        self.count
+    }
+
+    /// What feeds the output, None exactly where it is free.
+    pub fn fed(&self, output: u32) -> Option<Fed>
+        requires { output < length self.now }
+        ensures value { result ≡ fed_of self.now output }
+        ensures free { IsNone result ↔ IsFreeOutput self.now output }
+    {
+        self.fed[output as usize]
+    }
+
+    /// The outputs that are free.
+    pub fn free_outputs(&self) -> Ports
+        ensures { (j : ℕ) → Has result j ↔ ((j < length self.now) × IsFreeOutput self.now j) }
+    {
+        self.free_outputs
+    }
+
+    /// The inputs that are free.
+    pub fn free_inputs(&self) -> Ports
+        ensures { (i : ℕ) → Has result i ↔ ((i < length self.now) × IsFreeInput self.now i) }
+    {
+        self.free_inputs
+    }
+
+    /// The inputs that are matched as multicast of the level.
+    pub fn multicasting(&self, level: u8) -> Ports
+        requires { level < LEVELS }
+        ensures { (i : ℕ) → Has result i ↔ IsMulticasting self.now i level }
+    {
+        self.multicasting[level as usize]
+    }
+
+    /// The input's part of the match, None exactly where it is free.
+    pub fn served(&self, input: u32) -> Option<Served>
+        requires { input < length self.now }
+        ensures value { result ≡ served_of self.now input }
+        ensures free { IsNone result ↔ IsFreeInput self.now input }
+        ensures part { IfSome result (IsServed self.now input) }
+    {
+        let outputs = self.outputs[input as usize];
+        let Some(output) = lowest(outputs) else {
+            return None;
+        };
+        match self.fed[output as usize] {
+            Some(fed) => Some(Served {
+                outputs,
+                level: fed.level,
+                kind: fed.kind,
+            }),
+            None => None,
+        }
+    }
+
+    /// Whether the match may gain these pairs of the input: the outputs are some, free and below the
+    /// number of ports, a unicast has one of them, and the input is free, or goes on with a head that
+    /// it is matched with as multicast of this level.
+    pub fn may_add(&self, input: u32, outputs: Ports, level: u8, kind: Kind) -> bool
+        requires input_in { input < length self.now }
+        requires level_in { level < LEVELS }
+        ensures { IsTrue result ↔ MayAdd (length self.now) self.now input outputs level kind }
+    {
+        if is_empty(outputs) || !is_subset(outputs, self.free_outputs) {
+            return false;
+        }
+        self.is_ready(input, outputs, level, kind)
+    }
+
+    // Whether the input may be matched with so many outputs.
+    fn is_ready(&self, input: u32, outputs: Ports, level: u8, kind: Kind) -> bool
+        requires input_in { input < length self.now }
+        requires level_in { level < LEVELS }
+        ensures { IsTrue result ↔ IsReady self.now input outputs level kind }
+    {
+        let free = contains(self.free_inputs, input);
+        match kind {
+            Kind::Uni => free && is_single(outputs),
+            Kind::Multi => free || contains(self.multicasting[level as usize], input),
+        }
+    }
+
+    /// Matches the input with the outputs, which it may be. All earlier pairs stay.
+    pub fn add(&mut self, input: u32, outputs: Ports, level: u8, kind: Kind)
+        requires input_in { input < length self.old }
+        requires level_in { level < LEVELS }
+        requires may { MayAdd (length self.old) self.old input outputs level kind }
+        ensures count { length self.new ≡ length self.old }
+        ensures fed { (j : ℕ) → Has outputs j → Serves self.new input j level kind }
+        ensures stays { (j : ℕ) → (Has outputs j → ⊥) → fed_of self.new j ≡ fed_of self.old j }
+        ensures whole { IsMatch (length self.new) self.new }
+    {
+        self.count += feed(&mut self.fed, outputs, Fed { input, level, kind });
+        join(&mut self.outputs, input, outputs);
+        self.free_inputs = without(self.free_inputs, input);
+        self.free_outputs = difference(self.free_outputs, outputs);
+        go_on(&mut self.multicasting, input, level, kind);
+    }
+
+    /// Whether no free input's row names a free output, and no input that is matched as multicast has
+    /// a free output in the rest of its head.
+    pub fn is_maximal(&self, rows: &[Row]) -> bool
+        requires { AreWithin (length self.now) rows.now }
+        ensures { IsTrue result ↔ IsMaximal (length self.now) rows.now self.now }
+    {
+        for i in 0..self.ports {
+            let wanted = self.wanted(i, &rows[i as usize]);
+            if !is_empty(intersection(wanted, self.free_outputs)) {
+                return false;
+            }
+        }
+        true
+    }
+
+    // The outputs that the input could take, with this row, if they were free.
+    fn wanted(&self, input: u32, row: &Row) -> Ports
+        requires { input < length self.now }
+        ensures { (j : ℕ) → Has result j ↔ Wants self.now input row.now j }
+    {
+        if contains(self.free_inputs, input) {
+            return row.named();
+        }
+        let mut wanted = 0;
+        for level in 0..LEVEL_COUNT {
+            if contains(self.multicasting[level], input) {
+                wanted = union(wanted, row.multi[level]);
+            }
+        }
+        wanted
+    }
+}
+
+// Whether the set has one member at most.
+fn is_single(ports: Ports) -> bool
+    ensures { IsTrue result ↔ ((j k : ℕ) → Has ports j → Has ports k → j ≡ k) }
+{
+    match lowest(ports) {
+        Some(j) => is_empty(without(ports, j)),
+        None => true,
+    }
+}
+
+// Feeds the outputs by one input, and says how many they are.
+fn feed(fed: &mut [Option<Fed>; PORTS], outputs: Ports, by: Fed) -> u32
+    requires { (j : ℕ) → Has outputs j → fed_of fed.old j ≡ None }
+    ensures long { length fed.new ≡ MAX_PORTS }
+    ensures fed { (j : ℕ) → Has outputs j → fed_of fed.new j ≡ Some by }
+    ensures stays { (j : ℕ) → (Has outputs j → ⊥) → fed_of fed.new j ≡ fed_of fed.old j }
+    ensures counted { count_by is_some fed.new ≡ count_by is_some fed.old + result }
+{
+    let mut count = 0;
+    let mut rest = outputs;
+    while let Some(output) = lowest(rest) {
+        fed[output as usize] = Some(by);
+        rest = without(rest, output);
+        count += 1;
+    }
+    count
+}
+
+// Adds to the outputs that the input feeds.
+fn join(fans: &mut [Ports; PORTS], input: u32, outputs: Ports)
+    requires { input < MAX_PORTS }
+    ensures { (i j : ℕ) → Has (slice_index fans.new i) j ↔ (Has (slice_index fans.old i) j ⊎ ((i ≡ input) × Has outputs j)) }
+{
+    fans[input as usize] = union(fans[input as usize], outputs);
+}
+
+// Counts the input among those that are matched as multicast of the level, if it is.
+fn go_on(multicasting: &mut [Ports; LEVEL_COUNT], input: u32, level: u8, kind: Kind)
+    requires input_in { input < MAX_PORTS }
+    requires level_in { level < LEVELS }
+    ensures { (m i : ℕ) → Has (slice_index multicasting.new m) i ↔ (((i ≡ input) × (m ≡ level) × (kind ≡ Multi)) ⊎ Has (slice_index multicasting.old m) i) }
+{
+    if let Kind::Multi = kind {
+        multicasting[level as usize] = with(multicasting[level as usize], input);
+    }
+}
+
+// A table in which no output is fed.
+fn no_feeds() -> [Option<Fed>; PORTS]
+    ensures { result ≡ unmatched MAX_PORTS }
+{
+    [None; PORTS]
+}
+
+// A table in which no input feeds an output.
+fn no_outputs() -> [Ports; PORTS]
+    ensures { result ≡ replicate MAX_PORTS 0 }
+{
+    [0; PORTS]
+}
+
+#[cfg(test)]
+mod tests {
+    use crate::{Fed, Match, Row, Served, are_within};
+    use rotating_pick::Kind;
+
+    // Input 0 has a multicast head for outputs 1 and 2, input 1 unicast cells for outputs 0 and 2.
+    fn rows() -> [Row; 3] {
+        let mut rows = [Row::empty(); 3];
+        rows[0].multi[0] = 0b110;
+        rows[1].uni[0] = 0b101;
+        rows
+    }
+
+    #[test]
+    fn head_goes_on(rt: HostRuntime) {
+        let rows = rows();
+        let mut matched = Match::new(3);
+        assert_eq!(rt; matched.ports(), 3);
+        assert!(rt; are_within(matched.ports(), &rows));
+        assert!(rt; !matched.may_add(0, 0b011, 0, Kind::Uni));
+        assert!(rt; matched.may_add(0, 0b010, 0, Kind::Multi));
+        matched.add(0, 0b010, 0, Kind::Multi);
+        assert!(rt; matched.may_add(1, 0b001, 0, Kind::Uni));
+        matched.add(1, 0b001, 0, Kind::Uni);
+        assert!(rt; !matched.is_maximal(&rows));
+        assert!(rt; !matched.may_add(0, 0b100, 1, Kind::Multi));
+        assert!(rt; !matched.may_add(1, 0b100, 0, Kind::Uni));
+        assert!(rt; matched.may_add(0, 0b100, 0, Kind::Multi));
+        matched.add(0, 0b100, 0, Kind::Multi);
+        assert!(rt; matched.is_maximal(&rows));
+
+        let fed = Fed {
+            input: 1,
+            level: 0,
+            kind: Kind::Uni,
+        };
+        assert_eq!(rt; matched.fed(0), Some(fed));
+        let part = Served {
+            outputs: 0b110,
+            level: 0,
+            kind: Kind::Multi,
+        };
+        assert_eq!(rt; matched.served(0), Some(part));
+        assert_eq!(rt; matched.served(2), None);
+        assert_eq!(rt; matched.count(), 3);
+        assert_eq!(rt; matched.free_inputs(), 0b100);
+        assert_eq!(rt; matched.free_outputs(), 0);
+        assert_eq!(rt; matched.multicasting(0), 0b001);
+    }
+}

@@ -1,0 +1,213 @@
+ghost use Rattle.std.specs.Prelude.{◌≡◌, ℕ, ◌<◌, ◌↔◌, Option, IsTrue};
+ghost use Rattle.rotating_pick.specs.PortSets.{Has};
+ghost use Rattle.rotating_pick.specs.declared.kinds.Kind.{Kind};
+ghost use Rattle.slot_match.specs.Rows.{Names, IsEmptyRow, IsWithin, IsOfLevels, AreWithin, empty_row};
+ghost use Rattle.slot_match.specs.Keeping.{KeepsRest, KeepsLevel, Gives};
+
+use crate::matching::Served;
+use rotating_pick::{
+    Kind, LEVELS, MAX_PORTS, Ports, difference, is_among, is_empty, is_subset, union,
+};
+
+/// The levels as the length of an array.
+pub(crate) const LEVEL_COUNT: usize = LEVELS as usize;
+
+/// What one input posts in a slot. Levels are 0 to 3.
+#[derive(Clone, Copy, Debug, PartialEq, Eq)]
+pub struct Row {
+    /// For each level the outputs with a unicast cell waiting.
+    pub uni: [Ports; LEVEL_COUNT],
+    /// For each level the remaining fan-out of the multicast queue's head cell, empty where that
+    /// queue is empty.
+    pub multi: [Ports; LEVEL_COUNT],
+}
+
+impl Row {
+    /// The row that names no output.
+    pub fn empty() -> Row
+        ensures value { result ≡ empty_row }
+        ensures nothing { IsEmptyRow result }
+    {
+        Row {
+            uni: [0; LEVEL_COUNT],
+            multi: [0; LEVEL_COUNT],
+        }
+    }
+
+    /// All outputs that the row names, at whatever level and with whatever kind.
+    pub fn named(&self) -> Ports
+        ensures { (j : ℕ) → Has result j ↔ ((level : ℕ) × (kind : Kind) × Names self.now level kind j) }
+    {
+        let mut named = 0;
+        for level in 0..LEVEL_COUNT {
+            named = union(named, union(self.uni[level], self.multi[level]));
+        }
+        named
+    }
+
+    /// Whether the row names no output.
+    pub fn is_empty(&self) -> bool
+        ensures { IsTrue result ↔ IsEmptyRow self.now }
+    {
+        is_empty(self.named())
+    }
+
+    /// Whether every output that the row names is below `n`.
+    pub fn within(&self, n: u32) -> bool
+        ensures within { IsTrue result ↔ IsWithin n self.now }
+        ensures levels { IsOfLevels self.now }
+    {
+        if n == 0 {
+            self.is_empty()
+        } else {
+            is_among(n.min(MAX_PORTS), self.named())
+        }
+    }
+
+    /// Whether this row keeps an input's earlier row, of which `served` was served: it names each
+    /// unicast output that was not served, and where some of a head was not served, that rest is the
+    /// head's fan-out.
+    pub fn keeps(&self, old: &Row, served: Option<Served>) -> bool
+        ensures { IsTrue result ↔ KeepsRest (Gives served) old.now self.now }
+    {
+        for level in 0..LEVELS {
+            if !self.keeps_at(old, served, level) {
+                return false;
+            }
+        }
+        true
+    }
+}
+
+/// Whether there is a row for each of `n` inputs, and every output that they name is below `n`.
+pub fn are_within(n: u32, rows: &[Row]) -> bool
+    ensures { IsTrue result ↔ AreWithin n rows.now }
+{
+    for row in rows {
+        if !row.within(n) {
+            return false;
+        }
+    }
+    rows.len() == n as usize
+}
+
+impl Row {
+    // Whether the row keeps the earlier row's sets of one level.
+    fn keeps_at(&self, old: &Row, served: Option<Served>, level: u32) -> bool
+        requires { level < LEVELS }
+        ensures { IsTrue result ↔ KeepsLevel (Gives served) old.now self.now level }
+    {
+        let uni = difference(old.uni[level as usize], given(served, level, Kind::Uni));
+        let rest = difference(old.multi[level as usize], given(served, level, Kind::Multi));
+        is_subset(uni, self.uni[level as usize])
+            && (is_empty(rest) || self.multi[level as usize] == rest)
+    }
+}
+
+// The outputs that the part serves at the level with the kind.
+fn given(served: Option<Served>, level: u32, kind: Kind) -> Ports
+    ensures { (j : ℕ) → Has result j ↔ Gives served j level kind }
+{
+    match served {
+        Some(part) if u32::from(part.level) == level && is_same(part.kind, kind) => part.outputs,
+        _ => 0,
+    }
+}
+
+fn is_same(a: Kind, b: Kind) -> bool
+    ensures { IsTrue result ↔ (a ≡ b) }
+{
+    match (a, b) {
+        (Kind::Uni, Kind::Uni) | (Kind::Multi, Kind::Multi) => true,
+        _ => false,
+    }
+}
+
+#[cfg(test)]
+mod tests {
+    use crate::{Row, Served, are_within};
+    use rotating_pick::Kind;
+
+    #[test]
+    fn rows_name_outputs(rt: HostRuntime) {
+        let nothing = Row::empty();
+        assert!(rt; nothing.is_empty());
+        assert!(rt; nothing.within(0));
+        let row = Row {
+            uni: [0, 0b001, 0, 0],
+            multi: [0, 0, 0, 0b110],
+        };
+        assert_eq!(rt; row.named(), 0b111);
+        assert!(rt; !row.is_empty());
+        assert!(rt; row.within(3));
+        assert!(rt; !row.within(2));
+        assert!(rt; are_within(3, &[row, nothing, row]));
+        assert!(rt; !are_within(3, &[row, nothing]));
+    }
+
+    // A served part, and whether the next row keeps the first.
+    #[derive(Clone, Copy)]
+    struct Next {
+        served: Option<Served>,
+        uni: u64,
+        multi: u64,
+        keeps: bool,
+    }
+
+    #[test]
+    fn next_rows_keep(rt: HostRuntime) {
+        let old = Row {
+            uni: [0b01, 0, 0, 0],
+            multi: [0b110, 0, 0, 0],
+        };
+        let part = Some(Served {
+            outputs: 0b010,
+            level: 0,
+            kind: Kind::Multi,
+        });
+        let all = Some(Served {
+            outputs: 0b110,
+            level: 0,
+            kind: Kind::Multi,
+        });
+        let cases = [
+            Next {
+                served: None,
+                uni: 0b11,
+                multi: 0b110,
+                keeps: true,
+            },
+            Next {
+                served: None,
+                uni: 0b10,
+                multi: 0b110,
+                keeps: false,
+            },
+            Next {
+                served: part,
+                uni: 0b01,
+                multi: 0b100,
+                keeps: true,
+            },
+            Next {
+                served: part,
+                uni: 0b01,
+                multi: 0b110,
+                keeps: false,
+            },
+            Next {
+                served: all,
+                uni: 0b01,
+                multi: 0b011,
+                keeps: true,
+            },
+        ];
+        for next in cases {
+            let row = Row {
+                uni: [next.uni, 0, 0, 0],
+                multi: [next.multi, 0, 0, 0],
+            };
+            assert_eq!(rt; row.keeps(&old, next.served), next.keeps, "{row:?}");
+        }
+    }
+}
