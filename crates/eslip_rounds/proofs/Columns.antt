@@ -1,0 +1,105 @@
+-- The columns of asks, filled rank after rank.
+use Rattle.std.proofs.Common.{◌≡◌, ℕ, ◌+◌, ◌<◌, ◌≤◌, ◌↔◌, ◌⊎◌, ◌∙◌, List, [], length, replicate, slice_index, slice_set, sym, ap, subst, inl, inr, arith, length-set, get_or-set_same, get_or-set_other}
+use Rattle.std.proofs.lemmas.Bool.{cases_eq, cases_lt}
+use Rattle.std.proofs.lemmas.List.{length-replicate, get_or-replicate, get_or_past}
+use Rattle.rotating_pick.specs.PortSets.{Has}
+use Rattle.rotating_pick.specs.declared.kinds.Kind.{Kind}
+use Rattle.rotating_pick.specs.declared.limits.TheConstants.{MAX_PORTS}
+use Rattle.slot_match.specs.declared.rows.Row.{Row}
+use Rattle.slot_match.specs.Rows.{Names, row_of}
+use Rattle.slot_match.proofs.Sets.{zero-has, Has-zero}
+use Rattle.eslip_rounds.specs.declared.ranks.TheConstants.{RANKS}
+use Rattle.eslip_rounds.specs.Ranks.{level_at, kind_at}
+use Rattle.eslip_rounds.specs.Steps.{column_of}
+
+-- the columns of the first k ranks are right, the others are empty, and those that are not are used
+pub record AreDone (n k : ℕ) (first : Kind) (rows : List Row) (columns : List (List ℕ)) (used : ℕ) : Type 0 where
+  pub long : length columns ≡ RANKS
+  pub done : (r i j : ℕ) → r < k → Has (column_of columns r j) i ↔ ((i < n) × Names (row_of rows i) (level_at r) (kind_at first r) j)
+  pub left : (r i j : ℕ) → k ≤ r → Has (column_of columns r j) i → ⊥
+  pub uses : (r i j : ℕ) → r < k → i < n → Names (row_of rows i) (level_at r) (kind_at first r) j → Has used r
+  pub uses_in : (r : ℕ) → Has used r → r < k
+
+no_column : (r j : ℕ) → column_of (replicate RANKS (replicate MAX_PORTS 0)) r j ≡ 0
+no_column r j =
+    let zeros : List ℕ = replicate MAX_PORTS 0 in
+    let table : List (List ℕ) = replicate RANKS zeros in
+    let in_zeros : slice_index zeros j ≡ 0 = elim (cases_lt j MAX_PORTS) [
+      | inl below ↦ get_or-replicate MAX_PORTS j 0 0 below
+      | inr above ↦ get_or_past zeros j 0 (let long : length zeros ≡ MAX_PORTS = length-replicate {A = ℕ} MAX_PORTS 0 in omega arith)
+    ] in
+    elim (cases_lt r RANKS) [
+      | inl below ↦ ap (λ row. slice_index row j) (get_or-replicate RANKS r zeros [] below) ∙ in_zeros
+      | inr above ↦ ap (λ row. slice_index row j) (get_or_past table r [] (let long : length table ≡ RANKS = length-replicate RANKS zeros in omega arith))
+    ]
+
+-- nor has a set that is empty
+pub no_set : (sets : List ℕ) → sets ≡ replicate MAX_PORTS 0 → (i j : ℕ) → Has (slice_index sets j) i → ⊥
+no_set sets e i j has =
+    let zeros : List ℕ = replicate MAX_PORTS 0 in
+    let empty : slice_index zeros j ≡ 0 = elim (cases_lt j MAX_PORTS) [
+      | inl below ↦ get_or-replicate MAX_PORTS j 0 0 below
+      | inr above ↦ get_or_past zeros j 0 (let long : length zeros ≡ MAX_PORTS = length-replicate {A = ℕ} MAX_PORTS 0 in omega arith)
+    ] in
+    zero-has (slice_index sets j) i (ap (λ m. slice_index m j) e ∙ empty) has
+
+pub AreDone-first : (n : ℕ) (first : Kind) (rows : List Row) (columns : List (List ℕ)) → columns ≡ replicate RANKS (replicate MAX_PORTS 0) → AreDone n 0 first rows columns 0
+AreDone-first n first rows columns e =
+    let zeros : List ℕ = replicate MAX_PORTS 0 in
+    record {
+      long = ap length e ∙ length-replicate RANKS zeros;
+      done = λ r i j below. absurd (omega arith);
+      left = λ r i j above has. zero-has (column_of columns r j) i (ap (λ table. column_of table r j) e ∙ no_column r j) has;
+      uses = λ r i j below. absurd (omega arith);
+      uses_in = λ r has. absurd (Has-zero r has);
+    }
+
+module _ (n k : ℕ) (first : Kind) (rows : List Row) (columns : List (List ℕ)) (used : ℕ) (known : AreDone n k first rows columns used) (level : ℕ) (kind : Kind) (level_is : level ≡ level_at k) (kind_is : kind ≡ kind_at first k) where
+  named_at : (i j : ℕ) → Names (row_of rows i) level kind j ↔ Names (row_of rows i) (level_at k) (kind_at first k) j
+  named_at i j =
+      let P : ℕ → Type 0 = λ l. Names (row_of rows i) l kind j in
+      let Q : Kind → Type 0 = λ q. Names (row_of rows i) (level_at k) q j in
+      (λ h. subst Q kind_is (subst P level_is h), λ h. subst P (sym level_is) (subst Q (sym kind_is) h))
+
+  pub AreDone-put : (cells : List ℕ) (more : ℕ) → k < RANKS → ((i j : ℕ) → Has (slice_index cells j) i ↔ ((i < n) × Names (row_of rows i) level kind j)) → ((r : ℕ) → Has more r ↔ ((r ≡ k) ⊎ Has used r)) → AreDone n (k + 1) first rows (slice_set columns k cells) more
+  AreDone-put cells more k_in right uses =
+      let inside : k < length columns = let long = known.long in omega arith in
+      let same : (j : ℕ) → column_of (slice_set columns k cells) k j ≡ slice_index cells j = λ j. ap (λ row. slice_index row j) (get_or-set_same columns k cells [] inside) in
+      let others : (r j : ℕ) → (r ≡ k → ⊥) → column_of (slice_set columns k cells) r j ≡ column_of columns r j = λ r j apart. ap (λ row. slice_index row j) (get_or-set_other columns k r cells [] apart) in
+      record {
+        long = length-set columns k cells ∙ known.long;
+        done = λ r i j below. elim (cases_eq r k) [
+          | inl here ↦
+              let e = named_at i j in
+              let P : ℕ → Type 0 = λ x. Has (column_of (slice_set columns k cells) x j) i ↔ ((i < n) × Names (row_of rows i) (level_at x) (kind_at first x) j) in
+              subst P (sym here) (
+                λ has. let p = (right i j).0 (subst (λ set. Has set i) (same j) has) in (p.0, e.0 p.1),
+                λ p. subst (λ set. Has set i) (sym (same j)) ((right i j).1 (p.0, e.1 p.1)),
+              )
+          | inr apart ↦
+              let d = known.done r i j (omega arith) in
+              (λ has. d.0 (subst (λ set. Has set i) (others r j apart) has), λ p. subst (λ set. Has set i) (sym (others r j apart)) (d.1 p))
+        ];
+        left = λ r i j above has. known.left r i j (omega arith) (subst (λ set. Has set i) (others r j (λ e. absurd (omega arith))) has);
+        uses = λ r i j below i_in named. (uses r).1 (elim (cases_eq r k) [ inl here ↦ inl here | inr apart ↦ inr (known.uses r i j (omega arith) i_in named) ]);
+        uses_in = λ r has. elim ((uses r).0 has) [ inl here ↦ omega arith | inr before ↦ let below = known.uses_in r before in omega arith ];
+      }
+
+  pub AreDone-skip : ((i j : ℕ) → i < n → Names (row_of rows i) level kind j → ⊥) → AreDone n (k + 1) first rows columns used
+  AreDone-skip nobody =
+      record {
+        long = known.long;
+        done = λ r i j below. elim (cases_eq r k) [
+          | inl here ↦ (
+            λ has. absurd (known.left r i j (omega arith) has),
+            λ p. let P : ℕ → Type 0 = λ x. Names (row_of rows i) (level_at x) (kind_at first x) j in absurd (nobody i j p.0 ((named_at i j).1 (subst P here p.1))),
+          )
+          | inr apart ↦ known.done r i j (omega arith)
+        ];
+        left = λ r i j above has. known.left r i j (omega arith) has;
+        uses = λ r i j below i_in named. elim (cases_eq r k) [
+          | inl here ↦ let P : ℕ → Type 0 = λ x. Names (row_of rows i) (level_at x) (kind_at first x) j in absurd (nobody i j i_in ((named_at i j).1 (subst P here named)))
+          | inr apart ↦ known.uses r i j (omega arith) i_in named
+        ];
+        uses_in = λ r has. let below = known.uses_in r has in omega arith;
+      }

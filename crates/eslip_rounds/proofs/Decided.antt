@@ -1,0 +1,112 @@
+-- What `decide` makes is a slot.
+use Rattle.std.proofs.Common.{◌≡◌, ℕ, zero, ◌+◌, ◌-◌, ◌%◌, ◌<◌, ◌≤◌, ◌↔◌, ◌∙◌, eqb, cond, true, List, [], ◌∷◌, ◌++◌, Option, length, map, refl, sym, ap, subst, inl, inr, arith}
+use Rattle.std.proofs.lemmas.Bool.{cases_lt, eq-eqb}
+use Rattle.rotating_pick.specs.PortSets.{Has}
+use Rattle.rotating_pick.specs.declared.kinds.Kind.{Kind}
+use Rattle.rotating_pick.specs.declared.kinds.Kind.TheVariants.{Uni, Multi}
+use Rattle.rotating_pick.specs.declared.limits.TheConstants.{LEVELS}
+use Rattle.slot_match.specs.declared.rows.Row.{Row}
+use Rattle.slot_match.specs.declared.matching.Fed.{Fed}
+use Rattle.slot_match.specs.Rows.{AreWithin}
+use Rattle.slot_match.specs.Matches.{unmatched, Serves, IsFreeOutput, IsMatch, IsMaximal}
+use Rattle.slot_match.proofs.Kept.{IsMatch-unmatched, fed_of-unmatched}
+use Rattle.slot_match.proofs.Tables.{count_by-take}
+use Rattle.pointer_state.specs.Places.{Places, AreAtPorts, grant_of, accept_of, shared_of}
+use Rattle.islip_rounds.specs.declared.numbers.RoundsUsed.{RoundsUsed}
+use Rattle.islip_rounds.specs.Numbers.{last_of, matched_count, added_from, rounds_used, numbers_of}
+use Rattle.islip_rounds.proofs.Lasts.{length-added_from, length-map_counts}
+use Rattle.eslip_rounds.specs.declared.asks.Asks.{Asks}
+use Rattle.eslip_rounds.specs.Rounds.{preferred, IsRound}
+use Rattle.eslip_rounds.specs.Slots.{AreMoved, IsSlot}
+use Rattle.eslip_rounds.specs.Steps.{AreAsks, IsStep, AreMet, IsPassed}
+use Rattle.eslip_rounds.proofs.Rounding.{IsRound-from_step}
+use Rattle.eslip_rounds.proofs.Meeting.{IsPassed-same}
+use Rattle.eslip_rounds.proofs.Running.{IsDecided, IsRun-first, IsRun-next, Serves-met}
+use Rattle.eslip_rounds.proofs.Enough.{maximal_or_more, rounds_enough}
+
+-- nothing is matched at first
+unmatched-count : (n : ℕ) → matched_count (unmatched n) ≡ 0
+unmatched-count n = sym (count_by-take zero (unmatched n) (λ j above. fed_of-unmatched n j))
+
+-- where each round added outputs, the last one did
+last_positive : (b : ℕ) (steps : List (List (Option Fed))) → 0 < length steps → ((d : ℕ) → 0 < d → 0 < last_of d (added_from b (map matched_count steps))) → 0 < last_of 0 (added_from b (map matched_count steps))
+last_positive b [] some last = absurd (omega arith)
+last_positive b (step ∷ steps) some last = last 1 (omega arith)
+
+module _ (n t : ℕ) (rows : List Row) (places : Places) (first : Kind) (first_is : first ≡ preferred t) (asks : Asks) (are : AreAsks n first rows asks) where
+  -- a step of the code is a round
+  round_of : (before after : List (Option Fed)) → IsStep n first asks places before after → length after ≡ n → IsRound n t rows places before after
+  round_of before after step count =
+      let P : Kind → Type 0 = λ k. AreAsks n k rows asks in
+      let Q : Kind → Type 0 = λ k. IsStep n k asks places before after in
+      IsRound-from_step n t rows places asks before after (subst P first_is are) (subst Q first_is step) count
+
+  pub IsDecided-first : (made now : List (Option Fed)) (matched : ℕ) (numbers : RoundsUsed) (met : ℕ) → made ≡ unmatched n → IsStep n first asks places made now → IsMatch n now → matched ≡ matched_count now → numbers ≡ numbers_of (matched ∷ []) → numbers.used ≤ 1 → ((j : ℕ) → Has met j ↔ ((j < n) × (IsFreeOutput now j → ⊥))) → IsDecided n 1 t rows places now matched numbers met
+  IsDecided-first made now matched numbers met e step whole counted numbered used mets =
+      record {
+        first = now;
+        run = IsRun-first n t rows places now matched numbers (subst (λ m. IsRound n t rows places m now) e (round_of made now step whole.count)) counted numbered;
+        whole = whole;
+        mets = mets;
+        used = used;
+      }
+
+  pub IsDecided-next : (k : ℕ) (now after : List (Option Fed)) (matched later : ℕ) (numbers more : RoundsUsed) (met added : ℕ) → IsDecided n k t rows places now matched numbers met → IsStep n first asks places now after → IsMatch n after → later ≡ matched_count after → added ≡ later - matched → ((each : List ℕ) → length each ≡ k → numbers ≡ numbers_of each → more ≡ numbers_of (each ++ added ∷ [])) → more.used ≤ k + 1 → IsDecided n (k + 1) t rows places after later more met
+  IsDecided-next k now after matched later numbers more met added decided step whole counted difference numbered used =
+      record {
+        first = decided.first;
+        run = IsRun-next n t rows places k decided.first now after matched later numbers more decided.run (round_of now after step whole.count) counted (λ each long e. numbered each long e ∙ ap (λ d. numbers_of (each ++ d ∷ [])) difference);
+        whole = whole;
+        mets = decided.mets;
+        used = used;
+      }
+
+module _ (n k t : ℕ) (rows : List Row) (places : Places) (now : List (Option Fed)) (matched : ℕ) (numbers : RoundsUsed) (met : ℕ) (decided : IsDecided n k t rows places now matched numbers met) (ports : places.ports ≡ n) (within : AreWithin n rows) where
+  pub AreMoved-from : (middle after : Places) → AreMet (λ i j level. Has met j × Serves now i j level Uni) places middle → ((level : ℕ) → level < LEVELS → IsPassed n rows now middle after level) → ((level : ℕ) → LEVELS ≤ level → shared_of after level ≡ shared_of middle level) → after.ports ≡ middle.ports → ((j level : ℕ) → grant_of after j level ≡ grant_of middle j level) → ((i level : ℕ) → accept_of after i level ≡ accept_of middle i level) → AreMoved n t rows decided.first now places after
+  AreMoved-from middle after moved passed beyond size grants accepts =
+      let met_pair = λ (i j level : ℕ). Serves-met n k t rows places now matched numbers met decided i j level in
+      let around = λ (x : ℕ). ap (λ m. (x + 1) % m) ports in
+      let same = λ (level : ℕ) (level_in : level < LEVELS). IsPassed-same n rows now middle places after after level (moved.shared level) refl (passed level level_in) in
+      record {
+        ports = size ∙ moved.ports;
+        granted = λ i j level s. grants j level ∙ (moved.granted i j level ((met_pair i j level).1 s) ∙ around i);
+        accepted = λ i j level s. accepts i level ∙ (moved.accepted i j level ((met_pair i j level).1 s) ∙ around j);
+        grant_stays = λ j level none. grants j level ∙ moved.grant_stays j level (λ i p. none i ((met_pair i j level).0 p));
+        accept_stays = λ i level none. accepts i level ∙ moved.accept_stays i level (λ j p. none j ((met_pair i j level).0 p));
+        passed = λ i level f done. (same level (within.levels i f.below level f.member.0 Multi f.member.1)).passed i f done;
+        shared_stays = λ level none. elim (cases_lt level LEVELS) [ inl below ↦ (same level below).stays none | inr above ↦ beyond level above ∙ moved.shared level ];
+      }
+
+  pub IsSlot-from : (rounds : ℕ) (after : Places) → k ≡ rounds → AreMoved n t rows decided.first now places after → IsSlot n rounds t rows places (record { matched = now; numbers = numbers; places = after })
+  IsSlot-from rounds after end moved =
+      record {
+        steps = decided.run.steps;
+        count = decided.run.count ∙ end;
+        chain = decided.run.chain;
+        result = decided.run.result;
+        numbered = decided.run.numbered;
+        moved = subst (λ m. AreMoved n t rows m now places after) decided.run.opening moved;
+      }
+
+  module _ (at_ports : AreAtPorts places) where
+    pub enough_rounds : (rounds : ℕ) → k ≡ rounds → n ≤ rounds → IsMaximal n rows now
+    enough_rounds rounds end enough =
+        let count = decided.run.count in
+        subst (IsMaximal n rows) (sym decided.run.result) (rounds_enough n t rows places at_ports ports (unmatched n) decided.run.steps (IsMatch-unmatched n) decided.run.chain within (omega arith))
+
+    pub nothing_added : numbers.last_added ≡ 0 → IsMaximal n rows now
+    nothing_added none =
+        elim (maximal_or_more n t rows places at_ports ports (unmatched n) decided.run.steps (IsMatch-unmatched n) decided.run.chain within) [
+          | inl max ↦ subst (IsMaximal n rows) (sym decided.run.result) max
+          | inr all ↦
+              let steps = decided.run.steps in
+              let added = added_from 0 (map matched_count steps) in
+              let start = unmatched-count n in
+              let used : rounds_used added ≡ length steps = subst (λ b. rounds_used (added_from b (map matched_count steps)) ≡ length steps) start all.used in
+              let last : (d : ℕ) → 0 < d → 0 < last_of d added = subst (λ b. (d : ℕ) → 0 < d → 0 < last_of d (added_from b (map matched_count steps))) start all.last in
+              let long : length added ≡ length steps = length-added_from 0 (map matched_count steps) ∙ length-map_counts matched_count steps in
+              let whole : eqb (rounds_used added) (length added) ≡ true = eq-eqb (rounds_used added) (length added) (used ∙ sym long) in
+              let is_last : numbers.last_added ≡ last_of 0 added = ap (λ (m : RoundsUsed). m.last_added) decided.run.numbered ∙ ap (λ b. cond b (last_of 0 added) 0) whole in
+              let some = last_positive 0 steps decided.run.some last in
+              absurd (omega arith)
+        ]

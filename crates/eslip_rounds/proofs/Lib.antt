@@ -1,0 +1,15 @@
+pub mod RankLemmas
+pub mod Bests
+pub mod Choosing
+pub mod Offering
+pub mod Taking
+pub mod Rounding
+pub mod Meeting
+pub mod Running
+pub mod Deciding
+pub mod Columns
+pub mod Matching
+pub mod Enough
+pub mod Decided
+pub mod Unique
+pub mod Progress

@@ -1,0 +1,12 @@
+use Rattle.std.proofs.Common.{◌≡◌, ℕ, ◌<◌, ◌↔◌, length, slice_index}
+use Rattle.rotating_pick.specs.PortSets.{Has}
+use Rattle.eslip_rounds.specs.declared.ranks.TheConstants.{RANKS}
+use Rattle.eslip_rounds.specs.Ranks.{level_at, kind_at}
+use Rattle.eslip_rounds.specs.Steps.{MayAsk}
+use Rattle.eslip_rounds.proofs.grants.ready_inputs.Given as goal
+
+abbrev pub invariant-loop-rank : goal.invariant-loop-rank
+invariant-loop-rank l = record {
+  long : length l.ready ≡ RANKS;
+  done : (r i : ℕ) → r < l.rank → Has (slice_index l.ready r) i ↔ ((i < length l.matched) × MayAsk l.matched (level_at r) (kind_at l.first r) i);
+}

@@ -1,0 +1,5 @@
+pub mod Rounds
+pub mod Slots
+pub mod Schedules
+pub mod Ranks
+pub mod Steps

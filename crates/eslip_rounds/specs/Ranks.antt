@@ -1,0 +1,24 @@
+-- Ranks: a level and a kind as one number, the better the lower. Of one level the preferred kind is first.
+use Rattle.std.specs.Prelude.{ℕ, ◌+◌, ◌*◌, ◌/◌, ◌%◌, ◌==◌, if◌then◌else◌}
+use Rattle.rotating_pick.specs.declared.kinds.Kind.{Kind}
+use Rattle.rotating_pick.specs.declared.kinds.Kind.TheVariants.{Uni, Multi}
+
+-- the kind that is not this one
+abbrev pub other_kind : Kind → Kind
+other_kind Uni = Multi
+other_kind Multi = Uni
+
+-- the level of a rank
+abbrev pub level_at : ℕ → ℕ
+level_at rank = rank / 2
+
+-- the kind of a rank, where `first` is preferred
+abbrev pub kind_at : Kind → ℕ → Kind
+kind_at first rank = if rank % 2 == 0 then first else other_kind first
+
+-- the rank of a level and kind, where `first` is preferred
+abbrev pub rank_of : Kind → ℕ → Kind → ℕ
+rank_of Uni level Uni = 2 * level
+rank_of Uni level Multi = 2 * level + 1
+rank_of Multi level Multi = 2 * level
+rank_of Multi level Uni = 2 * level + 1

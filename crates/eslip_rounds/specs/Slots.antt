@@ -1,0 +1,45 @@
+-- One slot: its rounds, its match, its numbers, and the pointers after it.
+use Rattle.std.specs.Prelude.{◌≡◌, ℕ, ◌+◌, ◌%◌, List, Option, length, slice_index_or}
+use Rattle.rotating_pick.specs.Rotation.{IsFirstFrom}
+use Rattle.rotating_pick.specs.declared.kinds.Kind.TheVariants.{Uni}
+use Rattle.slot_match.specs.declared.rows.Row.{Row}
+use Rattle.slot_match.specs.declared.matching.Fed.{Fed}
+use Rattle.slot_match.specs.Rows.{HasHead}
+use Rattle.slot_match.specs.Matches.{unmatched, Serves, Completes}
+use Rattle.pointer_state.specs.Places.{Places, grant_of, accept_of, shared_of}
+use Rattle.islip_rounds.specs.declared.numbers.RoundsUsed.{RoundsUsed}
+use Rattle.islip_rounds.specs.Numbers.{last_of, slot_numbers}
+use Rattle.eslip_rounds.specs.Rounds.{AreRounds}
+
+-- what a slot decides
+pub record Decision : Type 0 where
+  pub matched : List (Option Fed)
+  pub numbers : RoundsUsed
+  pub places : Places
+
+-- The pointers after a slot, of which `first` is the match after the first round. The unicast pairs of
+-- the first round move their pointers one beyond each other. The shared pointer of a level moves one
+-- beyond the first input from it on that posted a multicast head, where that head completes. All other
+-- pointers stay.
+pub record AreMoved (n t : ℕ) (rows : List Row) (first matched : List (Option Fed)) (before after : Places) : Type 0 where
+  pub ports : after.ports ≡ before.ports
+  pub granted : (i j level : ℕ) → Serves first i j level Uni → grant_of after j level ≡ (i + 1) % n
+  pub accepted : (i j level : ℕ) → Serves first i j level Uni → accept_of after i level ≡ (j + 1) % n
+  pub grant_stays : (j level : ℕ) → ((i : ℕ) → Serves first i j level Uni → ⊥) → grant_of after j level ≡ grant_of before j level
+  pub accept_stays : (i level : ℕ) → ((j : ℕ) → Serves first i j level Uni → ⊥) → accept_of after i level ≡ accept_of before i level
+  pub passed : (i level : ℕ) → IsFirstFrom n (shared_of before level) (HasHead rows level) i → Completes rows matched level i → shared_of after level ≡ (i + 1) % n
+  pub shared_stays : (level : ℕ) → ((i : ℕ) → IsFirstFrom n (shared_of before level) (HasHead rows level) i → Completes rows matched level i → ⊥) → shared_of after level ≡ shared_of before level
+
+-- Slot t, of so many rounds, decides this, where `Moves` says how its pointers move. All of its rounds
+-- use the pointers from before it, and the first begins with nothing matched.
+pub record IsSlotBy (Moves : ℕ → ℕ → List Row → List (Option Fed) → List (Option Fed) → Places → Places → Type 0) (n rounds t : ℕ) (rows : List Row) (before : Places) (decision : Decision) : Type 0 where
+  pub steps : List (List (Option Fed))
+  pub count : length steps ≡ rounds
+  pub chain : AreRounds n t rows before (unmatched n) steps
+  pub result : decision.matched ≡ last_of (unmatched n) steps
+  pub numbered : decision.numbers ≡ slot_numbers steps
+  pub moved : Moves n t rows (slice_index_or steps 0 (unmatched n)) decision.matched before decision.places
+
+-- slot t decides this
+abbrev pub IsSlot : ℕ → ℕ → ℕ → List Row → Places → Decision → Type 0
+IsSlot = IsSlotBy AreMoved

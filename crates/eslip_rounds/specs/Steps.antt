@@ -1,0 +1,102 @@
+-- What the steps of a slot keep and answer: columns of asks by rank, choices, offers and takings.
+use Rattle.std.specs.Prelude.{◌≡◌, ◌≢◌, ℕ, ◌+◌, ◌%◌, ◌<◌, ◌≤◌, ◌↔◌, ◌⊎◌, List, [], Option, slice_index, slice_index_or}
+use Rattle.rotating_pick.specs.PortSets.{Has}
+use Rattle.rotating_pick.specs.Rotation.{IsFirstFrom}
+use Rattle.rotating_pick.specs.declared.kinds.Kind.{Kind}
+use Rattle.rotating_pick.specs.declared.kinds.Kind.TheVariants.{Multi}
+use Rattle.slot_match.specs.declared.rows.Row.{Row}
+use Rattle.slot_match.specs.declared.matching.Fed.{Fed}
+use Rattle.slot_match.specs.Rows.{Names, row_of, HasHead}
+use Rattle.slot_match.specs.Matches.{Serves, IsFreeInput, IsFreeOutput, IsMulticasting, Completes}
+use Rattle.pointer_state.specs.Places.{Places, grant_of, accept_of, shared_of}
+use Rattle.eslip_rounds.specs.declared.asks.Asks.{Asks}
+use Rattle.eslip_rounds.specs.declared.ranks.TheConstants.{RANKS}
+use Rattle.eslip_rounds.specs.declared.grants.Choice.{Choice}
+use Rattle.eslip_rounds.specs.declared.grants.Offers.{Offers}
+use Rattle.eslip_rounds.specs.Ranks.{level_at, kind_at}
+use Rattle.eslip_rounds.specs.Rounds.{from_of, Takes}
+
+-- the column of output j at the rank
+abbrev pub column_of : List (List ℕ) → ℕ → ℕ → ℕ
+column_of columns rank j = slice_index (slice_index_or columns rank []) j
+
+-- for each rank and output the inputs whose rows name it there, and the ranks at which any does
+pub record AreAsks (n : ℕ) (first : Kind) (rows : List Row) (asks : Asks) : Type 0 where
+  pub columns : (rank i j : ℕ) → rank < RANKS → Has (column_of asks.columns rank j) i ↔ ((i < n) × Names (row_of rows i) (level_at rank) (kind_at first rank) j)
+  pub ranks : (rank i j : ℕ) → rank < RANKS → i < n → Names (row_of rows i) (level_at rank) (kind_at first rank) j → Has asks.ranks rank
+  pub ranks_in : (rank : ℕ) → Has asks.ranks rank → rank < RANKS
+
+-- the input may ask at the level with the kind: it is free, or goes on there
+abbrev pub MayAsk : List (Option Fed) → ℕ → Kind → ℕ → Type 0
+MayAsk before level kind i = IsFreeInput before i ⊎ ((kind ≡ Multi) × IsMulticasting before i level)
+
+-- for each rank the inputs that may ask there
+abbrev pub AreReady : ℕ → Kind → List (Option Fed) → List ℕ → Type 0
+AreReady n first before ready = (rank i : ℕ) → rank < RANKS → Has (slice_index ready rank) i ↔ ((i < n) × MayAsk before (level_at rank) (kind_at first rank) i)
+
+-- input i asks output j at the rank, by the columns
+abbrev pub AsksAt : Asks → List ℕ → ℕ → ℕ → ℕ → Type 0
+AsksAt asks ready j rank i = Has (column_of asks.columns rank j) i × Has (slice_index ready rank) i
+
+-- output j's choice: the lowest rank at which it is asked, and there the first input from its pointer on
+pub record IsChosen (n : ℕ) (first : Kind) (asks : Asks) (ready : List ℕ) (places : Places) (j : ℕ) (choice : Choice) : Type 0 where
+  pub rank_in : choice.rank < RANKS
+  pub picked : IsFirstFrom n (from_of places j (level_at choice.rank) (kind_at first choice.rank)) (AsksAt asks ready j choice.rank) choice.input
+  pub best : (rank i : ℕ) → rank < choice.rank → AsksAt asks ready j rank i → ⊥
+
+-- to each input that is granted, where output j grants input i at the rank with P, the outputs that
+-- grant it at its lowest rank
+pub record AreOffers (P : ℕ → ℕ → ℕ → Type 0) (offers : Offers) : Type 0 where
+  pub some : (i : ℕ) → Has offers.granted i → (j : ℕ) × P i j (slice_index offers.ranks i)
+  pub listed : (i j : ℕ) → Has offers.granted i → Has (slice_index offers.outputs i) j ↔ P i j (slice_index offers.ranks i)
+  pub least : (i j rank : ℕ) → P i j rank → Has offers.granted i × (slice_index offers.ranks i ≤ rank)
+
+-- the offers with one more, of the output to the input at the rank
+pub record IsOffered (old new : Offers) (input output rank : ℕ) : Type 0 where
+  pub granted : (i : ℕ) → Has new.granted i ↔ ((i ≡ input) ⊎ Has old.granted i)
+  pub others : (i : ℕ) → i ≢ input → (slice_index new.ranks i ≡ slice_index old.ranks i) × (slice_index new.outputs i ≡ slice_index old.outputs i)
+  pub better : ((Has old.granted input → ⊥) ⊎ (rank < slice_index old.ranks input)) → (slice_index new.ranks input ≡ rank) × ((j : ℕ) → Has (slice_index new.outputs input) j ↔ (j ≡ output))
+  pub equal : Has old.granted input → slice_index old.ranks input ≡ rank → (slice_index new.ranks input ≡ rank) × ((j : ℕ) → Has (slice_index new.outputs input) j ↔ ((j ≡ output) ⊎ Has (slice_index old.outputs input) j))
+  pub worse : Has old.granted input → slice_index old.ranks input < rank → (slice_index new.ranks input ≡ slice_index old.ranks input) × (slice_index new.outputs input ≡ slice_index old.outputs input)
+
+-- the match may take what input i is offered: outputs that are free, for an input that is free or goes on
+pub record IsOpen (n : ℕ) (first : Kind) (matched : List (Option Fed)) (offers : Offers) (i : ℕ) : Type 0 where
+  pub input_in : i < n
+  pub rank_in : slice_index offers.ranks i < RANKS
+  pub some : (j : ℕ) × Has (slice_index offers.outputs i) j
+  pub free : (j : ℕ) → Has (slice_index offers.outputs i) j → (j < n) × IsFreeOutput matched j
+  pub ready : MayAsk matched (level_at (slice_index offers.ranks i)) (kind_at first (slice_index offers.ranks i)) i
+
+-- the match may take what each input is offered, and no output is offered twice
+pub record AreOpen (n : ℕ) (first : Kind) (matched : List (Option Fed)) (offers : Offers) : Type 0 where
+  pub each : (i : ℕ) → Has offers.granted i → IsOpen n first matched offers i
+  pub apart : (i k j : ℕ) → Has offers.granted i → Has offers.granted k → Has (slice_index offers.outputs i) j → Has (slice_index offers.outputs k) j → i ≡ k
+
+-- input i takes output j of what it is offered
+pub record IsTaken (n : ℕ) (first : Kind) (places : Places) (offers : Offers) (i j level : ℕ) (kind : Kind) : Type 0 where
+  pub granted : Has offers.granted i
+  pub level_is : level ≡ level_at (slice_index offers.ranks i)
+  pub kind_is : kind ≡ kind_at first (slice_index offers.ranks i)
+  pub taken : Takes kind n (accept_of places i level) (Has (slice_index offers.outputs i)) j
+
+-- one round by the columns: the inputs that may ask, the offers of the free outputs, and what is taken
+pub record IsStep (n : ℕ) (first : Kind) (asks : Asks) (places : Places) (before after : List (Option Fed)) : Type 0 where
+  pub ready : List ℕ
+  pub offers : Offers
+  pub readies : AreReady n first before ready
+  pub offered : AreOffers (λ i j rank. ((j < n) × IsFreeOutput before j) × IsChosen n first asks ready places j (record { rank = rank; input = i })) offers
+  pub pairs : (i j level : ℕ) (kind : Kind) → Serves after i j level kind ↔ (Serves before i j level kind ⊎ IsTaken n first places offers i j level kind)
+
+-- the pointers of the pairs are moved one beyond each other, and all others stay
+pub record AreMet (Pairs : ℕ → ℕ → ℕ → Type 0) (before after : Places) : Type 0 where
+  pub ports : after.ports ≡ before.ports
+  pub granted : (i j level : ℕ) → Pairs i j level → grant_of after j level ≡ (i + 1) % before.ports
+  pub accepted : (i j level : ℕ) → Pairs i j level → accept_of after i level ≡ (j + 1) % before.ports
+  pub grant_stays : (j level : ℕ) → ((i : ℕ) → Pairs i j level → ⊥) → grant_of after j level ≡ grant_of before j level
+  pub accept_stays : (i level : ℕ) → ((j : ℕ) → Pairs i j level → ⊥) → accept_of after i level ≡ accept_of before i level
+  pub shared : (level : ℕ) → shared_of after level ≡ shared_of before level
+
+-- the shared pointer of the level is moved one beyond the first head from it on, if that completes
+pub record IsPassed (n : ℕ) (rows : List Row) (matched : List (Option Fed)) (before after : Places) (level : ℕ) : Type 0 where
+  pub passed : (i : ℕ) → IsFirstFrom n (shared_of before level) (HasHead rows level) i → Completes rows matched level i → shared_of after level ≡ (i + 1) % n
+  pub stays : ((i : ℕ) → IsFirstFrom n (shared_of before level) (HasHead rows level) i → Completes rows matched level i → ⊥) → shared_of after level ≡ shared_of before level

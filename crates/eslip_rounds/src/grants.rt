@@ -1,0 +1,156 @@
+ghost use Rattle.std.specs.Prelude.{◌≡◌, ◌≢◌, ℕ, Some, ◌<◌, ◌≤◌, ◌↔◌, length, slice_index};
+ghost use Rattle.rotating_pick.specs.PortSets.{Has};
+ghost use Rattle.rotating_pick.specs.declared.kinds.Kind.{Kind};
+ghost use Rattle.slot_match.specs.Matches.{IsMatch};
+ghost use Rattle.eslip_rounds.specs.declared.grants.Choice.{Choice};
+ghost use Rattle.eslip_rounds.specs.Rounds.{from_of};
+ghost use Rattle.eslip_rounds.specs.Ranks.{level_at, kind_at};
+ghost use Rattle.eslip_rounds.specs.Steps.{column_of, MayAsk, AreReady, IsChosen, AreOffers, IsOffered};
+
+use crate::asks::Asks;
+use crate::ranks::{PORTS, RANKS, kind_of, level_of};
+use pointer_state::Pointers;
+use rotating_pick::{
+    Kind, LEVELS, MAX_PORTS, Ports, contains, intersection, lowest, pick, union, with, without,
+};
+use slot_match::Match;
+
+/// The inputs that may ask at each rank.
+pub(crate) fn ready_inputs(first: Kind, matched: &Match) -> [Ports; RANKS]
+    requires { IsMatch (length matched.now) matched.now }
+    ensures { AreReady (length matched.now) first matched.now result }
+{
+    let mut ready = [0; RANKS];
+    for rank in 0..RANKS as u32 {
+        ready[rank as usize] = ready_at(matched, level_of(rank), kind_of(first, rank));
+    }
+    ready
+}
+
+// The inputs that may ask at the level with the kind.
+fn ready_at(matched: &Match, level: u8, kind: Kind) -> Ports
+    requires whole { IsMatch (length matched.now) matched.now }
+    requires level_in { level < LEVELS }
+    ensures { (i : ℕ) → Has result i ↔ ((i < length matched.now) × MayAsk matched.now level kind i) }
+{
+    match kind {
+        Kind::Uni => matched.free_inputs(),
+        Kind::Multi => union(matched.free_inputs(), matched.multicasting(level)),
+    }
+}
+
+/// The input that an output grants, and at which rank.
+#[derive(Clone, Copy)]
+pub(crate) struct Choice {
+    pub rank: u32,
+    pub input: u32,
+}
+
+/// What the inputs are granted: each at its best rank alone.
+#[derive(Drop)]
+pub(crate) struct Offers {
+    /// The inputs that are granted.
+    pub granted: Ports,
+    /// For each of them the best rank at which it is granted.
+    pub ranks: [u32; PORTS],
+    /// For each of them the outputs that grant it at that rank.
+    pub outputs: [Ports; PORTS],
+}
+
+/// What each of the free outputs grants.
+pub(crate) fn offers_of(
+    n: u32,
+    first: Kind,
+    asks: &Asks,
+    ready: &[Ports; RANKS],
+    p: &Pointers,
+    free_outputs: Ports,
+) -> Offers
+    requires size { n ≤ MAX_PORTS }
+    requires ports { p.now.ports ≡ n }
+    requires ready { (rank i : ℕ) → rank < RANKS → Has (slice_index ready.now rank) i → i < n }
+    requires ranks { (rank : ℕ) → Has asks.now.ranks rank → rank < RANKS }
+    requires named { (rank i j : ℕ) → rank < RANKS → Has (column_of asks.now.columns rank j) i → Has asks.now.ranks rank }
+    requires free { (j : ℕ) → Has free_outputs j → j < n }
+    ensures { AreOffers (λ i j rank. Has free_outputs j × IsChosen n first asks.now ready.now p.now j (record { rank = rank; input = i })) result }
+{
+    let mut offers = no_offers();
+    let mut rest = free_outputs;
+    while let Some(j) = lowest(rest) {
+        if let Some(choice) = chosen(n, first, asks, ready, p, j) {
+            offer(&mut offers, choice.input, j, choice.rank);
+        }
+        rest = without(rest, j);
+    }
+    offers
+}
+
+fn no_offers() -> Offers
+    ensures { result.granted ≡ 0 }
+{
+    Offers {
+        granted: 0,
+        ranks: [0; PORTS],
+        outputs: [0; PORTS],
+    }
+}
+
+// What output `j` grants: of the inputs that ask it at the lowest rank, the first from its pointer on.
+fn chosen(
+    n: u32,
+    first: Kind,
+    asks: &Asks,
+    ready: &[Ports; RANKS],
+    p: &Pointers,
+    j: u32,
+) -> Option<Choice>
+    requires size { n ≤ MAX_PORTS }
+    requires ports { p.now.ports ≡ n }
+    requires j_in { j < n }
+    requires ready { (rank i : ℕ) → rank < RANKS → Has (slice_index ready.now rank) i → i < n }
+    requires ranks { (rank : ℕ) → Has asks.now.ranks rank → rank < RANKS }
+    requires named { (rank i j : ℕ) → rank < RANKS → Has (column_of asks.now.columns rank j) i → Has asks.now.ranks rank }
+    ensures { (f : Choice) → (result ≡ Some f) ↔ IsChosen n first asks.now ready.now p.now j f }
+{
+    let mut rest = asks.ranks;
+    while let Some(rank) = lowest(rest) {
+        let at = rank as usize;
+        let asking = intersection(asks.columns[at][j as usize], ready[at]);
+        if let Some(input) = pick(n, pointer_at(p, first, j, rank), asking) {
+            return Some(Choice { rank, input });
+        }
+        rest = without(rest, rank);
+    }
+    None
+}
+
+// From where output `j` picks at the rank.
+fn pointer_at(p: &Pointers, first: Kind, j: u32, rank: u32) -> u32
+    requires j_in { j < p.now.ports }
+    requires rank_in { rank < RANKS }
+    ensures value { result ≡ from_of p.now j (level_at rank) (kind_at first rank) }
+    ensures within { result < p.now.ports }
+{
+    let level = level_of(rank);
+    match kind_of(first, rank) {
+        Kind::Uni => p.grant(j, level),
+        Kind::Multi => p.shared(level),
+    }
+}
+
+// Adds what an output grants to what the input is offered.
+fn offer(offers: &mut Offers, input: u32, output: u32, rank: u32)
+    requires input_in { input < MAX_PORTS }
+    requires output_in { output < MAX_PORTS }
+    ensures { IsOffered offers.old offers.new input output rank }
+{
+    let at = input as usize;
+    let granted = contains(offers.granted, input);
+    offers.granted = with(offers.granted, input);
+    if !granted || rank < offers.ranks[at] {
+        offers.ranks[at] = rank;
+        offers.outputs[at] = with(0, output);
+    } else if rank == offers.ranks[at] {
+        offers.outputs[at] = with(offers.outputs[at], output);
+    }
+}

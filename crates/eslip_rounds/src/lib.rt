@@ -1,0 +1,17 @@
+//! The decision of a slot: rounds of request, grant and accept over four levels, unicast and multicast.
+//!
+//! Unicast is scheduled by prioritized iSLIP (N. McKeown, IEEE/ACM Transactions on Networking 7(2),
+//! 1999, section VI). Multicast, the kind that a slot prefers and the shared pointers are rules of
+//! this project, in the manner of ESLIP.
+#![tactic(auto)]
+
+mod accepts;
+mod asks;
+mod grants;
+pub mod laws;
+mod moves;
+mod ranks;
+mod rounds;
+mod slot;
+
+pub use slot::decide;
