@@ -1,0 +1,5 @@
+pub mod Covering
+pub mod Indexing
+pub mod Ports
+pub mod Serving
+pub mod Splitting
