@@ -1,0 +1,4 @@
+pub mod Queues
+pub mod Runs
+pub mod Rings
+pub mod Fields
