@@ -1,0 +1,3 @@
+pub mod FanQueues
+pub mod Rings
+pub mod Fields
