@@ -1,0 +1,6 @@
+//! The fields of a frame that the switch reads: the IPv4 destination address.
+#![tactic(auto)]
+
+mod address;
+
+pub use address::destination;
