@@ -1,0 +1,40 @@
+-- The files that a run reads, one after the other.
+use Rattle.std.proofs.Common.{◌≡◌, ◌<◌, ◌≤◌, ◌+◌, ℕ, List, [], ◌∷◌, ◌++◌, map, take, length, get_or, Option, Some, None, sym, ◌∙◌, ap}
+use Rattle.std.specs.Prelude.{IfSome, Result, Vec, is_ok, true, if◌then◌else◌}
+use Rattle.std.proofs.lemmas.List.{length_push, map_more, map_push, take_more}
+use Rattle.std.proofs.lemmas.List.Elements.{All-more, All-push}
+use Rattle.outside.specs.Contents.{Contents}
+use Rattle.switch_run.specs.Inputs.{CapturesRead, EarlierFit, Fits, most_bytes}
+use Rattle.switch_run.specs.Outcome.{bytes_of}
+use Rattle.switch_run.specs.Words.{RunNames}
+use Rattle.switch_run.specs.declared.words.InputFile.TheVariants.{Capture}
+
+-- one file more is there
+pub earlier_more : (names : RunNames) (told : Option Contents) (port : ℕ) (bytes : List ℕ) → port < length names.inputs → IfSome told (EarlierFit names (Capture port))
+    → IfSome told (λ c. c.file (get_or names.inputs port []) ≡ Some bytes) → length bytes ≤ most_bytes → IfSome told (EarlierFit names (Capture (port + 1)))
+earlier_more names None port bytes within earlier there fits = tt
+earlier_more names (Some c) port bytes within earlier there fits = (earlier.0, All-more (Fits c) names.inputs port [] within earlier.1 (bytes, there, fits))
+
+there_more : (names : List (List ℕ)) (told : Option Contents) (i : ℕ) (captures : List (List ℕ)) (bytes : List ℕ) → i < length names
+    → IfSome told (λ c. map (λ name. c.file name) (take i names) ≡ map (λ b. Some b) captures) → IfSome told (λ c. c.file (get_or names i []) ≡ Some bytes)
+    → IfSome told (λ c. map (λ name. c.file name) (take (i + 1) names) ≡ map (λ b. Some b) (captures ++ bytes ∷ []))
+there_more names None i captures bytes within there here = tt
+there_more names (Some c) i captures bytes within there here =
+    map_more (λ name. c.file name) names i [] within
+    ∙ ap (λ xs. xs ++ c.file (get_or names i []) ∷ []) there
+    ∙ ap (λ o. map (λ b. Some b) captures ++ o ∷ []) here
+    ∙ sym (map_push (λ b. Some b) captures bytes)
+
+-- one capture more is read
+pub captures_more : (names : List (List ℕ)) (told : Option Contents) (i : ℕ) (captures : List (List ℕ)) (bytes : List ℕ) → i < length names → CapturesRead (take i names) told captures
+    → IfSome told (λ c. c.file (get_or names i []) ≡ Some bytes) → length bytes ≤ most_bytes → CapturesRead (take (i + 1) names) told (captures ++ bytes ∷ [])
+captures_more names told i captures bytes within read here fits = record {
+  count = length_push captures bytes ∙ ap (λ n. n + 1) read.count ∙ sym (ap length (take_more names i [] within) ∙ length_push (take i names) (get_or names i []));
+  fit = All-push (λ b. length b ≤ most_bytes) captures bytes read.fit fits;
+  there = there_more names told i captures bytes within read.there here;
+}
+
+-- what a push left, where it was not refused
+pub bytes_pushed : {A B T E : Type 0} (r : Result T E) (new old : Vec (Vec ℕ A) B) (capture : Vec ℕ A) → new.items ≡ (if is_ok r then old.items ++ capture ∷ [] else old.items) → is_ok r ≡ true
+    → bytes_of new ≡ bytes_of old ++ capture.items ∷ []
+bytes_pushed r new old capture e ok = ap (map (λ v. v.items)) (rw ok at e) ∙ map_push (λ v. v.items) old.items capture

@@ -1,0 +1,6 @@
+use Rattle.switch_run.specs.Words.{names_of}
+use Rattle.switch_run.proofs.Stopping.{Stops-since}
+use Rattle.switch_run.proofs.inputs.read_inputs.Goals as goal
+
+pub returns-clause-stops : goal.returns-clause-stops
+returns-clause-stops g c = Stops-since (names_of c.args.words.now) _ _ _ _ _ _ _ c.in-Ok-read_input.ensures.told c.in-Ok-read_input.ensures.never_fall c.in-Err-read_captures.ensures.stops

@@ -1,0 +1,15 @@
+pub mod Traffic
+pub mod Queues
+pub mod Runs
+pub mod Delivery
+pub mod Cards
+pub mod Jobs
+pub mod Outcome
+pub mod Causes
+pub mod Endings
+pub mod ErrorLines
+pub mod Inputs
+pub mod LineParts
+pub mod OutputFiles
+pub mod RefusalLines
+pub mod Words

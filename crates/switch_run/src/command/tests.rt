@@ -1,0 +1,177 @@
+use crate::switch_main;
+use outside::{Call, Fail, MemFiles, names_differ};
+use std::alloc::{AllocError, Global};
+use std::process::Abort;
+use std::test;
+
+const USAGE: &str =
+    "usage: tiny_tera run [options] TABLE PREFIX INPUT.. or tiny_tera gen [options] SEED COUNT PORTS\n";
+
+const TABLE: &str = "10.0.0.0/24 0\n10.0.1.0/24 1\n";
+
+// A capture of Ethernet without a packet.
+const NO_PACKET: &[u8; 24] =
+    b"\xd4\xc3\xb2\xa1\x02\x00\x04\x00\x00\x00\x00\x00\x00\x00\x00\x00\x00\x00\x04\x00\x01\x00\x00\x00";
+
+// The same of raw IP.
+const NO_RAW_PACKET: &[u8; 24] =
+    b"\xd4\xc3\xb2\xa1\x02\x00\x04\x00\x00\x00\x00\x00\x00\x00\x00\x00\x00\x00\x04\x00\x65\x00\x00\x00";
+
+// A record of a frame to 10.0.1.1, up to its last 26 bytes, which are 0.
+const RECORD: &[u8; 50] =
+    b"\x01\x00\x00\x00\x02\x00\x00\x00\x3c\x00\x00\x00\x3c\x00\x00\x00\x02\x00\x00\x00\x00\x01\x02\x00\x00\x00\x00\x02\x08\x00\x45\x00\x00\x2e\x00\x00\x00\x00\x40\xfd\x00\x00\x0a\x00\x00\x01\x0a\x00\x01\x01";
+
+// A list of words, the call that is to fail, and the status, the line and the outputs that come of it.
+#[derive(Clone, Copy)]
+struct Row<'a> {
+    words: &'a [&'a str],
+    fails: &'a [Fail],
+    status: u8,
+    line: &'a str,
+}
+
+fn one_packet(alloc: Global) -> Result<Vec<u8>, AllocError> {
+    let mut capture = NO_PACKET.to_vec(alloc)?;
+    capture.extend_from_slice(RECORD)?;
+    capture.extend_from_slice(&[0; 26])?;
+    Ok(capture)
+}
+
+fn word_list(alloc: Global, words: &[&str]) -> Result<Vec<String>, AllocError> {
+    let mut list = Vec::new(alloc);
+    for word in words {
+        list.push(String::from_str(alloc, word)?)?;
+    }
+    Ok(list)
+}
+
+fn given_files(alloc: Global) -> Result<Vec<(String, Vec<u8>)>, AllocError> {
+    let mut given = Vec::new(alloc);
+    given.push((
+        String::from_str(alloc, "t")?,
+        TABLE.as_bytes().to_vec(alloc)?,
+    ))?;
+    given.push((String::from_str(alloc, "empty")?, Vec::new(alloc)))?;
+    given.push((
+        String::from_str(alloc, "multi")?,
+        b"10.0.0.0/8 0,1\n".to_vec(alloc)?,
+    ))?;
+    given.push((String::from_str(alloc, "one")?, one_packet(alloc)?))?;
+    given.push((String::from_str(alloc, "none")?, NO_PACKET.to_vec(alloc)?))?;
+    given.push((
+        String::from_str(alloc, "raw")?,
+        NO_RAW_PACKET.to_vec(alloc)?,
+    ))?;
+    Ok(given)
+}
+
+// Twelve bytes a call.
+fn files(rt: &impl Abort, alloc: Global, fails: &[Fail]) -> Result<MemFiles, test::Fail> {
+    let given = given_files(alloc)?;
+    assert!(rt; names_differ(given.as_slice()));
+    Ok(MemFiles::make(alloc, given, 12, fails.to_vec(alloc)?)?)
+}
+
+fn has_bytes(files: &MemFiles, name: &str, bytes: &[u8]) -> bool {
+    match files.file(name) {
+        Some(found) => found == bytes,
+        None => false,
+    }
+}
+
+#[test]
+fn answers_by_status_and_line(rt: HostRuntime) -> Result<(), test::Fail> {
+    let fourth_write = [Fail {
+        call: Call::Write,
+        number: 4,
+    }];
+    let rows = [
+        Row {
+            words: &["run", "t", "out"],
+            fails: &[],
+            status: 2,
+            line: USAGE,
+        },
+        Row {
+            words: &["run", "t", "out", "-"],
+            fails: &[],
+            status: 2,
+            line: USAGE,
+        },
+        Row {
+            words: &["run", "t", "out", "c"],
+            fails: &[],
+            status: 3,
+            line: "read fault: c\n",
+        },
+        Row {
+            words: &["run", "missing", "out", "one"],
+            fails: &[],
+            status: 3,
+            line: "read fault: missing\n",
+        },
+        Row {
+            words: &["run", "one", "out", "one"],
+            fails: &[],
+            status: 4,
+            line: "table line 1: bad line\n",
+        },
+        Row {
+            words: &["run", "t", "out", "one", "t"],
+            fails: &[],
+            status: 4,
+            line: "capture 1: bad magic 31302e30\n",
+        },
+        Row {
+            words: &["run", "t", "out", "one", "raw"],
+            fails: &[],
+            status: 4,
+            line: "link types 1 and 101\n",
+        },
+        Row {
+            words: &["run", "multi", "out", "one", "none"],
+            fails: &[],
+            status: 4,
+            line: "not built: multi\n",
+        },
+        Row {
+            words: &["run", "empty", "out", "none", "none"],
+            fails: &fourth_write,
+            status: 6,
+            line: "write fault: out.1.pcap\n",
+        },
+    ];
+    for row in rows {
+        let words = word_list(rt.alloc(), row.words)?;
+        let mut files = files(&rt, rt.alloc(), row.fails)?;
+        assert_eq!(rt;
+            switch_main(rt.alloc(), words.as_slice(), &mut files),
+            row.status
+        );
+        assert_eq!(rt; files.err_text(), row.line.as_bytes());
+        assert!(rt; files.out_text().is_empty());
+    }
+    Ok(())
+}
+
+#[test]
+fn a_packet_crosses(rt: HostRuntime) -> Result<(), test::Fail> {
+    let words = word_list(rt.alloc(), &["run", "t", "out", "one", "none"])?;
+    let mut files = files(&rt, rt.alloc(), &[])?;
+    assert_eq!(rt; switch_main(rt.alloc(), words.as_slice(), &mut files), 0);
+    let crossed = one_packet(rt.alloc())?;
+    assert!(rt; has_bytes(&files, "out.0.pcap", NO_PACKET));
+    assert!(rt; has_bytes(&files, "out.1.pcap", crossed.as_slice()));
+    assert!(rt; files.err_text().is_empty());
+    Ok(())
+}
+
+#[test]
+fn no_packets_leave_empty_captures(rt: HostRuntime) -> Result<(), test::Fail> {
+    let words = word_list(rt.alloc(), &["run", "empty", "out", "raw", "raw"])?;
+    let mut files = files(&rt, rt.alloc(), &[])?;
+    assert_eq!(rt; switch_main(rt.alloc(), words.as_slice(), &mut files), 0);
+    assert!(rt; has_bytes(&files, "out.0.pcap", NO_RAW_PACKET));
+    assert!(rt; has_bytes(&files, "out.1.pcap", NO_RAW_PACKET));
+    Ok(())
+}

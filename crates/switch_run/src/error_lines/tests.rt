@@ -1,0 +1,145 @@
+use crate::ending::Ending;
+use crate::error_lines::print_line;
+use crate::job::Refusal;
+use crate::words::{InputFile, RunWords};
+use forward_table::TableFault;
+use outside::MemFiles;
+use pcap_records::{Link, PcapFault};
+use std::alloc::{AllocError, Global};
+use std::process::Abort;
+use std::test;
+
+fn input_names(alloc: Global) -> Result<Vec<String>, AllocError> {
+    let mut names = Vec::new(alloc);
+    for name in ["in.0", "in.1"] {
+        names.push(String::from_str(alloc, name)?)?;
+    }
+    Ok(names)
+}
+
+// No files, seven bytes a call.
+fn no_files(alloc: Global) -> Result<MemFiles, test::Fail> {
+    Ok(MemFiles::make(alloc, Vec::new(alloc), 7, Vec::new(alloc))?)
+}
+
+// The line of the ending is this one.
+fn prints(rt: &impl Abort, alloc: Global, ending: Ending, line: &str) -> Result<(), test::Fail> {
+    let inputs = input_names(alloc)?;
+    let words = RunWords {
+        table: "the table",
+        prefix: "to",
+        inputs: inputs.as_slice(),
+    };
+    let mut files = no_files(alloc)?;
+    print_line(&mut files, &words, ending);
+    assert_eq!(rt; files.err_text(), line.as_bytes());
+    Ok(())
+}
+
+#[test]
+fn endings_print_their_lines(rt: HostRuntime) -> Result<(), test::Fail> {
+    let rows = [
+        (Ending::Done, ""),
+        (
+            Ending::ReadFault(InputFile::Table),
+            "read fault: the table\n",
+        ),
+        (
+            Ending::ReadFault(InputFile::Capture(1)),
+            "read fault: in.1\n",
+        ),
+        (Ending::TooLong(InputFile::Capture(0)), "too long: in.0\n"),
+        (Ending::OutOfMemory, "out of memory\n"),
+        (Ending::WriteFault(12), "write fault: to.12.pcap\n"),
+        (
+            Ending::Refused(Refusal::NotBuiltTable),
+            "not built: the table\n",
+        ),
+        (
+            Ending::Refused(Refusal::NotBuiltCapture { port: 1 }),
+            "not built: in.1\n",
+        ),
+        (
+            Ending::Refused(Refusal::Links {
+                first: Link::Ethernet,
+                other: Link::RawIp,
+            }),
+            "link types 1 and 101\n",
+        ),
+    ];
+    for (ending, line) in rows {
+        prints(&rt, rt.alloc(), ending, line)?;
+    }
+    Ok(())
+}
+
+#[test]
+fn tables_print_their_lines(rt: HostRuntime) -> Result<(), test::Fail> {
+    let rows = [
+        (TableFault::BadLine { line: 3 }, "table line 3: bad line\n"),
+        (
+            TableFault::HostBits { line: 10 },
+            "table line 10: host bits\n",
+        ),
+        (
+            TableFault::BadPort { line: 4, port: 64 },
+            "table line 4: port 64\n",
+        ),
+        (TableFault::BadLevel { line: 1 }, "table line 1: level\n"),
+        (
+            TableFault::Repeated { line: 7, first: 2 },
+            "table line 7: repeats line 2\n",
+        ),
+        (
+            TableFault::TooManyLines { count: 4097 },
+            "table: 4097 lines\n",
+        ),
+    ];
+    for (fault, line) in rows {
+        prints(
+            &rt,
+            rt.alloc(),
+            Ending::Refused(Refusal::Table(fault)),
+            line,
+        )?;
+    }
+    Ok(())
+}
+
+#[test]
+fn captures_print_their_lines(rt: HostRuntime) -> Result<(), test::Fail> {
+    let rows = [
+        (
+            PcapFault::ShortHeader { len: 23 },
+            "capture 5: short header, 23 bytes\n",
+        ),
+        (
+            PcapFault::BadMagic { found: 0x0a0d_0d0a },
+            "capture 5: bad magic 0a0d0d0a\n",
+        ),
+        (
+            PcapFault::BadVersion { major: 2, minor: 3 },
+            "capture 5: version 2.3\n",
+        ),
+        (
+            PcapFault::BadLink { found: 113 },
+            "capture 5: link type 113\n",
+        ),
+        (
+            PcapFault::CutRecord { at: 24 },
+            "capture 5: cut record at 24\n",
+        ),
+        (
+            PcapFault::LongRecord {
+                at: 24,
+                len: 262_145,
+            },
+            "capture 5: long record at 24, 262145 bytes\n",
+        ),
+    ];
+    for (fault, line) in rows {
+        let refusal = Refusal::Capture { port: 5, fault };
+        prints(&rt, rt.alloc(), Ending::Refused(refusal), line)?;
+    }
+    Ok(())
+}
