@@ -1,0 +1,165 @@
+//! The fields of a row, read: words, numbers, sets of ports, kinds, bytes and lists.
+ghost use Rattle.std.specs.Prelude.{◌≡◌, ℕ, ◌<◌, ◌≤◌, length, slice_index, All, IfOk, IsTrue};
+ghost use Rattle.rotating_pick.specs.PortSets.{IsAmong};
+
+use crate::row::NoAnswer;
+use pcap_records::Link;
+use rotating_pick::{Kind, MAX_PORTS, Ports, is_among};
+use std::alloc::{AllocError, Global};
+
+/// The length of a table with an entry for each port.
+pub const PORTS: usize = 64;
+
+/// The words of a line.
+pub fn words(alloc: Global, line: &str) -> Result<Vec<&str>, AllocError> {
+    line.split(' ').collect(alloc)
+}
+
+/// A decimal number.
+pub fn number(text: &str) -> Result<u32, NoAnswer> {
+    match text.parse::<u32>() {
+        Ok(number) => Ok(number),
+        Err(_) => Err(NoAnswer),
+    }
+}
+
+/// A decimal number that can be long.
+pub fn long_number(text: &str) -> Result<u64, NoAnswer> {
+    match text.parse::<u64>() {
+        Ok(number) => Ok(number),
+        Err(_) => Err(NoAnswer),
+    }
+}
+
+/// A decimal number of a byte.
+pub fn byte(text: &str) -> Result<u8, NoAnswer> {
+    match text.parse::<u8>() {
+        Ok(number) => Ok(number),
+        Err(_) => Err(NoAnswer),
+    }
+}
+
+/// How many ports a switch has: 1 to 64.
+pub fn port_count(text: &str) -> Result<u32, NoAnswer>
+    ensures some { IfOk result (λ n. 0 < n) }
+    ensures size { IfOk result (λ n. n ≤ MAX_PORTS) }
+{
+    let n = number(text)?;
+    if n == 0 || n > MAX_PORTS {
+        return Err(NoAnswer);
+    }
+    Ok(n)
+}
+
+/// A set of ports, as `0x1f`.
+pub fn port_set(text: &str) -> Result<Ports, NoAnswer> {
+    let Some(digits) = text.strip_prefix("0x") else {
+        return Err(NoAnswer);
+    };
+    match u64::from_str_radix(digits, 16) {
+        Ok(ports) => Ok(ports),
+        Err(_) => Err(NoAnswer),
+    }
+}
+
+/// Numbers that are parted by commas.
+pub fn numbers(alloc: Global, text: &str) -> Result<Vec<u32>, NoAnswer> {
+    let mut numbers = Vec::new(alloc);
+    for word in text.split(',') {
+        numbers.push(number(word)?)?;
+    }
+    Ok(numbers)
+}
+
+/// As many sets as there are ports, parted by commas, each of the `n` ports.
+pub fn port_sets(alloc: Global, n: u32, text: &str) -> Result<Vec<Ports>, NoAnswer>
+    requires some { 0 < n }
+    requires size { n ≤ MAX_PORTS }
+    ensures count { IfOk result (λ sets. length sets.items ≡ n) }
+    ensures among { IfOk result (λ sets. All (IsAmong n) sets.items) }
+{
+    let mut sets = Vec::new(alloc);
+    for word in text.split(',') {
+        sets.push(port_set(word)?)?;
+    }
+    if sets.len() != n as usize || !are_among(n, sets.as_slice()) {
+        return Err(NoAnswer);
+    }
+    Ok(sets)
+}
+
+// Whether each set is of the `n` ports.
+fn are_among(n: u32, sets: &[Ports]) -> bool
+    requires some { 0 < n }
+    requires size { n ≤ MAX_PORTS }
+    ensures { IsTrue result → All (IsAmong n) sets.now }
+{
+    sets.iter().all(|set| is_among(n, *set))
+}
+
+/// A table of ports, one for each of the `n` ports, parted by commas.
+pub fn port_table(alloc: Global, n: u32, text: &str) -> Result<[u32; PORTS], NoAnswer>
+    requires some { 0 < n }
+    requires size { n ≤ MAX_PORTS }
+    ensures { IfOk result (λ table. (k : ℕ) → slice_index table k < n) }
+{
+    let list = numbers(alloc, text)?;
+    if list.len() != n as usize {
+        return Err(NoAnswer);
+    }
+    table_of(n, list.as_slice())
+}
+
+fn table_of(n: u32, list: &[u32]) -> Result<[u32; PORTS], NoAnswer>
+    requires some { 0 < n }
+    requires size { n ≤ MAX_PORTS }
+    ensures { IfOk result (λ table. (k : ℕ) → slice_index table k < n) }
+{
+    let mut table = [0; PORTS];
+    for k in 0..PORTS {
+        let port = list.get(k).copied().unwrap_or(0);
+        if port >= n {
+            return Err(NoAnswer);
+        }
+        table[k] = port;
+    }
+    Ok(table)
+}
+
+/// A kind: `u` or `m`.
+pub fn kind(text: &str) -> Result<Kind, NoAnswer> {
+    match text {
+        "u" => Ok(Kind::Uni),
+        "m" => Ok(Kind::Multi),
+        _ => Err(NoAnswer),
+    }
+}
+
+/// Bytes in hexadecimal, `-` for none.
+pub fn bytes(alloc: Global, text: &str) -> Result<Vec<u8>, NoAnswer> {
+    if text == "-" {
+        return Ok(Vec::new(alloc));
+    }
+    match hex::decode(alloc, text) {
+        Ok(bytes) => Ok(bytes),
+        Err(_) => Err(NoAnswer),
+    }
+}
+
+/// Whether a capture counts its fractions in nanoseconds: `nano` or `micro`.
+pub fn unit(text: &str) -> Result<bool, NoAnswer> {
+    match text {
+        "nano" => Ok(true),
+        "micro" => Ok(false),
+        _ => Err(NoAnswer),
+    }
+}
+
+/// A link type by its number.
+pub fn link(text: &str) -> Result<Link, NoAnswer> {
+    match text {
+        "1" => Ok(Link::Ethernet),
+        "101" => Ok(Link::RawIp),
+        _ => Err(NoAnswer),
+    }
+}

@@ -1,0 +1,61 @@
+//! Rows of output captures: `header UNIT LINK -> BYTES`, `record UNIT MESSAGE -> BYTES` and
+//! `capture UNIT LINK MESSAGES -> BYTES`.
+use crate::fields::{bytes, link, unit, words};
+use crate::row::{NoAnswer, Row};
+use pcap_records::{
+    HEADER_BYTES, Link, MAX_CAPTURED_BYTES, RECORD_HEADER_BYTES, write_header, write_record,
+};
+use std::alloc::{AllocError, Global};
+
+/// The row that a line is.
+pub fn row(alloc: Global, line: &str) -> Result<Row, AllocError> {
+    match line.split_once(" -> ") {
+        Some((question, stated)) => Row::new(alloc, stated, answer(alloc, question)),
+        None => Row::unread(alloc, line),
+    }
+}
+
+fn answer(alloc: Global, question: &str) -> Result<String, NoAnswer> {
+    let words = words(alloc, question)?;
+    let written = match words.as_slice() {
+        ["header", unit_word, link_word] => header(alloc, unit(unit_word)?, link(link_word)?)?,
+        ["record", unit_word, message] => record(alloc, unit(unit_word)?, message)?,
+        ["capture", unit_word, link_word, messages] => {
+            capture(alloc, unit(unit_word)?, link(link_word)?, messages)?
+        }
+        _ => return Err(NoAnswer),
+    };
+    Ok(hex::encode(alloc, written.as_slice())?)
+}
+
+fn header(alloc: Global, nano: bool, link: Link) -> Result<Vec<u8>, AllocError> {
+    let mut header = [0; HEADER_BYTES];
+    write_header(&mut header, nano, link);
+    Vec::from_slice(alloc, &header)
+}
+
+fn record(alloc: Global, nano: bool, message: &str) -> Result<Vec<u8>, NoAnswer> {
+    let message = bytes(alloc, message)?;
+    let len = message.len();
+    if len < RECORD_HEADER_BYTES || len > RECORD_HEADER_BYTES + MAX_CAPTURED_BYTES as usize {
+        return Err(NoAnswer);
+    }
+    let mut record = vec![in alloc; 0; len]?;
+    let end = write_record(record.as_mut_slice(), 0, message.as_slice(), nano);
+    if end == len {
+        Ok(record)
+    } else {
+        Err(NoAnswer)
+    }
+}
+
+fn capture(alloc: Global, nano: bool, link: Link, messages: &str) -> Result<Vec<u8>, NoAnswer> {
+    let mut file = header(alloc, nano, link)?;
+    if messages != "-" {
+        for message in messages.split(',') {
+            let record = record(alloc, nano, message)?;
+            file.extend_from_slice(record.as_slice())?;
+        }
+    }
+    Ok(file)
+}

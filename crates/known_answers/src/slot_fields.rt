@@ -1,0 +1,226 @@
+//! The fields of a slot of four levels and both kinds: rows of posted sets, pointers and matches.
+ghost use Rattle.std.specs.Prelude.{◌≡◌, ◌<◌, ◌≤◌, IfOk};
+ghost use Rattle.slot_match.specs.Rows.{AreWithin};
+
+use crate::fields::{PORTS, port_set, port_table};
+use crate::row::NoAnswer;
+use crate::texts::{add_item, kind_letter, numbers_text};
+use islip_rounds::RoundsUsed;
+use pointer_state::Pointers;
+use rotating_pick::{LEVELS, MAX_PORTS};
+use slot_match::{Fed, Match, Row, are_within};
+use std::alloc::{AllocError, Global};
+
+/// The number of levels, as a length.
+pub const LEVEL_COUNT: usize = 4;
+
+/// Pointers of four levels, as a row states them.
+#[derive(Clone, Copy)]
+pub struct Stated {
+    /// For each level the grant pointers of the outputs.
+    pub grant: [[u32; PORTS]; LEVEL_COUNT],
+    /// For each level the accept pointers of the inputs.
+    pub accept: [[u32; PORTS]; LEVEL_COUNT],
+    /// The shared pointer of each level.
+    pub shared: [u32; LEVEL_COUNT],
+}
+
+/// The rows of `n` inputs, parted by `;`: each is `.` for an empty one, or sets parted by `+`, as
+/// `u2=0x5` for unicast of level 2.
+pub fn posted_rows(alloc: Global, n: u32, text: &str) -> Result<Vec<Row>, NoAnswer>
+    ensures { IfOk result (λ rows. AreWithin n rows.items) }
+{
+    let mut rows = Vec::new(alloc);
+    for row in text.split(';') {
+        rows.push(posted_row(row)?)?;
+    }
+    if are_within(n, rows.as_slice()) {
+        Ok(rows)
+    } else {
+        Err(NoAnswer)
+    }
+}
+
+fn posted_row(text: &str) -> Result<Row, NoAnswer> {
+    let mut row = Row::empty();
+    if text == "." {
+        return Ok(row);
+    }
+    for part in text.split('+') {
+        let Some((queue, set)) = part.split_once('=') else {
+            return Err(NoAnswer);
+        };
+        let set = port_set(set)?;
+        match queue {
+            "u0" => row.uni[0] = set,
+            "u1" => row.uni[1] = set,
+            "u2" => row.uni[2] = set,
+            "u3" => row.uni[3] = set,
+            "m0" => row.multi[0] = set,
+            "m1" => row.multi[1] = set,
+            "m2" => row.multi[2] = set,
+            "m3" => row.multi[3] = set,
+            _ => return Err(NoAnswer),
+        }
+    }
+    Ok(row)
+}
+
+/// Tables of ports for four levels, parted by `/`.
+pub fn level_tables(
+    alloc: Global,
+    n: u32,
+    text: &str,
+) -> Result<[[u32; PORTS]; LEVEL_COUNT], NoAnswer>
+    requires some { 0 < n }
+    requires size { n ≤ MAX_PORTS }
+{
+    let tables: Vec<&str> = text.split('/').collect(alloc)?;
+    let [first, second, third, fourth] = tables.as_slice() else {
+        return Err(NoAnswer);
+    };
+    Ok([
+        port_table(alloc, n, first)?,
+        port_table(alloc, n, second)?,
+        port_table(alloc, n, third)?,
+        port_table(alloc, n, fourth)?,
+    ])
+}
+
+/// The pointers that are stated. Those of the accepts are aimed first, since that moves the grants.
+pub fn pointers(n: u32, stated: &Stated) -> Result<Pointers, NoAnswer>
+    requires some { 0 < n }
+    requires size { n ≤ MAX_PORTS }
+{
+    let mut pointers = Pointers::new(n);
+    for level in 0..4u8 {
+        let at = usize::from(level);
+        aim_accepts(&mut pointers, level, &stated.accept[at])?;
+        aim_grants(&mut pointers, level, &stated.grant[at])?;
+        aim_shared(&mut pointers, level, stated.shared[at])?;
+    }
+    Ok(pointers)
+}
+
+fn aim_accepts(p: &mut Pointers, level: u8, accept: &[u32]) -> Result<(), NoAnswer> {
+    for input in 0..p.ports() {
+        let Some(at) = accept.get(input as usize) else {
+            return Err(NoAnswer);
+        };
+        let n = p.ports();
+        let output = before(n, *at);
+        if input >= n || output >= n || u32::from(level) >= LEVELS {
+            return Err(NoAnswer);
+        }
+        p.met(input, output, level);
+    }
+    Ok(())
+}
+
+fn aim_grants(p: &mut Pointers, level: u8, grant: &[u32]) -> Result<(), NoAnswer> {
+    for output in 0..p.ports() {
+        let Some(at) = grant.get(output as usize) else {
+            return Err(NoAnswer);
+        };
+        let n = p.ports();
+        if *at >= n || output >= n || u32::from(level) >= LEVELS {
+            return Err(NoAnswer);
+        }
+        p.held(*at, output, level);
+    }
+    Ok(())
+}
+
+fn aim_shared(p: &mut Pointers, level: u8, at: u32) -> Result<(), NoAnswer> {
+    let n = p.ports();
+    let input = before(n, at);
+    if input >= n || u32::from(level) >= LEVELS {
+        return Err(NoAnswer);
+    }
+    p.passed(level, input);
+    Ok(())
+}
+
+// The port before port `x`.
+fn before(n: u32, x: u32) -> u32 {
+    if x == 0 { n.saturating_sub(1) } else { x - 1 }
+}
+
+/// For each output what feeds it, as `1:0u`, or `-`.
+pub fn match_text(alloc: Global, matched: &Match) -> Result<String, AllocError> {
+    let mut list = String::new(alloc);
+    for output in 0..matched.ports() {
+        let item = fed_text(alloc, matched.fed(output))?;
+        add_item(&mut list, item.as_str())?;
+    }
+    Ok(list)
+}
+
+fn fed_text(alloc: Global, fed: Option<Fed>) -> Result<String, AllocError> {
+    match fed {
+        Some(fed) => {
+            let input = fed.input;
+            let level = fed.level;
+            let kind = kind_letter(fed.kind);
+            format!(in alloc; "{input}:{level}{kind}")
+        }
+        None => String::from_str(alloc, "-"),
+    }
+}
+
+/// `USED FIRST LAST_ADDED`.
+pub fn rounds_text(alloc: Global, numbers: RoundsUsed) -> Result<String, AllocError> {
+    let used = numbers.used;
+    let first = numbers.first;
+    let last_added = numbers.last_added;
+    format!(in alloc; "{used} {first} {last_added}")
+}
+
+/// The grant pointers of four levels, parted by `/`.
+pub fn grants_text(alloc: Global, pointers: &Pointers) -> Result<String, AllocError> {
+    let first = level_grants(alloc, pointers, 0)?;
+    let second = level_grants(alloc, pointers, 1)?;
+    let third = level_grants(alloc, pointers, 2)?;
+    let fourth = level_grants(alloc, pointers, 3)?;
+    format!(in alloc; "{first}/{second}/{third}/{fourth}")
+}
+
+fn level_grants(alloc: Global, pointers: &Pointers, level: u8) -> Result<String, AllocError>
+    requires { level < LEVELS }
+{
+    let mut places = Vec::new(alloc);
+    for output in 0..pointers.ports() {
+        places.push(pointers.grant(output, level))?;
+    }
+    numbers_text(alloc, places.as_slice())
+}
+
+/// The accept pointers of four levels, parted by `/`.
+pub fn accepts_text(alloc: Global, pointers: &Pointers) -> Result<String, AllocError> {
+    let first = level_accepts(alloc, pointers, 0)?;
+    let second = level_accepts(alloc, pointers, 1)?;
+    let third = level_accepts(alloc, pointers, 2)?;
+    let fourth = level_accepts(alloc, pointers, 3)?;
+    format!(in alloc; "{first}/{second}/{third}/{fourth}")
+}
+
+fn level_accepts(alloc: Global, pointers: &Pointers, level: u8) -> Result<String, AllocError>
+    requires { level < LEVELS }
+{
+    let mut places = Vec::new(alloc);
+    for input in 0..pointers.ports() {
+        places.push(pointers.accept(input, level))?;
+    }
+    numbers_text(alloc, places.as_slice())
+}
+
+/// The shared pointers of four levels, parted by commas.
+pub fn shared_text(alloc: Global, pointers: &Pointers) -> Result<String, AllocError> {
+    let shared = [
+        pointers.shared(0),
+        pointers.shared(1),
+        pointers.shared(2),
+        pointers.shared(3),
+    ];
+    numbers_text(alloc, &shared)
+}

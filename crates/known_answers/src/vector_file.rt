@@ -1,0 +1,94 @@
+use crate::row::Row;
+use crate::{
+    arrival_rows, capture_rows, cell_rows, decision_rows, destination_rows, islip_rows,
+    kernel_rows, message_rows, reassembly_rows, rotating_rows, schedule_rows, table_rows,
+};
+use std::alloc::{AllocError, Global};
+
+/// How the lines of a vector file are read.
+#[derive(Drop)]
+enum Reader {
+    RotatingChoice,
+    IslipSlots,
+    Kernels,
+    Arrivals,
+    Cells,
+    Reassembly(reassembly_rows::Block),
+    Captures,
+    Messages,
+    Decisions(decision_rows::Block),
+    Schedules(schedule_rows::Block),
+    Tables(table_rows::Block),
+    Destinations,
+    // No file of this name is known: no line of it can be read.
+    Unknown,
+}
+
+impl Reader {
+    // The reader of the file at this path, by its name there.
+    fn at(alloc: Global, path: &str) -> Reader {
+        match base_name(path) {
+            "rotating_choice.txt" => Reader::RotatingChoice,
+            "islip_one_round.txt" | "islip_rounds.txt" => Reader::IslipSlots,
+            "islip_helpers.txt" => Reader::Kernels,
+            "arrivals.txt" => Reader::Arrivals,
+            "cells.txt" => Reader::Cells,
+            "reassembly.txt" => Reader::Reassembly(reassembly_rows::Block::new(alloc)),
+            "captures.txt" | "captures_changed.txt" => Reader::Captures,
+            "messages.txt" => Reader::Messages,
+            "decide_refuses.txt" | "decide_random.txt" | "decide_many_ports.txt" => {
+                Reader::Decisions(decision_rows::Block::new(alloc))
+            }
+            "schedules.txt" => Reader::Schedules(schedule_rows::Block::new()),
+            "destinations.txt" => Reader::Destinations,
+            "tables.txt" => Reader::Tables(table_rows::Block::new(alloc)),
+            _ => Reader::Unknown,
+        }
+    }
+
+    // The row that a line is; None where it sets up something for the rows behind it.
+    fn row(&mut self, alloc: Global, line: &str) -> Result<Option<Row>, AllocError> {
+        let row = match self {
+            Reader::RotatingChoice => rotating_rows::row(alloc, line)?,
+            Reader::IslipSlots => islip_rows::row(alloc, line)?,
+            Reader::Kernels => kernel_rows::row(alloc, line)?,
+            Reader::Arrivals => arrival_rows::row(alloc, line)?,
+            Reader::Cells => cell_rows::row(alloc, line)?,
+            Reader::Reassembly(block) => return block.row(alloc, line),
+            Reader::Captures => capture_rows::row(alloc, line)?,
+            Reader::Messages => message_rows::row(alloc, line)?,
+            Reader::Decisions(block) => return block.row(alloc, line),
+            Reader::Schedules(block) => return block.row(alloc, line),
+            Reader::Tables(block) => return block.row(alloc, line),
+            Reader::Destinations => destination_rows::row(alloc, line)?,
+            Reader::Unknown => Row::unread(alloc, line)?,
+        };
+        Ok(Some(row))
+    }
+}
+
+// The last part of a path.
+fn base_name(path: &str) -> &str {
+    match path.rsplit_once('/') {
+        Some((_, name)) => name,
+        None => path,
+    }
+}
+
+/// The rows of the vector file at this path, whose text is given, in order. Empty lines and those that
+/// begin with `#` are none.
+pub fn rows_of(alloc: Global, path: &str, text: &str) -> Result<Vec<Row>, AllocError> {
+    let mut reader = Reader::at(alloc, path);
+    let mut rows = Vec::new(alloc);
+    let mut at = 0usize;
+    for line in text.lines() {
+        at = at.saturating_add(1);
+        if line.is_empty() || line.starts_with('#') {
+            continue;
+        }
+        if let Some(row) = reader.row(alloc, line)? {
+            rows.push(Row { line: at, ..row })?;
+        }
+    }
+    Ok(rows)
+}
