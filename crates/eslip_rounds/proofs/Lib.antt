@@ -13,3 +13,10 @@ pub mod Enough
 pub mod Decided
 pub mod Unique
 pub mod Progress
+pub mod Testing
+pub mod Finding
+pub mod Turning
+pub mod Granting
+pub mod Accepting
+pub mod Placing
+pub mod Settling

@@ -3,3 +3,4 @@ pub mod Slots
 pub mod Schedules
 pub mod Ranks
 pub mod Steps
+pub mod Decisions

@@ -8,10 +8,17 @@ ghost use Rattle.slot_match.specs.Rows.{Names, row_of, AreWithin};
 ghost use Rattle.slot_match.specs.Matches.{Serves, IsMatch};
 ghost use Rattle.pointer_state.specs.Places.{Places, AreAtPorts, ArePointing};
 ghost use Rattle.eslip_rounds.specs.Slots.{Decision, IsSlot};
+ghost use Rattle.eslip_rounds.specs.Decisions.{decision_of};
 
 /// A slot leaves no choice: two decisions of the same slot, with pointers at ports, are one.
 pub fn one_decision()
     ensures { (n rounds t : ℕ) (rows : List Row) (before : Places) (a b : Decision) → AreWithin n rows → AreAtPorts before → before.ports ≡ n → AreAtPorts a.places → AreAtPorts b.places → IsSlot n rounds t rows before a → IsSlot n rounds t rows before b → a ≡ b }
+{}
+
+/// What the function says is what the slot decides.
+pub fn decision_is_of_the_slot()
+    ensures slot { (n rounds t : ℕ) (rows : List Row) (before : Places) → AreWithin n rows → AreAtPorts before → before.ports ≡ n → IsSlot n rounds t rows before (decision_of n rounds t rows before) }
+    ensures at_ports { (n rounds t : ℕ) (rows : List Row) (before : Places) → AreWithin n rows → AreAtPorts before → before.ports ≡ n → AreAtPorts (decision_of n rounds t rows before).places }
 {}
 
 /// The match of a slot is a match: no output is matched twice, and no input but with the outputs of one

@@ -3,6 +3,7 @@ ghost use Rattle.slot_match.specs.Rows.{AreWithin};
 ghost use Rattle.slot_match.specs.Matches.{IsMatch, IsMaximal};
 ghost use Rattle.pointer_state.specs.Places.{AreAtPorts};
 ghost use Rattle.eslip_rounds.specs.Slots.{IsSlot};
+ghost use Rattle.eslip_rounds.specs.Decisions.{decision_of};
 
 use crate::asks::asks_of;
 use crate::moves::{meet, pass_all};
@@ -32,6 +33,7 @@ pub fn decide(
     requires pointers { p.old.ports ≡ n }
     requires matched { length out.old ≡ n }
     ensures slot { IsSlot n rounds slot rows.now p.old (record { matched = out.new; numbers = result; places = p.new }) }
+    ensures decision { record { matched = out.new; numbers = result; places = p.new } ≡ decision_of n rounds slot rows.now p.old }
     ensures whole { IsMatch n out.new }
     ensures at_ports { AreAtPorts p.new }
 

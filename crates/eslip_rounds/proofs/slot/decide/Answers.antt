@@ -3,6 +3,7 @@ use Rattle.rotating_pick.specs.PortSets.{Has}
 use Rattle.slot_match.specs.Matches.{IsFreeOutput}
 use Rattle.eslip_rounds.proofs.Running.{once_unicast}
 use Rattle.eslip_rounds.proofs.Decided.{IsDecided-first, IsDecided-next, AreMoved-from, IsSlot-from, enough_rounds, nothing_added}
+use Rattle.eslip_rounds.proofs.Settling.{decision_of-only}
 use Rattle.eslip_rounds.proofs.slot.decide.Goals as goal
 
 pub loop-done-init : goal.loop-done-init
@@ -29,6 +30,11 @@ returns-clause-slot c =
     let end : c.loop-done.done ≡ c.args.rounds = omega arith in
     IsSlot-from c.args.n c.loop-done.done c.args.slot c.args.rows.now c.args.p.now c.loop-done.out c.loop-done.matched c.loop-done.numbers c.difference-met.result c.loop-done.invariant c.requires.pointers c.requires.rows c.args.rounds c.pass_all.new.p end
     (AreMoved-from c.args.n c.loop-done.done c.args.slot c.args.rows.now c.args.p.now c.loop-done.out c.loop-done.matched c.loop-done.numbers c.difference-met.result c.loop-done.invariant c.requires.pointers c.requires.rows c.meet.new.p c.pass_all.new.p c.meet.ensures.met c.pass_all.ensures.passed c.pass_all.ensures.beyond c.pass_all.ensures.ports c.pass_all.ensures.grants c.pass_all.ensures.accepts)
+
+-- and the slot has one decision
+pub returns-clause-decision : goal.returns-clause-decision
+returns-clause-decision c =
+    decision_of-only c.args.n c.args.slot c.args.rows.now c.args.p.now c.requires.rows c.ports.ensures.at_ports c.requires.pointers c.args.rounds (record { matched = c.loop-done.out; numbers = c.loop-done.numbers; places = c.pass_all.new.p }) c.pass_all.ensures.at_ports (returns-clause-slot c)
 
 pub returns-clause-unused : goal.returns-clause-unused
 returns-clause-unused c = nothing_added c.args.n c.loop-done.done c.args.slot c.args.rows.now c.args.p.now c.loop-done.out c.loop-done.matched c.loop-done.numbers c.difference-met.result c.loop-done.invariant c.requires.pointers c.requires.rows c.ports.ensures.at_ports

@@ -1,0 +1,143 @@
+-- Decisions: what a slot decides, computed from its rows and pointers by filters of the ports.
+use Rattle.std.specs.Prelude.{ℕ, zero, suc, ◌+◌, ◌%◌, ◌==◌, ◌&&◌, ◌||◌, Bool, true, false, not, if◌then◌else◌, List, [], ◌∷◌, Option, None, Some, is_none, option_map, option_and_then, option_to_list, map, flat_map, filter, find, slice_index, slice_index_or}
+use Rattle.std.specs.List.{list_any, range_with_len}
+use Rattle.std.specs.Option.{option_or, option_map_or}
+use Rattle.std.specs.Int.{bit_at}
+use Rattle.rotating_pick.specs.declared.kinds.Kind.{Kind}
+use Rattle.rotating_pick.specs.declared.kinds.Kind.TheVariants.{Uni, Multi}
+use Rattle.rotating_pick.specs.declared.limits.TheConstants.{LEVELS, MAX_PORTS}
+use Rattle.slot_match.specs.declared.rows.Row.{Row}
+use Rattle.slot_match.specs.declared.matching.Fed.{Fed}
+use Rattle.slot_match.specs.Rows.{sets_of, row_of}
+use Rattle.slot_match.specs.Matches.{unmatched, fed_of}
+use Rattle.slot_match.specs.Parts.{is_from}
+use Rattle.pointer_state.specs.Places.{Places, grant_of, accept_of, shared_of}
+use Rattle.islip_rounds.specs.Numbers.{last_of, slot_numbers}
+use Rattle.eslip_rounds.specs.Ranks.{other_kind}
+use Rattle.eslip_rounds.specs.Rounds.{preferred, from_of}
+use Rattle.eslip_rounds.specs.Slots.{Decision}
+
+-- a level and a kind
+pub record Turn : Type 0 where
+  pub level : ℕ
+  pub kind : Kind
+
+-- the two turns of a level, in the order in which slot t takes them
+abbrev pub turns_at : ℕ → ℕ → List Turn
+turns_at t level = record { level = level; kind = preferred t } ∷ record { level = level; kind = other_kind (preferred t) } ∷ []
+
+-- all turns, in the order in which slot t takes them
+unfoldable pub turns : ℕ → List Turn
+turns t = flat_map (turns_at t) (range_with_len 0 LEVELS)
+
+-- the n ports in order
+abbrev pub ports : ℕ → List ℕ
+ports n = range_with_len 0 n
+
+-- the n ports in order from port `from` on, round the circle
+abbrev pub ports_from : ℕ → ℕ → List ℕ
+ports_from n from = map (λ steps. (steps + from) % n) (ports n)
+
+-- whether the two kinds are one
+abbrev pub is_kind : Kind → Kind → Bool
+is_kind Uni Uni = true
+is_kind Uni Multi = false
+is_kind Multi Uni = false
+is_kind Multi Multi = true
+
+-- whether the row names output j at the level with the kind
+abbrev pub is_named : Row → ℕ → Kind → ℕ → Bool
+is_named row level kind j = bit_at (slice_index (sets_of row kind) level) j == 1
+
+-- whether what feeds an output is input i, at the level with the kind
+abbrev pub is_fed : ℕ → ℕ → Kind → Option Fed → Bool
+is_fed i level kind None = false
+is_fed i level kind (Some fed) = fed.input == i && (fed.level == level && is_kind fed.kind kind)
+
+-- whether a free input with this row asks output j at the level with the kind: it names j there, and at no better level
+abbrev pub is_asked : Row → ℕ → ℕ → Kind → Bool
+is_asked row j level kind = is_named row level kind j && not (list_any (λ better. is_named row better Uni j || is_named row better Multi j) (range_with_len 0 level))
+
+-- whether input i goes on as multicast of the level with the rest of its head, of which output j is one
+abbrev pub is_rest : Row → List (Option Fed) → ℕ → ℕ → ℕ → Kind → Bool
+is_rest row before i j level kind = is_kind kind Multi && (list_any (is_fed i level Multi) before && is_named row level Multi j)
+
+-- Request. Whether input i asks output j, from the match `before`
+unfoldable pub is_request : List Row → List (Option Fed) → ℕ → ℕ → ℕ → Kind → Bool
+is_request rows before i j level kind =
+    (not (list_any (is_from i) before) && is_asked (row_of rows i) j level kind) || is_rest (row_of rows i) before i j level kind
+
+-- what output j grants at the turn: of the inputs that ask it then, the first from its pointer on
+abbrev pub granted_at : ℕ → List Row → Places → List (Option Fed) → ℕ → Turn → Option Fed
+granted_at n rows places before j turn =
+    option_map (λ i. record { input = i; level = turn.level; kind = turn.kind })
+    (find (λ x. is_request rows before x j turn.level turn.kind) (ports_from n (from_of places j turn.level turn.kind)))
+
+-- Grant. What output j grants: where it is free, the first turn at which it is asked, and an input then
+unfoldable pub granted : ℕ → ℕ → List Row → Places → List (Option Fed) → ℕ → Option Fed
+granted n t rows places before j =
+    if is_none (fed_of before j) then option_and_then (granted_at n rows places before j) (find (λ turn. list_any (λ x. is_request rows before x j turn.level turn.kind) (ports n)) (turns t)) else None
+
+-- of the outputs with the test a unicast input takes the first from its pointer on, a multicast input all
+abbrev pub taken : Kind → ℕ → ℕ → (ℕ → Bool) → List ℕ
+taken Uni n from test = option_to_list (find test (ports_from n from))
+taken Multi n from test = filter test (ports n)
+
+-- Accept. The outputs that input i takes, of what is granted: those of the first turn at which it is granted
+unfoldable pub accepted : ℕ → ℕ → Places → List (Option Fed) → ℕ → List ℕ
+accepted n t places grants i =
+    option_map_or (λ turn. taken turn.kind n (accept_of places i turn.level) (λ y. is_fed i turn.level turn.kind (fed_of grants y)))
+    (find (λ turn. list_any (is_fed i turn.level turn.kind) grants) (turns t)) []
+
+-- what output j is matched with in the round: what it grants, where the input takes it
+abbrev pub added : ℕ → ℕ → Places → List (Option Fed) → ℕ → Option Fed
+added n t places grants j =
+    option_and_then (λ fed. if list_any (λ y. y == j) (accepted n t places grants fed.input) then Some fed else None) (fed_of grants j)
+
+-- the match after a round from the match `before`
+unfoldable pub round_of : ℕ → ℕ → List Row → Places → List (Option Fed) → List (Option Fed)
+round_of n t rows places before =
+    map (λ j. option_or (fed_of before j) (added n t places (map (granted n t rows places before) (ports n)) j)) (ports n)
+
+-- the matches after each of so many rounds
+abbrev pub rounds_of : ℕ → ℕ → List Row → Places → ℕ → List (Option Fed) → List (List (Option Fed))
+rounds_of n t rows places zero before = []
+rounds_of n t rows places (suc rounds) before = round_of n t rows places before ∷ rounds_of n t rows places rounds (round_of n t rows places before)
+
+-- a pointer after the slot: one beyond the port that moves it, or where it was
+abbrev pub beyond : ℕ → ℕ → Option ℕ → ℕ
+beyond n place None = place
+beyond n place (Some port) = (port + 1) % n
+
+-- a pointer for each level and port
+unfoldable pub table_of : (ℕ → ℕ → ℕ) → List (List ℕ)
+table_of place = map (λ level. map (place level) (ports MAX_PORTS)) (range_with_len 0 LEVELS)
+
+-- whether input i posts a multicast head at the level
+abbrev pub is_head : ℕ → List Row → ℕ → ℕ → Bool
+is_head n rows level i = list_any (is_named (row_of rows i) level Multi) (ports n)
+
+-- whether input i's multicast head of the level names an output that the match has not with it
+abbrev pub is_left : ℕ → List Row → List (Option Fed) → ℕ → ℕ → Bool
+is_left n rows matched level i = list_any (λ j. is_named (row_of rows i) level Multi j && not (is_fed i level Multi (fed_of matched j))) (ports n)
+
+-- the first input from the shared pointer on that posts a multicast head of the level, if that completes
+abbrev pub passed : ℕ → List Row → List (Option Fed) → Places → ℕ → Option ℕ
+passed n rows matched before level =
+    option_and_then (λ i. if is_left n rows matched level i then None else Some i) (find (is_head n rows level) (ports_from n (shared_of before level)))
+
+-- The pointers after the slot. A unicast pair of the first round moves its two, a head that completes the shared one.
+unfoldable pub places_after : ℕ → List Row → List (Option Fed) → List (Option Fed) → Places → Places
+places_after n rows first matched before = record {
+  ports = before.ports;
+  grant = table_of (λ level j. beyond n (grant_of before j level) (find (λ i. is_fed i level Uni (fed_of first j)) (ports n)));
+  accept = table_of (λ level i. beyond n (accept_of before i level) (find (λ j. is_fed i level Uni (fed_of first j)) (ports n)));
+  shared = map (λ level. beyond n (shared_of before level) (passed n rows matched before level)) (range_with_len 0 LEVELS);
+}
+
+-- what slot t decides, of so many rounds, from these rows and pointers
+unfoldable pub decision_of : ℕ → ℕ → ℕ → List Row → Places → Decision
+decision_of n rounds t rows places =
+    let steps : List (List (Option Fed)) = rounds_of n t rows places rounds (unmatched n) in
+    let matched : List (Option Fed) = last_of (unmatched n) steps in
+    record { matched = matched; numbers = slot_numbers steps; places = places_after n rows (slice_index_or steps 0 (unmatched n)) matched places }
