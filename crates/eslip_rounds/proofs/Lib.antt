@@ -20,3 +20,5 @@ pub mod Granting
 pub mod Accepting
 pub mod Placing
 pub mod Settling
+pub mod OneLevelRounds
+pub mod OneLevelSlots

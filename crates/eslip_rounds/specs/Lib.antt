@@ -4,3 +4,4 @@ pub mod Schedules
 pub mod Ranks
 pub mod Steps
 pub mod Decisions
+pub mod OneLevel

@@ -7,8 +7,10 @@ ghost use Rattle.slot_match.specs.declared.rows.Row.{Row};
 ghost use Rattle.slot_match.specs.Rows.{Names, row_of, AreWithin};
 ghost use Rattle.slot_match.specs.Matches.{Serves, IsMatch};
 ghost use Rattle.pointer_state.specs.Places.{Places, AreAtPorts, ArePointing};
+ghost use Rattle.islip_rounds.specs.Slots.{IsSlot as IsIslipSlot};
 ghost use Rattle.eslip_rounds.specs.Slots.{Decision, IsSlot};
 ghost use Rattle.eslip_rounds.specs.Decisions.{decision_of};
+ghost use Rattle.eslip_rounds.specs.OneLevel.{AreUnicastOf, unicast_of, pointers_of, inputs_of};
 
 /// A slot leaves no choice: two decisions of the same slot, with pointers at ports, are one.
 pub fn one_decision()
@@ -40,4 +42,10 @@ pub fn pointers_stay_at_ports()
 /// In a slot in which some row names an output, at least one pair is matched.
 pub fn something_is_matched()
     ensures { (n rounds t : ℕ) (rows : List Row) (before : Places) (a : Decision) → 0 < rounds → AreWithin n rows → AreAtPorts before → before.ports ≡ n → IsSlot n rounds t rows before a → (i j level : ℕ) (kind : Kind) → i < n → Names (row_of rows i) level kind j → (x y l : ℕ) × (k : Kind) × Serves a.matched x y l k }
+{}
+
+/// A slot whose rows name unicast of one level alone is a slot of iSLIP: its match, its numbers and
+/// that level's pointers.
+pub fn one_level_is_islip()
+    ensures { (n rounds t level : ℕ) (rows : List Row) (before : Places) (a : Decision) → level < LEVELS → AreWithin n rows → AreAtPorts before → before.ports ≡ n → AreUnicastOf level rows → IsSlot n rounds t rows before a → IsIslipSlot n rounds (unicast_of level rows) (pointers_of level before) (inputs_of a.matched) a.numbers (pointers_of level a.places) }
 {}
