@@ -1,19 +1,19 @@
 -- What the inputs accept, computed, is what the definition of an accept says, and so is the match after a round.
-use Rattle.std.proofs.Common.{◌≡◌, ℕ, ◌+◌, ◌<◌, ◌==◌, ◌↔◌, ◌⊎◌, ◌∙◌, ◌&&◌, ◌||◌, Bool, true, false, cond, List, [], ◌∷◌, Option, None, Some, length, map, filter, refl, sym, ap, subst, inl, inr, arith}
+use Rattle.std.proofs.Common.{◌≡◌, ℕ, ◌<◌, ◌==◌, ◌↔◌, ◌⊎◌, ◌∙◌, ◌&&◌, ◌||◌, Bool, true, false, cond, List, [], ◌∷◌, Option, None, Some, map, filter, refl, sym, ap, subst, inl, inr, arith}
 use Rattle.std.specs.Bool.{Decides}
 use Rattle.std.specs.List.{find, list_any}
 use Rattle.std.specs.Option.{option_or, option_map_or, option_and_then, option_to_list}
-use Rattle.std.proofs.lemmas.Bool.{cases_eq, cases_lt, eqb-true, eq-eqb, or_cases, or_left, cond-true}
+use Rattle.std.proofs.lemmas.Bool.{eqb-true, eq-eqb, or_cases, or_left, cond-true}
 use Rattle.std.proofs.lemmas.Bool.Decides.{Decides-eqb, Decides-and}
 use Rattle.std.proofs.lemmas.List.FromFn.{length-map-range_with_len}
-use Rattle.std.proofs.lemmas.Option.{same_Some, none-some, cond_some}
+use Rattle.std.proofs.lemmas.Option.{same_Some, cond_some}
 use Rattle.rotating_pick.specs.declared.kinds.Kind.{Kind}
 use Rattle.rotating_pick.specs.declared.kinds.Kind.TheVariants.{Uni, Multi}
 use Rattle.rotating_pick.specs.declared.limits.TheConstants.{LEVELS}
 use Rattle.slot_match.specs.declared.rows.Row.{Row}
 use Rattle.slot_match.specs.declared.matching.Fed.{Fed}
 use Rattle.slot_match.specs.Matches.{fed_of, Serves, IsMatch}
-use Rattle.slot_match.proofs.Pairs.{fed_of-lt, Serves-from, Serves-once, Serves-along}
+use Rattle.slot_match.proofs.Pairs.{fed_of-lt, Serves-from, Serves-once}
 use Rattle.pointer_state.specs.Places.{Places, AreAtPorts, accept_of}
 use Rattle.eslip_rounds.specs.Rounds.{Takes, IsAccepted, Grants, Accepts, IsRound}
 use Rattle.eslip_rounds.specs.Decisions.{Turn, turns, ports, ports_from, is_fed, granted, taken, accepted, added, round_of}
@@ -150,11 +150,11 @@ module _ (n t : ℕ) (rows : List Row) (places : Places) (before : List (Option 
         pairs = λ i j level kind.
             let f : Fed = record { input = i; level = level; kind = kind } in (
               λ s.
-                let at = fed_of-ports_some after n j f s in
-                elim (option_or_from (fed_of before j) (added n t places grants j) f at.1) [
-                  | inl old ↦ inl old
-                  | inr new ↦ inr ((Accepts-along i j level kind).0 (IsAccepted-from_added n t places grants grants_size grants_level grants_from j f new))
-                ],
+                  let at = fed_of-ports_some after n j f s in
+                  elim (option_or_from (fed_of before j) (added n t places grants j) f at.1) [
+                    | inl old ↦ inl old
+                    | inr new ↦ inr ((Accepts-along i j level kind).0 (IsAccepted-from_added n t places grants grants_size grants_level grants_from j f new))
+                  ],
               λ s. elim s [
                 | inl old ↦
                     let lt = fed_of-lt before j f old in

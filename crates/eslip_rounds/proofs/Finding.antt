@@ -1,21 +1,15 @@
 -- What is found first: among the ports in order, from a pointer on, and among the turns of a slot.
-use Rattle.std.proofs.Common.{◌≡◌, ℕ, zero, suc, ◌+◌, ◌%◌, ◌<◌, ◌≤◌, ◌⊎◌, ◌∙◌, Bool, true, false, cond, List, [], ◌∷◌, Option, None, Some, map, refl, sym, ap, subst, inl, inr, arith}
+use Rattle.std.proofs.Common.{◌≡◌, ℕ, zero, suc, ◌+◌, ◌%◌, ◌<◌, ◌≤◌, ◌⊎◌, ◌∙◌, Bool, true, List, [], ◌∷◌, Option, None, Some, map, refl, sym, ap, subst, inl, inr, arith}
 use Rattle.std.specs.Bool.{Decides}
-use Rattle.std.specs.List.{find, range_with_len, flat_map}
+use Rattle.std.specs.List.{find, range_with_len}
 use Rattle.std.specs.Option.{option_map}
 use Rattle.std.proofs.lemmas.Bool.{cases_eq, cases_lt, cases_Bool, cond-true, cond-false}
 use Rattle.std.proofs.lemmas.Nat.{mod_below}
 use Rattle.std.proofs.lemmas.Option.{same_Some, none-some}
 use Rattle.rotating_pick.specs.Rotation.{distance, IsFirstFrom}
-use Rattle.rotating_pick.specs.declared.kinds.Kind.{Kind}
-use Rattle.rotating_pick.specs.declared.kinds.Kind.TheVariants.{Uni, Multi}
-use Rattle.rotating_pick.specs.declared.limits.TheConstants.{LEVELS}
 use Rattle.rotating_pick.proofs.Circle.{distance-lt, place_at_distance, distance_of_place}
 use Rattle.rotating_pick.proofs.First.{IsFirstFrom-only}
-use Rattle.eslip_rounds.specs.Ranks.{other_kind}
-use Rattle.eslip_rounds.specs.Rounds.{preferred, IsBest}
-use Rattle.eslip_rounds.specs.Decisions.{Turn, turns_at, turns, ports, ports_from}
-use Rattle.eslip_rounds.proofs.Bests.{IsBest-only}
+use Rattle.eslip_rounds.specs.Decisions.{ports, ports_from}
 
 -- s is the least of the numbers from a below b with the test
 pub record IsLeastFound (test : ℕ → Bool) (a b : ℕ) (found : Option ℕ) (s : ℕ) : Type 0 where

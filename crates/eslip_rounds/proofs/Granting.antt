@@ -1,7 +1,7 @@
 -- What the outputs grant, computed, is what the definition of a grant says.
-use Rattle.std.proofs.Common.{◌≡◌, ℕ, ◌+◌, ◌<◌, ◌≤◌, ◌↔◌, ◌⊎◌, ◌∙◌, Bool, true, false, List, Option, None, Some, length, map, refl, sym, ap, subst, inl, inr, arith}
+use Rattle.std.proofs.Common.{◌≡◌, ℕ, ◌<◌, ◌≤◌, ◌↔◌, ◌∙◌, true, List, Option, None, Some, map, refl, sym, ap, subst, inl, inr, arith}
 use Rattle.std.specs.Bool.{Decides}
-use Rattle.std.specs.List.{find, list_any, range_with_len}
+use Rattle.std.specs.List.{find, list_any}
 use Rattle.std.specs.Option.{is_none, option_map, option_and_then}
 use Rattle.std.proofs.lemmas.Bool.{cases_lt, cases_Bool, cond-true, cond-false}
 use Rattle.std.proofs.lemmas.List.{get_or_past}
@@ -12,9 +12,9 @@ use Rattle.rotating_pick.specs.declared.kinds.Kind.{Kind}
 use Rattle.rotating_pick.specs.declared.limits.TheConstants.{LEVELS}
 use Rattle.slot_match.specs.declared.rows.Row.{Row}
 use Rattle.slot_match.specs.declared.matching.Fed.{Fed}
-use Rattle.slot_match.specs.Matches.{fed_of, Serves, IsFreeOutput, IsMatch}
+use Rattle.slot_match.specs.Matches.{fed_of, Serves, IsMatch}
 use Rattle.pointer_state.specs.Places.{Places, AreAtPorts}
-use Rattle.eslip_rounds.specs.Rounds.{from_of, Requests, IsBest, Grants}
+use Rattle.eslip_rounds.specs.Rounds.{from_of, Requests, Grants}
 use Rattle.eslip_rounds.specs.Decisions.{Turn, turns, ports, ports_from, is_request, granted_at, granted}
 use Rattle.eslip_rounds.proofs.Choosing.{level_asked}
 use Rattle.eslip_rounds.proofs.Deciding.{from_in}

@@ -1,5 +1,5 @@
 -- A round in which rows name unicast of one level alone is a round of iSLIP.
-use Rattle.std.proofs.Common.{◌≡◌, ℕ, zero, suc, ◌+◌, ◌<◌, ◌≤◌, ◌↔◌, ◌⊎◌, ◌∙◌, List, [], ◌∷◌, Option, None, Some, length, map, slice_index, slice_index_or, refl, sym, ap, subst, inl, inr, arith}
+use Rattle.std.proofs.Common.{◌≡◌, ℕ, ◌<◌, ◌≤◌, ◌↔◌, ◌∙◌, List, Option, None, Some, length, map, slice_index, slice_index_or, refl, sym, ap, subst, inl, inr, arith}
 use Rattle.std.specs.List.{range_with_len}
 use Rattle.std.specs.Option.{option_map}
 use Rattle.std.proofs.Math.ListN.{get_or-map}
@@ -8,7 +8,6 @@ use Rattle.std.proofs.lemmas.List.{get_or_past}
 use Rattle.std.proofs.lemmas.List.FromFn.{length-map-range_with_len, get_or-map-range_with_len}
 use Rattle.std.proofs.lemmas.Option.{same_Some, none-some}
 use Rattle.rotating_pick.specs.PortSets.{Has}
-use Rattle.rotating_pick.specs.Rotation.{IsFirstFrom}
 use Rattle.rotating_pick.specs.declared.kinds.Kind.{Kind}
 use Rattle.rotating_pick.specs.declared.kinds.Kind.TheVariants.{Uni, Multi}
 use Rattle.rotating_pick.specs.declared.limits.TheConstants.{LEVELS, MAX_PORTS}
@@ -20,7 +19,7 @@ use Rattle.slot_match.specs.Matches.{fed_of, Serves, IsFreeInput, IsFreeOutput}
 use Rattle.slot_match.proofs.Pairs.{Serves-from, Serves-along}
 use Rattle.pointer_state.specs.Places.{Places, accept_of, grant_of}
 use Rattle.islip_rounds.specs.Rounds as islip
-use Rattle.eslip_rounds.specs.Rounds.{preferred, Requests, IsBest, Takes, Grants, Accepts, IsRound}
+use Rattle.eslip_rounds.specs.Rounds.{preferred, Requests, IsBest, Grants, Accepts, IsRound}
 use Rattle.eslip_rounds.specs.OneLevel.{AreUnicastOf, unicast_of, pointers_of, inputs_of}
 use Rattle.eslip_rounds.proofs.Bests.{taken_from}
 
@@ -53,12 +52,12 @@ module _ (level : ℕ) (matched : List (Option Fed)) (are : ArePairsOf level mat
   pub feeds : (i j : ℕ) → islip.Feeds (inputs_of matched) i j ↔ Serves matched i j level Uni
   feeds i j = (
     λ e.
-      let found = fed_input (fed_of matched j) i (sym (inputs_at matched are.long j) ∙ e) in
-      let f = found.0 in
-      let s : Serves matched f.input j f.level f.kind = Serves-from matched j f found.1 in
-      let only = are.pairs f.input j f.level f.kind s in
-      let P : ℕ → Type 0 = λ x. Serves matched x j level Uni in
-      subst P found.2 (Serves-along matched f.input j f.level level f.kind Uni only.0 only.1 s),
+        let found = fed_input (fed_of matched j) i (sym (inputs_at matched are.long j) ∙ e) in
+        let f = found.0 in
+        let s : Serves matched f.input j f.level f.kind = Serves-from matched j f found.1 in
+        let only = are.pairs f.input j f.level f.kind s in
+        let P : ℕ → Type 0 = λ x. Serves matched x j level Uni in
+        subst P found.2 (Serves-along matched f.input j f.level level f.kind Uni only.0 only.1 s),
     λ s. inputs_at matched are.long j ∙ ap (option_map (λ fed. fed.input)) s,
   )
 
@@ -85,10 +84,10 @@ module _ (n t level : ℕ) (rows : List Row) (places : Places) (level_in : level
   requests : (i j : ℕ) → islip.Requests (unicast_of level rows) (inputs_of before) i j ↔ Requests rows before i j level Uni
   requests i j = (
     λ r.
-      inl (
-        (free_input level before are i).0 r.0,
-        record { level_in = level_in; named = (asked i j).0 r.1; best = λ better other lt named. let same = (unicast i j better other named).0 in absurd (omega arith) },
-      ),
+        inl (
+          (free_input level before are i).0 r.0,
+          record { level_in = level_in; named = (asked i j).0 r.1; best = λ better other lt named. let same = (unicast i j better other named).0 in absurd (omega arith) },
+        ),
     λ r. elim r [
       | inl p ↦ ((free_input level before are i).1 p.0, (asked i j).1 p.1.named)
       | inr on ↦ let never = on.multicast in absurd (cc)

@@ -1,20 +1,17 @@
 -- A slot in which rows name unicast of one level alone is a slot of iSLIP.
-use Rattle.std.proofs.Common.{◌≡◌, ℕ, zero, suc, ◌+◌, ◌<◌, ◌≤◌, ◌∙◌, cond, List, [], ◌∷◌, Option, None, Some, length, map, count_by, is_some, replicate, slice_index_or, refl, sym, ap, subst, arith, add-one}
+use Rattle.std.proofs.Common.{◌≡◌, ℕ, zero, suc, ◌+◌, ◌<◌, ◌≤◌, ◌∙◌, cond, List, [], ◌∷◌, Option, None, Some, length, map, is_some, slice_index_or, refl, sym, ap, subst, arith, add-one}
 use Rattle.std.specs.List.{range_with_len}
 use Rattle.std.specs.Option.{option_map}
 use Rattle.std.proofs.lemmas.List.{length-replicate, get_or-replicate, ext_get_or}
 use Rattle.std.proofs.lemmas.List.FromFn.{length-map-range_with_len}
 use Rattle.std.proofs.lemmas.List.Sums.{sum_by-cons}
-use Rattle.rotating_pick.specs.declared.kinds.Kind.{Kind}
-use Rattle.rotating_pick.specs.declared.kinds.Kind.TheVariants.{Uni}
 use Rattle.rotating_pick.specs.declared.limits.TheConstants.{LEVELS, MAX_PORTS}
 use Rattle.slot_match.specs.declared.rows.Row.{Row}
 use Rattle.slot_match.specs.declared.matching.Fed.{Fed}
-use Rattle.slot_match.specs.Rows.{AreWithin}
-use Rattle.slot_match.specs.Matches.{unmatched, fed_of, Serves}
+use Rattle.slot_match.specs.Matches.{unmatched, fed_of}
 use Rattle.slot_match.proofs.Kept.{fed_of-unmatched, nobody_at_first, IsMatch-unmatched}
-use Rattle.pointer_state.specs.Places.{Places, AreAtPorts}
-use Rattle.islip_rounds.specs.Numbers.{last_of, matched_count, numbers_of, added_from, slot_numbers}
+use Rattle.pointer_state.specs.Places.{Places}
+use Rattle.islip_rounds.specs.Numbers.{last_of, matched_count, numbers_of, added_from}
 use Rattle.islip_rounds.specs.Rounds as islip
 use Rattle.islip_rounds.specs.Slots as islip_slots
 use Rattle.eslip_rounds.specs.Rounds.{AreRounds}

@@ -1,14 +1,13 @@
 -- The pointers after a slot, computed, are those of the definition.
-use Rattle.std.proofs.Common.{◌≡◌, ℕ, ◌+◌, ◌%◌, ◌<◌, ◌≤◌, ◌⊎◌, ◌∙◌, ◌&&◌, Bool, true, false, not, cond, List, [], ◌∷◌, Option, None, Some, length, map, slice_index, slice_index_or, refl, sym, ap, subst, inl, inr, arith}
+use Rattle.std.proofs.Common.{◌≡◌, ℕ, ◌<◌, ◌≤◌, ◌⊎◌, ◌∙◌, ◌&&◌, false, not, cond, List, [], Option, None, Some, length, map, slice_index, slice_index_or, refl, sym, ap, inl, inr, arith}
 use Rattle.std.specs.Bool.{Decides}
-use Rattle.std.specs.List.{find, list_any, range_with_len}
+use Rattle.std.specs.List.{find}
 use Rattle.std.specs.Option.{option_and_then}
-use Rattle.std.proofs.lemmas.Bool.{cases_lt, cases_Bool, cond-true, cond-false, false_from_ne_true, and_from, not_from_false}
+use Rattle.std.proofs.lemmas.Bool.{cases_lt, cases_Bool, cond-true, cond-false, false_from_ne_true}
 use Rattle.std.proofs.lemmas.Bool.Decides.{Decides-and, Decides-not}
 use Rattle.std.proofs.lemmas.List.{get_or_past}
-use Rattle.std.proofs.lemmas.List.FromFn.{length-range_with_len, length-map-range_with_len, get_or-map-range_with_len}
+use Rattle.std.proofs.lemmas.List.FromFn.{length-map-range_with_len, get_or-map-range_with_len}
 use Rattle.rotating_pick.specs.Rotation.{IsFirstFrom}
-use Rattle.rotating_pick.specs.declared.kinds.Kind.{Kind}
 use Rattle.rotating_pick.specs.declared.kinds.Kind.TheVariants.{Uni, Multi}
 use Rattle.rotating_pick.specs.declared.limits.TheConstants.{LEVELS, MAX_PORTS}
 use Rattle.rotating_pick.proofs.First.{IsFirstFrom-along}
@@ -17,10 +16,8 @@ use Rattle.slot_match.specs.declared.matching.Fed.{Fed}
 use Rattle.slot_match.specs.Rows.{Names, row_of, AreWithin, HasHead}
 use Rattle.slot_match.specs.Matches.{fed_of, Serves, IsMatch, Completes}
 use Rattle.slot_match.proofs.Pairs.{fed_of-lt, Serves-once}
-use Rattle.pointer_state.specs.Places.{Places, place_of, grant_of, accept_of, shared_of, IsTable, AreAtPorts}
-use Rattle.eslip_rounds.specs.Slots.{AreMoved}
-use Rattle.eslip_rounds.specs.Decisions.{ports, ports_from, is_named, is_fed, beyond, table_of, is_head, is_left, passed, places_after}
-use Rattle.eslip_rounds.proofs.Unique.{ArePointing-moved}
+use Rattle.pointer_state.specs.Places.{Places, place_of, shared_of, IsTable, AreAtPorts}
+use Rattle.eslip_rounds.specs.Decisions.{ports, ports_from, is_named, is_fed, table_of, is_head, is_left, passed}
 use Rattle.eslip_rounds.proofs.Testing.{any_port, Decides-named, Decides-fed}
 use Rattle.eslip_rounds.proofs.Finding.{finds_port, finds_no_port, first_found, finds_first}
 
@@ -65,7 +62,7 @@ table_stays place table whole level port e = elim (cases_lt level LEVELS) [
   ]
 ]
 
-module _ (n t : ℕ) (rows : List Row) (first matched : List (Option Fed)) (before : Places) (within : AreWithin n rows) (whole : IsMatch n first) (at_ports : AreAtPorts before) (ports_are : before.ports ≡ n) where
+module _ (n : ℕ) (first : List (Option Fed)) (whole : IsMatch n first) where
   -- the input that output j has as unicast of the level, and the output that input i has
   pub input_of : (i j level : ℕ) → Serves first i j level Uni → find (λ x. is_fed x level Uni (fed_of first j)) (ports n) ≡ Some i
   input_of i j level s =
@@ -86,9 +83,7 @@ module _ (n t : ℕ) (rows : List Row) (first matched : List (Option Fed)) (befo
   pub no_output_of : (i level : ℕ) → ((j : ℕ) → Serves first i j level Uni → ⊥) → find (λ y. is_fed i level Uni (fed_of first y)) (ports n) ≡ None
   no_output_of i level none = finds_no_port (λ y. is_fed i level Uni (fed_of first y)) n (λ y h. none y ((Decides-fed i level Uni (fed_of first y)).0 h))
 
-  pub fits : (x : ℕ) → x < n → x < MAX_PORTS
-  fits x x_in = let size = at_ports.size in omega arith
-
+module _ (n : ℕ) (rows : List Row) (matched : List (Option Fed)) (before : Places) (within : AreWithin n rows) (at_ports : AreAtPorts before) (ports_are : before.ports ≡ n) where
   -- a head, as the test sees it
   abbrev Head : ℕ → ℕ → Type 0
   Head level i = (j : ℕ) × (j < n) × Names (row_of rows i) level Multi j

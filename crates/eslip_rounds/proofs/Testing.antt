@@ -1,5 +1,5 @@
 -- Each test of a decision is true exactly where its definition holds.
-use Rattle.std.proofs.Common.{◌≡◌, ℕ, zero, suc, ◌+◌, ◌<◌, ◌≤◌, ◌==◌, ◌⊎◌, ◌∙◌, ◌&&◌, ◌||◌, Bool, true, false, not, List, [], ◌∷◌, Option, None, Some, refl, sym, ap, inl, inr, arith}
+use Rattle.std.proofs.Common.{◌≡◌, ℕ, zero, suc, ◌+◌, ◌<◌, ◌≤◌, ◌==◌, ◌⊎◌, ◌∙◌, ◌&&◌, ◌||◌, Bool, true, false, not, List, [], ◌∷◌, Option, None, Some, refl, ap, inl, inr, arith}
 use Rattle.std.specs.Bool.{Decides}
 use Rattle.std.specs.List.{list_any, range_with_len}
 use Rattle.std.proofs.lemmas.Bool.{cases_eq, eqb-true, eq-eqb}
@@ -11,11 +11,11 @@ use Rattle.rotating_pick.specs.declared.limits.TheConstants.{LEVELS}
 use Rattle.slot_match.specs.declared.rows.Row.{Row}
 use Rattle.slot_match.specs.declared.matching.Fed.{Fed}
 use Rattle.slot_match.specs.Rows.{Names, row_of}
-use Rattle.slot_match.specs.Matches.{fed_of, Serves, IsFreeInput, IsMulticasting, IsMatch}
+use Rattle.slot_match.specs.Matches.{fed_of, Serves, IsFreeInput, IsMatch}
 use Rattle.slot_match.specs.Parts.{is_from}
 use Rattle.slot_match.proofs.Pairs.{same_fed, Serves-alike}
 use Rattle.eslip_rounds.specs.Rounds.{Asks, GoesOn, Requests}
-use Rattle.eslip_rounds.specs.Decisions.{ports, is_kind, is_named, is_fed, is_asked, is_rest, is_request}
+use Rattle.eslip_rounds.specs.Decisions.{ports, is_kind, is_named, is_fed, is_asked, is_going_on, is_request}
 
 -- a test of some port
 module _ (p : ℕ → Bool) (P : ℕ → Type 0) (each : (k : ℕ) → Decides (p k) (P k)) where
@@ -89,11 +89,11 @@ Decides-asked row j level kind level_in =
       either_kind m Multi h = inr h
 
 module _ (n : ℕ) (rows : List Row) (before : List (Option Fed)) (whole : IsMatch n before) (i j level : ℕ) (kind : Kind) (level_in : level < LEVELS) where
-  Decides-rest : Decides (is_rest (row_of rows i) before i j level kind) (GoesOn rows before i j level kind)
-  Decides-rest =
+  Decides-going_on : Decides (is_going_on rows before i j level kind) (GoesOn rows before i j level kind)
+  Decides-going_on =
       let on : Bool = list_any (is_fed i level Multi) before in
       let named : Bool = is_named (row_of rows i) level Multi j in
-      Decides-like (is_rest (row_of rows i) before i j level kind)
+      Decides-like (is_going_on rows before i j level kind)
       (λ p. record {
         level_in = level_in;
         going_on = record { some = p.1.0; only = λ y other also s. Serves-alike n before whole i y p.1.0.0 other level also Multi s p.1.0.1 };
@@ -108,4 +108,4 @@ module _ (n : ℕ) (rows : List Row) (before : List (Option Fed)) (whole : IsMat
   Decides-request =
       let free : Bool = not (list_any (is_from i) before) in
       let asked : Bool = is_asked (row_of rows i) j level kind in
-      Decides-or (free && asked) (is_rest (row_of rows i) before i j level kind) (Decides-and free asked (Decides-free before i) (Decides-asked (row_of rows i) j level kind level_in)) Decides-rest
+      Decides-or (free && asked) (is_going_on rows before i j level kind) (Decides-and free asked (Decides-free before i) (Decides-asked (row_of rows i) j level kind level_in)) Decides-going_on

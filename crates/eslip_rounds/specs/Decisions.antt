@@ -1,4 +1,5 @@
--- Decisions: what a slot decides, computed from its rows and pointers by filters of the ports.
+-- Decisions: what a slot decides, as a function of its rows and pointers. It goes by tests and filters of
+-- the ports, and answers what the relations of Rounds and Slots say.
 use Rattle.std.specs.Prelude.{ℕ, zero, suc, ◌+◌, ◌%◌, ◌==◌, ◌&&◌, ◌||◌, Bool, true, false, not, if◌then◌else◌, List, [], ◌∷◌, Option, None, Some, is_none, option_map, option_and_then, option_to_list, map, flat_map, filter, find, slice_index, slice_index_or}
 use Rattle.std.specs.List.{list_any, range_with_len}
 use Rattle.std.specs.Option.{option_or, option_map_or}
@@ -30,6 +31,10 @@ turns_at t level = record { level = level; kind = preferred t } ∷ record { lev
 unfoldable pub turns : ℕ → List Turn
 turns t = flat_map (turns_at t) (range_with_len 0 LEVELS)
 
+-- the first turn of slot t with the test
+abbrev pub first_turn : ℕ → (ℕ → Kind → Bool) → Option Turn
+first_turn t test = find (λ turn. test turn.level turn.kind) (turns t)
+
 -- the n ports in order
 abbrev pub ports : ℕ → List ℕ
 ports n = range_with_len 0 n
@@ -54,47 +59,46 @@ abbrev pub is_fed : ℕ → ℕ → Kind → Option Fed → Bool
 is_fed i level kind None = false
 is_fed i level kind (Some fed) = fed.input == i && (fed.level == level && is_kind fed.kind kind)
 
--- whether a free input with this row asks output j at the level with the kind: it names j there, and at no better level
+-- whether the row asks output j at the level with the kind: it names j there, and at no better level
 abbrev pub is_asked : Row → ℕ → ℕ → Kind → Bool
 is_asked row j level kind = is_named row level kind j && not (list_any (λ better. is_named row better Uni j || is_named row better Multi j) (range_with_len 0 level))
 
--- whether input i goes on as multicast of the level with the rest of its head, of which output j is one
-abbrev pub is_rest : Row → List (Option Fed) → ℕ → ℕ → ℕ → Kind → Bool
-is_rest row before i j level kind = is_kind kind Multi && (list_any (is_fed i level Multi) before && is_named row level Multi j)
+-- whether input i was matched as multicast of the level, and output j is in the rest of its head
+abbrev pub is_going_on : List Row → List (Option Fed) → ℕ → ℕ → ℕ → Kind → Bool
+is_going_on rows before i j level kind = is_kind kind Multi && (list_any (is_fed i level Multi) before && is_named (row_of rows i) level Multi j)
 
--- Request. Whether input i asks output j, from the match `before`
+-- Request. Whether input i asks output j, in a round that starts from the match `before`
 unfoldable pub is_request : List Row → List (Option Fed) → ℕ → ℕ → ℕ → Kind → Bool
-is_request rows before i j level kind =
-    (not (list_any (is_from i) before) && is_asked (row_of rows i) j level kind) || is_rest (row_of rows i) before i j level kind
+is_request rows before i j level kind = (not (list_any (is_from i) before) && is_asked (row_of rows i) j level kind) || is_going_on rows before i j level kind
 
--- what output j grants at the turn: of the inputs that ask it then, the first from its pointer on
+-- what output j grants at a turn: of the inputs that ask it then, the first from its pointer on
 abbrev pub granted_at : ℕ → List Row → Places → List (Option Fed) → ℕ → Turn → Option Fed
 granted_at n rows places before j turn =
     option_map (λ i. record { input = i; level = turn.level; kind = turn.kind })
     (find (λ x. is_request rows before x j turn.level turn.kind) (ports_from n (from_of places j turn.level turn.kind)))
 
--- Grant. What output j grants: where it is free, the first turn at which it is asked, and an input then
+-- Grant. What output j grants: if it is free, an input of the first turn at which some input asks it
 unfoldable pub granted : ℕ → ℕ → List Row → Places → List (Option Fed) → ℕ → Option Fed
 granted n t rows places before j =
-    if is_none (fed_of before j) then option_and_then (granted_at n rows places before j) (find (λ turn. list_any (λ x. is_request rows before x j turn.level turn.kind) (ports n)) (turns t)) else None
+    if is_none (fed_of before j) then option_and_then (granted_at n rows places before j) (first_turn t (λ level kind. list_any (λ x. is_request rows before x j level kind) (ports n))) else None
 
 -- of the outputs with the test a unicast input takes the first from its pointer on, a multicast input all
 abbrev pub taken : Kind → ℕ → ℕ → (ℕ → Bool) → List ℕ
 taken Uni n from test = option_to_list (find test (ports_from n from))
 taken Multi n from test = filter test (ports n)
 
--- Accept. The outputs that input i takes, of what is granted: those of the first turn at which it is granted
+-- Accept. The outputs that input i takes of what is granted: outputs of the first turn at which some grants it
 unfoldable pub accepted : ℕ → ℕ → Places → List (Option Fed) → ℕ → List ℕ
 accepted n t places grants i =
     option_map_or (λ turn. taken turn.kind n (accept_of places i turn.level) (λ y. is_fed i turn.level turn.kind (fed_of grants y)))
-    (find (λ turn. list_any (is_fed i turn.level turn.kind) grants) (turns t)) []
+    (first_turn t (λ level kind. list_any (is_fed i level kind) grants)) []
 
--- what output j is matched with in the round: what it grants, where the input takes it
+-- what is added to the match at output j: what it grants, if the input takes it
 abbrev pub added : ℕ → ℕ → Places → List (Option Fed) → ℕ → Option Fed
 added n t places grants j =
     option_and_then (λ fed. if list_any (λ y. y == j) (accepted n t places grants fed.input) then Some fed else None) (fed_of grants j)
 
--- the match after a round from the match `before`
+-- the match after a round that starts from the match `before`
 unfoldable pub round_of : ℕ → ℕ → List Row → Places → List (Option Fed) → List (Option Fed)
 round_of n t rows places before =
     map (λ j. option_or (fed_of before j) (added n t places (map (granted n t rows places before) (ports n)) j)) (ports n)
@@ -105,11 +109,11 @@ rounds_of n t rows places zero before = []
 rounds_of n t rows places (suc rounds) before = round_of n t rows places before ∷ rounds_of n t rows places rounds (round_of n t rows places before)
 
 -- a pointer after the slot: one beyond the port that moves it, or where it was
-abbrev pub beyond : ℕ → ℕ → Option ℕ → ℕ
-beyond n place None = place
-beyond n place (Some port) = (port + 1) % n
+abbrev pub moved_by : ℕ → Option ℕ → ℕ → ℕ
+moved_by n None place = place
+moved_by n (Some port) place = (port + 1) % n
 
--- a pointer for each level and port
+-- a table with a place for each level and port
 unfoldable pub table_of : (ℕ → ℕ → ℕ) → List (List ℕ)
 table_of place = map (λ level. map (place level) (ports MAX_PORTS)) (range_with_len 0 LEVELS)
 
@@ -117,27 +121,27 @@ table_of place = map (λ level. map (place level) (ports MAX_PORTS)) (range_with
 abbrev pub is_head : ℕ → List Row → ℕ → ℕ → Bool
 is_head n rows level i = list_any (is_named (row_of rows i) level Multi) (ports n)
 
--- whether input i's multicast head of the level names an output that the match has not with it
+-- whether an output that the head of input i names is not matched with it
 abbrev pub is_left : ℕ → List Row → List (Option Fed) → ℕ → ℕ → Bool
 is_left n rows matched level i = list_any (λ j. is_named (row_of rows i) level Multi j && not (is_fed i level Multi (fed_of matched j))) (ports n)
 
--- the first input from the shared pointer on that posts a multicast head of the level, if that completes
+-- what moves the shared pointer of the level: the first input from it on with a head, if that completes
 abbrev pub passed : ℕ → List Row → List (Option Fed) → Places → ℕ → Option ℕ
 passed n rows matched before level =
     option_and_then (λ i. if is_left n rows matched level i then None else Some i) (find (is_head n rows level) (ports_from n (shared_of before level)))
 
--- The pointers after the slot. A unicast pair of the first round moves its two, a head that completes the shared one.
+-- the pointers after a slot, where `first` is the match after its first round: its unicast pairs move theirs
 unfoldable pub places_after : ℕ → List Row → List (Option Fed) → List (Option Fed) → Places → Places
 places_after n rows first matched before = record {
   ports = before.ports;
-  grant = table_of (λ level j. beyond n (grant_of before j level) (find (λ i. is_fed i level Uni (fed_of first j)) (ports n)));
-  accept = table_of (λ level i. beyond n (accept_of before i level) (find (λ j. is_fed i level Uni (fed_of first j)) (ports n)));
-  shared = map (λ level. beyond n (shared_of before level) (passed n rows matched before level)) (range_with_len 0 LEVELS);
+  grant = table_of (λ level j. moved_by n (find (λ i. is_fed i level Uni (fed_of first j)) (ports n)) (grant_of before j level));
+  accept = table_of (λ level i. moved_by n (find (λ j. is_fed i level Uni (fed_of first j)) (ports n)) (accept_of before i level));
+  shared = map (λ level. moved_by n (passed n rows matched before level) (shared_of before level)) (range_with_len 0 LEVELS);
 }
 
--- what slot t decides, of so many rounds, from these rows and pointers
+-- what slot t decides in so many rounds, from these rows and pointers
 unfoldable pub decision_of : ℕ → ℕ → ℕ → List Row → Places → Decision
 decision_of n rounds t rows places =
-    let steps : List (List (Option Fed)) = rounds_of n t rows places rounds (unmatched n) in
-    let matched : List (Option Fed) = last_of (unmatched n) steps in
+    let steps = rounds_of n t rows places rounds (unmatched n) in
+    let matched = last_of (unmatched n) steps in
     record { matched = matched; numbers = slot_numbers steps; places = places_after n rows (slice_index_or steps 0 (unmatched n)) matched places }

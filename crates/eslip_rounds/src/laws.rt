@@ -17,7 +17,7 @@ pub fn one_decision()
     ensures { (n rounds t : ℕ) (rows : List Row) (before : Places) (a b : Decision) → AreWithin n rows → AreAtPorts before → before.ports ≡ n → AreAtPorts a.places → AreAtPorts b.places → IsSlot n rounds t rows before a → IsSlot n rounds t rows before b → a ≡ b }
 {}
 
-/// What the function says is what the slot decides.
+/// What the function of rows and pointers gives is what the slot decides, with its pointers at ports.
 pub fn decision_is_of_the_slot()
     ensures slot { (n rounds t : ℕ) (rows : List Row) (before : Places) → AreWithin n rows → AreAtPorts before → before.ports ≡ n → IsSlot n rounds t rows before (decision_of n rounds t rows before) }
     ensures at_ports { (n rounds t : ℕ) (rows : List Row) (before : Places) → AreWithin n rows → AreAtPorts before → before.ports ≡ n → AreAtPorts (decision_of n rounds t rows before).places }

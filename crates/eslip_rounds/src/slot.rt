@@ -33,6 +33,8 @@ pub fn decide(
     requires pointers { p.old.ports ≡ n }
     requires matched { length out.old ≡ n }
     ensures slot { IsSlot n rounds slot rows.now p.old (record { matched = out.new; numbers = result; places = p.new }) }
+
+    // The same as one value: a slot leaves no choice.
     ensures decision { record { matched = out.new; numbers = result; places = p.new } ≡ decision_of n rounds slot rows.now p.old }
     ensures whole { IsMatch n out.new }
     ensures at_ports { AreAtPorts p.new }
