@@ -1,3 +1,4 @@
+pub mod Squares
 pub mod Collecting
 pub mod Lasts
 pub mod Moving

@@ -1,9 +1,8 @@
 -- A round in which something is asked matches a pair.
-use Rattle.std.proofs.Common.{◌≡◌, ℕ, ◌<◌, ◌⊎◌, List, [], ◌∷◌, Option, None, length, slice_index, slice_index_or, refl, sym, ap, subst, arith, inl, inr}
+use Rattle.std.proofs.Common.{◌≡◌, ℕ, ◌<◌, ◌⊎◌, List, [], ◌∷◌, Option, None, length, slice_index, sym, subst, arith, inl, inr}
 use Rattle.std.specs.Int.{bit_at}
 use Rattle.std.proofs.lemmas.Bool.{cases_eq, cases_lt}
 use Rattle.rotating_pick.specs.PortSets.{Has}
-use Rattle.rotating_pick.specs.Rotation.{IsFirstFrom}
 use Rattle.rotating_pick.proofs.Picking.{Decides, IsFirstFrom-some, IsFirstFrom-decides}
 use Rattle.islip_rounds.specs.declared.numbers.RoundsUsed.{RoundsUsed}
 use Rattle.islip_rounds.specs.declared.unicast.UniPointers.{UniPointers}

@@ -1,15 +1,44 @@
-ghost use Rattle.std.specs.Prelude.{◌≡◌, ℕ, ◌<◌, ◌≤◌, ◌↔◌, ◌⊎◌, Some, None, length, slice_index, slice_index_or, All, IsTrue};
+ghost use Rattle.std.specs.Prelude.{◌≡◌, ℕ, ◌<◌, ◌≤◌, ◌↔◌, ◌⊎◌, Some, None, length, replicate, slice_index, slice_index_or, All, IsTrue};
 ghost use Rattle.rotating_pick.specs.PortSets.{Has, IsAmong};
 ghost use Rattle.rotating_pick.specs.Rotation.{IsFirstFrom};
 ghost use Rattle.islip_rounds.specs.Choices.{AreChoices};
 ghost use Rattle.islip_rounds.specs.Columns.{AreColumns};
 
+use port_square::{PORTS, turn_square};
 use rotating_pick::{MAX_PORTS, Ports, contains, lowest, pick, with, without};
+
+// Rows of no more members than this are put into columns member by member, since a whole square costs as
+// much as some three hundred of them.
+const FEW_MEMBERS: u32 = 256;
 
 /// Turns rows into columns, for `n` from 1 to 64: input `i` is in column `j` where output `j` is in row
 /// `i`. There are `n` rows, each of the `n` ports, and at least `n` columns; those beyond get empty. The
-/// cost is one step for each member of a row.
+/// cost is one step for each member of a row, and at most that of turning a square of 64 words.
 pub fn transpose(n: u32, rows: &[Ports], columns: &mut [Ports])
+    requires size { n ≤ MAX_PORTS }
+    requires rows { length rows.now ≡ n }
+    requires columns { n ≤ length columns.old }
+    requires among { All (IsAmong n) rows.now }
+    ensures { AreColumns n rows.now columns.new }
+{
+    if members(rows) <= FEW_MEMBERS {
+        transpose_few(n, rows, columns);
+    } else {
+        transpose_many(n, rows, columns);
+    }
+}
+
+// How many members the sets have.
+fn members(sets: &[Ports]) -> u32 {
+    let mut count: u32 = 0;
+    for set in sets.iter() {
+        count = count.saturating_add(set.count_ones());
+    }
+    count
+}
+
+// Turns rows into columns member by member.
+fn transpose_few(n: u32, rows: &[Ports], columns: &mut [Ports])
     requires size { n ≤ MAX_PORTS }
     requires rows { length rows.now ≡ n }
     requires columns { n ≤ length columns.old }
@@ -19,6 +48,38 @@ pub fn transpose(n: u32, rows: &[Ports], columns: &mut [Ports])
     clear(columns);
     for i in 0..n {
         scatter(i, rows[i as usize], columns);
+    }
+}
+
+// Turns rows into columns by a whole square.
+fn transpose_many(n: u32, rows: &[Ports], columns: &mut [Ports])
+    requires size { n ≤ MAX_PORTS }
+    requires rows { length rows.now ≡ n }
+    requires columns { n ≤ length columns.old }
+    requires among { All (IsAmong n) rows.now }
+    ensures { AreColumns n rows.now columns.new }
+{
+    let mut square = no_sets();
+    copy(rows, &mut square);
+    turn_square(&mut square);
+    clear(columns);
+    copy(&square[..n as usize], columns);
+}
+
+fn no_sets() -> [Ports; PORTS]
+    ensures { result ≡ replicate MAX_PORTS 0 }
+{
+    [0; PORTS]
+}
+
+// Copies sets into the first places of others.
+fn copy(from: &[Ports], to: &mut [Ports])
+    requires { length from.now ≤ length to.old }
+    ensures copied { (k : ℕ) → k < length from.now → slice_index to.new k ≡ slice_index from.now k }
+    ensures rest { (k : ℕ) → length from.now ≤ k → slice_index to.new k ≡ slice_index to.old k }
+{
+    for k in 0..from.len() {
+        to[k] = from[k];
     }
 }
 

@@ -2,7 +2,7 @@ use Rattle.std.proofs.Common.{arith}
 use Rattle.std.proofs.lemmas.List.Elements.{All-get_or}
 use Rattle.rotating_pick.specs.PortSets.{IsAmong}
 use Rattle.rotating_pick.proofs.Bits.{Has-lt}
-use Rattle.islip_rounds.proofs.kernels.transpose.Goals as goal
+use Rattle.islip_rounds.proofs.kernels.transpose_few.Goals as goal
 
 pub scatter-requires-clause-row : goal.scatter-requires-clause-row
 scatter-requires-clause-row c j has =
