@@ -25,7 +25,7 @@ use Rattle.eslip_rounds.proofs.Running.{IsDecided, IsRun-first, IsRun-next, Serv
 use Rattle.eslip_rounds.proofs.Enough.{maximal_or_more, rounds_enough}
 
 -- nothing is matched at first
-unmatched-count : (n : ℕ) → matched_count (unmatched n) ≡ 0
+pub unmatched-count : (n : ℕ) → matched_count (unmatched n) ≡ 0
 unmatched-count n = sym (count_by-take zero (unmatched n) (λ j above. fed_of-unmatched n j))
 
 -- where each round added outputs, the last one did
@@ -35,7 +35,7 @@ last_positive b (step ∷ steps) some last = last 1 (omega arith)
 
 module _ (n t : ℕ) (rows : List Row) (places : Places) (first : Kind) (first_is : first ≡ preferred t) (asks : Asks) (are : AreAsks n first rows asks) where
   -- a step of the code is a round
-  round_of : (before after : List (Option Fed)) → IsStep n first asks places before after → length after ≡ n → IsRound n t rows places before after
+  pub round_of : (before after : List (Option Fed)) → IsStep n first asks places before after → length after ≡ n → IsRound n t rows places before after
   round_of before after step count =
       let P : Kind → Type 0 = λ k. AreAsks n k rows asks in
       let Q : Kind → Type 0 = λ k. IsStep n k asks places before after in

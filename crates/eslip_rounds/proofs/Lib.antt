@@ -13,6 +13,7 @@ pub mod Enough
 pub mod Decided
 pub mod Unique
 pub mod Progress
+pub mod EmptyRounds
 pub mod Testing
 pub mod Finding
 pub mod Turning

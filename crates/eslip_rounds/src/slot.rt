@@ -50,12 +50,17 @@ pub fn decide(
     round(n, first, &asks, p, out);
     let met = difference(all(n), out.free_outputs());
     let mut matched = out.count();
-    let mut numbers = RoundsUsed::none().after_round(0, matched);
+    let mut added = matched;
+    let mut numbers = RoundsUsed::none().after_round(0, added);
     for done in 1..rounds {
-        round(n, first, &asks, p, out);
-        let now = out.count();
-        numbers = numbers.after_round(done, now.saturating_sub(matched));
-        matched = now;
+        // Once a round adds nothing, no later one would.
+        if added > 0 {
+            round(n, first, &asks, p, out);
+            let now = out.count();
+            added = now.saturating_sub(matched);
+            matched = now;
+        }
+        numbers = numbers.after_round(done, added);
     }
     meet(out, met, p);
     pass_all(n, rows, out, p);
