@@ -11,8 +11,13 @@ use Rattle.turn_lock.specs.declared.view.Phase.TheVariants.{Idle}
 use Rattle.turn_lock.specs.Histories.{IsBelow, entries_of}
 use Rattle.turn_lock.specs.Seats.{TurnValue, SeatValue, turn_value, AreSeats, IsWhole}
 use Rattle.turn_lock.specs.Views.{seat_value, joined_seat, with_joined, joined_numbers, numbers_of}
-use Rattle.turn_lock.specs.Rule.{IsIn, HasSeen, JoinedHaveSeen, Ended}
+use Rattle.turn_lock.specs.Rule.{IsIn, HasSeen, IsOvertaken, JoinedHaveSeen, Ended}
 use Rattle.turn_lock.proofs.Seen.{same_or_not}
+
+no_third : {A C : Type 0} → A ⊎ (⊥ ⊎ C) → A ⊎ C
+no_third (inl a) = inl a
+no_third (inr (inl x)) = absurd x
+no_third (inr (inr c)) = inr c
 
 module _ {E : Type 0} where
   abbrev pub IsJoined : JoinedSeat E → List (JoinedSeat E) → Type 0
@@ -33,10 +38,14 @@ module _ {E : Type 0} where
   IsJoined-number m (x ∷ xs) (inl e) = inl (ap (λ y. y.number) e)
   IsJoined-number m (x ∷ xs) (inr a) = inr (IsJoined-number m xs a)
 
-  IsJoined-seen : (h : List (TurnOf E)) (m : JoinedSeat E) (xs : List (JoinedSeat E)) → JoinedHaveSeen h xs → IsJoined m xs → HasSeen h m.number m.seen
+  -- what a seat with this number, which has seen this, with so many finds since its last turn, knows of the history at the end
+  abbrev Knows : List (TurnOf E) → ℕ → List (TurnOf E) → ℕ → Type 0
+  Knows h n seen since = HasSeen h n seen × IsOvertaken h ⊥ seen since
+
+  IsJoined-seen : (h : List (TurnOf E)) (m : JoinedSeat E) (xs : List (JoinedSeat E)) → JoinedHaveSeen h ⊥ xs → IsJoined m xs → Knows h m.number m.seen m.since
   IsJoined-seen h m [] f a = absurd a
-  IsJoined-seen h m (x ∷ xs) f (inl e) = subst (λ y. HasSeen h y.number y.seen) (sym e) f.0
-  IsJoined-seen h m (x ∷ xs) f (inr a) = IsJoined-seen h m xs f.1 a
+  IsJoined-seen h m (x ∷ xs) f (inl e) = subst (λ y. Knows h y.number y.seen y.since) (sym e) (f.0, f.1)
+  IsJoined-seen h m (x ∷ xs) f (inr a) = IsJoined-seen h m xs f.2 a
 
   -- number 0 is the first seat's own, and each other that of a joined seat
   has_number : (n : ℕ) (v : View E) → v.number ≡ 0 → ((k : ℕ) → n ≡ suc k → IsIn n (joined_numbers v.joined)) → IsIn n (numbers_of v)
@@ -87,7 +96,7 @@ module _ {E : Type 0} (turn : TurnValue E) (all : List (SeatValue E)) where
     pub given : v.given ≡ turn.seats
     pub live : v.spent ≡ false
     pub phase : v.phase ≡ Idle
-    pub seen : (s : SeatValue E) → slice_get all 0 ≡ Some s → v.seen ≡ s.seen
+    pub seen : (s : SeatValue E) → slice_get all 0 ≡ Some s → (v.seen ≡ s.seen) × (v.since ≡ s.since)
     pub left : rest ≡ take (length rest) (drop 1 all)
     pub done : (i : ℕ) (s : SeatValue E) → slice_get all (suc i) ≡ Some s → length rest ≤ i → IsJoined (joined_seat s) v.joined
 
@@ -102,7 +111,7 @@ module _ {E : Type 0} (turn : TurnValue E) (all : List (SeatValue E)) where
           given = dealer zero_is ∙ ap (λ s. s.turn.seats) view ∙ ap (λ t. t.seats) (seats.turns 0 first at);
           live = live;
           phase = idle;
-          seen = λ s e. ap (λ y. y.seen) view ∙ ap (λ y. y.seen) (same_there first s (slice_get all 0) at e);
+          seen = λ s e. let is : first ≡ s = same_there first s (slice_get all 0) at e in (ap (λ y. y.seen) view ∙ ap (λ y. y.seen) is, ap (λ y. y.since) view ∙ ap (λ y. y.since) is);
           left = sym (take_whole rest) ∙ ap (λ xs. take (length rest) xs) behind;
           done = λ i s e l. let w = get_within (drop 1 all) i s (behind_first all i ∙ e) in let n : length rest ≡ length (drop 1 all) = ap length behind in absurd (omega arith);
         }
@@ -121,7 +130,7 @@ module _ {E : Type 0} (turn : TurnValue E) (all : List (SeatValue E)) where
           given = ap (λ y. y.given) j ∙ c.given;
           live = ap (λ y. y.spent) j ∙ c.live;
           phase = ap (λ y. y.phase) j ∙ c.phase;
-          seen = λ y at. ap (λ z. z.seen) j ∙ c.seen y at;
+          seen = λ y at. (ap (λ z. z.seen) j ∙ (c.seen y at).0, ap (λ z. z.since) j ∙ (c.seen y at).1);
           left = (popped (drop 1 all) rest new s c.left e).1;
           done = λ i y at l.
               let joined : IsJoined (joined_seat y) (with_joined v (joined_seat s)).joined =
@@ -143,9 +152,9 @@ module _ {E : Type 0} (turn : TurnValue E) (all : List (SeatValue E)) where
           let x = there_is all n (omega arith) in
           subst (λ m. IsIn m (joined_numbers v.joined)) (seats.numbers n x.0 x.1) (IsJoined-number (joined_seat x.0) v.joined (c.done k x.0 (ap (λ m. slice_get all m) (sym e) ∙ x.1) (omega arith))))
 
-      each_seen : (h : List (TurnOf E)) → HasSeen h v.number v.seen → JoinedHaveSeen h v.joined → (i : ℕ) (s : SeatValue E) → slice_get all i ≡ Some s → HasSeen h i s.seen
-      each_seen h mine joined zero s at = subst (λ n. HasSeen h n s.seen) c.number (subst (λ ts. HasSeen h v.number ts) (c.seen s at) mine)
-      each_seen h mine joined (suc k) s at = subst (λ n. HasSeen h n s.seen) (seats.numbers (suc k) s at) (IsJoined-seen h (joined_seat s) v.joined joined (c.done k s at (omega arith)))
+      each_knows : (h : List (TurnOf E)) → Knows h v.number v.seen v.since → JoinedHaveSeen h ⊥ v.joined → (i : ℕ) (s : SeatValue E) → slice_get all i ≡ Some s → Knows h i s.seen s.since
+      each_knows h mine joined zero s at = subst (λ n. Knows h n s.seen s.since) c.number (subst (λ ts. Knows h v.number ts s.since) (c.seen s at).0 (subst (λ n. Knows h v.number v.seen n) (c.seen s at).1 mine))
+      each_knows h mine joined (suc k) s at = subst (λ n. Knows h n s.seen s.since) (seats.numbers (suc k) s at) (IsJoined-seen h (joined_seat s) v.joined joined (c.done k s at (omega arith)))
 
       pub whole : {V : Type 0} (entries : V → List E) (numbers : V → List ℕ) (may : ℕ → List E → Type 0) (o : Opening E) (id : TableId) (value : V) → turn_value id o ≡ turn → Ended entries numbers may o v value → IsWhole entries numbers may turn all value
       whole entries numbers may o id value same e = record {
@@ -154,6 +163,7 @@ module _ {E : Type 0} (turn : TurnValue E) (all : List (SeatValue E)) where
         numbers_are = e.numbers_are ∙ ap (λ t. t.numbers) same;
         allowed = e.allowed;
         in_range = subst (λ n. IsBelow n e.history) (ap (λ t. t.seats) same) e.in_range;
-        seen = λ i s at. (each_seen e.history e.seen e.joined i s at).0;
-        own = λ i s at. (each_seen e.history e.seen e.joined i s at).1;
+        seen = λ i s at. (each_knows e.history (e.seen, e.overtaken) e.joined i s at).0.0;
+        own = λ i s at. (each_knows e.history (e.seen, e.overtaken) e.joined i s at).0.1;
+        overtaken = λ i s at n. no_third ((each_knows e.history (e.seen, e.overtaken) e.joined i s at).1 n);
       }

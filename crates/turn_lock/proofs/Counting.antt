@@ -2,7 +2,7 @@
 use Rattle.std.proofs.Common.{◌≡◌, ◌≢◌, ◌+◌, ◌<◌, inl, inr, ⊎_elim, ℕ, false, List, [], ◌∷◌, ◌++◌, length, Option, Some, refl, sym, ap, ◌∙◌, subst, arith, length-append}
 use Rattle.std.specs.Prelude.{drop, slice_set}
 use Rattle.std.proofs.lemmas.List.{append-nil}
-use mathlib.Core.Option.{some}
+use mathlib.Core.Option.{some, some-injective}
 use lib.ListN.{get_elem?}
 use Rattle.atomic_table.specs.Table.{State, Me, Act, keeps, Allows, Valid, stepped, carried_after}
 use Rattle.turn_lock.specs.declared.history.TurnOf.{TurnOf}
@@ -13,8 +13,8 @@ use Rattle.turn_lock.specs.declared.rule.Stamped.{Stamped}
 use Rattle.turn_lock.specs.Histories.{entries_of, turns_of}
 use Rattle.turn_lock.specs.Views.{raised}
 use Rattle.turn_lock.specs.Rule.{Live, JoinedHaveSeen, Keeps, IsFree, IsTaken, IsAt, Fits, IsRaised}
-use Rattle.turn_lock.proofs.HistoryLemmas.{IsPrefixOf-length, IsBelow-snoc, IsAllowed-snoc}
-use Rattle.turn_lock.proofs.Seen.{same_or_not, HasSeen-more, JoinedHaveSeen-more}
+use Rattle.turn_lock.proofs.HistoryLemmas.{IsBelow-snoc, IsAllowed-snoc}
+use Rattle.turn_lock.proofs.Seen.{same_or_not, HasSeen-more, HasSeen-shorter, JoinedHaveSeen-more}
 use Rattle.turn_lock.proofs.Changed.{idle_begun, begun_raised, after_one, set_at, live_after, numbered_after, numbered_more}
 
 module _ {V E : Type 0} (entries : V → List E) (numbers : V → List ℕ) (may : ℕ → List E → Type 0) (o : Opening E) (id : ℕ) (v : View E) where
@@ -30,6 +30,9 @@ module _ {V E : Type 0} (entries : V → List E) (numbers : V → List ℕ) (may
 
   pub in_turn_of : (s : State (Option (Stamped V)) (View E)) (k : Kept s) → get_elem? s.views id ≡ some v → v.phase ≢ Idle → InTurn k.history s
   in_turn_of s k at busy = ⊎_elim (λ (f : IsFree entries numbers may o k.history s). absurd (busy (f.idle id v at))) (λ (t : InTurn k.history s). t) k.turn
+
+  pub there_is : (s : State (Option (Stamped V)) (View E)) (h : List (TurnOf E)) (t : InTurn h s) → get_elem? s.views id ≡ some v → v.phase ≢ Idle → t.there.0 ≡ v
+  there_is s h t at busy = some-injective t.there.0 v (sym t.there.1.0 ∙ subst (λ i. get_elem? s.views i ≡ some v) (is_who s h t at busy) at)
 
   -- of a turn that is not raised
   pub before_is : (s : State (Option (Stamped V)) (View E)) (h : List (TurnOf E)) (t : InTurn h s) → get_elem? s.views id ≡ some v → v.phase ≡ Begun → v.before ≡ h
@@ -58,7 +61,7 @@ module _ {V E : Type 0} (entries : V → List E) (numbers : V → List ℕ) (may
         let seen : w.seen ≡ h = ap (λ ts. ts ++ turn ∷ []) before in
         let longer : length h ≡ length k.history + 1 = length-append k.history (turn ∷ []) in
         let n_here : new ≡ length h = n_is ∙ ap (λ ts. length ts + 1) before ∙ sym longer in
-        let shorter : (j : ℕ) (u : View E) → Live s.views j u → length u.seen < length h = λ j u e. let l = IsPrefixOf-length u.seen k.history (t.fits j u e).seen.0 in omega arith in
+        let shorter : (j : ℕ) (u : View E) → Live s.views j u → length u.seen < length h = λ j u e. HasSeen-shorter k.history turn u.number u.seen (t.fits j u e).seen in
         let mine = t.fits id v (at, live) in (
           w,
           keeps,
@@ -71,13 +74,13 @@ module _ {V E : Type 0} (entries : V → List E) (numbers : V → List ℕ) (may
             turn = inr (record {
               who = id;
               words = ap (λ ws. slice_set ws 1 new) t.words ∙ ap (λ n. 1 ∷ n ∷ []) n_here;
-              fits = live_after (λ j u. Fits o h (j ≢ id) u) s.views id w
-                  (record { opening = mine.opening; seen = (([], sym seen ∙ sym (append-nil w.seen)), ap (λ ts. turns_of v.number ts) (sym seen)); joined = subst (λ ms. JoinedHaveSeen h ms) (sym none_joined) tt; finds = λ n. absurd (omega arith) })
+              fits = live_after (λ j u. Fits o h (j ≢ id) (w.phase ≡ Begun) u) s.views id w
+                  (record { opening = mine.opening; seen = (([], sym seen ∙ sym (append-nil w.seen)), ap (λ ts. turns_of v.number ts) (sym seen)); joined = subst (λ ms. JoinedHaveSeen h (w.phase ≡ Begun) ms) (sym none_joined) tt; overtaken = λ n. absurd (omega arith) })
                   (λ j u ne e. let other = t.fits j u e in record {
                     opening = other.opening;
                     seen = HasSeen-more k.history turn u.number u.seen (λ same. ne (k.numbered.apart j id u v e (at, live) v.number (inl (sym same)) (inl refl))) other.seen;
-                    joined = JoinedHaveSeen-more k.history turn u.joined (λ i. ne (k.numbered.apart j id u v e (at, live) v.number (inr i) (inl refl))) other.joined;
-                    finds = λ n. inl (shorter j u e);
+                    joined = JoinedHaveSeen-more (t.there.0.phase ≡ Begun) (w.phase ≡ Begun) k.history turn u.joined (λ i. ne (k.numbered.apart j id u v e (at, live) v.number (inr i) (inl refl))) other.joined;
+                    overtaken = λ n. inl (shorter j u e);
                   });
               idle = after_one (λ j u. j ≢ id → u.phase ≡ Idle) s.views id w (λ ne. absurd (ne refl)) (λ j u ne e _. t.idle j u e (λ same. ne (same ∙ sym who)));
               stage = λ u e. after_one (λ j y. j ≡ id → IsAt entries numbers may o h (stepped s 1 new id ((0, Some x) ∷ []) w keeps) id y) s.views id w

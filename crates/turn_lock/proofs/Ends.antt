@@ -37,7 +37,7 @@ module _ {V E : Type 0} (entries : V → List E) (numbers : V → List ℕ) (may
         allowed = tt;
         turn = inl (record {
           words = refl;
-          fits = λ j u l. subst (λ y. Fits o [] ⊥ y) (sym (only j u l.0).1) (record { opening = refl; seen = (([], refl), refl); joined = tt; finds = λ n. absurd (omega arith) });
+          fits = λ j u l. subst (λ y. Fits o [] ⊥ ⊥ y) (sym (only j u l.0).1) (record { opening = refl; seen = (([], refl), refl); joined = tt; overtaken = λ n. absurd (omega arith) });
           idle = λ j u e1. ap (λ y. y.phase) (only j u e1).1;
           value = x;
           home = refl;
@@ -79,6 +79,7 @@ module _ {V E : Type 0} (entries : V → List E) (numbers : V → List ℕ) (may
             allowed = k.allowed;
             in_range = k.in_range;
             seen = fit.seen;
+            overtaken = fit.overtaken;
             joined = fit.joined;
           },
         )

@@ -10,9 +10,10 @@ use Rattle.turn_lock.specs.declared.view.View.{View}
 use Rattle.turn_lock.specs.declared.view.Phase.TheVariants.{Idle, Begun, Raised}
 use Rattle.turn_lock.specs.declared.rule.Stamped.{Stamped}
 use Rattle.turn_lock.specs.Views.{found_held, freed, freed_at}
-use Rattle.turn_lock.specs.Rule.{Live, Keeps, IsTaken, Fits, Stands, MayFree, IsFreed}
+use Rattle.turn_lock.specs.Rule.{Live, JoinedHaveSeen, Keeps, IsTaken, Fits, Stands, MayFree, IsFreed}
+use Rattle.turn_lock.proofs.Seen.{Fits-change, JoinedHaveSeen-change}
 use Rattle.turn_lock.proofs.Changed.{idle_begun, idle_raised, begun_raised, after_one, live_after, numbered_after}
-use Rattle.turn_lock.proofs.Counting.{is_who, in_turn_of, before_is}
+use Rattle.turn_lock.proofs.Counting.{is_who, there_is, in_turn_of, before_is}
 
 module _ {V E : Type 0} (entries : V → List E) (numbers : V → List ℕ) (may : ℕ → List E → Type 0) (o : Opening E) (id : ℕ) (v : View E) (live : v.spent ≡ false) (x : Stamped V) where
   abbrev InTurn : List (TurnOf E) → State (Option (Stamped V)) (View E) → Type 0
@@ -37,6 +38,8 @@ module _ {V E : Type 0} (entries : V → List E) (numbers : V → List ℕ) (may
       let h = k.history in
       let who : id ≡ t.who = is_who entries numbers may o id v s h t at (λ idle. idle_raised v.phase idle raises) in
       let stage = raised_stage raises s h t at in
+      let is_raised : t.there.0.phase ≡ Raised = ap (λ y. y.phase) (there_is entries numbers may o id v s h t at (λ idle. idle_raised v.phase idle raises)) ∙ raises in
+      let settled : (u : View E) → JoinedHaveSeen h (t.there.0.phase ≡ Begun) u.joined → JoinedHaveSeen h ⊥ u.joined = λ u g. JoinedHaveSeen-change (t.there.0.phase ≡ Begun) ⊥ h (λ b. absurd (begun_raised t.there.0.phase b is_raised)) u.joined g in
       let w = freed v in
       let mine = t.fits id v (at, live) in (
         w,
@@ -49,9 +52,9 @@ module _ {V E : Type 0} (entries : V → List E) (numbers : V → List ℕ) (may
           allowed = k.allowed;
           turn = inl (record {
             words = ap (λ ws. slice_set ws 0 0) t.words;
-            fits = live_after (λ j u. Fits o h ⊥ u) s.views id w
-                (record { opening = mine.opening; seen = mine.seen; joined = mine.joined; finds = λ n. let z : v.since ≡ 0 = stage.2 in absurd (omega arith) })
-                (λ j u ne e. let other = t.fits j u e in record { opening = other.opening; seen = other.seen; joined = other.joined; finds = λ n. inl (stage.1 j u e (λ same. ne (same ∙ sym who))) });
+            fits = live_after (λ j u. Fits o h ⊥ ⊥ u) s.views id w
+                (record { opening = mine.opening; seen = mine.seen; joined = settled v mine.joined; overtaken = λ n. let z : v.since ≡ 0 = stage.2 in absurd (omega arith) })
+                (λ j u ne e. let other = t.fits j u e in record { opening = other.opening; seen = other.seen; joined = settled u other.joined; overtaken = λ n. inl (stage.1 j u e (λ same. ne (same ∙ sym who))) });
             idle = after_one (λ j u. u.phase ≡ Idle) s.views id w refl (λ j u ne e. t.idle j u e (λ same. ne (same ∙ sym who)));
             value = x;
             home = ap (λ hs. slice_set hs 0 (some (Some x))) t.home;
@@ -69,7 +72,8 @@ module _ {V E : Type 0} (entries : V → List E) (numbers : V → List ℕ) (may
       let before : v.before ≡ h = before_is entries numbers may o id v s h t at begins in
       let most : 2 ^ 64 ≤ length h + 1 = rw before at last in
       let w = found_held v in
-      let mine = t.fits id v (at, live) in (
+      let at_last : (j : ℕ) (u : View E) → Live s.views j u → Fits o h ⊥ ⊥ u = λ j u e. Fits-change o h (j ≢ t.who) ⊥ (t.there.0.phase ≡ Begun) ⊥ u (λ _. inr most) (λ _. inr most) (t.fits j u e) in
+      let mine = at_last id v (at, live) in (
         w,
         gives,
         tt,
@@ -80,9 +84,9 @@ module _ {V E : Type 0} (entries : V → List E) (numbers : V → List ℕ) (may
           allowed = k.allowed;
           turn = inl (record {
             words = ap (λ ws. slice_set ws 0 0) t.words;
-            fits = live_after (λ j u. Fits o h ⊥ u) s.views id w
-                (record { opening = mine.opening; seen = mine.seen; joined = mine.joined; finds = λ n. inr (inr most) })
-                (λ j u ne e. let other = t.fits j u e in record { opening = other.opening; seen = other.seen; joined = other.joined; finds = λ n. inr (inr most) });
+            fits = live_after (λ j u. Fits o h ⊥ ⊥ u) s.views id w
+                (record { opening = mine.opening; seen = mine.seen; joined = mine.joined; overtaken = λ n. inr (inr most) })
+                (λ j u ne e. at_last j u e);
             idle = after_one (λ j u. u.phase ≡ Idle) s.views id w refl (λ j u ne e. t.idle j u e (λ same. ne (same ∙ sym who)));
             value = x;
             home = ap (λ hs. slice_set hs 0 (some (Some x))) t.home;

@@ -1,17 +1,18 @@
 -- A join keeps the rule: one view keeps what another had seen, and has its numbers, and the other is spent.
-use Rattle.std.proofs.Common.{◌≡◌, ◌≢◌, ◌<◌, ◌⊎◌, inl, inr, ⊎_elim, ℕ, false, List, [], ◌∷◌, ◌++◌, length, set, refl, sym, ◌∙◌, subst, arith}
+use Rattle.std.proofs.Common.{◌≡◌, ◌≢◌, ◌<◌, ◌⊎◌, inl, inr, ⊎_elim, ℕ, false, List, [], ◌∷◌, ◌++◌, length, set, Option, refl, sym, ◌∙◌, subst, arith}
 use mathlib.Core.Option.{some}
 use lib.ListN.{get_elem?}
-use Rattle.atomic_table.specs.Table.{Joins}
+use Rattle.atomic_table.specs.Table.{State, Joins}
 use Rattle.atomic_table.proofs.Lists.{set_else}
 use Rattle.turn_lock.specs.declared.history.TurnOf.{TurnOf}
 use Rattle.turn_lock.specs.declared.history.Opening.{Opening}
 use Rattle.turn_lock.specs.declared.view.View.{View}
 use Rattle.turn_lock.specs.declared.view.JoinedSeat.{JoinedSeat}
-use Rattle.turn_lock.specs.declared.view.Phase.TheVariants.{Idle}
+use Rattle.turn_lock.specs.declared.rule.Stamped.{Stamped}
+use Rattle.turn_lock.specs.declared.view.Phase.TheVariants.{Idle, Begun}
 use Rattle.turn_lock.specs.Histories.{IsBelow}
 use Rattle.turn_lock.specs.Views.{joined_with, spent_view, numbers_of, joined_numbers}
-use Rattle.turn_lock.specs.Rule.{IsIn, Live, HasSeen, JoinedHaveSeen, Numbered, Fits, Keeps, IsFree, IsTaken, IsAt}
+use Rattle.turn_lock.specs.Rule.{IsIn, Live, HasSeen, IsOvertaken, JoinedHaveSeen, Numbered, Fits, Keeps, IsFree, IsTaken, IsAt}
 use Rattle.turn_lock.proofs.Changed.{after_one}
 use Rattle.turn_lock.proofs.Splitting.{not_who}
 
@@ -23,11 +24,11 @@ module _ {E : Type 0} where
 
   in_joined : (n : ℕ) (v w : View E) → IsIn n (numbers_of (joined_with v w)) → IsIn n (numbers_of v) ⊎ IsIn n (numbers_of w)
   in_joined n v w (inl e) = inl (inl e)
-  in_joined n v w (inr i) = ⊎_elim (λ (a : IsIn n (joined_numbers v.joined)). inl (inr a)) (λ (b : (n ≡ w.number) ⊎ IsIn n (joined_numbers w.joined)). inr b) (in_append n v.joined (record { number = w.number; seen = w.seen }) w.joined i)
+  in_joined n v w (inr i) = ⊎_elim (λ (a : IsIn n (joined_numbers v.joined)). inl (inr a)) (λ (b : (n ≡ w.number) ⊎ IsIn n (joined_numbers w.joined)). inr b) (in_append n v.joined (record { number = w.number; seen = w.seen; since = w.since }) w.joined i)
 
-  seen_append : (h : List (TurnOf E)) (ms : List (JoinedSeat E)) (m : JoinedSeat E) (rest : List (JoinedSeat E)) → JoinedHaveSeen h ms → HasSeen h m.number m.seen → JoinedHaveSeen h rest → JoinedHaveSeen h (ms ++ m ∷ rest)
-  seen_append h [] m rest a b c = (b, c)
-  seen_append h (x ∷ ms) m rest a b c = (a.0, seen_append h ms m rest a.1 b c)
+  seen_append : (h : List (TurnOf E)) (P : Type 0) (ms : List (JoinedSeat E)) (m : JoinedSeat E) (rest : List (JoinedSeat E)) → JoinedHaveSeen h P ms → HasSeen h m.number m.seen → IsOvertaken h P m.seen m.since → JoinedHaveSeen h P rest → JoinedHaveSeen h P (ms ++ m ∷ rest)
+  seen_append h P [] m rest a b c d = (b, c, d)
+  seen_append h P (x ∷ ms) m rest a b c d = (a.0, a.1, seen_append h P ms m rest a.2 b c d)
 
   -- what holds of each view after one was joined into another
   join_each : (P : ℕ → View E → Type 0) (views : List (View E)) (id other : ℕ) (both gone : View E) → P id both → P other gone → ((j : ℕ) (u : View E) → j ≢ id → j ≢ other → get_elem? views j ≡ some u → P j u) → (j : ℕ) (u : View E) → get_elem? (set (set views id both) other gone) j ≡ some u → P j u
@@ -77,8 +78,12 @@ module _ {E : Type 0} where
     }
 
 module _ {V E : Type 0} (entries : V → List E) (numbers : V → List ℕ) (may : ℕ → List E → Type 0) (o : Opening E) where
-  fits_both : (h : List (TurnOf E)) (v w : View E) (Q R : Type 0) → Fits o h Q v → Fits o h R w → Fits o h Q (joined_with v w)
-  fits_both h v w Q R a b = record { opening = a.opening; seen = a.seen; joined = seen_append h v.joined (record { number = w.number; seen = w.seen }) w.joined a.joined b.seen b.joined; finds = a.finds }
+  fits_both : (h : List (TurnOf E)) (v w : View E) (Q R P : Type 0) → Fits o h Q P v → Fits o h R P w → IsOvertaken h P w.seen w.since → Fits o h Q P (joined_with v w)
+  fits_both h v w Q R P a b c = record { opening = a.opening; seen = a.seen; joined = seen_append h P v.joined (record { number = w.number; seen = w.seen; since = w.since }) w.joined a.joined b.seen c b.joined; overtaken = a.overtaken }
+
+  -- beside a view in a turn another has seen less than the whole, once that turn is raised
+  overtaken_beside : (s : State (Option (Stamped V)) (View E)) (h : List (TurnOf E)) (t : IsTaken entries numbers may o h s) (j : ℕ) (u : View E) → Live s.views j u → j ≢ t.who → IsOvertaken h (t.there.0.phase ≡ Begun) u.seen u.since
+  overtaken_beside s h t j u l ne n = ⊎_elim (λ x. inr (inl x.0)) (λ x. inl (x.2 j u l ne)) (t.stage t.there.0 t.there.1.0)
 
   pub joins : (id other : ℕ) (v w : View E) → v.spent ≡ false → v.phase ≡ Idle → w.spent ≡ false → w.phase ≡ Idle → Joins (Keeps entries numbers may o) id v other w (joined_with v w) spent_view
   joins id other v w live idle live_w idle_w s k at apart at_other =
@@ -92,8 +97,8 @@ module _ {V E : Type 0} (entries : V → List E) (numbers : V → List ℕ) (may
         turn = ⊎_elim
             (λ (f : IsFree entries numbers may o h s). inl (record {
               words = f.words;
-              fits = λ j u l. join_each (λ i y. y.spent ≡ false → Fits o h ⊥ y) s.views id other (joined_with v w) spent_view
-                  (λ _. fits_both h v w ⊥ ⊥ (f.fits id v (at, live)) (f.fits other w (there, live_w))) (λ g. absurd (cc)) (λ i y a b e g. f.fits i y (e, g)) j u l.0 l.1;
+              fits = λ j u l. join_each (λ i y. y.spent ≡ false → Fits o h ⊥ ⊥ y) s.views id other (joined_with v w) spent_view
+                  (λ _. fits_both h v w ⊥ ⊥ ⊥ (f.fits id v (at, live)) (f.fits other w (there, live_w)) (f.fits other w (there, live_w)).overtaken) (λ g. absurd (cc)) (λ i y a b e g. f.fits i y (e, g)) j u l.0 l.1;
               idle = join_each (λ i y. y.phase ≡ Idle) s.views id other (joined_with v w) spent_view idle refl (λ i y a b e. f.idle i y e);
               value = f.value;
               home = f.home;
@@ -105,8 +110,8 @@ module _ {V E : Type 0} (entries : V → List E) (numbers : V → List ℕ) (may
             inr (record {
               who = t.who;
               words = t.words;
-              fits = λ j u l. join_each (λ i y. y.spent ≡ false → Fits o h (i ≢ t.who) y) s.views id other (joined_with v w) spent_view
-                  (λ _. fits_both h v w (id ≢ t.who) (other ≢ t.who) (t.fits id v (at, live)) (t.fits other w (there, live_w))) (λ g. absurd (cc)) (λ i y a b e g. t.fits i y (e, g)) j u l.0 l.1;
+              fits = λ j u l. join_each (λ i y. y.spent ≡ false → Fits o h (i ≢ t.who) (t.there.0.phase ≡ Begun) y) s.views id other (joined_with v w) spent_view
+                  (λ _. fits_both h v w (id ≢ t.who) (other ≢ t.who) (t.there.0.phase ≡ Begun) (t.fits id v (at, live)) (t.fits other w (there, live_w)) (overtaken_beside s h t other w (there, live_w) n2)) (λ g. absurd (cc)) (λ i y a b e g. t.fits i y (e, g)) j u l.0 l.1;
               idle = join_each (λ i y. i ≢ t.who → y.phase ≡ Idle) s.views id other (joined_with v w) spent_view (λ _. idle) (λ _. refl) (λ i y a b e. t.idle i y e);
               stage = λ u e. join_each (λ i y. i ≡ t.who → IsAt entries numbers may o h (record { words = s.words; homes = s.homes; views = set (set s.views id (joined_with v w)) other spent_view }) t.who y) s.views id other (joined_with v w) spent_view
                   (λ same. absurd (n1 same)) (λ same. absurd (n2 same))

@@ -9,7 +9,7 @@ use Rattle.atomic_table.proofs.Lists.{set_else, at_longer}
 use Rattle.turn_lock.specs.declared.history.TurnOf.{TurnOf}
 use Rattle.turn_lock.specs.declared.history.Opening.{Opening}
 use Rattle.turn_lock.specs.declared.view.View.{View}
-use Rattle.turn_lock.specs.declared.view.Phase.TheVariants.{Idle}
+use Rattle.turn_lock.specs.declared.view.Phase.TheVariants.{Idle, Begun}
 use Rattle.turn_lock.specs.declared.rule.Stamped.{Stamped}
 use Rattle.turn_lock.specs.Histories.{IsBelow}
 use Rattle.turn_lock.specs.Views.{dealer_after, dealt, numbers_of}
@@ -92,11 +92,11 @@ module _ {V E : Type 0} (entries : V → List E) (numbers : V → List ℕ) (may
   not_who s h t id v at idle e = ⊎_elim (λ x. idle_begun v.phase idle x.0) (λ x. idle_raised v.phase idle x.0) (t.stage v (subst (λ i. get_elem? s.views i ≡ some v) e at))
 
   module _ (id : ℕ) (v : View E) (live : v.spent ≡ false) (idle : v.phase ≡ Idle) (some_given : 0 < v.given) where
-    fits_right : (h : List (TurnOf E)) (Q R : Type 0) → Fits o h Q v → IsBelow v.given h → Fits o h R (dealt v)
-    fits_right h Q R f b = record { opening = f.opening; seen = ((h, refl), turns_of-none v.given h b); joined = tt; finds = λ n. absurd (omega arith) }
+    fits_right : (h : List (TurnOf E)) (Q R P : Type 0) → Fits o h Q P v → IsBelow v.given h → Fits o h R P (dealt v)
+    fits_right h Q R P f b = record { opening = f.opening; seen = ((h, refl), turns_of-none v.given h b); joined = tt; overtaken = λ n. absurd (omega arith) }
 
-    fits_left : (h : List (TurnOf E)) (Q : Type 0) → Fits o h Q v → Fits o h Q (dealer_after v)
-    fits_left h Q f = record { opening = f.opening; seen = f.seen; joined = f.joined; finds = f.finds }
+    fits_left : (h : List (TurnOf E)) (Q P : Type 0) → Fits o h Q P v → Fits o h Q P (dealer_after v)
+    fits_left h Q P f = record { opening = f.opening; seen = f.seen; joined = f.joined; overtaken = f.overtaken }
 
     pub splits : Splits (Keeps entries numbers may o) id v (dealer_after v) (dealt v)
     splits s k at =
@@ -110,8 +110,8 @@ module _ {V E : Type 0} (entries : V → List E) (numbers : V → List ℕ) (may
           turn = ⊎_elim
               (λ (f : IsFree entries numbers may o h s). inl (record {
                 words = f.words;
-                fits = λ j u l. split_each (λ i y. y.spent ≡ false → Fits o h ⊥ y) s.views id (dealer_after v) (dealt v)
-                    (λ _. fits_left h ⊥ (f.fits id v (at, live))) (λ i y ne e g. f.fits i y (e, g)) (λ i e _. fits_right h ⊥ ⊥ (f.fits id v (at, live)) b.0) j u l.0 l.1;
+                fits = λ j u l. split_each (λ i y. y.spent ≡ false → Fits o h ⊥ ⊥ y) s.views id (dealer_after v) (dealt v)
+                    (λ _. fits_left h ⊥ ⊥ (f.fits id v (at, live))) (λ i y ne e g. f.fits i y (e, g)) (λ i e _. fits_right h ⊥ ⊥ ⊥ (f.fits id v (at, live)) b.0) j u l.0 l.1;
                 idle = split_each (λ i y. y.phase ≡ Idle) s.views id (dealer_after v) (dealt v) idle (λ i y ne e. f.idle i y e) (λ i e. refl);
                 value = f.value;
                 home = f.home;
@@ -123,8 +123,8 @@ module _ {V E : Type 0} (entries : V → List E) (numbers : V → List ℕ) (may
               inr (record {
                 who = t.who;
                 words = t.words;
-                fits = λ j u l. split_each (λ i y. y.spent ≡ false → Fits o h (i ≢ t.who) y) s.views id (dealer_after v) (dealt v)
-                    (λ _. fits_left h (id ≢ t.who) (t.fits id v (at, live))) (λ i y ne e g. t.fits i y (e, g)) (λ i e _. fits_right h (id ≢ t.who) (i ≢ t.who) (t.fits id v (at, live)) b.0) j u l.0 l.1;
+                fits = λ j u l. split_each (λ i y. y.spent ≡ false → Fits o h (i ≢ t.who) (t.there.0.phase ≡ Begun) y) s.views id (dealer_after v) (dealt v)
+                    (λ _. fits_left h (id ≢ t.who) (t.there.0.phase ≡ Begun) (t.fits id v (at, live))) (λ i y ne e g. t.fits i y (e, g)) (λ i e _. fits_right h (id ≢ t.who) (i ≢ t.who) (t.there.0.phase ≡ Begun) (t.fits id v (at, live)) b.0) j u l.0 l.1;
                 idle = split_each (λ i y. i ≢ t.who → y.phase ≡ Idle) s.views id (dealer_after v) (dealt v) (λ _. idle) (λ i y ne e. t.idle i y e) (λ i e _. refl);
                 stage = λ u e. split_each (λ i y. i ≡ t.who → IsAt entries numbers may o h (record { words = s.words; homes = s.homes; views = slice_set s.views id (dealer_after v) ++ dealt v ∷ [] }) t.who y) s.views id (dealer_after v) (dealt v)
                     (λ same. absurd (other same))

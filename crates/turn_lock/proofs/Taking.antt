@@ -1,5 +1,5 @@
 -- A try to take the turn word keeps the rule: take where the turn is free, held where another view is in a turn.
-use Rattle.std.proofs.Common.{◌≡◌, ◌≢◌, ◌<◌, ◌==◌, ◌⊎◌, inl, inr, ⊎_elim, ℕ, false, List, [], ◌∷◌, length, Option, Some, refl, sym, ap, ◌∙◌, subst, arith}
+use Rattle.std.proofs.Common.{◌≡◌, ◌≢◌, ◌<◌, ◌==◌, inl, inr, ⊎_elim, ℕ, false, List, [], ◌∷◌, length, Option, Some, refl, sym, ap, ◌∙◌, subst, arith}
 use Rattle.std.specs.Prelude.{slice_index, slice_set}
 use mathlib.Core.Option.{some, none}
 use lib.ListN.{get_elem?}
@@ -9,18 +9,13 @@ use Rattle.atomic_table.proofs.Lists.{set_else}
 use Rattle.turn_lock.specs.declared.history.TurnOf.{TurnOf}
 use Rattle.turn_lock.specs.declared.history.Opening.{Opening}
 use Rattle.turn_lock.specs.declared.view.View.{View}
-use Rattle.turn_lock.specs.declared.view.Phase.TheVariants.{Idle}
+use Rattle.turn_lock.specs.declared.view.Phase.TheVariants.{Idle, Begun}
 use Rattle.turn_lock.specs.declared.rule.Stamped.{Stamped}
 use Rattle.turn_lock.specs.Histories.{IsBelow}
 use Rattle.turn_lock.specs.Views.{begun, found_held}
 use Rattle.turn_lock.specs.Rule.{Keeps, IsFree, IsTaken, IsAt, Fits, Tried}
-use Rattle.turn_lock.proofs.Seen.{one_has_seen}
+use Rattle.turn_lock.proofs.Seen.{one_has_seen, Fits-change}
 use Rattle.turn_lock.proofs.Changed.{idle_begun, idle_raised, after_one, set_at, live_after, numbered_after}
-
-widen : {A B Q C : Type 0} → (B → Q) → A ⊎ (B ⊎ C) → A ⊎ (Q ⊎ C)
-widen f (inl a) = inl a
-widen f (inr (inl b)) = inr (inl (f b))
-widen f (inr (inr c)) = inr (inr c)
 
 module _ {V E : Type 0} (entries : V → List E) (numbers : V → List ℕ) (may : ℕ → List E → Type 0) (o : Opening E) (id : ℕ) (v : View E) (live : v.spent ≡ false) where
   abbrev Free : List (TurnOf E) → State (Option (Stamped V)) (View E) → Type 0
@@ -46,7 +41,8 @@ module _ {V E : Type 0} (entries : V → List E) (numbers : V → List ℕ) (may
   from_free s k f at =
       let h = k.history in
       let w = begun v h in
-      let mine = f.fits id v (at, live) in
+      let begins : (A B : Type 0) (u : View E) → Fits o h ⊥ ⊥ u → Fits o h A B u = λ A B u fit. Fits-change o h ⊥ A ⊥ B u (λ x. absurd x) (λ x. absurd x) fit in
+      let mine = begins (id ≢ id) (w.phase ≡ Begun) v (f.fits id v (at, live)) in
       let found : slice_index s.words 0 ≡ 0 = ap (λ ws. slice_index ws 0) f.words in (
         w,
         takes 0 (Some f.value),
@@ -59,9 +55,9 @@ module _ {V E : Type 0} (entries : V → List E) (numbers : V → List ℕ) (may
           turn = inr (record {
             who = id;
             words = ap (λ ws. slice_set ws 0 (either (slice_index ws 0 == 0) 1 (slice_index ws 0))) f.words;
-            fits = live_after (λ j u. Fits o h (j ≢ id) u) s.views id w
-                (record { opening = mine.opening; seen = mine.seen; joined = mine.joined; finds = λ n. widen (λ x. absurd x) (mine.finds n) })
-                (λ j u ne e. let other = f.fits j u e in record { opening = other.opening; seen = other.seen; joined = other.joined; finds = λ n. inr (inl ne) });
+            fits = live_after (λ j u. Fits o h (j ≢ id) (w.phase ≡ Begun) u) s.views id w
+                (record { opening = mine.opening; seen = mine.seen; joined = mine.joined; overtaken = mine.overtaken })
+                (λ j u ne e. begins (j ≢ id) (w.phase ≡ Begun) u (f.fits j u e));
             idle = after_one (λ j u. j ≢ id → u.phase ≡ Idle) s.views id w (λ ne. absurd (ne refl)) (λ j u ne e _. f.idle j u e);
             stage = λ u e. after_one (λ j y. j ≡ id → IsAt entries numbers may o h (stepped s 0 (either (slice_index s.words 0 == 0) 1 (slice_index s.words 0)) id [] w (takes 0 (Some f.value))) id y) s.views id w
                 (λ _. inl (refl, refl)) (λ j y ne g same. absurd (ne same)) id u e refl;
@@ -100,8 +96,8 @@ module _ {V E : Type 0} (entries : V → List E) (numbers : V → List ℕ) (may
           turn = inr (record {
             who = t.who;
             words = ap (λ ws. slice_set ws 0 (either (slice_index ws 0 == 0) 1 (slice_index ws 0))) t.words;
-            fits = live_after (λ j u. Fits o h (j ≢ t.who) u) s.views id w
-                (record { opening = mine.opening; seen = mine.seen; joined = mine.joined; finds = λ n. inr (inl other) })
+            fits = live_after (λ j u. Fits o h (j ≢ t.who) (t.there.0.phase ≡ Begun) u) s.views id w
+                (record { opening = mine.opening; seen = mine.seen; joined = mine.joined; overtaken = λ n. inr (inl other) })
                 (λ j u ne e. t.fits j u e);
             idle = after_one (λ j u. j ≢ t.who → u.phase ≡ Idle) s.views id w (λ _. refl) (λ j u ne e. t.idle j u e);
             stage = λ u e.

@@ -29,10 +29,14 @@ module _ {E : Type 0} where
   abbrev pub HasSeen : List (TurnOf E) → ℕ → List (TurnOf E) → Type 0
   HasSeen h number seen = IsPrefixOf seen h × (turns_of number h ≡ turns_of number seen)
 
-  -- so has each seat that was joined
-  abbrev pub JoinedHaveSeen : List (TurnOf E) → List (JoinedSeat E) → Type 0
-  JoinedHaveSeen h [] = Unit {0}
-  JoinedHaveSeen h (m ∷ ms) = HasSeen h m.number m.seen × JoinedHaveSeen h ms
+  -- a seat with finds since its last turn has seen less than the whole history, or the history may yet grow, or it is at its last length
+  abbrev pub IsOvertaken : List (TurnOf E) → Type 0 → List (TurnOf E) → ℕ → Type 0
+  IsOvertaken h may_grow seen since = 0 < since → (length seen < length h) ⊎ (may_grow ⊎ (2 ^ 64 ≤ length h + 1))
+
+  -- both of each seat that was joined
+  abbrev pub JoinedHaveSeen : List (TurnOf E) → Type 0 → List (JoinedSeat E) → Type 0
+  JoinedHaveSeen h may_grow [] = Unit {0}
+  JoinedHaveSeen h may_grow (m ∷ ms) = HasSeen h m.number m.seen × IsOvertaken h may_grow m.seen m.since × JoinedHaveSeen h may_grow ms
 
   -- the views' numbers differ, and those that were given are below the next one to give, which one view at most gives
   pub record Numbered (h : List (TurnOf E)) (views : List (View E)) : Type 0 where
@@ -40,13 +44,12 @@ module _ {E : Type 0} where
     pub below : (i : ℕ) (u : View E) → Live views i u → 0 < u.given → IsBelow u.given h × ((j : ℕ) (v : View E) → Live views j v → (n : ℕ) → IsIn n (numbers_of v) → n < u.given)
     pub one_dealer : (i j : ℕ) (u v : View E) → Live views i u → Live views j v → 0 < u.given → 0 < v.given → i ≡ j
 
-  -- what holds of one view beside the history, where `other_in_turn` says that another view is in a turn
-  pub record Fits (o : Opening E) (h : List (TurnOf E)) (other_in_turn : Type 0) (v : View E) : Type 0 where
+  -- what holds of one view beside the history, where `other_in_turn` says that another view is in a turn, and `not_raised` that some view is in a turn before its raise
+  pub record Fits (o : Opening E) (h : List (TurnOf E)) (other_in_turn not_raised : Type 0) (v : View E) : Type 0 where
     pub opening : v.opening ≡ o
     pub seen : HasSeen h v.number v.seen
-    pub joined : JoinedHaveSeen h v.joined
-    -- finds since its last raise: it has seen less than the whole, or another view is in a turn, or the count is at its last value
-    pub finds : 0 < v.since → (length v.seen < length h) ⊎ (other_in_turn ⊎ (2 ^ 64 ≤ length h + 1))
+    pub joined : JoinedHaveSeen h not_raised v.joined
+    pub overtaken : IsOvertaken h other_in_turn v.seen v.since
 
 module _ {V E : Type 0} (entries : V → List E) (numbers : V → List ℕ) (may : ℕ → List E → Type 0) where
   -- the value has the count of the history's turns, and stands for its entries
@@ -59,7 +62,7 @@ module _ {V E : Type 0} (entries : V → List E) (numbers : V → List ℕ) (may
     -- no view is in a turn, and the value is home
     pub record IsFree : Type 0 where
       pub words : s.words ≡ 0 ∷ length h ∷ []
-      pub fits : (id : ℕ) (v : View E) → Live s.views id v → Fits o h ⊥ v
+      pub fits : (id : ℕ) (v : View E) → Live s.views id v → Fits o h ⊥ ⊥ v
       pub idle : (id : ℕ) (v : View E) → get_elem? s.views id ≡ some v → v.phase ≡ Idle
       pub value : Stamped V
       pub home : s.homes ≡ some (Some value) ∷ []
@@ -74,10 +77,10 @@ module _ {V E : Type 0} (entries : V → List E) (numbers : V → List ℕ) (may
     pub record IsTaken : Type 0 where
       pub who : ℕ
       pub words : s.words ≡ 1 ∷ length h ∷ []
-      pub fits : (id : ℕ) (v : View E) → Live s.views id v → Fits o h (id ≢ who) v
+      pub there : (v : View E) × Live s.views who v
+      pub fits : (id : ℕ) (v : View E) → Live s.views id v → Fits o h (id ≢ who) (there.0.phase ≡ Begun) v
       pub idle : (id : ℕ) (v : View E) → get_elem? s.views id ≡ some v → id ≢ who → v.phase ≡ Idle
       pub stage : (v : View E) → get_elem? s.views who ≡ some v → IsAt who v
-      pub there : (v : View E) × Live s.views who v
       pub home : s.homes ≡ none ∷ []
 
   -- there is one history, of which all views have seen a prefix
@@ -119,7 +122,7 @@ module _ {V E : Type 0} (entries : V → List E) (numbers : V → List ℕ) (may
   abbrev pub IsFreed : Me (Option (Stamped V)) (View E) → Me (Option (Stamped V)) (View E) → Type 0
   IsFreed me after = after ≡ (freed_at me.0.phase me.0, [])
 
-  -- the end: the value stands for one history, of which the view and those that were joined into it have seen a prefix, with all of their turns
+  -- the end: the value stands for one history, of which the view and those that were joined into it have seen a prefix, with all of their turns, and less than the whole where they have finds since
   pub record Ended (o : Opening E) (v : View E) (value : V) : Type 0 where
     pub history : List (TurnOf E)
     pub entries_are : entries value ≡ o.first ++ entries_of history
@@ -127,4 +130,5 @@ module _ {V E : Type 0} (entries : V → List E) (numbers : V → List ℕ) (may
     pub allowed : IsAllowed may history
     pub in_range : IsBelow o.seats history
     pub seen : HasSeen history v.number v.seen
-    pub joined : JoinedHaveSeen history v.joined
+    pub overtaken : IsOvertaken history ⊥ v.seen v.since
+    pub joined : JoinedHaveSeen history ⊥ v.joined

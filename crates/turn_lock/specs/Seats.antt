@@ -1,5 +1,5 @@
 -- A turn lock and its seats as callers see them.
-use Rattle.std.specs.Prelude.{◌≡◌, ◌+◌, ◌++◌, ℕ, List, [], ◌∷◌, Some, length, slice_get}
+use Rattle.std.specs.Prelude.{◌≡◌, ◌<◌, ◌≤◌, ◌+◌, ◌^◌, ◌++◌, ◌⊎◌, ℕ, List, [], ◌∷◌, Some, length, slice_get}
 use Rattle.atomic_table.specs.Seated.{TableId}
 use Rattle.turn_lock.specs.declared.history.TurnOf.{TurnOf}
 use Rattle.turn_lock.specs.declared.history.Opening.{Opening}
@@ -12,12 +12,14 @@ pub record TurnValue (E : Type 0) : Type 0 where
   pub numbers : List ℕ
   pub seats : ℕ
 
--- A seat: its turn lock, its number, the prefix of the history that it has seen, and how many of its tries found the turn word held or the history at its last length.
+-- A seat: its turn lock, its number, the prefix of the history that it has seen, and its finds: how many of its tries found the turn word held or the history at its last length.
+-- `since` counts those after its last own turn, which are all where it had none.
 pub record SeatValue (E : Type 0) : Type 0 where
   pub turn : TurnValue E
   pub number : ℕ
   pub seen : List (TurnOf E)
   pub finds : ℕ
+  pub since : ℕ
 
 module _ {E : Type 0} where
   -- the turn lock with this table, made with these
@@ -26,19 +28,19 @@ module _ {E : Type 0} where
 
   -- seat i as `make` gives it
   abbrev pub new_seat : TurnValue E → ℕ → SeatValue E
-  new_seat turn i = record { turn = turn; number = i; seen = []; finds = 0 }
+  new_seat turn i = record { turn = turn; number = i; seen = []; finds = 0; since = 0 }
 
-  -- a seat after Busy: one more find, and all else as before
+  -- a seat after Busy: one more find, also since its last turn, and all else as before
   abbrev pub refused : SeatValue E → SeatValue E
-  refused s = record s { finds = s.finds + 1 }
+  refused s = record s { finds = s.finds + 1; since = s.since + 1 }
 
   -- the entries at a seat's turn, of the first value and of all turns before
   abbrev pub entries_before : SeatValue E → List (TurnOf E) → List E
   entries_before s between = s.turn.first ++ entries_of (s.seen ++ between)
 
-  -- a seat after a turn of its own, with these entries: that turn ends all that it has then seen
+  -- a seat after a turn of its own, with these entries: that turn ends all that it has then seen, and no find is since
   abbrev pub after_turn : SeatValue E → List (TurnOf E) → List E → SeatValue E
-  after_turn s between entries = record s { seen = (s.seen ++ between) ++ record { seat = s.number; entries = entries } ∷ [] }
+  after_turn s between entries = record s { seen = (s.seen ++ between) ++ record { seat = s.number; entries = entries } ∷ []; since = 0 }
 
   -- Ok: the seat had one turn, after what it had seen and some turns of other seats.
   -- `adds` and `answered` are of the fixed numbers and of the entries before.
@@ -70,3 +72,5 @@ module _ {E : Type 0} where
     pub in_range : IsBelow turn.seats history
     pub seen : (i : ℕ) (s : SeatValue E) → slice_get seats i ≡ Some s → IsPrefixOf s.seen history
     pub own : (i : ℕ) (s : SeatValue E) → slice_get seats i ≡ Some s → turns_of i history ≡ turns_of i s.seen
+    -- a seat that was refused since its last turn was overtaken: the history goes on beyond what it had seen, or is at its last length
+    pub overtaken : (i : ℕ) (s : SeatValue E) → slice_get seats i ≡ Some s → 0 < s.since → (length s.seen < length history) ⊎ (2 ^ 64 ≤ length history + 1)

@@ -49,13 +49,13 @@ module _ {E : Type 0} where
   abbrev pub dealt : View E → View E
   dealt v = record { number = v.given; seen = []; finds = 0; since = 0; phase = Idle; before = []; opening = v.opening; given = 0; joined = []; spent = false }
 
-  -- join: the first keeps what the second had seen, and those that were joined into it
+  -- join: the first keeps what the second had seen, with its finds since its last turn, and those that were joined into it
   abbrev pub joined_with : View E → View E → View E
-  joined_with v w = record v { joined = v.joined ++ record { number = w.number; seen = w.seen } ∷ w.joined }
+  joined_with v w = record v { joined = v.joined ++ record { number = w.number; seen = w.seen; since = w.since } ∷ w.joined }
 
   -- what is kept of a joined seat
   abbrev pub joined_seat : SeatValue E → JoinedSeat E
-  joined_seat s = record { number = s.number; seen = s.seen }
+  joined_seat s = record { number = s.number; seen = s.seen; since = s.since }
 
   -- join with one seat
   abbrev pub with_joined : View E → JoinedSeat E → View E
@@ -76,7 +76,7 @@ module _ {E : Type 0} where
 
   -- what callers see of a view
   abbrev pub seat_value : TableId → View E → SeatValue E
-  seat_value table v = record { turn = turn_value table v.opening; number = v.number; seen = v.seen; finds = v.finds }
+  seat_value table v = record { turn = turn_value table v.opening; number = v.number; seen = v.seen; finds = v.finds; since = v.since }
 
   -- Between its calls a seat has no slot, is in no turn, and was neither joined nor spent. Seat 0 has given all numbers.
   pub record IsBetweenCalls {S : Type 0} (me : Me S (View E)) (front : ℕ) : Type 0 where

@@ -11,7 +11,9 @@ use crate::seat::{TurnSeat, TurnSeats};
 use crate::turn::Turn;
 
 impl<K: Kept> Turn<K> {
-    /// Hands out the value, which stands for all turns of all seats.
+    /// Hands out the value, which stands for all turns of all seats. Where a seat was answered Busy
+    /// since its last own turn, turns of other seats follow what it had seen, or the history is at its
+    /// last length.
     pub fn close(self, seats: TurnSeats<K>) -> K
         requires { AreSeats self seats.items }
         ensures { IsWhole K.entries K.numbers K.may_add self seats.items result }

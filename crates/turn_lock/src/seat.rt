@@ -6,7 +6,8 @@ use std::marker::Model;
 
 /// One of those that take turns. Contracts see its turn lock, its number, the prefix of the history
 /// that it has seen, and its finds: the number of its tries that found the turn word held or the
-/// history at its last length, the last value of a `u64`.
+/// history at its last length, the last value of a `u64`. They also see those of its finds that came
+/// after its last own turn, which are all where it had none.
 #[derive(Drop)]
 pub struct TurnSeat<K: Kept> {
     pub(crate) seat: RawSeat<K>,

@@ -7,11 +7,12 @@ use std::alloc::{AllocError, Global};
 use std::test::Fail;
 use std::thread;
 
-// The numbers of the seats that left a mark, in order, up to a most.
+// The numbers of the seats that left a mark, in order, up to a most, and how often a mark was applied.
 #[derive(Drop)]
 struct Marks {
     marks: Vec<u32>,
     most: usize,
+    applied: u64,
     ghost room: { most ≤ vec_capacity marks },
 }
 
@@ -20,6 +21,7 @@ impl Marks {
         Ok(Marks {
             marks: Vec::with_capacity(alloc, most)?,
             most,
+            applied: 0,
         })
     }
 }
@@ -55,6 +57,7 @@ impl Act<Marks> for Mark {
     ghost answers = { λ act numbers entries out. out ≡ nat_lt (length entries) (slice_index numbers 0) };
 
     fn apply(self, kept: &mut Marks) -> bool {
+        kept.applied = kept.applied.saturating_add(1);
         if kept.marks.len() >= kept.most {
             return false;
         }
@@ -135,7 +138,7 @@ fn last_seat(turn: &Turn<Marks>, seats: &mut TurnSeats<Marks>) -> TurnSeat<Marks
 }
 
 fn with_one_seat(alloc: Global, most: usize) -> Result<(Turn<Marks>, TurnSeat<Marks>), OutOfMemory>
-    ensures { IfOk result (λ t. t.1 ≡ new_seat t.0 0) }
+    ensures { IfOk result (λ t. (t.0.seats ≡ 1) × (t.1 ≡ new_seat t.0 0)) }
 {
     let marks = Marks::with_room(alloc, most)?;
     let (turn, mut seats) = Turn::make(alloc, marks, 1)?;
@@ -155,6 +158,15 @@ fn with_two_seats(
     let second = last_seat(&turn, &mut seats);
     let first = last_seat(&turn, &mut seats);
     Ok((turn, first, second))
+}
+
+fn close_one(alloc: Global, turn: Turn<Marks>, seat: TurnSeat<Marks>) -> Result<Marks, OutOfMemory>
+    requires count { turn.seats ≡ 1 }
+    requires seat { (seat.turn ≡ turn) × (seat.number ≡ 0) }
+{
+    let mut seats = Vec::new(alloc);
+    seats.push(seat)?;
+    Ok(turn.close(seats))
 }
 
 fn close_two(
@@ -196,6 +208,18 @@ fn one_seat_is_never_refused(rt: HostRuntime) -> Result<(), Fail> {
 }
 
 #[test]
+fn each_act_is_applied_once_to_what_close_hands_out(rt: HostRuntime) -> Result<(), Fail> {
+    let (turn, seat) = with_one_seat(rt.alloc(), 2_000)?;
+    let (seat, marks) = marked(&turn, seat, 0, TRIES);
+    let whole = close_one(rt.alloc(), turn, seat)?;
+    assert_eq!(rt; marks, 1_000);
+    assert_eq!(rt; whole.applied, 1_000);
+    assert_eq!(rt; whole.marks.len(), 1_000);
+    assert!(rt; whole.marks.iter().all(|seat| *seat == 0));
+    Ok(())
+}
+
+#[test]
 fn a_turn_within_a_turn_is_refused(rt: HostRuntime) -> Result<(), Fail> {
     let (turn, mut outer, inner) = with_two_seats(rt.alloc(), 8)?;
     let within = Within {
@@ -228,5 +252,6 @@ fn marks_of_two_threads_stand_once(rt: HostRuntime) -> Result<(), Fail> {
     assert_eq!(rt; of_seat(0), by_first);
     assert_eq!(rt; of_seat(1), by_second);
     assert_eq!(rt; whole.marks.len(), by_first.saturating_add(by_second));
+    assert_eq!(rt; whole.applied, whole.marks.len() as u64);
     Ok(())
 }

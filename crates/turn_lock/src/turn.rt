@@ -42,8 +42,8 @@ impl<K: Kept> Turn<K> {
     /// the seat has then seen. Busy comes exactly where the compare-exchange found the turn word held,
     /// or where the history is at its last length, the last value of a `u64`: the act comes back, and
     /// the seat's finds are one more. So after a turn of its own a seat is answered Busy only once
-    /// another seat has begun a further turn, or at the last length, and the seat of a turn lock with
-    /// one seat only at the last length.
+    /// another seat has begun a further turn, or at the last length: `close()` ensures it of the whole
+    /// history. The seat of a turn lock with one seat is answered Busy only at the last length.
     pub fn try_turn<A: Act<K>>(&self, seat: &mut TurnSeat<K>, act: A) -> Result<A::Out, Busy<A>>
         requires seat { seat.old.turn ≡ self.now }
         requires allowed { (entries : List K.Entry) → K.may_add seat.old.number (A.adds act self.now.numbers entries) }

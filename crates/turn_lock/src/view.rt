@@ -11,10 +11,11 @@ pub enum Phase {
     Raised,
 }
 
-/// What a joined seat had seen. No value of it is made.
+/// What a joined seat had seen, and its finds since its last turn. No value of it is made.
 pub struct JoinedSeat<E> {
     pub number: u64,
     pub seen: LinkedList<TurnOf<E>>,
+    pub since: u64,
 }
 
 /// What a seat knows. No value of it is made.
