@@ -7,6 +7,7 @@ pub mod Running
 pub mod Stepping
 pub mod Leaving
 pub mod Refusing
+pub mod Captured
 pub mod Messages
 pub mod Switching
 pub mod ReadingCaptures

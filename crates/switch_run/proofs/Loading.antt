@@ -2,7 +2,7 @@
 use Rattle.std.proofs.Common.{◌≡◌, ℕ, suc, ◌+◌, ◌*◌, ◌<◌, ◌≤◌, ◌∙◌, ◌↔◌, List, [], ◌∷◌, ◌++◌, Option, None, Some, length, take, drop, map, slice_index_or, refl, sym, ap, subst, arith, inl, inr, length-append}
 use Rattle.std.specs.Prelude.{All, AllPairs, Contains, IsNone, IfSome, sum, sum_by}
 use Rattle.std.proofs.Math.Seq.{get_or-append_seam}
-use Rattle.std.proofs.lemmas.List.{length-take, length-drop, length-map, map-append, take_more, take_all, get_or-map, get_or_default, get_or_append_left}
+use Rattle.std.proofs.lemmas.List.{length-map, map-append, take_more, take_all, get_or-map, get_or_default, get_or_append_left}
 use Rattle.std.proofs.lemmas.Simd.{map-map}
 use Rattle.std.proofs.lemmas.List.Elements.{All-contains, All-map, All-cons, All-tail, All-push, All-weaker}
 use Rattle.std.proofs.lemmas.List.Kept.{AllPairs-cons}
@@ -31,6 +31,7 @@ use Rattle.switch_run.specs.Traffic.{AreInOrder, IsPacketOf}
 use Rattle.switch_run.specs.Queues.{packets_of, queue_of, AreComeBefore, IsCard, IsLoaded, card_work}
 use Rattle.switch_run.specs.Cards.{traffic_of, AreCards, total_work, EndsBefore}
 use Rattle.switch_run.specs.Jobs.{CaptureFile, file_of, AreOfLink, GoesTo, IsBuilt, IsTraffic, AreTraffic, packet_cells, stamp_of, line_slots}
+use Rattle.switch_run.proofs.Captured.{length-captured_in}
 
 -- the route of an address is one of the table's
 pub routed : (n : ℕ) (table : List RouteLine) (route : Route) → AreRoutesOf n table → Contains (map (λ (line : RouteLine). line.route) table) route → IsRouteOf n route
@@ -46,10 +47,6 @@ goes_by n table link frame route (Some j) is there none some = (route, there, so
 pub goes_within : (n j : ℕ) (route : Route) (port : Option ℕ) → IsRouteOf n route → IfSome port (Has route.fan) → port ≡ Some j → j < n
 goes_within n j route None is some e = absurd (cc)
 goes_within n j route (Some i) is some e = Has-lt n route.fan j is.fan.among (subst (Has route.fan) (same_Some i j e) some)
-
--- a packet has as many captured bytes as the capture says
-pub length-captured_in : (file : List ℕ) (s : Stored) → IsWithin file s → length (captured_in file s) ≡ s.len
-length-captured_in file s within = length-take s.len (drop s.start file) ∙ omega (arith, within, length-drop s.start file)
 
 -- one packet more
 map-take_more : {X Y : Type 0} (f : X → Y) (xs : List X) (k : ℕ) (d : X) → k < length xs → map f (take (k + 1) xs) ≡ map f (take k xs) ++ f (slice_index_or xs k d) ∷ []

@@ -2,7 +2,7 @@
 use Rattle.std.proofs.Common.{◌≡◌, ℕ, ◌+◌, ◌-◌, ◌<◌, ◌≤◌, ◌∙◌, Bool, List, [], ◌∷◌, ◌++◌, length, take, drop, map, slice_index_or, refl, sym, ap, subst, arith, append_assoc, length-append}
 use Rattle.std.specs.Prelude.{◌||◌, All, replicate}
 use Rattle.std.specs.List.{flat_map, list_any}
-use Rattle.std.proofs.lemmas.List.{append-nil, length-take, length-drop, length-map, length-replicate, get_or-map, get_or_default, take_all, take_at, drop_all, map_more}
+use Rattle.std.proofs.lemmas.List.{append-nil, length-map, length-replicate, get_or-map, get_or_default, take_all, take_at, drop_all, map_more}
 use Rattle.std.proofs.lemmas.List.Concat.{flat_map-append}
 use Rattle.std.specs.Int.{w32, to_be_bytes}
 use Rattle.pcap_records.specs.declared.capture.Capture.{Capture}
@@ -15,21 +15,18 @@ use Rattle.pcap_records.specs.Output.{message_of, record_text, header_text, capt
 use Rattle.pcap_records.proofs.Numbers.{length-number_bytes}
 use Rattle.switch_run.specs.declared.slots.Delivered.{Delivered}
 use Rattle.switch_run.specs.Jobs.{CaptureFile, file_of, IsBuilt, IsPacketIn, is_nano, no_packet, message_in}
+use Rattle.switch_run.proofs.Captured.{length-captured_in}
 
 -- std and byteorder spell a number in the same way
 spelled : (x : ℕ) → to_be_bytes w32 x ≡ number_bytes Big 4 x
 unfolding number_bytes
 spelled x = refl
 
--- as many bytes are captured as the packet says
-captured_long : (file : List ℕ) (s : Stored) → IsWithin file s → length (captured_in file s) ≡ s.len
-captured_long file s within = omega (arith, within, length-take s.len (drop s.start file), length-drop s.start file)
-
 -- the message of a packet, put together of its parts one after the other
 pub message_is_put : (file : List ℕ) (s : Stored) → IsWithin file s → (m0 m1 m2 m3 m4 m5 : List ℕ) → m0 ≡ [] → m1 ≡ m0 ++ to_be_bytes w32 s.seconds → m2 ≡ m1 ++ to_be_bytes w32 s.nanos → m3 ≡ m2 ++ to_be_bytes w32 s.len → m4 ≡ m3 ++ to_be_bytes w32 s.original → m5 ≡ m4 ++ captured_in file s
     → m5 ≡ message_of (packet_in file s)
 message_is_put file s within m0 m1 m2 m3 m4 m5 e0 e1 e2 e3 e4 e5 =
-    let len = captured_long file s within in
+    let len = length-captured_in file s within in
     let n0 = spelled s.seconds in
     let n1 = spelled s.nanos in
     let n2 : to_be_bytes w32 s.len ≡ number_bytes Big 4 (length (captured_in file s)) = spelled s.len ∙ ap (number_bytes Big 4) (sym len) in

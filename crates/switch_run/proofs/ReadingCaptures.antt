@@ -1,8 +1,8 @@
 -- What is known of the captures so far: that they are read, of one link type, and built.
-use Rattle.std.proofs.Common.{◌≡◌, ◌≢◌, ℕ, ◌+◌, ◌<◌, ◌≤◌, ◌∙◌, List, [], ◌∷◌, ◌++◌, length, take, drop, map, slice_index_or, sym, ap, subst, arith, inl, inr, length-append}
+use Rattle.std.proofs.Common.{◌≡◌, ◌≢◌, ℕ, ◌+◌, ◌<◌, ◌≤◌, ◌∙◌, List, [], ◌∷◌, ◌++◌, length, take, map, slice_index_or, sym, ap, subst, arith, inl, inr, length-append}
 use Rattle.std.specs.Prelude.{All, true, sum_by, Vec}
 use Rattle.std.proofs.lemmas.Bool.{cases_lt}
-use Rattle.std.proofs.lemmas.List.{length-map, length-drop, length-take-le, map-append, get_or-map, get_or_append_left}
+use Rattle.std.proofs.lemmas.List.{length-map, map-append, get_or-map, get_or_append_left}
 use Rattle.std.proofs.Math.Seq.{get_or-append_seam}
 use Rattle.std.proofs.lemmas.List.Elements.{All-map}
 use Rattle.std.proofs.lemmas.List.Sums.{sum_by_more, sum_by_more_le}
@@ -12,9 +12,10 @@ use Rattle.pcap_records.specs.declared.capture.Stored.{Stored}
 use Rattle.pcap_records.specs.declared.fault.PcapFault.{PcapFault}
 use Rattle.pcap_records.specs.declared.link.Link.{Link}
 use Rattle.pcap_records.specs.Faults.{IsFault}
-use Rattle.pcap_records.specs.Packets.{Packet, packets_of, packet_in, captured_in, IsWithin}
+use Rattle.pcap_records.specs.Packets.{Packet, packets_of, packet_in}
 use Rattle.switch_run.specs.Jobs.{CaptureFile, file_of, IsFile, LiesWithin, AreFiles, AreOfLink, IsBuilt, packet_cells, no_packet}
 use Rattle.switch_run.specs.Outcome.{IsFirstFault, HaveLinks, IsFirstNotBuilt}
+use Rattle.switch_run.proofs.Captured.{length-captured_in}
 
 -- one more file is read
 AreFiles-more : (files : List (List ℕ)) (captures : List CaptureFile) (bytes : List ℕ) (capture : CaptureFile) → AreFiles files captures → IsFile bytes capture → AreFiles (files ++ bytes ∷ []) (captures ++ capture ∷ [])
@@ -97,15 +98,11 @@ pub record BuiltTo (packets : List Packet) (k cells : ℕ) : Type 0 where
   pub short : (i : ℕ) (d : Packet) → i < k → length (slice_index_or packets i d).bytes ≤ 65535
   pub few : cells ≤ 1024
 
--- the captured bytes of a packet are as many as its record says
-captured-length : (file : List ℕ) (s : Stored) → IsWithin file s → length (captured_in file s) ≡ s.len
-captured-length file s within = length-take-le s.len (drop s.start file) (omega (arith, length-drop s.start file, within))
-
--- the same of a packet of a capture
+-- the captured bytes of a packet of a capture are as many as its record says
 packet-length : (c : Capture) → LiesWithin c → (k : ℕ) (s : Stored) (d : Packet) → k < length c.packets.items → length (slice_index_or (packets_of c) k d).bytes ≡ (slice_index_or c.packets.items k s).len
 packet-length c lies k s d k_in =
     ap (λ (p : Packet). length p.bytes) (get_or-map (packet_in c.bytes.items) c.packets.items k s d k_in)
-    ∙ captured-length c.bytes.items (slice_index_or c.packets.items k s) (lies k s k_in)
+    ∙ length-captured_in c.bytes.items (slice_index_or c.packets.items k s) (lies k s k_in)
 
 -- the same, from the list of a capture's packets
 module _ (c : Capture) (items : List Stored) (is : items ≡ c.packets.items) (k : ℕ) (k_in : k < length items) where
