@@ -5,10 +5,10 @@ use Rattle.std.proofs.lemmas.Bool.{cases_lt}
 use Rattle.std.proofs.lemmas.List.{get_or-map, get_or-take, length-take-le}
 use Rattle.std.proofs.lemmas.List.Elements.{All-get_or}
 use Rattle.outside.specs.Contents.{Contents}
-use Rattle.switch_run.specs.Causes.{Answers, IsComplete, IsRead, IsRefusedAlone, IsWant, RefusalIsExact, TooLongIsExact, UsageIsExact}
+use Rattle.switch_run.specs.Causes.{Answers, IsComplete, IsRead, RefusalIsExact, TooLongIsExact, UsageIsExact}
 use Rattle.switch_run.specs.Endings.{IsMade, IsStopped, Run, Stops}
 use Rattle.switch_run.specs.Inputs.{AreRead, CapturesRead, EarlierFit, Fits, IsTooLong, most_bytes}
-use Rattle.switch_run.specs.Outcome.{IsOutcome}
+use Rattle.switch_run.specs.Outcome.{IsNotMemory, IsOutcome, IsWant}
 use Rattle.switch_run.specs.OutputFiles.{AtBegin, AtWrite}
 use Rattle.switch_run.specs.Words.{IsInput, RunNames, input_name}
 use Rattle.switch_run.specs.declared.ending.Ending.{Ending}
@@ -16,6 +16,7 @@ use Rattle.switch_run.specs.declared.ending.Ending.TheVariants.{Done, Usage, Rea
 use Rattle.switch_run.specs.declared.job.Refusal.{Refusal}
 use Rattle.switch_run.specs.declared.words.InputFile.{InputFile}
 use Rattle.switch_run.specs.declared.words.InputFile.TheVariants.{Table, Capture}
+use Rattle.switch_run.proofs.OneOutcome.{outcome_once}
 
 -- Files that are there, and not too long
 
@@ -123,36 +124,36 @@ too_long_exact r status (WriteFault port) a names c input read known earlier lon
     absurd (long_was_read names c stops.made.table stops.made.captures input stops.made.read known long)
 
 -- an answer on the bytes that the files hold is the refusal, or want of memory
-answer_alone : (names : RunNames) (c : Contents) (t u : List ℕ) (xs ys : List (List ℕ)) (refusal : Refusal) (answer : _) → AreRead names (Some c) t xs → AreRead names (Some c) u ys
-    → IsRefusedAlone t xs refusal → IsOutcome u ys answer → (answer ≡ Err refusal) ⊎ IsWant answer
-answer_alone names c t u xs ys refusal answer a b alone outcome =
+answer_is : (names : RunNames) (c : Contents) (t u : List ℕ) (xs ys : List (List ℕ)) (refusal : Refusal) (answer : _) → AreRead names (Some c) t xs → AreRead names (Some c) u ys
+    → IsNotMemory refusal → IsOutcome t xs (Err refusal) → IsOutcome u ys answer → (answer ≡ Err refusal) ⊎ IsWant answer
+answer_is names c t u xs ys refusal answer a b other refused outcome =
     let same = same_read names c u t ys xs b a in
-    alone answer (subst (λ (bytes : List ℕ). IsOutcome bytes xs answer) same.0 (subst (λ (files : List (List ℕ)). IsOutcome u files answer) same.1 outcome))
+    outcome_once t xs refusal other refused answer (subst (λ (bytes : List ℕ). IsOutcome bytes xs answer) same.0 (subst (λ (files : List (List ℕ)). IsOutcome u files answer) same.1 outcome))
 
 not_made : (names : RunNames) (c : Contents) (t u : List ℕ) (xs ys : List (List ℕ)) (refusal : Refusal) (outputs : List (List ℕ)) → AreRead names (Some c) t xs → AreRead names (Some c) u ys
-    → IsRefusedAlone t xs refusal → IsOutcome u ys (Ok outputs) → ⊥
-not_made names c t u xs ys refusal outputs a b alone outcome =
-    elim (answer_alone names c t u xs ys refusal (Ok outputs) a b alone outcome) [ inl same ↦ absurd (cc) | inr want ↦ want ]
+    → IsNotMemory refusal → IsOutcome t xs (Err refusal) → IsOutcome u ys (Ok outputs) → ⊥
+not_made names c t u xs ys refusal outputs a b other refused outcome =
+    elim (answer_is names c t u xs ys refusal (Ok outputs) a b other refused outcome) [ inl same ↦ absurd (cc) | inr want ↦ want ]
 
 pub refusal_exact : (r : Run) (status : ℕ) (ending : Ending) → Answers r status ending → RefusalIsExact r status
-refusal_exact r status Done a names c table captures refusal read bytes other alone =
+refusal_exact r status Done a names c table captures refusal read bytes other refused =
     let m = made_read r names a.1.0 c a.1.2.outputs read a.1.1 a.1.2.made in
-    absurd (not_made names c table m.0 captures m.1 refusal a.1.2.outputs bytes m.2 alone m.3)
-refusal_exact r status Usage a names c table captures refusal read bytes other alone = absurd (none_named r names read.words a.1.0)
-refusal_exact r status (ReadFault input) a names c table captures refusal read bytes other alone = absurd (no_read_fault r names c input read a.1)
-refusal_exact r status (TooLong input) a names c table captures refusal read bytes other alone =
+    absurd (not_made names c table m.0 captures m.1 refusal a.1.2.outputs bytes m.2 other refused m.3)
+refusal_exact r status Usage a names c table captures refusal read bytes other refused = absurd (none_named r names read.words a.1.0)
+refusal_exact r status (ReadFault input) a names c table captures refusal read bytes other refused = absurd (no_read_fault r names c input read a.1)
+refusal_exact r status (TooLong input) a names c table captures refusal read bytes other refused =
     let stops = stops_here r names c (TooLong input) read a.1 in
     absurd (long_was_read names c table captures input bytes stops.0.known stops.0.longer)
-refusal_exact r status (Refused found) a names c table captures refusal read bytes other alone =
+refusal_exact r status (Refused found) a names c table captures refusal read bytes other refused =
     let stops = stops_here r names c (Refused found) read a.1 in
-    elim (answer_alone names c table stops.0.table captures stops.0.captures refusal (Err found) bytes stops.0.read alone stops.0.outcome) [
+    elim (answer_is names c table stops.0.table captures stops.0.captures refusal (Err found) bytes stops.0.read other refused stops.0.outcome) [
       | inl same ↦ let e : found ≡ refusal = cc in inl (subst (λ (f : Refusal). Answers r status (Refused f)) e a)
       | inr want ↦ absurd (want stops.0.other)
     ]
-refusal_exact r status OutOfMemory a names c table captures refusal read bytes other alone = inr a
-refusal_exact r status (WriteFault port) a names c table captures refusal read bytes other alone =
+refusal_exact r status OutOfMemory a names c table captures refusal read bytes other refused = inr a
+refusal_exact r status (WriteFault port) a names c table captures refusal read bytes other refused =
     let stops = stops_here r names c (WriteFault port) read a.1 in
-    absurd (not_made names c table stops.made.table captures stops.made.captures refusal stops.outputs bytes stops.made.read alone stops.made.outcome)
+    absurd (not_made names c table stops.made.table captures stops.made.captures refusal stops.outputs bytes stops.made.read other refused stops.made.outcome)
 
 pub complete : (r : Run) (status : ℕ) (ending : Ending) → Answers r status ending → IsComplete r status
 complete r status Done a names c read written fit taken = inl a.0

@@ -11,6 +11,8 @@ pub mod Captured
 pub mod Messages
 pub mod Switching
 pub mod ReadingCaptures
+pub mod OneRun
+pub mod OneOutcome
 pub mod Answering
 pub mod Fronts
 pub mod Holding

@@ -62,7 +62,7 @@ fed_cases i (Some x) = elim (cases_eq x i) [
 ]
 
 -- one more match: one more cell left where it feeds
-left-append : (past : List (List (Option ℕ))) (matched : List (Option ℕ)) (i j : ℕ) → left (past ++ matched ∷ []) i j ≡ left past i j + cond (feeds_to matched i j) 1 0
+pub left-append : (past : List (List (Option ℕ))) (matched : List (Option ℕ)) (i j : ℕ) → left (past ++ matched ∷ []) i j ≡ left past i j + cond (feeds_to matched i j) 1 0
 left-append past matched i j = sum_by-append (λ (m : List (Option ℕ)). cond (feeds_to m i j) 1 0) past (matched ∷ []) ∙ ap (λ m. left past i j + m) (sum_by-cons (λ (m : List (Option ℕ)). cond (feeds_to m i j) 1 0) matched [] ∙ omega arith)
 
 -- a line card after a match

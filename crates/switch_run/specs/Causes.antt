@@ -1,5 +1,5 @@
 -- When each answer comes, and that one comes where nothing stands against it.
-use Rattle.std.specs.Prelude.{◌≡◌, ◌<◌, ◌⊎◌, ◌↔◌, ℕ, List, length, Some, None, Result, Ok, Err}
+use Rattle.std.specs.Prelude.{◌≡◌, ◌<◌, ◌⊎◌, ◌↔◌, ℕ, List, length, Some, None, Err}
 use Rattle.outside.specs.Contents.{Contents}
 use Rattle.outside.specs.Faults.{ReadOf, BeginOf, WriteOf, Rose}
 use Rattle.switch_run.specs.Endings.{Means, Run, status_of}
@@ -36,19 +36,10 @@ abbrev pub TooLongIsExact : Run → ℕ → Type 0
 TooLongIsExact r status = (names : RunNames) (c : Contents) (input : InputFile) → IsRead r names c → IsInput names input → EarlierFit names input c → IsTooLong c (input_name names input)
     → Answers r status (TooLong input) ⊎ Answers r status OutOfMemory
 
--- the answer is want of memory
-abbrev pub IsWant : Result (List (List ℕ)) Refusal → Type 0
-IsWant (Ok outputs) = ⊥
-IsWant (Err refusal) = IsNotMemory refusal → ⊥
-
--- want of memory aside, the job has no answer on these bytes but this refusal
-abbrev pub IsRefusedAlone : List ℕ → List (List ℕ) → Refusal → Type 0
-IsRefusedAlone table captures refusal = (answer : Result (List (List ℕ)) Refusal) → IsOutcome table captures answer → (answer ≡ Err refusal) ⊎ IsWant answer
-
 -- where the job refuses the bytes that the files hold, the answer says so, or memory ran out
 abbrev pub RefusalIsExact : Run → ℕ → Type 0
 RefusalIsExact r status = (names : RunNames) (c : Contents) (table : List ℕ) (captures : List (List ℕ)) (refusal : Refusal) → IsRead r names c → AreRead names (Some c) table captures
-    → IsNotMemory refusal → IsRefusedAlone table captures refusal → Answers r status (Refused refusal) ⊎ Answers r status OutOfMemory
+    → IsNotMemory refusal → IsOutcome table captures (Err refusal) → Answers r status (Refused refusal) ⊎ Answers r status OutOfMemory
 
 -- where no call was refused, no file is too long and the job refuses nothing, all outputs are written, or memory ran out
 abbrev pub IsComplete : Run → ℕ → Type 0

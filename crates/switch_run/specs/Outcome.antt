@@ -100,3 +100,8 @@ IsNotMemory (Capture port fault) = Unit {0}
 IsNotMemory (Links first other) = Unit {0}
 IsNotMemory NotBuiltTable = Unit {0}
 IsNotMemory (NotBuiltCapture port) = Unit {0}
+
+-- the answer is want of memory
+abbrev pub IsWant : Result (List (List ℕ)) Refusal → Type 0
+IsWant (Ok outputs) = ⊥
+IsWant (Err refusal) = IsNotMemory refusal → ⊥

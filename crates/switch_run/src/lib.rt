@@ -9,6 +9,7 @@ mod ending;
 mod error_lines;
 mod inputs;
 mod job;
+pub mod laws;
 mod line_card;
 mod output_files;
 mod slots;
