@@ -15,7 +15,7 @@ use forward_table::Table;
 use frame_fields::destination;
 use line_pace::{MAX_ARRIVAL_SLOTS, Pace, Stamp, arrivals};
 use pcap_records::{Capture, Link, Stored};
-use rotating_pick::{OutOfMemory, lowest};
+use rotating_pick::{MAX_PORTS, OutOfMemory, lowest};
 use std::alloc::Global;
 use std::collections::VecDeque;
 
@@ -83,7 +83,7 @@ fn arriving(alloc: Global, table: &Table, capture: &Capture) -> Result<Vec<Arriv
 
 // So many empty queues.
 fn no_cells(alloc: Global, n: u32) -> Result<Vec<VecDeque<CellName>>, OutOfMemory>
-    requires { n ≤ 64 }
+    requires { n ≤ MAX_PORTS }
     ensures count { IfOk result (λ queues. length queues.items ≡ n) }
     ensures empty { IfOk result (λ queues. All (λ queue. queue.items ≡ []) queues.items) }
 {
@@ -100,7 +100,7 @@ pub(crate) fn load(
     table: &Table,
     captures: &[Capture],
 ) -> Result<Vec<LineCard>, OutOfMemory>
-    requires few { length captures.now ≤ 64 }
+    requires few { length captures.now ≤ MAX_PORTS }
     requires routes { AreRoutesOf (length captures.now) table.now }
     requires within { All LiesWithin captures.now }
     requires built { All (λ file. IsBuilt file.packets) (map file_of captures.now) }

@@ -9,6 +9,7 @@ ghost use Rattle.switch_run.specs.Outcome.{bytes_of, IsFirstFault, HaveLinks, Is
 use crate::job::Refusal;
 use cell_cutter::{MAX_FORWARDED, cells_of};
 use pcap_records::{Capture, Link, MAX_FILE_BYTES, PcapFault, read_capture};
+use rotating_pick::MAX_PORTS;
 use std::alloc::Global;
 
 /// The most cells of a capture that is built.
@@ -30,7 +31,7 @@ fn read_port(alloc: Global, port: u32, file: Vec<u8>) -> Result<Capture, Refusal
 
 /// Reads the captures of all ports, up to the first file that is none.
 pub(crate) fn read_captures(alloc: Global, files: Vec<Vec<u8>>) -> Result<Vec<Capture>, Refusal>
-    requires few { vec_len files ≤ 64 }
+    requires few { vec_len files ≤ MAX_PORTS }
     requires sizes { All (λ file. vec_len file ≤ MAX_FILE_BYTES) files.items }
     ensures read { IfOk result (λ captures. AreFiles (bytes_of files) (map file_of captures.items)) }
     ensures within { IfOk result (λ captures. All LiesWithin captures.items) }
@@ -80,7 +81,7 @@ fn is_built(capture: &Capture) -> bool
 
 /// Refuses the first capture that is not built.
 pub(crate) fn check_built(captures: &[Capture]) -> Result<(), Refusal>
-    requires few { length captures.now ≤ 64 }
+    requires few { length captures.now ≤ MAX_PORTS }
     requires within { All LiesWithin captures.now }
     ensures built { IfOk result (λ _. All (λ file. IsBuilt file.packets) (map file_of captures.now)) }
     ensures refused { IfErr result (λ refusal. (port : ℕ) × (refusal ≡ Refusal.NotBuiltCapture port) × IsFirstNotBuilt (map file_of captures.now) port) }

@@ -15,13 +15,14 @@ use crate::job::{Refusal, run_job};
 use crate::output_files::{OutputFile, named, put_all};
 use crate::words::RunWords;
 use outside::Files;
+use rotating_pick::MAX_PORTS;
 use std::alloc::Global;
 
 // The files of the outputs that the job makes of the inputs. The files and their names take all the
 // memory that is needed.
 fn make_outputs(alloc: Global, words: &RunWords, inputs: Inputs) -> Result<Vec<OutputFile>, Ending>
     requires some { 0 < vec_len inputs.captures }
-    requires most { vec_len inputs.captures ≤ 64 }
+    requires most { vec_len inputs.captures ≤ MAX_PORTS }
     requires table { length inputs.table.items ≤ most_bytes }
     requires captures { All (λ bytes. length bytes ≤ most_bytes) (bytes_of inputs.captures) }
     ensures made { IfOk result (λ v. AreMade inputs.table.items (bytes_of inputs.captures) words.now.prefix.now (map shown v.items)) }
@@ -42,7 +43,7 @@ fn make_outputs(alloc: Global, words: &RunWords, inputs: Inputs) -> Result<Vec<O
 // Reads, runs the job and writes the outputs, up to the first that fails.
 fn attempt<F: Files>(alloc: Global, words: &RunWords, files: &mut F) -> Result<(), Ending>
     requires some { 0 < length words.now.inputs.now }
-    requires most { length words.now.inputs.now ≤ 64 }
+    requires most { length words.now.inputs.now ≤ MAX_PORTS }
     ensures done { OnOk result (IsDone (names_of words.now) (F.told files.old) (F.told files.new)) }
     ensures stops { IfErr result (Stops (names_of words.now) (F.told files.old) (F.faults files.old) (F.faults files.new) (F.told files.new)) }
     ensures never_fall { NeverFall (F.faults files.old) (F.faults files.new) }
@@ -64,7 +65,7 @@ fn attempt<F: Files>(alloc: Global, words: &RunWords, files: &mut F) -> Result<(
 // The run that the words name, and the line of its ending.
 fn run<F: Files>(alloc: Global, words: &RunWords, files: &mut F) -> Ending
     requires some { 0 < length words.now.inputs.now }
-    requires most { length words.now.inputs.now ≤ 64 }
+    requires most { length words.now.inputs.now ≤ MAX_PORTS }
     ensures meaning { Means (record { names = Some (names_of words.now); old = F.told files.old; new = F.told files.new; was = F.faults files.old; now = F.faults files.new }) result }
     ensures never_fall { NeverFall (F.faults files.old) (F.faults files.new) }
 {

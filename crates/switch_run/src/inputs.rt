@@ -9,6 +9,7 @@ use crate::ending::Ending;
 use crate::whole_file::{ReadRefusal, read_whole};
 use crate::words::{InputFile, RunWords};
 use outside::Files;
+use rotating_pick::MAX_PORTS;
 use std::alloc::{AllocError, Global};
 
 /// The most bytes that are asked for at once.
@@ -61,7 +62,7 @@ fn read_captures<F: Files>(
     buf: &mut [u8],
 ) -> Result<Vec<Vec<u8>>, Ending>
     requires room { 0 < length buf.old }
-    requires ports { length words.now.inputs.now ≤ 64 }
+    requires ports { length words.now.inputs.now ≤ MAX_PORTS }
     requires table { IfSome (F.told files.old) (λ c. Fits c (names_of words.now).table) }
     ensures told { F.told files.new ≡ F.told files.old }
     ensures never_fall { NeverFall (F.faults files.old) (F.faults files.new) }
@@ -87,7 +88,7 @@ pub(crate) fn read_inputs<F: Files>(
     words: &RunWords,
     files: &mut F,
 ) -> Result<Inputs, Ending>
-    requires { length words.now.inputs.now ≤ 64 }
+    requires { length words.now.inputs.now ≤ MAX_PORTS }
     ensures told { F.told files.new ≡ F.told files.old }
     ensures never_fall { NeverFall (F.faults files.old) (F.faults files.new) }
     ensures read { IfOk result (λ i. AreRead (names_of words.now) (F.told files.old) i.table.items (bytes_of i.captures)) }

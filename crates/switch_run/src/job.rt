@@ -10,10 +10,10 @@ use crate::arrivals::load;
 use crate::captures::{check_built, common_link, read_captures};
 use crate::slots::{Delivered, run_slots};
 use crate::texts::output_texts;
-use forward_table::{Table, TableFault, read_table};
+use forward_table::{MAX_TEXT, Table, TableFault, read_table};
 use line_pace::MAX_ARRIVAL_SLOTS;
-use pcap_records::{Capture, Link, PcapFault};
-use rotating_pick::OutOfMemory;
+use pcap_records::{Capture, Link, MAX_FILE_BYTES, PcapFault};
+use rotating_pick::{MAX_PORTS, OutOfMemory};
 use std::alloc::{AllocError, AllocFailed, Global};
 
 /// Why a job is not run.
@@ -66,8 +66,8 @@ impl<T: Drop> From<AllocFailed<T>> for Refusal {
 // Reads the table for a switch of `n` ports.
 fn read_lines(alloc: Global, text: &[u8], n: u32) -> Result<Table, Refusal>
     requires some { 0 < n }
-    requires size { n ≤ 64 }
-    requires length { length text.now ≤ 16777216 }
+    requires size { n ≤ MAX_PORTS }
+    requires length { length text.now ≤ MAX_TEXT }
     ensures read { IfOk result (λ table. reading_of n text.now ≡ Ok table) }
     ensures routes { IfOk result (AreRoutesOf n) }
     ensures refused { IfErr result (λ refusal. (refusal ≡ Refusal.OutOfMemory) ⊎ ((fault : TableFault) × (refusal ≡ Refusal.Table fault) × (reading_of n text.now ≡ Err fault))) }
@@ -87,7 +87,7 @@ fn switch(
     captures: &[Capture],
 ) -> Result<Vec<Vec<u8>>, OutOfMemory>
     requires some { 0 < length captures.now }
-    requires few { length captures.now ≤ 64 }
+    requires few { length captures.now ≤ MAX_PORTS }
     requires routes { AreRoutesOf (length captures.now) table.now }
     requires within { All LiesWithin captures.now }
     requires links { AreOfLink link (map file_of captures.now) }
@@ -110,7 +110,7 @@ fn switch(
 
 // So many outputs that no packet left.
 fn no_packets(alloc: Global, n: u32) -> Result<Vec<Vec<Delivered>>, OutOfMemory>
-    requires { n ≤ 64 }
+    requires { n ≤ MAX_PORTS }
     ensures count { IfOk result (λ outputs. length outputs.items ≡ n) }
     ensures empty { IfOk result (λ outputs. (j : ℕ) → noted outputs.items j ≡ []) }
 {
@@ -129,9 +129,9 @@ pub(crate) fn run_job(
     files: Vec<Vec<u8>>,
 ) -> Result<Vec<Vec<u8>>, Refusal>
     requires some { 0 < vec_len files }
-    requires most { vec_len files ≤ 64 }
-    requires table { length text.now ≤ 16777216 }
-    requires files { All (λ bytes. length bytes ≤ 16777216) (bytes_of files) }
+    requires most { vec_len files ≤ MAX_PORTS }
+    requires table { length text.now ≤ MAX_TEXT }
+    requires files { All (λ bytes. length bytes ≤ MAX_FILE_BYTES) (bytes_of files) }
     ensures outcome { IsOutcome text.now (bytes_of files) (bytes_in result) }
     ensures count { IfOk result (λ outputs. vec_len outputs ≡ vec_len files) }
 {

@@ -5,6 +5,7 @@ ghost use Rattle.switch_run.specs.Outcome.{bytes_of};
 ghost use Rattle.switch_run.specs.OutputFiles.{Appends, Puts, StopsAt, nameless, output_files, put_files, shown};
 
 use outside::{Failed, Files};
+use rotating_pick::MAX_PORTS;
 use std::alloc::{AllocError, Global};
 
 /// A file that a run writes.
@@ -61,7 +62,7 @@ fn put_file<F: Files>(files: &mut F, file: &OutputFile) -> Result<(), Failed>
 
 /// Begins and writes each file, in order; else the number of the first of which a call was refused.
 pub(crate) fn put_all<F: Files>(files: &mut F, output_files: &[OutputFile]) -> Result<(), u32>
-    requires { length output_files.now ≤ 64 }
+    requires { length output_files.now ≤ MAX_PORTS }
     ensures ok { OnOk result (F.told files.new ≡ option_map (put_files (map shown output_files.now)) (F.told files.old)) }
     ensures port { IfErr result (λ port. port < length output_files.now) }
     ensures err { IfErr result (λ port. StopsAt (slice_index_or (map shown output_files.now) port nameless) (F.faults files.old) (F.faults files.new) (option_map (put_files (take port (map shown output_files.now))) (F.told files.old)) (F.told files.new)) }

@@ -60,7 +60,7 @@ impl<'a> RunWords<'a> {
     pub(crate) fn read(words: &'a [String]) -> Option<RunWords<'a>>
         ensures names { option_map names_of result ≡ read_words (map string_bytes words.now) }
         ensures some { IfSome result (λ w. 0 < length w.inputs.now) }
-        ensures most { IfSome result (λ w. length w.inputs.now ≤ 64) }
+        ensures most { IfSome result (λ w. length w.inputs.now ≤ MAX_PORTS) }
     {
         if !are_run(words) {
             return None;
