@@ -21,13 +21,15 @@ const NO_RAW_PACKET: &[u8; 24] =
 const RECORD: &[u8; 50] =
     b"\x01\x00\x00\x00\x02\x00\x00\x00\x3c\x00\x00\x00\x3c\x00\x00\x00\x02\x00\x00\x00\x00\x01\x02\x00\x00\x00\x00\x02\x08\x00\x45\x00\x00\x2e\x00\x00\x00\x00\x40\xfd\x00\x00\x0a\x00\x00\x01\x0a\x00\x01\x01";
 
-// A list of words, the call that is to fail, and the status, the line and the outputs that come of it.
+// A list of words and the call that is to fail; the status and the line that come of it, and what the
+// files of the two outputs hold then, where they are there.
 #[derive(Clone, Copy)]
 struct Row<'a> {
     words: &'a [&'a str],
     fails: &'a [Fail],
     status: u8,
     line: &'a str,
+    outputs: (Option<&'a [u8]>, Option<&'a [u8]>),
 }
 
 fn one_packet(alloc: Global) -> Result<Vec<u8>, AllocError> {
@@ -91,54 +93,63 @@ fn answers_by_status_and_line(rt: HostRuntime) -> Result<(), test::Fail> {
             fails: &[],
             status: 2,
             line: USAGE,
+            outputs: (None, None),
         },
         Row {
             words: &["run", "t", "out", "-"],
             fails: &[],
             status: 2,
             line: USAGE,
+            outputs: (None, None),
         },
         Row {
             words: &["run", "t", "out", "c"],
             fails: &[],
             status: 3,
             line: "read fault: c\n",
+            outputs: (None, None),
         },
         Row {
             words: &["run", "missing", "out", "one"],
             fails: &[],
             status: 3,
             line: "read fault: missing\n",
+            outputs: (None, None),
         },
         Row {
             words: &["run", "one", "out", "one"],
             fails: &[],
             status: 4,
             line: "table line 1: bad line\n",
+            outputs: (None, None),
         },
         Row {
             words: &["run", "t", "out", "one", "t"],
             fails: &[],
             status: 4,
             line: "capture 1: bad magic 31302e30\n",
+            outputs: (None, None),
         },
         Row {
             words: &["run", "t", "out", "one", "raw"],
             fails: &[],
             status: 4,
             line: "link types 1 and 101\n",
+            outputs: (None, None),
         },
         Row {
             words: &["run", "multi", "out", "one", "none"],
             fails: &[],
             status: 4,
             line: "not built: multi\n",
+            outputs: (None, None),
         },
         Row {
             words: &["run", "empty", "out", "none", "none"],
             fails: &fourth_write,
             status: 6,
             line: "write fault: out.1.pcap\n",
+            outputs: (Some(NO_PACKET), Some(&NO_PACKET[..12])),
         },
     ];
     for row in rows {
@@ -150,6 +161,10 @@ fn answers_by_status_and_line(rt: HostRuntime) -> Result<(), test::Fail> {
         );
         assert_eq!(rt; files.err_text(), row.line.as_bytes());
         assert!(rt; files.out_text().is_empty());
+        assert_eq!(rt;
+            (files.file("out.0.pcap"), files.file("out.1.pcap")),
+            row.outputs
+        );
     }
     Ok(())
 }
