@@ -1,0 +1,39 @@
+-- Distances from a pointer: one that moves past a nearer port comes nearer.
+use Rattle.std.proofs.Common.{◌≡◌, ℕ, ◌+◌, ◌-◌, ◌%◌, ◌<◌, ◌≤◌, ◌⊎◌, ◌∙◌, inl, inr, arith}
+use Rattle.std.proofs.Math.Nat.{mod-eq_of_lt}
+use Rattle.std.proofs.lemmas.Bool.{cases_lt}
+use Rattle.rotating_pick.specs.Rotation.{distance}
+use Rattle.rotating_pick.proofs.Circle.{mod_once}
+
+-- a distance by subtraction: of a port that is not below the pointer, and of one below it
+record IsDistance (n from x d : ℕ) : Type 0 where
+  above : from ≤ x → d + from ≡ x
+  below : x < from → d + from ≡ x + n
+
+distance-above : (n from x : ℕ) → from < n → x < n → from ≤ x → distance n from x + from ≡ x
+distance-above n from x f x_in above = let e : (x + (n - from)) % n ≡ x - from = mod_once n (x + (n - from)) (omega arith) (omega arith) ∙ omega arith in rw e (omega arith)
+
+distance-below : (n from x : ℕ) → from < n → x < n → x < from → distance n from x + from ≡ x + n
+distance-below n from x f x_in below = let short : x + (n - from) < n = omega arith in let e : (x + (n - from)) % n ≡ x + (n - from) = mod-eq_of_lt short in rw e (omega arith)
+
+IsDistance-distance : (n from x : ℕ) → from < n → x < n → IsDistance n from x (distance n from x)
+IsDistance-distance n from x f x_in = record { above = distance-above n from x f x_in; below = distance-below n from x f x_in }
+
+-- the port one beyond: the next number, or port 0
+one_beyond : (n x : ℕ) → x < n → ((x + 1 < n) × ((x + 1) % n ≡ x + 1)) ⊎ ((x + 1 ≡ n) × ((x + 1) % n ≡ 0))
+one_beyond n x x_in =
+    elim (cases_lt (x + 1) n) [
+      | inl short ↦ inl (short, mod-eq_of_lt short)
+      | inr long ↦ inr (omega arith, mod_once n (x + 1) long (omega arith) ∙ omega arith)
+    ]
+
+passed_by : (n from x y next a b c : ℕ) → from < n → x < n → y < n → IsDistance n from x a → IsDistance n from y b → IsDistance n next y c → a < b → ((x + 1 < n) × (next ≡ x + 1)) ⊎ ((x + 1 ≡ n) × (next ≡ 0)) → c + a + 1 ≡ b
+passed_by n from x y next a b c f x_in y_in da db dc less step = grind (arith, da.above, da.below, db.above, db.below, dc.above, dc.below)
+
+-- a pointer that moves one beyond port x comes nearer to a port y farther than x, by all the steps that it moves
+pub distance-passed : (n from x y : ℕ) → from < n → x < n → y < n → distance n from x < distance n from y → distance n ((x + 1) % n) y + distance n from x + 1 ≡ distance n from y
+distance-passed n from x y f x_in y_in less =
+    let step = one_beyond n x x_in in
+    let next_in : (x + 1) % n < n = elim step [ inl s ↦ omega (arith, s.0, s.1) | inr s ↦ omega (arith, s.0, s.1) ] in
+    passed_by n from x y ((x + 1) % n) (distance n from x) (distance n from y) (distance n ((x + 1) % n) y) f x_in y_in
+    (IsDistance-distance n from x f x_in) (IsDistance-distance n from y f y_in) (IsDistance-distance n ((x + 1) % n) y next_in y_in) less step

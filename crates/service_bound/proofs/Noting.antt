@@ -1,0 +1,149 @@
+-- What a meter keeps says of the slots that it has noted, and a slot more keeps it so.
+use Rattle.std.proofs.Common.{◌≡◌, ℕ, ◌+◌, ◌-◌, ◌*◌, ◌/◌, ◌%◌, ◌<◌, ◌≤◌, ◌∙◌, ◌++◌, Bool, cond, max, List, [], ◌∷◌, length, map, replicate, slice_index, slice_index_or, slice_set, refl, sym, ap, subst, inl, inr, arith, length-append}
+use Rattle.std.specs.List.{flat_map, range_with_len}
+use Rattle.std.proofs.lemmas.List.{length-replicate, get_or-replicate, get_or_default, get_or-set_same, get_or-set_other}
+use Rattle.std.proofs.lemmas.Bool.{cases_eq}
+use Rattle.rotating_pick.specs.declared.limits.TheConstants.{LEVELS, MAX_PORTS}
+use Rattle.rotating_pick.proofs.Bits.{no_member-zero}
+use Rattle.service_bound.specs.Waits.{NotedSlot, is_waiting, wait_in, waits_from, greatest, longest_wait}
+use Rattle.service_bound.specs.Meters.{Queues, Meter, queues_at_first, place_of, queues_at, wait_at, longest_of, longest_at, AreBegun, NotesSlot, wait_after, HaveNoted, HasNoted}
+use Rattle.service_bound.proofs.Greatest.{greatest-append, greatest-flat_map, greatest-within, greatest-same, greatest-max}
+use Rattle.service_bound.proofs.Levels.{wait_at-rests, longest_of-none}
+
+-- ---- the waits of one queue
+-- its wait in the last slot, where it was `before` before the first
+wait_from : ℕ → List NotedSlot → ℕ → ℕ → ℕ → ℕ
+wait_from before [] i j level = before
+wait_from before (slot ∷ slots) i j level = wait_from (wait_in slot before i j level) slots i j level
+
+wait_from-last : (before : ℕ) (slot : NotedSlot) (slots : List NotedSlot) (i j level : ℕ) → slice_index (waits_from before (slot ∷ slots) i j level) (length slots) ≡ wait_from before (slot ∷ slots) i j level
+unfolding wait_from
+wait_from-last before slot [] i j level = refl
+wait_from-last before slot (next ∷ slots) i j level = wait_from-last (wait_in slot before i j level) next slots i j level
+
+wait_after-from : (slots : List NotedSlot) (i j level : ℕ) → wait_after slots i j level ≡ wait_from 0 slots i j level
+unfolding wait_from
+wait_after-from [] i j level = refl
+wait_after-from (slot ∷ slots) i j level = let e : length (slot ∷ slots) - 1 ≡ length slots = omega arith in rw e (wait_from-last 0 slot slots i j level)
+
+wait_from-more : (before : ℕ) (slots : List NotedSlot) (slot : NotedSlot) (i j level : ℕ) → wait_from before (slots ++ slot ∷ []) i j level ≡ wait_in slot (wait_from before slots i j level) i j level
+unfolding wait_from
+wait_from-more before [] slot i j level = refl
+wait_from-more before (first ∷ slots) slot i j level = wait_from-more (wait_in first before i j level) slots slot i j level
+
+waits_from-more : (before : ℕ) (slots : List NotedSlot) (slot : NotedSlot) (i j level : ℕ) → waits_from before (slots ++ slot ∷ []) i j level ≡ waits_from before slots i j level ++ wait_in slot (wait_from before slots i j level) i j level ∷ []
+unfolding wait_from
+waits_from-more before [] slot i j level = refl
+waits_from-more before (first ∷ slots) slot i j level = ap (λ waits. wait_in first before i j level ∷ waits) (waits_from-more (wait_in first before i j level) slots slot i j level)
+
+-- the wait after a slot more
+wait_after-more : (slots : List NotedSlot) (slot : NotedSlot) (i j level : ℕ) → wait_after (slots ++ slot ∷ []) i j level ≡ wait_in slot (wait_after slots i j level) i j level
+wait_after-more slots slot i j level =
+    wait_after-from (slots ++ slot ∷ []) i j level ∙ wait_from-more 0 slots slot i j level ∙ ap (λ before. wait_in slot before i j level) (sym (wait_after-from slots i j level))
+
+-- and the longest wait
+greatest-more_waits : (slots : List NotedSlot) (slot : NotedSlot) (i j level : ℕ) → greatest (waits_from 0 (slots ++ slot ∷ []) i j level) ≡ max (greatest (waits_from 0 slots i j level)) (wait_after (slots ++ slot ∷ []) i j level)
+greatest-more_waits slots slot i j level =
+    let now = wait_from-more 0 slots slot i j level in
+    let last = wait_after-from (slots ++ slot ∷ []) i j level in
+    let all = ap greatest (waits_from-more 0 slots slot i j level) ∙ greatest-append (waits_from 0 slots i j level) (wait_in slot (wait_from 0 slots i j level) i j level ∷ []) in
+    omega arith
+
+-- ---- the queues of one input at a level
+-- before any slot
+HaveNoted-first : (n i level : ℕ) → HaveNoted n [] i level (queues_at_first n)
+HaveNoted-first n i level =
+    let ended = longest_of-none (replicate n 0) 0 0 refl in
+    let waits = greatest-flat_map (λ j. waits_from 0 [] i j level) (range_with_len 0 n) in
+    let none = greatest-within (λ j. greatest (waits_from 0 [] i j level)) n 0 (λ j below. omega arith) in
+    record {
+      long = length-replicate {A = ℕ} n 0;
+      begun = λ j has. absurd (no_member-zero j has);
+      waits = λ j below. wait_at-rests (queues_at_first n) 0 j (no_member-zero j);
+      longest = omega arith;
+    }
+
+-- after a slot more
+HaveNoted-more : (n : ℕ) (slots : List NotedSlot) (slot : NotedSlot) (i level : ℕ) (old new : Queues) → HaveNoted n slots i level old → NotesSlot (length slots) (λ j. is_waiting slot i j level) old new → HaveNoted n (slots ++ slot ∷ []) i level new
+HaveNoted-more n slots slot i level old new before notes =
+    let more : length (slots ++ slot ∷ []) ≡ length slots + 1 = length-append slots (slot ∷ []) in
+    let waits : (j : ℕ) → j < n → wait_at new (length slots + 1) j ≡ wait_after (slots ++ slot ∷ []) i j level = λ j below. notes.waits j ∙ ap (λ wait. cond (is_waiting slot i j level) (wait + 1) 0) (before.waits j below) ∙ sym (wait_after-more slots slot i j level) in
+    let long : length new.began ≡ n = notes.long ∙ before.long in
+    let running : longest_of new.began new.waiting (length slots + 1) ≡ greatest (map (λ j. wait_after (slots ++ slot ∷ []) i j level) (range_with_len 0 n)) = ap (λ m. greatest (map (wait_at new (length slots + 1)) (range_with_len 0 m))) long ∙ greatest-same (wait_at new (length slots + 1)) (λ j. wait_after (slots ++ slot ∷ []) i j level) n waits in
+    let old_all = greatest-flat_map (λ j. waits_from 0 slots i j level) (range_with_len 0 n) in
+    let new_all = greatest-flat_map (λ j. waits_from 0 (slots ++ slot ∷ []) i j level) (range_with_len 0 n) in
+    let joined = greatest-max (λ j. greatest (waits_from 0 slots i j level)) (λ j. wait_after (slots ++ slot ∷ []) i j level) (λ j. greatest (waits_from 0 (slots ++ slot ∷ []) i j level)) n (λ j below. greatest-more_waits slots slot i j level) in
+    let longest : longest_at new (length slots + 1) ≡ greatest (flat_map (λ j. waits_from 0 (slots ++ slot ∷ []) i j level) (range_with_len 0 n)) = notes.longest ∙ ap (λ x. max x (longest_of new.began new.waiting (length slots + 1))) (before.longest ∙ old_all) ∙ ap (λ x. max (greatest (map (λ j. greatest (waits_from 0 slots i j level)) (range_with_len 0 n))) x) running ∙ joined ∙ sym new_all in
+    record {
+      long = long;
+      begun = rw more notes.begun;
+      waits = λ j below. subst (λ count. wait_at new count j ≡ wait_after (slots ++ slot ∷ []) i j level) (sym more) (waits j below);
+      longest = rw more longest;
+    }
+
+-- ---- all queues
+-- what an index found is at its place
+pub found_is : (all : List Queues) (place : ℕ) (found : Queues) → place < length all → found ≡ slice_index_or all place found → found ≡ queues_at all place
+found_is all place found inside is = is ∙ get_or_default all place found (queues_at_first 0) inside
+
+pub AreBegun-noted : (meter : Meter) (slots : List NotedSlot) → HasNoted meter slots → (place : ℕ) → place < length meter.queues → AreBegun meter.ports meter.count (queues_at meter.queues place)
+AreBegun-noted meter slots noted place inside =
+    let long = noted.long in
+    let here : place_of (place / 4) (place % 4) ≡ place = omega arith in
+    let queues = noted.queues (place / 4) (place % 4) (omega arith) (omega arith) in
+    subst (λ p. AreBegun meter.ports meter.count (queues_at meter.queues p)) here (record { long = queues.long; begun = rw noted.count queues.begun })
+
+pub HasNoted-first : (n : ℕ) → n ≤ MAX_PORTS → HasNoted (record { ports = n; count = 0; queues = replicate (LEVELS * n) (queues_at_first n) }) []
+HasNoted-first n size = record {
+  size = size;
+  count = refl;
+  long = length-replicate {A = Queues} (LEVELS * n) (queues_at_first n);
+  queues = λ i level i_in level_in. rw (get_or-replicate (LEVELS * n) (place_of i level) (queues_at_first n) (queues_at_first 0) (omega arith)) (HaveNoted-first n i level);
+}
+
+pub HasNoted-more : (old new : Meter) (slots : List NotedSlot) (slot : NotedSlot) → new.ports ≡ old.ports → new.count ≡ old.count + 1 → length new.queues ≡ length old.queues → ((place : ℕ) → place < length old.queues → NotesSlot old.count (λ j. is_waiting slot (place / LEVELS) j (place % LEVELS)) (queues_at old.queues place) (queues_at new.queues place)) → HasNoted old slots → HasNoted new (slots ++ slot ∷ [])
+HasNoted-more old new slots slot ports count long notes noted =
+    let old_count = noted.count in
+    let old_long = noted.long in
+    record {
+      size = let size = noted.size in omega arith;
+      count = omega (arith, length-append slots (slot ∷ []));
+      long = omega arith;
+      queues = λ i level i_in level_in.
+          let place = place_of i level in
+          let inside : i < old.ports = omega arith in
+          let row : place / LEVELS ≡ i = omega arith in
+          let column : place % LEVELS ≡ level = omega arith in
+          let Notes : ℕ → ℕ → ℕ → Type 0 = λ c r l. NotesSlot c (λ j. is_waiting slot r j l) (queues_at old.queues place) (queues_at new.queues place) in
+          let here : Notes (length slots) i level = subst (λ c. Notes c i level) old_count (subst (λ l. Notes old.count i l) column (subst (λ r. Notes old.count r (place % LEVELS)) row (notes place (omega arith)))) in
+          subst (λ n. HaveNoted n (slots ++ slot ∷ []) i level (queues_at new.queues place)) (sym ports) (HaveNoted-more old.ports slots slot i level (queues_at old.queues place) (queues_at new.queues place) (noted.queues i level inside level_in) here);
+    }
+
+-- the longest wait of a level is the longest of its queues
+pub longest-noted : (meter : Meter) (slots : List NotedSlot) (level : ℕ) → HasNoted meter slots → level < LEVELS → greatest (map (λ i. longest_at (queues_at meter.queues (place_of i level)) meter.count) (range_with_len 0 meter.ports)) ≡ longest_wait meter.ports level slots
+unfolding longest_wait
+longest-noted meter slots level noted level_in =
+    let n = meter.ports in
+    let all = greatest-flat_map (λ i. flat_map (λ j. waits_from 0 slots i j level) (range_with_len 0 n)) (range_with_len 0 n) in
+    greatest-same (λ i. longest_at (queues_at meter.queues (place_of i level)) meter.count) (λ i. greatest (flat_map (λ j. waits_from 0 slots i j level) (range_with_len 0 n))) n (λ i below. rw noted.count (noted.queues i level below level_in).longest) ∙ sym all
+
+-- ---- place after place
+-- another test of the same queues
+pub NotesSlot-along : (count : ℕ) (f g : ℕ → Bool) (old new : Queues) → ((j : ℕ) → f j ≡ g j) → NotesSlot count f old new → NotesSlot count g old new
+NotesSlot-along count f g old new same notes = record {
+  long = notes.long;
+  begun = notes.begun;
+  waits = λ j. notes.waits j ∙ ap (λ waits. cond waits (wait_at old count j + 1) 0) (same j);
+  longest = notes.longest;
+}
+
+module _ (P : ℕ → Queues → Queues → Type 0) (old now : List Queues) (place : ℕ) (new : Queues) (inside : place < length now) where
+  pub noted-set : ((k : ℕ) → k < place → P k (queues_at old k) (queues_at now k)) → P place (queues_at old place) new → (k : ℕ) → k < place + 1 → P k (queues_at old k) (queues_at (slice_set now place new) k)
+  noted-set before here k below =
+      elim (cases_eq k place) [
+        | inl same ↦ rw (same, get_or-set_same now place new (queues_at_first 0) inside) here
+        | inr other ↦ rw (get_or-set_other now place k new (queues_at_first 0) other) (before k (omega arith))
+      ]
+
+  pub left-set : ((k : ℕ) → place ≤ k → queues_at now k ≡ queues_at old k) → (k : ℕ) → place + 1 ≤ k → queues_at (slice_set now place new) k ≡ queues_at old k
+  left-set before k above = get_or-set_other now place k new (queues_at_first 0) (omega arith) ∙ before k (omega arith)

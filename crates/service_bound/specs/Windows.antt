@@ -1,0 +1,41 @@
+-- Windows: slots one after the other in which the laws speak of one level.
+use Rattle.std.specs.Prelude.{ℕ, ◌<◌, List, [], ◌∷◌, All}
+use Rattle.rotating_pick.specs.declared.kinds.Kind.{Kind}
+use Rattle.rotating_pick.specs.declared.kinds.Kind.TheVariants.{Multi}
+use Rattle.slot_match.specs.declared.rows.Row.{Row}
+use Rattle.slot_match.specs.Rows.{Names, row_of, AreWithin}
+use Rattle.slot_match.specs.Keeping.{Keeps}
+use Rattle.pointer_state.specs.Places.{Places, ArePointing}
+use Rattle.eslip_rounds.specs.Schedules.{DecidedSlot, IsSchedule}
+
+-- no row names an output at a level better than this one
+abbrev pub IsClean : ℕ → ℕ → List Row → Type 0
+IsClean n level rows = (i better j : ℕ) (kind : Kind) → i < n → better < level → Names (row_of rows i) better kind j → ⊥
+
+-- no row names an output as multicast of the level
+abbrev pub IsWithoutMulticast : ℕ → ℕ → List Row → Type 0
+IsWithoutMulticast n level rows = (i j : ℕ) → i < n → Names (row_of rows i) level Multi j → ⊥
+
+-- the rows of the first slot, if there is one, are so
+abbrev pub InFirst : (List Row → Type 0) → List DecidedSlot → Type 0
+InFirst P [] = Unit {0}
+InFirst P (slot ∷ slots) = P slot.rows
+
+-- requests stay until they are served: the row that each input posts next keeps the one before
+abbrev pub AreKept : ℕ → List DecidedSlot → Type 0
+AreKept n [] = Unit {0}
+AreKept n (slot ∷ slots) = InFirst (λ rows. (i : ℕ) → i < n → Keeps slot.decision.matched i (row_of slot.rows i) (row_of rows i)) slots × AreKept n slots
+
+-- Slots from slot t on, decided from these pointers, of rows that are kept. None names an output at a better
+-- level, and the level's pointers are at ports.
+pub record IsWindow (n rounds t level : ℕ) (places : Places) (slots : List DecidedSlot) : Type 0 where
+  pub pointing : ArePointing n level places
+  pub schedule : IsSchedule n rounds t places slots
+  pub within : All (λ slot. AreWithin n slot.rows) slots
+  pub kept : AreKept n slots
+  pub clean : All (λ slot. IsClean n level slot.rows) slots
+
+-- the pointers after some slots
+abbrev pub places_after : Places → List DecidedSlot → Places
+places_after places [] = places
+places_after places (slot ∷ slots) = places_after slot.decision.places slots

@@ -1,0 +1,109 @@
+//! Bounds on waiting, as the contracts of functions that do nothing. They hold of the scheduler's
+//! definitions, for every number of ports and rounds and every window of slots.
+
+ghost use Rattle.std.specs.Prelude.{ℕ, ◌+◌, ◌*◌, ◌/◌, ◌<◌, ◌≤◌, List, All, Any, length, map, take, drop};
+ghost use Rattle.rotating_pick.specs.declared.kinds.Kind.TheVariants.{Uni};
+ghost use Rattle.slot_match.specs.Rows.{Names, row_of, HasHead, AreWithin};
+ghost use Rattle.slot_match.specs.Matches.{Serves, Completes};
+ghost use Rattle.pointer_state.specs.Places.{Places, ArePointing};
+ghost use Rattle.eslip_rounds.specs.Schedules.{DecidedSlot, IsSchedule};
+ghost use Rattle.service_bound.specs.Windows.{IsWindow, InFirst, AreKept, IsClean, IsWithoutMulticast, places_after};
+ghost use Rattle.service_bound.specs.Waits.{noted_of, longest_wait};
+
+/// In a window of `n * n * (n + 1) / 2` slots without multicast at the level, a unicast queue that is
+/// posted in the first slot is served in one of them. (McKeown argues for `n * n` slots; where a new
+/// request may take a grant this many are proved.)
+pub fn unicast_served()
+    ensures { (n rounds t level i j : ℕ) (places : Places) (slots : List DecidedSlot) → 0 < rounds → i < n → IsWindow n rounds t level places slots
+        → All (λ slot. IsWithoutMulticast n level slot.rows) slots → InFirst (λ rows. Names (row_of rows i) level Uni j) slots
+        → n * n * (n + 1) / 2 ≤ length slots → Any (λ slot. Serves slot.decision.matched i j level Uni) slots }
+{}
+
+/// In a window of `2 * n` slots, a multicast head that is posted in the first slot completes in one of
+/// them, whatever unicast is posted.
+pub fn multicast_completes()
+    ensures { (n rounds t level i : ℕ) (places : Places) (slots : List DecidedSlot) → 0 < rounds → i < n → IsWindow n rounds t level places slots
+        → InFirst (λ rows. HasHead rows level i) slots
+        → 2 * n ≤ length slots → Any (λ slot. HasHead slot.rows level i × Completes slot.rows slot.decision.matched level i) slots }
+{}
+
+/// In a window without multicast at the level, no queue of the level waits for `n * n * (n + 1) / 2`
+/// slots.
+pub fn waits_are_bounded()
+    ensures { (n rounds t level : ℕ) (places : Places) (slots : List DecidedSlot) → 0 < n → 0 < rounds → IsWindow n rounds t level places slots
+        → All (λ slot. IsWithoutMulticast n level slot.rows) slots
+        → longest_wait n level (map noted_of slots) < n * n * (n + 1) / 2 }
+{}
+
+/// Some slots out of the middle of a schedule whose rows are kept are a window, where they are clean.
+pub fn parts_are_windows()
+    ensures { (n rounds t level first count : ℕ) (places : Places) (slots : List DecidedSlot) → 0 < n → ArePointing n level places
+        → IsSchedule n rounds t places slots → All (λ slot. AreWithin n slot.rows) slots → AreKept n slots
+        → All (λ slot. IsClean n level slot.rows) (take count (drop first slots))
+        → IsWindow n rounds (t + first) level (places_after places (take first slots)) (take count (drop first slots)) }
+{}
+
+#[cfg(test)]
+mod tests {
+    use eslip_rounds::decide;
+    use pointer_state::Pointers;
+    use rotating_pick::Ports;
+    use slot_match::{Match, Row, are_within};
+
+    // A slot of three ports: the outputs that each input posts, and the input that feeds each output.
+    #[derive(Clone, Copy)]
+    struct Slot {
+        posted: [Ports; 3],
+        fed: [Option<u32>; 3],
+    }
+
+    fn row(outputs: Ports) -> Row {
+        let mut row = Row::empty();
+        row.uni[0] = outputs;
+        row
+    }
+
+    // Nine slots are not enough for three ports: input 0 asks output 0 in each of these slots, and is
+    // served in the last of eleven.
+    #[test]
+    fn new_requests_take_grants(rt: HostRuntime) {
+        let slot = |posted, fed| Slot { posted, fed };
+        let (a, b, c) = (Some(0), Some(1), Some(2));
+        let slots = [
+            slot([0b011, 0, 0], [None, a, None]),
+            slot([0b101, 0, 0], [None, None, a]),
+            slot([0b001, 0b011, 0], [None, b, None]),
+            slot([0b001, 0b101, 0], [None, None, b]),
+            slot([0b011, 0b001, 0], [b, a, None]),
+            slot([0b101, 0, 0], [None, None, a]),
+            slot([0b001, 0, 0b011], [None, c, None]),
+            slot([0b001, 0, 0b101], [None, None, c]),
+            slot([0b011, 0, 0b001], [c, a, None]),
+            slot([0b101, 0, 0], [None, None, a]),
+            slot([0b001, 0, 0], [a, None, None]),
+        ];
+        let mut p = Pointers::new(3);
+        p.met(2, 0, 0);
+        p.met(1, 0, 0);
+        p.met(0, 0, 0);
+        let mut before = [Row::empty(); 3];
+        let mut out = Match::new(3);
+        for t in 0..11 {
+            let Slot { posted, fed } = slots[t as usize];
+            let rows = posted.map(row);
+            assert!(rt; are_within(3, &rows));
+            assert!(rt; p.ports() == 3);
+            assert!(rt; out.ports() == 3);
+            for i in 0..3 {
+                let kept = rows[i as usize].keeps(&before[i as usize], out.served(i));
+                assert!(rt; kept, "row {i} in slot {t}");
+            }
+            let _numbers = decide(3, 1, t, &rows, &mut p, &mut out);
+            for j in 0..3 {
+                let input = out.fed(j).map(|pair| pair.input);
+                assert!(rt; input == fed[j as usize], "output {j} in slot {t}");
+            }
+            before = rows;
+        }
+    }
+}

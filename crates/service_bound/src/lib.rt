@@ -1,0 +1,12 @@
+//! How long a queue can wait: a meter of waits, and the laws that bound them.
+#![tactic(auto)]
+
+pub mod laws;
+mod level_queues;
+mod limits;
+mod meter;
+#[cfg(test)]
+mod tests;
+
+pub use limits::MAX_NOTED;
+pub use meter::WaitMeter;

@@ -1,0 +1,174 @@
+ghost use Rattle.std.specs.Prelude.{◌≡◌, ℕ, ◌+◌, ◌*◌, ◌/◌, ◌%◌, ◌<◌, ◌≤◌, ◌↔◌, ◌==◌, List, [], ◌∷◌, ◌++◌, length, replicate, IfOk};
+ghost use Rattle.std.specs.Int.{bit_at};
+ghost use Rattle.rotating_pick.specs.PortSets.{Has};
+ghost use Rattle.rotating_pick.specs.declared.kinds.Kind.TheVariants.{Uni};
+ghost use Rattle.slot_match.specs.Rows.{AreWithin};
+ghost use Rattle.slot_match.specs.Keeping.{Gives};
+ghost use Rattle.service_bound.specs.Waits.{NotedSlot, is_waiting, longest_wait};
+ghost use Rattle.service_bound.specs.Meters.{queues_at_first, place_of, queues_at, AreBegun, NotesSlot, HasNoted};
+
+use crate::level_queues::LevelQueues;
+use crate::limits::MAX_NOTED;
+use rotating_pick::{Kind, LEVELS, MAX_PORTS, OutOfMemory, Ports, difference};
+use slot_match::{Match, Row, Served};
+use std::alloc::{AllocError, Global};
+use std::marker::Model;
+
+// The levels as a length.
+const LEVEL_COUNT: usize = LEVELS as usize;
+
+/// A meter of waits. It is told of slot after slot and keeps for each level the longest wait: for how
+/// many slots, one after the other, a unicast queue of the level was posted and not served.
+#[derive(Drop)]
+pub struct WaitMeter {
+    ports: u32,
+    // How many slots were noted.
+    count: u32,
+    // The queues of each input, level by level.
+    queues: Vec<LevelQueues>,
+}
+
+impl Model for WaitMeter {
+    ghost use Rattle.std.specs.Prelude.{List};
+    ghost use Rattle.service_bound.specs.Waits.{NotedSlot};
+    ghost use Rattle.service_bound.specs.Meters.{Meter, HasNoted};
+
+    ghost Value = { Meter };
+
+    ghost view = { λ m. record { ports = m.ports; count = m.count; queues = m.queues.items } };
+
+    ghost invariant = { λ m. (slots : List NotedSlot) × HasNoted (record { ports = m.ports; count = m.count; queues = m.queues.items }) slots };
+}
+
+impl WaitMeter {
+    /// A meter for a switch of `n` ports, 1 to 64, that has noted no slot. It takes all memory that it
+    /// needs: a number for each input, output and level.
+    pub fn make(alloc: Global, n: u32) -> Result<WaitMeter, OutOfMemory>
+        requires some { 0 < n }
+        requires size { n ≤ MAX_PORTS }
+        ensures { IfOk result (λ m. (m.ports ≡ n) × HasNoted m []) }
+    {
+        Ok(WaitMeter {
+            ports: n,
+            count: 0,
+            queues: queues(alloc, n)?,
+        })
+    }
+
+    /// The number of ports of the switch, at most 64.
+    pub fn ports(&self) -> u32
+        ensures value { result ≡ self.now.ports }
+        ensures size { result ≤ MAX_PORTS }
+    {
+        self.ports
+    }
+
+    /// How many slots were noted.
+    pub fn count(&self) -> u32
+        ensures { result ≡ self.now.count }
+    {
+        self.count
+    }
+
+    /// Notes one slot more, of which there are at most 1,048,576: a row for each input, which names none
+    /// but the ports, and a match of as many ports. It takes no memory.
+    pub fn note(&mut self, rows: &[Row], matched: &Match)
+        requires rows { AreWithin self.old.ports rows.now }
+        requires matched { length matched.now ≡ self.old.ports }
+        requires few { self.old.count < MAX_NOTED }
+        ensures noted { (slots : List NotedSlot) → HasNoted self.old slots → HasNoted self.new (slots ++ record { rows = rows.now; matched = matched.now } ∷ []) }
+        ensures ports { self.new.ports ≡ self.old.ports }
+        ensures count { self.new.count ≡ self.old.count + 1 }
+    {
+        note_slot(&mut self.queues, self.count, rows, matched);
+        self.count += 1;
+    }
+
+    /// The longest wait of the level, 0 to 3, in all slots noted: the greatest of all queues.
+    pub fn longest(&self, level: u8) -> u32
+        requires level { level < LEVELS }
+        ensures { (slots : List NotedSlot) → HasNoted self.now slots → result ≡ longest_wait self.now.ports level slots }
+    {
+        let mut longest: u32 = 0;
+        for input in 0..self.ports {
+            let queues = &self.queues[place_of(input, level)];
+            longest = longest.max(queues.longest(self.count));
+        }
+        longest
+    }
+
+    /// States that there are slots that the meter has noted.
+    pub fn noted_slots(&self)
+        ensures { (slots : List NotedSlot) × HasNoted self.now slots }
+    {
+        let _ = &self.ports;
+    }
+}
+
+// The queues of each input and level note slot `count`.
+fn note_slot(queues: &mut Vec<LevelQueues>, count: u32, rows: &[Row], matched: &Match)
+    requires rows { AreWithin (length matched.now) rows.now }
+    requires size { length rows.now ≤ MAX_PORTS }
+    requires long { length queues.old.items ≡ LEVELS * length rows.now }
+    requires few { count < MAX_NOTED }
+    requires begun { (place : ℕ) → place < length queues.old.items → AreBegun (length rows.now) count (queues_at queues.old.items place) }
+    ensures long { length queues.new.items ≡ length queues.old.items }
+    ensures noted { (place : ℕ) → place < length queues.old.items → NotesSlot count (λ j. is_waiting (record { rows = rows.now; matched = matched.now }) (place / LEVELS) j (place % LEVELS)) (queues_at queues.old.items place) (queues_at queues.new.items place) }
+{
+    for place in 0..queues.len() {
+        let outputs = outputs_waiting(rows, matched, place);
+        queues[place].note(count, outputs);
+    }
+}
+
+// The outputs whose queue, of the input and level of the place, is posted and not served.
+fn outputs_waiting(rows: &[Row], matched: &Match, place: usize) -> Ports
+    requires rows { AreWithin (length matched.now) rows.now }
+    requires size { length rows.now ≤ MAX_PORTS }
+    requires place { place < LEVELS * length rows.now }
+    ensures among { (j : ℕ) → Has result j → j < length rows.now }
+    ensures waiting { (j : ℕ) → (bit_at result j == 1) ≡ is_waiting (record { rows = rows.now; matched = matched.now }) (place / LEVELS) j (place % LEVELS) }
+{
+    let input = place / LEVEL_COUNT;
+    let level = place % LEVEL_COUNT;
+    let posted = rows[input].uni[level];
+    difference(posted, unicast(matched.served(input as u32), level))
+}
+
+// The outputs that the part serves as unicast of the level.
+fn unicast(served: Option<Served>, level: usize) -> Ports
+    ensures { (j : ℕ) → Has result j ↔ Gives served j level Uni }
+{
+    match served {
+        Some(
+            Served {
+                outputs,
+                level: served_at,
+                kind: Kind::Uni,
+            },
+        ) if usize::from(served_at) == level => outputs,
+        _ => 0,
+    }
+}
+
+// The place of the input's queues of the level.
+fn place_of(input: u32, level: u8) -> usize
+    requires input { input < MAX_PORTS }
+    requires level { level < LEVELS }
+    ensures { result ≡ place_of input level }
+{
+    input as usize * LEVEL_COUNT + usize::from(level)
+}
+
+// The queues of each input at each level, before any slot.
+fn queues(alloc: Global, n: u32) -> Result<Vec<LevelQueues>, AllocError>
+    requires { n ≤ MAX_PORTS }
+    ensures { IfOk result (λ queues. queues.items ≡ replicate (LEVELS * n) (queues_at_first n)) }
+{
+    let count = n as usize * LEVEL_COUNT;
+    let mut queues = Vec::with_capacity(alloc, count)?;
+    for _ in 0..count {
+        queues.push(LevelQueues::make(alloc, n)?)?;
+    }
+    Ok(queues)
+}
