@@ -1,0 +1,13 @@
+//! What crosses the switch in a slot: each input's deposit of one cell at most, from which the outputs
+//! fetch as the match of the slot says.
+//!
+//! Beside it stand what a line card posts for a slot and what it takes of a decided one.
+#![tactic(auto)]
+
+mod cards;
+mod deposits;
+#[cfg(test)]
+mod tests;
+
+pub use cards::{Post, Taken};
+pub use deposits::Crossbar;
