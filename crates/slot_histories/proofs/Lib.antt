@@ -1,0 +1,13 @@
+pub mod Appending
+pub mod Agreeing
+pub mod CardSums
+pub mod InStep
+pub mod AcceptedPosts
+pub mod LegalLists
+pub mod Ordering
+pub mod PostedRows
+pub mod SoundDecisions
+pub mod SetTests
+pub mod KeepingTests
+pub mod PostTests
+pub mod EventTests

@@ -1,0 +1,81 @@
+-- The decided slots of a legal list: their matches are matches, their pointers at ports, and rows are kept.
+use Rattle.std.proofs.Common.{◌≡◌, ◌∙◌, ℕ, zero, suc, ◌+◌, ◌<◌, ◌≤◌, List, refl, sym, subst, arith, add-one}
+use Rattle.rotating_pick.specs.declared.limits.TheConstants.{MAX_PORTS}
+use Rattle.slot_match.specs.declared.rows.Row.{Row}
+use Rattle.slot_match.specs.Rows.{AreWithin}
+use Rattle.slot_match.specs.Matches.{unmatched, IsMatch}
+use Rattle.slot_match.specs.Keeping.{KeepsRest, Keeps, Gives}
+use Rattle.slot_match.proofs.Kept.{IsMatch-unmatched}
+use Rattle.slot_match.proofs.KeepingParts.{KeepsRest-iff_keeps}
+use Rattle.pointer_state.specs.Places.{Places, AreAtPorts, places_at_first}
+use Rattle.pointer_state.proofs.Moves.{AreAtPorts-at_first}
+use Rattle.eslip_rounds.specs.Slots.{Decision, IsSlot}
+use Rattle.eslip_rounds.specs.Decisions.{decision_of}
+use Rattle.eslip_rounds.proofs.Matching.{IsMatch-rounds}
+use Rattle.eslip_rounds.proofs.Settling.{IsSlot-decision_of, AreAtPorts-decision_of}
+use Rattle.crossbar.specs.declared.cards.Post.{Post as CardPost}
+use Rattle.slot_histories.specs.declared.events.Event.{Event}
+use Rattle.slot_histories.specs.Events.{Setup, decides, posted}
+use Rattle.slot_histories.specs.Slots.{slot_rows, places_at, decision_at, served_at}
+use Rattle.slot_histories.specs.Legal.{IsLegal}
+use Rattle.slot_histories.proofs.LegalLists.{AreInStep-legal, AreAccepted-legal}
+use Rattle.slot_histories.proofs.PostedRows.{rows_within}
+
+-- a decision whose match is a match, and whose pointers are at the n ports
+pub record IsSoundDecision (n : ℕ) (decision : Decision) : Type 0 where
+  pub matches : IsMatch n decision.matched
+  pub at_ports : AreAtPorts decision.places
+  pub ports : decision.places.ports ≡ n
+
+sound_from_slot : (n rounds t : ℕ) (rows : List Row) (before : Places) (decision : Decision) → AreAtPorts before → before.ports ≡ n → IsSlot n rounds t rows before decision → AreAtPorts decision.places → IsSoundDecision n decision
+sound_from_slot n rounds t rows before decision at_ports ports slot after =
+    record {
+      matches = subst (IsMatch n) (sym slot.result) (IsMatch-rounds n t rows before at_ports ports (unmatched n) slot.steps (IsMatch-unmatched n) slot.chain);
+      at_ports = after;
+      ports = slot.moved.ports ∙ ports;
+    }
+
+-- what a slot decides, where its rows are within the ports
+pub sound_decision : (n rounds t : ℕ) (rows : List Row) (before : Places) → AreWithin n rows → AreAtPorts before → before.ports ≡ n → IsSoundDecision n (decision_of n rounds t rows before)
+sound_decision n rounds t rows before within at_ports ports = sound_from_slot n rounds t rows before (decision_of n rounds t rows before) at_ports ports (IsSlot-decision_of n t rows before within at_ports ports rounds) (AreAtPorts-decision_of n t rows before within at_ports ports rounds)
+
+ports-at_first : (n : ℕ) → (places_at_first n).ports ≡ n
+unfolding places_at_first
+ports-at_first n = refl
+
+-- the decisions of slots whose rows are within the ports
+module _ (s : Setup) (posts : ℕ → ℕ → CardPost) (k : ℕ) (some : 0 < s.ports) (size : s.ports ≤ MAX_PORTS) (within : (t : ℕ) → t < k → AreWithin s.ports (slot_rows s.ports posts t)) where
+  pub places_at-at_ports : (t : ℕ) → t ≤ k → AreAtPorts (places_at s posts t) × ((places_at s posts t).ports ≡ s.ports)
+  places_at-at_ports zero few = (AreAtPorts-at_first s.ports some size, ports-at_first s.ports)
+  places_at-at_ports (suc t) few =
+      let before = places_at-at_ports t (omega arith) in
+      let sound = sound_decision s.ports s.rounds t (slot_rows s.ports posts t) (places_at s posts t) (within t (omega arith)) before.0 before.1 in
+      (sound.at_ports, sound.ports)
+
+  pub decision_at-sound : (t : ℕ) → t < k → IsSoundDecision s.ports (decision_at s posts t)
+  decision_at-sound t below =
+      let before = places_at-at_ports t (omega arith) in
+      sound_decision s.ports s.rounds t (slot_rows s.ports posts t) (places_at s posts t) (within t below) before.0 before.1
+
+-- the decided slots of a legal list
+module _ (s : Setup) (events : List Event) (some : 0 < s.ports) (size : s.ports ≤ MAX_PORTS) (legal : IsLegal s events) where
+  pub places_at-legal : (t : ℕ) → t ≤ decides events → AreAtPorts (places_at s (posted events) t) × ((places_at s (posted events) t).ports ≡ s.ports)
+  places_at-legal = places_at-at_ports s (posted events) (decides events) some size (λ t below. rows_within s events t legal below)
+
+  pub decision_at-legal : (t : ℕ) → t < decides events → IsSoundDecision s.ports (decision_at s (posted events) t)
+  decision_at-legal = decision_at-sound s (posted events) (decides events) some size (λ t below. rows_within s events t legal below)
+
+  -- each is a slot of the scheduler, from the pointers that the one before left
+  pub decision_at-slot : (t : ℕ) → t < decides events → IsSlot s.ports s.rounds t (slot_rows s.ports (posted events) t) (places_at s (posted events) t) (decision_at s (posted events) t)
+  decision_at-slot t below =
+      let before = places_at-legal t (omega arith) in
+      IsSlot-decision_of s.ports t (slot_rows s.ports (posted events) t) (places_at s (posted events) t) (rows_within s events t legal below) before.0 before.1 s.rounds
+
+-- requests stay until they are served
+pub rows_kept : (s : Setup) (events : List Event) (i t : ℕ) → 0 < s.ports → s.ports ≤ MAX_PORTS → IsLegal s events → t + 1 < decides events → i < s.ports → Keeps (decision_at s (posted events) t).matched i (posted events i t).row (posted events i (t + 1)).row
+rows_kept s events i t some size legal below inside =
+    let step = AreInStep-legal s events legal in
+    let stand = AreAccepted-legal s events legal in
+    let matches = (decision_at-legal s events some size legal t (omega arith)).matches in
+    let keeps : KeepsRest (Gives (served_at s (posted events) i t)) (posted events i t).row (posted events i (suc t)).row = (stand.accepted i (suc t) inside (omega (arith, step.decided_posted i inside))).keeps in
+    rw add-one ((KeepsRest-iff_keeps s.ports (decision_at s (posted events) t).matched matches i (posted events i t).row (posted events i (suc t)).row).0 keeps)

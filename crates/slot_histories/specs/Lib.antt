@@ -1,0 +1,5 @@
+pub mod Events
+pub mod Slots
+pub mod Legal
+pub mod Answers
+pub mod Tests
