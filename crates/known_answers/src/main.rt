@@ -25,6 +25,7 @@ mod table_rows;
 mod texts;
 mod unescaping;
 mod vector_file;
+mod wait_rows;
 
 use crate::row::{Row, wrong_count};
 use crate::vector_file::rows_of;

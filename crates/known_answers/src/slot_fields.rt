@@ -2,12 +2,12 @@
 ghost use Rattle.std.specs.Prelude.{◌≡◌, ◌<◌, ◌≤◌, IfOk};
 ghost use Rattle.slot_match.specs.Rows.{AreWithin};
 
-use crate::fields::{PORTS, port_set, port_table};
+use crate::fields::{PORTS, byte, number, port_set, port_table};
 use crate::row::NoAnswer;
 use crate::texts::{add_item, kind_letter, numbers_text};
 use islip_rounds::RoundsUsed;
 use pointer_state::Pointers;
-use rotating_pick::{LEVELS, MAX_PORTS};
+use rotating_pick::{Kind, LEVELS, MAX_PORTS, with};
 use slot_match::{Fed, Match, Row, are_within};
 use std::alloc::{AllocError, Global};
 
@@ -144,6 +144,48 @@ fn aim_shared(p: &mut Pointers, level: u8, at: u32) -> Result<(), NoAnswer> {
 // The port before port `x`.
 fn before(n: u32, x: u32) -> u32 {
     if x == 0 { n.saturating_sub(1) } else { x - 1 }
+}
+
+/// The match of a switch of `n` ports that is stated: for each output what feeds it, as `1:0u`, or `-`.
+pub fn stated_match(alloc: Global, n: u32, text: &str) -> Result<Match, NoAnswer>
+    requires some { 0 < n }
+    requires size { n ≤ MAX_PORTS }
+{
+    let mut matched = Match::new(n);
+    let items: Vec<&str> = text.split(',').collect(alloc)?;
+    if items.len() != n as usize {
+        return Err(NoAnswer);
+    }
+    let mut output = 0;
+    for item in items.as_slice() {
+        if *item != "-" {
+            add_fed(&mut matched, output, item)?;
+        }
+        output += 1;
+    }
+    Ok(matched)
+}
+
+// The output is fed as the text says.
+fn add_fed(matched: &mut Match, output: u32, text: &str) -> Result<(), NoAnswer> {
+    let Some((input, part)) = text.split_once(':') else {
+        return Err(NoAnswer);
+    };
+    let input = number(input)?;
+    let (level, kind) = match (part.strip_suffix("u"), part.strip_suffix("m")) {
+        (Some(level), _) => (byte(level)?, Kind::Uni),
+        (_, Some(level)) => (byte(level)?, Kind::Multi),
+        _ => return Err(NoAnswer),
+    };
+    if output >= MAX_PORTS || input >= matched.ports() || u32::from(level) >= LEVELS {
+        return Err(NoAnswer);
+    }
+    let outputs = with(0, output);
+    if !matched.may_add(input, outputs, level, kind) {
+        return Err(NoAnswer);
+    }
+    matched.add(input, outputs, level, kind);
+    Ok(())
 }
 
 /// For each output what feeds it, as `1:0u`, or `-`.

@@ -2,6 +2,7 @@ use crate::row::Row;
 use crate::{
     arrival_rows, capture_rows, cell_rows, decision_rows, destination_rows, islip_rows,
     kernel_rows, message_rows, reassembly_rows, rotating_rows, schedule_rows, table_rows,
+    wait_rows,
 };
 use std::alloc::{AllocError, Global};
 
@@ -20,6 +21,7 @@ enum Reader {
     Schedules(schedule_rows::Block),
     Tables(table_rows::Block),
     Destinations,
+    Waits(wait_rows::Block),
     // No file of this name is known: no line of it can be read.
     Unknown,
 }
@@ -41,6 +43,7 @@ impl Reader {
             }
             "schedules.txt" => Reader::Schedules(schedule_rows::Block::new()),
             "destinations.txt" => Reader::Destinations,
+            "waits.txt" => Reader::Waits(wait_rows::Block::new()),
             "tables.txt" => Reader::Tables(table_rows::Block::new(alloc)),
             _ => Reader::Unknown,
         }
@@ -61,6 +64,7 @@ impl Reader {
             Reader::Schedules(block) => return block.row(alloc, line),
             Reader::Tables(block) => return block.row(alloc, line),
             Reader::Destinations => destination_rows::row(alloc, line)?,
+            Reader::Waits(block) => return block.row(alloc, line),
             Reader::Unknown => Row::unread(alloc, line)?,
         };
         Ok(Some(row))
