@@ -156,12 +156,13 @@ pub fn stated_match(alloc: Global, n: u32, text: &str) -> Result<Match, NoAnswer
     if items.len() != n as usize {
         return Err(NoAnswer);
     }
-    let mut output = 0;
-    for item in items.as_slice() {
+    for output in 0..n {
+        let Some(item) = items.get(output as usize) else {
+            return Err(NoAnswer);
+        };
         if *item != "-" {
             add_fed(&mut matched, output, item)?;
         }
-        output += 1;
     }
     Ok(matched)
 }

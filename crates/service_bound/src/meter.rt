@@ -19,6 +19,9 @@ const LEVEL_COUNT: usize = LEVELS as usize;
 
 /// A meter of waits. It is told of slot after slot and keeps for each level the longest wait: for how
 /// many slots, one after the other, a unicast queue of the level was posted and not served.
+///
+/// A slot costs a few words for each input and level, and a step for each queue whose wait begins or
+/// ends in it.
 #[derive(Drop)]
 pub struct WaitMeter {
     ports: u32,
