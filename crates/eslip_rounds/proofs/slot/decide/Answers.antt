@@ -39,9 +39,9 @@ loop-done-preserved c =
           let numbered : (each : List ℕ) → length each ≡ c.loop-done.done → c.loop-done.numbers ≡ numbers_of each → after.result ≡ numbers_of (each ++ w.saturating_sub-added.result ∷ []) = λ each long e. after.ensures.numbers each long e ∙ ap (λ d. numbers_of (each ++ d ∷ [])) w.added-is in
           rw (w.out-is, w.matched-is, w.added-is) (
             IsDecided-next n c.args.slot rows places first c.preferred_kind-first.ensures asks c.asks_of-asks.ensures c.loop-done.done now w.round-then-added-gt0.new.out matched w.count-now.result c.loop-done.numbers after.result c.difference-met.result w.saturating_sub-added.result c.loop-done.invariant.0
-            w.round-then-added-gt0.ensures.step w.round-then-added-gt0.ensures.whole w.count-now.ensures w.saturating_sub-added.ensures numbered after.ensures.used,
+                w.round-then-added-gt0.ensures.step w.round-then-added-gt0.ensures.whole w.count-now.ensures w.saturating_sub-added.ensures numbered after.ensures.used,
             IsSettled-next n c.args.slot rows places first c.preferred_kind-first.ensures asks c.asks_of-asks.ensures now w.round-then-added-gt0.new.out matched w.count-now.result w.saturating_sub-added.result c.ports.ensures.at_ports c.requires.pointers c.loop-done.invariant.0.whole
-            w.round-then-added-gt0.ensures.step w.round-then-added-gt0.ensures.whole c.loop-done.invariant.0.run.counted w.count-now.ensures w.saturating_sub-added.ensures,
+                w.round-then-added-gt0.ensures.step w.round-then-added-gt0.ensures.whole c.loop-done.invariant.0.run.counted w.count-now.ensures w.saturating_sub-added.ensures,
           )
       | else-added-gt0 w ↦
           let numbered : (each : List ℕ) → length each ≡ c.loop-done.done → c.loop-done.numbers ≡ numbers_of each → after.result ≡ numbers_of (each ++ c.loop-done.added ∷ []) = λ each long e. after.ensures.numbers each long e ∙ ap (λ d. numbers_of (each ++ d ∷ [])) w.added-is in
