@@ -218,7 +218,7 @@ fn heads_end_no_wait(rt: HostRuntime) {
     follow(&rt, rt.alloc(), 2, &slots);
 }
 
-// Three ports under full load: in the first three slots six pairs are matched.
+// Three ports under full load: the last input waits for three slots.
 #[test]
 fn last_input_waits_longest(rt: HostRuntime) {
     let all = unicast([0b111, 0, 0, 0]);
@@ -241,4 +241,123 @@ fn last_input_waits_longest(rt: HostRuntime) {
         },
     ];
     follow(&rt, rt.alloc(), 3, &slots);
+}
+
+// Unicast of level 0.
+const fn best(outputs: Ports) -> Row {
+    unicast([outputs, 0, 0, 0])
+}
+
+// Six pairs in six slots, one of them by a new request of input 0 that takes the grant of input 1.
+#[test]
+fn new_request_takes_the_grant(rt: HostRuntime) {
+    let slots = [
+        Slot {
+            rows: &[EMPTY, best(0b01), EMPTY],
+            matched: &[pair(1, 0b01, 0)],
+            longest: [0, 0, 0, 0],
+        },
+        Slot {
+            rows: &[EMPTY, best(0b01), best(0b01)],
+            matched: &[pair(2, 0b01, 0)],
+            longest: [1, 0, 0, 0],
+        },
+        Slot {
+            rows: &[EMPTY, best(0b11), best(0b01)],
+            matched: &[pair(1, 0b10, 0)],
+            longest: [2, 0, 0, 0],
+        },
+        Slot {
+            rows: &[best(0b01), best(0b01), best(0b01)],
+            matched: &[pair(0, 0b01, 0)],
+            longest: [3, 0, 0, 0],
+        },
+        Slot {
+            rows: &[EMPTY, best(0b01), best(0b01)],
+            matched: &[pair(1, 0b01, 0)],
+            longest: [3, 0, 0, 0],
+        },
+        Slot {
+            rows: &[EMPTY, EMPTY, best(0b01)],
+            matched: &[pair(2, 0b01, 0)],
+            longest: [3, 0, 0, 0],
+        },
+    ];
+    follow(&rt, rt.alloc(), 3, &slots);
+}
+
+// A packet of level 0 goes between the first and the second cell of one of level 2.
+#[test]
+fn better_level_goes_between(rt: HostRuntime) {
+    let rest = Slot {
+        rows: &[unicast([0, 0, 0b10, 0]), EMPTY],
+        matched: &[pair(0, 0b10, 2)],
+        longest: [0, 0, 1, 0],
+    };
+    let slots = [
+        Slot {
+            longest: [0, 0, 0, 0],
+            ..rest
+        },
+        Slot {
+            rows: &[unicast([0b10, 0, 0b10, 0]), EMPTY],
+            matched: &[pair(0, 0b10, 0)],
+            longest: [0, 0, 1, 0],
+        },
+        rest,
+        rest,
+    ];
+    follow(&rt, rt.alloc(), 2, &slots);
+}
+
+// A unicast queue waits while the rest of a multicast head takes its output.
+#[test]
+fn unicast_waits_for_a_head(rt: HostRuntime) {
+    let fan = |outputs| Row {
+        uni: [0; LEVELS as usize],
+        multi: [outputs, 0, 0, 0],
+    };
+    let slots = [
+        Slot {
+            rows: &[fan(0b111), best(0b010), EMPTY],
+            matched: &[head(0, 0b101, 0), pair(1, 0b010, 0)],
+            longest: [0, 0, 0, 0],
+        },
+        Slot {
+            rows: &[fan(0b010), best(0b010), EMPTY],
+            matched: &[head(0, 0b010, 0)],
+            longest: [1, 0, 0, 0],
+        },
+        Slot {
+            rows: &[EMPTY, best(0b010), EMPTY],
+            matched: &[pair(1, 0b010, 0)],
+            longest: [1, 0, 0, 0],
+        },
+    ];
+    follow(&rt, rt.alloc(), 3, &slots);
+}
+
+// Two inputs take turns at one output, and each waits for one slot at a time.
+#[test]
+fn two_inputs_take_turns(rt: HostRuntime) {
+    let both = [best(0b01), best(0b01)];
+    let rest = [best(0b01), EMPTY];
+    let pairs = [pair(0, 0b01, 0), pair(1, 0b01, 0)];
+    let turn = |rows, matched| Slot {
+        rows,
+        matched,
+        longest: [1, 0, 0, 0],
+    };
+    let (first, second) = (&pairs[..1], &pairs[1..]);
+    let slots = [
+        turn(&both[..], first),
+        turn(&both[..], second),
+        turn(&both[..], first),
+        turn(&both[..], second),
+        turn(&both[..], first),
+        turn(&both[..], second),
+        turn(&rest[..], first),
+        turn(&rest[..], first),
+    ];
+    follow(&rt, rt.alloc(), 2, &slots);
 }
