@@ -10,10 +10,10 @@ use Rattle.service_bound.specs.Meters.{Queues, wait_at, longest_of, longest_at, 
 use Rattle.service_bound.proofs.Greatest.{greatest-within, greatest-has}
 
 -- the test of a member, both ways
-pub member-true : (ports x : ℕ) → Has ports x → eqb (bit_at ports x) 1 ≡ true
+member-true : (ports x : ℕ) → Has ports x → eqb (bit_at ports x) 1 ≡ true
 member-true ports x has = elim (eqb_tells (bit_at ports x) 1) [ inl p ↦ p.0 | inr p ↦ absurd (p.1 has) ]
 
-pub member-false : (ports x : ℕ) → (Has ports x → ⊥) → eqb (bit_at ports x) 1 ≡ false
+member-false : (ports x : ℕ) → (Has ports x → ⊥) → eqb (bit_at ports x) 1 ≡ false
 member-false ports x lacks = elim (eqb_tells (bit_at ports x) 1) [ inl p ↦ absurd (lacks p.1) | inr p ↦ p.0 ]
 
 -- the wait of a queue that waits, and of one that does not

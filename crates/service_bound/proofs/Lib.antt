@@ -14,5 +14,4 @@ pub mod AllBelow
 pub mod LongestWaits
 mod Greatest
 mod Levels
-mod Posting
 mod Noting

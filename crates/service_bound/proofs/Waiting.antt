@@ -1,47 +1,47 @@
--- The tests of a wait are true exactly where the row names the output and the match does not serve it.
-use Rattle.std.proofs.Common.{◌≡◌, ℕ, ◌+◌, ◌⊎◌, ◌==◌, ◌&&◌, Bool, true, false, not, if◌then◌else◌, Option, None, Some, slice_index, refl, ap, inl, inr}
+-- A queue waits in a slot exactly where the row names the output and the match does not serve it.
+use Rattle.std.proofs.Common.{◌≡◌, ℕ, ◌+◌, ◌↔◌, ◌⊎◌, ◌==◌, not, Bool, true, false, if◌then◌else◌, List, Option, None, Some, refl, sym, ap, inl, inr}
+use Rattle.std.specs.Prelude.{IsNone, IfSome}
 use Rattle.std.specs.Bool.{Decides}
 use Rattle.std.specs.Int.{bit_at}
-use Rattle.std.proofs.lemmas.Bool.Decides.{Decides-eqb, Decides-and, Decides-not, Decides-like}
-use Rattle.std.proofs.lemmas.Option.{same_Some}
+use Rattle.std.proofs.lemmas.Bool.Decides.{same_from_decides, Decides-eqb, Decides-and, Decides-not, Decides-like}
+use Rattle.rotating_pick.specs.PortSets.{Has}
 use Rattle.rotating_pick.specs.declared.kinds.Kind.{Kind}
-use Rattle.rotating_pick.specs.declared.kinds.Kind.TheVariants.{Uni, Multi}
+use Rattle.rotating_pick.specs.declared.kinds.Kind.TheVariants.{Uni}
 use Rattle.slot_match.specs.declared.rows.Row.{Row}
 use Rattle.slot_match.specs.declared.matching.Fed.{Fed}
+use Rattle.slot_match.specs.declared.matching.Served.{Served}
 use Rattle.slot_match.specs.Rows.{Names, row_of}
-use Rattle.slot_match.specs.Matches.{Serves, fed_of}
-use Rattle.slot_match.proofs.Pairs.{same_fed}
-use Rattle.service_bound.specs.Waits.{NotedSlot, is_posted, is_unicast, is_unicast_from, is_waiting, wait_in}
+use Rattle.slot_match.specs.Matches.{Serves, fed_of, IsFreeInput, IsServed}
+use Rattle.slot_match.specs.Keeping.{Gives}
+use Rattle.slot_match.proofs.Pairs.{Serves-along}
+use Rattle.eslip_rounds.specs.Decisions.{is_named, is_fed}
+use Rattle.eslip_rounds.proofs.Testing.{Decides-named, Decides-fed}
+use Rattle.service_bound.specs.Waits.{NotedSlot, is_waiting, wait_in}
 
-pub is_posted-decides : (row : Row) (j level : ℕ) → Decides (is_posted row j level) (Names row level Uni j)
-is_posted-decides row j level = Decides-eqb (bit_at (slice_index row.uni level) j) 1
-
-is_unicast-decides : (kind : Kind) → Decides (is_unicast kind) (kind ≡ Uni)
-is_unicast-decides Uni = (λ e. refl, λ e. refl)
-is_unicast-decides Multi = (λ e. cc, λ e. cc)
-
--- what is fed is this where its three parts are
-is_fed_by : (i level : ℕ) (fed : Fed) → Decides ((fed.input == i) && (fed.level == level) && is_unicast fed.kind) (Some fed ≡ Some (record { input = i; level = level; kind = Uni }))
-is_fed_by i level fed =
-    let whole : Fed = record { input = i; level = level; kind = Uni } in
-    Decides-like ((fed.input == i) && (fed.level == level) && is_unicast fed.kind)
-    (λ parts. ap Some (same_fed fed whole parts.0.0 parts.0.1 parts.1))
-    (λ e. let same = same_Some fed whole e in ((ap (λ f. f.input) same, ap (λ f. f.level) same), ap (λ f. f.kind) same))
-    (Decides-and ((fed.input == i) && (fed.level == level)) (is_unicast fed.kind)
-    (Decides-and (fed.input == i) (fed.level == level) (Decides-eqb fed.input i) (Decides-eqb fed.level level)) (is_unicast-decides fed.kind))
-
-pub is_unicast_from-decides : (i level : ℕ) (fed : Option Fed) → Decides (is_unicast_from i level fed) (fed ≡ Some (record { input = i; level = level; kind = Uni }))
-is_unicast_from-decides i level None = (λ e. cc, λ e. cc)
-is_unicast_from-decides i level (Some fed) = is_fed_by i level fed
-
-pub is_waiting-decides : (slot : NotedSlot) (i j level : ℕ) → Decides (is_waiting slot i j level) (Names (row_of slot.rows i) level Uni j × (Serves slot.matched i j level Uni → ⊥))
-is_waiting-decides slot i j level =
-    let served = is_unicast_from i level (fed_of slot.matched j) in
-    Decides-and (is_posted (row_of slot.rows i) j level) (not served) (is_posted-decides (row_of slot.rows i) j level) (Decides-not served (is_unicast_from-decides i level (fed_of slot.matched j)))
+pub Decides-waiting : (slot : NotedSlot) (i j level : ℕ) → Decides (is_waiting slot i j level) (Names (row_of slot.rows i) level Uni j × (Serves slot.matched i j level Uni → ⊥))
+Decides-waiting slot i j level =
+    let named = is_named (row_of slot.rows i) level Uni j in
+    let served = is_fed i level Uni (fed_of slot.matched j) in
+    Decides-and named (not served) (Decides-named (row_of slot.rows i) level Uni j) (Decides-not served (Decides-fed i level Uni (fed_of slot.matched j)))
 
 -- the queue waits and its wait is one longer, or its wait is 0
 pub wait_in-or : (slot : NotedSlot) (before i j level : ℕ) → (Names (row_of slot.rows i) level Uni j × (Serves slot.matched i j level Uni → ⊥) × (wait_in slot before i j level ≡ before + 1)) ⊎ (wait_in slot before i j level ≡ 0)
 wait_in-or slot before i j level = go (is_waiting slot i j level) refl where
   go : (b : Bool) → is_waiting slot i j level ≡ b → (Names (row_of slot.rows i) level Uni j × (Serves slot.matched i j level Uni → ⊥) × (wait_in slot before i j level ≡ before + 1)) ⊎ (wait_in slot before i j level ≡ 0)
-  go true e = let waits = (is_waiting-decides slot i j level).0 e in inl (waits.0, waits.1, ap (λ b. if b then before + 1 else 0) e)
+  go true e = let waits = (Decides-waiting slot i j level).0 e in inl (waits.0, waits.1, ap (λ b. if b then before + 1 else 0) e)
   go false e = inr (ap (λ b. if b then before + 1 else 0) e)
+
+-- an input's part gives what the match serves
+pub Gives-iff_serves : (matched : List (Option Fed)) (i j level : ℕ) (kind : Kind) (part : Option Served) → IsNone part ↔ IsFreeInput matched i → IfSome part (IsServed matched i) → Gives part j level kind ↔ Serves matched i j level kind
+Gives-iff_serves matched i j level kind None free served = (λ given. absurd given, λ s. absurd (free.0 refl j level kind s))
+Gives-iff_serves matched i j level kind (Some part) free served = (
+  λ given. Serves-along matched i j part.level level part.kind kind (sym given.1) (sym given.2) ((served.outputs j).0 given.0),
+  λ s. let only = served.only j level kind s in ((served.outputs j).1 (Serves-along matched i j level part.level kind part.kind only.0 only.1 s), only.0, only.1),
+)
+
+-- what is posted and not given is what waits
+pub member-waits : (rows : List Row) (matched : List (Option Fed)) (i j level given rest : ℕ) → Has rest j ↔ (Names (row_of rows i) level Uni j × (Has given j → ⊥)) → Has given j ↔ Serves matched i j level Uni → (bit_at rest j == 1) ≡ is_waiting (record { rows = rows; matched = matched }) i j level
+member-waits rows matched i j level given rest left serves =
+    same_from_decides (bit_at rest j == 1) (is_waiting (record { rows = rows; matched = matched }) i j level)
+    (Decides-like (bit_at rest j == 1) (λ has. let p = left.0 has in (p.0, λ s. p.1 (serves.1 s))) (λ p. left.1 (p.0, λ has. p.1 (serves.0 has))) (Decides-eqb (bit_at rest j) 1))
+    (Decides-waiting (record { rows = rows; matched = matched }) i j level)

@@ -1,13 +1,12 @@
 -- Waits: for how many slots, one after the other, a unicast queue was posted and not served.
-use Rattle.std.specs.Prelude.{ℕ, ◌+◌, ◌==◌, ◌&&◌, Bool, true, false, not, max, if◌then◌else◌, List, [], ◌∷◌, Option, None, Some, slice_index}
+use Rattle.std.specs.Prelude.{ℕ, ◌+◌, ◌&&◌, Bool, not, max, if◌then◌else◌, List, [], ◌∷◌, Option}
 use Rattle.std.specs.List.{flat_map, range_with_len}
-use Rattle.std.specs.Int.{bit_at}
-use Rattle.rotating_pick.specs.declared.kinds.Kind.{Kind}
-use Rattle.rotating_pick.specs.declared.kinds.Kind.TheVariants.{Uni, Multi}
+use Rattle.rotating_pick.specs.declared.kinds.Kind.TheVariants.{Uni}
 use Rattle.slot_match.specs.declared.rows.Row.{Row}
 use Rattle.slot_match.specs.declared.matching.Fed.{Fed}
 use Rattle.slot_match.specs.Rows.{row_of}
 use Rattle.slot_match.specs.Matches.{fed_of}
+use Rattle.eslip_rounds.specs.Decisions.{is_named, is_fed}
 use Rattle.eslip_rounds.specs.Schedules.{DecidedSlot}
 
 -- what is noted of a slot: its rows and its match
@@ -19,23 +18,9 @@ pub record NotedSlot : Type 0 where
 abbrev pub noted_of : DecidedSlot → NotedSlot
 noted_of slot = record { rows = slot.rows; matched = slot.decision.matched }
 
--- whether the row names output j as unicast of the level
-abbrev pub is_posted : Row → ℕ → ℕ → Bool
-is_posted row j level = bit_at (slice_index row.uni level) j == 1
-
--- whether the kind is unicast
-abbrev pub is_unicast : Kind → Bool
-is_unicast Uni = true
-is_unicast Multi = false
-
--- whether this is unicast of the level from input i
-abbrev pub is_unicast_from : ℕ → ℕ → Option Fed → Bool
-is_unicast_from i level None = false
-is_unicast_from i level (Some fed) = (fed.input == i) && (fed.level == level) && is_unicast fed.kind
-
 -- whether queue (i, j, level) waits in the slot: it is posted there, and not matched there as unicast of the level
 abbrev pub is_waiting : NotedSlot → ℕ → ℕ → ℕ → Bool
-is_waiting slot i j level = is_posted (row_of slot.rows i) j level && not (is_unicast_from i level (fed_of slot.matched j))
+is_waiting slot i j level = is_named (row_of slot.rows i) level Uni j && not (is_fed i level Uni (fed_of slot.matched j))
 
 -- the wait of the queue in the slot, where it was `before` in the slot before
 abbrev pub wait_in : NotedSlot → ℕ → ℕ → ℕ → ℕ → ℕ
