@@ -11,12 +11,14 @@ use Rattle.rotating_pick.specs.declared.limits.TheConstants.{LEVELS}
 use Rattle.rotating_pick.proofs.Picking.{least}
 use Rattle.slot_match.specs.declared.rows.Row.{Row}
 use Rattle.slot_match.specs.declared.matching.Served.{Served}
-use Rattle.slot_match.specs.Rows.{Names, sets_of, IsWithin, IsOfLevels}
+use Rattle.slot_match.specs.Rows.{Names, IsWithin, IsOfLevels}
 use Rattle.slot_match.specs.Keeping.{KeepsRest, KeepsLevel, Gives}
 use Rattle.slot_match.proofs.Sets.{Has-set_of, Has-or, Has-same}
 use Rattle.slot_match.proofs.KeepingSets.{KeepsLevel-at}
-use Rattle.slot_histories.specs.Tests.{has, is_same, gives, rest_of, is_subset, keeps_level, keeps_rest}
-use Rattle.slot_histories.proofs.SetTests.{Decides-has, Decides-is_same, Decides-is_subset, Decides-no_members}
+use Rattle.eslip_rounds.specs.Decisions.{is_kind, is_named}
+use Rattle.eslip_rounds.proofs.Testing.{Decides-kind, Decides-named}
+use Rattle.slot_histories.specs.Tests.{has, gives, rest_of, is_subset, keeps_level, keeps_rest}
+use Rattle.slot_histories.proofs.SetTests.{Decides-has, Decides-is_subset, Decides-no_members}
 
 -- a test of each number from a on tells of each
 pub Decides-each : (test : ℕ → Bool) (P : ℕ → Type 0) → ((i : ℕ) → Decides (test i) (P i)) → (a n : ℕ) → Decides (list_all test (range_with_len a n)) ((i : ℕ) → a ≤ i → i < a + n → P i)
@@ -33,10 +35,10 @@ pub Decides-gives : (served : Option Served) (j level : ℕ) (kind : Kind) → D
 unfolding gives
 Decides-gives None j level kind = (λ e. absurd (cc), λ given. absurd given)
 Decides-gives (Some served) j level kind =
-    Decides-like (has served.outputs j && (level == served.level) && is_same kind served.kind) (λ p. (p.0.0, p.0.1, p.1)) (λ g. ((g.0, g.1), g.2))
-    (Decides-and (has served.outputs j && (level == served.level)) (is_same kind served.kind)
+    Decides-like (has served.outputs j && (level == served.level) && is_kind kind served.kind) (λ p. (p.0.0, p.0.1, p.1)) (λ g. ((g.0, g.1), g.2))
+    (Decides-and (has served.outputs j && (level == served.level)) (is_kind kind served.kind)
     (Decides-and (has served.outputs j) (level == served.level) (Decides-has served.outputs j) (Decides-eqb level served.level))
-    (Decides-is_same kind served.kind))
+    (Decides-kind kind served.kind))
 
 -- what is left of a head of the level, if anything is, is the new head
 abbrev IsHeadKept : Option Served → Row → Row → ℕ → Type 0
@@ -47,9 +49,8 @@ module _ (n : ℕ) (served : Option Served) (old : Row) (within : IsWithin n old
   Has-rest_of : (level : ℕ) (kind : Kind) (j : ℕ) → Has (rest_of n served old level kind) j ↔ (Names old level kind j × (Gives served j level kind → ⊥))
   unfolding rest_of
   Has-rest_of level kind j =
-      let named = slice_index (sets_of old kind) level in
-      let tells : Decides (has named j && not (gives served j level kind)) (Has named j × (Gives served j level kind → ⊥)) = Decides-and (has named j) (not (gives served j level kind)) (Decides-has named j) (Decides-not (gives served j level kind) (Decides-gives served j level kind)) in
-      let of = Has-set_of n (λ k. has named k && not (gives served k level kind)) j in
+      let of = Has-set_of n (λ k. is_named old level kind k && not (gives served k level kind)) j in
+      let tells : Decides (is_named old level kind j && not (gives served j level kind)) (Names old level kind j × (Gives served j level kind → ⊥)) = Decides-and (is_named old level kind j) (not (gives served j level kind)) (Decides-named old level kind j) (Decides-not (gives served j level kind) (Decides-gives served j level kind)) in
       (λ member. tells.0 (of.0 member).1, λ p. of.1 (within level j kind p.0, tells.1 p))
 
   rest_within : (level : ℕ) (kind : Kind) (j : ℕ) → Has (rest_of n served old level kind) j → j < n

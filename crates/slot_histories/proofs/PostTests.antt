@@ -11,9 +11,11 @@ use Rattle.slot_match.specs.Rows.{IsWithin, IsOfLevels}
 use Rattle.cell_cutter.specs.declared.cell.Cell.{Cell}
 use Rattle.cell_cutter.specs.Cells.{IsUsed, IsCellForm}
 use Rattle.crossbar.specs.declared.cards.Post.{Post as CardPost}
+use Rattle.eslip_rounds.specs.Decisions.{is_kind}
+use Rattle.eslip_rounds.proofs.Testing.{Decides-kind}
 use Rattle.slot_histories.specs.Legal.{IsGrantedCell, IsAccepted}
-use Rattle.slot_histories.specs.Tests.{is_same, is_within, is_empty, is_of_levels, keeps_rest, is_used, is_cell_form, is_granted_cell, is_accepted}
-use Rattle.slot_histories.proofs.SetTests.{Decides-is_same, Decides-is_within, Decides-is_empty, Decides-is_of_levels}
+use Rattle.slot_histories.specs.Tests.{is_within, is_empty, is_of_levels, keeps_rest, is_used, is_cell_form, is_granted_cell, is_accepted}
+use Rattle.slot_histories.proofs.SetTests.{Decides-is_within, Decides-is_empty, Decides-is_of_levels}
 use Rattle.slot_histories.proofs.KeepingTests.{Decides-keeps_rest}
 
 Decides-leb : (a b : ℕ) → Decides (nat_le a b) (a ≤ b)
@@ -70,9 +72,9 @@ Decides-is_granted_cell card (Some served) (Some cell) =
     let form = is_cell_form cell in
     let input = cell.input == card in
     let level = cell.level == served.level in
-    let kind = is_same cell.kind served.kind in
+    let kind = is_kind cell.kind served.kind in
     Decides-like (form && input && level && kind) (λ p. (p.0.0.0, p.0.0.1, p.0.1, p.1)) (λ g. (((g.0, g.1), g.2), g.3))
-    (Decides-and (form && input && level) kind (Decides-and (form && input) level (Decides-and form input (Decides-is_cell_form cell) (Decides-eqb cell.input card)) (Decides-eqb cell.level served.level)) (Decides-is_same cell.kind served.kind))
+    (Decides-and (form && input && level) kind (Decides-and (form && input) level (Decides-and form input (Decides-is_cell_form cell) (Decides-eqb cell.input card)) (Decides-eqb cell.level served.level)) (Decides-kind cell.kind served.kind))
 
 -- the test of a post tells whether it is accepted, after a row that names none but the n ports at the four levels
 pub Decides-is_accepted : (n card : ℕ) (last : Row) (served : Option Served) (post : CardPost) → IsWithin n last → IsOfLevels last → Decides (is_accepted n card last served post) (IsAccepted n card last served post)

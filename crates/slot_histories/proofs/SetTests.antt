@@ -17,16 +17,10 @@ use Rattle.slot_match.specs.declared.rows.Row.{Row}
 use Rattle.slot_match.specs.Rows.{Names, sets_of, IsWithin, IsOfLevels, IsEmptyRow}
 use Rattle.slot_match.specs.Parts.{set_of}
 use Rattle.slot_match.proofs.Sets.{Has-set_of, Has-or}
-use Rattle.slot_histories.specs.Tests.{has, is_same, all_sets, is_within, is_empty, is_of_levels, is_subset}
+use Rattle.slot_histories.specs.Tests.{has, all_sets, is_within, is_empty, is_of_levels, is_subset}
 
 pub Decides-has : (ports j : ℕ) → Decides (has ports j) (Has ports j)
 Decides-has ports j = Decides-eqb (bit_at ports j) 1
-
-pub Decides-is_same : (a b : Kind) → Decides (is_same a b) (a ≡ b)
-Decides-is_same Uni Uni = (λ e. refl, λ e. refl)
-Decides-is_same Uni Multi = (λ e. absurd (cc), λ e. absurd (cc))
-Decides-is_same Multi Uni = (λ e. absurd (cc), λ e. absurd (cc))
-Decides-is_same Multi Multi = (λ e. refl, λ e. refl)
 
 -- a set of none but the n ports is a number below 2 ^ n
 pub lt-members : (n ports : ℕ) → ((j : ℕ) → Has ports j → j < n) → ports < 2 ^ n

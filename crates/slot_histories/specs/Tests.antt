@@ -7,8 +7,8 @@ use Rattle.rotating_pick.specs.declared.kinds.Kind.TheVariants.{Uni, Multi}
 use Rattle.rotating_pick.specs.declared.limits.TheConstants.{LEVELS}
 use Rattle.slot_match.specs.declared.rows.Row.{Row}
 use Rattle.slot_match.specs.declared.matching.Served.{Served}
-use Rattle.slot_match.specs.Rows.{sets_of}
 use Rattle.slot_match.specs.Parts.{set_of}
+use Rattle.eslip_rounds.specs.Decisions.{is_kind, is_named}
 use Rattle.cell_cutter.specs.declared.cell.Cell.{Cell}
 use Rattle.crossbar.specs.declared.cards.Post.{Post as CardPost}
 use Rattle.slot_histories.specs.declared.events.Event.{Event}
@@ -19,13 +19,6 @@ use Rattle.slot_histories.specs.Slots.{is_done_before, row_before, served_before
 -- whether port j is a member of the set
 abbrev pub has : ℕ → ℕ → Bool
 has ports j = bit_at ports j == 1
-
--- whether the kinds are one
-abbrev pub is_same : Kind → Kind → Bool
-is_same Uni Uni = true
-is_same Uni Multi = false
-is_same Multi Uni = false
-is_same Multi Multi = true
 
 -- whether each set of the row passes
 abbrev pub all_sets : (ℕ → Bool) → Row → Bool
@@ -46,11 +39,11 @@ is_of_levels row = is_empty (record { uni = drop LEVELS row.uni; multi = drop LE
 -- whether the part serves output j, at the level with the kind
 unfoldable pub gives : Option Served → ℕ → ℕ → Kind → Bool
 gives None j level kind = false
-gives (Some served) j level kind = has served.outputs j && (level == served.level) && is_same kind served.kind
+gives (Some served) j level kind = has served.outputs j && (level == served.level) && is_kind kind served.kind
 
 -- the outputs below n that the row names and the part does not serve
 unfoldable pub rest_of : ℕ → Option Served → Row → ℕ → Kind → ℕ
-rest_of n served row level kind = set_of n (λ j. has (slice_index (sets_of row kind) level) j && not (gives served j level kind))
+rest_of n served row level kind = set_of n (λ j. is_named row level kind j && not (gives served j level kind))
 
 -- whether each of the first n ports that is in `inner` is in `outer`
 unfoldable pub is_subset : ℕ → ℕ → ℕ → Bool
@@ -82,7 +75,7 @@ unfoldable pub is_granted_cell : ℕ → Option Served → Option Cell → Bool
 is_granted_cell card None None = true
 is_granted_cell card None (Some cell) = false
 is_granted_cell card (Some served) None = false
-is_granted_cell card (Some served) (Some cell) = is_cell_form cell && (cell.input == card) && (cell.level == served.level) && is_same cell.kind served.kind
+is_granted_cell card (Some served) (Some cell) = is_cell_form cell && (cell.input == card) && (cell.level == served.level) && is_kind cell.kind served.kind
 
 -- whether the post is accepted from the card, which posted `last` for the slot before and was served there so
 unfoldable pub is_accepted : ℕ → ℕ → Row → Option Served → CardPost → Bool
