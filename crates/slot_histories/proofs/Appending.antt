@@ -1,8 +1,8 @@
 -- What stands in a list of events with more at its end.
-use Rattle.std.proofs.Common.{◌≡◌, ◌≢◌, ◌∙◌, ℕ, ◌+◌, ◌<◌, Bool, true, false, List, [], ◌∷◌, ◌++◌, length, refl, ap, arith, if◌then◌else◌, ◌==◌, length-append}
+use Rattle.std.proofs.Common.{◌≡◌, ◌≢◌, ◌∙◌, ℕ, ◌+◌, ◌<◌, Bool, true, false, List, [], ◌∷◌, ◌++◌, length, refl, ap, arith, if◌then◌else◌, ◌==◌}
 use Rattle.std.proofs.Math.ListN.{get_or-append}
 use Rattle.std.proofs.lemmas.Bool.{eq-eqb, ne_eqb}
-use Rattle.std.proofs.lemmas.List.{append-nil}
+use Rattle.std.proofs.lemmas.List.{append-nil, length_push}
 use Rattle.crossbar.specs.declared.cards.Post.{Post as CardPost}
 use Rattle.slot_histories.specs.declared.events.Event.{Event}
 use Rattle.slot_histories.specs.declared.events.Event.TheVariants.{Post, Decide, Take}
@@ -81,9 +81,6 @@ decides-decide events = omega (arith, decides-append events (Decide ∷ []))
 pub decides-take : (events : List Event) (card : ℕ) → decides (events ++ Take card ∷ []) ≡ decides events
 decides-take events card = omega (arith, decides-append events (Take card ∷ []))
 
-pub length-one : {X : Type 0} (xs : List X) (x : X) → length (xs ++ x ∷ []) ≡ length xs + 1
-length-one xs x = omega (arith, length-append xs (x ∷ []))
-
 -- how many the card has posted with one post more
 pub posted_more : (events : List Event) (card : ℕ) (post : CardPost) → length (posts_of card (events ++ Post card post ∷ [])) ≡ length (posts_of card events) + 1
-posted_more events card post = ap length (posts_of-same events card post) ∙ length-one (posts_of card events) post
+posted_more events card post = ap length (posts_of-same events card post) ∙ length_push (posts_of card events) post

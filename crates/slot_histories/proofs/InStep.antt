@@ -2,12 +2,13 @@
 use Rattle.std.proofs.Common.{◌≡◌, ◌≢◌, ℕ, ◌+◌, ◌*◌, ◌<◌, ◌≤◌, List, [], ◌∷◌, ◌++◌, length, ap, subst, arith, inl, inr}
 use Rattle.std.specs.List.{range_with_len, sum_by}
 use Rattle.std.proofs.lemmas.Bool.{cases_eq}
+use Rattle.std.proofs.lemmas.List.{length_push}
 use Rattle.crossbar.specs.declared.cards.Post.{Post as CardPost}
 use Rattle.slot_histories.specs.declared.events.Event.{Event}
 use Rattle.slot_histories.specs.declared.events.Event.TheVariants.{Post, Decide, Take}
 use Rattle.slot_histories.specs.Events.{Setup, posts_of, takes_of, decides, posted}
 use Rattle.slot_histories.specs.Legal.{MayPost, MayDecide, MayTake, Allows}
-use Rattle.slot_histories.proofs.Appending.{posted-append, posts_of-other, posts_of-decide, posts_of-take, takes_of-same, takes_of-other, takes_of-post, takes_of-decide, decides-post, decides-decide, decides-take, length-one, posted_more}
+use Rattle.slot_histories.proofs.Appending.{posted-append, posts_of-other, posts_of-decide, posts_of-take, takes_of-same, takes_of-other, takes_of-post, takes_of-decide, decides-post, decides-decide, decides-take, posted_more}
 use Rattle.slot_histories.proofs.CardSums.{sum_by-range_same, sum_by-range_one, sum_by-range_le}
 
 -- how many posts and takes of the card stand in the list
@@ -55,7 +56,7 @@ AreInStep-post s events card post step may =
       taken_decided = λ i below. omega (arith, takes i, slots, step.taken_decided i below);
       total =
           let sums = sum_by-range_one 0 s.ports (acts_of events) (acts_of (events ++ Post card post ∷ [])) card (omega arith) (omega (arith, may.card_in)) (omega (arith, same, takes card)) (λ i from below ne. omega (arith, other i ne, takes i)) in
-          omega (arith, sums, slots, step.total, length-one events (Post card post));
+          omega (arith, sums, slots, step.total, length_push events (Post card post));
     }
 
 pub AreInStep-decide : (s : Setup) (events : List Event) → AreInStep s events → MayDecide s events → AreInStep s (events ++ Decide ∷ [])
@@ -70,7 +71,7 @@ AreInStep-decide s events step may =
       taken_decided = λ i below. omega (arith, takes i, slots, step.taken_decided i below);
       total =
           let sums = sum_by-range_same 0 s.ports (acts_of events) (acts_of (events ++ Decide ∷ [])) (λ i from below. omega (arith, takes i, lengths i)) in
-          omega (arith, sums, slots, step.total, length-one events Decide);
+          omega (arith, sums, slots, step.total, length_push events Decide);
     }
 
 pub AreInStep-take : (s : Setup) (events : List Event) (card : ℕ) → AreInStep s events → MayTake s events card → AreInStep s (events ++ Take card ∷ [])
@@ -88,7 +89,7 @@ AreInStep-take s events card step may =
       ];
       total =
           let sums = sum_by-range_one 0 s.ports (acts_of events) (acts_of (events ++ Take card ∷ [])) card (omega arith) (omega (arith, may.card_in)) (omega (arith, same, lengths card)) (λ i from below ne. omega (arith, takes_of-other events card i ne, lengths i)) in
-          omega (arith, sums, slots, step.total, length-one events (Take card));
+          omega (arith, sums, slots, step.total, length_push events (Take card));
     }
 
 pub AreInStep-more : (s : Setup) (events : List Event) (event : Event) → AreInStep s events → Allows s events event → AreInStep s (events ++ event ∷ [])

@@ -1,18 +1,16 @@
 -- What the tests of sets and rows tell.
-use Rattle.std.proofs.Common.{◌≡◌, ◌∙◌, ℕ, zero, suc, ◌+◌, ◌-◌, ◌%◌, ◌^◌, ◌<◌, ◌==◌, ◌&&◌, not, nat_lt, Bool, true, List, [], ◌∷◌, drop, slice_index, refl, sym, ap, subst, arith, inl, inr}
+use Rattle.std.proofs.Common.{◌≡◌, ◌∙◌, ℕ, zero, suc, ◌+◌, ◌-◌, ◌^◌, ◌<◌, ◌==◌, ◌&&◌, not, nat_lt, Bool, true, List, [], ◌∷◌, drop, slice_index, refl, sym, ap, subst, arith, inl, inr}
 use Rattle.std.specs.Bool.{Decides}
 use Rattle.std.specs.Int.{bit_at}
 use Rattle.std.specs.List.{list_all}
 use Rattle.std.proofs.lemmas.List.{get_or-drop}
-use Rattle.std.proofs.lemmas.Bool.{cases_eq, cases_lt, and_parts, and_from}
+use Rattle.std.proofs.lemmas.Bool.{cases_lt, and_parts, and_from}
 use Rattle.std.proofs.lemmas.Bool.Decides.{Decides-eqb, Decides-ltb, Decides-like, Decides-and, Decides-not}
-use Rattle.std.proofs.lemmas.Nat.{mod_below, pow_pos}
-use Rattle.std.proofs.lemmas.Nat.Bits.{same_from_bits, bit_at_above, bit_at-lt}
 use Rattle.rotating_pick.specs.PortSets.{Has}
 use Rattle.rotating_pick.specs.declared.kinds.Kind.{Kind}
 use Rattle.rotating_pick.specs.declared.kinds.Kind.TheVariants.{Uni, Multi}
 use Rattle.rotating_pick.specs.declared.limits.TheConstants.{LEVELS}
-use Rattle.rotating_pick.proofs.Bits.{Has-lt, no_member-zero, zero-no_members, bit_at-mod}
+use Rattle.rotating_pick.proofs.Bits.{Has-lt, no_member-zero, zero-no_members, IsAmong-from_members}
 use Rattle.slot_match.specs.declared.rows.Row.{Row}
 use Rattle.slot_match.specs.Rows.{Names, sets_of, IsWithin, IsOfLevels, IsEmptyRow}
 use Rattle.slot_match.specs.Parts.{set_of}
@@ -22,21 +20,9 @@ use Rattle.slot_histories.specs.Tests.{has, all_sets, is_within, is_empty, is_of
 pub Decides-has : (ports j : ℕ) → Decides (has ports j) (Has ports j)
 Decides-has ports j = Decides-eqb (bit_at ports j) 1
 
--- a set of none but the n ports is a number below 2 ^ n
-pub lt-members : (n ports : ℕ) → ((j : ℕ) → Has ports j → j < n) → ports < 2 ^ n
-lt-members n ports below =
-    let low : ports % 2 ^ n < 2 ^ n = mod_below ports (2 ^ n) (pow_pos n) in
-    let same : ports ≡ ports % 2 ^ n = same_from_bits ports (ports % 2 ^ n) (λ j. elim (cases_lt j n) [
-      | inl inside ↦ sym (bit_at-mod ports n j inside)
-      | inr above ↦ elim (cases_eq (bit_at ports j) 1) [
-        | inl member ↦ absurd (let h = below j member in omega arith)
-        | inr other ↦ let b = bit_at-lt ports j in let none = bit_at_above (ports % 2 ^ n) n j low above in omega arith
-      ]
-    ]) in
-    omega arith
-
+-- a number is below 2 ^ n where, as a set, it has none but the n ports
 pub Decides-below : (n ports : ℕ) → Decides (nat_lt ports (2 ^ n)) ((j : ℕ) → Has ports j → j < n)
-Decides-below n ports = Decides-like (nat_lt ports (2 ^ n)) (λ among j member. Has-lt n ports j among member) (lt-members n ports) (Decides-ltb ports (2 ^ n))
+Decides-below n ports = Decides-like (nat_lt ports (2 ^ n)) (λ among j member. Has-lt n ports j among member) (IsAmong-from_members n ports) (Decides-ltb ports (2 ^ n))
 
 pub Decides-no_members : (ports : ℕ) → Decides (ports == 0) ((j : ℕ) → Has ports j → ⊥)
 Decides-no_members ports = Decides-like (ports == 0) (λ e j member. no_member-zero j (subst (λ set. Has set j) e member)) (zero-no_members ports) (Decides-eqb ports 0)
