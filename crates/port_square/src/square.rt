@@ -59,6 +59,7 @@ mod tests {
     use crate::{PORTS, turn_square};
 
     // Rows that are set, and the columns that they are then.
+    #[derive(Clone, Copy)]
     struct Case {
         rows: [(usize, u64); 3],
         columns: [(usize, u64); 3],
