@@ -5,9 +5,11 @@ use Rattle.std.proofs.lemmas.List.{length-replicate, get_or-replicate, get_or_pa
 use Rattle.rotating_pick.specs.PortSets.{Has}
 use Rattle.rotating_pick.specs.declared.kinds.Kind.{Kind}
 use Rattle.rotating_pick.specs.declared.limits.TheConstants.{MAX_PORTS}
+use Rattle.rotating_pick.proofs.Bits.{no_member-zero}
 use Rattle.slot_match.specs.declared.rows.Row.{Row}
 use Rattle.slot_match.specs.Rows.{Names, row_of}
-use Rattle.slot_match.proofs.Sets.{zero-has, Has-zero}
+use Rattle.slot_match.proofs.Sets.{zero-has}
+use Rattle.islip_rounds.proofs.Tables.{get_or-same, no_members}
 use Rattle.eslip_rounds.specs.declared.ranks.TheConstants.{RANKS}
 use Rattle.eslip_rounds.specs.Ranks.{level_at, kind_at}
 use Rattle.eslip_rounds.specs.Steps.{column_of}
@@ -24,24 +26,14 @@ no_column : (r j : ℕ) → column_of (replicate RANKS (replicate MAX_PORTS 0)) 
 no_column r j =
     let zeros : List ℕ = replicate MAX_PORTS 0 in
     let table : List (List ℕ) = replicate RANKS zeros in
-    let in_zeros : slice_index zeros j ≡ 0 = elim (cases_lt j MAX_PORTS) [
-      | inl below ↦ get_or-replicate MAX_PORTS j 0 0 below
-      | inr above ↦ get_or_past zeros j 0 (let long : length zeros ≡ MAX_PORTS = length-replicate {A = ℕ} MAX_PORTS 0 in omega arith)
-    ] in
     elim (cases_lt r RANKS) [
-      | inl below ↦ ap (λ row. slice_index row j) (get_or-replicate RANKS r zeros [] below) ∙ in_zeros
+      | inl below ↦ ap (λ row. slice_index row j) (get_or-replicate RANKS r zeros [] below) ∙ get_or-same 0 MAX_PORTS j
       | inr above ↦ ap (λ row. slice_index row j) (get_or_past table r [] (let long : length table ≡ RANKS = length-replicate RANKS zeros in omega arith))
     ]
 
 -- nor has a set that is empty
 pub no_set : (sets : List ℕ) → sets ≡ replicate MAX_PORTS 0 → (i j : ℕ) → Has (slice_index sets j) i → ⊥
-no_set sets e i j has =
-    let zeros : List ℕ = replicate MAX_PORTS 0 in
-    let empty : slice_index zeros j ≡ 0 = elim (cases_lt j MAX_PORTS) [
-      | inl below ↦ get_or-replicate MAX_PORTS j 0 0 below
-      | inr above ↦ get_or_past zeros j 0 (let long : length zeros ≡ MAX_PORTS = length-replicate {A = ℕ} MAX_PORTS 0 in omega arith)
-    ] in
-    zero-has (slice_index sets j) i (ap (λ m. slice_index m j) e ∙ empty) has
+no_set sets e i j has = no_members MAX_PORTS j i (subst (λ table. Has (slice_index table j) i) e has)
 
 pub AreDone-first : (n : ℕ) (first : Kind) (rows : List Row) (columns : List (List ℕ)) → columns ≡ replicate RANKS (replicate MAX_PORTS 0) → AreDone n 0 first rows columns 0
 AreDone-first n first rows columns e =
@@ -51,7 +43,7 @@ AreDone-first n first rows columns e =
       done = λ r i j below. absurd (omega arith);
       left = λ r i j above has. zero-has (column_of columns r j) i (ap (λ table. column_of table r j) e ∙ no_column r j) has;
       uses = λ r i j below. absurd (omega arith);
-      uses_in = λ r has. absurd (Has-zero r has);
+      uses_in = λ r has. absurd (no_member-zero r has);
     }
 
 module _ (n k : ℕ) (first : Kind) (rows : List Row) (columns : List (List ℕ)) (used : ℕ) (known : AreDone n k first rows columns used) (level : ℕ) (kind : Kind) (level_is : level ≡ level_at k) (kind_is : kind ≡ kind_at first k) where

@@ -11,6 +11,7 @@ use Rattle.slot_match.specs.declared.matching.Fed.{Fed}
 use Rattle.slot_match.specs.Rows.{row_of, AreWithin}
 use Rattle.slot_match.specs.Matches.{fed_of, IsFreeOutput, IsMatch, IsMaximal}
 use Rattle.slot_match.proofs.Pairs.{Serves-from}
+use Rattle.slot_match.proofs.Tables.{one_if_some}
 use Rattle.pointer_state.specs.Places.{Places, AreAtPorts, accept_of}
 use Rattle.islip_rounds.specs.Numbers.{last_of, matched_count, added_from, rounds_used}
 use Rattle.eslip_rounds.specs.Rounds.{Requests, Grants, IsRound, AreRounds}
@@ -18,13 +19,9 @@ use Rattle.eslip_rounds.proofs.Bests.{taken_from}
 use Rattle.eslip_rounds.proofs.Matching.{IsMatch-round, IsMatch-rounds}
 use Rattle.eslip_rounds.proofs.Deciding.{Grants-some, Accepts-some, asks_some}
 
--- what an output adds to the count
-abbrev one_if_fed : Option Fed → ℕ
-one_if_fed o = cond (is_some o) 1 0
-
-fed_more : (o p : Option Fed) → ((f : Fed) → o ≡ Some f → p ≡ Some f) → one_if_fed o ≤ one_if_fed p
+fed_more : (o p : Option Fed) → ((f : Fed) → o ≡ Some f → p ≡ Some f) → one_if_some o ≤ one_if_some p
 fed_more None p keep = omega arith
-fed_more (Some f) p keep = let e : one_if_fed p ≡ 1 = ap one_if_fed (keep f refl) in omega arith
+fed_more (Some f) p keep = let e : one_if_some p ≡ 1 = ap one_if_some (keep f refl) in omega arith
 
 -- a match that keeps another has no fewer outputs
 grown : (a b : List (Option Fed)) → length a ≡ length b → ((j : ℕ) (f : Fed) → fed_of a j ≡ Some f → fed_of b j ≡ Some f) → matched_count a ≤ matched_count b
@@ -34,8 +31,8 @@ grown (x ∷ a) [] long keep = absurd (omega arith)
 grown (x ∷ a) (y ∷ b) long keep =
     let later = grown a b (omega arith) (λ j f e. keep (suc j) f e) in
     let here = fed_more x y (λ f e. keep zero f e) in
-    let left = sum_by-cons one_if_fed x a in
-    let right = sum_by-cons one_if_fed y b in
+    let left = sum_by-cons one_if_some x a in
+    let right = sum_by-cons one_if_some y b in
     omega arith
 
 -- and more where an output was free
@@ -45,19 +42,19 @@ grown_more [] (y ∷ b) long keep j f none some = absurd (omega arith)
 grown_more (x ∷ a) [] long keep j f none some = absurd (omega arith)
 grown_more (x ∷ a) (y ∷ b) long keep zero f none some =
     let later = grown a b (omega arith) (λ j g e. keep (suc j) g e) in
-    let before : one_if_fed x ≡ 0 = ap one_if_fed none in
-    let after : one_if_fed y ≡ 1 = ap one_if_fed some in
-    let left = sum_by-cons one_if_fed x a in
-    let right = sum_by-cons one_if_fed y b in
+    let before : one_if_some x ≡ 0 = ap one_if_some none in
+    let after : one_if_some y ≡ 1 = ap one_if_some some in
+    let left = sum_by-cons one_if_some x a in
+    let right = sum_by-cons one_if_some y b in
     omega arith
 grown_more (x ∷ a) (y ∷ b) long keep (suc j) f none some =
     let later = grown_more a b (omega arith) (λ k g e. keep (suc k) g e) j f none some in
     let here = fed_more x y (λ g e. keep zero g e) in
-    let left = sum_by-cons one_if_fed x a in
-    let right = sum_by-cons one_if_fed y b in
+    let left = sum_by-cons one_if_some x a in
+    let right = sum_by-cons one_if_some y b in
     omega arith
 
-at_most_one : (o : Option Fed) → one_if_fed o ≤ 1
+at_most_one : (o : Option Fed) → one_if_some o ≤ 1
 at_most_one None = omega arith
 at_most_one (Some f) = omega arith
 
@@ -66,13 +63,13 @@ not_all : (m : List (Option Fed)) (j : ℕ) → j < length m → fed_of m j ≡ 
 not_all [] j below none = absurd (omega arith)
 not_all (x ∷ m) zero below none =
     let later = count_by-le-length is_some m in
-    let here : one_if_fed x ≡ 0 = ap one_if_fed none in
-    let whole = sum_by-cons one_if_fed x m in
+    let here : one_if_some x ≡ 0 = ap one_if_some none in
+    let whole = sum_by-cons one_if_some x m in
     omega arith
 not_all (x ∷ m) (suc j) below none =
     let later = not_all m j (omega arith) none in
     let here = at_most_one x in
-    let whole = sum_by-cons one_if_fed x m in
+    let whole = sum_by-cons one_if_some x m in
     omega arith
 
 -- a round that adds counts as used

@@ -1,5 +1,5 @@
 -- A slot in which rows name unicast of one level alone is a slot of iSLIP.
-use Rattle.std.proofs.Common.{◌≡◌, ℕ, zero, suc, ◌+◌, ◌<◌, ◌≤◌, ◌∙◌, cond, List, [], ◌∷◌, Option, None, Some, length, map, is_some, slice_index_or, refl, sym, ap, subst, arith, add-one}
+use Rattle.std.proofs.Common.{◌≡◌, ℕ, zero, suc, ◌+◌, ◌<◌, ◌≤◌, ◌∙◌, List, [], ◌∷◌, Option, None, Some, length, map, slice_index_or, refl, sym, ap, subst, arith, add-one}
 use Rattle.std.specs.List.{range_with_len}
 use Rattle.std.specs.Option.{option_map}
 use Rattle.std.proofs.lemmas.List.{length-replicate, get_or-replicate, ext_get_or}
@@ -9,6 +9,7 @@ use Rattle.rotating_pick.specs.declared.limits.TheConstants.{LEVELS, MAX_PORTS}
 use Rattle.slot_match.specs.declared.rows.Row.{Row}
 use Rattle.slot_match.specs.declared.matching.Fed.{Fed}
 use Rattle.slot_match.specs.Matches.{unmatched, fed_of}
+use Rattle.slot_match.proofs.Tables.{one_if_some}
 use Rattle.slot_match.proofs.Kept.{fed_of-unmatched, nobody_at_first, IsMatch-unmatched}
 use Rattle.pointer_state.specs.Places.{Places}
 use Rattle.islip_rounds.specs.Numbers.{last_of, matched_count, numbers_of, added_from}
@@ -22,10 +23,6 @@ use Rattle.eslip_rounds.proofs.OneLevelRounds.{ArePairsOf, inputs_at, feeds, Are
 -- the input that feeds an output, if any does
 abbrev input_at : List (Option Fed) → ℕ → Option ℕ
 input_at matched j = option_map (λ fed. fed.input) (fed_of matched j)
-
--- what an output adds to a count
-abbrev one_if_some : {X : Type 0} → Option X → ℕ
-one_if_some o = cond (is_some o) 1 0
 
 same_one : (o : Option Fed) → one_if_some (option_map (λ fed. fed.input) o) ≡ one_if_some o
 same_one None = refl

@@ -2,7 +2,7 @@
 use Rattle.std.proofs.Common.{◌≡◌, ℕ, zero, suc, ◌+◌, ◌<◌, ◌≤◌, ◌==◌, ◌⊎◌, ◌∙◌, ◌&&◌, ◌||◌, Bool, true, false, not, List, [], ◌∷◌, Option, None, Some, refl, ap, inl, inr, arith}
 use Rattle.std.specs.Bool.{Decides}
 use Rattle.std.specs.List.{list_any, range_with_len}
-use Rattle.std.proofs.lemmas.Bool.{cases_eq, eqb-true, eq-eqb}
+use Rattle.std.proofs.lemmas.Bool.{cases_eq, eq-eqb}
 use Rattle.std.proofs.lemmas.Bool.Decides.{Decides-eqb, Decides-and, Decides-or, Decides-not, Decides-like}
 use Rattle.std.proofs.lemmas.Option.{same_Some}
 use Rattle.rotating_pick.specs.declared.kinds.Kind.{Kind}
@@ -14,6 +14,7 @@ use Rattle.slot_match.specs.Rows.{Names, row_of}
 use Rattle.slot_match.specs.Matches.{fed_of, Serves, IsFreeInput, IsMatch}
 use Rattle.slot_match.specs.Parts.{is_from}
 use Rattle.slot_match.proofs.Pairs.{same_fed, Serves-alike}
+use Rattle.slot_match.proofs.ServedParts.{is_from-some}
 use Rattle.eslip_rounds.specs.Rounds.{Asks, GoesOn, Requests}
 use Rattle.eslip_rounds.specs.Decisions.{ports, is_kind, is_named, is_fed, is_asked, is_going_on, is_request}
 
@@ -66,14 +67,10 @@ Decides-paired matched i level kind =
     Decides-like (list_any (is_fed i level kind) matched) (λ f. (f.0, (Decides-fed i level kind (fed_of matched f.0)).0 f.1)) (λ f. (f.0, (Decides-fed i level kind (fed_of matched f.0)).1 f.1))
     (any_output (is_fed i level kind) refl matched)
 
-from_fed : (i : ℕ) (o : Option Fed) → is_from i o ≡ true → (f : Fed) × (o ≡ Some f) × (f.input ≡ i)
-from_fed i None h = absurd (cc)
-from_fed i (Some f) h = (f, refl, eqb-true f.input i h)
-
 pub Decides-free : (matched : List (Option Fed)) (i : ℕ) → Decides (not (list_any (is_from i) matched)) (IsFreeInput matched i)
 Decides-free matched i =
     Decides-like (not (list_any (is_from i) matched)) (λ no j level kind s. no (j, ap (is_from i) s ∙ eq-eqb i i refl))
-    (λ free p. let found = from_fed i (fed_of matched p.0) p.1 in let f = found.0 in free p.0 f.level f.kind (found.1 ∙ ap Some (same_fed f (record { input = i; level = f.level; kind = f.kind }) found.2 refl refl)))
+    (λ free p. let found = is_from-some i (fed_of matched p.0) p.1 in let f = found.0 in free p.0 f.level f.kind (found.1 ∙ ap Some (same_fed f (record { input = i; level = f.level; kind = f.kind }) found.2 refl refl)))
     (Decides-not (list_any (is_from i) matched) (any_output (is_from i) refl matched))
 
 pub Decides-asked : (row : Row) (j level : ℕ) (kind : Kind) → level < LEVELS → Decides (is_asked row j level kind) (Asks row j level kind)

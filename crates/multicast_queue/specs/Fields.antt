@@ -1,6 +1,7 @@
 -- How the queues of an input are kept: a ring for each level.
 use Rattle.std.specs.Prelude.{◌≡◌, ℕ, ◌+◌, ◌<◌, ◌≤◌, List, [], ◌∷◌, length, map, min, slice_index_or}
 use Rattle.rotating_pick.specs.PortSets.{IsAmong}
+use Rattle.rotating_pick.specs.declared.limits.TheConstants.{LEVELS}
 use Rattle.multicast_queue.specs.FanQueues.{FanCell, Queues}
 use Rattle.multicast_queue.specs.Rings.{Kept, queue_of, empty_ring}
 
@@ -27,5 +28,5 @@ pub record HasRoom (ports depth : ℕ) (kept : Kept) : Type 0 where
 
 -- the rings of the four levels
 pub record AreKept (ports depth : ℕ) (kept : List Kept) : Type 0 where
-  pub long : length kept ≡ 4
-  pub rooms : (level : ℕ) → level < 4 → HasRoom ports depth (ring_at kept level)
+  pub long : length kept ≡ LEVELS
+  pub rooms : (level : ℕ) → level < LEVELS → HasRoom ports depth (ring_at kept level)

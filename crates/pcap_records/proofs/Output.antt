@@ -152,7 +152,7 @@ spelled p =
 nanos_read : (p : Packet) → p.nanos < 256 ^ 4 → number_in Big 4 (drop 4 (message_of p)) ≡ p.nanos
 nanos_read p fits = ap (number_in Big 4) (spelled p).four_is ∙ number_in-number_bytes Big 4 p.nanos (number_bytes Big 4 (length p.bytes) ++ (number_bytes Big 4 p.original ++ p.bytes)) fits
 
-length-message_of : (p : Packet) → length (message_of p) ≡ 16 + length p.bytes
+pub length-message_of : (p : Packet) → length (message_of p) ≡ 16 + length p.bytes
 length-message_of p =
     let a = length-number_bytes Big 4 p.seconds in
     let b = length-number_bytes Big 4 p.nanos in

@@ -7,7 +7,8 @@ use Rattle.rotating_pick.specs.declared.limits.TheConstants.{LEVELS, MAX_PORTS}
 use Rattle.pointer_state.specs.Places.{Places, place_of, grant_of, accept_of, shared_of, with_place, AreAtPorts, places_at_first, places_met, places_passed, places_held}
 use Rattle.pointer_state.proofs.Tables.{IsTable-with, place_of-with_same, place_of-with_other, IsTable-at_first, place_of-at_first, shared-at_first}
 
-below_by : (n a b : ℕ) → a ≡ b → b < n → a < n
+-- what is equal to a number below n is below n
+pub below_by : (n a b : ℕ) → a ≡ b → b < n → a < n
 below_by n a b e h = omega arith
 
 -- each place of the table is below n, also after another was set

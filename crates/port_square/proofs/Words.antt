@@ -1,13 +1,11 @@
 -- Two rows of which bits are exchanged.
-use Rattle.std.proofs.Common.{◌≡◌, ℕ, ◌+◌, ◌-◌, ◌*◌, ◌/◌, ◌%◌, ◌^◌, ◌<◌, ◌≤◌, ◌∙◌, bit_and, bit_xor, min, add-zero, arith, ap, sym, inl, inr}
+use Rattle.std.proofs.Common.{◌≡◌, ℕ, ◌+◌, ◌-◌, ◌*◌, ◌/◌, ◌%◌, ◌^◌, ◌<◌, ◌≤◌, ◌∙◌, bit_and, bit_xor, min, add-zero, arith, ap, inl, inr}
 use Rattle.std.specs.Int.{bit_at}
 use Rattle.std.proofs.lemmas.Bool.{cases_lt}
-use Rattle.std.proofs.lemmas.Nat.{shr-shr, and_mask, pow_pos}
-use Rattle.std.proofs.lemmas.Nat.Bits.{bit_at-lt, bit_at_and, bit_at_xor, bit_at_ones, bit_at_cat_low, bit_at_cat_high, bit_at-zero}
+use Rattle.std.proofs.lemmas.Nat.{shr-shr, pow_pos}
+use Rattle.std.proofs.lemmas.Nat.Bits.{bit_at-lt, bit_at_and, bit_at_xor, bit_at_cat_low, bit_at_cat_high, bit_at-zero}
+use Rattle.rotating_pick.proofs.Bits.{bit_at-mod}
 use Rattle.port_square.proofs.Turning.{without_set, down_bit, down_bit_set}
-
-bit_at-mod : (n k i : ℕ) → i < k → bit_at (n % 2 ^ k) i ≡ bit_at n i
-bit_at-mod n k i h = sym (ap (λ m. bit_at m i) (and_mask n k)) ∙ (bit_at_and n (2 ^ k - 1) i ∙ omega (arith, bit_at_ones k i h, bit_at-lt n i))
 
 -- a shift to the left, within the word
 bit_at-shl_low : (t w c : ℕ) → c < 64 → c < w → bit_at (t * 2 ^ w % 2 ^ 64) c ≡ 0

@@ -12,12 +12,10 @@ use Rattle.slot_match.specs.Rows.{HasHead, AreWithin}
 use Rattle.slot_match.specs.Matches.{Serves, Completes}
 use Rattle.slot_match.proofs.Pairs.{Serves-decides, fed_of-lt}
 use Rattle.pointer_state.specs.Places.{Places, ArePointing, grant_of, accept_of, shared_of}
+use Rattle.pointer_state.proofs.Moves.{below_by}
 use Rattle.eslip_rounds.specs.Slots.{AreMoved}
 use Rattle.eslip_rounds.proofs.Deciding.{some_below, Completes-or, HasHead-decides}
 use Rattle.eslip_rounds.proofs.Unique.{fed_by}
-
-lt_by : (n a b : ℕ) → a ≡ b → b < n → a < n
-lt_by n a b same below = omega arith
 
 module _ (n level : ℕ) (rows : List Row) (before : Places) (within : AreWithin n rows) (pointing : ArePointing n level before) where
   -- whether there is an input i, and it has a head
@@ -51,22 +49,22 @@ module _ (n level : ℕ) (rows : List Row) (before : Places) (within : AreWithin
   module _ (t : ℕ) (some : 0 < n) (first matched : List (Option Fed)) (size : length first ≡ n) (after : Places) (moved : AreMoved n t rows first matched before after) where
     grant_after : (j : ℕ) → j < n → grant_of after j level < n
     grant_after j j_in = elim (fed_by first j level) [
-      | inl met ↦ lt_by n (grant_of after j level) ((met.0 + 1) % n) (moved.granted met.0 j level met.1) (mod_below (met.0 + 1) n some)
-      | inr none ↦ lt_by n (grant_of after j level) (grant_of before j level) (moved.grant_stays j level none) (pointing.grant j j_in)
+      | inl met ↦ below_by n (grant_of after j level) ((met.0 + 1) % n) (moved.granted met.0 j level met.1) (mod_below (met.0 + 1) n some)
+      | inr none ↦ below_by n (grant_of after j level) (grant_of before j level) (moved.grant_stays j level none) (pointing.grant j j_in)
     ]
 
     accept_after : (i : ℕ) → i < n → accept_of after i level < n
     accept_after i i_in = elim (some_below (λ j. Serves first i j level Uni) (λ j. Serves-decides first i j level Uni) n) [
-      | inl met ↦ lt_by n (accept_of after i level) ((met.0 + 1) % n) (moved.accepted i met.0 level met.2) (mod_below (met.0 + 1) n some)
+      | inl met ↦ below_by n (accept_of after i level) ((met.0 + 1) % n) (moved.accepted i met.0 level met.2) (mod_below (met.0 + 1) n some)
       | inr none ↦
           let nobody = λ (j : ℕ) (s : Serves first i j level Uni). let below = fed_of-lt first j (record { input = i; level = level; kind = Uni }) s in none (j, omega arith, s) in
-          lt_by n (accept_of after i level) (accept_of before i level) (moved.accept_stays i level nobody) (pointing.accept i i_in)
+          below_by n (accept_of after i level) (accept_of before i level) (moved.accept_stays i level nobody) (pointing.accept i i_in)
     ]
 
     shared_after : shared_of after level < n
     shared_after = elim (passed_head matched) [
-      | inl passed ↦ lt_by n (shared_of after level) ((passed.0 + 1) % n) (moved.passed passed.0 level passed.1 passed.2) (mod_below (passed.0 + 1) n some)
-      | inr none ↦ lt_by n (shared_of after level) (shared_of before level) (moved.shared_stays level none) pointing.shared
+      | inl passed ↦ below_by n (shared_of after level) ((passed.0 + 1) % n) (moved.passed passed.0 level passed.1 passed.2) (mod_below (passed.0 + 1) n some)
+      | inr none ↦ below_by n (shared_of after level) (shared_of before level) (moved.shared_stays level none) pointing.shared
     ]
 
     pub ArePointing-after : ArePointing n level after

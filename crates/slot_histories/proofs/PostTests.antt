@@ -5,10 +5,12 @@ use Rattle.std.specs.List.{list_all}
 use Rattle.std.proofs.lemmas.Bool.{and_parts, and_from, leb-true, le-leb, eqb-true, eq-eqb}
 use Rattle.std.proofs.lemmas.List.{length-drop}
 use Rattle.std.proofs.lemmas.Bool.Decides.{Decides-eqb, Decides-ltb, Decides-like, Decides-and, Decides-or}
+use Rattle.rotating_pick.specs.declared.limits.TheConstants.{LEVELS, MAX_PORTS}
 use Rattle.slot_match.specs.declared.rows.Row.{Row}
 use Rattle.slot_match.specs.declared.matching.Served.{Served}
 use Rattle.slot_match.specs.Rows.{IsWithin, IsOfLevels}
 use Rattle.cell_cutter.specs.declared.cell.Cell.{Cell}
+use Rattle.cell_cutter.specs.declared.sizes.TheConstants.{MAX_NUMBER, PAYLOAD_BYTES}
 use Rattle.cell_cutter.specs.Cells.{IsUsed, IsCellForm}
 use Rattle.crossbar.specs.declared.cards.Post.{Post as CardPost}
 use Rattle.eslip_rounds.specs.Decisions.{is_kind}
@@ -38,29 +40,29 @@ Decides-zeros (number ∷ numbers) =
     )
 
 Decides-is_used : (last : Bool) (used : ℕ) → Decides (is_used last used) (IsUsed last used)
-Decides-is_used true used = Decides-and (nat_lt 0 used) (nat_le used 56) (Decides-ltb 0 used) (Decides-leb used 56)
-Decides-is_used false used = Decides-eqb used 56
+Decides-is_used true used = Decides-and (nat_lt 0 used) (nat_le used PAYLOAD_BYTES) (Decides-ltb 0 used) (Decides-leb used PAYLOAD_BYTES)
+Decides-is_used false used = Decides-eqb used PAYLOAD_BYTES
 
 pub Decides-is_cell_form : (cell : Cell) → Decides (is_cell_form cell) (IsCellForm cell)
 unfolding is_cell_form
 Decides-is_cell_form cell =
-    let input = nat_lt cell.input 64 in
-    let level = nat_lt cell.level 4 in
+    let input = nat_lt cell.input MAX_PORTS in
+    let level = nat_lt cell.level LEVELS in
     let used = is_used cell.last cell.used in
-    let number = nat_le cell.number 1170 in
-    let room = length cell.payload == 56 in
+    let number = nat_le cell.number MAX_NUMBER in
+    let room = length cell.payload == PAYLOAD_BYTES in
     let behind = drop cell.used cell.payload in
     let blank = list_all (λ byte. byte == 0) behind in
-    let count : length cell.payload ≡ 56 → length behind ≡ 56 - cell.used = λ long. omega (arith, length-drop cell.used cell.payload) in
+    let count : length cell.payload ≡ PAYLOAD_BYTES → length behind ≡ PAYLOAD_BYTES - cell.used = λ long. omega (arith, length-drop cell.used cell.payload) in
     Decides-like (input && level && used && number && room && blank)
     (λ p. record { input = p.0.0.0.0.0; level = p.0.0.0.0.1; used = p.0.0.0.1; number = p.0.0.1; room = p.0.1; rest = p.1 ∙ ap (λ m. replicate m 0) (count p.0.1) })
     (λ form. (((((form.input, form.level), form.used), form.number), form.room), form.rest ∙ sym (ap (λ m. replicate m 0) (count form.room))))
     (Decides-and (input && level && used && number && room) blank
     (Decides-and (input && level && used && number) room
     (Decides-and (input && level && used) number
-    (Decides-and (input && level) used (Decides-and input level (Decides-ltb cell.input 64) (Decides-ltb cell.level 4)) (Decides-is_used cell.last cell.used))
-    (Decides-leb cell.number 1170))
-    (Decides-eqb (length cell.payload) 56))
+    (Decides-and (input && level) used (Decides-and input level (Decides-ltb cell.input MAX_PORTS) (Decides-ltb cell.level LEVELS)) (Decides-is_used cell.last cell.used))
+    (Decides-leb cell.number MAX_NUMBER))
+    (Decides-eqb (length cell.payload) PAYLOAD_BYTES))
     (Decides-zeros behind))
 
 pub Decides-is_granted_cell : (card : ℕ) (served : Option Served) (cell : Option Cell) → Decides (is_granted_cell card served cell) (IsGrantedCell card served cell)

@@ -14,7 +14,7 @@ use Rattle.rotating_pick.proofs.Bits.{Has-lt, no_member-zero, zero-no_members, I
 use Rattle.slot_match.specs.declared.rows.Row.{Row}
 use Rattle.slot_match.specs.Rows.{Names, sets_of, IsWithin, IsOfLevels, IsEmptyRow}
 use Rattle.slot_match.specs.Parts.{set_of}
-use Rattle.slot_match.proofs.Sets.{Has-set_of, Has-or}
+use Rattle.slot_match.proofs.Sets.{Has-set_of, Has-or, zero-has}
 use Rattle.slot_histories.specs.Tests.{has, all_sets, is_within, is_empty, is_of_levels, is_subset}
 
 pub Decides-has : (ports j : ℕ) → Decides (has ports j) (Has ports j)
@@ -25,7 +25,7 @@ pub Decides-below : (n ports : ℕ) → Decides (nat_lt ports (2 ^ n)) ((j : ℕ
 Decides-below n ports = Decides-like (nat_lt ports (2 ^ n)) (λ among j member. Has-lt n ports j among member) (IsAmong-from_members n ports) (Decides-ltb ports (2 ^ n))
 
 pub Decides-no_members : (ports : ℕ) → Decides (ports == 0) ((j : ℕ) → Has ports j → ⊥)
-Decides-no_members ports = Decides-like (ports == 0) (λ e j member. no_member-zero j (subst (λ set. Has set j) e member)) (zero-no_members ports) (Decides-eqb ports 0)
+Decides-no_members ports = Decides-like (ports == 0) (λ e j member. zero-has ports j e member) (zero-no_members ports) (Decides-eqb ports 0)
 
 -- a test of each set of a list is one of the sets of all levels, where the empty set passes
 each_from : (test : ℕ → Bool) (P : ℕ → Type 0) → ((ports : ℕ) → Decides (test ports) (P ports)) → (ports : ℕ) (sets : List ℕ) → ((level : ℕ) → P (slice_index sets level)) → test ports ≡ true → (level : ℕ) → P (slice_index (ports ∷ sets) level)

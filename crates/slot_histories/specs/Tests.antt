@@ -4,12 +4,13 @@ use Rattle.std.specs.List.{range_with_len, list_all}
 use Rattle.std.specs.Int.{bit_at}
 use Rattle.rotating_pick.specs.declared.kinds.Kind.{Kind}
 use Rattle.rotating_pick.specs.declared.kinds.Kind.TheVariants.{Uni, Multi}
-use Rattle.rotating_pick.specs.declared.limits.TheConstants.{LEVELS}
+use Rattle.rotating_pick.specs.declared.limits.TheConstants.{LEVELS, MAX_PORTS}
 use Rattle.slot_match.specs.declared.rows.Row.{Row}
 use Rattle.slot_match.specs.declared.matching.Served.{Served}
 use Rattle.slot_match.specs.Parts.{set_of}
 use Rattle.eslip_rounds.specs.Decisions.{is_kind, is_named}
 use Rattle.cell_cutter.specs.declared.cell.Cell.{Cell}
+use Rattle.cell_cutter.specs.declared.sizes.TheConstants.{MAX_NUMBER, PAYLOAD_BYTES}
 use Rattle.crossbar.specs.declared.cards.Post.{Post as CardPost}
 use Rattle.slot_histories.specs.declared.events.Event.{Event}
 use Rattle.slot_histories.specs.declared.events.Event.TheVariants.{Post, Decide, Take}
@@ -61,14 +62,14 @@ keeps_rest n served old new = list_all (keeps_level n served old new) (range_wit
 
 -- whether so many bytes are used in a cell, that is a last one or is not
 abbrev pub is_used : Bool → ℕ → Bool
-is_used true used = nat_lt 0 used && nat_le used 56
-is_used false used = used == 56
+is_used true used = nat_lt 0 used && nat_le used PAYLOAD_BYTES
+is_used false used = used == PAYLOAD_BYTES
 
 -- whether the cell is of the form of a cell
 unfoldable pub is_cell_form : Cell → Bool
 is_cell_form cell =
-    nat_lt cell.input 64 && nat_lt cell.level 4 && is_used cell.last cell.used && nat_le cell.number 1170
-    && (length cell.payload == 56) && list_all (λ byte. byte == 0) (drop cell.used cell.payload)
+    nat_lt cell.input MAX_PORTS && nat_lt cell.level LEVELS && is_used cell.last cell.used && nat_le cell.number MAX_NUMBER
+    && (length cell.payload == PAYLOAD_BYTES) && list_all (λ byte. byte == 0) (drop cell.used cell.payload)
 
 -- whether the card posts a cell exactly where it was served, and the cell that was granted
 unfoldable pub is_granted_cell : ℕ → Option Served → Option Cell → Bool

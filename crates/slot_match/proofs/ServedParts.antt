@@ -13,9 +13,9 @@ use Rattle.slot_match.proofs.Sets.{Has-set_of, Has-same}
 use Rattle.slot_match.proofs.Pairs.{Serves-from, Serves-alike, Serves-along, fed_of-lt, same_fed}
 
 -- the test of what feeds an output
-is_from-some : (i : ℕ) (o : Option Fed) → is_from i o ≡ true → (f : Fed) × (o ≡ Some f) × (f.input ≡ i)
+pub is_from-some : (i : ℕ) (o : Option Fed) → is_from i o ≡ true → (f : Fed) × (o ≡ Some f) × (f.input ≡ i)
 is_from-some i None e = absurd (cc)
-is_from-some i (Some f) e = (f, refl, grind (arith, tests))
+is_from-some i (Some f) e = (f, refl, eqb-true f.input i e)
 
 is_from-true : (i : ℕ) (o : Option Fed) (f : Fed) → o ≡ Some f → f.input ≡ i → is_from i o ≡ true
 is_from-true i None f e h = absurd (none-some f e)

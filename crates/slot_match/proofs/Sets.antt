@@ -4,18 +4,15 @@ use Rattle.std.specs.Int.{bit_at}
 use Rattle.std.proofs.lemmas.Bool.{cases_eq, cases_lt}
 use Rattle.std.proofs.lemmas.Nat.{pow_pos}
 use Rattle.std.proofs.Math.Nat.{pow-suc}
-use Rattle.std.proofs.lemmas.Nat.Bits.{same_from_bits, bit_at_above, bit_at_cat_low, bit_at_cat_high, bit_at-lt, bit_at-zero}
+use Rattle.std.proofs.lemmas.Nat.Bits.{same_from_bits, bit_at_above, bit_at_cat_low, bit_at_cat_high, bit_at-lt}
 use Rattle.rotating_pick.specs.PortSets.{Has}
-use Rattle.rotating_pick.proofs.Bits.{Has-lt}
+use Rattle.rotating_pick.proofs.Bits.{Has-lt, no_member-zero}
 use Rattle.rotating_pick.proofs.Picking.{least}
 use Rattle.slot_match.specs.Parts.{set_of}
 
--- the empty set has no member
-pub Has-zero : (j : ℕ) → Has 0 j → ⊥
-Has-zero j has = omega (arith, has, bit_at-zero j)
-
+-- a set that is empty has no member
 pub zero-has : (ports j : ℕ) → ports ≡ 0 → Has ports j → ⊥
-zero-has ports j e has = Has-zero j (subst (λ set. Has set j) e has)
+zero-has ports j e has = no_member-zero j (subst (λ set. Has set j) e has)
 
 -- sets with the same members are one
 pub Has-same : (a b : ℕ) → ((j : ℕ) → Has a j ↔ Has b j) → a ≡ b
@@ -78,7 +75,7 @@ set_of-lt (suc n) test = fits_more n (test n) (set_of n test) (set_of-lt n test)
 
 -- the members of a set made of a test
 pub Has-set_of : (n : ℕ) (test : ℕ → Bool) (j : ℕ) → Has (set_of n test) j ↔ ((j < n) × (test j ≡ true))
-Has-set_of zero test j = (λ has. absurd (Has-zero j has), λ p. absurd (let below = p.0 in omega arith))
+Has-set_of zero test j = (λ has. absurd (no_member-zero j has), λ p. absurd (let below = p.0 in omega arith))
 Has-set_of (suc n) test j =
     let step = member n (test n) (set_of n test) (set_of-lt n test) j in
     let before = Has-set_of n test j in (

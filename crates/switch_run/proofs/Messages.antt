@@ -12,7 +12,7 @@ use Rattle.pcap_records.specs.declared.order.Order.TheVariants.{Big}
 use Rattle.pcap_records.specs.Format.{number_bytes}
 use Rattle.pcap_records.specs.Packets.{Packet, captured_in, packet_in, packets_of, IsWithin}
 use Rattle.pcap_records.specs.Output.{message_of, record_text, header_text, capture_text}
-use Rattle.pcap_records.proofs.Numbers.{length-number_bytes}
+use Rattle.pcap_records.proofs.Output.{length-message_of}
 use Rattle.switch_run.specs.declared.slots.Delivered.{Delivered}
 use Rattle.switch_run.specs.Jobs.{CaptureFile, file_of, IsBuilt, IsPacketIn, is_nano, no_packet, message_in}
 use Rattle.switch_run.proofs.Captured.{length-captured_in}
@@ -64,14 +64,6 @@ message_found captures d capture s finds =
     let packet_is : slice_index_or (packets_of capture) d.packet no_packet ≡ packet_in capture.bytes.items s =
     get_or-map (packet_in capture.bytes.items) capture.packets.items d.packet s no_packet finds.packet ∙ ap (packet_in capture.bytes.items) finds.stored_is in
     ap (λ (ps : List Packet). message_of (slice_index_or ps d.packet no_packet)) here ∙ ap message_of packet_is
-
-length-message_of : (p : Packet) → length (message_of p) ≡ 16 + length p.bytes
-length-message_of p =
-    let a = length-number_bytes Big 4 p.seconds in
-    let b = length-number_bytes Big 4 p.nanos in
-    let c = length-number_bytes Big 4 (length p.bytes) in
-    let d = length-number_bytes Big 4 p.original in
-    simp length-append (omega arith)
 
 -- it is as long as a message of a built capture
 pub record IsOfSize (m : List ℕ) : Type 0 where

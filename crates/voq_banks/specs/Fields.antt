@@ -1,6 +1,7 @@
 -- How the queues of an input are kept: a ring each, and for each level the outputs that are waited for.
 use Rattle.std.specs.Prelude.{◌≡◌, ℕ, ◌+◌, ◌*◌, ◌<◌, ◌≤◌, ◌↔◌, List, length, map, min, slice_index, slice_index_or}
 use Rattle.rotating_pick.specs.PortSets.{Has}
+use Rattle.rotating_pick.specs.declared.limits.TheConstants.{LEVELS, MAX_PORTS}
 use Rattle.voq_banks.specs.Queues.{Queues, place_of}
 use Rattle.voq_banks.specs.Rings.{Kept, empty_queue}
 
@@ -27,11 +28,11 @@ pub record HasRoom (depth : ℕ) (kept : Kept) : Type 0 where
 -- a set of outputs for each level: those whose queue has a cell
 abbrev pub AreMasks : ℕ → List Kept → List ℕ → Type 0
 AreMasks ports kept masks =
-    (level output : ℕ) → level < 4 → Has (slice_index masks level) output ↔ ((output < ports) × (0 < length (ring_at kept (place_of output level)).cells))
+    (level output : ℕ) → level < LEVELS → Has (slice_index masks level) output ↔ ((output < ports) × (0 < length (ring_at kept (place_of output level)).cells))
 
 -- the fields of the queues of an input
 pub record AreKept (ports depth : ℕ) (kept : List Kept) (masks : List ℕ) : Type 0 where
-  pub size : ports ≤ 64
-  pub long : length kept ≡ 4 * ports
+  pub size : ports ≤ MAX_PORTS
+  pub long : length kept ≡ LEVELS * ports
   pub rooms : (place : ℕ) → place < length kept → HasRoom depth (ring_at kept place)
   pub waiting : AreMasks ports kept masks

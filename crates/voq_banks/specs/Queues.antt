@@ -1,6 +1,7 @@
 -- The unicast queues of an input, one for each output and level: lists of cells.
 use Rattle.std.specs.Prelude.{◌≡◌, ℕ, ◌+◌, ◌*◌, ◌<◌, ◌==◌, List, [], length, map, slice_index, slice_index_or}
 use Rattle.std.specs.List.{range_with_len}
+use Rattle.rotating_pick.specs.declared.limits.TheConstants.{LEVELS}
 use Rattle.cell_cutter.specs.declared.cell.CellName.{CellName}
 
 -- the cells of a packet, in order, the last one marked
@@ -18,7 +19,7 @@ pub record Queues : Type 0 where
 
 -- the place of the queue of an output and a level among all
 abbrev pub place_of : ℕ → ℕ → ℕ
-place_of output level = 4 * output + level
+place_of output level = LEVELS * output + level
 
 -- the cells that wait for the output at the level, the first to leave first
 abbrev pub queue_at : Queues → ℕ → ℕ → List CellName
@@ -40,5 +41,5 @@ empty_queues ports depth room = record { ports = ports; depth = depth; queues = 
 pub record OthersStay (output level : ℕ) (old new : Queues) : Type 0 where
   pub ports : new.ports ≡ old.ports
   pub depth : new.depth ≡ old.depth
-  pub queues : (j l : ℕ) → l < 4 → ((j ≡ output) × (l ≡ level) → ⊥) → queue_at new j l ≡ queue_at old j l
-  pub spare : (j l : ℕ) → l < 4 → ((j ≡ output) × (l ≡ level) → ⊥) → spare_at new j l ≡ spare_at old j l
+  pub queues : (j l : ℕ) → l < LEVELS → ((j ≡ output) × (l ≡ level) → ⊥) → queue_at new j l ≡ queue_at old j l
+  pub spare : (j l : ℕ) → l < LEVELS → ((j ≡ output) × (l ≡ level) → ⊥) → spare_at new j l ≡ spare_at old j l
