@@ -3,11 +3,11 @@
 ghost use Rattle.std.specs.Prelude.{◌≤◌, length, All, IfOk, IsTrue};
 ghost use Rattle.line_pace.specs.Arrivals.{IsPace, CanCome};
 
-use crate::fields::{long_number, number, words};
-use crate::row::{NoAnswer, Row};
+use crate::fields::long_number;
 use crate::texts::numbers_text;
 use line_pace::{MAX_CELLS, MAX_PACKETS, MAX_SLOT_MICROS, Pace, PaceFault, Stamp, arrivals};
 use std::alloc::{AllocError, Global};
+use vector_rows::{NoAnswer, Row, number, words};
 
 /// The row that a line is.
 pub fn row(alloc: Global, line: &str) -> Result<Row, AllocError> {

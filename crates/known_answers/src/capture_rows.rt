@@ -1,10 +1,10 @@
 //! Rows of capture files: `NAME BYTES ANSWER`, where an answer is `ok UNIT LINK PACKETS` or a fault
 //! with its numbers; a packet is `SECONDS.NANOSECONDS:ORIGINAL:START:LENGTH`.
 use crate::fields::bytes;
-use crate::row::{NoAnswer, Row};
 use crate::texts::{add_item, link_number, unit_name};
 use pcap_records::{Capture, MAX_FILE_BYTES, PcapFault, Stored, read_capture};
 use std::alloc::{AllocError, Global};
+use vector_rows::{NoAnswer, Row};
 
 /// The row that a line is.
 pub fn row(alloc: Global, line: &str) -> Result<Row, AllocError> {

@@ -1,12 +1,12 @@
 //! Rows of cells: `cells_of LEN CELLS`, `cut INPUT LEVEL KIND SECONDS NANOS ORIGINAL K PACKET -> CELL`,
 //! `cut_long INPUT LEVEL KIND SECONDS NANOS ORIGINAL K -> CELL` and
 //! `form CELL -> INPUT LEVEL KIND LAST USED NUMBER`, or `-> none`.
-use crate::fields::{byte, bytes, kind, number, words};
-use crate::row::{NoAnswer, Row};
+use crate::fields::{byte, bytes, kind};
 use crate::texts::kind_letter;
 use cell_cutter::{CELL_BYTES, Cell, MAX_CAPTURED, MAX_FORWARDED, Packet, cells_of, cut};
 use rotating_pick::{LEVELS, MAX_PORTS};
 use std::alloc::{AllocError, Global};
+use vector_rows::{NoAnswer, Row, number, words};
 
 /// The row that a line is.
 pub fn row(alloc: Global, line: &str) -> Result<Row, AllocError> {

@@ -3,8 +3,7 @@
 //! `shared_after` state what it gives.
 ghost use Rattle.std.specs.Prelude.{◌<◌, ◌≤◌};
 
-use crate::fields::{PORTS, number, numbers};
-use crate::row::{NoAnswer, Row};
+use crate::fields::{PORTS, numbers};
 use crate::slot_fields::{
     LEVEL_COUNT, Stated, accepts_text, grants_text, level_tables, match_text, pointers,
     posted_rows, rounds_text, shared_text,
@@ -15,6 +14,7 @@ use pointer_state::Pointers;
 use rotating_pick::{MAX_PORTS, MAX_ROUNDS};
 use slot_match::{Match, are_within};
 use std::alloc::{AllocError, Global};
+use vector_rows::{NoAnswer, Row, number, set_up_row};
 
 /// The block that is being read.
 #[derive(Drop)]
@@ -60,10 +60,8 @@ impl Block {
         };
         match key {
             "case" | "n" | "rounds" | "slot" | "rows" | "grant" | "accept" | "shared" => {
-                match self.set(alloc, key, value) {
-                    Ok(()) => Ok(None),
-                    Err(NoAnswer) => Ok(Some(Row::unread(alloc, line)?)),
-                }
+                let set_up = self.set(alloc, key, value);
+                set_up_row(alloc, line, set_up)
             }
             _ => Ok(Some(Row::new(alloc, value, self.answer(alloc, key))?)),
         }

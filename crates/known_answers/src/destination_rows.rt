@@ -1,8 +1,8 @@
 //! Rows of destinations: `NAME LINK ANSWER FRAME`, where an answer is an IPv4 address, `-` for none.
-use crate::fields::{bytes, link, words};
-use crate::row::{NoAnswer, Row};
+use crate::fields::{bytes, link};
 use frame_fields::destination;
 use std::alloc::{AllocError, Global};
+use vector_rows::{NoAnswer, Row, words};
 
 /// The row that a line is.
 pub fn row(alloc: Global, line: &str) -> Result<Row, AllocError> {

@@ -1,27 +1,14 @@
-//! The fields of a row, read: words, numbers, sets of ports, kinds, bytes and lists.
+//! The fields of a row, read: numbers, tables and sets of ports, kinds, bytes and names.
 ghost use Rattle.std.specs.Prelude.{◌≡◌, ℕ, ◌<◌, ◌≤◌, length, slice_index, All, IfOk, IsTrue};
 ghost use Rattle.rotating_pick.specs.PortSets.{IsAmong};
 
-use crate::row::NoAnswer;
 use pcap_records::Link;
 use rotating_pick::{Kind, MAX_PORTS, Ports, is_among};
 use std::alloc::{AllocError, Global};
+use vector_rows::{NoAnswer, number, port_set};
 
 /// The length of a table with an entry for each port.
 pub const PORTS: usize = 64;
-
-/// The words of a line.
-pub fn words(alloc: Global, line: &str) -> Result<Vec<&str>, AllocError> {
-    line.split(' ').collect(alloc)
-}
-
-/// A decimal number.
-pub fn number(text: &str) -> Result<u32, NoAnswer> {
-    match text.parse::<u32>() {
-        Ok(number) => Ok(number),
-        Err(_) => Err(NoAnswer),
-    }
-}
 
 /// A decimal number that can be long.
 pub fn long_number(text: &str) -> Result<u64, NoAnswer> {
@@ -35,29 +22,6 @@ pub fn long_number(text: &str) -> Result<u64, NoAnswer> {
 pub fn byte(text: &str) -> Result<u8, NoAnswer> {
     match text.parse::<u8>() {
         Ok(number) => Ok(number),
-        Err(_) => Err(NoAnswer),
-    }
-}
-
-/// How many ports a switch has: 1 to 64.
-pub fn port_count(text: &str) -> Result<u32, NoAnswer>
-    ensures some { IfOk result (λ n. 0 < n) }
-    ensures size { IfOk result (λ n. n ≤ MAX_PORTS) }
-{
-    let n = number(text)?;
-    if n == 0 || n > MAX_PORTS {
-        return Err(NoAnswer);
-    }
-    Ok(n)
-}
-
-/// A set of ports, as `0x1f`.
-pub fn port_set(text: &str) -> Result<Ports, NoAnswer> {
-    let Some(digits) = text.strip_prefix("0x") else {
-        return Err(NoAnswer);
-    };
-    match u64::from_str_radix(digits, 16) {
-        Ok(ports) => Ok(ports),
         Err(_) => Err(NoAnswer),
     }
 }

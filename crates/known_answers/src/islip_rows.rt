@@ -3,12 +3,12 @@
 ghost use Rattle.std.specs.Prelude.{◌≡◌, ℕ, ◌<◌, ◌≤◌, length, slice_index, All};
 ghost use Rattle.rotating_pick.specs.PortSets.{IsAmong};
 
-use crate::fields::{number, port_count, port_sets, port_table, words};
-use crate::row::{NoAnswer, Row};
+use crate::fields::{port_sets, port_table};
 use crate::texts::{choices_text, numbers_text};
 use islip_rounds::{UniMatch, UniPointers, islip_slot};
 use rotating_pick::{MAX_PORTS, MAX_ROUNDS, Ports};
 use std::alloc::{AllocError, Global};
+use vector_rows::{NoAnswer, Row, number, port_count, words};
 
 /// The row that a line is.
 pub fn row(alloc: Global, line: &str) -> Result<Row, AllocError> {

@@ -1,10 +1,10 @@
 //! Rows of the kernels of the rounds: `transpose N ROWS -> COLUMNS` and
 //! `picks N FROM SETS FREE -> CHOSEN`.
-use crate::fields::{PORTS, port_count, port_set, port_sets, port_table, words};
-use crate::row::{NoAnswer, Row};
+use crate::fields::{PORTS, port_sets, port_table};
 use crate::texts::{choices_text, port_sets_text};
 use islip_rounds::{picks, transpose};
 use std::alloc::{AllocError, Global};
+use vector_rows::{NoAnswer, Row, port_count, port_set, words};
 
 /// The row that a line is.
 pub fn row(alloc: Global, line: &str) -> Result<Row, AllocError> {

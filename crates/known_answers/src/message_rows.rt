@@ -1,11 +1,11 @@
 //! Rows of output captures: `header UNIT LINK -> BYTES`, `record UNIT MESSAGE -> BYTES` and
 //! `capture UNIT LINK MESSAGES -> BYTES`.
-use crate::fields::{bytes, link, unit, words};
-use crate::row::{NoAnswer, Row};
+use crate::fields::{bytes, link, unit};
 use pcap_records::{
     HEADER_BYTES, Link, MAX_CAPTURED_BYTES, RECORD_HEADER_BYTES, write_header, write_record,
 };
 use std::alloc::{AllocError, Global};
+use vector_rows::{NoAnswer, Row, words};
 
 /// The row that a line is.
 pub fn row(alloc: Global, line: &str) -> Result<Row, AllocError> {

@@ -2,13 +2,13 @@
 //! of an output; then `put CELL -> INPUT LEVEL KIND MESSAGE` or `-> -`, `fit CELL` and `no_fit CELL`.
 
 use crate::cell_rows::cell_bytes;
-use crate::fields::{byte, kind, number, port_count, words};
-use crate::row::{NoAnswer, Row};
+use crate::fields::{byte, kind};
 use crate::texts::kind_letter;
 use cell_cutter::Cell;
 use reassembly::{FLOWS_PER_INPUT, MAX_MESSAGE, Reassembly};
 use rotating_pick::Kind;
 use std::alloc::{AllocError, Global};
+use vector_rows::{NoAnswer, Row, number, port_count, set_up_row, words};
 
 /// The block that is being read.
 #[derive(Drop)]
@@ -42,10 +42,7 @@ impl Block {
             "size" => self.set_size(alloc, value),
             _ => return Ok(Some(self.asked(alloc, key, value)?)),
         };
-        match set_up {
-            Ok(()) => Ok(None),
-            Err(NoAnswer) => Ok(Some(Row::unread(alloc, line)?)),
-        }
+        set_up_row(alloc, line, set_up)
     }
 
     fn begin(&mut self, alloc: Global) -> Result<(), NoAnswer> {

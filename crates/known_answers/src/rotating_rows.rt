@@ -1,10 +1,9 @@
 //! Rows of rotating choice: `dist N FROM X ANSWER`, `next N X ANSWER`, `pick N FROM SET ANSWER`,
 //! `rotate N SET BY ANSWER` and `lowest SET ANSWER`.
-use crate::fields::{number, port_set, words};
-use crate::row::{NoAnswer, Row};
 use crate::texts::choice_text;
 use rotating_pick::{MAX_PORTS, Ports, dist, is_among, lowest, next, pick, rotate};
 use std::alloc::{AllocError, Global};
+use vector_rows::{NoAnswer, Row, number, port_set, words};
 
 /// The row that a line is.
 pub fn row(alloc: Global, line: &str) -> Result<Row, AllocError> {

@@ -1,13 +1,12 @@
 //! Rows of schedules, in blocks: `case NAME`, `n N`, `rounds R`, then for one slot after the other
 //! `slot ROWS -> MATCH USED FIRST LAST_ADDED SHARED`.
-use crate::fields::number;
-use crate::row::{NoAnswer, Row};
 use crate::slot_fields::{match_text, posted_rows, rounds_text, shared_text};
 use eslip_rounds::decide;
 use pointer_state::Pointers;
 use rotating_pick::{MAX_PORTS, MAX_ROUNDS};
 use slot_match::Match;
 use std::alloc::{AllocError, Global};
+use vector_rows::{NoAnswer, Row, number, set_up_row};
 
 /// The block that is being read.
 #[derive(Drop)]
@@ -40,10 +39,7 @@ impl Block {
             Some(("slot", value)) => return Ok(Some(self.slot_row(alloc, value)?)),
             _ => Err(NoAnswer),
         };
-        match set_up {
-            Ok(()) => Ok(None),
-            Err(NoAnswer) => Ok(Some(Row::unread(alloc, line)?)),
-        }
+        set_up_row(alloc, line, set_up)
     }
 
     fn begin(&mut self) -> Result<(), NoAnswer> {

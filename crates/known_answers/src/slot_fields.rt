@@ -2,14 +2,14 @@
 ghost use Rattle.std.specs.Prelude.{◌≡◌, ◌<◌, ◌≤◌, IfOk};
 ghost use Rattle.slot_match.specs.Rows.{AreWithin};
 
-use crate::fields::{PORTS, byte, number, port_set, port_table};
-use crate::row::NoAnswer;
+use crate::fields::{PORTS, byte, port_table};
 use crate::texts::{add_item, kind_letter, numbers_text};
 use islip_rounds::RoundsUsed;
 use pointer_state::Pointers;
 use rotating_pick::{Kind, LEVELS, MAX_PORTS, with};
 use slot_match::{Fed, Match, Row, are_within};
 use std::alloc::{AllocError, Global};
+use vector_rows::{NoAnswer, number, port_set};
 
 /// The number of levels, as a length.
 pub const LEVEL_COUNT: usize = 4;

@@ -1,11 +1,11 @@
 //! Rows of table texts, in blocks: `case NAME`, `n N`, `repeat K` and `text "..."` set up the text; then
 //! `answer ok LINES` or `answer FAULT NUMBERS`, and `route ADDRESS FAN LEVEL` or `route ADDRESS none`.
-use crate::fields::{byte, number};
-use crate::row::{NoAnswer, Row};
+use crate::fields::byte;
 use crate::unescaping::unescaped;
 use forward_table::{MAX_TEXT, Table, TableFault, read_table};
 use rotating_pick::MAX_PORTS;
 use std::alloc::{AllocError, Global};
+use vector_rows::{NoAnswer, Row, number, set_up_row};
 
 /// The block that is being read.
 #[derive(Drop)]
@@ -41,10 +41,7 @@ impl Block {
             Some(("route", value)) => return Ok(Some(self.route_row(alloc, value)?)),
             _ => Err(NoAnswer),
         };
-        match set_up {
-            Ok(()) => Ok(None),
-            Err(NoAnswer) => Ok(Some(Row::unread(alloc, line)?)),
-        }
+        set_up_row(alloc, line, set_up)
     }
 
     fn begin(&mut self) -> Result<(), NoAnswer> {

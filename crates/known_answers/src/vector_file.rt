@@ -1,14 +1,16 @@
-use crate::row::Row;
+ghost use Rattle.std.specs.Prelude.{◌≡◌, true, IsSomeAnd};
+
 use crate::{
     arrival_rows, capture_rows, cell_rows, decision_rows, destination_rows, islip_rows,
     kernel_rows, message_rows, reassembly_rows, rotating_rows, schedule_rows, table_rows,
     wait_rows,
 };
 use std::alloc::{AllocError, Global};
+use vector_rows::{Row, RowReader};
 
-/// How the lines of a vector file are read.
+/// How the lines of a vector file are read, by the file's name.
 #[derive(Drop)]
-enum Reader {
+pub enum Reader {
     RotatingChoice,
     IslipSlots,
     Kernels,
@@ -26,10 +28,15 @@ enum Reader {
     Unknown,
 }
 
-impl Reader {
-    // The reader of the file at this path, by its name there.
-    fn at(alloc: Global, path: &str) -> Reader {
-        match base_name(path) {
+impl RowReader for Reader {
+    ghost use Rattle.known_answers.specs.declared.vector_file.Reader.TheVariants.{Unknown};
+    ghost use Rattle.vector_rows.specs.Rows.{is_wrong};
+
+    // Each line of a file of no known name is a wrong row.
+    ghost reads = { λ old _ given _. old ≡ Unknown → IsSomeAnd given (λ row. is_wrong row ≡ true) };
+
+    fn at(alloc: Global, name: &str) -> Reader {
+        match name {
             "rotating_choice.txt" => Reader::RotatingChoice,
             "islip_one_round.txt" | "islip_rounds.txt" => Reader::IslipSlots,
             "islip_helpers.txt" => Reader::Kernels,
@@ -49,7 +56,6 @@ impl Reader {
         }
     }
 
-    // The row that a line is; None where it sets up something for the rows behind it.
     fn row(&mut self, alloc: Global, line: &str) -> Result<Option<Row>, AllocError> {
         let row = match self {
             Reader::RotatingChoice => rotating_rows::row(alloc, line)?,
@@ -69,30 +75,4 @@ impl Reader {
         };
         Ok(Some(row))
     }
-}
-
-// The last part of a path.
-fn base_name(path: &str) -> &str {
-    match path.rsplit_once('/') {
-        Some((_, name)) => name,
-        None => path,
-    }
-}
-
-/// The rows of the vector file at this path, whose text is given, in order. Empty lines and those that
-/// begin with `#` are none.
-pub fn rows_of(alloc: Global, path: &str, text: &str) -> Result<Vec<Row>, AllocError> {
-    let mut reader = Reader::at(alloc, path);
-    let mut rows = Vec::new(alloc);
-    let mut at = 0usize;
-    for line in text.lines() {
-        at = at.saturating_add(1);
-        if line.is_empty() || line.starts_with('#') {
-            continue;
-        }
-        if let Some(row) = reader.row(alloc, line)? {
-            rows.push(Row { line: at, ..row })?;
-        }
-    }
-    Ok(rows)
 }

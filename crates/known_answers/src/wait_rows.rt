@@ -1,11 +1,10 @@
 //! Rows of the wait meter, in blocks: `case NAME`, `n N`, then for one slot after the other
 //! `note ROWS MATCH -> LONGEST`, with the longest wait of each level after the slot.
-use crate::fields::number;
-use crate::row::{NoAnswer, Row};
 use crate::slot_fields::{posted_rows, stated_match};
 use rotating_pick::MAX_PORTS;
 use service_bound::{MAX_NOTED, WaitMeter};
 use std::alloc::{AllocError, Global};
+use vector_rows::{NoAnswer, Row, number};
 
 /// The block that is being read.
 #[derive(Drop)]

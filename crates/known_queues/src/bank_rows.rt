@@ -4,10 +4,10 @@
 //! `mask LEVEL -> SET` and `pop OUTPUT LEVEL -> PACKET NUMBER last` state what a call answers.
 ghost use Rattle.std.specs.Prelude.{◌≡◌, ◌<◌, IfOk};
 
-use crate::fields::{cell_name_text, level, number, port_count, words};
-use crate::row::{NoAnswer, Row};
+use crate::fields::{cell_name_text, level};
 use rotating_pick::{LEVELS, MAX_PORTS};
 use std::alloc::{AllocError, Global};
+use vector_rows::{NoAnswer, Row, number, port_count, set_up_row, words};
 use voq_banks::{Banks, MAX_CELLS, MAX_DEPTH, MAX_PACKETS};
 
 /// The block that is being read.
@@ -54,10 +54,8 @@ impl Block {
             let answer = self.answer(alloc, call);
             return Ok(Some(Row::new(alloc, stated, answer)?));
         }
-        match self.set_up(alloc, line) {
-            Ok(()) => Ok(None),
-            Err(NoAnswer) => Ok(Some(Row::unread(alloc, line)?)),
-        }
+        let set_up = self.set_up(alloc, line);
+        set_up_row(alloc, line, set_up)
     }
 
     fn set_up(&mut self, alloc: Global, line: &str) -> Result<(), NoAnswer> {

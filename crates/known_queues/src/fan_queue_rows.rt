@@ -5,11 +5,11 @@
 ghost use Rattle.std.specs.Prelude.{◌≡◌, ◌<◌, ◌≤◌, IsTrue, IfOk};
 ghost use Rattle.multicast_queue.specs.FanQueues.{HasSeveral};
 
-use crate::fields::{cell_name_text, level, number, port_count, port_set, words};
-use crate::row::{NoAnswer, Row};
+use crate::fields::{cell_name_text, level};
 use multicast_queue::FanQueues;
 use rotating_pick::{LEVELS, Ports, is_among, is_empty, is_subset, lowest, without};
 use std::alloc::{AllocError, Global};
+use vector_rows::{NoAnswer, Row, number, port_count, port_set, set_up_row, words};
 use voq_banks::{MAX_CELLS, MAX_DEPTH, MAX_PACKETS};
 
 /// The block that is being read.
@@ -41,10 +41,8 @@ impl Block {
             let answer = self.answer(alloc, call);
             return Ok(Some(Row::new(alloc, stated, answer)?));
         }
-        match self.set_up(alloc, line) {
-            Ok(()) => Ok(None),
-            Err(NoAnswer) => Ok(Some(Row::unread(alloc, line)?)),
-        }
+        let set_up = self.set_up(alloc, line);
+        set_up_row(alloc, line, set_up)
     }
 
     fn set_up(&mut self, alloc: Global, line: &str) -> Result<(), NoAnswer> {

@@ -1,18 +1,25 @@
-use crate::row::Row;
+ghost use Rattle.std.specs.Prelude.{◌≡◌, true, IsSomeAnd};
+
 use crate::{bank_rows, fan_queue_rows};
 use std::alloc::{AllocError, Global};
+use vector_rows::{Row, RowReader};
 
-/// How the lines of a vector file are read.
+/// How the lines of a vector file are read, by the file's name.
 #[derive(Drop)]
-enum Reader {
+pub enum Reader {
     Banks(bank_rows::Block),
     FanQueues(fan_queue_rows::Block),
     // No file of this name is known: no line of it can be read.
     Unknown,
 }
 
-impl Reader {
-    // The reader of the file of this name.
+impl RowReader for Reader {
+    ghost use Rattle.known_queues.specs.declared.vector_file.Reader.TheVariants.{Unknown};
+    ghost use Rattle.vector_rows.specs.Rows.{is_wrong};
+
+    // Each line of a file of no known name is a wrong row.
+    ghost reads = { λ old _ given _. old ≡ Unknown → IsSomeAnd given (λ row. is_wrong row ≡ true) };
+
     fn at(alloc: Global, name: &str) -> Reader {
         match name {
             "banks.txt" => Reader::Banks(bank_rows::Block::new(alloc)),
@@ -21,7 +28,6 @@ impl Reader {
         }
     }
 
-    // The row that a line is; None where it sets up something for the rows behind it.
     fn row(&mut self, alloc: Global, line: &str) -> Result<Option<Row>, AllocError> {
         match self {
             Reader::Banks(block) => block.row(alloc, line),
@@ -29,22 +35,4 @@ impl Reader {
             Reader::Unknown => Ok(Some(Row::unread(alloc, line)?)),
         }
     }
-}
-
-/// The rows of the vector file of this name, whose text is given, in order. Empty lines and those that
-/// begin with `#` are none.
-pub fn rows_of(alloc: Global, name: &str, text: &str) -> Result<Vec<Row>, AllocError> {
-    let mut reader = Reader::at(alloc, name);
-    let mut rows = Vec::new(alloc);
-    let mut at = 0usize;
-    for line in text.lines() {
-        at = at.saturating_add(1);
-        if line.is_empty() || line.starts_with('#') {
-            continue;
-        }
-        if let Some(row) = reader.row(alloc, line)? {
-            rows.push(Row { line: at, ..row })?;
-        }
-    }
-    Ok(rows)
 }

@@ -1,8 +1,9 @@
-ghost use Rattle.std.specs.Prelude.{◌≡◌, ◌≢◌, ◌↔◌, IsTrue, Some, count_by, string_bytes};
+ghost use Rattle.std.specs.Prelude.{◌≡◌, ◌≢◌, ◌↔◌, true, IsTrue, IsOk, IsErr, IsNone, IsSomeAnd, IfOk, Some, count_by, string_bytes};
 ghost use Rattle.std.specs.Option.{option_map};
-ghost use Rattle.known_queues.specs.Rows.{is_wrong};
+ghost use Rattle.std.specs.Result.{result_ok};
+ghost use Rattle.vector_rows.specs.Rows.{is_wrong};
 
-use std::alloc::{AllocError, Global};
+use std::alloc::{AllocError, AllocFailed, Global};
 use std::fmt;
 
 /// A question has no answer: it cannot be read, the call does not take it, or there was no memory.
@@ -11,6 +12,12 @@ pub struct NoAnswer;
 
 impl From<AllocError> for NoAnswer {
     fn from(_error: AllocError) -> NoAnswer {
+        NoAnswer
+    }
+}
+
+impl<T: Drop> From<AllocFailed<T>> for NoAnswer {
+    fn from(_error: AllocFailed<T>) -> NoAnswer {
         NoAnswer
     }
 }
@@ -32,7 +39,10 @@ impl Row {
         alloc: Global,
         stated: &str,
         answered: Result<String, NoAnswer>,
-    ) -> Result<Row, AllocError> {
+    ) -> Result<Row, AllocError>
+        ensures stated { IfOk result (λ row. string_bytes row.stated ≡ stated.now) }
+        ensures answered { IfOk result (λ row. row.answered ≡ result_ok answered) }
+    {
         Ok(Row {
             line: 0,
             stated: String::from_str(alloc, stated)?,
@@ -41,7 +51,10 @@ impl Row {
     }
 
     /// A line that cannot be read as a row.
-    pub fn unread(alloc: Global, line: &str) -> Result<Row, AllocError> {
+    pub fn unread(alloc: Global, line: &str) -> Result<Row, AllocError>
+        ensures stated { IfOk result (λ row. string_bytes row.stated ≡ line.now) }
+        ensures wrong { IfOk result (λ row. is_wrong row ≡ true) }
+    {
         Row::new(alloc, line, Err(NoAnswer))
     }
 
@@ -64,6 +77,21 @@ impl fmt::Display for Row {
             Some(answer) => write!(f, "states {stated}, answered {answer}"),
             None => write!(f, "states {stated}, no answer"),
         }
+    }
+}
+
+/// The row of a line that sets something up: none where it did, else one that cannot be read.
+pub fn set_up_row(
+    alloc: Global,
+    line: &str,
+    set_up: Result<(), NoAnswer>,
+) -> Result<Option<Row>, AllocError>
+    ensures done { IfOk result (λ row. IsOk set_up → IsNone row) }
+    ensures refused { IfOk result (λ row. IsErr set_up → IsSomeAnd row (λ row. is_wrong row ≡ true)) }
+{
+    match set_up {
+        Ok(()) => Ok(None),
+        Err(NoAnswer) => Ok(Some(Row::unread(alloc, line)?)),
     }
 }
 

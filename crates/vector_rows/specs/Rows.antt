@@ -2,7 +2,7 @@
 use Rattle.std.specs.Prelude.{ℕ, Bool, false, not, List, Option, None, Some, string_bytes}
 use Rattle.std.specs.Option.{option_map}
 use Rattle.std.specs.Str.{bytes_eq}
-use Rattle.known_answers.specs.declared.row.Row.{Row}
+use Rattle.vector_rows.specs.declared.row.Row.{Row}
 
 -- an answer was given, and it is this text
 abbrev pub answers : Option (List ℕ) → List ℕ → Bool

@@ -1,0 +1,16 @@
+//! Rows of vector files: each is a question and the answer that it states. A program says how the
+//! lines of its files are read; here they are read, their answers compared with what they state, and
+//! what is wrong is counted and named.
+#![tactic(auto)]
+
+mod checking;
+mod fields;
+mod reading;
+mod row;
+#[cfg(test)]
+mod tests;
+
+pub use checking::{check_named_files, check_text};
+pub use fields::{number, port_count, port_set, words};
+pub use reading::{RowReader, rows_of};
+pub use row::{NoAnswer, Row, set_up_row, wrong_count};
