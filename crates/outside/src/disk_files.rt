@@ -20,10 +20,11 @@ pub struct DiskFiles<'r, R: rt::Files + Print + StandardError + AllocGlobal> {
     writing: Option<OpenFile<R::File>>,
 }
 
-// An open file, with the name that it was opened by.
+// An open file, with the name that it was opened by. Where there was no memory for the name it is not
+// found again, and the next piece opens the file anew.
 #[derive(Drop)]
 struct OpenFile<F: Drop> {
-    name: String,
+    name: Option<String>,
     file: F,
 }
 
@@ -38,7 +39,10 @@ impl<'r, R: rt::Files + Print + StandardError + AllocGlobal> Model for DiskFiles
 
 impl<F: Drop> OpenFile<F> {
     fn has_name(&self, name: &str) -> bool {
-        self.name.as_str() == name
+        match &self.name {
+            Some(kept) => kept.as_str() == name,
+            None => false,
+        }
     }
 }
 
@@ -65,8 +69,8 @@ impl<'r, R: rt::Files + Print + StandardError + AllocGlobal> DiskFiles<'r, R> {
         Failed
     }
 
-    fn name_of(&self, name: &str) -> io::Result<String> {
-        Ok(String::from_str(self.rt.alloc(), name)?)
+    fn kept_name(&self, name: &str) -> Option<String> {
+        String::from_str(self.rt.alloc(), name).ok()
     }
 
     // A file is opened anew for its first piece, and closed behind its last.
@@ -77,7 +81,7 @@ impl<'r, R: rt::Files + Print + StandardError + AllocGlobal> DiskFiles<'r, R> {
         let mut open = match self.reading.take() {
             Some(open) if at > 0 && open.has_name(name) => open,
             _ => OpenFile {
-                name: self.name_of(name)?,
+                name: self.kept_name(name),
                 file: fs::open(self.rt, name)?,
             },
         };
@@ -92,11 +96,9 @@ impl<'r, R: rt::Files + Print + StandardError + AllocGlobal> DiskFiles<'r, R> {
     fn create(&mut self, name: &str) -> io::Result<()>
         ensures faults { self.new ≡ self.old }
     {
-        let name_kept = self.name_of(name)?;
-        let file = fs::create(self.rt, name)?;
         self.writing = Some(OpenFile {
-            name: name_kept,
-            file,
+            name: self.kept_name(name),
+            file: fs::create(self.rt, name)?,
         });
         Ok(())
     }
@@ -108,7 +110,7 @@ impl<'r, R: rt::Files + Print + StandardError + AllocGlobal> DiskFiles<'r, R> {
         let mut open = match self.writing.take() {
             Some(open) if open.has_name(name) => open,
             _ => OpenFile {
-                name: self.name_of(name)?,
+                name: self.kept_name(name),
                 file: OpenOptions::new().append(true).open(self.rt, name)?,
             },
         };
