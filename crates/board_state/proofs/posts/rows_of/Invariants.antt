@@ -1,0 +1,10 @@
+use Rattle.std.proofs.Common.{◌≡◌, take, map, length}
+use Rattle.rotating_pick.specs.declared.limits.TheConstants.{MAX_PORTS}
+use Rattle.crossbar.specs.declared.cards.Post.{Post as CardPost}
+use Rattle.board_state.proofs.posts.rows_of.Given as goal
+
+abbrev pub invariant-loop-place : goal.invariant-loop-place
+invariant-loop-place l = record {
+  long : length l.rows ≡ MAX_PORTS;
+  rows : take l.place l.rows ≡ map (λ (post : CardPost). post.row) (take l.place l.posts);
+}

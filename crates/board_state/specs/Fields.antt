@@ -1,0 +1,26 @@
+-- The fields of a board's state: what they keep, and the board that they stand for.
+use Rattle.std.specs.Prelude.{vec_capacity}
+use Rattle.board_state.specs.declared.state.BoardState.TheInside.{Inside}
+use Rattle.board_state.specs.Boards.{BoardValue}
+use Rattle.board_state.specs.Kept.{Parts, events_in, IsKept, IsRoom}
+
+-- what the fields keep
+abbrev pub parts_of : Inside → Parts
+parts_of s = record {
+  setup = record { ports = s.ports; rounds = s.rounds; max_slots = s.max_slots };
+  posted = s.posted;
+  taken = s.taken;
+  posted_next = s.posted_next;
+  decisions = record { pointers = s.pointers; done = s.done; matches = s.matches.items; numbers = s.numbers.items };
+  posts = s.posts.items;
+  order = s.order.items;
+}
+
+-- the board that they stand for
+abbrev pub board_of : Inside → BoardValue
+board_of s = record { setup = (parts_of s).setup; events = events_in (parts_of s); refused = s.refused }
+
+-- what is kept stands for that board's events, and there is room for all that may come
+pub record AreKept (s : Inside) : Type 0 where
+  pub kept : IsKept (parts_of s) (events_in (parts_of s))
+  pub room : IsRoom (parts_of s).setup (vec_capacity s.posts) (vec_capacity s.matches) (vec_capacity s.numbers) (vec_capacity s.order)

@@ -1,0 +1,102 @@
+ghost use Rattle.std.specs.Prelude.{◌≡◌, ◌<◌, List, length, slice_index_or};
+ghost use Rattle.slot_histories.specs.declared.events.Event.{Event};
+ghost use Rattle.slot_histories.specs.Legal.{IsLegal};
+ghost use Rattle.slot_histories.specs.Answers.{journal_of};
+ghost use Rattle.board_state.specs.Boards.{no_slot};
+
+use crate::state::BoardState;
+use crossbar::Post;
+use islip_rounds::RoundsUsed;
+use slot_match::Match;
+use std::marker::Model;
+
+/// The decided slots of a board that is closed.
+#[derive(Drop)]
+pub struct Journal {
+    pub(crate) board: BoardState,
+}
+
+impl Model for Journal {
+    ghost use Rattle.board_state.specs.Boards.{JournalValue, board_journal};
+
+    ghost Value = { JournalValue };
+
+    ghost view = { λ j. board_journal j.board };
+}
+
+impl Journal {
+    /// The number of ports of the switch, 1 to 64.
+    pub fn ports(&self) -> u32
+        ensures { result ≡ self.now.setup.ports }
+    {
+        self.board.ports()
+    }
+
+    /// In how many rounds each slot was decided, 1 to 64.
+    pub fn rounds(&self) -> u32
+        ensures { result ≡ self.now.setup.rounds }
+    {
+        self.board.rounds()
+    }
+
+    /// The most slots that could be posted, 1 to [`crate::MAX_SLOTS`].
+    pub fn max_slots(&self) -> u32
+        ensures { result ≡ self.now.setup.max_slots }
+    {
+        self.board.max_slots()
+    }
+
+    /// How many slots were decided.
+    pub fn slots(&self) -> u32
+        ensures { result ≡ length self.now.slots }
+    {
+        self.board.decided_slots()
+    }
+
+    /// How many events there were: posts, decisions and takes.
+    pub fn events(&self) -> u64
+        ensures { result ≡ self.now.events }
+    {
+        self.board.events()
+    }
+
+    /// What the line cards posted for the slot, by card.
+    pub fn posts(&self, slot: u32) -> &[Post]
+        requires { slot < length self.now.slots }
+        ensures posts { result.now ≡ (slice_index_or self.now.slots slot no_slot).posts }
+        ensures ports { length result.now ≡ self.now.setup.ports }
+    {
+        self.board.decided_posts(slot)
+    }
+
+    /// The slot's match.
+    pub fn decided(&self, slot: u32) -> &Match
+        requires { slot < length self.now.slots }
+        ensures matched { result.now ≡ (slice_index_or self.now.slots slot no_slot).matched }
+        ensures ports { length result.now ≡ self.now.setup.ports }
+    {
+        self.board.matched(slot)
+    }
+
+    /// How the slot's rounds were used.
+    pub fn used(&self, slot: u32) -> RoundsUsed
+        requires { slot < length self.now.slots }
+        ensures { result ≡ (slice_index_or self.now.slots slot no_slot).numbers }
+    {
+        self.board.used(slot)
+    }
+
+    /// How many refused calls are known of: so many at least there were.
+    pub fn least_refused(&self) -> u64
+        ensures { result ≡ self.now.refused }
+    {
+        self.board.least_refused()
+    }
+
+    /// The slots are those of a legal list of events, as many as [`Journal::events`] says.
+    pub fn legal(&self)
+        ensures { (events : List Event) × IsLegal self.now.setup events × (self.now.slots ≡ journal_of self.now.setup events) × (self.now.events ≡ length events) }
+    {
+        self.board.legal();
+    }
+}

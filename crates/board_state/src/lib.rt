@@ -1,0 +1,21 @@
+//! The state of a switch's board: what the line cards posted, what each slot decided, and the journal.
+//!
+//! All that it makes follows from its list of events and the definitions of `slot_histories`. Its
+//! memory is taken when it is made: no event takes any.
+#![tactic(auto)]
+
+mod accepting;
+mod books;
+mod counts;
+mod journal;
+mod limits;
+mod posts;
+mod state;
+#[cfg(test)]
+mod tests;
+
+pub use accepting::is_accepted;
+pub use books::CardBook;
+pub use journal::Journal;
+pub use limits::MAX_SLOTS;
+pub use state::BoardState;

@@ -1,0 +1,229 @@
+ghost use Rattle.std.specs.Prelude.{◌≡◌, ℕ, ◌+◌, ◌<◌, ◌≤◌, ◌↔◌, [], length, IsTrue, IfOk};
+ghost use Rattle.slot_histories.specs.Events.{takes_of, decides};
+ghost use Rattle.slot_histories.specs.Legal.{Allows, IsLegal};
+ghost use Rattle.slot_histories.specs.Answers.{answer_of, journal_of};
+ghost use Rattle.slot_histories.specs.Tests.{is_allowed};
+ghost use Rattle.board_state.specs.Boards.{IsSetup, with_event, with_refused, book_of, HavePosted, IsFinished};
+
+use crate::books::CardBook;
+use crate::counts::{Counts, no_counts};
+use crate::journal::Journal;
+use crate::limits::MAX_SLOTS;
+use crossbar::Post;
+use islip_rounds::RoundsUsed;
+use pointer_state::Pointers;
+use rotating_pick::{MAX_PORTS, MAX_ROUNDS, OutOfMemory, Ports};
+use slot_histories::{Answer, Event};
+use slot_match::Match;
+use std::alloc::{AllocError, Global};
+use std::marker::Model;
+
+mod adding;
+mod allowing;
+mod slots;
+
+/// The state of a board: what was posted, decided and taken.
+///
+/// Contracts see its setup, the list of its events and the refused calls that are known of. All of its
+/// memory is taken by [`BoardState::make`].
+#[derive(Drop)]
+pub struct BoardState {
+    ports: u32,
+    rounds: u32,
+    max_slots: u32,
+    // For each card how many slots it posted and took.
+    posted: Counts,
+    taken: Counts,
+    // The cards that have posted the slot that is decided next.
+    posted_next: Ports,
+    pointers: Pointers,
+    // Whether a decided slot is done. It is the last, since no card posts after it.
+    done: bool,
+    // Slot by slot and card by card.
+    posts: Vec<Post>,
+    matches: Vec<Match>,
+    numbers: Vec<RoundsUsed>,
+    // A byte for each event.
+    order: Vec<u8>,
+    refused: u64,
+}
+
+impl Model for BoardState {
+    ghost use Rattle.board_state.specs.Boards.{BoardValue};
+
+    ghost Value = { BoardValue };
+
+    ghost use Rattle.board_state.specs.Fields.{board_of, AreKept};
+
+    ghost view = { board_of };
+
+    ghost invariant = { AreKept };
+}
+
+impl BoardState {
+    /// A board of a switch of `n` ports, whose slots have so many rounds, each from 1 to 64, and on which
+    /// at most `max_slots` slots are posted, from 1 to [`MAX_SLOTS`]. Nothing has happened on it.
+    pub fn make(
+        alloc: Global,
+        n: u32,
+        rounds: u32,
+        max_slots: u32,
+    ) -> Result<BoardState, OutOfMemory>
+        requires ports { (0 < n) × (n ≤ MAX_PORTS) }
+        requires rounds { (0 < rounds) × (rounds ≤ MAX_ROUNDS) }
+        requires slots { (0 < max_slots) × (max_slots ≤ MAX_SLOTS) }
+        ensures { IfOk result (λ s. s ≡ record { setup = record { ports = n; rounds = rounds; max_slots = max_slots }; events = []; refused = 0 }) }
+    {
+        let slots = max_slots as usize;
+        let posts = Vec::with_capacity(alloc, slots * n as usize)?;
+        let matches = Vec::with_capacity(alloc, slots)?;
+        let numbers = Vec::with_capacity(alloc, slots)?;
+        let order = Vec::with_capacity(alloc, (2 * n as usize + 1) * slots)?;
+        Ok(BoardState {
+            ports: n,
+            rounds,
+            max_slots,
+            posted: no_counts(),
+            taken: no_counts(),
+            posted_next: 0,
+            pointers: Pointers::new(n),
+            done: false,
+            posts,
+            matches,
+            numbers,
+            order,
+            refused: 0,
+        })
+    }
+
+    /// Whether the event may come now.
+    pub fn may(&self, event: &Event) -> bool
+        ensures may { IsTrue result ↔ Allows self.now.setup self.now.events event.now }
+        ensures test { result ≡ is_allowed self.now.setup self.now.events event.now }
+    {
+        self.legal();
+        self.is_possible(event)
+    }
+
+    /// Makes the event, which may come, and answers it. Takes no memory.
+    pub fn step(&mut self, event: Event) -> Answer
+        requires { Allows self.old.setup self.old.events event }
+        ensures board { self.new ≡ with_event self.old event }
+        ensures answer { result ≡ answer_of self.old.setup self.old.events event }
+    {
+        match event {
+            Event::Post { card, post } => {
+                self.add_post(card, post);
+                Answer::Posted
+            }
+            Event::Decide => Answer::Decided(self.add_decision()),
+            Event::Take { card } => Answer::Took(self.add_take(card)),
+        }
+    }
+
+    /// Where the card, one of the ports, stands.
+    pub fn book(&self, card: u32) -> CardBook
+        requires { card < self.now.setup.ports }
+        ensures { result ≡ book_of self.now card }
+    {
+        let slot = self.takes(card);
+        CardBook {
+            card,
+            slot,
+            posted: slot < self.posted[card as usize],
+            done: self.is_done_before(slot),
+        }
+    }
+
+    /// The cards that have posted the next slot to be decided.
+    pub fn posted(&self) -> Ports
+        ensures { HavePosted self.now.setup self.now.events result }
+    {
+        self.posted_next
+    }
+
+    /// Whether every card has taken a slot that is done.
+    pub fn finished(&self) -> bool
+        ensures { IsTrue result ↔ IsFinished self.now }
+    {
+        for taker in 0..self.ports {
+            if !self.is_done_before(self.takes(taker)) {
+                return false;
+            }
+        }
+        true
+    }
+
+    /// The decided slots.
+    pub fn journal(self) -> Journal
+        ensures { result ≡ record { setup = self.setup; slots = journal_of self.setup self.events; events = length self.events; refused = self.refused } }
+    {
+        Journal { board: self }
+    }
+
+    /// The events are a legal list, and the setup is within its limits.
+    pub fn legal(&self)
+        ensures legal { IsLegal self.now.setup self.now.events }
+        ensures setup { IsSetup self.now.setup }
+    {
+        let _ = &self.ports;
+    }
+
+    /// The number of ports of the switch, 1 to 64.
+    pub fn ports(&self) -> u32
+        ensures { result ≡ self.now.setup.ports }
+    {
+        self.ports
+    }
+
+    /// In how many rounds each slot is decided, 1 to 64.
+    pub fn rounds(&self) -> u32
+        ensures { result ≡ self.now.setup.rounds }
+    {
+        self.rounds
+    }
+
+    /// The most slots that are posted, 1 to [`MAX_SLOTS`].
+    pub fn max_slots(&self) -> u32
+        ensures { result ≡ self.now.setup.max_slots }
+    {
+        self.max_slots
+    }
+
+    /// How many slots were decided.
+    pub fn decided_slots(&self) -> u32
+        ensures { result ≡ decides self.now.events }
+    {
+        self.matches.len() as u32
+    }
+
+    /// How many events there were.
+    pub fn events(&self) -> u64
+        ensures { result ≡ length self.now.events }
+    {
+        self.order.len() as u64
+    }
+
+    /// How many refused calls are known of.
+    pub fn least_refused(&self) -> u64
+        ensures { result ≡ self.now.refused }
+    {
+        self.refused
+    }
+
+    /// Notes that so many calls at least were refused.
+    pub fn set_least_refused(&mut self, least: u64)
+        ensures { self.new ≡ with_refused self.old least }
+    {
+        self.refused = least;
+    }
+
+    // How many slots the card took.
+    fn takes(&self, card: u32) -> u32
+        requires { card < self.now.setup.ports }
+        ensures value { result ≡ takes_of card self.now.events }
+        ensures decided { result ≤ decides self.now.events }
+    {
+        self.taken[card as usize]
+    }
+}

@@ -1,0 +1,4 @@
+mod books;
+mod builders;
+mod orders;
+mod refusals;
