@@ -1,0 +1,11 @@
+pub mod OtherTurns
+mod ColumnSteps
+mod RefusedTries
+mod CardTurns
+mod PostTurns
+mod TakeTurns
+mod LeastTries
+mod NewSeats
+mod Takings
+pub mod SeatColumns
+pub mod DecidedSlots

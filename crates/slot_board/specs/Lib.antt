@@ -1,0 +1,5 @@
+pub mod Turns
+pub mod Seats
+pub mod Columns
+pub mod Boards
+pub mod Schedules

@@ -1,0 +1,16 @@
+-- The slots of a history, as schedules have them.
+use Rattle.std.specs.Prelude.{ℕ, List, map}
+use Rattle.std.specs.List.{range_with_len}
+use Rattle.eslip_rounds.specs.Schedules.{DecidedSlot}
+use Rattle.crossbar.specs.declared.cards.Post.{Post as CardPost}
+use Rattle.slot_histories.specs.declared.events.Event.{Event}
+use Rattle.slot_histories.specs.Events.{Setup, posted, decides}
+use Rattle.slot_histories.specs.Slots.{slot_rows, decision_at}
+
+-- slot t, where each card posts these
+abbrev pub decided_slot : Setup → (ℕ → ℕ → CardPost) → ℕ → DecidedSlot
+decided_slot s posts t = record { rows = slot_rows s.ports posts t; decision = decision_at s posts t }
+
+-- the slots that the events decided
+abbrev pub decided_slots : Setup → List Event → List DecidedSlot
+decided_slots s events = map (decided_slot s (posted events)) (range_with_len 0 (decides events))

@@ -1,0 +1,5 @@
+mod contention;
+mod helpers;
+mod seats;
+mod slots;
+mod threads;
