@@ -13,7 +13,7 @@ use Rattle.cell_cutter.specs.Messages.{cells_in}
 abbrev pub part : ℕ → List ℕ → List ℕ
 part k message = take PAYLOAD_BYTES (drop (PAYLOAD_BYTES * k) message)
 
--- bytes with zeros behind them, 56 in all
+-- the bytes, followed by zeros, 56 in all
 abbrev pub padded : List ℕ → List ℕ
 padded bytes = bytes ++ replicate (PAYLOAD_BYTES - length bytes) 0
 

@@ -1,7 +1,7 @@
 -- A packet's message: what its cells carry.
-use Rattle.std.specs.Prelude.{ℕ, List, ◌++◌, length}
+use Rattle.std.specs.Prelude.{ℕ, ◌+◌, List, ◌++◌, length}
 use Rattle.std.specs.Int.{w32, to_be_bytes, div_ceil}
-use Rattle.cell_cutter.specs.declared.sizes.TheConstants.{PAYLOAD_BYTES}
+use Rattle.cell_cutter.specs.declared.sizes.TheConstants.{MESSAGE_HEADER_BYTES, PAYLOAD_BYTES}
 
 -- seconds, nanoseconds, captured length and original length, each a big-endian 32-bit number
 unfoldable pub message_header : ℕ → ℕ → ℕ → ℕ → List ℕ
@@ -15,3 +15,7 @@ message seconds nanos original bytes = message_header seconds nanos (length byte
 -- how many cells a message of so many bytes has: its bytes by 56, rounded up
 abbrev pub cells_in : ℕ → ℕ
 cells_in bytes = div_ceil bytes PAYLOAD_BYTES
+
+-- how many cells a packet of so many captured bytes has: those of its message
+abbrev pub cells_of_packet : ℕ → ℕ
+cells_of_packet captured = cells_in (MESSAGE_HEADER_BYTES + captured)

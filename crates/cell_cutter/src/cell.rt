@@ -2,7 +2,7 @@ ghost use Rattle.std.specs.Prelude.{◌≡◌, ◌≢◌, ◌^◌, ◌<◌, ◌�
 ghost use Rattle.cell_cutter.specs.Kinds.{kind_byte, flag_byte};
 ghost use Rattle.cell_cutter.specs.Cells.{IsCellForm, cell_bytes};
 
-use crate::sizes::{CELL_BYTES, HEADER_BYTES, MAX_NUMBER, PAYLOAD_BYTES};
+use crate::sizes::{CELL_BYTES, CELL_HEADER_BYTES, MAX_NUMBER, PAYLOAD_BYTES};
 use rotating_pick::{Kind, LEVELS, MAX_PORTS};
 
 /// What crosses the switch in one slot: a part of a packet's message.
@@ -20,7 +20,7 @@ pub struct Cell {
     pub used: u8,
     /// Which cell of the message it is, 0 to 1,170.
     pub number: u16,
-    /// The bytes of the message, and zeros behind them.
+    /// The bytes of the message, followed by zeros.
     pub payload: [u8; PAYLOAD_BYTES],
 }
 
@@ -37,7 +37,7 @@ pub struct CellName {
 
 impl Cell {
     /// Whether the cell is of the form of a cell: each field within its range, `used` 56 unless it is
-    /// a last cell, and zeros behind the used bytes.
+    /// a last cell, and zeros after the used bytes.
     pub fn is_of_form(&self) -> bool
         ensures { IsTrue result ↔ IsCellForm self.now }
     {
@@ -54,7 +54,7 @@ impl Cell {
             && is_blank(&self.payload[used..])
     }
 
-    /// The 64 bytes of the cell.
+    /// The 64 bytes of a cell that is of the form (`is_of_form()`).
     pub fn to_bytes(&self) -> [u8; CELL_BYTES]
         requires { IsCellForm self.now }
         ensures { result ≡ cell_bytes self.now }
@@ -80,8 +80,8 @@ impl Cell {
             low,
         ];
         let mut bytes = [0; CELL_BYTES];
-        bytes[..HEADER_BYTES].copy_from_slice(&header);
-        bytes[HEADER_BYTES..].copy_from_slice(payload);
+        bytes[..CELL_HEADER_BYTES].copy_from_slice(&header);
+        bytes[CELL_HEADER_BYTES..].copy_from_slice(payload);
         bytes
     }
 
@@ -110,7 +110,7 @@ fn read(bytes: &[u8; CELL_BYTES]) -> Option<Cell>
         return None;
     }
     let mut payload = [0; PAYLOAD_BYTES];
-    payload.copy_from_slice(&bytes[HEADER_BYTES..]);
+    payload.copy_from_slice(&bytes[CELL_HEADER_BYTES..]);
     Some(Cell {
         input: bytes[0],
         level: bytes[1],

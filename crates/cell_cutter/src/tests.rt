@@ -1,6 +1,5 @@
-use crate::{CELL_BYTES, Cell, MAX_FORWARDED, Packet, cells_of, cut};
+use crate::{CELL_BYTES, Cell, MAX_FORWARDED_BYTES, Packet, cells_of, cut};
 use rotating_pick::Kind;
-use std::alloc::{AllocError, Global};
 use std::test::Fail;
 
 // Cell `number` of a packet, bytes in hexadecimal.
@@ -15,28 +14,6 @@ struct Row {
     number: u16,
     bytes: &'static str,
     cell: &'static str,
-}
-
-// The bytes that a text of hexadecimal digits spells.
-fn bytes_of(alloc: Global, text: &str) -> Result<Vec<u8>, AllocError> {
-    let mut bytes = Vec::new(alloc);
-    for pair in text.as_bytes().chunks(2) {
-        let mut byte = 0;
-        for digit in pair {
-            byte = byte << 4 | value_of(*digit);
-        }
-        bytes.push(byte)?;
-    }
-    Ok(bytes)
-}
-
-// The value of a hexadecimal digit.
-fn value_of(digit: u8) -> u8 {
-    match digit {
-        b'0'..=b'9' => digit - b'0',
-        b'a'..=b'f' => digit - b'a' + 10,
-        _ => 0,
-    }
 }
 
 #[test]
@@ -171,7 +148,7 @@ fn cuts_cells(rt: HostRuntime) -> Result<(), Fail> {
         },
     ];
     for row in rows {
-        let bytes = bytes_of(rt.alloc(), row.bytes)?;
+        let bytes = hex::decode(rt.alloc(), row.bytes)?;
         let packet = Packet {
             input: row.input,
             level: row.level,
@@ -181,13 +158,13 @@ fn cuts_cells(rt: HostRuntime) -> Result<(), Fail> {
             original: row.original,
             bytes: bytes.as_slice(),
         };
-        assert!(rt; row.input < 64 && row.level < 4 && packet.bytes.len() <= MAX_FORWARDED);
+        assert!(rt; row.input < 64 && row.level < 4 && packet.bytes.len() <= MAX_FORWARDED_BYTES);
         assert!(rt; u32::from(row.number) < cells_of(packet.bytes.len() as u32));
         let cell = cut(&packet, row.number);
         assert!(rt; cell.is_of_form());
         assert_eq!(rt;
             cell.to_bytes().as_slice(),
-            bytes_of(rt.alloc(), row.cell)?.as_slice(),
+            hex::decode(rt.alloc(), row.cell)?.as_slice(),
             "{}",
             row.cell
         );
@@ -198,7 +175,7 @@ fn cuts_cells(rt: HostRuntime) -> Result<(), Fail> {
 #[test]
 fn cuts_the_longest_packet(rt: HostRuntime) -> Result<(), Fail> {
     let mut bytes = Vec::new(rt.alloc());
-    for place in 0..MAX_FORWARDED {
+    for place in 0..MAX_FORWARDED_BYTES {
         bytes.push((place % 251) as u8)?;
     }
     let packet = Packet {
@@ -220,12 +197,12 @@ fn cuts_the_longest_packet(rt: HostRuntime) -> Result<(), Fail> {
             "3f0301011f000492f4f5f6f7f8f9fa000102030405060708090a0b0c0d0e0f101112131415161700000000000000000000000000000000000000000000000000",
         ),
     ];
-    assert_eq!(rt; packet.bytes.len(), MAX_FORWARDED);
+    assert_eq!(rt; packet.bytes.len(), MAX_FORWARDED_BYTES);
     for (number, cell) in rows {
         assert!(rt; u32::from(number) < cells_of(packet.bytes.len() as u32));
         assert_eq!(rt;
             cut(&packet, number).to_bytes().as_slice(),
-            bytes_of(rt.alloc(), cell)?.as_slice(),
+            hex::decode(rt.alloc(), cell)?.as_slice(),
             "cell {number}"
         );
     }

@@ -3,7 +3,7 @@
 //! `form CELL -> INPUT LEVEL KIND LAST USED NUMBER`, or `-> none`.
 use crate::fields::{byte, bytes, kind};
 use crate::texts::kind_letter;
-use cell_cutter::{CELL_BYTES, Cell, MAX_CAPTURED, MAX_FORWARDED, Packet, cells_of, cut};
+use cell_cutter::{CELL_BYTES, Cell, MAX_CAPTURED_BYTES, MAX_FORWARDED_BYTES, Packet, cells_of, cut};
 use rotating_pick::{LEVELS, MAX_PORTS};
 use std::alloc::{AllocError, Global};
 use vector_rows::{NoAnswer, Row, number, words};
@@ -32,7 +32,7 @@ fn answer(alloc: Global, question: &str) -> Result<String, NoAnswer> {
 }
 
 fn count_text(alloc: Global, len: u32) -> Result<String, NoAnswer> {
-    if len > MAX_CAPTURED {
+    if len > MAX_CAPTURED_BYTES {
         return Err(NoAnswer);
     }
     Ok(format!(in alloc; "{}", cells_of(len))?)
@@ -49,8 +49,8 @@ pub fn cell_bytes(text: &str) -> Result<[u8; CELL_BYTES], NoAnswer> {
 
 // The longest packet that is forwarded: byte x is x mod 251.
 fn long_packet(alloc: Global) -> Result<Vec<u8>, AllocError> {
-    let mut bytes = Vec::with_capacity(alloc, MAX_FORWARDED)?;
-    for x in 0..MAX_FORWARDED {
+    let mut bytes = Vec::with_capacity(alloc, MAX_FORWARDED_BYTES)?;
+    for x in 0..MAX_FORWARDED_BYTES {
         bytes.push((x % 251) as u8)?;
     }
     Ok(bytes)
@@ -76,7 +76,7 @@ fn cut_text(alloc: Global, head: &[&str], bytes: &[u8]) -> Result<String, NoAnsw
 // The bytes of cell `k` of the packet.
 fn cell_of(packet: &Packet<'_>, k: u32) -> Result<[u8; CELL_BYTES], NoAnswer> {
     let len = packet.bytes.len();
-    if len > MAX_FORWARDED
+    if len > MAX_FORWARDED_BYTES
         || u32::from(packet.input) >= MAX_PORTS
         || u32::from(packet.level) >= LEVELS
         || k >= cells_of(len as u32)

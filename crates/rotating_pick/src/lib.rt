@@ -11,10 +11,10 @@ mod port_set;
 mod rotation;
 
 pub use kinds::Kind;
-pub use limits::{LEVELS, MAX_PORTS, MAX_ROUNDS};
+pub use limits::{LEVELS, MAX_FILE_BYTES, MAX_PORTS, MAX_ROUNDS, limits_are};
 pub use memory::OutOfMemory;
 pub use port_set::{
     Ports, all, contains, difference, intersection, is_among, is_empty, is_subset, union, with,
     without,
 };
-pub use rotation::{dist, lowest, next, pick, rotate};
+pub use rotation::{dist, lowest, next, only, pick, rotate};

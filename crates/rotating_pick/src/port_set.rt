@@ -6,7 +6,7 @@ use crate::limits::MAX_PORTS;
 /// A set of ports: port `x` is a member where bit `x` is 1.
 pub type Ports = u64;
 
-/// Whether port `x` is a member of the set.
+/// Whether port `x`, which is below 64, is a member of the set.
 pub fn contains(ports: Ports, x: u32) -> bool
     requires { x < MAX_PORTS }
     ensures { IsTrue result ↔ Has ports x }
@@ -49,7 +49,7 @@ pub fn all(n: u32) -> Ports
     u64::MAX >> (MAX_PORTS - n)
 }
 
-/// The set with port `x` as a further member.
+/// The set with port `x`, which is below 64, as a further member.
 pub fn with(ports: Ports, x: u32) -> Ports
     requires { x < MAX_PORTS }
     ensures { (y : ℕ) → Has result y ↔ ((y ≡ x) ⊎ Has ports y) }
@@ -57,7 +57,7 @@ pub fn with(ports: Ports, x: u32) -> Ports
     ports | (1 << x)
 }
 
-/// The set without port `x`.
+/// The set without port `x`, which is below 64.
 pub fn without(ports: Ports, x: u32) -> Ports
     requires { x < MAX_PORTS }
     ensures members { (y : ℕ) → Has result y ↔ ((y ≢ x) × Has ports y) }

@@ -1,12 +1,12 @@
-ghost use Rattle.std.specs.Prelude.{◌≡◌, ℕ, Some, ◌+◌, ◌%◌, ◌<◌, ◌≤◌, ◌↔◌, IsNone, IfSome};
-ghost use Rattle.rotating_pick.specs.PortSets.{Has, IsAmong};
+ghost use Rattle.std.specs.Prelude.{◌≡◌, ℕ, Some, ◌+◌, ◌%◌, ◌^◌, ◌<◌, ◌≤◌, ◌↔◌, ◌⊎◌, IsNone, IfSome};
+ghost use Rattle.rotating_pick.specs.PortSets.{Has, HasSeveral, IsAmong};
 ghost use Rattle.rotating_pick.specs.Rotation.{distance, IsFirstFrom};
 
 use crate::limits::MAX_PORTS;
-use crate::port_set::Ports;
+use crate::port_set::{Ports, without};
 
-/// How many steps port `x` is past port `from`, round the circle of `n` ports, for `n` from 1 to 64:
-/// `(x - from) mod n`.
+/// How many steps port `x` is past port `from`, round the circle of `n` ports: `(x - from) mod n`, for
+/// `n` from 1 to 64, and `from` and `x` below `n`.
 pub fn dist(n: u32, from: u32, x: u32) -> u32
     requires size { n ≤ MAX_PORTS }
     requires from_in { from < n }
@@ -16,7 +16,8 @@ pub fn dist(n: u32, from: u32, x: u32) -> u32
     if x >= from { x - from } else { x + (n - from) }
 }
 
-/// The port after `x`, round the circle of `n` ports, for `n` from 1 to 64.
+/// The port after `x`, round the circle of `n` ports: `(x + 1) mod n`, for `n` from 1 to 64 and `x` below
+/// `n`.
 pub fn next(n: u32, x: u32) -> u32
     requires size { n ≤ MAX_PORTS }
     requires x_in { x < n }
@@ -39,8 +40,21 @@ pub fn lowest(ports: Ports) -> Option<u32>
     }
 }
 
-/// The set as seen from port `by` on, for `n` from 1 to 64: port `x` is a member of the answer where
-/// port `(x + by) mod n` is one of the set.
+/// The only member of a set of one port. None exactly where the set is empty or has several members.
+pub fn only(ports: Ports) -> Option<u32>
+    ensures one { IfSome result (λ x. (x < MAX_PORTS) × (ports ≡ 2 ^ x)) }
+    ensures exact { (x : ℕ) → (result ≡ Some x) ↔ (ports ≡ 2 ^ x) }
+    ensures none { IsNone result ↔ ((ports ≡ 0) ⊎ HasSeveral ports) }
+{
+    let port = lowest(ports)?;
+    match lowest(without(ports, port)) {
+        Some(_) => None,
+        None => Some(port),
+    }
+}
+
+/// The set as seen from port `by` on: port `x` is a member of the answer where port `(x + by) mod n` is
+/// one of the set, for `n` from 1 to 64, `by` below `n`, and a set of ports below `n`.
 pub fn rotate(n: u32, ports: Ports, by: u32) -> Ports
     requires size { n ≤ MAX_PORTS }
     requires by_in { by < n }
@@ -55,8 +69,9 @@ pub fn rotate(n: u32, ports: Ports, by: u32) -> Ports
     (wrapped << (n - by)) | (ports >> by)
 }
 
-/// The member that comes first from port `from` on, round the circle of `n` ports, for `n` from 1 to
-/// 64: the one of least distance. None exactly where the set is empty.
+/// The member that comes first from port `from` on, round the circle of `n` ports: the one of least
+/// distance, for `n` from 1 to 64, `from` below `n`, and a set of ports below `n`. None exactly where the
+/// set is empty.
 ///
 /// This is the round-robin choice of the iSLIP paper (McKeown 1999, section III), made by two words
 /// and no walk.
@@ -87,7 +102,7 @@ fn advance(n: u32, from: u32, steps: u32) -> u32
 mod tests {
     use crate::{
         MAX_PORTS, Ports, all, contains, difference, dist, intersection, is_among, is_empty,
-        is_subset, lowest, next, pick, rotate, union, with, without,
+        is_subset, lowest, next, only, pick, rotate, union, with, without,
     };
 
     // A choice among `n` ports, from a pointer on, and the port that it takes.
@@ -158,6 +173,9 @@ mod tests {
         assert_eq!(rt; rotate(64, 1, 1), 1 << 63);
         assert_eq!(rt; lowest(0), None);
         assert_eq!(rt; lowest(0b01010), Some(1));
+        assert_eq!(rt; only(1 << 63), Some(63));
+        assert_eq!(rt; only(0b01010), None);
+        assert_eq!(rt; only(0), None);
         assert_eq!(rt; dist(64, 63, 0), 1);
         assert_eq!(rt; dist(64, 63, 62), 63);
         assert_eq!(rt; next(5, 4), 0);

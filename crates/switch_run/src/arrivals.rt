@@ -10,7 +10,7 @@ ghost use Rattle.switch_run.specs.Cards.{AreCards, EndsBefore, traffic_of, total
 ghost use Rattle.switch_run.specs.Jobs.{file_of, stamp_of, LiesWithin, AreOfLink, IsBuilt, GoesTo, IsTraffic, AreTraffic};
 
 use crate::line_card::{Arriving, LineCard};
-use cell_cutter::{CellName, MAX_CAPTURED, cells_of};
+use cell_cutter::{CellName, MAX_CAPTURED_BYTES, cells_of};
 use forward_table::Table;
 use frame_fields::destination;
 use line_pace::{MAX_ARRIVAL_SLOTS, Pace, Stamp, arrivals};
@@ -45,7 +45,7 @@ fn stamps(alloc: Global, capture: &Capture) -> Result<Vec<Stamp>, OutOfMemory>
 
 // When a packet came, and how long it occupies the line.
 fn stamp(packet: &Stored) -> Stamp
-    requires { packet.now.len ≤ MAX_CAPTURED }
+    requires { packet.now.len ≤ MAX_CAPTURED_BYTES }
     ensures time { result.time ≡ packet.now.seconds * NANOS_PER_SECOND + packet.now.nanos }
     ensures cells { result.cells ≡ cells_in (16 + packet.now.len) }
 {

@@ -7,7 +7,7 @@ ghost use Rattle.switch_run.specs.Jobs.{file_of, LiesWithin, IsFile, AreFiles, A
 ghost use Rattle.switch_run.specs.Outcome.{bytes_of, IsFirstFault, HaveLinks, IsFirstNotBuilt};
 
 use crate::job::Refusal;
-use cell_cutter::{MAX_FORWARDED, cells_of};
+use cell_cutter::{MAX_FORWARDED_BYTES, cells_of};
 use pcap_records::{Capture, Link, MAX_FILE_BYTES, PcapFault, read_capture};
 use rotating_pick::MAX_PORTS;
 use std::alloc::Global;
@@ -68,7 +68,7 @@ fn is_built(capture: &Capture) -> bool
 {
     let mut cells = 0;
     for packet in &capture.packets {
-        if packet.len > MAX_FORWARDED as u32 {
+        if packet.len > MAX_FORWARDED_BYTES as u32 {
             return false;
         }
         cells += cells_of(packet.len);
