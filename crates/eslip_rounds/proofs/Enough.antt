@@ -1,76 +1,22 @@
 -- A round that adds nothing began with a maximal match, and n rounds are enough.
-use Rattle.std.proofs.Common.{◌≡◌, ℕ, zero, suc, ◌+◌, ◌-◌, ◌<◌, ◌≤◌, ◌⊎◌, ◌∙◌, true, cond, ltb, List, [], ◌∷◌, Option, None, Some, length, map, is_some, refl, sym, ap, subst, inl, inr, arith, tests}
-use Rattle.std.proofs.lemmas.List.{ext_get_or}
-use Rattle.std.proofs.lemmas.List.Sums.{sum_by-cons, count_by-le-length}
+use Rattle.std.proofs.Common.{◌≡◌, ℕ, suc, ◌+◌, ◌-◌, ◌<◌, ◌≤◌, ◌⊎◌, ◌∙◌, true, cond, ltb, List, [], ◌∷◌, Option, None, Some, length, map, refl, sym, ap, subst, inl, inr, arith, tests}
+use Rattle.std.proofs.lemmas.List.{ext_get_or, get_or_past}
+use Rattle.std.proofs.lemmas.List.Sums.{sum_by-cons}
 use Rattle.std.proofs.lemmas.Option.{none-some}
 use Rattle.rotating_pick.specs.declared.kinds.Kind.{Kind}
 use Rattle.rotating_pick.specs.declared.kinds.Kind.TheVariants.{Multi}
-use Rattle.rotating_pick.proofs.Picking.{Decides, least}
 use Rattle.slot_match.specs.declared.rows.Row.{Row}
 use Rattle.slot_match.specs.declared.matching.Fed.{Fed}
 use Rattle.slot_match.specs.Rows.{row_of, AreWithin}
 use Rattle.slot_match.specs.Matches.{fed_of, IsFreeOutput, IsMatch, IsMaximal}
 use Rattle.slot_match.proofs.Pairs.{Serves-from}
-use Rattle.slot_match.proofs.Tables.{one_if_some}
 use Rattle.pointer_state.specs.Places.{Places, AreAtPorts, accept_of}
+use Rattle.islip_rounds.proofs.Counting.{count_fewer, kept_or_new, more_or_same}
 use Rattle.islip_rounds.specs.Numbers.{last_of, matched_count, added_from, rounds_used}
 use Rattle.eslip_rounds.specs.Rounds.{Requests, Grants, IsRound, AreRounds}
 use Rattle.eslip_rounds.proofs.Bests.{taken_from}
 use Rattle.eslip_rounds.proofs.Matching.{IsMatch-round, IsMatch-rounds}
 use Rattle.eslip_rounds.proofs.Deciding.{Grants-some, Accepts-some, asks_some}
-
-fed_more : (o p : Option Fed) → ((f : Fed) → o ≡ Some f → p ≡ Some f) → one_if_some o ≤ one_if_some p
-fed_more None p keep = omega arith
-fed_more (Some f) p keep = let e : one_if_some p ≡ 1 = ap one_if_some (keep f refl) in omega arith
-
--- a match that keeps another has no fewer outputs
-grown : (a b : List (Option Fed)) → length a ≡ length b → ((j : ℕ) (f : Fed) → fed_of a j ≡ Some f → fed_of b j ≡ Some f) → matched_count a ≤ matched_count b
-grown [] [] long keep = omega arith
-grown [] (y ∷ b) long keep = absurd (omega arith)
-grown (x ∷ a) [] long keep = absurd (omega arith)
-grown (x ∷ a) (y ∷ b) long keep =
-    let later = grown a b (omega arith) (λ j f e. keep (suc j) f e) in
-    let here = fed_more x y (λ f e. keep zero f e) in
-    let left = sum_by-cons one_if_some x a in
-    let right = sum_by-cons one_if_some y b in
-    omega arith
-
--- and more where an output was free
-grown_more : (a b : List (Option Fed)) → length a ≡ length b → ((j : ℕ) (f : Fed) → fed_of a j ≡ Some f → fed_of b j ≡ Some f) → (j : ℕ) (f : Fed) → fed_of a j ≡ None → fed_of b j ≡ Some f → matched_count a < matched_count b
-grown_more [] [] long keep j f none some = absurd (none-some f some)
-grown_more [] (y ∷ b) long keep j f none some = absurd (omega arith)
-grown_more (x ∷ a) [] long keep j f none some = absurd (omega arith)
-grown_more (x ∷ a) (y ∷ b) long keep zero f none some =
-    let later = grown a b (omega arith) (λ j g e. keep (suc j) g e) in
-    let before : one_if_some x ≡ 0 = ap one_if_some none in
-    let after : one_if_some y ≡ 1 = ap one_if_some some in
-    let left = sum_by-cons one_if_some x a in
-    let right = sum_by-cons one_if_some y b in
-    omega arith
-grown_more (x ∷ a) (y ∷ b) long keep (suc j) f none some =
-    let later = grown_more a b (omega arith) (λ k g e. keep (suc k) g e) j f none some in
-    let here = fed_more x y (λ g e. keep zero g e) in
-    let left = sum_by-cons one_if_some x a in
-    let right = sum_by-cons one_if_some y b in
-    omega arith
-
-at_most_one : (o : Option Fed) → one_if_some o ≤ 1
-at_most_one None = omega arith
-at_most_one (Some f) = omega arith
-
--- where a free output is left, not all are matched
-not_all : (m : List (Option Fed)) (j : ℕ) → j < length m → fed_of m j ≡ None → matched_count m < length m
-not_all [] j below none = absurd (omega arith)
-not_all (x ∷ m) zero below none =
-    let later = count_by-le-length is_some m in
-    let here : one_if_some x ≡ 0 = ap one_if_some none in
-    let whole = sum_by-cons one_if_some x m in
-    omega arith
-not_all (x ∷ m) (suc j) below none =
-    let later = not_all m j (omega arith) none in
-    let here = at_most_one x in
-    let whole = sum_by-cons one_if_some x m in
-    omega arith
 
 -- a round that adds counts as used
 used_more : (a : ℕ) (rest : List ℕ) (k : ℕ) → 0 < a → rounds_used rest ≡ k → rounds_used (a ∷ rest) ≡ suc k
@@ -80,30 +26,13 @@ used_more a rest k some e =
     let one : cond {A = ℕ} (ltb 0 a) 1 0 ≡ 1 = ap (λ b. cond {A = ℕ} b 1 0) here in
     omega arith
 
-added_at : (o p : Option Fed) → ((f : Fed) × (o ≡ None) × (p ≡ Some f)) ⊎ ((f : Fed) → o ≡ None → p ≡ Some f → ⊥)
-added_at None (Some f) = inl (f, refl, refl)
-added_at None None = inr (λ f e h. none-some f h)
-added_at (Some x) p = inr (λ f e h. none-some x (sym e))
-
-kept_or_new : (o p : Option Fed) → ((f : Fed) → o ≡ Some f → p ≡ Some f) → ((f : Fed) → o ≡ None → p ≡ Some f → ⊥) → o ≡ p
-kept_or_new (Some x) p keep none = sym (keep x refl)
-kept_or_new None None keep none = refl
-kept_or_new None (Some y) keep none = absurd (none y refl refl)
-
 module _ (n t : ℕ) (rows : List Row) (places : Places) (at_ports : AreAtPorts places) (ports : places.ports ≡ n) where
   round_keeps : (a b : List (Option Fed)) → IsRound n t rows places a b → (j : ℕ) (f : Fed) → fed_of a j ≡ Some f → fed_of b j ≡ Some f
   round_keeps a b r j f e = (r.pairs f.input j f.level f.kind).1 (inl e)
 
   -- a round adds to the match, or leaves it
   pub adds : (a b : List (Option Fed)) → length a ≡ n → IsRound n t rows places a b → (matched_count a < matched_count b) ⊎ (a ≡ b)
-  adds a b long r =
-      let New : ℕ → Type 0 = λ j. (f : Fed) × (fed_of a j ≡ None) × (fed_of b j ≡ Some f) in
-      let dec : (j : ℕ) → Decides (New j) = λ j. elim (added_at (fed_of a j) (fed_of b j)) [ inl p ↦ inl p | inr q ↦ inr (λ p. q p.0 p.1 p.2) ] in
-      let lengths : length a ≡ length b = long ∙ sym r.count in
-      elim (least New dec n) [
-        | inl p ↦ inl (grown_more a b lengths (round_keeps a b r) p.0 p.2.0 p.2.1 p.2.2)
-        | inr none ↦ inr (ext_get_or None a b lengths (λ j below. kept_or_new (fed_of a j) (fed_of b j) (round_keeps a b r j) (λ f e h. none j (omega arith) (f, e, h))))
-      ]
+  adds a b long r = more_or_same a b (long ∙ sym r.count) (round_keeps a b r)
 
   none_asks : (before : List (Option Fed)) → IsMatch n before → IsRound n t rows places before before → (i j level : ℕ) (kind : Kind) → i < n → j < n → IsFreeOutput before j → Requests rows before i j level kind → ⊥
   none_asks before whole round i j level kind i_in j_in vacant r =
@@ -182,8 +111,9 @@ module _ (n t : ℕ) (rows : List Row) (places : Places) (at_ports : AreAtPorts 
             let last = last_of before steps in
             let size : length last ≡ n = (IsMatch-rounds n t rows places at_ports ports before steps whole chain).count in
             let many = all.many in
+            let beyond : (k : ℕ) → n ≤ k → fed_of last k ≡ None = λ k above. get_or_past last k None (omega arith) in
             record {
-              free = λ i j level kind i_in j_in free vacant named. let fewer = not_all last j (omega arith) vacant in absurd (omega arith);
-              going_on = λ i j level i_in j_in on vacant named. let fewer = not_all last j (omega arith) vacant in absurd (omega arith);
+              free = λ i j level kind i_in j_in free vacant named. let fewer = count_fewer last n j beyond j_in vacant in absurd (omega arith);
+              going_on = λ i j level i_in j_in on vacant named. let fewer = count_fewer last n j beyond j_in vacant in absurd (omega arith);
             }
       ]

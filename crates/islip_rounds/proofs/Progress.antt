@@ -1,46 +1,23 @@
 -- A round in which something is asked matches a pair.
 use Rattle.std.proofs.Common.{◌≡◌, ℕ, ◌<◌, ◌⊎◌, List, [], ◌∷◌, Option, None, length, slice_index, sym, subst, arith, inl, inr}
-use Rattle.std.specs.Int.{bit_at}
-use Rattle.std.proofs.lemmas.Bool.{cases_eq, cases_lt}
 use Rattle.rotating_pick.specs.PortSets.{Has}
-use Rattle.rotating_pick.proofs.Picking.{Decides, IsFirstFrom-some, IsFirstFrom-decides}
 use Rattle.islip_rounds.specs.declared.numbers.RoundsUsed.{RoundsUsed}
 use Rattle.islip_rounds.specs.declared.unicast.UniPointers.{UniPointers}
 use Rattle.islip_rounds.specs.Numbers.{last_of}
-use Rattle.islip_rounds.specs.Rounds.{Feeds, Requests, Grants, IsRound, AreRounds}
+use Rattle.islip_rounds.specs.Rounds.{Feeds, IsRound, AreRounds}
 use Rattle.islip_rounds.specs.Slots.{unmatched, IsSlot}
 use Rattle.islip_rounds.proofs.Tables.{get_or-same}
+use Rattle.islip_rounds.proofs.Maximal.{some_accepts}
 use Rattle.islip_rounds.proofs.Running.{nothing_fed}
 
-module _ (n : ℕ) (asks : List ℕ) (pointers : UniPointers) (grant_in : (k : ℕ) → k < n → slice_index pointers.grant k < n) (accept_in : (k : ℕ) → k < n → slice_index pointers.accept k < n) where
-  -- whether an input asks an output, where nothing is matched
-  Requests-decides : (j x : ℕ) → Decides (Requests asks unmatched x j)
-  Requests-decides j x =
-      elim (cases_eq (bit_at (slice_index asks x) j) 1) [
-        | inl has ↦ inl (nothing_fed x, has)
-        | inr absent ↦ inr (λ requests. absent requests.1)
-      ]
-
-  -- whether an output grants an input
-  Grants-decides : (x y : ℕ) → Decides (Grants n asks pointers unmatched x y)
-  Grants-decides x y =
-      elim (cases_lt y n) [
-        | inl y_in ↦ elim (IsFirstFrom-decides n (slice_index pointers.grant y) (λ i. Requests asks unmatched i y) (Requests-decides y) (grant_in y y_in) x) [
-          | inl first ↦ inl (record { output_in = y_in; output_free = get_or-same None 64 y; first = first })
-          | inr other ↦ inr (λ grants. other grants.first)
-        ]
-        | inr beyond ↦ inr (λ grants. absurd (omega (arith, grants.output_in)))
-      ]
-
-  -- what a round adds that starts from nothing matched
-  pub some_pair : (i j : ℕ) (after : List (Option ℕ)) → IsRound n asks pointers unmatched after → i < n → j < n → Has (slice_index asks i) j → (x : ℕ) × (y : ℕ) × (x < n) × (y < n) × Has (slice_index asks x) y × Feeds after x y
-  some_pair i j after round i_in j_in has =
-      let granted = IsFirstFrom-some n (slice_index pointers.grant j) (λ x. Requests asks unmatched x j) (Requests-decides j) (grant_in j j_in) i i_in (nothing_fed i, has) in
-      let x = granted.0 in
-      let grants : Grants n asks pointers unmatched x j = record { output_in = j_in; output_free = get_or-same None 64 j; first = granted.1 } in
-      let accepted = IsFirstFrom-some n (slice_index pointers.accept x) (λ y. Grants n asks pointers unmatched x y) (Grants-decides x) (accept_in x granted.1.below) j j_in grants in
-      let y = accepted.0 in
-      (x, y, granted.1.below, accepted.1.below, accepted.1.member.first.member.1, (round x y).1 (inr accepted.1))
+-- what a round adds that starts from nothing matched
+pub some_pair : (n : ℕ) (asks : List ℕ) (pointers : UniPointers) → ((k : ℕ) → k < n → slice_index pointers.grant k < n) → ((k : ℕ) → k < n → slice_index pointers.accept k < n) → (i j : ℕ) (after : List (Option ℕ)) → IsRound n asks pointers unmatched after → i < n → j < n → Has (slice_index asks i) j → (x : ℕ) × (y : ℕ) × (x < n) × (y < n) × Has (slice_index asks x) y × Feeds after x y
+some_pair n asks pointers grant_in accept_in i j after round i_in j_in has =
+    let accepted = some_accepts n asks pointers grant_in accept_in unmatched (λ x y feeds. absurd (nothing_fed x y feeds)) i j i_in j_in (nothing_fed i) (get_or-same None 64 j) has in
+    let x = accepted.0 in
+    let y = accepted.1 in
+    let grant = accepted.2.member in
+    (x, y, grant.first.below, accepted.2.below, grant.first.member.1, (round x y).1 (inr accepted.2))
 
 -- the same of a slot of one round
 pub some_pair_in_slot : (n i j : ℕ) (asks : List ℕ) (before after : UniPointers) (matched : List (Option ℕ)) (numbers : RoundsUsed) → ((k : ℕ) → k < n → slice_index before.grant k < n) → ((k : ℕ) → k < n → slice_index before.accept k < n) → IsSlot n 1 asks before matched numbers after → i < n → j < n → Has (slice_index asks i) j → (x : ℕ) × (y : ℕ) × (x < n) × (y < n) × Has (slice_index asks x) y × Feeds matched x y

@@ -1,11 +1,9 @@
 -- Rounds one after another, with their numbers.
-use Rattle.std.proofs.Common.{◌≡◌, ◌+◌, ◌-◌, ℕ, ◌<◌, ◌∙◌, List, [], ◌∷◌, ◌++◌, Option, None, length, map, slice_index_or, refl, sym, ap, subst, arith, inl, inr, length-append}
-use Rattle.rotating_pick.proofs.First.{IsFirstFrom-only}
-use Rattle.std.proofs.Common.{slice_index}
+use Rattle.std.proofs.Common.{◌≡◌, ◌+◌, ◌-◌, ℕ, ◌<◌, ◌∙◌, List, [], ◌∷◌, ◌++◌, Option, None, length, map, slice_index_or, refl, sym, ap, subst, arith, length-append}
 use Rattle.islip_rounds.specs.declared.numbers.RoundsUsed.{RoundsUsed}
 use Rattle.islip_rounds.specs.declared.unicast.UniPointers.{UniPointers}
 use Rattle.islip_rounds.specs.Numbers.{last_of, matched_count, added_from, numbers_of, slot_numbers}
-use Rattle.islip_rounds.specs.Rounds.{Feeds, IsRound, AreRounds, Grants}
+use Rattle.islip_rounds.specs.Rounds.{Feeds, IsRound, AreRounds}
 use Rattle.islip_rounds.specs.Slots.{unmatched}
 use Rattle.islip_rounds.proofs.Lasts.{last_of-append, added_from-append, length-added_from, length-map_counts, first-append}
 use Rattle.islip_rounds.proofs.Tables.{get_or-same}
@@ -63,14 +61,3 @@ IsRun-next n k asks pointers first fed after matched now numbers more run round 
       counted = counted;
       numbered = numbered each long run.numbered ∙ ap numbers_of (sym grown);
     }
-
--- in a round from nothing matched no input accepts two outputs
-pub once_in_first : (n : ℕ) (asks : List ℕ) (pointers : UniPointers) (fed : List (Option ℕ)) (i j k : ℕ) → ((x : ℕ) → x < n → slice_index pointers.accept x < n) → IsRound n asks pointers unmatched fed → Feeds fed i j → Feeds fed i k → j ≡ k
-once_in_first n asks pointers fed i j k in_ports round feeds also =
-    elim ((round i j).0 feeds) [
-      | inl old ↦ absurd (nothing_fed i j old)
-      | inr accepts ↦ elim ((round i k).0 also) [
-        | inl old ↦ absurd (nothing_fed i k old)
-        | inr other ↦ IsFirstFrom-only n (slice_index pointers.accept i) (λ y. Grants n asks pointers unmatched i y) j k (in_ports i accepts.member.first.below) accepts other
-      ]
-    ]

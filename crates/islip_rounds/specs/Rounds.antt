@@ -34,6 +34,10 @@ Accepts n asks pointers matched i j = IsFirstFrom n (slice_index pointers.accept
 abbrev pub IsRound : ℕ → List ℕ → UniPointers → List (Option ℕ) → List (Option ℕ) → Type 0
 IsRound n asks pointers before after = (i j : ℕ) → Feeds after i j ↔ (Feeds before i j ⊎ Accepts n asks pointers before i j)
 
+-- no free input asks a free output
+abbrev pub IsMaximal : ℕ → List ℕ → List (Option ℕ) → Type 0
+IsMaximal n asks matched = (i j : ℕ) → i < n → j < n → IsFreeInput matched i → IsFreeOutput matched j → Has (slice_index asks i) j → ⊥
+
 -- these are the matches after each round, from the match before them
 abbrev pub AreRounds : ℕ → List ℕ → UniPointers → List (Option ℕ) → List (List (Option ℕ)) → Type 0
 AreRounds n asks pointers before [] = Unit {0}

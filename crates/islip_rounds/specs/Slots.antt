@@ -27,3 +27,11 @@ pub record IsSlot (n rounds : ℕ) (asks : List ℕ) (before : UniPointers) (mat
   pub result : matched ≡ last_of unmatched steps
   pub numbered : numbers ≡ slot_numbers steps
   pub moved : AreMoved n (slice_index_or steps 0 unmatched) before after
+
+-- two results of slots are alike: each output has the same input, the numbers are the same, and each
+-- pointer is at the same port
+pub record AreAlike (fed also : List (Option ℕ)) (used more : RoundsUsed) (after later : UniPointers) : Type 0 where
+  pub matched : (j : ℕ) → slice_index_or fed j None ≡ slice_index_or also j None
+  pub numbers : used ≡ more
+  pub grant : (j : ℕ) → slice_index after.grant j ≡ slice_index later.grant j
+  pub accept : (i : ℕ) → slice_index after.accept i ≡ slice_index later.accept i

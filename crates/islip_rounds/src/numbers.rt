@@ -32,6 +32,8 @@ impl RoundsUsed {
         requires rounds { rounds < MAX_ROUNDS }
         ensures numbers { (each : List ℕ) → length each ≡ rounds → self ≡ numbers_of each → result ≡ numbers_of (each ++ added ∷ []) }
         ensures used { result.used ≤ rounds + 1 }
+        ensures more { 0 < added → result.used ≡ self.used + 1 }
+        ensures last { 0 < added → self.used ≡ rounds → result.last_added ≡ added }
     {
         let used = if added > 0 { self.used + 1 } else { self.used };
         RoundsUsed {

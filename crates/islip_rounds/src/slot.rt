@@ -1,7 +1,7 @@
 ghost use Rattle.std.specs.Prelude.{◌≡◌, ℕ, ◌+◌, ◌%◌, ◌<◌, ◌≤◌, Some, None, length, slice_index, slice_index_or, All};
 ghost use Rattle.rotating_pick.specs.PortSets.{IsAmong};
 ghost use Rattle.islip_rounds.specs.Numbers.{matched_count};
-ghost use Rattle.islip_rounds.specs.Rounds.{Feeds};
+ghost use Rattle.islip_rounds.specs.Rounds.{Feeds, IsMaximal};
 ghost use Rattle.islip_rounds.specs.Slots.{AreMoved, IsSlot};
 
 use crate::kernels::transpose;
@@ -32,6 +32,13 @@ pub fn islip_slot(
     ensures within { (i j : ℕ) → Feeds out.new.fed i j → (i < n) × (j < n) }
     ensures grant { (j : ℕ) → j < n → slice_index p.new.grant j < n }
     ensures accept { (i : ℕ) → i < n → slice_index p.new.accept i < n }
+
+    // No input is matched twice; an output cannot be.
+    ensures once { (i j k : ℕ) → Feeds out.new.fed i j → Feeds out.new.fed i k → j ≡ k }
+
+    // The match is maximal where the last round of all added nothing, and where there are n rounds.
+    ensures unused { result.last_added ≡ 0 → IsMaximal n asks.now out.new.fed }
+    ensures enough { n ≤ rounds → IsMaximal n asks.now out.new.fed }
 {
     let mut columns = no_sets();
     transpose(n, asks, &mut columns);
@@ -39,12 +46,17 @@ pub fn islip_slot(
     round(n, &columns, p, &mut fed);
     let first = fed;
     let mut matched = matched_outputs(&fed);
-    let mut numbers = RoundsUsed::none().after_round(0, matched);
+    let mut added = matched;
+    let mut numbers = RoundsUsed::none().after_round(0, added);
     for done in 1..rounds {
-        round(n, &columns, p, &mut fed);
-        let now = matched_outputs(&fed);
-        numbers = numbers.after_round(done, now.saturating_sub(matched));
-        matched = now;
+        // Once a round adds nothing, no later one would.
+        if added > 0 {
+            round(n, &columns, p, &mut fed);
+            let now = matched_outputs(&fed);
+            added = now.saturating_sub(matched);
+            matched = now;
+        }
+        numbers = numbers.after_round(done, added);
     }
     move_pointers(n, &first, &mut p.grant, &mut p.accept);
     out.fed = fed;
