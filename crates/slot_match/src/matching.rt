@@ -5,6 +5,7 @@ ghost use Rattle.rotating_pick.specs.declared.kinds.Kind.TheVariants.{Multi};
 ghost use Rattle.slot_match.specs.declared.matching.Fed.{Fed};
 ghost use Rattle.slot_match.specs.Rows.{AreWithin};
 ghost use Rattle.slot_match.specs.Matches.{unmatched, fed_of, Serves, IsFreeInput, IsFreeOutput, IsMulticasting, IsServed, IsMatch, MayAdd, IsMaximal};
+ghost use Rattle.slot_match.specs.Keeping.{Gives};
 ghost use Rattle.slot_match.specs.Parts.{served_of};
 ghost use Rattle.slot_match.specs.Steps.{IsReady, Wants};
 
@@ -36,6 +37,19 @@ pub struct Served {
     pub outputs: Ports,
     pub level: u8,
     pub kind: Kind,
+}
+
+impl Served {
+    /// The outputs that the part serves at the level with the kind: all of its outputs, or none.
+    pub fn given(&self, level: u8, kind: Kind) -> Ports
+        ensures { (j : ℕ) → Has result j ↔ Gives (Some self.now) j level kind }
+    {
+        if self.level == level && self.kind == kind {
+            self.outputs
+        } else {
+            0
+        }
+    }
 }
 
 /// The match of a slot: what feeds each output.

@@ -1,4 +1,4 @@
-ghost use Rattle.std.specs.Prelude.{◌≡◌, ℕ, ◌<◌, ◌↔◌, Option, IsTrue};
+ghost use Rattle.std.specs.Prelude.{◌≡◌, ℕ, ◌<◌, ◌↔◌, ◌⊎◌, Option, IsTrue, slice_index};
 ghost use Rattle.rotating_pick.specs.PortSets.{Has};
 ghost use Rattle.rotating_pick.specs.declared.kinds.Kind.{Kind};
 ghost use Rattle.slot_match.specs.Rows.{Names, IsEmptyRow, IsWithin, IsOfLevels, AreWithin, empty_row};
@@ -45,6 +45,14 @@ impl Row {
         named
     }
 
+    /// Adds all that the other row names, at its level with its kind.
+    pub fn join(&mut self, other: &Row)
+        ensures { (level j : ℕ) (kind : Kind) → Names self.new level kind j ↔ (Names self.old level kind j ⊎ Names other.now level kind j) }
+    {
+        self.uni = unions(&self.uni, &other.uni);
+        self.multi = unions(&self.multi, &other.multi);
+    }
+
     /// Whether the row names no output.
     pub fn is_empty(&self) -> bool
         ensures { IsTrue result ↔ IsEmptyRow self.now }
@@ -70,7 +78,7 @@ impl Row {
     pub fn keeps(&self, old: &Row, served: Option<Served>) -> bool
         ensures { IsTrue result ↔ KeepsRest (Gives served) old.now self.now }
     {
-        for level in 0..LEVELS {
+        for level in 0..LEVELS as u8 {
             if !self.keeps_at(old, served, level) {
                 return false;
             }
@@ -93,7 +101,7 @@ pub fn are_within(n: u32, rows: &[Row]) -> bool
 
 impl Row {
     // Whether the row keeps the earlier row's sets of one level.
-    fn keeps_at(&self, old: &Row, served: Option<Served>, level: u32) -> bool
+    fn keeps_at(&self, old: &Row, served: Option<Served>, level: u8) -> bool
         requires { level < LEVELS }
         ensures { IsTrue result ↔ KeepsLevel (Gives served) old.now self.now level }
     {
@@ -104,23 +112,25 @@ impl Row {
     }
 }
 
-// The outputs that the part serves at the level with the kind.
-fn given(served: Option<Served>, level: u32, kind: Kind) -> Ports
+// The outputs that are served at the level with the kind, none where nothing is.
+fn given(served: Option<Served>, level: u8, kind: Kind) -> Ports
     ensures { (j : ℕ) → Has result j ↔ Gives served j level kind }
 {
     match served {
-        Some(part) if u32::from(part.level) == level && is_same(part.kind, kind) => part.outputs,
-        _ => 0,
+        Some(part) => part.given(level, kind),
+        None => 0,
     }
 }
 
-fn is_same(a: Kind, b: Kind) -> bool
-    ensures { IsTrue result ↔ (a ≡ b) }
+// The sets of both, level by level.
+fn unions(a: &[Ports; LEVEL_COUNT], b: &[Ports; LEVEL_COUNT]) -> [Ports; LEVEL_COUNT]
+    ensures { (level j : ℕ) → Has (slice_index result level) j ↔ (Has (slice_index a.now level) j ⊎ Has (slice_index b.now level) j) }
 {
-    match (a, b) {
-        (Kind::Uni, Kind::Uni) | (Kind::Multi, Kind::Multi) => true,
-        _ => false,
+    let mut both = *a;
+    for level in 0..LEVEL_COUNT {
+        both[level] = union(both[level], b[level]);
     }
+    both
 }
 
 #[cfg(test)]
@@ -141,6 +151,9 @@ mod tests {
         assert!(rt; !row.is_empty());
         assert!(rt; row.within(3));
         assert!(rt; !row.within(2));
+        let mut both = nothing;
+        both.join(&row);
+        assert!(rt; both == row);
         assert!(rt; are_within(3, &[row, nothing, row]));
         assert!(rt; !are_within(3, &[row, nothing]));
     }
@@ -170,6 +183,11 @@ mod tests {
             level: 0,
             kind: Kind::Multi,
         });
+        if let Some(served) = part {
+            assert_eq!(rt; served.given(0, Kind::Multi), 0b010);
+            assert_eq!(rt; served.given(1, Kind::Multi), 0);
+            assert_eq!(rt; served.given(0, Kind::Uni), 0);
+        }
         let cases = [
             Next {
                 served: None,
