@@ -20,11 +20,14 @@ use Rattle.eslip_rounds.specs.Rounds.{from_of, Takes}
 abbrev pub column_of : List (List ℕ) → ℕ → ℕ → ℕ
 column_of columns rank j = slice_index (slice_index_or columns rank []) j
 
--- for each rank and output the inputs whose rows name it there, and the ranks at which any does
+-- for each rank and output the inputs whose rows name it there, the ranks at which any does, the outputs
+-- that any names, and what all rows name as one row
 pub record AreAsks (n : ℕ) (first : Kind) (rows : List Row) (asks : Asks) : Type 0 where
   pub columns : (rank i j : ℕ) → rank < RANKS → Has (column_of asks.columns rank j) i ↔ ((i < n) × Names (row_of rows i) (level_at rank) (kind_at first rank) j)
   pub ranks : (rank i j : ℕ) → rank < RANKS → i < n → Names (row_of rows i) (level_at rank) (kind_at first rank) j → Has asks.ranks rank
   pub ranks_in : (rank : ℕ) → Has asks.ranks rank → rank < RANKS
+  pub outputs : (i j level : ℕ) (kind : Kind) → i < n → Names (row_of rows i) level kind j → Has asks.outputs j
+  pub named : (i j level : ℕ) (kind : Kind) → i < n → Names (row_of rows i) level kind j → Names asks.named level kind j
 
 -- the input may ask at the level with the kind: it is free, or goes on there
 abbrev pub MayAsk : List (Option Fed) → ℕ → Kind → ℕ → Type 0

@@ -1,11 +1,12 @@
-ghost use Rattle.std.specs.Prelude.{◌≡◌, ℕ, ◌<◌, ◌≤◌, ◌↔◌, length, replicate, slice_index, slice_index_or, IsTrue};
+ghost use Rattle.std.specs.Prelude.{◌≡◌, ℕ, ◌<◌, ◌≤◌, ◌↔◌, length, replicate, slice_index};
 ghost use Rattle.rotating_pick.specs.PortSets.{Has};
+ghost use Rattle.rotating_pick.specs.declared.kinds.Kind.{Kind};
 ghost use Rattle.slot_match.specs.Rows.{Names, row_of, sets_of, AreWithin};
 ghost use Rattle.eslip_rounds.specs.Steps.{AreAsks};
 
 use crate::ranks::{PORTS, RANKS, kind_of, level_of};
 use islip_rounds::transpose;
-use rotating_pick::{Kind, LEVELS, MAX_PORTS, Ports, is_empty, union, with};
+use rotating_pick::{Kind, LEVELS, MAX_PORTS, Ports, is_empty, with};
 use slot_match::Row;
 
 /// What the rows of a slot ask, by columns.
@@ -15,24 +16,46 @@ pub(crate) struct Asks {
     pub columns: [[Ports; PORTS]; RANKS],
     /// The ranks at which some row names an output.
     pub ranks: Ports,
+    /// The outputs that some row names.
+    pub outputs: Ports,
+    /// All rows joined.
+    pub named: Row,
 }
 
-/// Turns the rows into columns, once a slot.
+/// Turns the rows into columns, once a slot: those of the ranks that occur.
 pub(crate) fn asks_of(n: u32, first: Kind, rows: &[Row]) -> Asks
     requires size { n ≤ MAX_PORTS }
     requires rows { AreWithin n rows.now }
     ensures { AreAsks n first rows.now result }
 {
+    let named = joined(rows);
     let mut columns = no_columns();
     let mut ranks = 0;
     for rank in 0..RANKS as u32 {
-        let mut column = no_sets();
-        if gather(n, rows, level_of(rank), kind_of(first, rank), &mut column) {
-            columns[rank as usize] = column;
+        let level = level_of(rank);
+        let kind = kind_of(first, rank);
+        if !is_empty(set_at(&named, level, kind)) {
+            gather(n, rows, level, kind, &mut columns[rank as usize]);
             ranks = with(ranks, rank);
         }
     }
-    Asks { columns, ranks }
+    Asks {
+        columns,
+        ranks,
+        outputs: named.named(),
+        named,
+    }
+}
+
+// All that the rows name, as one row.
+fn joined(rows: &[Row]) -> Row
+    ensures { (level j : ℕ) (kind : Kind) → Names result level kind j ↔ ((i : ℕ) × (i < length rows.now) × Names (row_of rows.now i) level kind j) }
+{
+    let mut named = Row::empty();
+    for row in rows {
+        named.join(row);
+    }
+    named
 }
 
 fn no_columns() -> [[Ports; PORTS]; RANKS]
@@ -47,40 +70,28 @@ fn no_sets() -> [Ports; PORTS]
     [0; PORTS]
 }
 
-// Turns the rows' sets of the level and kind into columns, which were empty, and says whether any set
-// has a member.
-fn gather(n: u32, rows: &[Row], level: u8, kind: Kind, columns: &mut [Ports; PORTS]) -> bool
+// Turns the rows' sets of the level and kind into columns.
+fn gather(n: u32, rows: &[Row], level: u8, kind: Kind, columns: &mut [Ports; PORTS])
     requires size { n ≤ MAX_PORTS }
     requires rows { AreWithin n rows.now }
     requires level_in { level < LEVELS }
-    requires empty { (i j : ℕ) → Has (slice_index columns.old j) i → ⊥ }
-    ensures columns { (i j : ℕ) → Has (slice_index columns.new j) i ↔ ((i < n) × Names (row_of rows.now i) level kind j) }
-    ensures some { (i j : ℕ) → i < n → Names (row_of rows.now i) level kind j → IsTrue result }
+    ensures { (i j : ℕ) → Has (slice_index columns.new j) i ↔ ((i < n) × Names (row_of rows.now i) level kind j) }
 {
     let mut sets = no_sets();
-    let named = collect(n, rows, level, kind, &mut sets);
-    if is_empty(named) {
-        return false;
-    }
+    collect(n, rows, level, kind, &mut sets);
     transpose(n, &sets[..n as usize], columns);
-    true
 }
 
-// Copies the rows' sets of the level and kind, and joins them.
-fn collect(n: u32, rows: &[Row], level: u8, kind: Kind, sets: &mut [Ports; PORTS]) -> Ports
+// Copies the rows' sets of the level and kind.
+fn collect(n: u32, rows: &[Row], level: u8, kind: Kind, sets: &mut [Ports; PORTS])
     requires size { n ≤ MAX_PORTS }
     requires rows { length rows.now ≡ n }
     requires level_in { level < LEVELS }
-    ensures sets { (i : ℕ) → i < n → slice_index sets.new i ≡ slice_index (sets_of (row_of rows.now i) kind) level }
-    ensures named { (i j : ℕ) → i < n → Has (slice_index sets.new i) j → Has result j }
+    ensures { (i : ℕ) → i < n → slice_index sets.new i ≡ slice_index (sets_of (row_of rows.now i) kind) level }
 {
-    let mut named = 0;
     for i in 0..n {
-        let set = set_at(&rows[i as usize], level, kind);
-        sets[i as usize] = set;
-        named = union(named, set);
+        sets[i as usize] = set_at(&rows[i as usize], level, kind);
     }
-    named
 }
 
 fn set_at(row: &Row, level: u8, kind: Kind) -> Ports

@@ -3,7 +3,7 @@ ghost use Rattle.rotating_pick.specs.PortSets.{Has};
 ghost use Rattle.rotating_pick.specs.declared.kinds.Kind.TheVariants.{Uni, Multi};
 ghost use Rattle.slot_match.specs.declared.matching.Fed.{Fed};
 ghost use Rattle.slot_match.specs.Keeping.{Gives};
-ghost use Rattle.slot_match.specs.Rows.{AreWithin, HasHead};
+ghost use Rattle.slot_match.specs.Rows.{Names, row_of, AreWithin, HasHead};
 ghost use Rattle.slot_match.specs.Matches.{Serves, IsMatch, Completes};
 ghost use Rattle.pointer_state.specs.Places.{AreAtPorts, grant_of, accept_of, shared_of};
 ghost use Rattle.eslip_rounds.specs.Steps.{AreMet, IsPassed};
@@ -31,12 +31,14 @@ pub(crate) fn meet(matched: &Match, first: Ports, p: &mut Pointers)
 }
 
 /// Moves each level's shared pointer one beyond the first head from it on, where that completes.
-pub(crate) fn pass_all(n: u32, rows: &[Row], matched: &Match, p: &mut Pointers)
+/// `named` names at least what the rows do.
+pub(crate) fn pass_all(n: u32, rows: &[Row], named: &Row, matched: &Match, p: &mut Pointers)
     requires at_ports { AreAtPorts p.old }
     requires size { n ≤ MAX_PORTS }
     requires ports { p.old.ports ≡ n }
     requires whole { IsMatch n matched.now }
     requires rows { AreWithin n rows.now }
+    requires named { (i j level : ℕ) → i < n → Names (row_of rows.now i) level Multi j → Names named.now level Multi j }
     ensures passed { (level : ℕ) → level < LEVELS → IsPassed n rows.now matched.now p.old p.new level }
     ensures beyond { (level : ℕ) → LEVELS ≤ level → shared_of p.new level ≡ shared_of p.old level }
     ensures ports { p.new.ports ≡ p.old.ports }
@@ -45,7 +47,7 @@ pub(crate) fn pass_all(n: u32, rows: &[Row], matched: &Match, p: &mut Pointers)
     ensures at_ports { AreAtPorts p.new }
 {
     for level in 0..LEVELS as u8 {
-        pass(n, rows, matched, level, p);
+        pass(n, rows, named, matched, level, p);
     }
 }
 
@@ -66,12 +68,13 @@ fn meet_one(fed: Option<Fed>, j: u32, p: &mut Pointers)
 }
 
 // Moves the level's shared pointer one beyond the first head from it on, where that completes.
-fn pass(n: u32, rows: &[Row], matched: &Match, level: u8, p: &mut Pointers)
+fn pass(n: u32, rows: &[Row], named: &Row, matched: &Match, level: u8, p: &mut Pointers)
     requires at_ports { AreAtPorts p.old }
     requires size { n ≤ MAX_PORTS }
     requires ports { p.old.ports ≡ n }
     requires whole { IsMatch n matched.now }
     requires rows { AreWithin n rows.now }
+    requires named { (i j m : ℕ) → i < n → Names (row_of rows.now i) m Multi j → Names named.now m Multi j }
     requires level_in { level < LEVELS }
     ensures passed { IsPassed n rows.now matched.now p.old p.new level }
     ensures others { (other : ℕ) → (other ≡ level → ⊥) → shared_of p.new other ≡ shared_of p.old other }
@@ -80,24 +83,26 @@ fn pass(n: u32, rows: &[Row], matched: &Match, level: u8, p: &mut Pointers)
     ensures accepts { (i other : ℕ) → accept_of p.new i other ≡ accept_of p.old i other }
     ensures at_ports { AreAtPorts p.new }
 {
-    if let Some(i) = pick(n, p.shared(level), heads(n, rows, level)) {
-        if completes(
-            rows[i as usize].multi[level as usize],
-            matched.served(i),
-            level,
-        ) {
+    let posted = heads(n, rows, named, level);
+    if let Some(i) = pick(n, p.shared(level), posted) {
+        let fan = rows[i as usize].multi[level as usize];
+        if completes(fan, matched.served(i), level) {
             p.passed(level, i);
         }
     }
 }
 
-// The inputs that post a multicast head at the level.
-fn heads(n: u32, rows: &[Row], level: u8) -> Ports
+// The inputs that post a multicast head at the level. No row is read where `named` names no such head.
+fn heads(n: u32, rows: &[Row], named: &Row, level: u8) -> Ports
     requires size { n ≤ MAX_PORTS }
     requires rows { AreWithin n rows.now }
     requires level_in { level < LEVELS }
+    requires named { (i j m : ℕ) → i < n → Names (row_of rows.now i) m Multi j → Names named.now m Multi j }
     ensures { (i : ℕ) → Has result i ↔ ((i < n) × HasHead rows.now level i) }
 {
+    if is_empty(named.multi[level as usize]) {
+        return 0;
+    }
     let mut posted = 0;
     for i in 0..n {
         if !is_empty(rows[i as usize].multi[level as usize]) {
@@ -111,24 +116,8 @@ fn heads(n: u32, rows: &[Row], level: u8) -> Ports
 fn completes(fan: Ports, served: Option<Served>, level: u8) -> bool
     ensures { IsTrue result ↔ ((j : ℕ) → Has fan j → Gives served j level Multi) }
 {
-    is_subset(fan, given(served, level))
-}
-
-// The outputs that the part serves as multicast of the level.
-fn given(served: Option<Served>, level: u8) -> Ports
-    ensures { (j : ℕ) → Has result j ↔ Gives served j level Multi }
-{
     match served {
-        Some(part) if part.level == level && is_multicast(part.kind) => part.outputs,
-        _ => 0,
-    }
-}
-
-fn is_multicast(kind: Kind) -> bool
-    ensures { IsTrue result ↔ (kind ≡ Multi) }
-{
-    match kind {
-        Kind::Uni => false,
-        Kind::Multi => true,
+        Some(part) => is_subset(fan, part.given(level, Kind::Multi)),
+        None => is_empty(fan),
     }
 }

@@ -9,10 +9,11 @@ use crate::asks::Asks;
 use crate::grants::{offers_of, ready_inputs};
 use crate::ranks::RANKS;
 use pointer_state::Pointers;
-use rotating_pick::{Kind, MAX_PORTS};
+use rotating_pick::{Kind, MAX_PORTS, intersection};
 use slot_match::Match;
 
-/// One round: the free outputs grant what they are asked, and the inputs accept of what they are granted.
+/// One round: the free outputs that any row names grant what they are asked, and the inputs accept of
+/// what they are granted.
 pub(crate) fn round(n: u32, first: Kind, asks: &Asks, p: &Pointers, out: &mut Match)
     requires size { n ≤ MAX_PORTS }
     requires ports { p.now.ports ≡ n }
@@ -20,10 +21,12 @@ pub(crate) fn round(n: u32, first: Kind, asks: &Asks, p: &Pointers, out: &mut Ma
     requires whole { IsMatch n out.old }
     requires ranks { (rank : ℕ) → Has asks.now.ranks rank → rank < RANKS }
     requires named { (rank i j : ℕ) → rank < RANKS → Has (column_of asks.now.columns rank j) i → Has asks.now.ranks rank }
+    requires asked { (rank i j : ℕ) → rank < RANKS → Has (column_of asks.now.columns rank j) i → Has asks.now.outputs j }
     ensures step { IsStep n first asks.now p.now out.old out.new }
     ensures whole { IsMatch n out.new }
 {
     let ready = ready_inputs(first, out);
-    let offers = offers_of(n, first, asks, &ready, p, out.free_outputs());
+    let asked = intersection(out.free_outputs(), asks.outputs);
+    let offers = offers_of(n, first, asks, &ready, p, asked);
     accept_all(n, first, &offers, p, out);
 }

@@ -63,7 +63,7 @@ pub fn decide(
         numbers = numbers.after_round(done, added);
     }
     meet(out, met, p);
-    pass_all(n, rows, out, p);
+    pass_all(n, rows, &asks.named, out, p);
     numbers
 }
 

@@ -11,13 +11,13 @@ use Rattle.eslip_rounds.proofs.Meeting.{IsFirstFrom-heads, IsPassed-done, IsPass
 use Rattle.eslip_rounds.proofs.moves.pass.Goals as goal
 
 pub pick-requires-clause-among : goal.pick-requires-clause-among
-pick-requires-clause-among c = IsAmong-from_members c.args.n c.heads.result (λ x has. ((c.heads.ensures x).0 has).0)
+pick-requires-clause-among c = IsAmong-from_members c.args.n c.heads-posted.result (λ x has. ((c.heads-posted.ensures x).0 has).0)
 
 pub returns-then-completes-clause-passed : goal.returns-then-completes-clause-passed
 returns-then-completes-clause-passed c =
     let n = c.args.n in
     let from_in : shared_of c.args.p.now c.args.level < n = let e = c.shared.ensures.value in let below = c.shared.ensures.within in omega arith in
-    let first = subst (λ a. IsFirstFrom n a (HasHead c.args.rows.now c.args.level) c.in-Some.i) c.shared.ensures.value (IsFirstFrom-heads n c.shared.result c.heads.result c.args.rows.now c.args.level c.heads.ensures c.in-Some.i c.in-Some.ensures.first) in
+    let first = subst (λ a. IsFirstFrom n a (HasHead c.args.rows.now c.args.level) c.in-Some.i) c.shared.ensures.value (IsFirstFrom-heads n c.shared.result c.heads-posted.result c.args.rows.now c.args.level c.heads-posted.ensures c.in-Some.i c.in-Some.ensures.first) in
     let gives = λ (j : ℕ). Gives-iff_serves n c.args.matched.now c.requires.whole c.in-Some.i j c.args.level Multi in
     IsPassed-done n c.args.rows.now c.args.matched.now c.args.p.now c.passed.new.self c.args.level from_in c.in-Some.i first
     (λ j named. (gives j).0 (subst (λ part. Gives part j c.args.level Multi) c.served.ensures.value (c.completes.ensures.0 c.if-completes.true j named)))
@@ -27,11 +27,11 @@ pub returns-else-completes-clause-passed : goal.returns-else-completes-clause-pa
 returns-else-completes-clause-passed c =
     let n = c.args.n in
     let from_in : shared_of c.args.p.now c.args.level < n = let e = c.shared.ensures.value in let below = c.shared.ensures.within in omega arith in
-    let first = subst (λ a. IsFirstFrom n a (HasHead c.args.rows.now c.args.level) c.in-Some.i) c.shared.ensures.value (IsFirstFrom-heads n c.shared.result c.heads.result c.args.rows.now c.args.level c.heads.ensures c.in-Some.i c.in-Some.ensures.first) in
+    let first = subst (λ a. IsFirstFrom n a (HasHead c.args.rows.now c.args.level) c.in-Some.i) c.shared.ensures.value (IsFirstFrom-heads n c.shared.result c.heads-posted.result c.args.rows.now c.args.level c.heads-posted.ensures c.in-Some.i c.in-Some.ensures.first) in
     let gives = λ (j : ℕ). Gives-iff_serves n c.args.matched.now c.requires.whole c.in-Some.i j c.args.level Multi in
     IsPassed-left n c.args.rows.now c.args.matched.now c.args.p.now c.args.p.now c.args.level from_in c.in-Some.i first
     (λ done. let holds = c.completes.ensures.1 (λ j named. subst (λ part. Gives part j c.args.level Multi) (sym c.served.ensures.value) ((gives j).1 (done j named))) in absurd (cc)) refl
 
 pub returns-in_default-clause-passed : goal.returns-in_default-clause-passed
 returns-in_default-clause-passed c =
-    IsPassed-nobody c.args.n c.args.rows.now c.args.matched.now c.args.p.now c.args.p.now c.args.level (λ i i_in head. zero-has c.heads.result i (c.in_default.ensures.none.0 refl) ((c.heads.ensures i).1 (i_in, head))) refl
+    IsPassed-nobody c.args.n c.args.rows.now c.args.matched.now c.args.p.now c.args.p.now c.args.level (λ i i_in head. zero-has c.heads-posted.result i (c.in_default.ensures.none.0 refl) ((c.heads-posted.ensures i).1 (i_in, head))) refl

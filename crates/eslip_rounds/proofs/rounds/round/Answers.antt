@@ -2,30 +2,31 @@ use Rattle.std.proofs.Common.{◌≡◌, ℕ, ◌<◌, ◌↔◌, length, subst}
 use Rattle.rotating_pick.specs.PortSets.{Has}
 use Rattle.slot_match.specs.Matches.{IsFreeOutput}
 use Rattle.eslip_rounds.specs.Steps.{AreReady}
-use Rattle.eslip_rounds.proofs.Offering.{AreOffers-along, AreOpen-from_offers}
+use Rattle.eslip_rounds.proofs.Offering.{AreOffers-asked, AreOpen-from_offers}
 use Rattle.eslip_rounds.proofs.rounds.round.Goals as goal
 
 pub accept_all-requires-clause-open : goal.accept_all-requires-clause-open
 accept_all-requires-clause-open c =
     let n = c.args.n in
     let before = c.args.out.now in
+    let ready = c.ready_inputs-ready.result in
     let size : length before ≡ n = c.requires.whole.count in
-    let readies : AreReady n c.args.first before c.ready_inputs-ready.result = subst (λ k. AreReady k c.args.first before c.ready_inputs-ready.result) size c.ready_inputs-ready.ensures in
+    let readies : AreReady n c.args.first before ready = subst (λ k. AreReady k c.args.first before ready) size c.ready_inputs-ready.ensures in
     let free : (j : ℕ) → Has c.free_outputs.result j ↔ ((j < n) × IsFreeOutput before j) = subst (λ k. (j : ℕ) → Has c.free_outputs.result j ↔ ((j < k) × IsFreeOutput before j)) size c.free_outputs.ensures in
-    AreOpen-from_offers n c.args.first c.args.asks.now c.ready_inputs-ready.result c.args.p.now before c.offers_of-offers.result c.requires.at_ports c.requires.ports readies
-    (AreOffers-along _ _ c.offers_of-offers.result (λ i j rank. (λ p. ((free j).0 p.0, p.1), λ q. ((free j).1 q.0, q.1))) c.offers_of-offers.ensures)
+    AreOpen-from_offers n c.args.first c.args.asks.now ready c.args.p.now before c.offers_of-offers.result c.requires.at_ports c.requires.ports readies
+    (AreOffers-asked n c.args.first c.args.asks.now ready c.args.p.now before c.free_outputs.result c.intersection-asked.result c.offers_of-offers.result free c.intersection-asked.ensures c.requires.asked c.offers_of-offers.ensures)
 
 pub returns-clause-step : goal.returns-clause-step
 returns-clause-step c =
     let n = c.args.n in
     let before = c.args.out.now in
+    let ready = c.ready_inputs-ready.result in
     let size : length before ≡ n = c.requires.whole.count in
-    let readies : AreReady n c.args.first before c.ready_inputs-ready.result = subst (λ k. AreReady k c.args.first before c.ready_inputs-ready.result) size c.ready_inputs-ready.ensures in
     let free : (j : ℕ) → Has c.free_outputs.result j ↔ ((j < n) × IsFreeOutput before j) = subst (λ k. (j : ℕ) → Has c.free_outputs.result j ↔ ((j < k) × IsFreeOutput before j)) size c.free_outputs.ensures in
     record {
-      ready = c.ready_inputs-ready.result;
+      ready = ready;
       offers = c.offers_of-offers.result;
-      readies = readies;
-      offered = AreOffers-along _ _ c.offers_of-offers.result (λ i j rank. (λ p. ((free j).0 p.0, p.1), λ q. ((free j).1 q.0, q.1))) c.offers_of-offers.ensures;
+      readies = subst (λ k. AreReady k c.args.first before ready) size c.ready_inputs-ready.ensures;
+      offered = AreOffers-asked n c.args.first c.args.asks.now ready c.args.p.now before c.free_outputs.result c.intersection-asked.result c.offers_of-offers.result free c.intersection-asked.ensures c.requires.asked c.offers_of-offers.ensures;
       pairs = c.accept_all.ensures.pairs;
     }

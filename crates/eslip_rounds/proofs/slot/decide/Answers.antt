@@ -1,6 +1,7 @@
 use Rattle.std.proofs.Common.{◌≡◌, ℕ, ◌<◌, ◌↔◌, ◌∙◌, List, [], ◌∷◌, ◌++◌, length, refl, ap, subst, arith}
 use Rattle.islip_rounds.specs.Numbers.{numbers_of}
 use Rattle.rotating_pick.specs.PortSets.{Has}
+use Rattle.rotating_pick.specs.declared.kinds.Kind.TheVariants.{Multi}
 use Rattle.slot_match.specs.Matches.{IsFreeOutput}
 use Rattle.eslip_rounds.proofs.Running.{once_unicast}
 use Rattle.eslip_rounds.proofs.Decided.{IsDecided-first, IsDecided-next, AreMoved-from, IsSlot-from, enough_rounds, nothing_added}
@@ -53,6 +54,9 @@ loop-done-preserved c =
 
 pub meet-requires-clause-once : goal.meet-requires-clause-once
 meet-requires-clause-once c i j k level has also s r = once_unicast c.args.n c.loop-done.out c.loop-done.invariant.0.whole i j k level s r
+
+pub pass_all-requires-clause-named : goal.pass_all-requires-clause-named
+pass_all-requires-clause-named c i j level i_in named = c.asks_of-asks.ensures.named i j level Multi i_in named
 
 pub returns-clause-slot : goal.returns-clause-slot
 returns-clause-slot c =

@@ -1,0 +1,7 @@
+use Rattle.std.proofs.Common.{ℕ, ◌<◌, ◌↔◌}
+use Rattle.rotating_pick.specs.declared.kinds.Kind.{Kind}
+use Rattle.slot_match.specs.Rows.{Names, row_of}
+use Rattle.eslip_rounds.proofs.asks.joined.Given as goal
+
+abbrev pub invariant-loop-row : goal.invariant-loop-row
+invariant-loop-row l = (level j : ℕ) (kind : Kind) → Names l.named level kind j ↔ ((i : ℕ) × (i < l.row-index) × Names (row_of l.rows i) level kind j)
