@@ -2,7 +2,8 @@ ghost use Rattle.std.specs.Prelude.{◌≡◌, ℕ, ◌<◌, ◌≤◌, ◌↔�
 ghost use Rattle.rotating_pick.specs.PortSets.{Has};
 ghost use Rattle.rotating_pick.specs.declared.kinds.Kind.{Kind};
 ghost use Rattle.slot_match.specs.Rows.{Names, row_of, sets_of, AreWithin};
-ghost use Rattle.eslip_rounds.specs.Steps.{AreAsks};
+ghost use Rattle.eslip_rounds.specs.Ranks.{level_at, kind_at};
+ghost use Rattle.eslip_rounds.specs.Steps.{column_of, AreAsks};
 
 use crate::ranks::{PORTS, RANKS, kind_of, level_of};
 use islip_rounds::transpose;
@@ -29,22 +30,43 @@ pub(crate) fn asks_of(n: u32, first: Kind, rows: &[Row]) -> Asks
     ensures { AreAsks n first rows.now result }
 {
     let named = joined(rows);
-    let mut columns = no_columns();
+    let mut asks = Asks {
+        columns: no_columns(),
+        ranks: 0,
+        outputs: named.named(),
+        named,
+    };
+    asks.ranks = fill(n, first, rows, &named, &mut asks.columns);
+    asks
+}
+
+// Fills the columns of the ranks at which `named`, the joined rows, names an output, and answers these
+// ranks. The columns were empty.
+fn fill(
+    n: u32,
+    first: Kind,
+    rows: &[Row],
+    named: &Row,
+    columns: &mut [[Ports; PORTS]; RANKS],
+) -> Ports
+    requires size { n ≤ MAX_PORTS }
+    requires rows { AreWithin n rows.now }
+    requires named { (i j level : ℕ) (kind : Kind) → i < n → Names (row_of rows.now i) level kind j → Names named.now level kind j }
+    requires empty { columns.old ≡ replicate RANKS (replicate MAX_PORTS 0) }
+    ensures columns { (rank i j : ℕ) → rank < RANKS → Has (column_of columns.new rank j) i ↔ ((i < n) × Names (row_of rows.now i) (level_at rank) (kind_at first rank) j) }
+    ensures ranks { (rank i j : ℕ) → rank < RANKS → i < n → Names (row_of rows.now i) (level_at rank) (kind_at first rank) j → Has result rank }
+    ensures ranks_in { (rank : ℕ) → Has result rank → rank < RANKS }
+{
     let mut ranks = 0;
     for rank in 0..RANKS as u32 {
         let level = level_of(rank);
         let kind = kind_of(first, rank);
-        if !is_empty(set_at(&named, level, kind)) {
+        if !is_empty(set_at(named, level, kind)) {
             gather(n, rows, level, kind, &mut columns[rank as usize]);
             ranks = with(ranks, rank);
         }
     }
-    Asks {
-        columns,
-        ranks,
-        outputs: named.named(),
-        named,
-    }
+    ranks
 }
 
 // All that the rows name, as one row.

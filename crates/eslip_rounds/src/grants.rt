@@ -57,35 +57,36 @@ pub(crate) struct Offers {
     pub outputs: [Ports; PORTS],
 }
 
-/// What each of the free outputs grants.
-pub(crate) fn offers_of(
+/// Offers what each of the free outputs grants. Nothing was offered before.
+pub(crate) fn offer_all(
     n: u32,
     first: Kind,
     asks: &Asks,
     ready: &[Ports; RANKS],
     p: &Pointers,
     free_outputs: Ports,
-) -> Offers
+    offers: &mut Offers,
+)
     requires size { n ≤ MAX_PORTS }
     requires ports { p.now.ports ≡ n }
     requires ready { (rank i : ℕ) → rank < RANKS → Has (slice_index ready.now rank) i → i < n }
     requires ranks { (rank : ℕ) → Has asks.now.ranks rank → rank < RANKS }
     requires named { (rank i j : ℕ) → rank < RANKS → Has (column_of asks.now.columns rank j) i → Has asks.now.ranks rank }
     requires free { (j : ℕ) → Has free_outputs j → j < n }
-    ensures { AreOffers (λ i j rank. Has free_outputs j × IsChosen n first asks.now ready.now p.now j (record { rank = rank; input = i })) result }
+    requires nothing { offers.old.granted ≡ 0 }
+    ensures { AreOffers (λ i j rank. Has free_outputs j × IsChosen n first asks.now ready.now p.now j (record { rank = rank; input = i })) offers.new }
 {
-    let mut offers = no_offers();
     let mut rest = free_outputs;
     while let Some(j) = lowest(rest) {
         if let Some(choice) = chosen(n, first, asks, ready, p, j) {
-            offer(&mut offers, choice.input, j, choice.rank);
+            offer(offers, choice.input, j, choice.rank);
         }
         rest = without(rest, j);
     }
-    offers
 }
 
-fn no_offers() -> Offers
+/// No offer.
+pub(crate) fn no_offers() -> Offers
     ensures { result.granted ≡ 0 }
 {
     Offers {

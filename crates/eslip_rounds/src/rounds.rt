@@ -6,7 +6,7 @@ ghost use Rattle.eslip_rounds.specs.Steps.{column_of, IsStep};
 
 use crate::accepts::accept_all;
 use crate::asks::Asks;
-use crate::grants::{offers_of, ready_inputs};
+use crate::grants::{no_offers, offer_all, ready_inputs};
 use crate::ranks::RANKS;
 use pointer_state::Pointers;
 use rotating_pick::{Kind, MAX_PORTS, intersection};
@@ -27,6 +27,7 @@ pub(crate) fn round(n: u32, first: Kind, asks: &Asks, p: &Pointers, out: &mut Ma
 {
     let ready = ready_inputs(first, out);
     let asked = intersection(out.free_outputs(), asks.outputs);
-    let offers = offers_of(n, first, asks, &ready, p, asked);
+    let mut offers = no_offers();
+    offer_all(n, first, asks, &ready, p, asked, &mut offers);
     accept_all(n, first, &offers, p, out);
 }

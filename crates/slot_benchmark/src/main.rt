@@ -92,8 +92,11 @@ fn decide_batch(load: Load, rounds: u32, rows: &[Row], p: &mut Pointers, out: &m
 {
     let n = p.ports();
     let mut pairs = 0u64;
+    if !are_within(n, rows) {
+        return pairs;
+    }
     for turn in 0..SLOTS {
-        if p.ports() == n && out.ports() == n && are_within(n, rows) {
+        if p.ports() == n && out.ports() == n {
             let _numbers = decide(n, rounds, load.slot(turn), rows, p, out);
         }
         pairs = pairs.wrapping_add(out.count() as u64);

@@ -1,7 +1,7 @@
 use Rattle.std.proofs.Common.{ℕ}
 use Rattle.rotating_pick.specs.PortSets.{Has}
 use Rattle.eslip_rounds.specs.Steps.{IsChosen, AreOffers}
-use Rattle.eslip_rounds.proofs.grants.offers_of.Given as goal
+use Rattle.eslip_rounds.proofs.grants.offer_all.Given as goal
 
 abbrev pub invariant-loop-j : goal.invariant-loop-j
 invariant-loop-j l = record {

@@ -5,8 +5,8 @@ use Rattle.slot_match.proofs.Sets.{zero-has}
 use Rattle.eslip_rounds.specs.declared.grants.Choice.{Choice}
 use Rattle.eslip_rounds.specs.Steps.{IsChosen}
 use Rattle.eslip_rounds.proofs.Offering.{AreOffers-along, AreOffers-more, chosen_more, chosen_same}
-use Rattle.eslip_rounds.proofs.grants.offers_of.Goals as goal
-use Rattle.eslip_rounds.proofs.grants.offers_of.Goals.{in-Some-chosen, in_default-chosen}
+use Rattle.eslip_rounds.proofs.grants.offer_all.Goals as goal
+use Rattle.eslip_rounds.proofs.grants.offer_all.Goals.{in-Some-chosen, in_default-chosen}
 
 pub offer-requires-clause-input_in : goal.offer-requires-clause-input_in
 offer-requires-clause-input_in c =
