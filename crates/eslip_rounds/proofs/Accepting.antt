@@ -16,13 +16,13 @@ use Rattle.slot_match.specs.Matches.{fed_of, Serves, IsMatch}
 use Rattle.slot_match.proofs.Pairs.{fed_of-lt, Serves-from, Serves-once}
 use Rattle.pointer_state.specs.Places.{Places, AreAtPorts, accept_of}
 use Rattle.eslip_rounds.specs.Rounds.{Takes, IsAccepted, Grants, Accepts, IsRound}
-use Rattle.eslip_rounds.specs.Decisions.{Turn, turns, ports, ports_from, is_fed, granted, taken, accepted, added, round_of}
+use Rattle.eslip_rounds.specs.Decisions.{Rank, ranks, ports, ports_from, is_fed, granted, taken, accepted, added, round_of}
 use Rattle.eslip_rounds.proofs.Bests.{taken_from, IsAccepted-along}
 use Rattle.eslip_rounds.proofs.Choosing.{level_asked}
 use Rattle.eslip_rounds.proofs.Deciding.{accept_in}
 use Rattle.eslip_rounds.proofs.Testing.{any_port, Decides-fed, Decides-paired}
 use Rattle.eslip_rounds.proofs.Finding.{first_found, finds_first}
-use Rattle.eslip_rounds.proofs.Turning.{found_turn, finds_turn}
+use Rattle.eslip_rounds.proofs.Ranking.{found_rank, finds_rank}
 use Rattle.eslip_rounds.proofs.Granting.{fed_of-ports, fed_of-ports_some, option_and_then_from, Serves-granted}
 
 -- whether port j is among some
@@ -72,29 +72,29 @@ module _ (n t : ℕ) (places : Places) (grants : List (Option Fed)) (size : (j :
   granted_level : (i m : ℕ) (k : Kind) → Granted i m k → m < LEVELS
   granted_level i m k p = level_in i p.0 m k p.1
 
-  accepted_turn : ℕ → Option Turn
-  accepted_turn i = find (λ turn. list_any (is_fed i turn.level turn.kind) grants) (turns t)
+  accepted_rank : ℕ → Option Rank
+  accepted_rank i = find (λ rank. list_any (is_fed i rank.level rank.kind) grants) (ranks t)
 
-  abbrev outputs_at : ℕ → Turn → List ℕ
-  outputs_at i turn = taken turn.kind n (accept_of places i turn.level) (λ y. is_fed i turn.level turn.kind (fed_of grants y))
+  abbrev outputs_at : ℕ → Rank → List ℕ
+  outputs_at i rank = taken rank.kind n (accept_of places i rank.level) (λ y. is_fed i rank.level rank.kind (fed_of grants y))
 
   takes : (i j level : ℕ) (kind : Kind) → Granted i level kind → j < n → Decides (is_in j (outputs_at i (record { level = level; kind = kind }))) (Takes kind n (accept_of places i level) (λ y. Serves grants i y level kind) j)
   takes i j level kind g j_in =
       in_taken kind n (accept_of places i level) (λ y. is_fed i level kind (fed_of grants y)) (λ y. Serves grants i y level kind) (λ y. Decides-fed i level kind (fed_of grants y)) (from_in i g.0 level kind g.1) j j_in
 
   accepted_from : (i j : ℕ) → j < n → is_in j (accepted n t places grants i) ≡ true → (level : ℕ) × (kind : Kind) × IsAccepted n t places (Serves grants) i j level kind
-  unfolding accepted accepted_turn
+  unfolding accepted accepted_rank
   accepted_from i j j_in e =
-      let at = option_map_or_from (outputs_at i) (accepted_turn i) j e in
-      let turn : Turn = at.0 in
-      let best = found_turn t (λ m k. list_any (is_fed i m k) grants) (Granted i) (granted_level i) (λ m k m_in. Decides-paired grants i m k) turn at.1 in
-      (turn.level, turn.kind, record { best = best; taken = (takes i j turn.level turn.kind best.there j_in).0 at.2 })
+      let at = option_map_or_from (outputs_at i) (accepted_rank i) j e in
+      let rank : Rank = at.0 in
+      let best = found_rank t (λ m k. list_any (is_fed i m k) grants) (Granted i) (granted_level i) (λ m k m_in. Decides-paired grants i m k) rank at.1 in
+      (rank.level, rank.kind, record { best = best; taken = (takes i j rank.level rank.kind best.there j_in).0 at.2 })
 
   in_accepted : (i j level : ℕ) (kind : Kind) → j < n → IsAccepted n t places (Serves grants) i j level kind → is_in j (accepted n t places grants i) ≡ true
-  unfolding accepted accepted_turn
+  unfolding accepted accepted_rank
   in_accepted i j level kind j_in a =
-      let turn = finds_turn t (λ m k. list_any (is_fed i m k) grants) (Granted i) (granted_level i) (λ m k m_in. Decides-paired grants i m k) level kind a.best in
-      ap (λ o. is_in j (option_map_or (outputs_at i) o [])) turn ∙ (takes i j level kind a.best.there j_in).1 a.taken
+      let rank = finds_rank t (λ m k. list_any (is_fed i m k) grants) (Granted i) (granted_level i) (λ m k m_in. Decides-paired grants i m k) level kind a.best in
+      ap (λ o. is_in j (option_map_or (outputs_at i) o [])) rank ∙ (takes i j level kind a.best.there j_in).1 a.taken
 
   pub IsAccepted-from_added : (j : ℕ) (f : Fed) → added n t places grants j ≡ Some f → IsAccepted n t places (Serves grants) f.input j f.level f.kind
   IsAccepted-from_added j f e =

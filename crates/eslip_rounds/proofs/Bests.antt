@@ -59,19 +59,19 @@ IsBest-from_rank t P rank there least =
 -- and the best level and kind has the least rank
 pub IsBest-to_rank : (t : ℕ) (P : ℕ → Kind → Type 0) (level : ℕ) (kind : Kind) → IsBest t P level kind → (m : ℕ) (k : Kind) → P m k → rank_of (preferred t) level kind ≤ rank_of (preferred t) m k
 IsBest-to_rank t P level kind best m k p =
-    let first = preferred t in
+    let first_kind = preferred t in
     let above = best.least m k p in
-    let high = rank_of-high first level kind in
-    let low = rank_of-low first m k in
+    let high = rank_of-high first_kind level kind in
+    let low = rank_of-low first_kind m k in
     elim (cases_eq level m) [
       | inr apart ↦ omega arith
-      | inl same ↦ elim (kinds_decide k first) [
-        | inr other ↦ let there = rank_of-differ first m k other in omega arith
+      | inl same ↦ elim (kinds_decide k first_kind) [
+        | inr other ↦ let there = rank_of-differ first_kind m k other in omega arith
         | inl one ↦
             let Q : Kind → Type 0 = λ x. P m x in
-            let R : ℕ → Type 0 = λ x. P x first in
-            let mine : kind ≡ first = best.turn (subst R (sym same) (subst Q one p)) in
-            let here : rank_of first level kind ≡ 2 * level = ap (rank_of first level) mine ∙ rank_of-first first level in
+            let R : ℕ → Type 0 = λ x. P x first_kind in
+            let mine : kind ≡ first_kind = best.turn (subst R (sym same) (subst Q one p)) in
+            let here : rank_of first_kind level kind ≡ 2 * level = ap (rank_of first_kind level) mine ∙ rank_of-first first_kind level in
             omega arith
       ]
     ]

@@ -32,7 +32,7 @@ pub from_of-lt : (places : Places) → AreAtPorts places → (j level : ℕ) (ki
 from_of-lt places at_ports j level Uni j_in level_in = (at_ports.pointing level level_in).grant j j_in
 from_of-lt places at_ports j level Multi j_in level_in = (at_ports.pointing level level_in).shared
 
-module _ (n : ℕ) (first : Kind) (asks : Asks) (ready : List ℕ) (places : Places) (j : ℕ) where
+module _ (n : ℕ) (first_kind : Kind) (asks : Asks) (ready : List ℕ) (places : Places) (j : ℕ) where
   asks-decides : (rank i : ℕ) → Decides (AsksAt asks ready j rank i)
   asks-decides rank i = elim (Has-or _ i) [
     | inr lacks ↦ inr (λ p. lacks p.0)
@@ -40,28 +40,28 @@ module _ (n : ℕ) (first : Kind) (asks : Asks) (ready : List ℕ) (places : Pla
   ]
 
   -- an output chooses once
-  pub IsChosen-only : (f g : Choice) → from_of places j (level_at f.rank) (kind_at first f.rank) < n → IsChosen n first asks ready places j f → IsChosen n first asks ready places j g → f ≡ g
+  pub IsChosen-only : (f g : Choice) → from_of places j (level_at f.rank) (kind_at first_kind f.rank) < n → IsChosen n first_kind asks ready places j f → IsChosen n first_kind asks ready places j g → f ≡ g
   IsChosen-only f g from_in a b =
       let ranks : f.rank ≡ g.rank = elim (cases_lt f.rank g.rank) [
         | inl less ↦ absurd (b.best f.rank f.input less a.picked.member)
         | inr more ↦ elim (cases_lt g.rank f.rank) [ inl less ↦ absurd (a.best g.rank g.input less b.picked.member) | inr same ↦ omega arith ]
       ] in
-      let P : ℕ → Type 0 = λ r. IsFirstFrom n (from_of places j (level_at r) (kind_at first r)) (AsksAt asks ready j r) g.input in
-      let inputs = IsFirstFrom-only n (from_of places j (level_at f.rank) (kind_at first f.rank)) (AsksAt asks ready j f.rank) f.input g.input from_in a.picked (subst P (sym ranks) b.picked) in
+      let P : ℕ → Type 0 = λ r. IsFirstFrom n (from_of places j (level_at r) (kind_at first_kind r)) (AsksAt asks ready j r) g.input in
+      let inputs = IsFirstFrom-only n (from_of places j (level_at f.rank) (kind_at first_kind f.rank)) (AsksAt asks ready j f.rank) f.input g.input from_in a.picked (subst P (sym ranks) b.picked) in
       λ t. record { rank = ranks t; input = inputs t }
 
-  pub Some-iff_chosen : (f g : Choice) → from_of places j (level_at f.rank) (kind_at first f.rank) < n → IsChosen n first asks ready places j f → (Some f ≡ Some g) ↔ IsChosen n first asks ready places j g
-  Some-iff_chosen f g from_in a = (λ e. subst (IsChosen n first asks ready places j) (same_Some f g e) a, λ b. ap Some (IsChosen-only f g from_in a b))
+  pub Some-iff_chosen : (f g : Choice) → from_of places j (level_at f.rank) (kind_at first_kind f.rank) < n → IsChosen n first_kind asks ready places j f → (Some f ≡ Some g) ↔ IsChosen n first_kind asks ready places j g
+  Some-iff_chosen f g from_in a = (λ e. subst (IsChosen n first_kind asks ready places j) (same_Some f g e) a, λ b. ap Some (IsChosen-only f g from_in a b))
 
 module _ (n t : ℕ) (rows : List Row) (asks : Asks) (ready : List ℕ) (before : List (Option Fed)) (are : AreAsks n (preferred t) rows asks) (readies : AreReady n (preferred t) before ready) (j : ℕ) where
   -- an input that may ask and names the output stands in the column
   AsksAt-named : (x m : ℕ) (k : Kind) → x < n → m < LEVELS → MayAsk before m k x → Names (row_of rows x) m k j → AsksAt asks ready j (rank_of (preferred t) m k) x
   AsksAt-named x m k x_in level_in may named =
-      let first = preferred t in
-      let rank = rank_of first m k in
-      let rank_in : rank < RANKS = rank_of-lt first m k level_in in
-      let level_is : level_at rank ≡ m = level_at-rank_of first m k in
-      let kind_is : kind_at first rank ≡ k = kind_at-rank_of first m k in
+      let first_kind = preferred t in
+      let rank = rank_of first_kind m k in
+      let rank_in : rank < RANKS = rank_of-lt first_kind m k level_in in
+      let level_is : level_at rank ≡ m = level_at-rank_of first_kind m k in
+      let kind_is : kind_at first_kind rank ≡ k = kind_at-rank_of first_kind m k in
       let P : ℕ → Type 0 = λ l. Names (row_of rows x) l k j × MayAsk before l k x in
       let Q : Kind → Type 0 = λ q. Names (row_of rows x) (level_at rank) q j × MayAsk before (level_at rank) q x in
       let here = subst Q (sym kind_is) (subst P (sym level_is) (named, may)) in
@@ -79,7 +79,7 @@ module _ (n t : ℕ) (rows : List Row) (asks : Asks) (ready : List ℕ) (before 
   -- and what stands in the columns at the lowest rank is asked
   pub asked_at_least : (rank x : ℕ) → rank < RANKS → AsksAt asks ready j rank x → ((r y : ℕ) → r < rank → AsksAt asks ready j r y → ⊥) → Requests rows before x j (level_at rank) (kind_at (preferred t) rank)
   asked_at_least rank x rank_in p none =
-      let first = preferred t in
+      let first_kind = preferred t in
       let named = (are.columns rank x j rank_in).0 p.0 in
       let may = (readies rank x rank_in).0 p.1 in
       let level_in = level_at-lt rank rank_in in
@@ -90,10 +90,10 @@ module _ (n t : ℕ) (rows : List Row) (asks : Asks) (ready : List ℕ) (before 
             level_in = level_in;
             named = named.1;
             best = λ better other lt h.
-                let high = rank_of-high first better other in
-                let lower : rank_of first better other < rank = omega arith in
+                let high = rank_of-high first_kind better other in
+                let lower : rank_of first_kind better other < rank = omega arith in
                 let better_in : better < LEVELS = omega arith in
-                none (rank_of first better other) x lower (AsksAt-named x better other named.0 better_in (inl free) h);
+                none (rank_of first_kind better other) x lower (AsksAt-named x better other named.0 better_in (inl free) h);
           },
         )
         | inr on ↦
@@ -107,29 +107,29 @@ module _ (n t : ℕ) (rows : List Row) (asks : Asks) (ready : List ℕ) (before 
   module _ (places : Places) (j_in : j < n) (vacant : IsFreeOutput before j) where
     pub Grants-from_chosen : (rank i : ℕ) → IsChosen n (preferred t) asks ready places j (record { rank = rank; input = i }) → Grants n t rows places before i j (level_at rank) (kind_at (preferred t) rank)
     Grants-from_chosen rank i c =
-        let first = preferred t in
+        let first_kind = preferred t in
         let P : ℕ → Kind → Type 0 = λ m k. (x : ℕ) × (x < n) × Requests rows before x j m k in
         let asked = λ (x : ℕ) (p : AsksAt asks ready j rank x). asked_at_least rank x c.rank_in p c.best in
-        let back : (x : ℕ) → x < n → Requests rows before x j (level_at rank) (kind_at first rank) → AsksAt asks ready j rank x = λ x x_in r.
-        subst (λ m. AsksAt asks ready j m x) (rank_of-at first rank) (AsksAt-asked x (level_at rank) (kind_at first rank) x_in r) in
+        let back : (x : ℕ) → x < n → Requests rows before x j (level_at rank) (kind_at first_kind rank) → AsksAt asks ready j rank x = λ x x_in r.
+        subst (λ m. AsksAt asks ready j m x) (rank_of-at first_kind rank) (AsksAt-asked x (level_at rank) (kind_at first_kind rank) x_in r) in
         record {
           output_in = j_in;
           output_free = vacant;
           best = IsBest-from_rank t P rank (i, c.picked.below, asked i c.picked.member)
-              (λ m k p. elim (cases_lt (rank_of first m k) rank) [ inl lower ↦ absurd (c.best (rank_of first m k) p.0 lower (AsksAt-asked p.0 m k p.1 p.2)) | inr above ↦ above ]);
-          first = IsFirstFrom-along n (from_of places j (level_at rank) (kind_at first rank)) (AsksAt asks ready j rank) (λ x. Requests rows before x j (level_at rank) (kind_at first rank)) i
+              (λ m k p. elim (cases_lt (rank_of first_kind m k) rank) [ inl lower ↦ absurd (c.best (rank_of first_kind m k) p.0 lower (AsksAt-asked p.0 m k p.1 p.2)) | inr above ↦ above ]);
+          first = IsFirstFrom-along n (from_of places j (level_at rank) (kind_at first_kind rank)) (AsksAt asks ready j rank) (λ x. Requests rows before x j (level_at rank) (kind_at first_kind rank)) i
               (λ x x_in. (asked x, back x x_in)) c.picked;
         }
 
     pub chosen_from_grants : (i m : ℕ) (k : Kind) → Grants n t rows places before i j m k → IsChosen n (preferred t) asks ready places j (record { rank = rank_of (preferred t) m k; input = i })
     chosen_from_grants i m k g =
-        let first = preferred t in
-        let rank = rank_of first m k in
+        let first_kind = preferred t in
+        let rank = rank_of first_kind m k in
         let P : ℕ → Kind → Type 0 = λ l q. (x : ℕ) × (x < n) × Requests rows before x j l q in
         let level_in = level_asked rows before i j m k g.first.member in
-        let rank_in = rank_of-lt first m k level_in in
+        let rank_in = rank_of-lt first_kind m k level_in in
         let Some_asks : ℕ → Type 0 = λ r. (x : ℕ) × (x < n) × AsksAt asks ready j r x in
-        let decides : (r : ℕ) → Decides (Some_asks r) = λ r. elim (least (AsksAt asks ready j r) (asks-decides n first asks ready places j r) n) [
+        let decides : (r : ℕ) → Decides (Some_asks r) = λ r. elim (least (AsksAt asks ready j r) (asks-decides n first_kind asks ready places j r) n) [
           | inl found ↦ inl (found.0, found.1, found.2)
           | inr none ↦ inr (λ p. none p.0 p.1 p.2)
         ] in
@@ -140,15 +140,15 @@ module _ (n t : ℕ) (rows : List Row) (asks : Asks) (ready : List ℕ) (before 
               let low_in : low < RANKS = let below = found.1 in omega arith in
               let none_below : (q y : ℕ) → q < low → AsksAt asks ready j q y → ⊥ = λ q y less h. found.3 q less (y, column_in q y (omega arith) h, h) in
               let asked = asked_at_least low found.2.0 low_in found.2.2 none_below in
-              let above = IsBest-to_rank t P m k g.best (level_at low) (kind_at first low) (found.2.0, found.2.1, asked) in
-              let at = rank_of-at first low in
+              let above = IsBest-to_rank t P m k g.best (level_at low) (kind_at first_kind low) (found.2.0, found.2.1, asked) in
+              let at = rank_of-at first_kind low in
               absurd (let below = found.1 in omega arith)
         ] in
-        let level_is : level_at rank ≡ m = level_at-rank_of first m k in
-        let kind_is : kind_at first rank ≡ k = kind_at-rank_of first m k in
+        let level_is : level_at rank ≡ m = level_at-rank_of first_kind m k in
+        let kind_is : kind_at first_kind rank ≡ k = kind_at-rank_of first_kind m k in
         let asked : (x : ℕ) → AsksAt asks ready j rank x → Requests rows before x j m k = λ x p.
         let here = asked_at_least rank x rank_in p none_lower in
-        let R : ℕ → Type 0 = λ l. Requests rows before x j l (kind_at first rank) in
+        let R : ℕ → Type 0 = λ l. Requests rows before x j l (kind_at first_kind rank) in
         let S : Kind → Type 0 = λ q. Requests rows before x j m q in
         subst S kind_is (subst R level_is here) in
         let first_here = IsFirstFrom-along n (from_of places j m k) (λ x. Requests rows before x j m k) (AsksAt asks ready j rank) i (λ x x_in. (AsksAt-asked x m k x_in, asked x)) g.first in

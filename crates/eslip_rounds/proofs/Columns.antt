@@ -15,11 +15,11 @@ use Rattle.eslip_rounds.specs.Ranks.{level_at, kind_at}
 use Rattle.eslip_rounds.specs.Steps.{column_of}
 
 -- the columns of the first k ranks are right, the others are empty, and those that are not are used
-pub record AreDone (n k : ℕ) (first : Kind) (rows : List Row) (columns : List (List ℕ)) (used : ℕ) : Type 0 where
+pub record AreDone (n k : ℕ) (first_kind : Kind) (rows : List Row) (columns : List (List ℕ)) (used : ℕ) : Type 0 where
   pub long : length columns ≡ RANKS
-  pub done : (r i j : ℕ) → r < k → Has (column_of columns r j) i ↔ ((i < n) × Names (row_of rows i) (level_at r) (kind_at first r) j)
+  pub done : (r i j : ℕ) → r < k → Has (column_of columns r j) i ↔ ((i < n) × Names (row_of rows i) (level_at r) (kind_at first_kind r) j)
   pub left : (r i j : ℕ) → k ≤ r → Has (column_of columns r j) i → ⊥
-  pub uses : (r i j : ℕ) → r < k → i < n → Names (row_of rows i) (level_at r) (kind_at first r) j → Has used r
+  pub uses : (r i j : ℕ) → r < k → i < n → Names (row_of rows i) (level_at r) (kind_at first_kind r) j → Has used r
   pub uses_in : (r : ℕ) → Has used r → r < k
 
 no_column : (r j : ℕ) → column_of (replicate RANKS (replicate MAX_PORTS 0)) r j ≡ 0
@@ -35,8 +35,8 @@ no_column r j =
 pub no_set : (sets : List ℕ) → sets ≡ replicate MAX_PORTS 0 → (i j : ℕ) → Has (slice_index sets j) i → ⊥
 no_set sets e i j has = no_members MAX_PORTS j i (subst (λ table. Has (slice_index table j) i) e has)
 
-pub AreDone-first : (n : ℕ) (first : Kind) (rows : List Row) (columns : List (List ℕ)) → columns ≡ replicate RANKS (replicate MAX_PORTS 0) → AreDone n 0 first rows columns 0
-AreDone-first n first rows columns e =
+pub AreDone-first : (n : ℕ) (first_kind : Kind) (rows : List Row) (columns : List (List ℕ)) → columns ≡ replicate RANKS (replicate MAX_PORTS 0) → AreDone n 0 first_kind rows columns 0
+AreDone-first n first_kind rows columns e =
     let zeros : List ℕ = replicate MAX_PORTS 0 in
     record {
       long = ap length e ∙ length-replicate RANKS zeros;
@@ -46,14 +46,14 @@ AreDone-first n first rows columns e =
       uses_in = λ r has. absurd (no_member-zero r has);
     }
 
-module _ (n k : ℕ) (first : Kind) (rows : List Row) (columns : List (List ℕ)) (used : ℕ) (known : AreDone n k first rows columns used) (level : ℕ) (kind : Kind) (level_is : level ≡ level_at k) (kind_is : kind ≡ kind_at first k) where
-  named_at : (i j : ℕ) → Names (row_of rows i) level kind j ↔ Names (row_of rows i) (level_at k) (kind_at first k) j
+module _ (n k : ℕ) (first_kind : Kind) (rows : List Row) (columns : List (List ℕ)) (used : ℕ) (known : AreDone n k first_kind rows columns used) (level : ℕ) (kind : Kind) (level_is : level ≡ level_at k) (kind_is : kind ≡ kind_at first_kind k) where
+  named_at : (i j : ℕ) → Names (row_of rows i) level kind j ↔ Names (row_of rows i) (level_at k) (kind_at first_kind k) j
   named_at i j =
       let P : ℕ → Type 0 = λ l. Names (row_of rows i) l kind j in
       let Q : Kind → Type 0 = λ q. Names (row_of rows i) (level_at k) q j in
       (λ h. subst Q kind_is (subst P level_is h), λ h. subst P (sym level_is) (subst Q (sym kind_is) h))
 
-  pub AreDone-put : (cells : List ℕ) (more : ℕ) → k < RANKS → ((i j : ℕ) → Has (slice_index cells j) i ↔ ((i < n) × Names (row_of rows i) level kind j)) → ((r : ℕ) → Has more r ↔ ((r ≡ k) ⊎ Has used r)) → AreDone n (k + 1) first rows (slice_set columns k cells) more
+  pub AreDone-put : (cells : List ℕ) (more : ℕ) → k < RANKS → ((i j : ℕ) → Has (slice_index cells j) i ↔ ((i < n) × Names (row_of rows i) level kind j)) → ((r : ℕ) → Has more r ↔ ((r ≡ k) ⊎ Has used r)) → AreDone n (k + 1) first_kind rows (slice_set columns k cells) more
   AreDone-put cells more k_in right uses =
       let inside : k < length columns = let long = known.long in omega arith in
       let same : (j : ℕ) → column_of (slice_set columns k cells) k j ≡ slice_index cells j = λ j. ap (λ row. slice_index row j) (get_or-set_same columns k cells [] inside) in
@@ -63,7 +63,7 @@ module _ (n k : ℕ) (first : Kind) (rows : List Row) (columns : List (List ℕ)
         done = λ r i j below. elim (cases_eq r k) [
           | inl here ↦
               let e = named_at i j in
-              let P : ℕ → Type 0 = λ x. Has (column_of (slice_set columns k cells) x j) i ↔ ((i < n) × Names (row_of rows i) (level_at x) (kind_at first x) j) in
+              let P : ℕ → Type 0 = λ x. Has (column_of (slice_set columns k cells) x j) i ↔ ((i < n) × Names (row_of rows i) (level_at x) (kind_at first_kind x) j) in
               subst P (sym here) (
                 λ has. let p = (right i j).0 (subst (λ set. Has set i) (same j) has) in (p.0, e.0 p.1),
                 λ p. subst (λ set. Has set i) (sym (same j)) ((right i j).1 (p.0, e.1 p.1)),
@@ -77,20 +77,20 @@ module _ (n k : ℕ) (first : Kind) (rows : List Row) (columns : List (List ℕ)
         uses_in = λ r has. elim ((uses r).0 has) [ inl here ↦ omega arith | inr before ↦ let below = known.uses_in r before in omega arith ];
       }
 
-  pub AreDone-skip : ((i j : ℕ) → i < n → Names (row_of rows i) level kind j → ⊥) → AreDone n (k + 1) first rows columns used
+  pub AreDone-skip : ((i j : ℕ) → i < n → Names (row_of rows i) level kind j → ⊥) → AreDone n (k + 1) first_kind rows columns used
   AreDone-skip nobody =
       record {
         long = known.long;
         done = λ r i j below. elim (cases_eq r k) [
           | inl here ↦ (
             λ has. absurd (known.left r i j (omega arith) has),
-            λ p. let P : ℕ → Type 0 = λ x. Names (row_of rows i) (level_at x) (kind_at first x) j in absurd (nobody i j p.0 ((named_at i j).1 (subst P here p.1))),
+            λ p. let P : ℕ → Type 0 = λ x. Names (row_of rows i) (level_at x) (kind_at first_kind x) j in absurd (nobody i j p.0 ((named_at i j).1 (subst P here p.1))),
           )
           | inr apart ↦ known.done r i j (omega arith)
         ];
         left = λ r i j above has. known.left r i j (omega arith) has;
         uses = λ r i j below i_in named. elim (cases_eq r k) [
-          | inl here ↦ let P : ℕ → Type 0 = λ x. Names (row_of rows i) (level_at x) (kind_at first x) j in absurd (nobody i j i_in ((named_at i j).1 (subst P here named)))
+          | inl here ↦ let P : ℕ → Type 0 = λ x. Names (row_of rows i) (level_at x) (kind_at first_kind x) j in absurd (nobody i j i_in ((named_at i j).1 (subst P here named)))
           | inr apart ↦ known.uses r i j (omega arith) i_in named
         ];
         uses_in = λ r has. let below = known.uses_in r has in omega arith;

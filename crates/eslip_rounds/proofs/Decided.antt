@@ -33,36 +33,36 @@ last_positive : (b : ℕ) (steps : List (List (Option Fed))) → 0 < length step
 last_positive b [] some last = absurd (omega arith)
 last_positive b (step ∷ steps) some last = last 1 (omega arith)
 
-module _ (n t : ℕ) (rows : List Row) (places : Places) (first : Kind) (first_is : first ≡ preferred t) (asks : Asks) (are : AreAsks n first rows asks) where
+module _ (n t : ℕ) (rows : List Row) (places : Places) (first_kind : Kind) (first_is : first_kind ≡ preferred t) (asks : Asks) (are : AreAsks n first_kind rows asks) where
   -- a step of the code is a round
-  pub round_of : (before after : List (Option Fed)) → IsStep n first asks places before after → length after ≡ n → IsRound n t rows places before after
+  pub round_of : (before after : List (Option Fed)) → IsStep n first_kind asks places before after → length after ≡ n → IsRound n t rows places before after
   round_of before after step count =
       let P : Kind → Type 0 = λ k. AreAsks n k rows asks in
       let Q : Kind → Type 0 = λ k. IsStep n k asks places before after in
       IsRound-from_step n t rows places asks before after (subst P first_is are) (subst Q first_is step) count
 
-  pub IsDecided-first : (made now : List (Option Fed)) (matched : ℕ) (numbers : RoundsUsed) (met : ℕ) → made ≡ unmatched n → IsStep n first asks places made now → IsMatch n now → matched ≡ matched_count now → numbers ≡ numbers_of (matched ∷ []) → numbers.used ≤ 1 → ((j : ℕ) → Has met j ↔ ((j < n) × (IsFreeOutput now j → ⊥))) → IsDecided n 1 t rows places now matched numbers met
+  pub IsDecided-first : (made now : List (Option Fed)) (matched : ℕ) (numbers : RoundsUsed) (met : ℕ) → made ≡ unmatched n → IsStep n first_kind asks places made now → IsMatch n now → matched ≡ matched_count now → numbers ≡ numbers_of (matched ∷ []) → numbers.used ≤ 1 → ((j : ℕ) → Has met j ↔ ((j < n) × (IsFreeOutput now j → ⊥))) → IsDecided n 1 t rows places now matched numbers met
   IsDecided-first made now matched numbers met e step whole counted numbered used mets =
       record {
-        first = now;
+        first_match = now;
         run = IsRun-first n t rows places now matched numbers (subst (λ m. IsRound n t rows places m now) e (round_of made now step whole.count)) counted numbered;
         whole = whole;
         mets = mets;
         used = used;
       }
 
-  pub IsDecided-next : (k : ℕ) (now after : List (Option Fed)) (matched later : ℕ) (numbers more : RoundsUsed) (met added : ℕ) → IsDecided n k t rows places now matched numbers met → IsStep n first asks places now after → IsMatch n after → later ≡ matched_count after → added ≡ later - matched → ((each : List ℕ) → length each ≡ k → numbers ≡ numbers_of each → more ≡ numbers_of (each ++ added ∷ [])) → more.used ≤ k + 1 → IsDecided n (k + 1) t rows places after later more met
+  pub IsDecided-next : (k : ℕ) (now after : List (Option Fed)) (matched later : ℕ) (numbers more : RoundsUsed) (met added : ℕ) → IsDecided n k t rows places now matched numbers met → IsStep n first_kind asks places now after → IsMatch n after → later ≡ matched_count after → added ≡ later - matched → ((each : List ℕ) → length each ≡ k → numbers ≡ numbers_of each → more ≡ numbers_of (each ++ added ∷ [])) → more.used ≤ k + 1 → IsDecided n (k + 1) t rows places after later more met
   IsDecided-next k now after matched later numbers more met added decided step whole counted difference numbered used =
       record {
-        first = decided.first;
-        run = IsRun-next n t rows places k decided.first now after matched later numbers more decided.run (round_of now after step whole.count) counted (λ each long e. numbered each long e ∙ ap (λ d. numbers_of (each ++ d ∷ [])) difference);
+        first_match = decided.first_match;
+        run = IsRun-next n t rows places k decided.first_match now after matched later numbers more decided.run (round_of now after step whole.count) counted (λ each long e. numbered each long e ∙ ap (λ d. numbers_of (each ++ d ∷ [])) difference);
         whole = whole;
         mets = decided.mets;
         used = used;
       }
 
 module _ (n k t : ℕ) (rows : List Row) (places : Places) (now : List (Option Fed)) (matched : ℕ) (numbers : RoundsUsed) (met : ℕ) (decided : IsDecided n k t rows places now matched numbers met) (ports : places.ports ≡ n) (within : AreWithin n rows) where
-  pub AreMoved-from : (middle after : Places) → AreMet (λ i j level. Has met j × Serves now i j level Uni) places middle → ((level : ℕ) → level < LEVELS → IsPassed n rows now middle after level) → ((level : ℕ) → LEVELS ≤ level → shared_of after level ≡ shared_of middle level) → after.ports ≡ middle.ports → ((j level : ℕ) → grant_of after j level ≡ grant_of middle j level) → ((i level : ℕ) → accept_of after i level ≡ accept_of middle i level) → AreMoved n t rows decided.first now places after
+  pub AreMoved-from : (middle after : Places) → AreMet (λ i j level. Has met j × Serves now i j level Uni) places middle → ((level : ℕ) → level < LEVELS → IsPassed n rows now middle after level) → ((level : ℕ) → LEVELS ≤ level → shared_of after level ≡ shared_of middle level) → after.ports ≡ middle.ports → ((j level : ℕ) → grant_of after j level ≡ grant_of middle j level) → ((i level : ℕ) → accept_of after i level ≡ accept_of middle i level) → AreMoved n t rows decided.first_match now places after
   AreMoved-from middle after moved passed beyond size grants accepts =
       let met_pair = λ (i j level : ℕ). Serves-met n k t rows places now matched numbers met decided i j level in
       let around = λ (x : ℕ). ap (λ m. (x + 1) % m) ports in
@@ -77,7 +77,7 @@ module _ (n k t : ℕ) (rows : List Row) (places : Places) (now : List (Option F
         shared_stays = λ level none. elim (cases_lt level LEVELS) [ inl below ↦ (same level below).stays none | inr above ↦ beyond level above ∙ moved.shared level ];
       }
 
-  pub IsSlot-from : (rounds : ℕ) (after : Places) → k ≡ rounds → AreMoved n t rows decided.first now places after → IsSlot n rounds t rows places (record { matched = now; numbers = numbers; places = after })
+  pub IsSlot-from : (rounds : ℕ) (after : Places) → k ≡ rounds → AreMoved n t rows decided.first_match now places after → IsSlot n rounds t rows places (record { matched = now; numbers = numbers; places = after })
   IsSlot-from rounds after end moved =
       record {
         steps = decided.run.steps;

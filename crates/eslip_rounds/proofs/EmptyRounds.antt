@@ -28,18 +28,18 @@ module _ (n t : ℕ) (rows : List Row) (places : Places) where
         | inr same ↦ subst (λ m. IsRound n t rows places m now) same round
       ]
 
-  module _ (first : Kind) (first_is : first ≡ preferred t) (asks : Asks) (are : AreAsks n first rows asks) where
+  module _ (first_kind : Kind) (first_is : first_kind ≡ preferred t) (asks : Asks) (are : AreAsks n first_kind rows asks) where
     -- after the first round
-    pub IsSettled-first : (made now : List (Option Fed)) (added : ℕ) → AreAtPorts places → places.ports ≡ n → made ≡ unmatched n → IsStep n first asks places made now → IsMatch n now → added ≡ matched_count now → IsSettled n t rows places now added
+    pub IsSettled-first : (made now : List (Option Fed)) (added : ℕ) → AreAtPorts places → places.ports ≡ n → made ≡ unmatched n → IsStep n first_kind asks places made now → IsMatch n now → added ≡ matched_count now → IsSettled n t rows places now added
     IsSettled-first made now added at_ports ports is step whole counts =
         let start = unmatched-count n in
-        let round = subst (λ m. IsRound n t rows places m now) is (round_of n t rows places first first_is asks are made now step whole.count) in
+        let round = subst (λ m. IsRound n t rows places m now) is (round_of n t rows places first_kind first_is asks are made now step whole.count) in
         IsSettled-round (unmatched n) now 0 added added at_ports ports (IsMatch-unmatched n).count round (sym start) counts (omega arith)
 
     -- after one more round
-    pub IsSettled-next : (before now : List (Option Fed)) (matched later added : ℕ) → AreAtPorts places → places.ports ≡ n → IsMatch n before → IsStep n first asks places before now → IsMatch n now → matched ≡ matched_count before → later ≡ matched_count now → added ≡ later - matched → IsSettled n t rows places now added
+    pub IsSettled-next : (before now : List (Option Fed)) (matched later added : ℕ) → AreAtPorts places → places.ports ≡ n → IsMatch n before → IsStep n first_kind asks places before now → IsMatch n now → matched ≡ matched_count before → later ≡ matched_count now → added ≡ later - matched → IsSettled n t rows places now added
     IsSettled-next before now matched later added at_ports ports was step whole counted counts difference =
-        IsSettled-round before now matched later added at_ports ports was.count (round_of n t rows places first first_is asks are before now step whole.count) counted counts difference
+        IsSettled-round before now matched later added at_ports ports was.count (round_of n t rows places first_kind first_is asks are before now step whole.count) counted counts difference
 
   -- one more round, which is not made
   pub IsDecided-still : (k : ℕ) (now : List (Option Fed)) (matched : ℕ) (numbers more : RoundsUsed) (met added : ℕ) → IsDecided n k t rows places now matched numbers met → IsSettled n t rows places now added → added ≡ 0
@@ -47,8 +47,8 @@ module _ (n t : ℕ) (rows : List Row) (places : Places) where
   IsDecided-still k now matched numbers more met added decided settled none numbered used =
       let difference : added ≡ matched - matched = omega arith in
       record {
-        first = decided.first;
-        run = IsRun-next n t rows places k decided.first now now matched matched numbers more decided.run (settled none) decided.run.counted (λ each long e. numbered each long e ∙ ap (λ d. numbers_of (each ++ d ∷ [])) difference);
+        first_match = decided.first_match;
+        run = IsRun-next n t rows places k decided.first_match now now matched matched numbers more decided.run (settled none) decided.run.counted (λ each long e. numbered each long e ∙ ap (λ d. numbers_of (each ++ d ∷ [])) difference);
         whole = decided.whole;
         mets = decided.mets;
         used = used;

@@ -1,4 +1,4 @@
--- What is found first: among the ports in order, from a pointer on, and among the turns of a slot.
+-- What is found first: among the ports in order, from a pointer on, and among the ranks of a slot.
 use Rattle.std.proofs.Common.{◌≡◌, ℕ, zero, suc, ◌+◌, ◌%◌, ◌<◌, ◌≤◌, ◌⊎◌, ◌∙◌, Bool, true, List, [], ◌∷◌, Option, None, Some, map, refl, sym, ap, subst, inl, inr, arith}
 use Rattle.std.specs.Bool.{Decides}
 use Rattle.std.specs.List.{find, range_with_len}

@@ -15,12 +15,12 @@ use Rattle.slot_match.specs.declared.matching.Fed.{Fed}
 use Rattle.slot_match.specs.Matches.{fed_of, Serves, IsMatch}
 use Rattle.pointer_state.specs.Places.{Places, AreAtPorts}
 use Rattle.eslip_rounds.specs.Rounds.{from_of, Requests, Grants}
-use Rattle.eslip_rounds.specs.Decisions.{Turn, turns, ports, ports_from, is_request, granted_at, granted}
+use Rattle.eslip_rounds.specs.Decisions.{Rank, ranks, ports, ports_from, is_request, granted_at, granted}
 use Rattle.eslip_rounds.proofs.Choosing.{level_asked}
 use Rattle.eslip_rounds.proofs.Deciding.{from_in}
 use Rattle.eslip_rounds.proofs.Testing.{any_port, Decides-request}
 use Rattle.eslip_rounds.proofs.Finding.{first_found, finds_first}
-use Rattle.eslip_rounds.proofs.Turning.{found_turn, finds_turn}
+use Rattle.eslip_rounds.proofs.Ranking.{found_rank, finds_rank}
 
 -- what a list by ports has at a port, and beyond the ports
 pub fed_of-ports : (f : ℕ → Option Fed) (n j : ℕ) → j < n → fed_of (map f (ports n)) j ≡ f j
@@ -61,46 +61,46 @@ module _ (n t : ℕ) (rows : List Row) (places : Places) (before : List (Option 
   asked_decides j m k level_in = any_port (λ x. is_request rows before x j m k) (λ x. Requests rows before x j m k) (λ x. Decides-request n rows before whole x j m k level_in) n
 
   module _ (j : ℕ) (j_in : j < n) where
-    asked_turn : Option Turn
-    asked_turn = find (λ turn. list_any (λ x. is_request rows before x j turn.level turn.kind) (ports n)) (turns t)
+    asked_rank : Option Rank
+    asked_rank = find (λ rank. list_any (λ x. is_request rows before x j rank.level rank.kind) (ports n)) (ranks t)
 
-    -- what output j grants at its turn
+    -- what output j grants at its rank
     granted_first : (level i : ℕ) (kind : Kind) → level < LEVELS → find (λ x. is_request rows before x j level kind) (ports_from n (from_of places j level kind)) ≡ Some i → IsFirstFrom n (from_of places j level kind) (λ x. Requests rows before x j level kind) i
     granted_first level i kind level_in e =
         first_found n (from_of places j level kind) (λ x. is_request rows before x j level kind) (λ x. Requests rows before x j level kind) (λ x. Decides-request n rows before whole x j level kind level_in)
         (from_in n t rows places before whole at_ports ports_are j level kind j_in level_in) i e
 
     pub Grants-from_granted : (f : Fed) → granted n t rows places before j ≡ Some f → Grants n t rows places before f.input j f.level f.kind
-    unfolding granted asked_turn
+    unfolding granted asked_rank
     Grants-from_granted f e =
-        let all : Option Fed = option_and_then (granted_at n rows places before j) asked_turn in
+        let all : Option Fed = option_and_then (granted_at n rows places before j) asked_rank in
         elim (cases_Bool (is_none (fed_of before j))) [
           | inr busy ↦ absurd (none-some f (sym (cond-false (is_none (fed_of before j)) all None busy) ∙ e))
           | inl vacant ↦
-              let at_turn = option_and_then_from (granted_at n rows places before j) asked_turn f (sym (cond-true (is_none (fed_of before j)) all None vacant) ∙ e) in
-              let turn : Turn = at_turn.0 in
-              let best = found_turn t (λ m k. list_any (λ x. is_request rows before x j m k) (ports n)) (Asked j) (asked_level j) (asked_decides j) turn at_turn.1 in
-              let picked = option_map_some (λ i. record { input = i; level = turn.level; kind = turn.kind }) (find (λ x. is_request rows before x j turn.level turn.kind) (ports_from n (from_of places j turn.level turn.kind))) f at_turn.2 in
-              let g : Grants n t rows places before picked.0 j turn.level turn.kind = record {
+              let at_rank = option_and_then_from (granted_at n rows places before j) asked_rank f (sym (cond-true (is_none (fed_of before j)) all None vacant) ∙ e) in
+              let rank : Rank = at_rank.0 in
+              let best = found_rank t (λ m k. list_any (λ x. is_request rows before x j m k) (ports n)) (Asked j) (asked_level j) (asked_decides j) rank at_rank.1 in
+              let picked = option_map_some (λ i. record { input = i; level = rank.level; kind = rank.kind }) (find (λ x. is_request rows before x j rank.level rank.kind) (ports_from n (from_of places j rank.level rank.kind))) f at_rank.2 in
+              let g : Grants n t rows places before picked.0 j rank.level rank.kind = record {
                 output_in = j_in;
                 output_free = none_from_test (fed_of before j) vacant;
                 best = best;
-                first = granted_first turn.level picked.0 turn.kind (asked_level j turn.level turn.kind best.there) picked.1;
+                first = granted_first rank.level picked.0 rank.kind (asked_level j rank.level rank.kind best.there) picked.1;
               } in
               let Q : Fed → Type 0 = λ h. Grants n t rows places before h.input j h.level h.kind in
               subst Q picked.2 g
         ]
 
     pub granted_from_Grants : (i level : ℕ) (kind : Kind) → Grants n t rows places before i j level kind → granted n t rows places before j ≡ Some (record { input = i; level = level; kind = kind })
-    unfolding granted asked_turn
+    unfolding granted asked_rank
     granted_from_Grants i level kind g =
-        let all : Option Fed = option_and_then (granted_at n rows places before j) asked_turn in
-        let turn : asked_turn ≡ Some (record { level = level; kind = kind }) = finds_turn t (λ m k. list_any (λ x. is_request rows before x j m k) (ports n)) (Asked j) (asked_level j) (asked_decides j) level kind g.best in
+        let all : Option Fed = option_and_then (granted_at n rows places before j) asked_rank in
+        let rank : asked_rank ≡ Some (record { level = level; kind = kind }) = finds_rank t (λ m k. list_any (λ x. is_request rows before x j m k) (ports n)) (Asked j) (asked_level j) (asked_decides j) level kind g.best in
         let level_in = asked_level j level kind g.best.there in
         let first = finds_first n (from_of places j level kind) (λ x. is_request rows before x j level kind) (λ x. Requests rows before x j level kind) (λ x. Decides-request n rows before whole x j level kind level_in)
         (from_in n t rows places before whole at_ports ports_are j level kind j_in level_in) i g.first in
         cond-true (is_none (fed_of before j)) all None (ap is_none g.output_free)
-        ∙ (ap (option_and_then (granted_at n rows places before j)) turn ∙ ap (option_map (λ x. record { input = x; level = level; kind = kind })) first)
+        ∙ (ap (option_and_then (granted_at n rows places before j)) rank ∙ ap (option_map (λ x. record { input = x; level = level; kind = kind })) first)
 
   -- the grants as a list by outputs
   pub Serves-granted : (i j level : ℕ) (kind : Kind) → Serves (map (granted n t rows places before) (ports n)) i j level kind ↔ Grants n t rows places before i j level kind

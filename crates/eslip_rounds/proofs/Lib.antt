@@ -16,7 +16,7 @@ pub mod Progress
 pub mod EmptyRounds
 pub mod Testing
 pub mod Finding
-pub mod Turning
+pub mod Ranking
 pub mod Granting
 pub mod Accepting
 pub mod Placing

@@ -68,18 +68,18 @@ AreMet-join P Q a b c outputs inputs p q =
     }
 
 -- the pairs of one output more
-pub AreMet-next : (matched : List (Option Fed)) (first rest later j : ℕ) (fed : Option Fed) (a b c : Places) → Has rest j → Has first j → ((y : ℕ) → Has later y ↔ ((y ≡ j → ⊥) × Has rest y)) → fed ≡ fed_of matched j → ((i x y level : ℕ) → Has first x → Has first y → Serves matched i x level Uni → Serves matched i y level Uni → x ≡ y) → AreMet (λ i y level. (Has first y × (Has rest y → ⊥)) × Serves matched i y level Uni) a b → AreMet (λ i y level. (y ≡ j) × (fed ≡ Some (record { input = i; level = level; kind = Uni }))) b c → AreMet (λ i y level. (Has first y × (Has later y → ⊥)) × Serves matched i y level Uni) a c
-AreMet-next matched first rest later j fed a b c has left fewer value once p q =
-    let P : ℕ → ℕ → ℕ → Type 0 = λ i y level. (Has first y × (Has rest y → ⊥)) × Serves matched i y level Uni in
+pub AreMet-next : (matched : List (Option Fed)) (first_outputs rest later j : ℕ) (fed : Option Fed) (a b c : Places) → Has rest j → Has first_outputs j → ((y : ℕ) → Has later y ↔ ((y ≡ j → ⊥) × Has rest y)) → fed ≡ fed_of matched j → ((i x y level : ℕ) → Has first_outputs x → Has first_outputs y → Serves matched i x level Uni → Serves matched i y level Uni → x ≡ y) → AreMet (λ i y level. (Has first_outputs y × (Has rest y → ⊥)) × Serves matched i y level Uni) a b → AreMet (λ i y level. (y ≡ j) × (fed ≡ Some (record { input = i; level = level; kind = Uni }))) b c → AreMet (λ i y level. (Has first_outputs y × (Has later y → ⊥)) × Serves matched i y level Uni) a c
+AreMet-next matched first_outputs rest later j fed a b c has left fewer value once p q =
+    let P : ℕ → ℕ → ℕ → Type 0 = λ i y level. (Has first_outputs y × (Has rest y → ⊥)) × Serves matched i y level Uni in
     let Q : ℕ → ℕ → ℕ → Type 0 = λ i y level. (y ≡ j) × (fed ≡ Some (record { input = i; level = level; kind = Uni })) in
-    let R : ℕ → ℕ → ℕ → Type 0 = λ i y level. (Has first y × (Has later y → ⊥)) × Serves matched i y level Uni in
+    let R : ℕ → ℕ → ℕ → Type 0 = λ i y level. (Has first_outputs y × (Has later y → ⊥)) × Serves matched i y level Uni in
     let here : (i level : ℕ) → fed ≡ Some (record { input = i; level = level; kind = Uni }) → Serves matched i j level Uni = λ i level e. sym value ∙ e in
     let waits : (y : ℕ) → (Has rest y → ⊥) → y ≡ j → ⊥ = λ y gone e. gone (subst (Has rest) (sym e) has) in
     AreMet-along (λ i y level. P i y level ⊎ Q i y level) R a c
     (λ i y level. (
       λ s. elim s [
         | inl h ↦ ((h.0.0, λ l. h.0.1 ((fewer y).0 l).1), h.1)
-        | inr g ↦ ((subst (Has first) (sym g.0) left, λ l. ((fewer y).0 l).0 g.0), subst (λ x. Serves matched i x level Uni) (sym g.0) (here i level g.1))
+        | inr g ↦ ((subst (Has first_outputs) (sym g.0) left, λ l. ((fewer y).0 l).0 g.0), subst (λ x. Serves matched i x level Uni) (sym g.0) (here i level g.1))
       ],
       λ r. elim (cases_eq y j) [
         | inl same ↦ inr (same, value ∙ subst (λ x. Serves matched i x level Uni) same r.1)

@@ -142,19 +142,19 @@ module _ (P Q : ℕ → ℕ → ℕ → Type 0) (old new : Offers) (input output
       }
 
 -- the free outputs that any row names offer all that the free outputs offer
-pub AreOffers-asked : (n : ℕ) (first : Kind) (asks : Asks) (ready : List ℕ) (places : Places) (before : List (Option Fed)) (free asked : ℕ) (offers : Offers) → ((j : ℕ) → Has free j ↔ ((j < n) × IsFreeOutput before j)) → ((j : ℕ) → Has asked j ↔ (Has free j × Has asks.outputs j)) → ((rank i j : ℕ) → rank < RANKS → Has (column_of asks.columns rank j) i → Has asks.outputs j)
-    → AreOffers (λ i j rank. Has asked j × IsChosen n first asks ready places j (record { rank = rank; input = i })) offers → AreOffers (λ i j rank. ((j < n) × IsFreeOutput before j) × IsChosen n first asks ready places j (record { rank = rank; input = i })) offers
-AreOffers-asked n first asks ready places before free asked offers frees both named =
-    AreOffers-along (λ i j rank. Has asked j × IsChosen n first asks ready places j (record { rank = rank; input = i })) (λ i j rank. ((j < n) × IsFreeOutput before j) × IsChosen n first asks ready places j (record { rank = rank; input = i })) offers
+pub AreOffers-asked : (n : ℕ) (first_kind : Kind) (asks : Asks) (ready : List ℕ) (places : Places) (before : List (Option Fed)) (free asked : ℕ) (offers : Offers) → ((j : ℕ) → Has free j ↔ ((j < n) × IsFreeOutput before j)) → ((j : ℕ) → Has asked j ↔ (Has free j × Has asks.outputs j)) → ((rank i j : ℕ) → rank < RANKS → Has (column_of asks.columns rank j) i → Has asks.outputs j)
+    → AreOffers (λ i j rank. Has asked j × IsChosen n first_kind asks ready places j (record { rank = rank; input = i })) offers → AreOffers (λ i j rank. ((j < n) × IsFreeOutput before j) × IsChosen n first_kind asks ready places j (record { rank = rank; input = i })) offers
+AreOffers-asked n first_kind asks ready places before free asked offers frees both named =
+    AreOffers-along (λ i j rank. Has asked j × IsChosen n first_kind asks ready places j (record { rank = rank; input = i })) (λ i j rank. ((j < n) × IsFreeOutput before j) × IsChosen n first_kind asks ready places j (record { rank = rank; input = i })) offers
     (λ i j rank. (
       λ p. ((frees j).0 ((both j).0 p.0).0, p.1),
       λ q. ((both j).1 ((frees j).1 q.0, named rank i j q.1.rank_in q.1.picked.member.0), q.1),
     ))
 
 -- what the free outputs offer may be taken
-pub AreOpen-from_offers : (n : ℕ) (first : Kind) (asks : Asks) (ready : List ℕ) (places : Places) (before : List (Option Fed)) (offers : Offers) → AreAtPorts places → places.ports ≡ n → AreReady n first before ready → AreOffers (λ i j rank. ((j < n) × IsFreeOutput before j) × IsChosen n first asks ready places j (record { rank = rank; input = i })) offers → AreOpen n first before offers
-AreOpen-from_offers n first asks ready places before offers at_ports ports readies o =
-    let G : ℕ → ℕ → ℕ → Type 0 = λ i j rank. ((j < n) × IsFreeOutput before j) × IsChosen n first asks ready places j (record { rank = rank; input = i }) in
+pub AreOpen-from_offers : (n : ℕ) (first_kind : Kind) (asks : Asks) (ready : List ℕ) (places : Places) (before : List (Option Fed)) (offers : Offers) → AreAtPorts places → places.ports ≡ n → AreReady n first_kind before ready → AreOffers (λ i j rank. ((j < n) × IsFreeOutput before j) × IsChosen n first_kind asks ready places j (record { rank = rank; input = i })) offers → AreOpen n first_kind before offers
+AreOpen-from_offers n first_kind asks ready places before offers at_ports ports readies o =
+    let G : ℕ → ℕ → ℕ → Type 0 = λ i j rank. ((j < n) × IsFreeOutput before j) × IsChosen n first_kind asks ready places j (record { rank = rank; input = i }) in
     record {
       each = λ i has.
           let s = o.some i has in
@@ -171,8 +171,8 @@ AreOpen-from_offers n first asks ready places before offers at_ports ports readi
           let f : Choice = record { rank = slice_index offers.ranks i; input = i } in
           let g : Choice = record { rank = slice_index offers.ranks k; input = k } in
           let j_in = p.0.0 in
-          let from_in = from_of-lt places at_ports j (level_at f.rank) (kind_at first f.rank) (omega arith) (level_at-lt f.rank p.1.rank_in) in
-          ap (λ (c : Choice). c.input) (IsChosen-only n first asks ready places j f g (omega arith) p.1 q.1);
+          let from_in = from_of-lt places at_ports j (level_at f.rank) (kind_at first_kind f.rank) (omega arith) (level_at-lt f.rank p.1.rank_in) in
+          ap (λ (c : Choice). c.input) (IsChosen-only n first_kind asks ready places j f g (omega arith) p.1 q.1);
     }
 
 -- the outputs that have chosen are those that no longer wait

@@ -106,13 +106,13 @@ length-map-inputs [] = refl
 length-map-inputs (step ∷ steps) = ap suc (length-map-inputs steps)
 
 -- the pointers of the level move as in iSLIP
-AreMoved-islip : (n t level : ℕ) (rows : List Row) (first matched : List (Option Fed)) (before after : Places) → ArePairsOf level first → AreMoved n t rows first matched before after → islip_slots.AreMoved n (inputs_of first) (pointers_of level before) (pointers_of level after)
-AreMoved-islip n t level rows first matched before after are moved =
+AreMoved-islip : (n t level : ℕ) (rows : List Row) (first_match matched : List (Option Fed)) (before after : Places) → ArePairsOf level first_match → AreMoved n t rows first_match matched before after → islip_slots.AreMoved n (inputs_of first_match) (pointers_of level before) (pointers_of level after)
+AreMoved-islip n t level rows first_match matched before after are moved =
     record {
-      granted = λ i j f. moved.granted i j level ((feeds level first are i j).0 f);
-      accepted = λ i j f. moved.accepted i j level ((feeds level first are i j).0 f);
-      grant_stays = λ j none. moved.grant_stays j level (λ i s. none i ((feeds level first are i j).1 s));
-      accept_stays = λ i none. moved.accept_stays i level (λ j s. none j ((feeds level first are i j).1 s));
+      granted = λ i j f. moved.granted i j level ((feeds level first_match are i j).0 f);
+      accepted = λ i j f. moved.accepted i j level ((feeds level first_match are i j).0 f);
+      grant_stays = λ j none. moved.grant_stays j level (λ i s. none i ((feeds level first_match are i j).1 s));
+      accept_stays = λ i none. moved.accept_stays i level (λ j s. none j ((feeds level first_match are i j).1 s));
     }
 
 pub IsSlot-islip : (n rounds t level : ℕ) (rows : List Row) (before : Places) (a : Decision) → level < LEVELS → n ≤ MAX_PORTS → AreUnicastOf level rows → IsSlot n rounds t rows before a → islip_slots.IsSlot n rounds (unicast_of level rows) (pointers_of level before) (inputs_of a.matched) a.numbers (pointers_of level a.places)
@@ -125,7 +125,7 @@ IsSlot-islip n rounds t level rows before a level_in size unicast slot =
     let pointers = pointers_of level before in
     let Chain : List (Option ℕ) → Type 0 = λ m. islip.AreRounds n asks pointers m (map inputs_of steps) in
     let Moved : List (Option ℕ) → Type 0 = λ m. islip_slots.AreMoved n m pointers (pointers_of level a.places) in
-    let first : inputs_of (slice_index_or steps 0 start) ≡ slice_index_or (map inputs_of steps) 0 islip_slots.unmatched = sym (first-map start steps) ∙ ap (slice_index_or (map inputs_of steps) 0) none in
+    let first_match : inputs_of (slice_index_or steps 0 start) ≡ slice_index_or (map inputs_of steps) 0 islip_slots.unmatched = sym (first-map start steps) ∙ ap (slice_index_or (map inputs_of steps) 0) none in
     let moved = AreMoved-islip n t level rows (slice_index_or steps 0 start) a.matched before a.places (first_pairs n t level rows before level_in unicast size start steps are slot.chain) slot.moved in
     let counts = same_counts n t level rows before level_in unicast size start steps are slot.chain in
     record {
@@ -134,5 +134,5 @@ IsSlot-islip n rounds t level rows before a level_in size unicast slot =
       chain = subst Chain none (AreRounds-islip n t level rows before level_in unicast size start steps are slot.chain);
       result = ap inputs_of slot.result ∙ (last-map start steps ∙ ap (λ m. last_of m (map inputs_of steps)) none);
       numbered = slot.numbered ∙ ap (λ c. numbers_of (added_from 0 c)) (sym counts);
-      moved = subst Moved first moved;
+      moved = subst Moved first_match moved;
     }

@@ -62,26 +62,26 @@ table_stays place table whole level port e = elim (cases_lt level LEVELS) [
   ]
 ]
 
-module _ (n : ℕ) (first : List (Option Fed)) (whole : IsMatch n first) where
+module _ (n : ℕ) (first_match : List (Option Fed)) (whole : IsMatch n first_match) where
   -- the input that output j has as unicast of the level, and the output that input i has
-  pub input_of : (i j level : ℕ) → Serves first i j level Uni → find (λ x. is_fed x level Uni (fed_of first j)) (ports n) ≡ Some i
+  pub input_of : (i j level : ℕ) → Serves first_match i j level Uni → find (λ x. is_fed x level Uni (fed_of first_match j)) (ports n) ≡ Some i
   input_of i j level s =
-      finds_port (λ x. is_fed x level Uni (fed_of first j)) n i (whole.input_in i j level Uni s) ((Decides-fed i level Uni (fed_of first j)).1 s)
-      (λ y h. let once = Serves-once first j y i level level Uni Uni ((Decides-fed y level Uni (fed_of first j)).0 h) s in once.0)
+      finds_port (λ x. is_fed x level Uni (fed_of first_match j)) n i (whole.input_in i j level Uni s) ((Decides-fed i level Uni (fed_of first_match j)).1 s)
+      (λ y h. let once = Serves-once first_match j y i level level Uni Uni ((Decides-fed y level Uni (fed_of first_match j)).0 h) s in once.0)
 
-  pub no_input_of : (j level : ℕ) → ((i : ℕ) → Serves first i j level Uni → ⊥) → find (λ x. is_fed x level Uni (fed_of first j)) (ports n) ≡ None
-  no_input_of j level none = finds_no_port (λ x. is_fed x level Uni (fed_of first j)) n (λ y h. none y ((Decides-fed y level Uni (fed_of first j)).0 h))
+  pub no_input_of : (j level : ℕ) → ((i : ℕ) → Serves first_match i j level Uni → ⊥) → find (λ x. is_fed x level Uni (fed_of first_match j)) (ports n) ≡ None
+  no_input_of j level none = finds_no_port (λ x. is_fed x level Uni (fed_of first_match j)) n (λ y h. none y ((Decides-fed y level Uni (fed_of first_match j)).0 h))
 
-  pub fed_in : (i j level : ℕ) → Serves first i j level Uni → j < n
-  fed_in i j level s = let lt = fed_of-lt first j (record { input = i; level = level; kind = Uni }) s in let size = whole.count in omega arith
+  pub fed_in : (i j level : ℕ) → Serves first_match i j level Uni → j < n
+  fed_in i j level s = let lt = fed_of-lt first_match j (record { input = i; level = level; kind = Uni }) s in let size = whole.count in omega arith
 
-  pub output_of : (i j level : ℕ) → Serves first i j level Uni → find (λ y. is_fed i level Uni (fed_of first y)) (ports n) ≡ Some j
+  pub output_of : (i j level : ℕ) → Serves first_match i j level Uni → find (λ y. is_fed i level Uni (fed_of first_match y)) (ports n) ≡ Some j
   output_of i j level s =
-      finds_port (λ y. is_fed i level Uni (fed_of first y)) n j (fed_in i j level s) ((Decides-fed i level Uni (fed_of first j)).1 s)
-      (λ y h. elim (whole.once i y level Uni j level Uni ((Decides-fed i level Uni (fed_of first y)).0 h) s) [ inl same ↦ same | inr multi ↦ let never = multi.1 in absurd (cc) ])
+      finds_port (λ y. is_fed i level Uni (fed_of first_match y)) n j (fed_in i j level s) ((Decides-fed i level Uni (fed_of first_match j)).1 s)
+      (λ y h. elim (whole.once i y level Uni j level Uni ((Decides-fed i level Uni (fed_of first_match y)).0 h) s) [ inl same ↦ same | inr multi ↦ let never = multi.1 in absurd (cc) ])
 
-  pub no_output_of : (i level : ℕ) → ((j : ℕ) → Serves first i j level Uni → ⊥) → find (λ y. is_fed i level Uni (fed_of first y)) (ports n) ≡ None
-  no_output_of i level none = finds_no_port (λ y. is_fed i level Uni (fed_of first y)) n (λ y h. none y ((Decides-fed i level Uni (fed_of first y)).0 h))
+  pub no_output_of : (i level : ℕ) → ((j : ℕ) → Serves first_match i j level Uni → ⊥) → find (λ y. is_fed i level Uni (fed_of first_match y)) (ports n) ≡ None
+  no_output_of i level none = finds_no_port (λ y. is_fed i level Uni (fed_of first_match y)) n (λ y h. none y ((Decides-fed i level Uni (fed_of first_match y)).0 h))
 
 module _ (n : ℕ) (rows : List Row) (matched : List (Option Fed)) (before : Places) (within : AreWithin n rows) (at_ports : AreAtPorts before) (ports_are : before.ports ≡ n) where
   -- a head, as the test sees it

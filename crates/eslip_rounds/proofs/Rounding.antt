@@ -37,44 +37,44 @@ module _ (n t : ℕ) (rows : List Row) (places : Places) (asks : Asks) (before a
 
   accepts_at : (i j : ℕ) → Has step.offers.granted i → Takes (kind_at (preferred t) (slice_index step.offers.ranks i)) n (accept_of places i (level_at (slice_index step.offers.ranks i))) (Has (slice_index step.offers.outputs i)) j → Accepts n t rows places before i j (level_at (slice_index step.offers.ranks i)) (kind_at (preferred t) (slice_index step.offers.ranks i))
   accepts_at i j has taken =
-      let first = preferred t in
+      let first_kind = preferred t in
       let rank = slice_index step.offers.ranks i in
       let P = λ (m : ℕ) (k : Kind). (y : ℕ) × Grants n t rows places before i y m k in
       let s = step.offered.some i has in
       record {
-        best = IsBest-from_rank t P rank (s.0, granted i s.0 rank s.1) (λ m k p. (step.offered.least i p.0 (rank_of first m k) (given i p.0 m k p.1)).1);
-        taken = (Takes-along (kind_at first rank) n (accept_of places i (level_at rank)) (Has (slice_index step.offers.outputs i)) (λ y. Grants n t rows places before i y (level_at rank) (kind_at first rank)) (listed i has) j).0 taken;
+        best = IsBest-from_rank t P rank (s.0, granted i s.0 rank s.1) (λ m k p. (step.offered.least i p.0 (rank_of first_kind m k) (given i p.0 m k p.1)).1);
+        taken = (Takes-along (kind_at first_kind rank) n (accept_of places i (level_at rank)) (Has (slice_index step.offers.outputs i)) (λ y. Grants n t rows places before i y (level_at rank) (kind_at first_kind rank)) (listed i has) j).0 taken;
       }
 
   Accepts-from_taken : (i j l : ℕ) (k : Kind) → IsTaken n (preferred t) places step.offers i j l k → Accepts n t rows places before i j l k
   Accepts-from_taken i j l k taken =
-      let first = preferred t in
+      let first_kind = preferred t in
       let rank = slice_index step.offers.ranks i in
       let P : ℕ → Type 0 = λ m. Takes k n (accept_of places i m) (Has (slice_index step.offers.outputs i)) j in
       let Q : Kind → Type 0 = λ q. Takes q n (accept_of places i (level_at rank)) (Has (slice_index step.offers.outputs i)) j in
       let a = accepts_at i j taken.granted (subst Q taken.kind_is (subst P taken.level_is taken.taken)) in
-      let R : ℕ → Type 0 = λ m. Accepts n t rows places before i j m (kind_at first rank) in
+      let R : ℕ → Type 0 = λ m. Accepts n t rows places before i j m (kind_at first_kind rank) in
       let S : Kind → Type 0 = λ q. Accepts n t rows places before i j l q in
       subst S (sym taken.kind_is) (subst R (sym taken.level_is) a)
 
   taken_from_accepts : (i j l : ℕ) (k : Kind) → Accepts n t rows places before i j l k → IsTaken n (preferred t) places step.offers i j l k
   taken_from_accepts i j l k a =
-      let first = preferred t in
+      let first_kind = preferred t in
       let rank = slice_index step.offers.ranks i in
       let P : ℕ → Kind → Type 0 = λ m q. (y : ℕ) × Grants n t rows places before i y m q in
       let there = a.best.there in
-      let low = step.offered.least i there.0 (rank_of first l k) (given i there.0 l k there.1) in
+      let low = step.offered.least i there.0 (rank_of first_kind l k) (given i there.0 l k there.1) in
       let s = step.offered.some i low.0 in
-      let high = IsBest-to_rank t P l k a.best (level_at rank) (kind_at first rank) (s.0, granted i s.0 rank s.1) in
-      let at = rank_of-at first rank in
-      let same : rank ≡ rank_of first l k = let below = low.1 in omega arith in
-      let level_is : l ≡ level_at rank = sym (level_at-rank_of first l k) ∙ ap level_at (sym same) in
-      let kind_is : k ≡ kind_at first rank = sym (kind_at-rank_of first l k) ∙ ap (kind_at first) (sym same) in
+      let high = IsBest-to_rank t P l k a.best (level_at rank) (kind_at first_kind rank) (s.0, granted i s.0 rank s.1) in
+      let at = rank_of-at first_kind rank in
+      let same : rank ≡ rank_of first_kind l k = let below = low.1 in omega arith in
+      let level_is : l ≡ level_at rank = sym (level_at-rank_of first_kind l k) ∙ ap level_at (sym same) in
+      let kind_is : k ≡ kind_at first_kind rank = sym (kind_at-rank_of first_kind l k) ∙ ap (kind_at first_kind) (sym same) in
       let G : (y : ℕ) → Grants n t rows places before i y l k ↔ Has (slice_index step.offers.outputs i) y = λ y.
       let e = listed i low.0 y in
       let R : ℕ → Type 0 = λ m. Grants n t rows places before i y m k in
       let S : Kind → Type 0 = λ q. Grants n t rows places before i y (level_at rank) q in
-      let T : ℕ → Type 0 = λ m. Grants n t rows places before i y m (kind_at first rank) in
+      let T : ℕ → Type 0 = λ m. Grants n t rows places before i y m (kind_at first_kind rank) in
       let U : Kind → Type 0 = λ q. Grants n t rows places before i y l q in
       (λ g. e.1 (subst S kind_is (subst R level_is g)), λ h. subst U (sym kind_is) (subst T (sym level_is) (e.0 h))) in
       record {

@@ -24,15 +24,15 @@ pub AreRounds-keep : (n t : ℕ) (rows : List Row) (places : Places) (before : L
 AreRounds-keep n t rows places before [] chain i j level kind s = s
 AreRounds-keep n t rows places before (step ∷ steps) chain i j level kind s = AreRounds-keep n t rows places step steps chain.1 i j level kind ((chain.0.pairs i j level kind).1 (inl s))
 
--- k rounds from nothing matched made this match, `first` being the match after the first of them
-pub record IsRun (n k t : ℕ) (rows : List Row) (places : Places) (first now : List (Option Fed)) (matched : ℕ) (numbers : RoundsUsed) : Type 0 where
+-- k rounds from nothing matched made this match, `first_match` being the match after the first of them
+pub record IsRun (n k t : ℕ) (rows : List Row) (places : Places) (first_match now : List (Option Fed)) (matched : ℕ) (numbers : RoundsUsed) : Type 0 where
   pub steps : List (List (Option Fed))
   pub count : length steps ≡ k
   pub some : 0 < length steps
   pub chain : AreRounds n t rows places (unmatched n) steps
   pub result : now ≡ last_of (unmatched n) steps
-  pub opening : first ≡ slice_index_or steps 0 (unmatched n)
-  pub kept : (i j level : ℕ) (kind : Kind) → Serves first i j level kind → Serves now i j level kind
+  pub opening : first_match ≡ slice_index_or steps 0 (unmatched n)
+  pub kept : (i j level : ℕ) (kind : Kind) → Serves first_match i j level kind → Serves now i j level kind
   pub counted : matched ≡ matched_count now
   pub numbered : numbers ≡ slot_numbers steps
 
@@ -52,9 +52,9 @@ module _ (n t : ℕ) (rows : List Row) (places : Places) where
   }
 
   -- after one more round
-  pub IsRun-next : (k : ℕ) (first now after : List (Option Fed)) (matched later : ℕ) (numbers more : RoundsUsed) → IsRun n k t rows places first now matched numbers → IsRound n t rows places now after → later ≡ matched_count after
-      → ((each : List ℕ) → length each ≡ k → numbers ≡ numbers_of each → more ≡ numbers_of (each ++ (later - matched) ∷ [])) → IsRun n (k + 1) t rows places first after later more
-  IsRun-next k first now after matched later numbers more run round counted numbered =
+  pub IsRun-next : (k : ℕ) (first_match now after : List (Option Fed)) (matched later : ℕ) (numbers more : RoundsUsed) → IsRun n k t rows places first_match now matched numbers → IsRound n t rows places now after → later ≡ matched_count after
+      → ((each : List ℕ) → length each ≡ k → numbers ≡ numbers_of each → more ≡ numbers_of (each ++ (later - matched) ∷ [])) → IsRun n (k + 1) t rows places first_match after later more
+  IsRun-next k first_match now after matched later numbers more run round counted numbered =
       let each = added_from 0 (map matched_count run.steps) in
       let long : length each ≡ k = length-added_from 0 (map matched_count run.steps) ∙ (length-map_counts matched_count run.steps ∙ run.count) in
       record {
@@ -77,31 +77,31 @@ module _ (n t : ℕ) (rows : List Row) (places : Places) where
 
 -- after k rounds the match, its numbers and the set of outputs that the first round matched
 pub record IsDecided (n k t : ℕ) (rows : List Row) (places : Places) (now : List (Option Fed)) (matched : ℕ) (numbers : RoundsUsed) (met : ℕ) : Type 0 where
-  pub first : List (Option Fed)
-  pub run : IsRun n k t rows places first now matched numbers
+  pub first_match : List (Option Fed)
+  pub run : IsRun n k t rows places first_match now matched numbers
   pub whole : IsMatch n now
-  pub mets : (j : ℕ) → Has met j ↔ ((j < n) × (IsFreeOutput first j → ⊥))
+  pub mets : (j : ℕ) → Has met j ↔ ((j < n) × (IsFreeOutput first_match j → ⊥))
   pub used : numbers.used ≤ k
 
 module _ (n k t : ℕ) (rows : List Row) (places : Places) (now : List (Option Fed)) (matched : ℕ) (numbers : RoundsUsed) (met : ℕ) (decided : IsDecided n k t rows places now matched numbers met) where
   -- the unicast pairs of the first round are those of the outputs that it matched
-  pub Serves-met : (i j level : ℕ) → (Has met j × Serves now i j level Uni) ↔ Serves decided.first i j level Uni
+  pub Serves-met : (i j level : ℕ) → (Has met j × Serves now i j level Uni) ↔ Serves decided.first_match i j level Uni
   Serves-met i j level = (
-    λ p. go (fed_of decided.first j) refl p.0 p.1,
+    λ p. go (fed_of decided.first_match j) refl p.0 p.1,
     λ s.
         let f : Fed = record { input = i; level = level; kind = Uni } in
         let kept = decided.run.kept i j level Uni s in
         let below : j < n = let lt = fed_of-lt now j f kept in let size = decided.whole.count in omega arith in
         ((decided.mets j).1 (below, λ free. none-some f (sym free ∙ s)), kept),
   ) where
-    go : (o : Option Fed) → fed_of decided.first j ≡ o → Has met j → Serves now i j level Uni → Serves decided.first i j level Uni
+    go : (o : Option Fed) → fed_of decided.first_match j ≡ o → Has met j → Serves now i j level Uni → Serves decided.first_match i j level Uni
     go None e has s = absurd (((decided.mets j).0 has).1 e)
     go (Some f) e has s =
-        let there = Serves-from decided.first j f e in
+        let there = Serves-from decided.first_match j f e in
         let kept = decided.run.kept f.input j f.level f.kind there in
         let once = Serves-once now j f.input i f.level level f.kind Uni kept s in
-        let P : ℕ → Type 0 = λ x. Serves decided.first x j level Uni in
-        subst P once.0 (Serves-along decided.first f.input j f.level level f.kind Uni once.1 once.2 there)
+        let P : ℕ → Type 0 = λ x. Serves decided.first_match x j level Uni in
+        subst P once.0 (Serves-along decided.first_match f.input j f.level level f.kind Uni once.1 once.2 there)
 
 -- no unicast input has two outputs
 pub once_unicast : (n : ℕ) (matched : List (Option Fed)) → IsMatch n matched → (i j k level : ℕ) → Serves matched i j level Uni → Serves matched i k level Uni → j ≡ k

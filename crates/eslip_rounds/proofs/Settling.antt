@@ -20,12 +20,12 @@ use Rattle.eslip_rounds.proofs.Unique.{ArePointing-moved, IsSlot-only}
 use Rattle.eslip_rounds.proofs.Accepting.{IsRound-round_of}
 use Rattle.eslip_rounds.proofs.Placing.{IsTable-table_of, table_at, table_stays, input_of, no_input_of, fed_in, output_of, no_output_of, passed_some, passed_none}
 
-module _ (n t : ℕ) (rows : List Row) (first matched : List (Option Fed)) (before : Places) (within : AreWithin n rows) (whole : IsMatch n first) (at_ports : AreAtPorts before) (ports_are : before.ports ≡ n) where
-  shared_at : (level : ℕ) → level < LEVELS → shared_of (places_after n rows first matched before) level ≡ moved_by n (passed n rows matched before level) (shared_of before level)
+module _ (n t : ℕ) (rows : List Row) (first_match matched : List (Option Fed)) (before : Places) (within : AreWithin n rows) (whole : IsMatch n first_match) (at_ports : AreAtPorts before) (ports_are : before.ports ≡ n) where
+  shared_at : (level : ℕ) → level < LEVELS → shared_of (places_after n rows first_match matched before) level ≡ moved_by n (passed n rows matched before level) (shared_of before level)
   unfolding places_after
   shared_at level level_in = get_or-map-range_with_len (λ l. moved_by n (passed n rows matched before l) (shared_of before l)) 0 LEVELS level level 0 level_in (omega arith)
 
-  shared_levels : length ((places_after n rows first matched before).shared) ≡ LEVELS
+  shared_levels : length ((places_after n rows first_match matched before).shared) ≡ LEVELS
   unfolding places_after
   shared_levels = length-map-range_with_len (λ l. moved_by n (passed n rows matched before l) (shared_of before l)) 0 LEVELS
 
@@ -33,23 +33,23 @@ module _ (n t : ℕ) (rows : List Row) (first matched : List (Option Fed)) (befo
   fits x x_in = let size = at_ports.size in omega arith
 
   -- the pointers after the slot
-  pub AreMoved-places_after : AreMoved n t rows first matched before (places_after n rows first matched before)
+  pub AreMoved-places_after : AreMoved n t rows first_match matched before (places_after n rows first_match matched before)
   unfolding places_after
   AreMoved-places_after =
-      let grants : ℕ → ℕ → ℕ = λ level j. moved_by n (find (λ i. is_fed i level Uni (fed_of first j)) (ports n)) (grant_of before j level) in
-      let accepts : ℕ → ℕ → ℕ = λ level i. moved_by n (find (λ j. is_fed i level Uni (fed_of first j)) (ports n)) (accept_of before i level) in
+      let grants : ℕ → ℕ → ℕ = λ level j. moved_by n (find (λ i. is_fed i level Uni (fed_of first_match j)) (ports n)) (grant_of before j level) in
+      let accepts : ℕ → ℕ → ℕ = λ level i. moved_by n (find (λ j. is_fed i level Uni (fed_of first_match j)) (ports n)) (accept_of before i level) in
       record {
         ports = refl;
         granted = λ i j level s.
-            table_at grants level j (whole.level_in i j level Uni s) (fits j (fed_in n first whole i j level s))
-            ∙ ap (λ o. moved_by n o (grant_of before j level)) (input_of n first whole i j level s);
+            table_at grants level j (whole.level_in i j level Uni s) (fits j (fed_in n first_match whole i j level s))
+            ∙ ap (λ o. moved_by n o (grant_of before j level)) (input_of n first_match whole i j level s);
         accepted = λ i j level s.
             table_at accepts level i (whole.level_in i j level Uni s) (fits i (whole.input_in i j level Uni s))
-            ∙ ap (λ o. moved_by n o (accept_of before i level)) (output_of n first whole i j level s);
+            ∙ ap (λ o. moved_by n o (accept_of before i level)) (output_of n first_match whole i j level s);
         grant_stays = λ j level none.
-            table_stays grants before.grant at_ports.grant_table level j (ap (λ o. moved_by n o (grant_of before j level)) (no_input_of n first whole j level none));
+            table_stays grants before.grant at_ports.grant_table level j (ap (λ o. moved_by n o (grant_of before j level)) (no_input_of n first_match whole j level none));
         accept_stays = λ i level none.
-            table_stays accepts before.accept at_ports.accept_table level i (ap (λ o. moved_by n o (accept_of before i level)) (no_output_of n first whole i level none));
+            table_stays accepts before.accept at_ports.accept_table level i (ap (λ o. moved_by n o (accept_of before i level)) (no_output_of n first_match whole i level none));
         passed = λ i level head done.
             let level_in : level < LEVELS = within.levels i head.below level head.member.0 Multi head.member.1 in
             shared_at level level_in ∙ ap (λ o. moved_by n o (shared_of before level)) (passed_some n rows matched before within at_ports ports_are level level_in i head done);
@@ -57,25 +57,25 @@ module _ (n t : ℕ) (rows : List Row) (first matched : List (Option Fed)) (befo
             elim (cases_lt level LEVELS) [
               | inl level_in ↦ shared_at level level_in ∙ ap (λ o. moved_by n o (shared_of before level)) (passed_none n rows matched before within at_ports ports_are level level_in none)
               | inr above ↦
-                  get_or_past ((places_after n rows first matched before).shared) level 0 (let long = shared_levels in omega arith)
+                  get_or_past ((places_after n rows first_match matched before).shared) level 0 (let long = shared_levels in omega arith)
                   ∙ sym (get_or_past before.shared level 0 (let long = at_ports.shared_levels in omega arith))
             ];
       }
 
   -- and they are at ports
-  pub AreAtPorts-places_after : AreAtPorts (places_after n rows first matched before)
+  pub AreAtPorts-places_after : AreAtPorts (places_after n rows first_match matched before)
   unfolding places_after
   AreAtPorts-places_after =
-      let after = places_after n rows first matched before in
+      let after = places_after n rows first_match matched before in
       let some : 0 < n = let h = at_ports.some in omega arith in
       record {
         some = at_ports.some;
         size = at_ports.size;
-        grant_table = IsTable-table_of (λ level j. moved_by n (find (λ i. is_fed i level Uni (fed_of first j)) (ports n)) (grant_of before j level));
-        accept_table = IsTable-table_of (λ level i. moved_by n (find (λ j. is_fed i level Uni (fed_of first j)) (ports n)) (accept_of before i level));
+        grant_table = IsTable-table_of (λ level j. moved_by n (find (λ i. is_fed i level Uni (fed_of first_match j)) (ports n)) (grant_of before j level));
+        accept_table = IsTable-table_of (λ level i. moved_by n (find (λ j. is_fed i level Uni (fed_of first_match j)) (ports n)) (accept_of before i level));
         shared_levels = shared_levels;
         pointing = λ level level_in.
-            let here : ArePointing n level after = ArePointing-moved n t rows first matched before within whole.count at_ports ports_are some after AreMoved-places_after level level_in in
+            let here : ArePointing n level after = ArePointing-moved n t rows first_match matched before within whole.count at_ports ports_are some after AreMoved-places_after level level_in in
             let P : ℕ → Type 0 = λ k. ArePointing k level after in
             subst P (sym ports_are) here;
       }

@@ -36,13 +36,13 @@ takes_one : (kind : Kind) (n from offered j k : ℕ) → from < n → kind ≡ U
 takes_one Uni n from offered j k from_in e a b = IsFirstFrom-only n from (Has offered) j k from_in a b
 takes_one Multi n from offered j k from_in e a b = absurd (cc)
 
-module _ (n : ℕ) (first : Kind) (places : Places) (offers : Offers) (i : ℕ) (old : List (Option Fed)) (whole : IsMatch n old) (opens : IsOpen n first old offers i) (level from taken : ℕ) (kind : Kind) (level_is : level ≡ level_at (slice_index offers.ranks i)) (kind_is : kind ≡ kind_at first (slice_index offers.ranks i)) (from_is : from ≡ accept_of places i level) (from_in : from < n) (takes : (j : ℕ) → Has taken j ↔ Takes kind n from (Has (slice_index offers.outputs i)) j) where
+module _ (n : ℕ) (first_kind : Kind) (places : Places) (offers : Offers) (i : ℕ) (old : List (Option Fed)) (whole : IsMatch n old) (opens : IsOpen n first_kind old offers i) (level from taken : ℕ) (kind : Kind) (level_is : level ≡ level_at (slice_index offers.ranks i)) (kind_is : kind ≡ kind_at first_kind (slice_index offers.ranks i)) (from_is : from ≡ accept_of places i level) (from_in : from < n) (takes : (j : ℕ) → Has taken j ↔ Takes kind n from (Has (slice_index offers.outputs i)) j) where
   offered : (j : ℕ) → Has taken j → Has (slice_index offers.outputs i) j
   offered j has = taken_from kind n from (Has (slice_index offers.outputs i)) j ((takes j).0 has)
 
   ready_here : MayAsk old level kind i
   ready_here =
-      let P : ℕ → Type 0 = λ l. MayAsk old l (kind_at first (slice_index offers.ranks i)) i in
+      let P : ℕ → Type 0 = λ l. MayAsk old l (kind_at first_kind (slice_index offers.ranks i)) i in
       let Q : Kind → Type 0 = λ k. MayAsk old level k i in
       subst Q (sym kind_is) (subst P (sym level_is) opens.ready)
 
@@ -57,7 +57,7 @@ module _ (n : ℕ) (first : Kind) (places : Places) (offers : Offers) (i : ℕ) 
         ready = ready_here;
       }
 
-  pub pairs-taken : (new : List (Option Fed)) → Has offers.granted i → level < LEVELS → length new ≡ length old → ((j : ℕ) → Has taken j → Serves new i j level kind) → ((j : ℕ) → (Has taken j → ⊥) → fed_of new j ≡ fed_of old j) → (x j l : ℕ) (k : Kind) → Serves new x j l k ↔ (Serves old x j l k ⊎ ((x ≡ i) × IsTaken n first places offers i j l k))
+  pub pairs-taken : (new : List (Option Fed)) → Has offers.granted i → level < LEVELS → length new ≡ length old → ((j : ℕ) → Has taken j → Serves new i j level kind) → ((j : ℕ) → (Has taken j → ⊥) → fed_of new j ≡ fed_of old j) → (x j l : ℕ) (k : Kind) → Serves new x j l k ↔ (Serves old x j l k ⊎ ((x ≡ i) × IsTaken n first_kind places offers i j l k))
   pairs-taken new granted level_in count fed stays x j l k =
       let added : IsAdded old new i taken level kind = record { count = count; fed = fed; stays = stays } in
       let step = Serves-added n old new i taken level kind whole MayAdd-taken opens.input_in level_in added x j l k in
@@ -65,9 +65,9 @@ module _ (n : ℕ) (first : Kind) (places : Places) (offers : Offers) (i : ℕ) 
         λ s. elim (step.0 s) [
           | inl before ↦ inl before
           | inr p ↦
-              let here : IsTaken n first places offers i j level kind = record { granted = granted; level_is = level_is; kind_is = kind_is; taken = subst T from_is ((takes j).0 p.1) } in
-              let P : ℕ → Type 0 = λ m. IsTaken n first places offers i j m kind in
-              let Q : Kind → Type 0 = λ q. IsTaken n first places offers i j l q in
+              let here : IsTaken n first_kind places offers i j level kind = record { granted = granted; level_is = level_is; kind_is = kind_is; taken = subst T from_is ((takes j).0 p.1) } in
+              let P : ℕ → Type 0 = λ m. IsTaken n first_kind places offers i j m kind in
+              let Q : Kind → Type 0 = λ q. IsTaken n first_kind places offers i j l q in
               inr (p.0, subst Q (sym p.3) (subst P (sym p.2) here))
         ],
         λ s. step.1 (elim s [
@@ -82,13 +82,13 @@ module _ (n : ℕ) (first : Kind) (places : Places) (offers : Offers) (i : ℕ) 
         ]),
       )
 
-module _ (n : ℕ) (first : Kind) (places : Places) (offers : Offers) (old now : List (Option Fed)) (rest : ℕ) (opens : AreOpen n first old offers) (pairs : (x j l : ℕ) (k : Kind) → Serves now x j l k ↔ (Serves old x j l k ⊎ ((Has rest x → ⊥) × IsTaken n first places offers x j l k))) where
+module _ (n : ℕ) (first_kind : Kind) (places : Places) (offers : Offers) (old now : List (Option Fed)) (rest : ℕ) (opens : AreOpen n first_kind old offers) (pairs : (x j l : ℕ) (k : Kind) → Serves now x j l k ↔ (Serves old x j l k ⊎ ((Has rest x → ⊥) × IsTaken n first_kind places offers x j l k))) where
   -- what an input that waits was matched with before, it is matched with now
   back : (i j l : ℕ) (k : Kind) → Has rest i → Serves now i j l k → Serves old i j l k
   back i j l k has s = elim ((pairs i j l k).0 s) [ inl before ↦ before | inr p ↦ absurd (p.0 has) ]
 
   -- what an input that waits is offered may still be taken
-  pub IsOpen-waiting : (i : ℕ) → Has rest i → Has offers.granted i → IsOpen n first now offers i
+  pub IsOpen-waiting : (i : ℕ) → Has rest i → Has offers.granted i → IsOpen n first_kind now offers i
   IsOpen-waiting i has granted =
       let o = opens.each i granted in
       record {
@@ -119,9 +119,9 @@ module _ (n : ℕ) (first : Kind) (places : Places) (offers : Offers) (old now :
       }
 
   -- one input more has taken
-  pub pairs-more : (i later : ℕ) (after : List (Option Fed)) → Has rest i → ((x : ℕ) → Has later x ↔ ((x ≡ i → ⊥) × Has rest x)) → ((x j l : ℕ) (k : Kind) → Serves after x j l k ↔ (Serves now x j l k ⊎ ((x ≡ i) × IsTaken n first places offers i j l k))) → (x j l : ℕ) (k : Kind) → Serves after x j l k ↔ (Serves old x j l k ⊎ ((Has later x → ⊥) × IsTaken n first places offers x j l k))
+  pub pairs-more : (i later : ℕ) (after : List (Option Fed)) → Has rest i → ((x : ℕ) → Has later x ↔ ((x ≡ i → ⊥) × Has rest x)) → ((x j l : ℕ) (k : Kind) → Serves after x j l k ↔ (Serves now x j l k ⊎ ((x ≡ i) × IsTaken n first_kind places offers i j l k))) → (x j l : ℕ) (k : Kind) → Serves after x j l k ↔ (Serves old x j l k ⊎ ((Has later x → ⊥) × IsTaken n first_kind places offers x j l k))
   pairs-more i later after has fewer step x j l k =
-      let P : ℕ → Type 0 = λ y. IsTaken n first places offers y j l k in (
+      let P : ℕ → Type 0 = λ y. IsTaken n first_kind places offers y j l k in (
         λ s. elim ((step x j l k).0 s) [
           | inl before ↦ elim ((pairs x j l k).0 before) [ inl o ↦ inl o | inr p ↦ inr (λ h. p.0 ((fewer x).0 h).1, p.1) ]
           | inr p ↦ inr (λ h. ((fewer x).0 h).0 p.0, subst P (sym p.0) p.1)

@@ -61,12 +61,12 @@ fed_by matched j level = go (fed_of matched j) refl where
         other (subst (λ x. Serves matched x j level Uni) (sym input) s))
   ]
 
-module _ (n t : ℕ) (rows : List Row) (first matched : List (Option Fed)) (before : Places) (within : AreWithin n rows) (size : length first ≡ n) (at_ports : AreAtPorts before) (ports : before.ports ≡ n) (some : 0 < n) where
+module _ (n t : ℕ) (rows : List Row) (first_match matched : List (Option Fed)) (before : Places) (within : AreWithin n rows) (size : length first_match ≡ n) (at_ports : AreAtPorts before) (ports : before.ports ≡ n) (some : 0 < n) where
   -- what input i feeds as unicast of the level, if anything
-  feeds : (i level : ℕ) → ((j : ℕ) × Serves first i j level Uni) ⊎ ((j : ℕ) → Serves first i j level Uni → ⊥)
-  feeds i level = elim (some_below (λ j. Serves first i j level Uni) (λ j. Serves-decides first i j level Uni) n) [
+  feeds : (i level : ℕ) → ((j : ℕ) × Serves first_match i j level Uni) ⊎ ((j : ℕ) → Serves first_match i j level Uni → ⊥)
+  feeds i level = elim (some_below (λ j. Serves first_match i j level Uni) (λ j. Serves-decides first_match i j level Uni) n) [
     | inl found ↦ inl (found.0, found.2)
-    | inr none ↦ inr (λ j s. let below : j < n = let lt = fed_of-lt first j (record { input = i; level = level; kind = Uni }) s in omega arith in none (j, below, s))
+    | inr none ↦ inr (λ j s. let below : j < n = let lt = fed_of-lt first_match j (record { input = i; level = level; kind = Uni }) s in omega arith in none (j, below, s))
   ]
 
   -- the head that a level's shared pointer passes, if it passes one
@@ -95,23 +95,23 @@ module _ (n t : ℕ) (rows : List Row) (first matched : List (Option Fed)) (befo
   ]
 
   -- one place for each pointer
-  pub AreMoved-only : (a b : Places) → AreAtPorts a → AreAtPorts b → AreMoved n t rows first matched before a → AreMoved n t rows first matched before b → a ≡ b
+  pub AreMoved-only : (a b : Places) → AreAtPorts a → AreAtPorts b → AreMoved n t rows first_match matched before a → AreMoved n t rows first_match matched before b → a ≡ b
   AreMoved-only a b x y r s =
       Places-same a b x y
       (record {
         ports = r.ports ∙ sym s.ports;
-        grant = λ j level. elim (fed_by first j level) [ inl h ↦ r.granted h.0 j level h.1 ∙ sym (s.granted h.0 j level h.1) | inr none ↦ r.grant_stays j level none ∙ sym (s.grant_stays j level none) ];
+        grant = λ j level. elim (fed_by first_match j level) [ inl h ↦ r.granted h.0 j level h.1 ∙ sym (s.granted h.0 j level h.1) | inr none ↦ r.grant_stays j level none ∙ sym (s.grant_stays j level none) ];
         accept = λ i level. elim (feeds i level) [ inl h ↦ r.accepted i h.0 level h.1 ∙ sym (s.accepted i h.0 level h.1) | inr none ↦ r.accept_stays i level none ∙ sym (s.accept_stays i level none) ];
         shared = λ level. elim (passes level) [ inl h ↦ r.passed h.0 level h.1 h.2 ∙ sym (s.passed h.0 level h.1 h.2) | inr none ↦ r.shared_stays level none ∙ sym (s.shared_stays level none) ];
       })
 
   -- after a slot the pointers are at ports again
-  pub ArePointing-moved : (after : Places) → AreMoved n t rows first matched before after → (level : ℕ) → level < LEVELS → ArePointing n level after
+  pub ArePointing-moved : (after : Places) → AreMoved n t rows first_match matched before after → (level : ℕ) → level < LEVELS → ArePointing n level after
   ArePointing-moved after r level level_in =
       let pointing = at_ports.pointing level level_in in
       let by : (x y : ℕ) → x ≡ y → y < n → x < n = λ x y e h. omega arith in
       record {
-        grant = λ j j_in. elim (fed_by first j level) [
+        grant = λ j j_in. elim (fed_by first_match j level) [
           | inl h ↦ by (grant_of after j level) ((h.0 + 1) % n) (r.granted h.0 j level h.1) (mod_below (h.0 + 1) n some)
           | inr none ↦ by (grant_of after j level) (grant_of before j level) (r.grant_stays j level none) (let lt = pointing.grant j (omega arith) in omega arith)
         ];

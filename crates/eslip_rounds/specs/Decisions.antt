@@ -19,21 +19,21 @@ use Rattle.eslip_rounds.specs.Rounds.{preferred, from_of}
 use Rattle.eslip_rounds.specs.Slots.{Decision}
 
 -- a level and a kind
-pub record Turn : Type 0 where
+pub record Rank : Type 0 where
   pub level : ℕ
   pub kind : Kind
 
--- the two turns of a level, in the order in which slot t takes them
-abbrev pub turns_at : ℕ → ℕ → List Turn
-turns_at t level = record { level = level; kind = preferred t } ∷ record { level = level; kind = other_kind (preferred t) } ∷ []
+-- the two ranks of a level, in the order in which slot t takes them
+abbrev pub ranks_at : ℕ → ℕ → List Rank
+ranks_at t level = record { level = level; kind = preferred t } ∷ record { level = level; kind = other_kind (preferred t) } ∷ []
 
--- all turns, in the order in which slot t takes them
-unfoldable pub turns : ℕ → List Turn
-turns t = flat_map (turns_at t) (range_with_len 0 LEVELS)
+-- all ranks, in the order in which slot t takes them
+unfoldable pub ranks : ℕ → List Rank
+ranks t = flat_map (ranks_at t) (range_with_len 0 LEVELS)
 
--- the first turn of slot t with the test
-abbrev pub first_turn : ℕ → (ℕ → Kind → Bool) → Option Turn
-first_turn t test = find (λ turn. test turn.level turn.kind) (turns t)
+-- the first rank of slot t with the test
+abbrev pub first_rank : ℕ → (ℕ → Kind → Bool) → Option Rank
+first_rank t test = find (λ rank. test rank.level rank.kind) (ranks t)
 
 -- the n ports in order
 abbrev pub ports : ℕ → List ℕ
@@ -71,27 +71,27 @@ is_going_on rows before i j level kind = is_kind kind Multi && (list_any (is_fed
 unfoldable pub is_request : List Row → List (Option Fed) → ℕ → ℕ → ℕ → Kind → Bool
 is_request rows before i j level kind = (not (list_any (is_from i) before) && is_asked (row_of rows i) j level kind) || is_going_on rows before i j level kind
 
--- what output j grants at a turn: of the inputs that ask it then, the first from its pointer on
-abbrev pub granted_at : ℕ → List Row → Places → List (Option Fed) → ℕ → Turn → Option Fed
-granted_at n rows places before j turn =
-    option_map (λ i. record { input = i; level = turn.level; kind = turn.kind })
-    (find (λ x. is_request rows before x j turn.level turn.kind) (ports_from n (from_of places j turn.level turn.kind)))
+-- what output j grants at a rank: of the inputs that ask it then, the first from its pointer on
+abbrev pub granted_at : ℕ → List Row → Places → List (Option Fed) → ℕ → Rank → Option Fed
+granted_at n rows places before j rank =
+    option_map (λ i. record { input = i; level = rank.level; kind = rank.kind })
+    (find (λ x. is_request rows before x j rank.level rank.kind) (ports_from n (from_of places j rank.level rank.kind)))
 
--- Grant. What output j grants: if it is free, an input of the first turn at which some input asks it
+-- Grant. What output j grants: if it is free, an input of the first rank at which some input asks it
 unfoldable pub granted : ℕ → ℕ → List Row → Places → List (Option Fed) → ℕ → Option Fed
 granted n t rows places before j =
-    if is_none (fed_of before j) then option_and_then (granted_at n rows places before j) (first_turn t (λ level kind. list_any (λ x. is_request rows before x j level kind) (ports n))) else None
+    if is_none (fed_of before j) then option_and_then (granted_at n rows places before j) (first_rank t (λ level kind. list_any (λ x. is_request rows before x j level kind) (ports n))) else None
 
 -- of the outputs with the test a unicast input takes the first from its pointer on, a multicast input all
 abbrev pub taken : Kind → ℕ → ℕ → (ℕ → Bool) → List ℕ
 taken Uni n from test = option_to_list (find test (ports_from n from))
 taken Multi n from test = filter test (ports n)
 
--- Accept. The outputs that input i takes of what is granted: outputs of the first turn at which some grants it
+-- Accept. The outputs that input i takes of what is granted: outputs of the first rank at which some grants it
 unfoldable pub accepted : ℕ → ℕ → Places → List (Option Fed) → ℕ → List ℕ
 accepted n t places grants i =
-    option_map_or (λ turn. taken turn.kind n (accept_of places i turn.level) (λ y. is_fed i turn.level turn.kind (fed_of grants y)))
-    (first_turn t (λ level kind. list_any (is_fed i level kind) grants)) []
+    option_map_or (λ rank. taken rank.kind n (accept_of places i rank.level) (λ y. is_fed i rank.level rank.kind (fed_of grants y)))
+    (first_rank t (λ level kind. list_any (is_fed i level kind) grants)) []
 
 -- what is added to the match at output j: what it grants, if the input takes it
 abbrev pub added : ℕ → ℕ → Places → List (Option Fed) → ℕ → Option Fed
@@ -130,12 +130,12 @@ abbrev pub passed : ℕ → List Row → List (Option Fed) → Places → ℕ �
 passed n rows matched before level =
     option_and_then (λ i. if is_left n rows matched level i then None else Some i) (find (is_head n rows level) (ports_from n (shared_of before level)))
 
--- the pointers after a slot, where `first` is the match after its first round: its unicast pairs move theirs
+-- the pointers after a slot, where `first_match` is the match after its first round: its unicast pairs move theirs
 unfoldable pub places_after : ℕ → List Row → List (Option Fed) → List (Option Fed) → Places → Places
-places_after n rows first matched before = record {
+places_after n rows first_match matched before = record {
   ports = before.ports;
-  grant = table_of (λ level j. moved_by n (find (λ i. is_fed i level Uni (fed_of first j)) (ports n)) (grant_of before j level));
-  accept = table_of (λ level i. moved_by n (find (λ j. is_fed i level Uni (fed_of first j)) (ports n)) (accept_of before i level));
+  grant = table_of (λ level j. moved_by n (find (λ i. is_fed i level Uni (fed_of first_match j)) (ports n)) (grant_of before j level));
+  accept = table_of (λ level i. moved_by n (find (λ j. is_fed i level Uni (fed_of first_match j)) (ports n)) (accept_of before i level));
   shared = map (λ level. moved_by n (passed n rows matched before level) (shared_of before level)) (range_with_len 0 LEVELS);
 }
 

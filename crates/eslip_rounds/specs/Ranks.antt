@@ -12,11 +12,11 @@ other_kind Multi = Uni
 abbrev pub level_at : ℕ → ℕ
 level_at rank = rank / 2
 
--- the kind of a rank, where `first` is preferred
+-- the kind of a rank, where `first_kind` is preferred
 abbrev pub kind_at : Kind → ℕ → Kind
-kind_at first rank = if rank % 2 == 0 then first else other_kind first
+kind_at first_kind rank = if rank % 2 == 0 then first_kind else other_kind first_kind
 
--- the rank of a level and kind, where `first` is preferred
+-- the rank of a level and kind, where `first_kind` is preferred
 abbrev pub rank_of : Kind → ℕ → Kind → ℕ
 rank_of Uni level Uni = 2 * level
 rank_of Uni level Multi = 2 * level + 1

@@ -17,16 +17,16 @@ pub record Decision : Type 0 where
   pub numbers : RoundsUsed
   pub places : Places
 
--- The pointers after a slot, of which `first` is the match after the first round. The unicast pairs of
+-- The pointers after a slot, of which `first_match` is the match after the first round. The unicast pairs of
 -- the first round move their pointers one beyond each other. The shared pointer of a level moves one
 -- beyond the first input from it on that posted a multicast head, where that head completes. All other
 -- pointers stay.
-pub record AreMoved (n t : ℕ) (rows : List Row) (first matched : List (Option Fed)) (before after : Places) : Type 0 where
+pub record AreMoved (n t : ℕ) (rows : List Row) (first_match matched : List (Option Fed)) (before after : Places) : Type 0 where
   pub ports : after.ports ≡ before.ports
-  pub granted : (i j level : ℕ) → Serves first i j level Uni → grant_of after j level ≡ (i + 1) % n
-  pub accepted : (i j level : ℕ) → Serves first i j level Uni → accept_of after i level ≡ (j + 1) % n
-  pub grant_stays : (j level : ℕ) → ((i : ℕ) → Serves first i j level Uni → ⊥) → grant_of after j level ≡ grant_of before j level
-  pub accept_stays : (i level : ℕ) → ((j : ℕ) → Serves first i j level Uni → ⊥) → accept_of after i level ≡ accept_of before i level
+  pub granted : (i j level : ℕ) → Serves first_match i j level Uni → grant_of after j level ≡ (i + 1) % n
+  pub accepted : (i j level : ℕ) → Serves first_match i j level Uni → accept_of after i level ≡ (j + 1) % n
+  pub grant_stays : (j level : ℕ) → ((i : ℕ) → Serves first_match i j level Uni → ⊥) → grant_of after j level ≡ grant_of before j level
+  pub accept_stays : (i level : ℕ) → ((j : ℕ) → Serves first_match i j level Uni → ⊥) → accept_of after i level ≡ accept_of before i level
   pub passed : (i level : ℕ) → IsFirstFrom n (shared_of before level) (HasHead rows level) i → Completes rows matched level i → shared_of after level ≡ (i + 1) % n
   pub shared_stays : (level : ℕ) → ((i : ℕ) → IsFirstFrom n (shared_of before level) (HasHead rows level) i → Completes rows matched level i → ⊥) → shared_of after level ≡ shared_of before level
 

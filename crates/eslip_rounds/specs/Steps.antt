@@ -22,9 +22,9 @@ column_of columns rank j = slice_index (slice_index_or columns rank []) j
 
 -- for each rank and output the inputs whose rows name it there, the ranks at which any does, the outputs
 -- that any names, and what all rows name as one row
-pub record AreAsks (n : ℕ) (first : Kind) (rows : List Row) (asks : Asks) : Type 0 where
-  pub columns : (rank i j : ℕ) → rank < RANKS → Has (column_of asks.columns rank j) i ↔ ((i < n) × Names (row_of rows i) (level_at rank) (kind_at first rank) j)
-  pub ranks : (rank i j : ℕ) → rank < RANKS → i < n → Names (row_of rows i) (level_at rank) (kind_at first rank) j → Has asks.ranks rank
+pub record AreAsks (n : ℕ) (first_kind : Kind) (rows : List Row) (asks : Asks) : Type 0 where
+  pub columns : (rank i j : ℕ) → rank < RANKS → Has (column_of asks.columns rank j) i ↔ ((i < n) × Names (row_of rows i) (level_at rank) (kind_at first_kind rank) j)
+  pub ranks : (rank i j : ℕ) → rank < RANKS → i < n → Names (row_of rows i) (level_at rank) (kind_at first_kind rank) j → Has asks.ranks rank
   pub ranks_in : (rank : ℕ) → Has asks.ranks rank → rank < RANKS
   pub outputs : (i j level : ℕ) (kind : Kind) → i < n → Names (row_of rows i) level kind j → Has asks.outputs j
   pub named : (i j level : ℕ) (kind : Kind) → i < n → Names (row_of rows i) level kind j → Names asks.named level kind j
@@ -35,16 +35,16 @@ MayAsk before level kind i = IsFreeInput before i ⊎ ((kind ≡ Multi) × IsMul
 
 -- for each rank the inputs that may ask there
 abbrev pub AreReady : ℕ → Kind → List (Option Fed) → List ℕ → Type 0
-AreReady n first before ready = (rank i : ℕ) → rank < RANKS → Has (slice_index ready rank) i ↔ ((i < n) × MayAsk before (level_at rank) (kind_at first rank) i)
+AreReady n first_kind before ready = (rank i : ℕ) → rank < RANKS → Has (slice_index ready rank) i ↔ ((i < n) × MayAsk before (level_at rank) (kind_at first_kind rank) i)
 
 -- input i asks output j at the rank, by the columns
 abbrev pub AsksAt : Asks → List ℕ → ℕ → ℕ → ℕ → Type 0
 AsksAt asks ready j rank i = Has (column_of asks.columns rank j) i × Has (slice_index ready rank) i
 
 -- output j's choice: the lowest rank at which it is asked, and there the first input from its pointer on
-pub record IsChosen (n : ℕ) (first : Kind) (asks : Asks) (ready : List ℕ) (places : Places) (j : ℕ) (choice : Choice) : Type 0 where
+pub record IsChosen (n : ℕ) (first_kind : Kind) (asks : Asks) (ready : List ℕ) (places : Places) (j : ℕ) (choice : Choice) : Type 0 where
   pub rank_in : choice.rank < RANKS
-  pub picked : IsFirstFrom n (from_of places j (level_at choice.rank) (kind_at first choice.rank)) (AsksAt asks ready j choice.rank) choice.input
+  pub picked : IsFirstFrom n (from_of places j (level_at choice.rank) (kind_at first_kind choice.rank)) (AsksAt asks ready j choice.rank) choice.input
   pub best : (rank i : ℕ) → rank < choice.rank → AsksAt asks ready j rank i → ⊥
 
 -- to each input that is granted, where output j grants input i at the rank with P, the outputs that
@@ -63,32 +63,32 @@ pub record IsOffered (old new : Offers) (input output rank : ℕ) : Type 0 where
   pub worse : Has old.granted input → slice_index old.ranks input < rank → (slice_index new.ranks input ≡ slice_index old.ranks input) × (slice_index new.outputs input ≡ slice_index old.outputs input)
 
 -- the match may take what input i is offered: outputs that are free, for an input that is free or goes on
-pub record IsOpen (n : ℕ) (first : Kind) (matched : List (Option Fed)) (offers : Offers) (i : ℕ) : Type 0 where
+pub record IsOpen (n : ℕ) (first_kind : Kind) (matched : List (Option Fed)) (offers : Offers) (i : ℕ) : Type 0 where
   pub input_in : i < n
   pub rank_in : slice_index offers.ranks i < RANKS
   pub some : (j : ℕ) × Has (slice_index offers.outputs i) j
   pub free : (j : ℕ) → Has (slice_index offers.outputs i) j → (j < n) × IsFreeOutput matched j
-  pub ready : MayAsk matched (level_at (slice_index offers.ranks i)) (kind_at first (slice_index offers.ranks i)) i
+  pub ready : MayAsk matched (level_at (slice_index offers.ranks i)) (kind_at first_kind (slice_index offers.ranks i)) i
 
 -- the match may take what each input is offered, and no output is offered twice
-pub record AreOpen (n : ℕ) (first : Kind) (matched : List (Option Fed)) (offers : Offers) : Type 0 where
-  pub each : (i : ℕ) → Has offers.granted i → IsOpen n first matched offers i
+pub record AreOpen (n : ℕ) (first_kind : Kind) (matched : List (Option Fed)) (offers : Offers) : Type 0 where
+  pub each : (i : ℕ) → Has offers.granted i → IsOpen n first_kind matched offers i
   pub apart : (i k j : ℕ) → Has offers.granted i → Has offers.granted k → Has (slice_index offers.outputs i) j → Has (slice_index offers.outputs k) j → i ≡ k
 
 -- input i takes output j of what it is offered
-pub record IsTaken (n : ℕ) (first : Kind) (places : Places) (offers : Offers) (i j level : ℕ) (kind : Kind) : Type 0 where
+pub record IsTaken (n : ℕ) (first_kind : Kind) (places : Places) (offers : Offers) (i j level : ℕ) (kind : Kind) : Type 0 where
   pub granted : Has offers.granted i
   pub level_is : level ≡ level_at (slice_index offers.ranks i)
-  pub kind_is : kind ≡ kind_at first (slice_index offers.ranks i)
+  pub kind_is : kind ≡ kind_at first_kind (slice_index offers.ranks i)
   pub taken : Takes kind n (accept_of places i level) (Has (slice_index offers.outputs i)) j
 
 -- one round by the columns: the inputs that may ask, the offers of the free outputs, and what is taken
-pub record IsStep (n : ℕ) (first : Kind) (asks : Asks) (places : Places) (before after : List (Option Fed)) : Type 0 where
+pub record IsStep (n : ℕ) (first_kind : Kind) (asks : Asks) (places : Places) (before after : List (Option Fed)) : Type 0 where
   pub ready : List ℕ
   pub offers : Offers
-  pub readies : AreReady n first before ready
-  pub offered : AreOffers (λ i j rank. ((j < n) × IsFreeOutput before j) × IsChosen n first asks ready places j (record { rank = rank; input = i })) offers
-  pub pairs : (i j level : ℕ) (kind : Kind) → Serves after i j level kind ↔ (Serves before i j level kind ⊎ IsTaken n first places offers i j level kind)
+  pub readies : AreReady n first_kind before ready
+  pub offered : AreOffers (λ i j rank. ((j < n) × IsFreeOutput before j) × IsChosen n first_kind asks ready places j (record { rank = rank; input = i })) offers
+  pub pairs : (i j level : ℕ) (kind : Kind) → Serves after i j level kind ↔ (Serves before i j level kind ⊎ IsTaken n first_kind places offers i j level kind)
 
 -- the pointers of the pairs are moved one beyond each other, and all others stay
 pub record AreMet (Pairs : ℕ → ℕ → ℕ → Type 0) (before after : Places) : Type 0 where

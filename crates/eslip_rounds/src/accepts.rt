@@ -12,35 +12,35 @@ use rotating_pick::{Kind, MAX_PORTS, Ports, lowest, pick, with, without};
 use slot_match::Match;
 
 /// Matches each input that is granted with what it takes.
-pub(crate) fn accept_all(n: u32, first: Kind, offers: &Offers, p: &Pointers, out: &mut Match)
+pub(crate) fn accept_all(n: u32, first_kind: Kind, offers: &Offers, p: &Pointers, out: &mut Match)
     requires size { n ≤ MAX_PORTS }
     requires ports { p.now.ports ≡ n }
     requires whole { IsMatch n out.old }
-    requires open { AreOpen n first out.old offers.now }
+    requires open { AreOpen n first_kind out.old offers.now }
     ensures whole { IsMatch n out.new }
-    ensures pairs { (i j level : ℕ) (kind : Kind) → Serves out.new i j level kind ↔ (Serves out.old i j level kind ⊎ IsTaken n first p.now offers.now i j level kind) }
+    ensures pairs { (i j level : ℕ) (kind : Kind) → Serves out.new i j level kind ↔ (Serves out.old i j level kind ⊎ IsTaken n first_kind p.now offers.now i j level kind) }
 {
     let mut rest = offers.granted;
     while let Some(i) = lowest(rest) {
-        accept(n, first, offers, p, i, out);
+        accept(n, first_kind, offers, p, i, out);
         rest = without(rest, i);
     }
 }
 
 // Matches input `i` with what it takes of what it is offered.
-fn accept(n: u32, first: Kind, offers: &Offers, p: &Pointers, i: u32, out: &mut Match)
+fn accept(n: u32, first_kind: Kind, offers: &Offers, p: &Pointers, i: u32, out: &mut Match)
     requires size { n ≤ MAX_PORTS }
     requires ports { p.now.ports ≡ n }
     requires whole { IsMatch n out.old }
     requires granted { Has offers.now.granted i }
-    requires open { IsOpen n first out.old offers.now i }
+    requires open { IsOpen n first_kind out.old offers.now i }
     ensures whole { IsMatch n out.new }
-    ensures pairs { (x j level : ℕ) (kind : Kind) → Serves out.new x j level kind ↔ (Serves out.old x j level kind ⊎ ((x ≡ i) × IsTaken n first p.now offers.now i j level kind)) }
+    ensures pairs { (x j level : ℕ) (kind : Kind) → Serves out.new x j level kind ↔ (Serves out.old x j level kind ⊎ ((x ≡ i) × IsTaken n first_kind p.now offers.now i j level kind)) }
 {
     let at = i as usize;
     let rank = offers.ranks[at];
     let level = level_of(rank);
-    let kind = kind_of(first, rank);
+    let kind = kind_of(first_kind, rank);
     let outputs = taken(n, kind, p.accept(i, level), offers.outputs[at]);
     out.add(i, outputs, level, kind);
 }

@@ -24,10 +24,10 @@ pub(crate) struct Asks {
 }
 
 /// Turns the rows into columns, once a slot: those of the ranks that occur.
-pub(crate) fn asks_of(n: u32, first: Kind, rows: &[Row]) -> Asks
+pub(crate) fn asks_of(n: u32, first_kind: Kind, rows: &[Row]) -> Asks
     requires size { n ≤ MAX_PORTS }
     requires rows { AreWithin n rows.now }
-    ensures { AreAsks n first rows.now result }
+    ensures { AreAsks n first_kind rows.now result }
 {
     let named = joined(rows);
     let mut asks = Asks {
@@ -36,7 +36,7 @@ pub(crate) fn asks_of(n: u32, first: Kind, rows: &[Row]) -> Asks
         outputs: named.named(),
         named,
     };
-    asks.ranks = fill(n, first, rows, &named, &mut asks.columns);
+    asks.ranks = fill(n, first_kind, rows, &named, &mut asks.columns);
     asks
 }
 
@@ -44,7 +44,7 @@ pub(crate) fn asks_of(n: u32, first: Kind, rows: &[Row]) -> Asks
 // ranks. The columns were empty.
 fn fill(
     n: u32,
-    first: Kind,
+    first_kind: Kind,
     rows: &[Row],
     named: &Row,
     columns: &mut [[Ports; PORTS]; RANKS],
@@ -53,14 +53,14 @@ fn fill(
     requires rows { AreWithin n rows.now }
     requires named { (i j level : ℕ) (kind : Kind) → i < n → Names (row_of rows.now i) level kind j → Names named.now level kind j }
     requires empty { columns.old ≡ replicate RANKS (replicate MAX_PORTS 0) }
-    ensures columns { (rank i j : ℕ) → rank < RANKS → Has (column_of columns.new rank j) i ↔ ((i < n) × Names (row_of rows.now i) (level_at rank) (kind_at first rank) j) }
-    ensures ranks { (rank i j : ℕ) → rank < RANKS → i < n → Names (row_of rows.now i) (level_at rank) (kind_at first rank) j → Has result rank }
+    ensures columns { (rank i j : ℕ) → rank < RANKS → Has (column_of columns.new rank j) i ↔ ((i < n) × Names (row_of rows.now i) (level_at rank) (kind_at first_kind rank) j) }
+    ensures ranks { (rank i j : ℕ) → rank < RANKS → i < n → Names (row_of rows.now i) (level_at rank) (kind_at first_kind rank) j → Has result rank }
     ensures ranks_in { (rank : ℕ) → Has result rank → rank < RANKS }
 {
     let mut ranks = 0;
     for rank in 0..RANKS as u32 {
         let level = level_of(rank);
-        let kind = kind_of(first, rank);
+        let kind = kind_of(first_kind, rank);
         if !is_empty(set_at(named, level, kind)) {
             gather(n, rows, level, kind, &mut columns[rank as usize]);
             ranks = with(ranks, rank);

@@ -16,13 +16,13 @@ use rotating_pick::{
 use slot_match::Match;
 
 /// The inputs that may ask at each rank.
-pub(crate) fn ready_inputs(first: Kind, matched: &Match) -> [Ports; RANKS]
+pub(crate) fn ready_inputs(first_kind: Kind, matched: &Match) -> [Ports; RANKS]
     requires { IsMatch (length matched.now) matched.now }
-    ensures { AreReady (length matched.now) first matched.now result }
+    ensures { AreReady (length matched.now) first_kind matched.now result }
 {
     let mut ready = [0; RANKS];
     for rank in 0..RANKS as u32 {
-        ready[rank as usize] = ready_at(matched, level_of(rank), kind_of(first, rank));
+        ready[rank as usize] = ready_at(matched, level_of(rank), kind_of(first_kind, rank));
     }
     ready
 }
@@ -60,7 +60,7 @@ pub(crate) struct Offers {
 /// Offers what each of the free outputs grants. Nothing was offered before.
 pub(crate) fn offer_all(
     n: u32,
-    first: Kind,
+    first_kind: Kind,
     asks: &Asks,
     ready: &[Ports; RANKS],
     p: &Pointers,
@@ -74,11 +74,11 @@ pub(crate) fn offer_all(
     requires named { (rank i j : ℕ) → rank < RANKS → Has (column_of asks.now.columns rank j) i → Has asks.now.ranks rank }
     requires free { (j : ℕ) → Has free_outputs j → j < n }
     requires nothing { offers.old.granted ≡ 0 }
-    ensures { AreOffers (λ i j rank. Has free_outputs j × IsChosen n first asks.now ready.now p.now j (record { rank = rank; input = i })) offers.new }
+    ensures { AreOffers (λ i j rank. Has free_outputs j × IsChosen n first_kind asks.now ready.now p.now j (record { rank = rank; input = i })) offers.new }
 {
     let mut rest = free_outputs;
     while let Some(j) = lowest(rest) {
-        if let Some(choice) = chosen(n, first, asks, ready, p, j) {
+        if let Some(choice) = chosen(n, first_kind, asks, ready, p, j) {
             offer(offers, choice.input, j, choice.rank);
         }
         rest = without(rest, j);
@@ -99,7 +99,7 @@ pub(crate) fn no_offers() -> Offers
 // What output `j` grants: of the inputs that ask it at the lowest rank, the first from its pointer on.
 fn chosen(
     n: u32,
-    first: Kind,
+    first_kind: Kind,
     asks: &Asks,
     ready: &[Ports; RANKS],
     p: &Pointers,
@@ -111,13 +111,13 @@ fn chosen(
     requires ready { (rank i : ℕ) → rank < RANKS → Has (slice_index ready.now rank) i → i < n }
     requires ranks { (rank : ℕ) → Has asks.now.ranks rank → rank < RANKS }
     requires named { (rank i j : ℕ) → rank < RANKS → Has (column_of asks.now.columns rank j) i → Has asks.now.ranks rank }
-    ensures { (f : Choice) → (result ≡ Some f) ↔ IsChosen n first asks.now ready.now p.now j f }
+    ensures { (f : Choice) → (result ≡ Some f) ↔ IsChosen n first_kind asks.now ready.now p.now j f }
 {
     let mut rest = asks.ranks;
     while let Some(rank) = lowest(rest) {
         let at = rank as usize;
         let asking = intersection(asks.columns[at][j as usize], ready[at]);
-        if let Some(input) = pick(n, pointer_at(p, first, j, rank), asking) {
+        if let Some(input) = pick(n, pointer_at(p, first_kind, j, rank), asking) {
             return Some(Choice { rank, input });
         }
         rest = without(rest, rank);
@@ -126,14 +126,14 @@ fn chosen(
 }
 
 // From where output `j` picks at the rank.
-fn pointer_at(p: &Pointers, first: Kind, j: u32, rank: u32) -> u32
+fn pointer_at(p: &Pointers, first_kind: Kind, j: u32, rank: u32) -> u32
     requires j_in { j < p.now.ports }
     requires rank_in { rank < RANKS }
-    ensures value { result ≡ from_of p.now j (level_at rank) (kind_at first rank) }
+    ensures value { result ≡ from_of p.now j (level_at rank) (kind_at first_kind rank) }
     ensures within { result < p.now.ports }
 {
     let level = level_of(rank);
-    match kind_of(first, rank) {
+    match kind_of(first_kind, rank) {
         Kind::Uni => p.grant(j, level),
         Kind::Multi => p.shared(level),
     }

@@ -15,15 +15,15 @@ use rotating_pick::{
 use slot_match::{Fed, Match, Row, Served};
 
 /// Moves the pointers of each unicast pair of the outputs that the first round matched.
-pub(crate) fn meet(matched: &Match, first: Ports, p: &mut Pointers)
+pub(crate) fn meet(matched: &Match, first_outputs: Ports, p: &mut Pointers)
     requires at_ports { AreAtPorts p.old }
     requires whole { IsMatch p.old.ports matched.now }
-    requires first { (j : ℕ) → Has first j → j < p.old.ports }
-    requires once { (i j k level : ℕ) → Has first j → Has first k → Serves matched.now i j level Uni → Serves matched.now i k level Uni → j ≡ k }
-    ensures met { AreMet (λ i j level. Has first j × Serves matched.now i j level Uni) p.old p.new }
+    requires first_outputs { (j : ℕ) → Has first_outputs j → j < p.old.ports }
+    requires once { (i j k level : ℕ) → Has first_outputs j → Has first_outputs k → Serves matched.now i j level Uni → Serves matched.now i k level Uni → j ≡ k }
+    ensures met { AreMet (λ i j level. Has first_outputs j × Serves matched.now i j level Uni) p.old p.new }
     ensures at_ports { AreAtPorts p.new }
 {
-    let mut rest = first;
+    let mut rest = first_outputs;
     while let Some(j) = lowest(rest) {
         meet_one(matched.fed(j), j, p);
         rest = without(rest, j);

@@ -31,11 +31,15 @@ pub(crate) fn level_of(rank: u32) -> u8
     (rank / 2) as u8
 }
 
-/// The kind of a rank, where `first` is preferred.
-pub(crate) fn kind_of(first: Kind, rank: u32) -> Kind
-    ensures { result ≡ kind_at first rank }
+/// The kind of a rank, where `first_kind` is preferred.
+pub(crate) fn kind_of(first_kind: Kind, rank: u32) -> Kind
+    ensures { result ≡ kind_at first_kind rank }
 {
-    if rank % 2 == 0 { first } else { other(first) }
+    if rank % 2 == 0 {
+        first_kind
+    } else {
+        other(first_kind)
+    }
 }
 
 fn other(kind: Kind) -> Kind

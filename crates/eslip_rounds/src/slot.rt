@@ -14,8 +14,8 @@ use pointer_state::Pointers;
 use rotating_pick::{MAX_PORTS, MAX_ROUNDS, all, difference};
 use slot_match::{Match, Row};
 
-/// Decides slot number `slot` of a switch of `n` ports in so many rounds, each from 1 to 64: sets `out`
-/// to the match, moves the pointers and answers how the rounds were used. There are `n` rows within
+/// Decides slot number `slot` of a switch of `n` ports in `rounds` rounds, each from 1 to 64: sets
+/// `out` to the match, moves the pointers and answers how the rounds were used. There are `n` rows within
 /// `n`, and `p` and `out` are for `n` ports. Takes no memory.
 pub fn decide(
     n: u32,
@@ -44,25 +44,25 @@ pub fn decide(
     ensures enough { n ≤ rounds → IsMaximal n rows.now out.new }
 {
     prove!(p.ports() == n);
-    let first = preferred_kind(slot);
-    let asks = asks_of(n, first, rows);
+    let first_kind = preferred_kind(slot);
+    let asks = asks_of(n, first_kind, rows);
     *out = Match::new(n);
-    round(n, first, &asks, p, out);
-    let met = difference(all(n), out.free_outputs());
+    round(n, first_kind, &asks, p, out);
+    let first_outputs = difference(all(n), out.free_outputs());
     let mut matched = out.count();
     let mut added = matched;
     let mut numbers = RoundsUsed::none().after_round(0, added);
     for done in 1..rounds {
         // Once a round adds nothing, no later one would.
         if added > 0 {
-            round(n, first, &asks, p, out);
+            round(n, first_kind, &asks, p, out);
             let now = out.count();
             added = now.saturating_sub(matched);
             matched = now;
         }
         numbers = numbers.after_round(done, added);
     }
-    meet(out, met, p);
+    meet(out, first_outputs, p);
     pass_all(n, rows, &asks.named, out, p);
     numbers
 }

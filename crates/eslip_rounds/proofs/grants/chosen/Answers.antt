@@ -23,12 +23,12 @@ returns-in-Some-pick c f =
     let rank_in = c.requires.ranks rank (c.loop-rank.invariant.within rank c.in-Some.ensures.member) in
     let made : Choice = record { rank = rank; input = c.in-Some-pick.input } in
     let places = c.args.p.now in
-    let from = from_of places c.args.j (level_at rank) (kind_at c.args.first rank) in
+    let from = from_of places c.args.j (level_at rank) (kind_at c.args.first_kind rank) in
     let from_in : from < n = let below = c.pointer_at.ensures.within in let e = c.pointer_at.ensures.value in omega arith in
     let picked : IsFirstFrom n from (AsksAt c.args.asks.now c.args.ready.now c.args.j rank) c.in-Some-pick.input =
     subst (λ a. IsFirstFrom n a (AsksAt c.args.asks.now c.args.ready.now c.args.j rank) c.in-Some-pick.input) c.pointer_at.ensures.value
     (IsFirstFrom-along n c.pointer_at.result (Has c.intersection-asking.result) (AsksAt c.args.asks.now c.args.ready.now c.args.j rank) c.in-Some-pick.input (λ y y_in. c.intersection-asking.ensures y) c.in-Some-pick.ensures.first) in
-    Some-iff_chosen n c.args.first c.args.asks.now c.args.ready.now places c.args.j made f from_in
+    Some-iff_chosen n c.args.first_kind c.args.asks.now c.args.ready.now places c.args.j made f from_in
     (record {
       rank_in = rank_in;
       picked = picked;

@@ -8,5 +8,5 @@ use Rattle.eslip_rounds.proofs.grants.ready_inputs.Given as goal
 abbrev pub invariant-loop-rank : goal.invariant-loop-rank
 invariant-loop-rank l = record {
   long : length l.ready ≡ RANKS;
-  done : (r i : ℕ) → r < l.rank → Has (slice_index l.ready r) i ↔ ((i < length l.matched) × MayAsk l.matched (level_at r) (kind_at l.first r) i);
+  done : (r i : ℕ) → r < l.rank → Has (slice_index l.ready r) i ↔ ((i < length l.matched) × MayAsk l.matched (level_at r) (kind_at l.first_kind r) i);
 }

@@ -8,7 +8,7 @@ loop-j-preserved c =
     let known = c.loop-j.invariant in
     record {
       left = λ y has. known.left y ((c.without-rest.ensures.members y).0 has).1;
-      met = AreMet-next c.args.matched.now c.args.first c.loop-j.rest c.without-rest.result c.in-Some.j c.fed.result c.args.p.now c.loop-j.p c.meet_one.new.p c.in-Some.ensures.member (known.left c.in-Some.j c.in-Some.ensures.member) c.without-rest.ensures.members c.fed.ensures.value
+      met = AreMet-next c.args.matched.now c.args.first_outputs c.loop-j.rest c.without-rest.result c.in-Some.j c.fed.result c.args.p.now c.loop-j.p c.meet_one.new.p c.in-Some.ensures.member (known.left c.in-Some.j c.in-Some.ensures.member) c.without-rest.ensures.members c.fed.ensures.value
           (λ i x y level. c.requires.once i x y level) known.met c.meet_one.ensures.met;
       at_ports = c.meet_one.ensures.at_ports;
     }

@@ -8,8 +8,8 @@ use Rattle.eslip_rounds.proofs.moves.meet.Given as goal
 
 abbrev pub invariant-loop-j : goal.invariant-loop-j
 invariant-loop-j l = record {
-  left : (y : ℕ) → Has l.rest y → Has l.first y;
-  met : AreMet (λ i y level. (Has l.first y × (Has l.rest y → ⊥)) × Serves l.matched i y level Uni) l.fn.p l.p;
+  left : (y : ℕ) → Has l.rest y → Has l.first_outputs y;
+  met : AreMet (λ i y level. (Has l.first_outputs y × (Has l.rest y → ⊥)) × Serves l.matched i y level Uni) l.fn.p l.p;
   at_ports : AreAtPorts l.p;
 }
 
