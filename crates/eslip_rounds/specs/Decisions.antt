@@ -71,7 +71,7 @@ is_going_on rows before i j level kind = is_kind kind Multi && (list_any (is_fed
 unfoldable pub is_request : List Row → List (Option Fed) → ℕ → ℕ → ℕ → Kind → Bool
 is_request rows before i j level kind = (not (list_any (is_from i) before) && is_asked (row_of rows i) j level kind) || is_going_on rows before i j level kind
 
--- what output j grants at a rank: of the inputs that ask it then, the first from its pointer on
+-- what output j grants at a rank: of the inputs that ask it there, the first from its pointer on
 abbrev pub granted_at : ℕ → List Row → Places → List (Option Fed) → ℕ → Rank → Option Fed
 granted_at n rows places before j rank =
     option_map (λ i. record { input = i; level = rank.level; kind = rank.kind })
@@ -103,7 +103,7 @@ unfoldable pub round_of : ℕ → ℕ → List Row → Places → List (Option F
 round_of n t rows places before =
     map (λ j. option_or (fed_of before j) (added n t places (map (granted n t rows places before) (ports n)) j)) (ports n)
 
--- the matches after each of so many rounds
+-- the matches after each of `rounds` rounds
 abbrev pub rounds_of : ℕ → ℕ → List Row → Places → ℕ → List (Option Fed) → List (List (Option Fed))
 rounds_of n t rows places zero before = []
 rounds_of n t rows places (suc rounds) before = round_of n t rows places before ∷ rounds_of n t rows places rounds (round_of n t rows places before)
@@ -139,7 +139,7 @@ places_after n rows first_match matched before = record {
   shared = map (λ level. moved_by n (passed n rows matched before level) (shared_of before level)) (range_with_len 0 LEVELS);
 }
 
--- what slot t decides in so many rounds, from these rows and pointers
+-- what slot t decides in `rounds` rounds, from these rows and pointers
 unfoldable pub decision_of : ℕ → ℕ → ℕ → List Row → Places → Decision
 decision_of n rounds t rows places =
     let steps = rounds_of n t rows places rounds (unmatched n) in

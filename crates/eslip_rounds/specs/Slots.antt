@@ -30,7 +30,7 @@ pub record AreMoved (n t : ℕ) (rows : List Row) (first_match matched : List (O
   pub passed : (i level : ℕ) → IsFirstFrom n (shared_of before level) (HasHead rows level) i → Completes rows matched level i → shared_of after level ≡ (i + 1) % n
   pub shared_stays : (level : ℕ) → ((i : ℕ) → IsFirstFrom n (shared_of before level) (HasHead rows level) i → Completes rows matched level i → ⊥) → shared_of after level ≡ shared_of before level
 
--- Slot t, of so many rounds, decides this, where `Moves` says how its pointers move. All of its rounds
+-- Slot t, of `rounds` rounds, decides this, where `Moves` says how its pointers move. All of its rounds
 -- use the pointers from before it, and the first begins with nothing matched.
 pub record IsSlotBy (Moves : ℕ → ℕ → List Row → List (Option Fed) → List (Option Fed) → Places → Places → Type 0) (n rounds t : ℕ) (rows : List Row) (before : Places) (decision : Decision) : Type 0 where
   pub steps : List (List (Option Fed))

@@ -31,7 +31,7 @@ pub(crate) fn meet(matched: &Match, first_outputs: Ports, p: &mut Pointers)
 }
 
 /// Moves each level's shared pointer one beyond the first head from it on, where that completes.
-/// `named` names at least what the rows do.
+/// `named` names all that the rows do.
 pub(crate) fn pass_all(n: u32, rows: &[Row], named: &Row, matched: &Match, p: &mut Pointers)
     requires at_ports { AreAtPorts p.old }
     requires size { n ≤ MAX_PORTS }

@@ -15,8 +15,8 @@ use rotating_pick::{MAX_PORTS, MAX_ROUNDS, all, difference};
 use slot_match::{Match, Row};
 
 /// Decides slot number `slot` of a switch of `n` ports in `rounds` rounds, each from 1 to 64: sets
-/// `out` to the match, moves the pointers and answers how the rounds were used. There are `n` rows within
-/// `n`, and `p` and `out` are for `n` ports. Takes no memory.
+/// `out` to the match, moves the pointers and answers how the rounds were used. There are `n` rows
+/// within `n`, and `p` and `out` are for `n` ports. Takes no memory.
 pub fn decide(
     n: u32,
     rounds: u32,

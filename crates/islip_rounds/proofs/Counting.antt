@@ -73,7 +73,7 @@ more_or_same {X} a b long keep =
       | inr none ↦ inr (ext_get_or None a b long (λ j below. kept_or_new (slice_index_or a j None) (slice_index_or b j None) (keep j) (λ f e h. none j below (f, e, h))))
     ]
 
--- no more outputs are matched than those among which all are that are matched
+-- where no output from n on is matched, at most n are
 pub count_within : {X : Type 0} (m : List (Option X)) (n : ℕ) → ((j : ℕ) → n ≤ j → slice_index_or m j None ≡ None) → matched_count m ≤ n
 count_within [] n beyond = omega arith
 count_within (x ∷ m) zero beyond =
@@ -87,7 +87,7 @@ count_within (x ∷ m) (suc n) beyond =
     let whole = sum_by-cons one_if_some x m in
     omega arith
 
--- and fewer where one of them is free
+-- and fewer than n where one below n is free
 pub count_fewer : {X : Type 0} (m : List (Option X)) (n j : ℕ) → ((k : ℕ) → n ≤ k → slice_index_or m k None ≡ None) → j < n → slice_index_or m j None ≡ None → matched_count m < n
 count_fewer [] n j beyond below free = omega arith
 count_fewer (x ∷ m) zero j beyond below free = absurd (omega arith)
@@ -102,7 +102,7 @@ count_fewer (x ∷ m) (suc n) (suc j) beyond below free =
     let whole = sum_by-cons one_if_some x m in
     omega arith
 
--- as many are matched where each output has the same
+-- two matches with the same at each output match equally many
 pub count_same : {X : Type 0} (a b : List (Option X)) → ((j : ℕ) → slice_index_or a j None ≡ slice_index_or b j None) → matched_count a ≡ matched_count b
 count_same [] [] same = refl
 count_same [] (y ∷ b) same =

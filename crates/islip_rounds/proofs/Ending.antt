@@ -1,4 +1,4 @@
--- What the rounds of a slot have added so far: each a pair, or the last of them nothing, and then none can.
+-- Each round of a slot adds a pair, up to one that adds nothing; after that one no round can.
 use Rattle.std.proofs.Common.{◌≡◌, ℕ, ◌+◌, ◌-◌, ◌<◌, ◌≤◌, ◌∙◌, List, [], ◌∷◌, ◌++◌, Option, None, length, slice_index, slice_index_or, ap, subst, inl, inr, arith}
 use Rattle.std.proofs.lemmas.Bool.{cases_lt}
 use Rattle.islip_rounds.specs.declared.numbers.RoundsUsed.{RoundsUsed}
@@ -9,7 +9,7 @@ use Rattle.islip_rounds.proofs.Counting.{count_fewer}
 use Rattle.islip_rounds.proofs.Maximal.{free_or_fed, adds, IsMaximal-from_round}
 use Rattle.islip_rounds.proofs.Running.{IsRun, IsRun-next}
 
--- k rounds, of which the last added so many pairs, made this match
+-- k rounds made this match of `matched` outputs, and the last of them added `added`
 pub record AreEnding (n k : ℕ) (asks : List ℕ) (pointers : UniPointers) (fed : List (Option ℕ)) (matched added : ℕ) (numbers : RoundsUsed) : Type 0 where
   pub settled : added ≡ 0 → IsRound n asks pointers fed fed
   pub many : 0 < added → k ≤ matched

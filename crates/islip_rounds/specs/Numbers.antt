@@ -11,7 +11,7 @@ last_of x (y ∷ ys) = last_of y ys
 abbrev pub matched_count : {X : Type 0} → List (Option X) → ℕ
 matched_count matched = count_by is_some matched
 
--- how many outputs each round added, where so many were matched before the first
+-- how many outputs each round added, from how many are matched before the first and after each
 abbrev pub added_from : ℕ → List ℕ → List ℕ
 added_from before [] = []
 added_from before (after ∷ rest) = (after - before) ∷ added_from after rest
@@ -20,7 +20,7 @@ added_from before (after ∷ rest) = (after - before) ∷ added_from after rest
 abbrev pub rounds_used : List ℕ → ℕ
 rounds_used added = count_by (λ k. nat_lt 0 k) added
 
--- the numbers of a slot whose rounds added so many outputs each
+-- the numbers of a slot, from how many outputs each of its rounds added
 abbrev pub numbers_of : List ℕ → RoundsUsed
 numbers_of added = record {
   used = rounds_used added;

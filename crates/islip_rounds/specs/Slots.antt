@@ -18,7 +18,7 @@ pub record AreMoved (n : ℕ) (first : List (Option ℕ)) (before after : UniPoi
   pub grant_stays : (j : ℕ) → ((i : ℕ) → Feeds first i j → ⊥) → slice_index after.grant j ≡ slice_index before.grant j
   pub accept_stays : (i : ℕ) → ((j : ℕ) → Feeds first i j → ⊥) → slice_index after.accept i ≡ slice_index before.accept i
 
--- A slot of so many rounds makes this match, these numbers and these pointers. All of its rounds use
+-- A slot of `rounds` rounds makes this match, these numbers and these pointers. All of its rounds use
 -- the pointers from before it, and the first begins with nothing matched.
 pub record IsSlot (n rounds : ℕ) (asks : List ℕ) (before : UniPointers) (matched : List (Option ℕ)) (numbers : RoundsUsed) (after : UniPointers) : Type 0 where
   pub steps : List (List (Option ℕ))

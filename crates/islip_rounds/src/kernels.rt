@@ -12,7 +12,7 @@ use rotating_pick::{MAX_PORTS, Ports, contains, lowest, pick, with, without};
 const FEW_MEMBERS: u32 = 256;
 
 /// Turns rows into columns, for `n` from 1 to 64: input `i` is in column `j` where output `j` is in row
-/// `i`. There are `n` rows, each of the `n` ports, and at least `n` columns; those beyond get empty. The
+/// `i`. There are `n` rows, each of the `n` ports, and at least `n` columns; those beyond become empty. The
 /// cost is one step for each member of a row, and at most that of turning a square of 64 words.
 pub fn transpose(n: u32, rows: &[Ports], columns: &mut [Ports])
     requires size { n ≤ MAX_PORTS }
@@ -66,7 +66,8 @@ fn transpose_many(n: u32, rows: &[Ports], columns: &mut [Ports])
     copy(&square[..n as usize], columns);
 }
 
-fn no_sets() -> [Ports; PORTS]
+// A table of empty sets.
+pub(crate) fn no_sets() -> [Ports; PORTS]
     ensures { result ≡ replicate MAX_PORTS 0 }
 {
     [0; PORTS]

@@ -4,12 +4,10 @@ ghost use Rattle.islip_rounds.specs.Choices.{AreAllChoices};
 ghost use Rattle.islip_rounds.specs.Columns.{AreColumns};
 ghost use Rattle.islip_rounds.specs.Rounds.{Feeds, IsFreeInput, IsFreeOutput, IsRound};
 
-use crate::kernels::picks;
+use crate::kernels::{no_sets, picks};
 use crate::unicast::UniPointers;
+use port_square::PORTS;
 use rotating_pick::{MAX_PORTS, Ports, all, intersection, with, without};
-
-// The length of a table with an entry for each port.
-pub(crate) const PORTS: usize = 64;
 
 // One round: each free output grants, and each input that was granted accepts. `columns` has for each
 // output the inputs that ask it.
@@ -46,18 +44,11 @@ fn choices(n: u32, from: &[u32; PORTS], masks: &[Ports; PORTS], free: Ports) -> 
     chosen
 }
 
-// A table without a port at any place.
+// A table that has a port at no place.
 pub(crate) fn no_ports() -> [Option<u32>; PORTS]
     ensures { result ≡ replicate PORTS None }
 {
     [None; PORTS]
-}
-
-// A table of empty sets.
-pub(crate) fn no_sets() -> [Ports; PORTS]
-    ensures { result ≡ replicate PORTS 0 }
-{
-    [0; PORTS]
 }
 
 // The inputs that are matched with no output.

@@ -4,14 +4,15 @@ ghost use Rattle.islip_rounds.specs.Numbers.{matched_count};
 ghost use Rattle.islip_rounds.specs.Rounds.{Feeds, IsMaximal};
 ghost use Rattle.islip_rounds.specs.Slots.{AreMoved, IsSlot};
 
-use crate::kernels::transpose;
+use crate::kernels::{no_sets, transpose};
 use crate::numbers::RoundsUsed;
-use crate::rounds::{PORTS, no_ports, no_sets, round};
+use crate::rounds::{no_ports, round};
 use crate::unicast::{UniMatch, UniPointers};
+use port_square::PORTS;
 use rotating_pick::{MAX_PORTS, MAX_ROUNDS, Ports, next};
 
-/// One slot of iSLIP for one level of unicast: sets `out` to the match of so many rounds and moves the
-/// pointers, for `n` and `rounds` from 1 to 64. `asks` has for each input the outputs that it asks, and
+/// One slot of iSLIP for one level of unicast: sets `out` to the match of `rounds` rounds and moves
+/// the pointers, for `n` and `rounds` from 1 to 64. `asks` has for each input the outputs that it asks, and
 /// the pointers of the `n` ports are at ports, before and after. Takes no memory.
 pub fn islip_slot(
     n: u32,
@@ -33,7 +34,7 @@ pub fn islip_slot(
     ensures grant { (j : ℕ) → j < n → slice_index p.new.grant j < n }
     ensures accept { (i : ℕ) → i < n → slice_index p.new.accept i < n }
 
-    // No input is matched twice; an output cannot be.
+    // No input is matched twice. No output is, since the match has one input at most for each.
     ensures once { (i j k : ℕ) → Feeds out.new.fed i j → Feeds out.new.fed i k → j ≡ k }
 
     // The match is maximal where the last round of all added nothing, and where there are n rounds.

@@ -8,7 +8,7 @@ use Rattle.slot_match.specs.declared.matching.Fed.{Fed}
 use Rattle.slot_match.specs.Rows.{Names}
 use Rattle.slot_match.specs.Matches.{IsFreeInput, IsMulticasting}
 
--- the input may be matched with so many outputs, at the level with the kind
+-- the input may be matched with these outputs, if they are free, at the level with the kind
 abbrev pub IsReady : List (Option Fed) → ℕ → ℕ → ℕ → Kind → Type 0
 IsReady matched input outputs level kind =
     (kind ≡ Uni → (j k : ℕ) → Has outputs j → Has outputs k → j ≡ k) × (IsFreeInput matched input ⊎ ((kind ≡ Multi) × IsMulticasting matched input level))

@@ -20,7 +20,7 @@ use std::mem::size_of;
 // The ports as the length of an array.
 const PORTS: usize = MAX_PORTS as usize;
 
-// A journal has a match for each slot.
+// A journal keeps a match for each slot, so a match must stay small.
 const _: () = prove!(size_of::<Match>() <= 1536);
 
 /// What feeds an output in a slot.
@@ -171,8 +171,8 @@ impl Match {
         }
     }
 
-    /// Whether the match may gain these pairs of the input: the outputs are some, free and below the
-    /// number of ports, a unicast has one of them, and the input is free, or goes on with a head that
+    /// Whether the match may gain these pairs of the input: there is an output, each is free and below
+    /// the number of ports, unicast has one alone, and the input is free, or goes on with a head that
     /// it is matched with as multicast of this level.
     pub fn may_add(&self, input: u32, outputs: Ports, level: u8, kind: Kind) -> bool
         requires input_in { input < length self.now }
@@ -185,7 +185,8 @@ impl Match {
         self.is_ready(input, outputs, level, kind)
     }
 
-    // Whether the input may be matched with so many outputs.
+    // Whether the input may be matched with these outputs, if they are free: with one alone for unicast,
+    // and where it is free or goes on with its head.
     fn is_ready(&self, input: u32, outputs: Ports, level: u8, kind: Kind) -> bool
         requires input_in { input < length self.now }
         requires level_in { level < LEVELS }
@@ -198,7 +199,7 @@ impl Match {
         }
     }
 
-    /// Matches the input with the outputs, which it may be. All earlier pairs stay.
+    /// Matches the input with the outputs, where [`Match::may_add`] allows it. All earlier pairs stay.
     pub fn add(&mut self, input: u32, outputs: Ports, level: u8, kind: Kind)
         requires input_in { input < length self.old }
         requires level_in { level < LEVELS }
