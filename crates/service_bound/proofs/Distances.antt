@@ -3,7 +3,8 @@ use Rattle.std.proofs.Common.{◌≡◌, ℕ, ◌+◌, ◌-◌, ◌%◌, ◌<◌
 use Rattle.std.proofs.Math.Nat.{mod-eq_of_lt}
 use Rattle.std.proofs.lemmas.Bool.{cases_lt}
 use Rattle.rotating_pick.specs.Rotation.{distance}
-use Rattle.rotating_pick.proofs.Circle.{mod_once}
+use Rattle.rotating_pick.proofs.Circle.{mod_once, distance-lt}
+use Rattle.rotating_pick.proofs.Picking.{distance-injective}
 
 -- a distance by subtraction: of a port that is not below the pointer, and of one below it
 record IsDistance (n from x d : ℕ) : Type 0 where
@@ -37,3 +38,24 @@ distance-passed n from x y f x_in y_in less =
     let next_in : (x + 1) % n < n = elim step [ inl s ↦ omega (arith, s.0, s.1) | inr s ↦ omega (arith, s.0, s.1) ] in
     passed_by n from x y ((x + 1) % n) (distance n from x) (distance n from y) (distance n ((x + 1) % n) y) f x_in y_in
     (IsDistance-distance n from x f x_in) (IsDistance-distance n from y f y_in) (IsDistance-distance n ((x + 1) % n) y next_in y_in) less step
+
+behind_by : (n from x y next a b c : ℕ) → from < n → x < n → y < n → IsDistance n from x a → IsDistance n from y b → IsDistance n next y c → b ≤ a → ((x + 1 < n) × (next ≡ x + 1)) ⊎ ((x + 1 ≡ n) × (next ≡ 0)) → c + a + 1 ≡ b + n
+behind_by n from x y next a b c f x_in y_in da db dc less step = grind (arith, da.above, da.below, db.above, db.below, dc.above, dc.below)
+
+-- and a port that is no farther than x is then behind it, at the end of the circle
+pub distance-behind : (n from x y : ℕ) → from < n → x < n → y < n → distance n from y ≤ distance n from x → distance n ((x + 1) % n) y + distance n from x + 1 ≡ distance n from y + n
+distance-behind n from x y f x_in y_in less =
+    let step = one_beyond n x x_in in
+    let next_in : (x + 1) % n < n = elim step [ inl s ↦ omega (arith, s.0, s.1) | inr s ↦ omega (arith, s.0, s.1) ] in
+    behind_by n from x y ((x + 1) % n) (distance n from x) (distance n from y) (distance n ((x + 1) % n) y) f x_in y_in
+    (IsDistance-distance n from x f x_in) (IsDistance-distance n from y f y_in) (IsDistance-distance n ((x + 1) % n) y next_in y_in) less step
+
+-- one beyond a port x, any other port is nearer than n - 1 steps
+pub distance-beyond : (n x y : ℕ) → x < n → y < n → (x ≡ y → ⊥) → distance n ((x + 1) % n) y + 2 ≤ n
+distance-beyond n x y x_in y_in other =
+    let here = IsDistance-distance n x x x_in x_in in
+    let zero = here.above (omega arith) in
+    let apart : distance n x x ≡ distance n x y → ⊥ = λ e. other (distance-injective n x x y x_in x_in y_in e) in
+    let passed = distance-passed n x x y x_in x_in y_in (omega arith) in
+    let below = distance-lt n x y x_in in
+    omega (arith, passed, below)

@@ -1,17 +1,24 @@
 pub mod Distances
+pub mod Sums
 pub mod Rank
 pub mod FirstRound
 pub mod LaterRounds
 pub mod Granting
 pub mod PointersAfter
 pub mod InWindows
+pub mod Fresh
 pub mod RankFalls
 pub mod ServedInTime
+pub mod OneRoundRank
+pub mod OneRound
+pub mod OneRoundServed
 pub mod HeadsComplete
 pub mod PartsOfSchedules
 pub mod Waiting
 pub mod AllBelow
 pub mod LongestWaits
+pub mod OneRoundWaits
+pub mod Comparing
 mod Greatest
 mod Levels
 mod Noting

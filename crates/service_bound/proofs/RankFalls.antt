@@ -1,7 +1,6 @@
 -- In a slot of a window without multicast the rank of a request falls where it is not served.
-use Rattle.std.proofs.Common.{◌≡◌, ℕ, ◌+◌, ◌-◌, ◌*◌, ◌<◌, ◌≤◌, List, Option, subst, inl, inr, arith}
+use Rattle.std.proofs.Common.{◌≡◌, ℕ, ◌+◌, ◌<◌, ◌≤◌, List, Option, subst, inl, inr, arith}
 use Rattle.std.proofs.lemmas.Bool.{cases_eq}
-use Rattle.std.proofs.lemmas.Nat.{mod_below}
 use Rattle.rotating_pick.specs.Rotation.{distance, IsFirstFrom}
 use Rattle.rotating_pick.specs.declared.kinds.Kind.TheVariants.{Uni}
 use Rattle.rotating_pick.specs.declared.limits.TheConstants.{LEVELS}
@@ -18,7 +17,8 @@ use Rattle.eslip_rounds.specs.Schedules.{DecidedSlot}
 use Rattle.eslip_rounds.proofs.Deciding.{Names-decides}
 use Rattle.service_bound.specs.Windows.{IsClean, IsWithoutMulticast}
 use Rattle.service_bound.proofs.Distances.{distance-passed}
-use Rattle.service_bound.proofs.Rank.{twice_rank, twice_rank-far, twice_rank-near, twice_rank-turns, twice_rank-bound}
+use Rattle.service_bound.proofs.Fresh.{fresh_of, fresh_of-most, fresh-accepted, stale-refused}
+use Rattle.service_bound.proofs.Rank.{twice_longest, twice_rank, twice_rank-far, twice_rank-near, twice_rank-turns, twice_rank-bound}
 use Rattle.service_bound.proofs.FirstRound.{grants_first}
 use Rattle.service_bound.proofs.LaterRounds.{first_of, BeginsWith, BeginsWith-slot}
 use Rattle.service_bound.proofs.Granting.{turn_alone, served_by_first, refused}
@@ -27,7 +27,7 @@ use Rattle.service_bound.proofs.InWindows.{IsWindowSlot}
 -- twice the rank of the request of input i for output j, where input g asks for it too
 abbrev pub twice_rank_of : ℕ → ℕ → Places → ℕ → ℕ → ℕ → ℕ
 twice_rank_of n level places i j g =
-    twice_rank n (distance n (grant_of places j level) i) (distance n (grant_of places j level) g) (distance n (accept_of places g level) j)
+    twice_rank n (distance n (grant_of places j level) i) (distance n (grant_of places j level) g) (distance n (accept_of places g level) j) (fresh_of n level places i j)
 
 -- After the slot input h asks on, not served and no farther from the grant pointer than i, and by it the
 -- request's rank is lower than it was by g.
@@ -47,16 +47,19 @@ module _ (n t level : ℕ) (rows : List Row) (first matched : List (Option Fed))
         let from_in = pointing.grant j j_in in
         let at_most = nearest.least i i_in named in
         let apart : distance n (grant_of before j level) h ≡ distance n (grant_of before j level) i → ⊥ = λ e. other (distance-injective n (grant_of before j level) h i from_in nearest.below i_in e) in
-        let nearer = distance-passed n (grant_of before j level) h i from_in nearest.below i_in (omega arith) in
+        let ahead : distance n (grant_of before j level) h < distance n (grant_of before j level) i = omega arith in
+        let nearer = distance-passed n (grant_of before j level) h i from_in nearest.below i_in ahead in
         let place = moved.granted h j level served in
+        let closer : distance n (grant_of after j level) i < distance n (grant_of before j level) i = rw place (omega arith) in
+        let no_fresher = fresh-accepted n t level rows first matched begins.opening.count before after moved pointing i j i_in j_in h nearest.below served ahead in
         record {
           input_in = i_in;
           asks = named;
           left = left;
           within = omega arith;
-          lower = twice_rank-far n (distance n (grant_of before j level) i) (distance n (grant_of before j level) g) (distance n (accept_of before g level) j)
-              (distance n (grant_of after j level) i) (distance n (grant_of after j level) i) (distance n (accept_of after i level) j)
-              (rw place (omega arith)) (omega arith) (mod_below (j + (n - accept_of after i level)) n (omega arith));
+          lower = twice_rank-far n (distance n (grant_of before j level) i) (distance n (grant_of before j level) g) (distance n (accept_of before g level) j) (fresh_of n level before i j)
+              (distance n (grant_of after j level) i) (distance n (grant_of after j level) i) (distance n (accept_of after i level) j) (fresh_of n level after i j)
+              closer (omega arith) no_fresher;
         }
 
     -- the input h that is granted took another output y: its accept pointer passes y, and comes nearer to j
@@ -65,14 +68,8 @@ module _ (n t level : ℕ) (rows : List Row) (first matched : List (Option Fed))
         let h_in = nearest.below in
         let nobody = refused n t level rows first before level_in begins.opening pointing clean alone h j y h_in j_in granted accepted other in
         let stays = moved.grant_stays j level nobody in
-        let accept_in = pointing.accept h h_in in
-        let at_most = accepted.least j j_in granted in
-        let apart : distance n (accept_of before h level) y ≡ distance n (accept_of before h level) j → ⊥ = λ e. other (distance-injective n (accept_of before h level) y j accept_in accepted.below j_in e) in
-        let nearer = distance-passed n (accept_of before h level) y j accept_in accepted.below j_in (omega arith) in
-        let place = moved.accepted h y level served in
-        let closer : distance n (accept_of after h level) j < distance n (accept_of before h level) j = rw place (omega arith) in
-        let small : distance n (accept_of after h level) j < n = mod_below (j + (n - accept_of after h level)) n (omega arith) in
         let no_farther = nearest.least g g_in asking in
+        let stale = stale-refused n t level rows first matched begins.opening.count before after moved pointing i j i_in j_in nobody h y h_in accepted.below served other (accepted.least j j_in granted) (nearest.least i i_in named) in
         record {
           input_in = h_in;
           asks = nearest.member;
@@ -80,11 +77,11 @@ module _ (n t level : ℕ) (rows : List Row) (first matched : List (Option Fed))
           within = rw stays (nearest.least i i_in named);
           lower = rw stays (elim (cases_eq h g) [
             | inl same ↦
-                let P : ℕ → Type 0 = λ v. twice_rank n (distance n (grant_of before j level) i) (distance n (grant_of before j level) h) (distance n (accept_of after h level) j) + 2 ≤ twice_rank_of n level before i j v in
-                subst P same (twice_rank-turns n (distance n (grant_of before j level) i) (distance n (grant_of before j level) h) (distance n (accept_of before h level) j) (distance n (accept_of after h level) j) closer)
+                let P : ℕ → Type 0 = λ v. twice_rank n (distance n (grant_of before j level) i) (distance n (grant_of before j level) h) (distance n (accept_of after h level) j) (fresh_of n level after i j) + 2 ≤ twice_rank_of n level before i j v in
+                subst P same (twice_rank-turns n (distance n (grant_of before j level) i) (distance n (grant_of before j level) h) (distance n (accept_of before h level) j) (fresh_of n level before i j) (distance n (accept_of after h level) j) (fresh_of n level after i j) stale)
             | inr new ↦
                 let differ : distance n (grant_of before j level) h ≡ distance n (grant_of before j level) g → ⊥ = λ e. new (distance-injective n (grant_of before j level) h g (pointing.grant j j_in) h_in g_in e) in
-                twice_rank-near n (distance n (grant_of before j level) i) (distance n (grant_of before j level) g) (distance n (accept_of before g level) j) (distance n (grant_of before j level) h) (distance n (accept_of after h level) j) (omega arith) small
+                twice_rank-near n (distance n (grant_of before j level) i) (distance n (grant_of before j level) g) (distance n (accept_of before g level) j) (fresh_of n level before i j) (distance n (grant_of before j level) h) (distance n (accept_of after h level) j) (fresh_of n level after i j) (omega arith) (omega arith)
           ]);
         }
 
@@ -107,7 +104,8 @@ falls_in_slot n rounds t level places slot some now alone i j g i_in g_in named 
     falls n t level slot.rows (first_of n now.decided.steps) slot.decision.matched places slot.decision.places (now.within.levels i i_in level j Uni named) (BeginsWith-slot n t slot.rows places AreMoved rounds slot.decision some now.decided) now.decided.moved now.pointing now.clean alone i j g i_in (now.within.ports i i_in level j Uni named) g_in named asking left
 
 -- a request that is alone with itself has a rank, and it is below the bound
-pub twice_rank_of-bound : (n level : ℕ) (places : Places) (i j : ℕ) → ArePointing n level places → i < n → j < n → twice_rank_of n level places i j i + 2 ≤ n * (n * (n + 1))
+pub twice_rank_of-bound : (n level : ℕ) (places : Places) (i j : ℕ) → ArePointing n level places → i < n → j < n → twice_rank_of n level places i j i + 2 ≤ twice_longest n
 twice_rank_of-bound n level places i j pointing i_in j_in =
     let far = distance n (grant_of places j level) i in
-    twice_rank-bound n far far (distance n (accept_of places i level) j) (distance-lt n (grant_of places j level) i (pointing.grant j j_in)) (omega arith) (distance-lt n (accept_of places i level) j (pointing.accept i i_in))
+    let few = fresh_of-most n level places i j pointing j_in in
+    twice_rank-bound n far far (distance n (accept_of places i level) j) (fresh_of n level places i j) (distance-lt n (grant_of places j level) i (pointing.grant j j_in)) (omega arith) few

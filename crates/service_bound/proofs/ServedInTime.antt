@@ -1,5 +1,5 @@
 -- Over a window without multicast the rank of a request falls from slot to slot until it is served.
-use Rattle.std.proofs.Common.{ℕ, ◌+◌, ◌*◌, ◌/◌, ◌<◌, ◌≤◌, List, [], ◌∷◌, length, All, Any, inl, inr, arith}
+use Rattle.std.proofs.Common.{ℕ, ◌+◌, ◌*◌, ◌<◌, ◌≤◌, List, [], ◌∷◌, length, All, Any, inl, inr, arith}
 use Rattle.std.proofs.lemmas.List.Elements.{All-head, All-tail}
 use Rattle.rotating_pick.specs.declared.kinds.Kind.TheVariants.{Uni}
 use Rattle.slot_match.specs.declared.rows.Row.{Row}
@@ -10,7 +10,8 @@ use Rattle.slot_match.proofs.Pairs.{Serves-decides}
 use Rattle.pointer_state.specs.Places.{Places}
 use Rattle.eslip_rounds.specs.Schedules.{DecidedSlot}
 use Rattle.service_bound.specs.Windows.{IsWithoutMulticast, InFirst, IsWindow}
-use Rattle.service_bound.proofs.Rank.{twice_rank-bound}
+use Rattle.service_bound.specs.Waits.{longest_service}
+use Rattle.service_bound.proofs.Rank.{twice_longest-some}
 use Rattle.service_bound.proofs.InWindows.{Any-here, Any-later, InFirst-along, first_slot, later_slots}
 use Rattle.service_bound.proofs.RankFalls.{twice_rank_of, falls_in_slot, twice_rank_of-bound}
 
@@ -36,11 +37,11 @@ module _ (n rounds level i j : ℕ) (some : 0 < rounds) (i_in : i < n) where
             (omega (arith, by.lower)))
       ]
 
--- n * n * (n + 1) / 2 slots are enough
+-- the longest service is slots enough
 pub served_in_time : (n rounds t level i j : ℕ) (places : Places) (slots : List DecidedSlot) → 0 < rounds → i < n → IsWindow n rounds t level places slots → All (λ slot. IsWithoutMulticast n level slot.rows) slots → InFirst (λ rows. Names (row_of rows i) level Uni j) slots
-    → n * n * (n + 1) / 2 ≤ length slots → Any (λ slot. Serves slot.decision.matched i j level Uni) slots
+    → longest_service n ≤ length slots → Any (λ slot. Serves slot.decision.matched i j level Uni) slots
 served_in_time n rounds t level i j places [] some i_in window alone named long =
-    let least = twice_rank-bound n 0 0 0 (omega arith) (omega arith) (omega arith) in
+    let least = twice_longest-some n (omega arith) in
     absurd (omega (arith, least))
 served_in_time n rounds t level i j places (slot ∷ slots) some i_in window alone named long =
     let now = first_slot n rounds t level places slot slots window in

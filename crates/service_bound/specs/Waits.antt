@@ -1,5 +1,5 @@
 -- Waits: for how many slots, one after the other, a unicast queue was posted and not served.
-use Rattle.std.specs.Prelude.{ℕ, ◌+◌, ◌&&◌, Bool, not, max, if◌then◌else◌, List, [], ◌∷◌, Option}
+use Rattle.std.specs.Prelude.{ℕ, ◌+◌, ◌-◌, ◌*◌, ◌/◌, ◌&&◌, Bool, not, max, if◌then◌else◌, List, [], ◌∷◌, Option}
 use Rattle.std.specs.List.{flat_map, range_with_len}
 use Rattle.rotating_pick.specs.declared.kinds.Kind.TheVariants.{Uni}
 use Rattle.slot_match.specs.declared.rows.Row.{Row}
@@ -39,3 +39,13 @@ greatest (x ∷ xs) = max x (greatest xs)
 -- the longest wait of the level: the greatest of all queues of a switch of n ports, in all slots
 unfoldable pub longest_wait : ℕ → ℕ → List NotedSlot → ℕ
 longest_wait n level slots = greatest (flat_map (λ i. flat_map (λ j. waits_from 0 slots i j level) (range_with_len 0 n)) (range_with_len 0 n))
+
+-- In how many slots a unicast request of n ports is served at the latest, where nothing of a better level
+-- and no multicast of its own is posted. Nothing is cut off by the subtraction: n is at most n * n.
+abbrev pub longest_service : ℕ → ℕ
+longest_service n = n * (n * n - n + 2) / 2
+
+-- The same where slots have one round: 2 * n * n - 3 * n + 2, with the sum first, so that for one port too
+-- nothing is cut off.
+abbrev pub longest_service_in_one_round : ℕ → ℕ
+longest_service_in_one_round n = 2 * n * n + 2 - 3 * n

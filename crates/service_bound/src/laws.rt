@@ -8,15 +8,22 @@ ghost use Rattle.slot_match.specs.Matches.{Serves, Completes};
 ghost use Rattle.pointer_state.specs.Places.{Places, ArePointing};
 ghost use Rattle.eslip_rounds.specs.Schedules.{DecidedSlot, IsSchedule};
 ghost use Rattle.service_bound.specs.Windows.{IsWindow, InFirst, AreKept, IsClean, IsWithoutMulticast, places_after};
-ghost use Rattle.service_bound.specs.Waits.{noted_of, longest_wait};
+ghost use Rattle.service_bound.specs.Waits.{noted_of, longest_wait, longest_service, longest_service_in_one_round};
 
-/// In a window of `n * n * (n + 1) / 2` slots without multicast at the level, a unicast queue that is
+/// In a window of `n * (n * n - n + 2) / 2` slots without multicast at the level, a unicast queue that is
 /// posted in the first slot is served in one of them. (McKeown argues for `n * n` slots; where a new
 /// request may take a grant this many are proved.)
 pub fn unicast_served()
     ensures { (n rounds t level i j : ℕ) (places : Places) (slots : List DecidedSlot) → 0 < rounds → i < n → IsWindow n rounds t level places slots
         → All (λ slot. IsWithoutMulticast n level slot.rows) slots → InFirst (λ rows. Names (row_of rows i) level Uni j) slots
-        → n * n * (n + 1) / 2 ≤ length slots → Any (λ slot. Serves slot.decision.matched i j level Uni) slots }
+        → longest_service n ≤ length slots → Any (λ slot. Serves slot.decision.matched i j level Uni) slots }
+{}
+
+/// Where each slot has one round, a window of `2 * n * n - 3 * n + 2` such slots is enough.
+pub fn one_round_served()
+    ensures { (n t level i j : ℕ) (places : Places) (slots : List DecidedSlot) → i < n → IsWindow n 1 t level places slots
+        → All (λ slot. IsWithoutMulticast n level slot.rows) slots → InFirst (λ rows. Names (row_of rows i) level Uni j) slots
+        → longest_service_in_one_round n ≤ length slots → Any (λ slot. Serves slot.decision.matched i j level Uni) slots }
 {}
 
 /// In a window of `2 * n` slots, a multicast head that is posted in the first slot completes in one of
@@ -27,12 +34,27 @@ pub fn multicast_completes()
         → 2 * n ≤ length slots → Any (λ slot. HasHead slot.rows level i × Completes slot.rows slot.decision.matched level i) slots }
 {}
 
-/// In a window without multicast at the level, no queue of the level waits for `n * n * (n + 1) / 2`
-/// slots.
+/// In a window without multicast at the level, no queue of the level waits for
+/// `n * (n * n - n + 2) / 2` slots.
 pub fn waits_are_bounded()
     ensures { (n rounds t level : ℕ) (places : Places) (slots : List DecidedSlot) → 0 < n → 0 < rounds → IsWindow n rounds t level places slots
         → All (λ slot. IsWithoutMulticast n level slot.rows) slots
-        → longest_wait n level (map noted_of slots) < n * n * (n + 1) / 2 }
+        → longest_wait n level (map noted_of slots) < longest_service n }
+{}
+
+/// Where each slot has one round, none waits for `2 * n * n - 3 * n + 2` slots.
+pub fn one_round_waits_are_bounded()
+    ensures { (n t level : ℕ) (places : Places) (slots : List DecidedSlot) → 0 < n → IsWindow n 1 t level places slots
+        → All (λ slot. IsWithoutMulticast n level slot.rows) slots
+        → longest_wait n level (map noted_of slots) < longest_service_in_one_round n }
+{}
+
+/// One round never needs more slots than more rounds do. Both bounds are within `n * n * (n + 1) / 2`, and so
+/// within `n * n * n`.
+pub fn bounds_are_within()
+    ensures one_round { (n : ℕ) → 0 < n → longest_service_in_one_round n ≤ longest_service n }
+    ensures half { (n : ℕ) → longest_service n ≤ n * n * (n + 1) / 2 }
+    ensures cube { (n : ℕ) → longest_service n ≤ n * n * n }
 {}
 
 /// Some slots out of the middle of a schedule whose rows are kept are a window, where they are clean.
@@ -64,7 +86,7 @@ mod tests {
     }
 
     // Nine slots are not enough for three ports: input 0 asks output 0 in each of these slots, and is
-    // served in the last of eleven.
+    // served in the last of eleven, as late as can be with one round.
     #[test]
     fn new_requests_take_grants(rt: HostRuntime) {
         let slot = |posted, fed| Slot { posted, fed };

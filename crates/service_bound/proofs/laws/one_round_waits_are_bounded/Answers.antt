@@ -1,0 +1,5 @@
+use Rattle.service_bound.proofs.OneRoundWaits.{one_longest_wait-bound}
+use Rattle.service_bound.proofs.laws.one_round_waits_are_bounded.Goals as goal
+
+pub returns : goal.returns
+returns c = one_longest_wait-bound
