@@ -11,10 +11,10 @@ record IsDistance (n from x d : ℕ) : Type 0 where
   above : from ≤ x → d + from ≡ x
   below : x < from → d + from ≡ x + n
 
-distance-above : (n from x : ℕ) → from < n → x < n → from ≤ x → distance n from x + from ≡ x
+pub distance-above : (n from x : ℕ) → from < n → x < n → from ≤ x → distance n from x + from ≡ x
 distance-above n from x f x_in above = let e : (x + (n - from)) % n ≡ x - from = mod_once n (x + (n - from)) (omega arith) (omega arith) ∙ omega arith in rw e (omega arith)
 
-distance-below : (n from x : ℕ) → from < n → x < n → x < from → distance n from x + from ≡ x + n
+pub distance-below : (n from x : ℕ) → from < n → x < n → x < from → distance n from x + from ≡ x + n
 distance-below n from x f x_in below = let short : x + (n - from) < n = omega arith in let e : (x + (n - from)) % n ≡ x + (n - from) = mod-eq_of_lt short in rw e (omega arith)
 
 IsDistance-distance : (n from x : ℕ) → from < n → x < n → IsDistance n from x (distance n from x)

@@ -20,7 +20,7 @@ pub record IsTurn (n t : ℕ) (rows : List Row) (level : ℕ) (kind : Kind) : Ty
   pub turn : (i j : ℕ) → i < n → Names (row_of rows i) level (preferred t) j → kind ≡ preferred t
 
 -- all inputs are free, so what is asked is asked by the rows
-asks_at_first : (n : ℕ) (rows : List Row) (i j level : ℕ) (kind : Kind) → Requests rows (unmatched n) i j level kind → Asks (row_of rows i) j level kind
+pub asks_at_first : (n : ℕ) (rows : List Row) (i j level : ℕ) (kind : Kind) → Requests rows (unmatched n) i j level kind → Asks (row_of rows i) j level kind
 asks_at_first n rows i j level kind r = elim r [ inl free ↦ free.1 | inr on ↦ let some = on.going_on.some in absurd (nobody_at_first n i some.0 level _ some.1) ]
 
 module _ (n t : ℕ) (rows : List Row) (places : Places) (level : ℕ) (level_in : level < LEVELS) (clean : IsClean n level rows) where

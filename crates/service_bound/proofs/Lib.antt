@@ -19,6 +19,12 @@ pub mod AllBelow
 pub mod LongestWaits
 pub mod OneRoundWaits
 pub mod Comparing
+pub mod Postings
+pub mod PostedSlots
+pub mod PostedRuns
+pub mod Descents
+pub mod OneRoundFamily
+pub mod MoreRoundsFamily
 mod Greatest
 mod Levels
 mod Noting

@@ -137,7 +137,7 @@ module _ (n t level : ℕ) (rows : List Row) (matched : List (Option Fed)) (befo
         ]
 
 -- of one round, the first is the last
-one_is_first : (n : ℕ) (steps : List (List (Option Fed))) → length steps ≡ 1 → first_of n steps ≡ last_of (unmatched n) steps
+pub one_is_first : (n : ℕ) (steps : List (List (Option Fed))) → length steps ≡ 1 → first_of n steps ≡ last_of (unmatched n) steps
 one_is_first n [] one = absurd (omega arith)
 one_is_first n (step ∷ []) one = refl
 one_is_first n (step ∷ second ∷ steps) one = absurd (omega arith)

@@ -1,13 +1,15 @@
 //! Bounds on waiting, as the contracts of functions that do nothing. They hold of the scheduler's
 //! definitions, for every number of ports and rounds and every window of slots.
 
-ghost use Rattle.std.specs.Prelude.{ℕ, ◌+◌, ◌*◌, ◌/◌, ◌<◌, ◌≤◌, List, All, Any, length, map, take, drop};
+ghost use Rattle.std.specs.Prelude.{◌≡◌, ℕ, ◌+◌, ◌*◌, ◌/◌, ◌<◌, ◌≤◌, List, All, Any, length, map, take, drop};
 ghost use Rattle.rotating_pick.specs.declared.kinds.Kind.TheVariants.{Uni};
+ghost use Rattle.rotating_pick.specs.declared.limits.TheConstants.{MAX_PORTS};
 ghost use Rattle.slot_match.specs.Rows.{Names, row_of, HasHead, AreWithin};
 ghost use Rattle.slot_match.specs.Matches.{Serves, Completes};
 ghost use Rattle.pointer_state.specs.Places.{Places, ArePointing};
 ghost use Rattle.eslip_rounds.specs.Schedules.{DecidedSlot, IsSchedule};
 ghost use Rattle.service_bound.specs.Windows.{IsWindow, InFirst, AreKept, IsClean, IsWithoutMulticast, places_after};
+ghost use Rattle.service_bound.specs.Latest.{IsServedLast};
 ghost use Rattle.service_bound.specs.Waits.{noted_of, longest_wait, longest_service, longest_service_in_one_round};
 
 /// In a window of `n * (n * n - n + 2) / 2` slots without multicast at the level, a unicast queue that is
@@ -24,6 +26,18 @@ pub fn one_round_served()
     ensures { (n t level i j : ℕ) (places : Places) (slots : List DecidedSlot) → i < n → IsWindow n 1 t level places slots
         → All (λ slot. IsWithoutMulticast n level slot.rows) slots → InFirst (λ rows. Names (row_of rows i) level Uni j) slots
         → longest_service_in_one_round n ≤ length slots → Any (λ slot. Serves slot.decision.matched i j level Uni) slots }
+{}
+
+/// That many are needed, for every number of ports: in some window of as many slots of one round, a queue
+/// is posted in every slot and served in the last one alone.
+pub fn one_round_is_reached()
+    ensures { (n t : ℕ) → 0 < n → n ≤ MAX_PORTS → (places : Places) × (slots : List DecidedSlot) × IsServedLast n 1 t 0 0 0 places slots × (length slots ≡ longest_service_in_one_round n) }
+{}
+
+/// For three ports or more and two rounds or more, `n * (n * n - n + 2) / 2` slots are needed: a later round
+/// serves a request and moves no pointer, so more rounds make the longest wait longer.
+pub fn more_rounds_are_reached()
+    ensures { (n rounds t : ℕ) → 2 < n → n ≤ MAX_PORTS → 1 < rounds → (places : Places) × (slots : List DecidedSlot) × IsServedLast n rounds t 0 0 0 places slots × (length slots ≡ longest_service n) }
 {}
 
 /// In a window of `2 * n` slots, a multicast head that is posted in the first slot completes in one of
