@@ -65,7 +65,7 @@ nearer_standing n from p x e some ahead x_in =
     let at : from ≡ p = e ∙ mod-eq_of_lt (omega arith) in
     subst (λ f. distance n f x ≤ distance n f 0) (sym at) (nearer n p x some ahead x_in)
 
-Suits-plain : (n : ℕ) (places : Places) (x y z : ℕ) → (x ≡ 0) ⊎ (distance n (grant_of places 0 0) x ≤ distance n (grant_of places 0 0) 0) → (y ≡ 0) ⊎ (accept_of places x 0 ≡ y) → (z ≡ 0) ⊎ ((0 < x) × (y ≡ z → ⊥)) → Suits n places (plain x y z)
+pub Suits-plain : (n : ℕ) (places : Places) (x y z : ℕ) → (x ≡ 0) ⊎ (distance n (grant_of places 0 0) x ≤ distance n (grant_of places 0 0) 0) → (y ≡ 0) ⊎ (accept_of places x 0 ≡ y) → (z ≡ 0) ⊎ ((0 < x) × (y ≡ z → ⊥)) → Suits n places (plain x y z)
 Suits-plain n places x y z front pointer own =
     let From = grant_of places 0 0 in
     let zero_near : distance n From x ≤ distance n From 0 = elim front [ inl e ↦ let d = ap (distance n From) e in omega arith | inr less ↦ less ] in
@@ -152,6 +152,10 @@ module _ (n rounds : ℕ) (some_rounds : 0 < rounds) where
   served_last_slot t places some switch =
       (step_alone n rounds t places (lowers 0 0) switch (record { input_in = some; beside_in = some; own_in = some; other_in = some; output_in = some }) (Suits-plain n places 0 0 0 (inl refl) (inl refl) (inl refl)) some_rounds (inl refl)).serving.served
 
+-- the pointers that the families begin with: output 0 and all inputs point at port 1, or at the only port
+abbrev pub IsBeginning : ℕ → Places → Type 0
+IsBeginning n places = IsStanding n places 1 1 n 0 1 1
+
 -- all pointers at port 1, or at the only port
 all_at : ℕ → List (List ℕ)
 all_at place = replicate LEVELS (replicate MAX_PORTS place)
@@ -188,9 +192,9 @@ module _ (n : ℕ) (some : 0 < n) (size : n ≤ MAX_PORTS) where
         };
       }
 
-  pub IsStanding-at_one : IsStanding n (places_at_one n) 1 1 n 0 1 1
+  pub IsBeginning-at_one : IsBeginning n (places_at_one n)
   unfolding places_at_one
-  IsStanding-at_one =
+  IsBeginning-at_one =
       record {
         switch = record { at_ports = AreAtPorts-at_one; ports = refl };
         grant = all_at-is (1 % n) 0 0 (omega arith) (omega arith);
@@ -198,22 +202,21 @@ module _ (n : ℕ) (some : 0 < n) (size : n ≤ MAX_PORTS) where
         fresh = λ i late i_in. all_at-is (1 % n) 0 i (omega arith) (omega arith) ∙ mod-eq_of_lt (omega arith);
       }
 
-  -- what is late from there is a window in which queue (0, 0) is served in the last slot alone
-  pub IsServedLast-at_one : (rounds t : ℕ) (ps : List Posting) → IsLate n rounds t (places_at_one n) ps → IsServedLast n rounds t 0 0 0 (places_at_one n) (run n rounds t (places_at_one n) ps)
-  IsServedLast-at_one rounds t ps late =
-      let places = places_at_one n in
-      let switch : IsSwitch n places = IsStanding-at_one.switch in
-      record {
-        at_ports = switch.at_ports;
-        ports = switch.ports;
-        window = record {
-          pointing = subst (λ m. ArePointing m 0 places) switch.ports (AreAtPorts-at_one.pointing 0 (omega arith));
-          schedule = IsSchedule-run n rounds t places ps switch;
-          within = All-run n rounds t places (AreWithin n) (AreWithin-rows n) ps;
-          kept = late.kept;
-          clean = All-run n rounds t places (IsClean n 0) (IsClean-rows n) ps;
-        };
-        alone = All-run n rounds t places (IsWithoutMulticast n 0) (IsWithoutMulticast-rows n) ps;
-        posted = All-run n rounds t places (λ rows. Names (row_of rows 0) 0 Uni 0) (λ p. names n p 0 0 some some (zero_posted p)) ps;
-        last = late.last;
-      }
+-- What is late from pointers of a switch is a window in which queue (0, 0) is served in the last slot alone.
+pub IsServedLast-run : (n rounds t : ℕ) (places : Places) (ps : List Posting) → IsSwitch n places → IsLate n rounds t places ps → IsServedLast n rounds t 0 0 0 places (run n rounds t places ps)
+IsServedLast-run n rounds t places ps switch late =
+    let some : 0 < n = subst (λ m. 0 < m) switch.ports switch.at_ports.some in
+    record {
+      at_ports = switch.at_ports;
+      ports = switch.ports;
+      window = record {
+        pointing = subst (λ m. ArePointing m 0 places) switch.ports (switch.at_ports.pointing 0 (omega arith));
+        schedule = IsSchedule-run n rounds t places ps switch;
+        within = All-run n rounds t places (AreWithin n) (AreWithin-rows n) ps;
+        kept = late.kept;
+        clean = All-run n rounds t places (IsClean n 0) (IsClean-rows n) ps;
+      };
+      alone = All-run n rounds t places (IsWithoutMulticast n 0) (IsWithoutMulticast-rows n) ps;
+      posted = All-run n rounds t places (λ rows. Names (row_of rows 0) 0 Uni 0) (λ p. names n p 0 0 some some (zero_posted p)) ps;
+      last = late.last;
+    }

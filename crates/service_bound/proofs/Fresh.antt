@@ -31,7 +31,7 @@ fresh_of-most n level places i j pointing j_in =
 
 module _ (n t level : ℕ) (rows : List Row) (first matched : List (Option Fed)) (size : length first ≡ n) (before after : Places) (moved : AreMoved n t rows first matched before after) (pointing : ArePointing n level before) where
   -- an accept pointer stays or goes one beyond some output, which is another than j but where j is served
-  accept_later : (x j : ℕ) → x < n → j < n → Serves first x j level Uni ⊎ (distance n (accept_of after x level) j + 2 ≤ n) ⊎ (distance n (accept_of after x level) j ≡ distance n (accept_of before x level) j)
+  pub accept_later : (x j : ℕ) → x < n → j < n → Serves first x j level Uni ⊎ (distance n (accept_of after x level) j + 2 ≤ n) ⊎ (distance n (accept_of after x level) j ≡ distance n (accept_of before x level) j)
   accept_later x j x_in j_in = elim (some_below (λ y. Serves first x y level Uni) (λ y. Serves-decides first x y level Uni) n) [
     | inl met ↦ elim (cases_eq met.0 j) [
       | inl same ↦ inl (subst (λ y. Serves first x y level Uni) same met.2)

@@ -18,7 +18,8 @@ use Rattle.service_bound.specs.Windows.{IsClean, IsWithoutMulticast}
 use Rattle.service_bound.proofs.FirstRound.{IsTurn, first_granted, accepts_there, Grants-decides}
 
 module _ (n t level : ℕ) (rows : List Row) (first : List (Option Fed)) (places : Places) (level_in : level < LEVELS) (opening : IsRound n t rows places (unmatched n) first) (pointing : ArePointing n level places) (clean : IsClean n level rows) (alone : IsWithoutMulticast n level rows) where
-  kind_alone : (kind : Kind) (i j : ℕ) → i < n → Names (row_of rows i) level kind j → Uni ≡ kind
+  -- what is named at the level is unicast
+  pub kind_alone : (kind : Kind) (i j : ℕ) → i < n → Names (row_of rows i) level kind j → Uni ≡ kind
   kind_alone Uni i j i_in named = refl
   kind_alone Multi i j i_in named = absurd (alone i j i_in named)
 

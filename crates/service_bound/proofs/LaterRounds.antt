@@ -22,6 +22,15 @@ pub length-first_of : (n t : ℕ) (rows : List Row) (places : Places) (steps : L
 length-first_of n t rows places [] chain = (IsMatch-unmatched n).count
 length-first_of n t rows places (step ∷ steps) chain = chain.0.count
 
+-- a second round of some rounds, of which the pairs stay
+pub second_of : (n t : ℕ) (rows : List Row) (places : Places) (steps : List (List (Option Fed))) → 1 < length steps → AreRounds n t rows places (unmatched n) steps
+    → (second : List (Option Fed)) × IsRound n t rows places (first_of n steps) second × ((i j level : ℕ) (kind : Kind) → Serves second i j level kind → Serves (last_of (unmatched n) steps) i j level kind)
+second_of n t rows places [] more chain = absurd (omega arith)
+second_of n t rows places (step ∷ []) more chain = absurd (omega arith)
+second_of n t rows places (step ∷ second ∷ steps) more chain =
+    let later : AreRounds n t rows places step (second ∷ steps) = chain.1 in
+    (second, later.0, AreRounds-keep n t rows places second steps later.1)
+
 -- The slot begins with a first round, of which the pairs stay and the unicast inputs get no other pairs.
 pub record BeginsWith (n t : ℕ) (rows : List Row) (places : Places) (first matched : List (Option Fed)) : Type 0 where
   pub opening : IsRound n t rows places (unmatched n) first

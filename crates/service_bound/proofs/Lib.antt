@@ -19,12 +19,15 @@ pub mod AllBelow
 pub mod LongestWaits
 pub mod OneRoundWaits
 pub mod Comparing
+pub mod TwoPorts
 pub mod Postings
 pub mod PostedSlots
 pub mod PostedRuns
 pub mod Descents
 pub mod OneRoundFamily
 pub mod MoreRoundsFamily
+pub mod TwoPortsFamily
+pub mod Openings
 mod Greatest
 mod Levels
 mod Noting

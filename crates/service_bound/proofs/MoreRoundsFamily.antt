@@ -19,46 +19,46 @@ use Rattle.service_bound.proofs.Distances.{distance-above}
 use Rattle.service_bound.proofs.Postings.{Posting, IsPosted, zero_posted}
 use Rattle.service_bound.proofs.PostedSlots.{Suits}
 use Rattle.service_bound.proofs.PostedRuns.{decided, run, length-run, IsSwitch-after, Starts, IsLate, IsIn, IsLate-before, IsLate-last, step_alone, step_second, left_alone}
-use Rattle.service_bound.proofs.Descents.{plain, lowers, passes, downs, length-downs, starts_downs, starts_either, IsStanding, nearer_standing, late_slot, late_downs, late_passes, served_last_slot, places_at_one, IsStanding-at_one, IsServedLast-at_one}
+use Rattle.service_bound.proofs.Descents.{plain, lowers, passes, downs, length-downs, starts_downs, starts_either, IsStanding, nearer_standing, late_slot, late_downs, late_passes, served_last_slot, IsServedLast-run, IsBeginning, places_at_one, IsBeginning-at_one}
 
 -- the output that input 0 takes beside output a
-abbrev own_of : ℕ → ℕ
+abbrev pub own_of : ℕ → ℕ
 own_of a = 1 + (2 - a)
 
 -- input x goes down from output a in k slots, while input 0 takes outputs of its own
-abbrev shares : ℕ → ℕ → ℕ → List Posting → List Posting
+abbrev pub shares : ℕ → ℕ → ℕ → List Posting → List Posting
 shares x a zero rest = rest
 shares x a (suc k) rest = plain x a (own_of a) ∷ shares x (a + 1) k rest
 
 -- input x begins to go down from output a, and the input after it is served
-abbrev joins : ℕ → ℕ → Posting
+abbrev pub joins : ℕ → ℕ → Posting
 joins x a = record { input = x; beside = a; own = 0; other = x + 1; output = 0 }
 
 -- input 0 takes output a, and input w output 1
-abbrev resets : ℕ → ℕ → Posting
+abbrev pub resets : ℕ → ℕ → Posting
 resets a w = record { input = 0; beside = a; own = 0; other = w; output = 1 }
 
 -- the k inputs from p on go down from output b, the last one first
-abbrev climbs : ℕ → ℕ → ℕ → ℕ → List Posting → List Posting
+abbrev pub climbs : ℕ → ℕ → ℕ → ℕ → List Posting → List Posting
 climbs n p b zero rest = rest
 climbs n p b (suc k) rest = joins (p + k) b ∷ shares (p + k) (b + 1) (n - (b + 1)) (climbs n p b k rest)
 
 -- input 0 goes down from output a, and sets back k inputs from p on
-abbrev backs : ℕ → ℕ → ℕ → List Posting → List Posting
+abbrev pub backs : ℕ → ℕ → ℕ → List Posting → List Posting
 backs p a zero rest = rest
 backs p a (suc k) rest = resets a (p + k) ∷ backs p (a + 1) k rest
 
 -- the inputs from p on, of which there are k before input n - 1, go down from output b, and output 0 goes beyond p
-abbrev level_of : ℕ → ℕ → ℕ → ℕ → List Posting → List Posting
+abbrev pub level_of : ℕ → ℕ → ℕ → ℕ → List Posting → List Posting
 level_of n p b k rest = shares (n - 1) b (n - b) (climbs n p b k (passes p ∷ rest))
 
 -- the levels from p on, where k inputs are left
-abbrev levels : ℕ → ℕ → ℕ → List Posting
+abbrev pub levels : ℕ → ℕ → ℕ → List Posting
 levels n p zero = downs 0 2 (n - 2) (lowers 0 0 ∷ [])
 levels n p (suc k) = backs p 2 (suc k) (downs 0 (2 + suc k) (n - (2 + suc k)) (level_of n p 2 k (levels n (p + 1) k)))
 
 -- all slots for n ports
-abbrev family : ℕ → List Posting
+abbrev pub family : ℕ → List Posting
 family n = downs 0 1 (n - 1) (level_of n 1 1 (n - 2) (levels n 2 (n - 2)))
 
 length-shares : (x k a : ℕ) (rest : List Posting) → length (shares x a k rest) ≡ k + length rest
@@ -103,7 +103,7 @@ longest-is m n e =
     let inner : n * n - n ≡ m * m + 3 * m + 2 = rw e (omega arith) in
     ap (λ v. n * (v + 2)) inner ∙ rw e (omega arith)
 
-length-family : (n : ℕ) → 2 < n → length (family n) ≡ longest_service n
+pub length-family : (n : ℕ) → 2 < n → length (family n) ≡ longest_service n
 length-family n three =
     let m = n - 2 in
     let e : n ≡ m + 2 = omega arith in
@@ -285,17 +285,15 @@ module _ (n rounds : ℕ) (two : 1 < rounds) (three : 2 < n) where
       (n - (2 + suc k)) (2 + suc k) t places (omega arith) (omega arith) next)
       (suc k) 2 t places (omega arith) (omega arith) (omega arith) begins
 
-  module _ (size : n ≤ MAX_PORTS) where
-    some : 0 < n
-    some = omega arith
+  pub late_family : (t : ℕ) (places : Places) → IsBeginning n places → IsLate n rounds t places (family n)
+  late_family t places begins =
+      late_downs n rounds some_rounds 1 1 n 0 1 (level_of n 1 1 (n - 2) (levels n 2 (n - 2))) (omega arith) (inl (omega arith)) (inl refl) (inl refl) (starts_level_of (λ next. IsPosted next 0 0) n 1 1 (n - 2) (levels n 2 (n - 2)) zero_posted)
+      (λ t places next. late_level 1 1 (n - 2) 0 n (levels n 2 (n - 2)) (omega arith) (omega arith) (omega arith) (omega arith) (starts_levels (λ next. 0 < n) n 2 (n - 2) (λ next. omega arith))
+      (λ t places next. late_levels (n - 2) 2 t places (omega arith) (omega arith) (omega arith) next) t places next)
+      (n - 1) 1 t places (omega arith) (omega arith) begins
 
-    late_family : (t : ℕ) → IsLate n rounds t (places_at_one n) (family n)
-    late_family t =
-        late_downs n rounds some_rounds 1 1 n 0 1 (level_of n 1 1 (n - 2) (levels n 2 (n - 2))) some (inl (omega arith)) (inl refl) (inl refl) (starts_level_of (λ next. IsPosted next 0 0) n 1 1 (n - 2) (levels n 2 (n - 2)) zero_posted)
-        (λ t places next. late_level 1 1 (n - 2) 0 n (levels n 2 (n - 2)) (omega arith) (omega arith) (omega arith) (omega arith) (starts_levels (λ next. 0 < n) n 2 (n - 2) (λ next. some))
-        (λ t places next. late_levels (n - 2) 2 t places (omega arith) (omega arith) (omega arith) next) t places next)
-        (n - 1) 1 t (places_at_one n) (omega arith) (omega arith) (IsStanding-at_one n some size)
-
-    pub more_reached : (t : ℕ) → (places : Places) × (slots : List DecidedSlot) × IsServedLast n rounds t 0 0 0 places slots × (length slots ≡ longest_service n)
-    more_reached t =
-        (places_at_one n, run n rounds t (places_at_one n) (family n), IsServedLast-at_one n some size rounds t (family n) (late_family t), length-run n rounds t (places_at_one n) (family n) ∙ length-family n three)
+pub more_reached : (n rounds t : ℕ) → 2 < n → n ≤ MAX_PORTS → 1 < rounds → (places : Places) × (slots : List DecidedSlot) × IsServedLast n rounds t 0 0 0 places slots × (length slots ≡ longest_service n)
+more_reached n rounds t three size two =
+    let places = places_at_one n in
+    let begins = IsBeginning-at_one n (omega arith) size in
+    (places, run n rounds t places (family n), IsServedLast-run n rounds t places (family n) begins.switch (late_family n rounds two three t places begins), length-run n rounds t places (family n) ∙ length-family n three)

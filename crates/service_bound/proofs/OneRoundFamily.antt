@@ -14,15 +14,15 @@ use Rattle.service_bound.specs.Waits.{longest_service_in_one_round}
 use Rattle.service_bound.specs.Latest.{IsServedLast}
 use Rattle.service_bound.proofs.Postings.{Posting, IsPosted, zero_posted}
 use Rattle.service_bound.proofs.PostedRuns.{run, length-run, Starts, IsLate, IsLate-last}
-use Rattle.service_bound.proofs.Descents.{lowers, passes, downs, length-downs, starts_downs, IsStanding, late_downs, late_passes, served_last_slot, places_at_one, IsStanding-at_one, IsServedLast-at_one}
+use Rattle.service_bound.proofs.Descents.{lowers, passes, downs, length-downs, starts_downs, IsStanding, late_downs, late_passes, served_last_slot, IsServedLast-run, IsBeginning, places_at_one, IsBeginning-at_one}
 
 -- the turns of the k inputs from p on, and the last slot
-abbrev turns : ℕ → ℕ → ℕ → List Posting
+abbrev pub turns : ℕ → ℕ → ℕ → List Posting
 turns n p zero = lowers 0 0 ∷ []
 turns n p (suc k) = downs p 1 (n - 1) (passes p ∷ downs 0 2 (n - 2) (turns n (p + 1) k))
 
 -- all slots for n ports
-abbrev family : ℕ → List Posting
+abbrev pub family : ℕ → List Posting
 family n = downs 0 1 (n - 1) (turns n 1 (n - 1))
 
 length-turns : (n k p : ℕ) → length (turns n p k) ≡ k * (n - 1 + (1 + (n - 2))) + 1
@@ -36,7 +36,7 @@ length-turns n (suc k) p =
 longest-is : (m n u v : ℕ) → n ≡ m + 2 → u ≡ m + 1 → v ≡ m → u + (u * (u + (1 + v)) + 1) ≡ longest_service_in_one_round n
 longest-is m n u v en eu ev = rw (en, eu, ev) (omega arith)
 
-length-family : (n : ℕ) → 0 < n → length (family n) ≡ longest_service_in_one_round n
+pub length-family : (n : ℕ) → 0 < n → length (family n) ≡ longest_service_in_one_round n
 length-family n some =
     let all = length-downs 0 (n - 1) 1 (turns n 1 (n - 1)) ∙ ap (λ l. n - 1 + l) (length-turns n (n - 1) 1) in
     elim (cases_lt 1 n) [
@@ -71,12 +71,13 @@ module _ (n : ℕ) where
       (λ t places standing. late_turns k (p + 1) t places (omega arith) (omega arith) standing) (n - 2) 2 (t + 1) places (omega arith) (omega arith) next))
       (n - 1) 1 t places (omega arith) (omega arith) begins
 
-  module _ (some : 0 < n) (size : n ≤ MAX_PORTS) where
-    late_family : (t : ℕ) → IsLate n 1 t (places_at_one n) (family n)
-    late_family t =
-        late_downs n 1 one 1 1 n 0 1 (turns n 1 (n - 1)) some (inl (omega arith)) (inl refl) (inl refl) (starts_turns (λ next. IsPosted next 0 0) n (n - 1) 1 zero_posted)
-        (λ t places standing. late_turns (n - 1) 1 t places (omega arith) (omega arith) standing) (n - 1) 1 t (places_at_one n) (omega arith) (omega arith) (IsStanding-at_one n some size)
+  pub late_family : (t : ℕ) (places : Places) → 0 < n → IsBeginning n places → IsLate n 1 t places (family n)
+  late_family t places some begins =
+      late_downs n 1 one 1 1 n 0 1 (turns n 1 (n - 1)) some (inl (omega arith)) (inl refl) (inl refl) (starts_turns (λ next. IsPosted next 0 0) n (n - 1) 1 zero_posted)
+      (λ t places standing. late_turns (n - 1) 1 t places (omega arith) (omega arith) standing) (n - 1) 1 t places (omega arith) (omega arith) begins
 
-    pub one_reached : (t : ℕ) → (places : Places) × (slots : List DecidedSlot) × IsServedLast n 1 t 0 0 0 places slots × (length slots ≡ longest_service_in_one_round n)
-    one_reached t =
-        (places_at_one n, run n 1 t (places_at_one n) (family n), IsServedLast-at_one n some size 1 t (family n) (late_family t), length-run n 1 t (places_at_one n) (family n) ∙ length-family n some)
+pub one_reached : (n t : ℕ) → 0 < n → n ≤ MAX_PORTS → (places : Places) × (slots : List DecidedSlot) × IsServedLast n 1 t 0 0 0 places slots × (length slots ≡ longest_service_in_one_round n)
+one_reached n t some size =
+    let places = places_at_one n in
+    let begins = IsBeginning-at_one n some size in
+    (places, run n 1 t places (family n), IsServedLast-run n 1 t places (family n) begins.switch (late_family n t places some begins), length-run n 1 t places (family n) ∙ length-family n some)

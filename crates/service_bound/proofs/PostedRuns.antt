@@ -22,7 +22,7 @@ use Rattle.eslip_rounds.proofs.Settling.{IsSlot-decision_of, AreAtPorts-decision
 use Rattle.eslip_rounds.proofs.Unique.{IsMatch-slot}
 use Rattle.service_bound.specs.Windows.{AreKept}
 use Rattle.service_bound.specs.Latest.{ServeLast}
-use Rattle.service_bound.proofs.LaterRounds.{first_of, BeginsWith, BeginsWith-slot}
+use Rattle.service_bound.proofs.LaterRounds.{first_of, second_of, BeginsWith, BeginsWith-slot}
 use Rattle.service_bound.proofs.OneRound.{one_is_first}
 use Rattle.service_bound.proofs.Postings.{Posting, IsPosted, rows_of, posted, names, AreWithin-rows}
 use Rattle.service_bound.proofs.PostedSlots.{Suits, IsOutcome, outcome, served_second}
@@ -118,15 +118,6 @@ pub record IsIn (n : ℕ) (p : Posting) : Type 0 where
   pub own_in : p.own < n
   pub other_in : p.other < n
   pub output_in : p.output < n
-
--- a second round of some rounds, of which the pairs stay
-second_of : (n t : ℕ) (rows : List Row) (places : Places) (steps : List (List (Option Fed))) → 1 < length steps → AreRounds n t rows places (unmatched n) steps
-    → (second : List (Option Fed)) × IsRound n t rows places (first_of n steps) second × ((i j level : ℕ) (kind : Kind) → Serves second i j level kind → Serves (last_of (unmatched n) steps) i j level kind)
-second_of n t rows places [] more chain = absurd (omega arith)
-second_of n t rows places (step ∷ []) more chain = absurd (omega arith)
-second_of n t rows places (step ∷ second ∷ steps) more chain =
-    let later : AreRounds n t rows places step (second ∷ steps) = chain.1 in
-    (second, later.0, AreRounds-keep n t rows places second steps later.1)
 
 module _ (n rounds t : ℕ) (places : Places) (p : Posting) (switch : IsSwitch n places) (ports_in : IsIn n p) (suits : Suits n places p) (some : 0 < rounds) where
   now : IsSlot n rounds t (rows_of n p) places (decided n rounds t places p)
@@ -231,6 +222,11 @@ module _ (n : ℕ) (p next : Posting) (matched : List (Option Fed)) (serving : I
         uni = λ level j named left. named_on i j level i_in named left;
         multi = λ level j named left. let kind = (posted n p i j level Multi i_in named).1 in absurd (cc);
       }
+
+-- requests stay over one slot more in front, in which output 0 takes an input that asks for nothing else
+pub AreKept-before : (n rounds t : ℕ) (places : Places) (p : Posting) (ps : List Posting) → IsServing p (decided n rounds t places p).matched → p.beside ≡ 0 → AreKept n (run n rounds (t + 1) (decided n rounds t places p).places ps) → AreKept n (run n rounds t places (p ∷ ps))
+AreKept-before n rounds t places p [] serving none kept = (tt, tt)
+AreKept-before n rounds t places p (next ∷ ps) serving none kept = (keeps_on n p next (decided n rounds t places p).matched serving (inl none), kept)
 
 -- one slot more in front
 pub IsLate-before : (n rounds t : ℕ) (places : Places) (p : Posting) (ps : List Posting) → IsServing p (decided n rounds t places p).matched → (Serves (decided n rounds t places p).matched 0 0 0 Uni → ⊥) → Starts (λ next. (p.beside ≡ 0) ⊎ IsPosted next p.input 0) ps

@@ -24,7 +24,7 @@ use Rattle.service_bound.proofs.Postings.{Posting, IsPosted, rows_of, posted, na
 first_alone : (n from x : ℕ) (P : ℕ → Type 0) → x < n → P x → ((y : ℕ) → y < n → P y → y ≡ x) → IsFirstFrom n from P x
 first_alone n from x P x_in there alone = record { below = x_in; member = there; least = λ y y_in also. let e = ap (distance n from) (alone y y_in also) in omega arith }
 
-distance-own : (n x : ℕ) → x < n → distance n x x ≡ 0
+pub distance-own : (n x : ℕ) → x < n → distance n x x ≡ 0
 distance-own n x x_in = mod_once n (x + (n - x)) (omega arith) (omega arith) ∙ omega arith
 
 -- where the pointer stands

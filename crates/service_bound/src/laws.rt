@@ -9,7 +9,7 @@ ghost use Rattle.slot_match.specs.Matches.{Serves, Completes};
 ghost use Rattle.pointer_state.specs.Places.{Places, ArePointing};
 ghost use Rattle.eslip_rounds.specs.Schedules.{DecidedSlot, IsSchedule};
 ghost use Rattle.service_bound.specs.Windows.{IsWindow, InFirst, AreKept, IsClean, IsWithoutMulticast, places_after};
-ghost use Rattle.service_bound.specs.Latest.{IsServedLast};
+ghost use Rattle.service_bound.specs.Latest.{IsServedLast, ComesLast};
 ghost use Rattle.service_bound.specs.Waits.{noted_of, longest_wait, longest_service, longest_service_in_one_round};
 
 /// In a window of `n * (n * n - n + 2) / 2` slots without multicast at the level, a unicast queue that is
@@ -28,6 +28,13 @@ pub fn one_round_served()
         → longest_service_in_one_round n ≤ length slots → Any (λ slot. Serves slot.decision.matched i j level Uni) slots }
 {}
 
+/// Of two ports with two rounds or more, three slots are enough: one less than one round needs.
+pub fn two_ports_served()
+    ensures { (rounds t level i j : ℕ) (places : Places) (slots : List DecidedSlot) → 1 < rounds → i < 2 → IsWindow 2 rounds t level places slots
+        → All (λ slot. IsWithoutMulticast 2 level slot.rows) slots → InFirst (λ rows. Names (row_of rows i) level Uni j) slots
+        → 3 ≤ length slots → Any (λ slot. Serves slot.decision.matched i j level Uni) slots }
+{}
+
 /// That many are needed, for every number of ports: in some window of as many slots of one round, a queue
 /// is posted in every slot and served in the last one alone.
 pub fn one_round_is_reached()
@@ -38,6 +45,19 @@ pub fn one_round_is_reached()
 /// serves a request and moves no pointer, so more rounds make the longest wait longer.
 pub fn more_rounds_are_reached()
     ensures { (n rounds t : ℕ) → 2 < n → n ≤ MAX_PORTS → 1 < rounds → (places : Places) × (slots : List DecidedSlot) × IsServedLast n rounds t 0 0 0 places slots × (length slots ≡ longest_service n) }
+{}
+
+/// And of two ports, three slots.
+pub fn two_ports_are_reached()
+    ensures { (rounds t : ℕ) → 0 < rounds → (places : Places) × (slots : List DecidedSlot) × IsServedLast 2 rounds t 0 0 0 places slots × (length slots ≡ 3) }
+{}
+
+/// Such windows come about from all pointers at port 0: before slot `n + 1`, each input in turn, and input 0 again,
+/// is served with output 0.
+pub fn longest_waits_come()
+    ensures one_round { (n : ℕ) → 0 < n → n ≤ MAX_PORTS → (slots : List DecidedSlot) × ComesLast n 1 (n + 1) 0 0 0 slots × (length (drop (n + 1) slots) ≡ longest_service_in_one_round n) }
+    ensures more_rounds { (n rounds : ℕ) → 2 < n → n ≤ MAX_PORTS → 1 < rounds → (slots : List DecidedSlot) × ComesLast n rounds (n + 1) 0 0 0 slots × (length (drop (n + 1) slots) ≡ longest_service n) }
+    ensures two_ports { (rounds : ℕ) → 0 < rounds → (slots : List DecidedSlot) × ComesLast 2 rounds 3 0 0 0 slots × (length (drop 3 slots) ≡ 3) }
 {}
 
 /// In a window of `2 * n` slots, a multicast head that is posted in the first slot completes in one of

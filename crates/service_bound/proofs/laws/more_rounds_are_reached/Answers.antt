@@ -2,4 +2,4 @@ use Rattle.service_bound.proofs.MoreRoundsFamily.{more_reached}
 use Rattle.service_bound.proofs.laws.more_rounds_are_reached.Goals as goal
 
 pub returns : goal.returns
-returns c n rounds t three size two = more_reached n rounds two three size t
+returns c = more_reached

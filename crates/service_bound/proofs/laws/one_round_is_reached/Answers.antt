@@ -2,4 +2,4 @@ use Rattle.service_bound.proofs.OneRoundFamily.{one_reached}
 use Rattle.service_bound.proofs.laws.one_round_is_reached.Goals as goal
 
 pub returns : goal.returns
-returns c n t some size = one_reached n some size t
+returns c = one_reached
