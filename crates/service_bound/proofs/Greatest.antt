@@ -50,6 +50,16 @@ greatest-max f g h n is =
     let hs = greatest-within h n (max (greatest (map f (range_with_len 0 n))) (greatest (map g (range_with_len 0 n)))) (λ k below. let hf = greatest-has f n k below in let hg = greatest-has g n k below in let e = is k below in omega arith) in
     omega arith
 
+-- what is 0 from n on adds nothing
+pub greatest-beyond : (f : ℕ → ℕ) (n m : ℕ) → n ≤ m → ((k : ℕ) → n ≤ k → f k ≡ 0) → greatest (map f (range_with_len 0 m)) ≡ greatest (map f (range_with_len 0 n))
+greatest-beyond f n m more none =
+    let up = greatest-within f m (greatest (map f (range_with_len 0 n))) (λ k below. elim (cases_lt k n) [
+      | inl inside ↦ greatest-has f n k inside
+      | inr outside ↦ let e = none k outside in omega arith
+    ]) in
+    let down = greatest-within f n (greatest (map f (range_with_len 0 m))) (λ k below. greatest-has f m k (omega arith)) in
+    omega arith
+
 -- one more at the end
 pub greatest-more : (f : ℕ → ℕ) (n : ℕ) → greatest (map f (range_with_len 0 (n + 1))) ≡ max (greatest (map f (range_with_len 0 n))) (f n)
 greatest-more f n =

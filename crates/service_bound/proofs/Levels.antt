@@ -5,6 +5,7 @@ use Rattle.std.proofs.lemmas.Bool.{cases_eq}
 use Rattle.std.proofs.lemmas.Bool.Decides.{eqb_tells}
 use Rattle.std.proofs.lemmas.Nat.Bits.{bit_at-zero}
 use Rattle.rotating_pick.specs.PortSets.{Has}
+use Rattle.rotating_pick.proofs.Bits.{no_member-zero}
 use Rattle.slot_match.proofs.Sets.{Has-or}
 use Rattle.service_bound.specs.Meters.{Queues, wait_at, longest_of, longest_at, HaveBegun, NotesSlot}
 use Rattle.service_bound.proofs.Greatest.{greatest-within, greatest-has}
@@ -127,4 +128,11 @@ module _ (count outputs : ℕ) (old : Queues) (began : List ℕ) (ending beginni
       omega arith
 
   pub NotesSlot-on : NotesSlot count (λ j. eqb (bit_at outputs j) 1) old made
-  NotesSlot-on = record { long = long; begun = begun-on; waits = wait-on; longest = longest-on }
+  NotesSlot-on = record { long = long; begun = begun-on; among = member-true outputs; waits = wait-on; longest = longest-on }
+
+-- one slot more, in which the queues that waited wait on
+pub NotesSlot-same : (count outputs : ℕ) (old : Queues) → outputs ≡ old.waiting → ((j : ℕ) → Has outputs j → j < length old.began) → HaveBegun old.began old.waiting count → NotesSlot count (λ j. eqb (bit_at outputs j) 1) old old
+NotesSlot-same count outputs old same inside begun =
+    let lacks : (j : ℕ) → Has 0 j → ⊥ = no_member-zero in
+    let none : longest_of old.began 0 count ≡ 0 = longest_of-none old.began 0 count refl in
+    rw same (NotesSlot-on count old.waiting old old.began 0 0 old.ended (λ j. (λ has. absurd (lacks j has), λ both. absurd (both.1 both.0))) (λ j. (λ has. absurd (lacks j has), λ both. absurd (both.1 both.0))) refl (rw same at inside) begun (λ j has. absurd (lacks j has)) (λ j lack. refl) (omega arith))

@@ -18,6 +18,7 @@ pub mod Waiting
 pub mod AllBelow
 pub mod LongestWaits
 pub mod OneRoundWaits
+pub mod WaitsByRounds
 pub mod Comparing
 pub mod TwoPorts
 pub mod Postings

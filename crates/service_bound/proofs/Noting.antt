@@ -1,14 +1,18 @@
 -- What a meter keeps says of the slots that it has noted, and a slot more keeps it so.
-use Rattle.std.proofs.Common.{◌≡◌, ℕ, ◌+◌, ◌-◌, ◌*◌, ◌/◌, ◌%◌, ◌<◌, ◌≤◌, ◌∙◌, ◌++◌, Bool, cond, max, List, [], ◌∷◌, length, map, replicate, slice_index, slice_index_or, slice_set, refl, sym, ap, subst, inl, inr, arith, length-append}
+use Rattle.std.proofs.Common.{◌≡◌, ℕ, ◌+◌, ◌-◌, ◌*◌, ◌/◌, ◌%◌, ◌<◌, ◌≤◌, ◌∙◌, ◌++◌, Bool, true, cond, max, List, [], ◌∷◌, length, map, replicate, slice_index, slice_index_or, slice_set, refl, sym, ap, subst, inl, inr, arith, length-append}
 use Rattle.std.specs.List.{flat_map, range_with_len}
 use Rattle.std.proofs.lemmas.List.{length-replicate, get_or-replicate, get_or_default, get_or-set_same, get_or-set_other}
 use Rattle.std.proofs.lemmas.Bool.{cases_eq}
 use Rattle.rotating_pick.specs.declared.limits.TheConstants.{LEVELS, MAX_PORTS}
+use Rattle.rotating_pick.specs.PortSets.{Has}
+use Rattle.rotating_pick.specs.declared.kinds.Kind.TheVariants.{Uni}
 use Rattle.rotating_pick.proofs.Bits.{no_member-zero}
+use Rattle.slot_match.specs.Rows.{AreWithin}
 use Rattle.service_bound.specs.Waits.{NotedSlot, is_waiting, wait_in, waits_from, greatest, longest_wait}
 use Rattle.service_bound.specs.Meters.{Queues, Meter, queues_at_first, place_of, queues_at, wait_at, longest_of, longest_at, AreBegun, NotesSlot, wait_after, HaveNoted, HasNoted}
-use Rattle.service_bound.proofs.Greatest.{greatest-append, greatest-flat_map, greatest-within, greatest-same, greatest-max}
+use Rattle.service_bound.proofs.Greatest.{greatest-append, greatest-flat_map, greatest-within, greatest-same, greatest-beyond, greatest-max}
 use Rattle.service_bound.proofs.Levels.{wait_at-rests, longest_of-none}
+use Rattle.service_bound.proofs.Waiting.{Decides-waiting}
 
 -- ---- the waits of one queue
 -- its wait in the last slot, where it was `before` before the first
@@ -51,25 +55,28 @@ greatest-more_waits slots slot i j level =
 
 -- ---- the queues of one input at a level
 -- before any slot
-HaveNoted-first : (n i level : ℕ) → HaveNoted n [] i level (queues_at_first n)
+HaveNoted-first : (n i level : ℕ) → HaveNoted n [] i level queues_at_first
 HaveNoted-first n i level =
-    let ended = longest_of-none (replicate n 0) 0 0 refl in
+    let ended = longest_of-none (replicate MAX_PORTS 0) 0 0 refl in
     let waits = greatest-flat_map (λ j. waits_from 0 [] i j level) (range_with_len 0 n) in
     let none = greatest-within (λ j. greatest (waits_from 0 [] i j level)) n 0 (λ j below. omega arith) in
     record {
-      long = length-replicate {A = ℕ} n 0;
+      long = length-replicate {A = ℕ} MAX_PORTS 0;
       begun = λ j has. absurd (no_member-zero j has);
-      waits = λ j below. wait_at-rests (queues_at_first n) 0 j (no_member-zero j);
+      among = λ j has. absurd (no_member-zero j has);
+      waits = λ j below. wait_at-rests queues_at_first 0 j (no_member-zero j);
       longest = omega arith;
     }
 
 -- after a slot more
-HaveNoted-more : (n : ℕ) (slots : List NotedSlot) (slot : NotedSlot) (i level : ℕ) (old new : Queues) → HaveNoted n slots i level old → NotesSlot (length slots) (λ j. is_waiting slot i j level) old new → HaveNoted n (slots ++ slot ∷ []) i level new
-HaveNoted-more n slots slot i level old new before notes =
+HaveNoted-more : (n : ℕ) (slots : List NotedSlot) (slot : NotedSlot) (i level : ℕ) (old new : Queues) → n ≤ MAX_PORTS → ((j : ℕ) → is_waiting slot i j level ≡ true → j < n) → HaveNoted n slots i level old → NotesSlot (length slots) (λ j. is_waiting slot i j level) old new → HaveNoted n (slots ++ slot ∷ []) i level new
+HaveNoted-more n slots slot i level old new size within before notes =
     let more : length (slots ++ slot ∷ []) ≡ length slots + 1 = length-append slots (slot ∷ []) in
     let waits : (j : ℕ) → j < n → wait_at new (length slots + 1) j ≡ wait_after (slots ++ slot ∷ []) i j level = λ j below. notes.waits j ∙ ap (λ wait. cond (is_waiting slot i j level) (wait + 1) 0) (before.waits j below) ∙ sym (wait_after-more slots slot i j level) in
-    let long : length new.began ≡ n = notes.long ∙ before.long in
-    let running : longest_of new.began new.waiting (length slots + 1) ≡ greatest (map (λ j. wait_after (slots ++ slot ∷ []) i j level) (range_with_len 0 n)) = ap (λ m. greatest (map (wait_at new (length slots + 1)) (range_with_len 0 m))) long ∙ greatest-same (wait_at new (length slots + 1)) (λ j. wait_after (slots ++ slot ∷ []) i j level) n waits in
+    let long : length new.began ≡ MAX_PORTS = notes.long ∙ before.long in
+    let among : (j : ℕ) → Has new.waiting j → j < n = λ j has. within j (notes.among j has) in
+    let rests : (j : ℕ) → n ≤ j → wait_at new (length slots + 1) j ≡ 0 = λ j beyond. wait_at-rests new (length slots + 1) j (λ has. let below = among j has in omega arith) in
+    let running : longest_of new.began new.waiting (length slots + 1) ≡ greatest (map (λ j. wait_after (slots ++ slot ∷ []) i j level) (range_with_len 0 n)) = ap (λ m. greatest (map (wait_at new (length slots + 1)) (range_with_len 0 m))) long ∙ greatest-beyond (wait_at new (length slots + 1)) n MAX_PORTS size rests ∙ greatest-same (wait_at new (length slots + 1)) (λ j. wait_after (slots ++ slot ∷ []) i j level) n waits in
     let old_all = greatest-flat_map (λ j. waits_from 0 slots i j level) (range_with_len 0 n) in
     let new_all = greatest-flat_map (λ j. waits_from 0 (slots ++ slot ∷ []) i j level) (range_with_len 0 n) in
     let joined = greatest-max (λ j. greatest (waits_from 0 slots i j level)) (λ j. wait_after (slots ++ slot ∷ []) i j level) (λ j. greatest (waits_from 0 (slots ++ slot ∷ []) i j level)) n (λ j below. greatest-more_waits slots slot i j level) in
@@ -77,6 +84,7 @@ HaveNoted-more n slots slot i level old new before notes =
     record {
       long = long;
       begun = rw more notes.begun;
+      among = among;
       waits = λ j below. subst (λ count. wait_at new count j ≡ wait_after (slots ++ slot ∷ []) i j level) (sym more) (waits j below);
       longest = rw more longest;
     }
@@ -84,25 +92,25 @@ HaveNoted-more n slots slot i level old new before notes =
 -- ---- all queues
 -- what an index found is at its place
 pub found_is : (all : List Queues) (place : ℕ) (found : Queues) → place < length all → found ≡ slice_index_or all place found → found ≡ queues_at all place
-found_is all place found inside is = is ∙ get_or_default all place found (queues_at_first 0) inside
+found_is all place found inside is = is ∙ get_or_default all place found queues_at_first inside
 
-pub AreBegun-noted : (meter : Meter) (slots : List NotedSlot) → HasNoted meter slots → (place : ℕ) → place < length meter.queues → AreBegun meter.ports meter.count (queues_at meter.queues place)
+pub AreBegun-noted : (meter : Meter) (slots : List NotedSlot) → HasNoted meter slots → (place : ℕ) → place < length meter.queues → AreBegun meter.count (queues_at meter.queues place)
 AreBegun-noted meter slots noted place inside =
     let long = noted.long in
     let here : place_of (place / 4) (place % 4) ≡ place = omega arith in
     let queues = noted.queues (place / 4) (place % 4) (omega arith) (omega arith) in
-    subst (λ p. AreBegun meter.ports meter.count (queues_at meter.queues p)) here (record { long = queues.long; begun = rw noted.count queues.begun })
+    subst (λ p. AreBegun meter.count (queues_at meter.queues p)) here (record { long = queues.long; begun = rw noted.count queues.begun })
 
-pub HasNoted-first : (n : ℕ) → n ≤ MAX_PORTS → HasNoted (record { ports = n; count = 0; queues = replicate (LEVELS * n) (queues_at_first n) }) []
+pub HasNoted-first : (n : ℕ) → n ≤ MAX_PORTS → HasNoted (record { ports = n; count = 0; queues = replicate (LEVELS * n) queues_at_first }) []
 HasNoted-first n size = record {
   size = size;
   count = refl;
-  long = length-replicate {A = Queues} (LEVELS * n) (queues_at_first n);
-  queues = λ i level i_in level_in. rw (get_or-replicate (LEVELS * n) (place_of i level) (queues_at_first n) (queues_at_first 0) (omega arith)) (HaveNoted-first n i level);
+  long = length-replicate {A = Queues} (LEVELS * n) queues_at_first;
+  queues = λ i level i_in level_in. rw (get_or-replicate (LEVELS * n) (place_of i level) queues_at_first queues_at_first (omega arith)) (HaveNoted-first n i level);
 }
 
-pub HasNoted-more : (old new : Meter) (slots : List NotedSlot) (slot : NotedSlot) → new.ports ≡ old.ports → new.count ≡ old.count + 1 → length new.queues ≡ length old.queues → ((place : ℕ) → place < length old.queues → NotesSlot old.count (λ j. is_waiting slot (place / LEVELS) j (place % LEVELS)) (queues_at old.queues place) (queues_at new.queues place)) → HasNoted old slots → HasNoted new (slots ++ slot ∷ [])
-HasNoted-more old new slots slot ports count long notes noted =
+pub HasNoted-more : (old new : Meter) (slots : List NotedSlot) (slot : NotedSlot) → new.ports ≡ old.ports → new.count ≡ old.count + 1 → length new.queues ≡ length old.queues → ((place : ℕ) → place < length old.queues → NotesSlot old.count (λ j. is_waiting slot (place / LEVELS) j (place % LEVELS)) (queues_at old.queues place) (queues_at new.queues place)) → AreWithin old.ports slot.rows → HasNoted old slots → HasNoted new (slots ++ slot ∷ [])
+HasNoted-more old new slots slot ports count long notes within noted =
     let old_count = noted.count in
     let old_long = noted.long in
     record {
@@ -116,7 +124,7 @@ HasNoted-more old new slots slot ports count long notes noted =
           let column : place % LEVELS ≡ level = omega arith in
           let Notes : ℕ → ℕ → ℕ → Type 0 = λ c r l. NotesSlot c (λ j. is_waiting slot r j l) (queues_at old.queues place) (queues_at new.queues place) in
           let here : Notes (length slots) i level = subst (λ c. Notes c i level) old_count (subst (λ l. Notes old.count i l) column (subst (λ r. Notes old.count r (place % LEVELS)) row (notes place (omega arith)))) in
-          subst (λ n. HaveNoted n (slots ++ slot ∷ []) i level (queues_at new.queues place)) (sym ports) (HaveNoted-more old.ports slots slot i level (queues_at old.queues place) (queues_at new.queues place) (noted.queues i level inside level_in) here);
+          subst (λ n. HaveNoted n (slots ++ slot ∷ []) i level (queues_at new.queues place)) (sym ports) (HaveNoted-more old.ports slots slot i level (queues_at old.queues place) (queues_at new.queues place) noted.size (λ j waits. within.ports i inside level j Uni ((Decides-waiting slot i j level).0 waits).0) (noted.queues i level inside level_in) here);
     }
 
 -- the longest wait of a level is the longest of its queues
@@ -133,17 +141,19 @@ pub NotesSlot-along : (count : ℕ) (f g : ℕ → Bool) (old new : Queues) → 
 NotesSlot-along count f g old new same notes = record {
   long = notes.long;
   begun = notes.begun;
+  among = λ j has. sym (same j) ∙ notes.among j has;
   waits = λ j. notes.waits j ∙ ap (λ waits. cond waits (wait_at old count j + 1) 0) (same j);
   longest = notes.longest;
 }
 
-module _ (P : ℕ → Queues → Queues → Type 0) (old now : List Queues) (place : ℕ) (new : Queues) (inside : place < length now) where
-  pub noted-set : ((k : ℕ) → k < place → P k (queues_at old k) (queues_at now k)) → P place (queues_at old place) new → (k : ℕ) → k < place + 1 → P k (queues_at old k) (queues_at (slice_set now place new) k)
-  noted-set before here k below =
-      elim (cases_eq k place) [
-        | inl same ↦ rw (same, get_or-set_same now place new (queues_at_first 0) inside) here
-        | inr other ↦ rw (get_or-set_other now place k new (queues_at_first 0) other) (before k (omega arith))
-      ]
+-- where the queues at a place are set, the others stay
+pub left-set : (now : List Queues) (place : ℕ) (new : Queues) (k : ℕ) → (k ≡ place → ⊥) → queues_at (slice_set now place new) k ≡ queues_at now k
+left-set now place new k other = get_or-set_other now place k new queues_at_first other
 
-  pub left-set : ((k : ℕ) → place ≤ k → queues_at now k ≡ queues_at old k) → (k : ℕ) → place + 1 ≤ k → queues_at (slice_set now place new) k ≡ queues_at old k
-  left-set before k above = get_or-set_other now place k new (queues_at_first 0) (omega arith) ∙ before k (omega arith)
+-- what holds of the place and of the others holds of all
+pub noted-set : (P : ℕ → Queues → Queues → Type 0) (old now : List Queues) (place : ℕ) (new : Queues) → place < length now → P place (queues_at old place) new → (k : ℕ) → ((k ≡ place → ⊥) → P k (queues_at old k) (queues_at now k)) → P k (queues_at old k) (queues_at (slice_set now place new) k)
+noted-set P old now place new inside here k others =
+    elim (cases_eq k place) [
+      | inl same ↦ rw (same, get_or-set_same now place new queues_at_first inside) here
+      | inr other ↦ rw (left-set now place new k other) (others other)
+    ]

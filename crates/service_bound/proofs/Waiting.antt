@@ -40,8 +40,8 @@ Gives-iff_serves matched i j level kind (Some part) free served = (
 )
 
 -- what is posted and not given is what waits
-pub member-waits : (rows : List Row) (matched : List (Option Fed)) (i j level given rest : ℕ) → Has rest j ↔ (Names (row_of rows i) level Uni j × (Has given j → ⊥)) → Has given j ↔ Serves matched i j level Uni → (bit_at rest j == 1) ≡ is_waiting (record { rows = rows; matched = matched }) i j level
-member-waits rows matched i j level given rest left serves =
+pub member-waits : (rows : List Row) (matched : List (Option Fed)) (i j level rest : ℕ) (Given : Type 0) → Has rest j ↔ (Names (row_of rows i) level Uni j × (Given → ⊥)) → Given ↔ Serves matched i j level Uni → (bit_at rest j == 1) ≡ is_waiting (record { rows = rows; matched = matched }) i j level
+member-waits rows matched i j level rest Given left serves =
     same_from_decides (bit_at rest j == 1) (is_waiting (record { rows = rows; matched = matched }) i j level)
     (Decides-like (bit_at rest j == 1) (λ has. let p = left.0 has in (p.0, λ s. p.1 (serves.1 s))) (λ p. left.1 (p.0, λ has. p.1 (serves.0 has))) (Decides-eqb (bit_at rest j) 1))
     (Decides-waiting (record { rows = rows; matched = matched }) i j level)

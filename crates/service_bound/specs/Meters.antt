@@ -1,5 +1,5 @@
 -- Meters: what a meter of waits keeps of the slots that it has noted.
-use Rattle.std.specs.Prelude.{◌≡◌, ℕ, ◌+◌, ◌-◌, ◌*◌, ◌<◌, ◌≤◌, ◌==◌, Bool, max, if◌then◌else◌, List, length, map, replicate, slice_index, slice_index_or}
+use Rattle.std.specs.Prelude.{◌≡◌, ℕ, ◌+◌, ◌-◌, ◌*◌, ◌<◌, ◌≤◌, ◌==◌, Bool, true, max, if◌then◌else◌, List, length, map, replicate, slice_index, slice_index_or}
 use Rattle.std.specs.List.{flat_map, range_with_len}
 use Rattle.std.specs.Int.{bit_at}
 use Rattle.rotating_pick.specs.PortSets.{Has}
@@ -19,9 +19,9 @@ pub record Meter : Type 0 where
   pub count : ℕ
   pub queues : List Queues
 
--- the queues of an input of n ports at a level, before any slot
-abbrev pub queues_at_first : ℕ → Queues
-queues_at_first n = record { waiting = 0; began = replicate n 0; ended = 0 }
+-- the queues of an input at a level, before any slot
+abbrev pub queues_at_first : Queues
+queues_at_first = record { waiting = 0; began = replicate MAX_PORTS 0; ended = 0 }
 
 -- the place of an input's queues of the level among all
 abbrev pub place_of : ℕ → ℕ → ℕ
@@ -29,7 +29,7 @@ place_of i level = LEVELS * i + level
 
 -- the queues at a place
 abbrev pub queues_at : List Queues → ℕ → Queues
-queues_at queues place = slice_index_or queues place (queues_at_first 0)
+queues_at queues place = slice_index_or queues place queues_at_first
 
 -- the wait of the queue to output j after so many slots: the slots since it began, if it waits
 abbrev pub wait_at : Queues → ℕ → ℕ → ℕ
@@ -48,15 +48,16 @@ longest_at queues count = max queues.ended (longest_of queues.began queues.waiti
 abbrev pub HaveBegun : List ℕ → ℕ → ℕ → Type 0
 HaveBegun began outputs count = (j : ℕ) → Has outputs j → (j < length began) × (slice_index began j ≤ count)
 
--- n queues, as so many slots leave them
-pub record AreBegun (n count : ℕ) (queues : Queues) : Type 0 where
-  pub long : length queues.began ≡ n
+-- queues as so many slots leave them
+pub record AreBegun (count : ℕ) (queues : Queues) : Type 0 where
+  pub long : length queues.began ≡ MAX_PORTS
   pub begun : HaveBegun queues.began queues.waiting count
 
 -- what one slot more, in which the queues with the test wait, makes of the queues
 pub record NotesSlot (count : ℕ) (waits_now : ℕ → Bool) (old new : Queues) : Type 0 where
   pub long : length new.began ≡ length old.began
   pub begun : HaveBegun new.began new.waiting (count + 1)
+  pub among : (j : ℕ) → Has new.waiting j → waits_now j ≡ true
   pub waits : (j : ℕ) → wait_at new (count + 1) j ≡ (if waits_now j then wait_at old count j + 1 else 0)
   pub longest : longest_at new (count + 1) ≡ max (longest_at old count) (longest_of new.began new.waiting (count + 1))
 
@@ -67,8 +68,9 @@ wait_after slots i j level = slice_index (waits_from 0 slots i j level) (length 
 -- the n queues of input i at the level stand as after these slots: each waits as in the last one, and
 -- the longest wait is the greatest of all
 pub record HaveNoted (n : ℕ) (slots : List NotedSlot) (i level : ℕ) (queues : Queues) : Type 0 where
-  pub long : length queues.began ≡ n
+  pub long : length queues.began ≡ MAX_PORTS
   pub begun : HaveBegun queues.began queues.waiting (length slots)
+  pub among : (j : ℕ) → Has queues.waiting j → j < n
   pub waits : (j : ℕ) → j < n → wait_at queues (length slots) j ≡ wait_after slots i j level
   pub longest : longest_at queues (length slots) ≡ greatest (flat_map (λ j. waits_from 0 slots i j level) (range_with_len 0 n))
 

@@ -1,5 +1,5 @@
 -- Waits: for how many slots, one after the other, a unicast queue was posted and not served.
-use Rattle.std.specs.Prelude.{ℕ, ◌+◌, ◌-◌, ◌*◌, ◌/◌, ◌&&◌, Bool, not, max, if◌then◌else◌, List, [], ◌∷◌, Option}
+use Rattle.std.specs.Prelude.{ℕ, ◌+◌, ◌-◌, ◌*◌, ◌/◌, ◌==◌, ◌&&◌, Bool, not, max, if◌then◌else◌, List, [], ◌∷◌, Option}
 use Rattle.std.specs.List.{flat_map, range_with_len}
 use Rattle.rotating_pick.specs.declared.kinds.Kind.TheVariants.{Uni}
 use Rattle.slot_match.specs.declared.rows.Row.{Row}
@@ -49,3 +49,7 @@ longest_service n = n * (n * n - n + 2) / 2
 -- nothing is cut off.
 abbrev pub longest_service_in_one_round : ℕ → ℕ
 longest_service_in_one_round n = 2 * n * n + 2 - 3 * n
+
+-- and where they have so many rounds
+abbrev pub longest_service_by : ℕ → ℕ → ℕ
+longest_service_by n rounds = if rounds == 1 then longest_service_in_one_round n else longest_service n

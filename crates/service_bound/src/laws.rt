@@ -10,7 +10,7 @@ ghost use Rattle.pointer_state.specs.Places.{Places, ArePointing};
 ghost use Rattle.eslip_rounds.specs.Schedules.{DecidedSlot, IsSchedule};
 ghost use Rattle.service_bound.specs.Windows.{IsWindow, InFirst, AreKept, IsClean, IsWithoutMulticast, places_after};
 ghost use Rattle.service_bound.specs.Latest.{IsServedLast, ComesLast};
-ghost use Rattle.service_bound.specs.Waits.{noted_of, longest_wait, longest_service, longest_service_in_one_round};
+ghost use Rattle.service_bound.specs.Waits.{noted_of, longest_wait, longest_service, longest_service_in_one_round, longest_service_by};
 
 /// In a window of `n * (n * n - n + 2) / 2` slots without multicast at the level, a unicast queue that is
 /// posted in the first slot is served in one of them. (McKeown argues for `n * n` slots; where a new
@@ -83,6 +83,13 @@ pub fn one_round_waits_are_bounded()
         → longest_wait n level (map noted_of slots) < longest_service_in_one_round n }
 {}
 
+/// Whatever the number of rounds, no wait reaches the number of slots that [`crate::longest_service`] tells for it.
+pub fn waits_are_below_the_longest_service()
+    ensures { (n rounds t level : ℕ) (places : Places) (slots : List DecidedSlot) → 0 < n → 0 < rounds → IsWindow n rounds t level places slots
+        → All (λ slot. IsWithoutMulticast n level slot.rows) slots
+        → longest_wait n level (map noted_of slots) < longest_service_by n rounds }
+{}
+
 /// One round never needs more slots than more rounds do. Both bounds are within `n * n * (n + 1) / 2`, and so
 /// within `n * n * n`.
 pub fn bounds_are_within()
@@ -101,6 +108,7 @@ pub fn parts_are_windows()
 
 #[cfg(test)]
 mod tests {
+    use crate::{MAX_NOTED, WaitMeter, longest_service};
     use eslip_rounds::decide;
     use pointer_state::Pointers;
     use rotating_pick::Ports;
@@ -144,6 +152,8 @@ mod tests {
         p.met(0, 0, 0);
         let mut before = [Row::empty(); 3];
         let mut out = Match::new(3);
+        let mut meter = WaitMeter::make(rt.alloc(), 3).expect(&rt, "memory");
+        assert_eq!(rt; longest_service(3, 1), 11);
         for t in 0..11 {
             let Slot { posted, fed } = slots[t as usize];
             let rows = posted.map(row);
@@ -159,7 +169,10 @@ mod tests {
                 let input = out.fed(j).map(|pair| pair.input);
                 assert!(rt; input == fed[j as usize], "output {j} in slot {t}");
             }
+            assert!(rt; meter.ports() == 3 && meter.count() < MAX_NOTED);
+            meter.note(&rows, &out);
             before = rows;
         }
+        assert_eq!(rt; meter.longest(0), 10);
     }
 }

@@ -1,21 +1,23 @@
-ghost use Rattle.std.specs.Prelude.{◌≡◌, ℕ, ◌+◌, ◌<◌, ◌≤◌, ◌==◌, length, slice_index, IfOk};
+ghost use Rattle.std.specs.Prelude.{◌≡◌, ℕ, ◌+◌, ◌<◌, ◌≤◌, ◌==◌, length, slice_index};
 ghost use Rattle.std.specs.Int.{bit_at};
 ghost use Rattle.rotating_pick.specs.PortSets.{Has};
 ghost use Rattle.service_bound.specs.Meters.{queues_at_first, longest_of, longest_at, HaveBegun, NotesSlot};
 
 use crate::limits::MAX_NOTED;
-use rotating_pick::{Ports, difference, lowest, without};
-use std::alloc::{AllocError, Global};
+use rotating_pick::{MAX_PORTS, Ports, difference, lowest, without};
 use std::marker::Model;
 
-/// The waits of the queues of one input at one level, one queue for each output. How many slots were
-/// noted is the caller's to know.
+// The ports as a length.
+const PORTS: usize = MAX_PORTS as usize;
+
+/// The waits of the queues of one input at one level, one queue for each output that a switch can have.
+/// How many slots were noted is the caller's to know.
 #[derive(Drop)]
 pub(crate) struct LevelQueues {
     // The outputs whose queue waits.
     waiting: Ports,
     // For each output the number of the slot in which its queue began to wait.
-    began: Vec<u32>,
+    began: [u32; PORTS],
     // The longest wait that has ended.
     ended: u32,
 }
@@ -25,19 +27,19 @@ impl Model for LevelQueues {
 
     ghost Value = { Queues };
 
-    ghost view = { λ q. record { waiting = q.waiting; began = q.began.items; ended = q.ended } };
+    ghost view = { λ q. record { waiting = q.waiting; began = q.began; ended = q.ended } };
 }
 
 impl LevelQueues {
-    /// The queues of an input of a switch of `n` ports, none of which waits.
-    pub(crate) fn make(alloc: Global, n: u32) -> Result<LevelQueues, AllocError>
-        ensures { IfOk result (λ queues. queues ≡ queues_at_first n) }
+    /// The queues of an input, none of which waits.
+    pub(crate) fn new() -> LevelQueues
+        ensures { result ≡ queues_at_first }
     {
-        Ok(LevelQueues {
+        LevelQueues {
             waiting: 0,
-            began: vec![in alloc; 0u32; n as usize]?,
+            began: [0; PORTS],
             ended: 0,
-        })
+        }
     }
 
     /// Notes slot `count`, in which the queues to `outputs` wait, after as many slots.
@@ -47,6 +49,9 @@ impl LevelQueues {
         requires among { (j : ℕ) → Has outputs j → j < length self.old.began }
         ensures { NotesSlot count (λ j. bit_at outputs j == 1) self.old self.new }
     {
+        if outputs == self.waiting {
+            return;
+        }
         let ended = difference(self.waiting, outputs);
         self.ended = self.ended.max(longest_of(&self.began, ended, count));
         begin(&mut self.began, difference(outputs, self.waiting), count);

@@ -1,6 +1,7 @@
 //! How long a queue can wait: a meter of waits, and the laws that bound them.
 #![tactic(auto)]
 
+mod bounds;
 pub mod laws;
 mod level_queues;
 mod limits;
@@ -8,5 +9,6 @@ mod meter;
 #[cfg(test)]
 mod tests;
 
+pub use bounds::longest_service;
 pub use limits::MAX_NOTED;
 pub use meter::WaitMeter;

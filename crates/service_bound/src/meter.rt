@@ -1,8 +1,7 @@
-ghost use Rattle.std.specs.Prelude.{◌≡◌, ℕ, ◌+◌, ◌*◌, ◌/◌, ◌%◌, ◌<◌, ◌≤◌, ◌↔◌, ◌==◌, List, [], ◌∷◌, ◌++◌, length, replicate, IfOk};
-ghost use Rattle.std.specs.Int.{bit_at};
+ghost use Rattle.std.specs.Prelude.{◌≡◌, ℕ, ◌+◌, ◌*◌, ◌/◌, ◌%◌, ◌<◌, ◌≤◌, ◌≢◌, ◌↔◌, List, [], ◌∷◌, ◌++◌, length, replicate, IfOk};
 ghost use Rattle.rotating_pick.specs.PortSets.{Has};
 ghost use Rattle.rotating_pick.specs.declared.kinds.Kind.TheVariants.{Uni};
-ghost use Rattle.slot_match.specs.Rows.{AreWithin};
+ghost use Rattle.slot_match.specs.Rows.{Names, AreWithin};
 ghost use Rattle.slot_match.specs.Keeping.{Gives};
 ghost use Rattle.service_bound.specs.Waits.{NotedSlot, is_waiting, longest_wait};
 ghost use Rattle.service_bound.specs.Meters.{queues_at_first, place_of, queues_at, AreBegun, NotesSlot, HasNoted};
@@ -20,8 +19,8 @@ const LEVEL_COUNT: usize = LEVELS as usize;
 /// A meter of waits. It is told of slot after slot and keeps for each level the longest wait: for how
 /// many slots, one after the other, a unicast queue of the level was posted and not served.
 ///
-/// A slot costs a few words for each input and level, and a step for each queue whose wait begins or
-/// ends in it.
+/// A slot costs a look at each input's part of the match, a comparison for each level, and a step for
+/// each queue whose wait begins or ends in it.
 #[derive(Drop)]
 pub struct WaitMeter {
     ports: u32,
@@ -45,7 +44,7 @@ impl Model for WaitMeter {
 
 impl WaitMeter {
     /// A meter for a switch of `n` ports, 1 to 64, that has noted no slot. It takes all memory that it
-    /// needs: a number for each input, output and level.
+    /// needs, as one piece: for each input and level 64 numbers and some more.
     pub fn make(alloc: Global, n: u32) -> Result<WaitMeter, OutOfMemory>
         requires some { 0 < n }
         requires size { n ≤ MAX_PORTS }
@@ -114,28 +113,47 @@ fn note_slot(queues: &mut Vec<LevelQueues>, count: u32, rows: &[Row], matched: &
     requires size { length rows.now ≤ MAX_PORTS }
     requires long { length queues.old.items ≡ LEVELS * length rows.now }
     requires few { count < MAX_NOTED }
-    requires begun { (place : ℕ) → place < length queues.old.items → AreBegun (length rows.now) count (queues_at queues.old.items place) }
+    requires begun { (place : ℕ) → place < length queues.old.items → AreBegun count (queues_at queues.old.items place) }
     ensures long { length queues.new.items ≡ length queues.old.items }
     ensures noted { (place : ℕ) → place < length queues.old.items → NotesSlot count (λ j. is_waiting (record { rows = rows.now; matched = matched.now }) (place / LEVELS) j (place % LEVELS)) (queues_at queues.old.items place) (queues_at queues.new.items place) }
 {
-    for place in 0..queues.len() {
-        let outputs = outputs_waiting(rows, matched, place);
-        queues[place].note(count, outputs);
+    for input in 0..rows.len() {
+        note_input(queues, count, rows, matched, input);
     }
 }
 
-// The outputs whose queue, of the input and level of the place, is posted and not served.
-fn outputs_waiting(rows: &[Row], matched: &Match, place: usize) -> Ports
+// The queues of the input note slot `count`.
+fn note_input(
+    queues: &mut Vec<LevelQueues>,
+    count: u32,
+    rows: &[Row],
+    matched: &Match,
+    input: usize,
+)
     requires rows { AreWithin (length matched.now) rows.now }
     requires size { length rows.now ≤ MAX_PORTS }
-    requires place { place < LEVELS * length rows.now }
-    ensures among { (j : ℕ) → Has result j → j < length rows.now }
-    ensures waiting { (j : ℕ) → (bit_at result j == 1) ≡ is_waiting (record { rows = rows.now; matched = matched.now }) (place / LEVELS) j (place % LEVELS) }
+    requires long { length queues.old.items ≡ LEVELS * length rows.now }
+    requires few { count < MAX_NOTED }
+    requires input { input < length rows.now }
+    requires begun { (place : ℕ) → place / LEVELS ≡ input → AreBegun count (queues_at queues.old.items place) }
+    ensures long { length queues.new.items ≡ length queues.old.items }
+    ensures noted { (place : ℕ) → place / LEVELS ≡ input → NotesSlot count (λ j. is_waiting (record { rows = rows.now; matched = matched.now }) (place / LEVELS) j (place % LEVELS)) (queues_at queues.old.items place) (queues_at queues.new.items place) }
+    ensures others { (place : ℕ) → place / LEVELS ≢ input → queues_at queues.new.items place ≡ queues_at queues.old.items place }
 {
-    let input = place / LEVEL_COUNT;
-    let level = place % LEVEL_COUNT;
-    let posted = rows[input].uni[level];
-    difference(posted, unicast(matched.served(input as u32), level))
+    let served = matched.served(input as u32);
+    for level in 0..LEVEL_COUNT {
+        let outputs = outputs_waiting(&rows[input], served, level);
+        queues[input * LEVEL_COUNT + level].note(count, outputs);
+    }
+}
+
+// The outputs whose queue, of an input with this row and part of the match, is posted at the level and
+// not served.
+fn outputs_waiting(row: &Row, served: Option<Served>, level: usize) -> Ports
+    requires level { level < LEVELS }
+    ensures { (j : ℕ) → Has result j ↔ (Names row.now level Uni j × (Gives served j level Uni → ⊥)) }
+{
+    difference(row.uni[level], unicast(served, level))
 }
 
 // The outputs that the part serves as unicast of the level.
@@ -166,12 +184,12 @@ fn place_of(input: u32, level: u8) -> usize
 // The queues of each input at each level, before any slot.
 fn queues(alloc: Global, n: u32) -> Result<Vec<LevelQueues>, AllocError>
     requires { n ≤ MAX_PORTS }
-    ensures { IfOk result (λ queues. queues.items ≡ replicate (LEVELS * n) (queues_at_first n)) }
+    ensures { IfOk result (λ queues. queues.items ≡ replicate (LEVELS * n) queues_at_first) }
 {
     let count = n as usize * LEVEL_COUNT;
     let mut queues = Vec::with_capacity(alloc, count)?;
     for _ in 0..count {
-        queues.push(LevelQueues::make(alloc, n)?)?;
+        queues.push(LevelQueues::new())?;
     }
     Ok(queues)
 }

@@ -3,4 +3,4 @@ use Rattle.service_bound.specs.Meters.{queues_at_first}
 use Rattle.service_bound.proofs.meter.queues.Given as goal
 
 abbrev pub invariant-loop : goal.invariant-loop
-invariant-loop l = l.queues.items ≡ replicate l.counter (queues_at_first l.n)
+invariant-loop l = l.queues.items ≡ replicate l.counter queues_at_first

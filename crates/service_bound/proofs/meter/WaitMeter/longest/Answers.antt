@@ -1,10 +1,21 @@
 use Rattle.std.proofs.Common.{◌≡◌, ◌∙◌, ◌<◌, max, length, map, ap, subst, sym, arith}
 use Rattle.std.specs.List.{range_with_len}
 use Rattle.service_bound.specs.Waits.{greatest, longest_wait}
-use Rattle.service_bound.specs.Meters.{Meter, place_of, queues_at, longest_at, HasNoted}
+use Rattle.service_bound.specs.Meters.{Queues, Meter, place_of, queues_at, longest_at, HaveBegun, HasNoted}
 use Rattle.service_bound.proofs.Greatest.{greatest-more}
-use Rattle.service_bound.proofs.Noting.{found_is, longest-noted}
+use Rattle.service_bound.proofs.Noting.{found_is, AreBegun-noted, longest-noted}
 use Rattle.service_bound.proofs.meter.WaitMeter.longest.Goals as goal
+
+pub longest-requires : goal.longest-requires
+longest-requires c =
+    let s = c.self.inside in
+    let meter : Meter = record { ports = s.ports; count = s.count; queues = s.queues.items } in
+    let place = place_of c.loop-input.input c.args.level in
+    let level_in = c.requires.level in
+    let long = c.self.invariant.1.long in
+    let inside : place < length s.queues.items = omega arith in
+    let found = found_is s.queues.items place c.index-queues.result.now inside (rw c.place_of.ensures at c.index-queues.ensures) in
+    subst (λ (q : Queues). HaveBegun q.began q.waiting s.count) (sym found) (AreBegun-noted meter c.self.invariant.0 c.self.invariant.1 place inside).begun
 
 pub loop-input-preserved : goal.loop-input-preserved
 loop-input-preserved c =

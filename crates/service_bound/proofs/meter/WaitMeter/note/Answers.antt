@@ -1,6 +1,7 @@
 use Rattle.std.proofs.Common.{◌≡◌, ◌∙◌, ◌+◌, ◌++◌, ◌∷◌, [], length, ap, subst, sym, refl}
+use Rattle.slot_match.specs.Rows.{AreWithin}
 use Rattle.service_bound.specs.Waits.{NotedSlot}
-use Rattle.service_bound.specs.Meters.{Meter, AreBegun, queues_at, HasNoted}
+use Rattle.service_bound.specs.Meters.{Meter, HasNoted}
 use Rattle.service_bound.proofs.Noting.{AreBegun-noted, HasNoted-more}
 use Rattle.service_bound.proofs.meter.WaitMeter.note.Goals as goal
 
@@ -8,8 +9,7 @@ pub note_slot-requires-clause-begun : goal.note_slot-requires-clause-begun
 note_slot-requires-clause-begun c =
     let s = c.self.inside in
     let old : Meter = record { ports = s.ports; count = s.count; queues = s.queues.items } in
-    let ports : s.ports ≡ length c.args.rows.now = ap (λ (m : Meter). m.ports) c.self.view_is ∙ sym c.requires.rows.count in
-    λ place inside. subst (λ n. AreBegun n s.count (queues_at s.queues.items place)) ports (AreBegun-noted old c.self.invariant.0 c.self.invariant.1 place inside)
+    AreBegun-noted old c.self.invariant.0 c.self.invariant.1
 
 pub invariant_of-self : goal.invariant_of-self
 invariant_of-self c =
@@ -17,7 +17,7 @@ invariant_of-self c =
     let old : Meter = record { ports = s.ports; count = s.count; queues = s.queues.items } in
     let new : Meter = record { ports = s.ports; count = s.count + 1; queues = c.note_slot.new.queues.items } in
     let slot : NotedSlot = record { rows = c.args.rows.now; matched = c.args.matched.now } in
-    (c.self.invariant.0 ++ slot ∷ [], HasNoted-more old new c.self.invariant.0 slot refl refl c.note_slot.ensures.long c.note_slot.ensures.noted c.self.invariant.1)
+    (c.self.invariant.0 ++ slot ∷ [], HasNoted-more old new c.self.invariant.0 slot refl refl c.note_slot.ensures.long c.note_slot.ensures.noted (subst (λ (m : Meter). AreWithin m.ports c.args.rows.now) (sym c.self.view_is) c.requires.rows) c.self.invariant.1)
 
 pub returns-clause-noted : goal.returns-clause-noted
 returns-clause-noted c = λ slots noted.
@@ -25,4 +25,4 @@ returns-clause-noted c = λ slots noted.
     let old : Meter = record { ports = s.ports; count = s.count; queues = s.queues.items } in
     let new : Meter = record { ports = s.ports; count = s.count + 1; queues = c.note_slot.new.queues.items } in
     let slot : NotedSlot = record { rows = c.args.rows.now; matched = c.args.matched.now } in
-    HasNoted-more old new slots slot refl refl c.note_slot.ensures.long c.note_slot.ensures.noted (subst (λ (m : Meter). HasNoted m slots) (sym c.self.view_is) noted)
+    HasNoted-more old new slots slot refl refl c.note_slot.ensures.long c.note_slot.ensures.noted (subst (λ (m : Meter). AreWithin m.ports c.args.rows.now) (sym c.self.view_is) c.requires.rows) (subst (λ (m : Meter). HasNoted m slots) (sym c.self.view_is) noted)

@@ -1,0 +1,5 @@
+use Rattle.service_bound.proofs.WaitsByRounds.{longest_wait-below_service}
+use Rattle.service_bound.proofs.laws.waits_are_below_the_longest_service.Goals as goal
+
+pub returns : goal.returns
+returns c = longest_wait-below_service
