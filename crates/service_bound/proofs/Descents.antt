@@ -8,7 +8,7 @@ use Rattle.rotating_pick.specs.declared.kinds.Kind.TheVariants.{Uni}
 use Rattle.rotating_pick.specs.declared.limits.TheConstants.{LEVELS, MAX_PORTS}
 use Rattle.slot_match.specs.Rows.{Names, row_of, AreWithin}
 use Rattle.slot_match.specs.Matches.{Serves}
-use Rattle.pointer_state.specs.Places.{Places, place_of, IsTable, AreAtPorts, ArePointing, grant_of, accept_of}
+use Rattle.pointer_state.specs.Places.{Places, place_of, IsTable, ArePointing, grant_of, accept_of}
 use Rattle.service_bound.specs.Windows.{IsClean, IsWithoutMulticast}
 use Rattle.service_bound.specs.Latest.{IsServedLast}
 use Rattle.service_bound.proofs.Distances.{distance-above, distance-below}
@@ -172,34 +172,49 @@ all_at-is : (place level port : ℕ) → level < LEVELS → port < MAX_PORTS →
 unfolding all_at
 all_at-is place level port level_in port_in = ap (λ row. slice_index row port) (get_or-replicate LEVELS level (replicate {A = ℕ} MAX_PORTS place) [] level_in) ∙ get_or-replicate MAX_PORTS port place 0 port_in
 
-pub places_at_one : ℕ → Places
-places_at_one n = record { ports = n; grant = all_at (1 % n); accept = all_at (1 % n); shared = replicate LEVELS 0 }
+-- the grant pointers at one port and the accept pointers at another
+pub places_at : ℕ → ℕ → ℕ → Places
+places_at n grant accept = record { ports = n; grant = all_at grant; accept = all_at accept; shared = replicate LEVELS 0 }
+
+pub grant_of-places_at : (n grant accept j level : ℕ) → j < MAX_PORTS → level < LEVELS → grant_of (places_at n grant accept) j level ≡ grant
+unfolding places_at
+grant_of-places_at n grant accept j level j_in level_in = all_at-is grant level j level_in j_in
+
+pub accept_of-places_at : (n grant accept i level : ℕ) → i < MAX_PORTS → level < LEVELS → accept_of (places_at n grant accept) i level ≡ accept
+unfolding places_at
+accept_of-places_at n grant accept i level i_in level_in = all_at-is accept level i level_in i_in
+
+pub IsSwitch-places_at : (n grant accept : ℕ) → 0 < n → n ≤ MAX_PORTS → grant < n → accept < n → IsSwitch n (places_at n grant accept)
+unfolding places_at
+IsSwitch-places_at n grant accept some size grant_in accept_in = record {
+  at_ports = record {
+    some = some;
+    size = size;
+    grant_table = IsTable-all_at grant;
+    accept_table = IsTable-all_at accept;
+    shared_levels = length-replicate {A = ℕ} LEVELS 0;
+    pointing = λ level level_in. record {
+      grant = λ j j_in. let e = all_at-is grant level j level_in (omega arith) in omega arith;
+      accept = λ i i_in. let e = all_at-is accept level i level_in (omega arith) in omega arith;
+      shared = let e : slice_index (replicate LEVELS 0) level ≡ 0 = get_or-replicate LEVELS level 0 0 level_in in omega arith;
+    };
+  };
+  ports = refl;
+}
+
+unfoldable pub places_at_one : ℕ → Places
+places_at_one n = places_at n (1 % n) (1 % n)
 
 module _ (n : ℕ) (some : 0 < n) (size : n ≤ MAX_PORTS) where
-  AreAtPorts-at_one : AreAtPorts (places_at_one n)
-  unfolding places_at_one
-  AreAtPorts-at_one =
-      record {
-        some = some;
-        size = size;
-        grant_table = IsTable-all_at (1 % n);
-        accept_table = IsTable-all_at (1 % n);
-        shared_levels = length-replicate {A = ℕ} LEVELS 0;
-        pointing = λ level level_in. record {
-          grant = λ j j_in. let e = all_at-is (1 % n) level j level_in (omega arith) in let below = mod_below 1 n some in omega arith;
-          accept = λ i i_in. let e = all_at-is (1 % n) level i level_in (omega arith) in let below = mod_below 1 n some in omega arith;
-          shared = let e : slice_index (replicate LEVELS 0) level ≡ 0 = get_or-replicate LEVELS level 0 0 level_in in omega arith;
-        };
-      }
-
   pub IsBeginning-at_one : IsBeginning n (places_at_one n)
   unfolding places_at_one
   IsBeginning-at_one =
+      let one_in = mod_below 1 n some in
       record {
-        switch = record { at_ports = AreAtPorts-at_one; ports = refl };
-        grant = all_at-is (1 % n) 0 0 (omega arith) (omega arith);
-        accept = all_at-is (1 % n) 0 0 (omega arith) (omega arith);
-        fresh = λ i late i_in. all_at-is (1 % n) 0 i (omega arith) (omega arith) ∙ mod-eq_of_lt (omega arith);
+        switch = IsSwitch-places_at n (1 % n) (1 % n) some size one_in one_in;
+        grant = grant_of-places_at n (1 % n) (1 % n) 0 0 (omega arith) (omega arith);
+        accept = accept_of-places_at n (1 % n) (1 % n) 0 0 (omega arith) (omega arith);
+        fresh = λ i late i_in. accept_of-places_at n (1 % n) (1 % n) i 0 (omega arith) (omega arith) ∙ mod-eq_of_lt (omega arith);
       }
 
 -- What is late from pointers of a switch is a window in which queue (0, 0) is served in the last slot alone.

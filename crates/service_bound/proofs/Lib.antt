@@ -21,14 +21,18 @@ pub mod OneRoundWaits
 pub mod WaitsByRounds
 pub mod Comparing
 pub mod TwoPorts
+pub mod Renumbering
+pub mod RenumberedSlots
 pub mod Postings
 pub mod PostedSlots
 pub mod PostedRuns
+pub mod RenumberedRuns
 pub mod Descents
 pub mod OneRoundFamily
 pub mod MoreRoundsFamily
 pub mod TwoPortsFamily
 pub mod Openings
+pub mod AnyQueue
 mod Greatest
 mod Levels
 mod Noting

@@ -10,16 +10,13 @@ use Rattle.std.proofs.Common.{◌≡◌, ℕ, zero, suc, ◌+◌, ◌-◌, ◌*�
 use Rattle.std.proofs.Math.Nat.{mod-eq_of_lt}
 use Rattle.std.proofs.lemmas.Bool.{cases_lt}
 use Rattle.rotating_pick.specs.Rotation.{distance}
-use Rattle.rotating_pick.specs.declared.limits.TheConstants.{MAX_PORTS}
 use Rattle.pointer_state.specs.Places.{Places, grant_of, accept_of}
-use Rattle.eslip_rounds.specs.Schedules.{DecidedSlot}
 use Rattle.service_bound.specs.Waits.{longest_service}
-use Rattle.service_bound.specs.Latest.{IsServedLast}
 use Rattle.service_bound.proofs.Distances.{distance-above}
 use Rattle.service_bound.proofs.Postings.{Posting, IsPosted, zero_posted}
 use Rattle.service_bound.proofs.PostedSlots.{Suits}
-use Rattle.service_bound.proofs.PostedRuns.{decided, run, length-run, IsSwitch-after, Starts, IsLate, IsIn, IsLate-before, IsLate-last, step_alone, step_second, left_alone}
-use Rattle.service_bound.proofs.Descents.{plain, lowers, passes, downs, length-downs, starts_downs, starts_either, IsStanding, nearer_standing, late_slot, late_downs, late_passes, served_last_slot, IsServedLast-run, IsBeginning, places_at_one, IsBeginning-at_one}
+use Rattle.service_bound.proofs.PostedRuns.{decided, IsSwitch-after, Starts, IsLate, IsIn, IsLate-before, IsLate-last, step_alone, step_second, left_alone}
+use Rattle.service_bound.proofs.Descents.{plain, lowers, passes, downs, length-downs, starts_downs, starts_either, IsStanding, nearer_standing, late_slot, late_downs, late_passes, served_last_slot, IsBeginning}
 
 -- the output that input 0 takes beside output a
 abbrev pub own_of : ℕ → ℕ
@@ -291,9 +288,3 @@ module _ (n rounds : ℕ) (two : 1 < rounds) (three : 2 < n) where
       (λ t places next. late_level 1 1 (n - 2) 0 n (levels n 2 (n - 2)) (omega arith) (omega arith) (omega arith) (omega arith) (starts_levels (λ next. 0 < n) n 2 (n - 2) (λ next. omega arith))
       (λ t places next. late_levels (n - 2) 2 t places (omega arith) (omega arith) (omega arith) next) t places next)
       (n - 1) 1 t places (omega arith) (omega arith) begins
-
-pub more_reached : (n rounds t : ℕ) → 2 < n → n ≤ MAX_PORTS → 1 < rounds → (places : Places) × (slots : List DecidedSlot) × IsServedLast n rounds t 0 0 0 places slots × (length slots ≡ longest_service n)
-more_reached n rounds t three size two =
-    let places = places_at_one n in
-    let begins = IsBeginning-at_one n (omega arith) size in
-    (places, run n rounds t places (family n), IsServedLast-run n rounds t places (family n) begins.switch (late_family n rounds two three t places begins), length-run n rounds t places (family n) ∙ length-family n three)

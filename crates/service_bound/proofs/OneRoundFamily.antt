@@ -4,17 +4,14 @@
 -- and the output that it points at, a, a + 1, .., n - 1, and takes the latter, until it points at output 0.
 -- Input 0 posts output 0 in every slot. First it goes down itself. Then each other input x in turn goes down,
 -- and takes output 0 in a slot in which input 0 takes output 1, and input 0 goes down again from output 2.
-use Rattle.std.proofs.Common.{◌≡◌, ℕ, zero, suc, ◌+◌, ◌-◌, ◌*◌, ◌<◌, ◌≤◌, ◌∙◌, List, [], ◌∷◌, length, refl, ap, sym, subst, inl, inr, arith}
+use Rattle.std.proofs.Common.{◌≡◌, ℕ, zero, suc, ◌+◌, ◌-◌, ◌*◌, ◌<◌, ◌∙◌, List, [], ◌∷◌, length, refl, ap, sym, subst, inl, inr, arith}
 use Rattle.std.proofs.Math.Nat.{mod-eq_of_lt}
 use Rattle.std.proofs.lemmas.Bool.{cases_lt}
-use Rattle.rotating_pick.specs.declared.limits.TheConstants.{MAX_PORTS}
 use Rattle.pointer_state.specs.Places.{Places}
-use Rattle.eslip_rounds.specs.Schedules.{DecidedSlot}
 use Rattle.service_bound.specs.Waits.{longest_service_in_one_round}
-use Rattle.service_bound.specs.Latest.{IsServedLast}
 use Rattle.service_bound.proofs.Postings.{Posting, IsPosted, zero_posted}
-use Rattle.service_bound.proofs.PostedRuns.{run, length-run, Starts, IsLate, IsLate-last}
-use Rattle.service_bound.proofs.Descents.{lowers, passes, downs, length-downs, starts_downs, IsStanding, late_downs, late_passes, served_last_slot, IsServedLast-run, IsBeginning, places_at_one, IsBeginning-at_one}
+use Rattle.service_bound.proofs.PostedRuns.{Starts, IsLate, IsLate-last}
+use Rattle.service_bound.proofs.Descents.{lowers, passes, downs, length-downs, starts_downs, IsStanding, late_downs, late_passes, served_last_slot, IsBeginning}
 
 -- the turns of the k inputs from p on, and the last slot
 abbrev pub turns : ℕ → ℕ → ℕ → List Posting
@@ -75,9 +72,3 @@ module _ (n : ℕ) where
   late_family t places some begins =
       late_downs n 1 one 1 1 n 0 1 (turns n 1 (n - 1)) some (inl (omega arith)) (inl refl) (inl refl) (starts_turns (λ next. IsPosted next 0 0) n (n - 1) 1 zero_posted)
       (λ t places standing. late_turns (n - 1) 1 t places (omega arith) (omega arith) standing) (n - 1) 1 t places (omega arith) (omega arith) begins
-
-pub one_reached : (n t : ℕ) → 0 < n → n ≤ MAX_PORTS → (places : Places) × (slots : List DecidedSlot) × IsServedLast n 1 t 0 0 0 places slots × (length slots ≡ longest_service_in_one_round n)
-one_reached n t some size =
-    let places = places_at_one n in
-    let begins = IsBeginning-at_one n some size in
-    (places, run n 1 t places (family n), IsServedLast-run n 1 t places (family n) begins.switch (late_family n t places some begins), length-run n 1 t places (family n) ∙ length-family n some)

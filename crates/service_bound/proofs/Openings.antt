@@ -2,7 +2,7 @@
 --
 -- Each input in turn asks for output 0 alone and takes it, and input 0 once more. Then all inputs and output 0 point at
 -- port 1, and the family follows.
-use Rattle.std.proofs.Common.{◌≡◌, ℕ, zero, suc, ◌+◌, ◌%◌, ◌<◌, ◌≤◌, ◌∙◌, List, [], ◌∷◌, All, length, take, drop, refl, ap, sym, subst, inl, inr, arith}
+use Rattle.std.proofs.Common.{◌≡◌, ℕ, zero, suc, ◌+◌, ◌%◌, ◌<◌, ◌≤◌, ◌∙◌, List, ◌∷◌, length, take, drop, refl, ap, sym, subst, inl, inr, arith}
 use Rattle.std.proofs.Math.Nat.{mod-eq_of_lt}
 use Rattle.std.proofs.lemmas.Bool.{cases_lt}
 use Rattle.rotating_pick.specs.Rotation.{distance}
@@ -12,14 +12,14 @@ use Rattle.slot_match.specs.Rows.{AreWithin}
 use Rattle.pointer_state.specs.Places.{Places, places_at_first, grant_of, accept_of}
 use Rattle.pointer_state.proofs.Moves.{AreAtPorts-at_first}
 use Rattle.pointer_state.proofs.Tables.{place_of-at_first}
-use Rattle.eslip_rounds.specs.Schedules.{DecidedSlot, IsSchedule}
+use Rattle.eslip_rounds.specs.Schedules.{DecidedSlot}
 use Rattle.service_bound.specs.Windows.{AreKept, places_after}
 use Rattle.service_bound.specs.Waits.{longest_service, longest_service_in_one_round}
 use Rattle.service_bound.specs.Latest.{IsServedLast, ComesLast}
 use Rattle.service_bound.proofs.Postings.{Posting, AreWithin-rows}
-use Rattle.service_bound.proofs.PostedSlots.{Suits, distance-own}
-use Rattle.service_bound.proofs.PostedRuns.{decided, run, length-run, All-run, IsSwitch, IsSwitch-after, IsSchedule-run, IsLate, IsIn, IsStep, step_alone, AreKept-before}
-use Rattle.service_bound.proofs.Descents.{lowers, IsStanding, Suits-plain, IsBeginning, IsServedLast-run}
+use Rattle.service_bound.proofs.PostedSlots.{distance-own}
+use Rattle.service_bound.proofs.PostedRuns.{decided, run, length-run, All-run, IsSwitch, IsSwitch-after, IsSchedule-run, IsLate, IsStep, step_alone, AreKept-before}
+use Rattle.service_bound.proofs.Descents.{lowers, Suits-plain, IsBeginning, IsServedLast-run}
 use Rattle.service_bound.proofs.OneRoundFamily as one
 use Rattle.service_bound.proofs.MoreRoundsFamily as more
 use Rattle.service_bound.proofs.TwoPortsFamily as two

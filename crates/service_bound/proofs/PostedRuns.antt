@@ -3,21 +3,18 @@ use Rattle.std.proofs.Common.{◌≡◌, ℕ, suc, ◌+◌, ◌%◌, ◌<◌, �
 use Rattle.std.proofs.lemmas.Bool.{cases_lt}
 use Rattle.std.proofs.lemmas.List.Elements.{All-nil, All-cons}
 use Rattle.rotating_pick.specs.Rotation.{distance}
-use Rattle.rotating_pick.specs.declared.kinds.Kind.{Kind}
 use Rattle.rotating_pick.specs.declared.kinds.Kind.TheVariants.{Uni, Multi}
 use Rattle.slot_match.specs.declared.rows.Row.{Row}
 use Rattle.slot_match.specs.declared.matching.Fed.{Fed}
 use Rattle.slot_match.specs.Rows.{Names, row_of}
-use Rattle.slot_match.specs.Matches.{unmatched, Serves}
+use Rattle.slot_match.specs.Matches.{Serves}
 use Rattle.slot_match.specs.Keeping.{Keeps}
 use Rattle.slot_match.proofs.Pairs.{Serves-once}
 use Rattle.pointer_state.specs.Places.{Places, AreAtPorts, grant_of, accept_of}
-use Rattle.islip_rounds.specs.Numbers.{last_of}
-use Rattle.eslip_rounds.specs.Rounds.{IsRound, AreRounds}
 use Rattle.eslip_rounds.specs.Slots.{Decision, AreMoved, IsSlot}
 use Rattle.eslip_rounds.specs.Schedules.{DecidedSlot, IsSchedule}
 use Rattle.eslip_rounds.specs.Decisions.{decision_of}
-use Rattle.eslip_rounds.proofs.Running.{AreRounds-keep, once_unicast}
+use Rattle.eslip_rounds.proofs.Running.{once_unicast}
 use Rattle.eslip_rounds.proofs.Settling.{IsSlot-decision_of, AreAtPorts-decision_of}
 use Rattle.eslip_rounds.proofs.Unique.{IsMatch-slot}
 use Rattle.service_bound.specs.Windows.{AreKept}

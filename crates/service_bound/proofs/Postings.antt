@@ -51,7 +51,7 @@ row_at n p i = record { uni = set_of n (is_posted p i) ∷ replicate 3 0; multi 
 pub rows_of : ℕ → Posting → List Row
 rows_of n p = map (row_at n p) (range_with_len 0 n)
 
-nothing_in : (k level j : ℕ) → Has (slice_index (replicate k 0) level) j → ⊥
+pub nothing_in : (k level j : ℕ) → Has (slice_index (replicate k 0) level) j → ⊥
 nothing_in zero level j has = no_member-zero j has
 nothing_in (suc k) zero j has = no_member-zero j has
 nothing_in (suc k) (suc level) j has = nothing_in k level j has

@@ -2,12 +2,12 @@
 --
 -- Where its input is not the one that its output grants, and that one takes the other output, the second round serves
 -- the request: its input and its output are left alone.
-use Rattle.std.proofs.Common.{◌≡◌, ℕ, ◌+◌, ◌<◌, ◌≤◌, ◌⊎◌, ◌∙◌, List, [], ◌∷◌, Option, None, Some, length, All, Any, refl, ap, sym, subst, inl, inr, arith}
+use Rattle.std.proofs.Common.{◌≡◌, ℕ, ◌+◌, ◌<◌, ◌≤◌, List, [], ◌∷◌, Option, None, Some, length, All, Any, refl, ap, sym, subst, inl, inr, arith}
 use Rattle.std.proofs.lemmas.Bool.{cases_eq, cases_lt}
 use Rattle.std.proofs.lemmas.List.Elements.{All-head, All-tail}
 use Rattle.rotating_pick.specs.Rotation.{distance, IsFirstFrom}
 use Rattle.rotating_pick.specs.declared.kinds.Kind.{Kind}
-use Rattle.rotating_pick.specs.declared.kinds.Kind.TheVariants.{Uni, Multi}
+use Rattle.rotating_pick.specs.declared.kinds.Kind.TheVariants.{Uni}
 use Rattle.rotating_pick.specs.declared.limits.TheConstants.{LEVELS}
 use Rattle.rotating_pick.proofs.Circle.{distance-lt}
 use Rattle.rotating_pick.proofs.Picking.{IsFirstFrom-some, distance-injective}
@@ -19,13 +19,11 @@ use Rattle.slot_match.specs.Keeping.{Keeps}
 use Rattle.slot_match.proofs.Kept.{nobody_at_first}
 use Rattle.slot_match.proofs.Pairs.{Serves-once, Serves-from, Serves-decides, fed_of-lt}
 use Rattle.pointer_state.specs.Places.{Places, ArePointing, grant_of, accept_of}
-use Rattle.islip_rounds.specs.Numbers.{last_of}
-use Rattle.eslip_rounds.specs.Rounds.{preferred, Requests, Grants, Accepts, IsRound, AreRounds}
+use Rattle.eslip_rounds.specs.Rounds.{preferred, Requests, Grants, Accepts, IsRound}
 use Rattle.eslip_rounds.specs.Slots.{AreMoved}
 use Rattle.eslip_rounds.specs.Schedules.{DecidedSlot}
 use Rattle.eslip_rounds.proofs.Bests.{taken_from}
 use Rattle.eslip_rounds.proofs.Deciding.{Names-decides}
-use Rattle.eslip_rounds.proofs.Running.{AreRounds-keep}
 use Rattle.service_bound.specs.Windows.{IsClean, IsWithoutMulticast, InFirst, IsWindow}
 use Rattle.service_bound.proofs.Distances.{distance-passed, distance-beyond}
 use Rattle.service_bound.proofs.FirstRound.{grants_first, asks_at_first}
@@ -39,7 +37,7 @@ other_of_two : (a b c : ℕ) → a < 2 → b < 2 → c < 2 → (a ≡ b → ⊥)
 other_of_two a b c a_in b_in c_in a_not c_not = omega arith
 
 -- what is nothing is not something
-nothing_here : (o : Option Fed) (f : Fed) → o ≡ None → o ≡ Some f → ⊥
+pub nothing_here : (o : Option Fed) (f : Fed) → o ≡ None → o ≡ Some f → ⊥
 nothing_here None f free is = cc
 nothing_here (Some g) f free is = cc
 

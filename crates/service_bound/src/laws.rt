@@ -3,7 +3,7 @@
 
 ghost use Rattle.std.specs.Prelude.{◌≡◌, ℕ, ◌+◌, ◌*◌, ◌/◌, ◌<◌, ◌≤◌, List, All, Any, length, map, take, drop};
 ghost use Rattle.rotating_pick.specs.declared.kinds.Kind.TheVariants.{Uni};
-ghost use Rattle.rotating_pick.specs.declared.limits.TheConstants.{MAX_PORTS};
+ghost use Rattle.rotating_pick.specs.declared.limits.TheConstants.{LEVELS, MAX_PORTS};
 ghost use Rattle.slot_match.specs.Rows.{Names, row_of, HasHead, AreWithin};
 ghost use Rattle.slot_match.specs.Matches.{Serves, Completes};
 ghost use Rattle.pointer_state.specs.Places.{Places, ArePointing};
@@ -35,21 +35,21 @@ pub fn two_ports_served()
         → 3 ≤ length slots → Any (λ slot. Serves slot.decision.matched i j level Uni) slots }
 {}
 
-/// That many are needed, for every number of ports: in some window of as many slots of one round, a queue
-/// is posted in every slot and served in the last one alone.
+/// That many are needed, for every number of ports and every queue: in some window of as many slots of one
+/// round, the queue is posted in every slot and served in the last one alone.
 pub fn one_round_is_reached()
-    ensures { (n t : ℕ) → 0 < n → n ≤ MAX_PORTS → (places : Places) × (slots : List DecidedSlot) × IsServedLast n 1 t 0 0 0 places slots × (length slots ≡ longest_service_in_one_round n) }
+    ensures { (n t i j level : ℕ) → i < n → j < n → level < LEVELS → n ≤ MAX_PORTS → (places : Places) × (slots : List DecidedSlot) × IsServedLast n 1 t i j level places slots × (length slots ≡ longest_service_in_one_round n) }
 {}
 
 /// For three ports or more and two rounds or more, `n * (n * n - n + 2) / 2` slots are needed: a later round
 /// serves a request and moves no pointer, so more rounds make the longest wait longer.
 pub fn more_rounds_are_reached()
-    ensures { (n rounds t : ℕ) → 2 < n → n ≤ MAX_PORTS → 1 < rounds → (places : Places) × (slots : List DecidedSlot) × IsServedLast n rounds t 0 0 0 places slots × (length slots ≡ longest_service n) }
+    ensures { (n rounds t i j level : ℕ) → 2 < n → i < n → j < n → level < LEVELS → n ≤ MAX_PORTS → 1 < rounds → (places : Places) × (slots : List DecidedSlot) × IsServedLast n rounds t i j level places slots × (length slots ≡ longest_service n) }
 {}
 
 /// And of two ports, three slots.
 pub fn two_ports_are_reached()
-    ensures { (rounds t : ℕ) → 0 < rounds → (places : Places) × (slots : List DecidedSlot) × IsServedLast 2 rounds t 0 0 0 places slots × (length slots ≡ 3) }
+    ensures { (rounds t i j level : ℕ) → 0 < rounds → i < 2 → j < 2 → level < LEVELS → (places : Places) × (slots : List DecidedSlot) × IsServedLast 2 rounds t i j level places slots × (length slots ≡ 3) }
 {}
 
 /// Such windows come about from all pointers at port 0: before slot `n + 1`, each input in turn, and input 0 again,

@@ -1,4 +1,4 @@
-use Rattle.service_bound.proofs.MoreRoundsFamily.{more_reached}
+use Rattle.service_bound.proofs.AnyQueue.{more_reached}
 use Rattle.service_bound.proofs.laws.more_rounds_are_reached.Goals as goal
 
 pub returns : goal.returns

@@ -1,4 +1,4 @@
-use Rattle.service_bound.proofs.OneRoundFamily.{one_reached}
+use Rattle.service_bound.proofs.AnyQueue.{one_reached}
 use Rattle.service_bound.proofs.laws.one_round_is_reached.Goals as goal
 
 pub returns : goal.returns

@@ -1,4 +1,4 @@
-use Rattle.std.proofs.Common.{◌≡◌, ◌∙◌, ◌+◌, ◌++◌, ◌∷◌, [], length, ap, subst, sym, refl}
+use Rattle.std.proofs.Common.{◌+◌, ◌++◌, ◌∷◌, [], subst, sym, refl}
 use Rattle.slot_match.specs.Rows.{AreWithin}
 use Rattle.service_bound.specs.Waits.{NotedSlot}
 use Rattle.service_bound.specs.Meters.{Meter, HasNoted}
