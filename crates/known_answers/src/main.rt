@@ -15,6 +15,7 @@ mod destination_rows;
 mod fields;
 mod islip_rows;
 mod kernel_rows;
+mod longest_rows;
 mod message_rows;
 mod reassembly_rows;
 mod rotating_rows;

@@ -2,8 +2,8 @@ ghost use Rattle.std.specs.Prelude.{◌≡◌, true, IsSomeAnd};
 
 use crate::{
     arrival_rows, capture_rows, cell_rows, decision_rows, destination_rows, islip_rows,
-    kernel_rows, message_rows, reassembly_rows, rotating_rows, schedule_rows, table_rows,
-    wait_rows,
+    kernel_rows, longest_rows, message_rows, reassembly_rows, rotating_rows, schedule_rows,
+    table_rows, wait_rows,
 };
 use std::alloc::{AllocError, Global};
 use vector_rows::{Row, RowReader};
@@ -24,6 +24,7 @@ pub enum Reader {
     Tables(table_rows::Block),
     Destinations,
     Waits(wait_rows::Block),
+    LongestWaits(longest_rows::Block),
     // No file of this name is known: no line of it can be read.
     Unknown,
 }
@@ -51,6 +52,7 @@ impl RowReader for Reader {
             "schedules.txt" => Reader::Schedules(schedule_rows::Block::new()),
             "destinations.txt" => Reader::Destinations,
             "waits.txt" => Reader::Waits(wait_rows::Block::new()),
+            "longest_waits.txt" => Reader::LongestWaits(longest_rows::Block::new()),
             "tables.txt" => Reader::Tables(table_rows::Block::new(alloc)),
             _ => Reader::Unknown,
         }
@@ -71,6 +73,7 @@ impl RowReader for Reader {
             Reader::Tables(block) => return block.row(alloc, line),
             Reader::Destinations => destination_rows::row(alloc, line)?,
             Reader::Waits(block) => return block.row(alloc, line),
+            Reader::LongestWaits(block) => return block.row(alloc, line),
             Reader::Unknown => Row::unread(alloc, line)?,
         };
         Ok(Some(row))
