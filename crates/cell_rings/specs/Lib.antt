@@ -1,0 +1,4 @@
+pub mod CellQueues
+pub mod Codes
+pub mod Runs
+pub mod Fields
