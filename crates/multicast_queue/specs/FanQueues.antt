@@ -1,13 +1,13 @@
 -- The multicast queues of an input, one for each level: lists of cells with their fan-outs.
-use Rattle.std.specs.Prelude.{◌≡◌, ◌≢◌, ◌↔◌, ℕ, List, [], ◌∷◌, Option, Some, None, map, drop, slice_index_or}
+use Rattle.std.specs.Prelude.{◌≡◌, ◌≢◌, ◌↔◌, ℕ, ◌-◌, List, [], ◌∷◌, ◌++◌, Option, Some, None, map, drop, slice_index_or}
 use Rattle.cell_cutter.specs.declared.cell.CellName.{CellName}
 use Rattle.rotating_pick.specs.PortSets.{Has}
-use Rattle.voq_banks.specs.Queues.{cells_of_packet}
+use Rattle.cell_rings.specs.declared.ring.QueuedCell.{QueuedCell}
+use Rattle.cell_rings.specs.CellQueues.{cells_with_fan}
 
 -- a cell, and all outputs that it goes to
-pub record FanCell : Type 0 where
-  pub name : CellName
-  pub fan : ℕ
+abbrev pub FanCell : Type 0
+FanCell = QueuedCell ℕ
 
 -- a queue: the cells that wait, those outputs of the first one's fan-out that were not served yet (none
 -- where no cell waits), and how many packets may still enter
@@ -22,10 +22,6 @@ pub record Queues : Type 0 where
   pub depth : ℕ
   pub queues : List FanQueue
 
--- the cells of a packet, in order, each with the whole fan-out
-abbrev pub cells_with_fan : ℕ → ℕ → ℕ → List FanCell
-cells_with_fan packet cells fan = map (λ name. record { name = name; fan = fan }) (cells_of_packet packet cells)
-
 -- the name of the first cell
 abbrev pub first_name : List FanCell → Option CellName
 first_name [] = None
@@ -35,6 +31,19 @@ first_name (cell ∷ cells) = Some cell.name
 abbrev pub first_fan : List FanCell → ℕ
 first_fan [] = 0
 first_fan (cell ∷ cells) = cell.fan
+
+-- the rest of the head's fan-out where cells of this fan-out have entered: theirs where no cell waited
+abbrev pub rest_with : List FanCell → ℕ → ℕ → ℕ
+rest_with [] rest fan = fan
+rest_with (cell ∷ cells) rest fan = rest
+
+-- a queue that the cells of a packet have entered
+abbrev pub queue_with : FanQueue → ℕ → ℕ → ℕ → FanQueue
+queue_with queue packet cells fan = record {
+  cells = queue.cells ++ cells_with_fan packet cells fan;
+  rest = rest_with queue.cells queue.rest fan;
+  spare = queue.spare - 1;
+}
 
 -- a queue that so many packets will enter
 abbrev pub empty_queue : ℕ → FanQueue

@@ -1,32 +1,54 @@
--- How the queues of an input are kept: a ring for each level.
-use Rattle.std.specs.Prelude.{◌≡◌, ℕ, ◌+◌, ◌<◌, ◌≤◌, List, [], ◌∷◌, length, map, min, slice_index_or}
-use Rattle.rotating_pick.specs.PortSets.{IsAmong}
+-- How the queues of an input are kept: for each level a ring, and the rest of the head's fan-out.
+use Rattle.std.specs.Prelude.{◌≡◌, ◌≢◌, ℕ, ◌<◌, ◌≤◌, List, [], ◌∷◌, length, map, slice_index_or}
+use Rattle.rotating_pick.specs.PortSets.{Has, IsAmong}
 use Rattle.rotating_pick.specs.declared.limits.TheConstants.{LEVELS}
-use Rattle.multicast_queue.specs.FanQueues.{FanCell, Queues}
-use Rattle.multicast_queue.specs.Rings.{Kept, queue_of, empty_ring}
+use Rattle.cell_rings.specs.CellQueues.{CellQueue}
+use Rattle.multicast_queue.specs.FanQueues.{FanCell, FanQueue, Queues, empty_queue, queue_with}
 
--- the queues that rings stand for
+-- a queue, and the most cells that it may have
+pub record Kept : Type 0 where
+  pub depth : ℕ
+  pub queue : FanQueue
+
+-- what a ring and a rest stand for
+abbrev pub kept_of : CellQueue ℕ → ℕ → Kept
+kept_of ring rest =
+    record { depth = ring.depth; queue = record { cells = ring.cells; rest = rest; spare = ring.spare } }
+
+-- one that so many packets will enter
+abbrev pub empty_kept : ℕ → ℕ → Kept
+empty_kept depth packets = record { depth = depth; queue = empty_queue packets }
+
+-- one that the cells of a packet have entered
+abbrev pub kept_with : Kept → ℕ → ℕ → ℕ → Kept
+kept_with kept packet cells fan = record { depth = kept.depth; queue = queue_with kept.queue packet cells fan }
+
+-- the queues that these stand for
 abbrev pub queues_in : ℕ → ℕ → List Kept → Queues
-queues_in ports depth kept = record { ports = ports; depth = depth; queues = map queue_of kept }
+queues_in ports depth kept = record { ports = ports; depth = depth; queues = map (λ k. k.queue) kept }
 
--- the ring of a level
-abbrev pub ring_at : List Kept → ℕ → Kept
-ring_at kept level = slice_index_or kept level (empty_ring 0 0)
+-- the one of a level
+abbrev pub kept_at : List Kept → ℕ → Kept
+kept_at kept level = slice_index_or kept level (empty_kept 0 0)
 
--- each cell goes to some of the ports
-abbrev pub AreAmong : ℕ → List FanCell → Type 0
-AreAmong ports [] = Unit {0}
-AreAmong ports (cell ∷ cells) = IsAmong ports cell.fan × AreAmong ports cells
+-- each cell goes somewhere, and to ports of the switch alone
+abbrev pub HaveFans : ℕ → List FanCell → Type 0
+HaveFans ports [] = Unit {0}
+HaveFans ports (cell ∷ cells) = ((cell.fan ≢ 0) × IsAmong ports cell.fan) × HaveFans ports cells
 
--- a queue is within the depth, and its ring takes all packets that may still enter: each that waits has
--- a cell, so there are never more than the depth
-pub record HasRoom (ports depth : ℕ) (kept : Kept) : Type 0 where
-  pub within : length kept.cells ≤ depth
-  pub packed : kept.packets ≤ length kept.cells
-  pub taken : min (kept.packets + kept.spare) depth ≤ kept.capacity
-  pub among : AreAmong ports kept.cells
+-- the rest of the head's fan-out: some outputs of it, none where no cell waits
+abbrev pub IsRest : ℕ → List FanCell → Type 0
+IsRest rest [] = rest ≡ 0
+IsRest rest (cell ∷ cells) = (rest ≢ 0) × ((output : ℕ) → Has rest output → Has cell.fan output)
 
--- the rings of the four levels
+-- a queue has the depth of all, no more cells, fan-outs, and the rest of one
+pub record IsKept (ports depth : ℕ) (kept : Kept) : Type 0 where
+  pub deep : kept.depth ≡ depth
+  pub within : length kept.queue.cells ≤ depth
+  pub fans : HaveFans ports kept.queue.cells
+  pub rests : IsRest kept.queue.rest kept.queue.cells
+
+-- the queues of the four levels
 pub record AreKept (ports depth : ℕ) (kept : List Kept) : Type 0 where
   pub long : length kept ≡ LEVELS
-  pub rooms : (level : ℕ) → level < LEVELS → HasRoom ports depth (ring_at kept level)
+  pub each : (level : ℕ) → level < LEVELS → IsKept ports depth (kept_at kept level)

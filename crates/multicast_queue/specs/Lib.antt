@@ -1,3 +1,2 @@
 pub mod FanQueues
-pub mod Rings
 pub mod Fields

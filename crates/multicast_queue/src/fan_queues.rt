@@ -1,14 +1,15 @@
-ghost use Rattle.std.specs.Prelude.{◌≡◌, ◌≢◌, ℕ, ◌+◌, ◌-◌, ◌<◌, ◌≤◌, ◌↔◌, [], ◌++◌, map, length, false, All, IfOk, IsTrue};
+ghost use Rattle.std.specs.Prelude.{◌≡◌, ◌≢◌, ℕ, ◌+◌, ◌<◌, ◌≤◌, ◌↔◌, [], map, length, nat_le, false, All, IfOk, IsTrue, if◌then◌else◌};
 ghost use Rattle.rotating_pick.specs.PortSets.{Has, IsAmong};
-ghost use Rattle.multicast_queue.specs.FanQueues.{empty_queues, cells_with_fan, queue_at, first_fan, first_name, HasSeveral, HeadLeaves, HeadStays, OthersStay};
-ghost use Rattle.multicast_queue.specs.Rings.{empty_ring};
+ghost use Rattle.multicast_queue.specs.FanQueues.{empty_queues, queue_at, queue_with, first_fan, first_name, HasSeveral, HeadLeaves, HeadStays, OthersStay};
+ghost use Rattle.multicast_queue.specs.Fields.{empty_kept};
 
 use crate::queue::Queue;
 use cell_cutter::CellName;
+use cell_rings::MAX_CELLS;
 use rotating_pick::{LEVELS, MAX_PORTS, OutOfMemory, Ports};
 use std::alloc::{AllocError, Global};
 use std::marker::Model;
-use voq_banks::{MAX_CELLS, MAX_DEPTH, MAX_PACKETS};
+use voq_banks::{MAX_DEPTH, MAX_PACKETS};
 
 /// The multicast queues of one input: a queue of cells for each level.
 #[derive(Drop)]
@@ -54,6 +55,19 @@ impl FanQueues {
         })
     }
 
+    /// The most cells that each queue may have. None has more, and each head has a remaining fan-out.
+    pub fn depth(&self) -> u32
+        ensures depth { result ≡ self.now.depth }
+        ensures within { (level : ℕ) → level < LEVELS → length (queue_at self.now level).cells ≤ result }
+        // Nothing remains exactly where no cell waits.
+        ensures empty { (level : ℕ) → level < LEVELS → ((queue_at self.now level).rest ≡ 0) ↔ (length (queue_at self.now level).cells ≡ 0) }
+        // What remains is of the head's fan-out, and of the switch's ports.
+        ensures head { (level output : ℕ) → level < LEVELS → Has (queue_at self.now level).rest output → Has (first_fan (queue_at self.now level).cells) output }
+        ensures ports { (level output : ℕ) → level < LEVELS → Has (queue_at self.now level).rest output → output < self.now.ports }
+    {
+        self.depth
+    }
+
     /// Whether the queue of the level, 0 to 3, can take so many more cells: with them it has at most the
     /// depth.
     pub fn fits(&self, level: u8, cells: u32) -> bool
@@ -82,15 +96,33 @@ impl FanQueues {
         requires few { cells ≤ MAX_CELLS }
         requires several { HasSeveral fan }
         requires among { IsAmong self.old.ports fan }
-        ensures cells { (queue_at self.new level).cells ≡ (queue_at self.old level).cells ++ cells_with_fan packet cells fan }
-        // Where no cell waited, the packet's first one is head, and nothing of its fan-out was served.
-        ensures begins { length (queue_at self.old level).cells ≡ 0 → (queue_at self.new level).rest ≡ fan }
-        ensures stays { 0 < length (queue_at self.old level).cells → (queue_at self.new level).rest ≡ (queue_at self.old level).rest }
-        ensures spare { (queue_at self.new level).spare ≡ (queue_at self.old level).spare - 1 }
+        ensures queue { queue_at self.new level ≡ queue_with (queue_at self.old level) packet cells fan }
         ensures others { OthersStay level self.old self.new }
     {
         let queue = &mut self.queues[level as usize];
         queue.admit(packet, cells, fan);
+    }
+
+    /// Appends the packet's cells, 1 to 1,171, to that queue where they fit, each with the whole fan-out
+    /// `fan`: two or more of the switch's ports. Answers whether they did; if not, all stays. The other
+    /// queues stay.
+    pub fn offer(&mut self, level: u8, packet: u32, cells: u32, fan: Ports) -> bool
+        requires level { level < LEVELS }
+        requires spare { 0 < (queue_at self.old level).spare }
+        requires some { 0 < cells }
+        requires few { cells ≤ MAX_CELLS }
+        requires several { HasSeveral fan }
+        requires among { IsAmong self.old.ports fan }
+        ensures fits { result ≡ nat_le (length (queue_at self.old level).cells + cells) self.old.depth }
+        ensures queue { queue_at self.new level ≡ (if result then queue_with (queue_at self.old level) packet cells fan else queue_at self.old level) }
+        ensures others { OthersStay level self.old self.new }
+        ensures rejected { result ≡ false → self.new ≡ self.old }
+    {
+        let fits = self.fits(level, cells);
+        if fits {
+            self.admit(level, packet, cells, fan);
+        }
+        fits
     }
 
     /// The head's remaining fan-out: the outputs of its fan-out that were not served yet. It is 0
@@ -137,7 +169,7 @@ fn queues(
     depth: u32,
     room: &[u32; LEVELS as usize],
 ) -> Result<[Queue; LEVELS as usize], AllocError>
-    ensures { IfOk result (λ queues. queues ≡ map (empty_ring depth) room.now) }
+    ensures { IfOk result (λ queues. queues ≡ map (empty_kept depth) room.now) }
 {
     let [first, second, third, fourth] = *room;
     Ok([

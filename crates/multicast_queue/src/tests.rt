@@ -2,11 +2,12 @@ ghost use Rattle.std.specs.Prelude.{◌≡◌};
 
 use crate::FanQueues;
 use cell_cutter::CellName;
+use cell_rings::MAX_CELLS;
 use rotating_pick::{LEVELS, MAX_PORTS, Ports, contains, is_among, is_subset, lowest, without};
 use std::alloc::Global;
 use std::process::Abort;
 use std::test::Fail;
-use voq_banks::{MAX_CELLS, MAX_DEPTH, MAX_PACKETS};
+use voq_banks::{MAX_DEPTH, MAX_PACKETS};
 
 // A call of the queue of a level, and its answer.
 #[derive(Clone, Copy, Debug)]
@@ -14,6 +15,7 @@ enum Step {
     Fits(u8, u32, bool),
     Spare(u8, u32),
     Admit(u8, u32, u32, Ports),
+    Offer(u8, u32, u32, Ports, bool),
     Fan(u8, Ports),
     Head(u8, Option<CellName>),
     Served(u8, Ports, bool),
@@ -46,12 +48,14 @@ const fn last(packet: u32, number: u16) -> Option<CellName> {
     })
 }
 
-// The packet enters. Its fan-out has two outputs at least.
-fn admit(rt: &impl Abort, queues: &mut FanQueues, ports: u32, step: Step)
+// The packet is admitted or offered, and whether it entered is as stated. Its fan-out has two outputs
+// at least.
+fn enter(rt: &impl Abort, queues: &mut FanQueues, ports: u32, step: Step)
     requires { queues.old.ports ≡ ports }
     ensures { queues.new.ports ≡ ports }
 {
-    let Step::Admit(level, packet, cells, fan) = step else {
+    let (Step::Admit(level, packet, cells, fan) | Step::Offer(level, packet, cells, fan, _)) = step
+    else {
         return;
     };
     let one = lowest(fan).expect(rt, "no output");
@@ -65,11 +69,13 @@ fn admit(rt: &impl Abort, queues: &mut FanQueues, ports: u32, step: Step)
     );
     assert!(rt; is_among(ports, fan), "{step:?}");
     assert!(rt; 0 < cells && cells <= MAX_CELLS, "{step:?}");
-    assert!(rt;
-        queues.fits(level, cells) && queues.spare(level) != 0,
-        "{step:?}"
-    );
-    queues.admit(level, packet, cells, fan);
+    assert!(rt; queues.spare(level) != 0, "{step:?}");
+    if let Step::Offer(_, _, _, _, fits) = step {
+        assert_eq!(rt; queues.offer(level, packet, cells, fan), fits, "{step:?}");
+    } else {
+        assert!(rt; queues.fits(level, cells), "{step:?}");
+        queues.admit(level, packet, cells, fan);
+    }
 }
 
 // The call is made, and answers what it must.
@@ -80,6 +86,7 @@ fn follow(rt: &impl Abort, queues: &mut FanQueues, ports: u32, step: Step)
     let (Step::Fits(level, _, _)
     | Step::Spare(level, _)
     | Step::Admit(level, _, _, _)
+    | Step::Offer(level, _, _, _, _)
     | Step::Fan(level, _)
     | Step::Head(level, _)
     | Step::Served(level, _, _)) = step;
@@ -87,7 +94,7 @@ fn follow(rt: &impl Abort, queues: &mut FanQueues, ports: u32, step: Step)
     match step {
         Step::Fits(_, cells, fits) => assert_eq!(rt; queues.fits(level, cells), fits, "{step:?}"),
         Step::Spare(_, spare) => assert_eq!(rt; queues.spare(level), spare, "{step:?}"),
-        Step::Admit(..) => admit(rt, queues, ports, step),
+        Step::Admit(..) | Step::Offer(..) => enter(rt, queues, ports, step),
         Step::Fan(_, fan) => assert_eq!(rt; queues.fan(level), fan, "{step:?}"),
         Step::Head(_, head) => assert_eq!(rt; queues.head(level), head, "{step:?}"),
         Step::Served(_, mask, done) => {
@@ -109,6 +116,7 @@ fn run(rt: &impl Abort, alloc: Global, case: Case<'_>) -> Result<(), Fail> {
     assert!(rt; 0 < depth && depth <= MAX_DEPTH);
     assert!(rt; room.iter().all(|packets| *packets <= MAX_PACKETS));
     let mut queues = FanQueues::make(alloc, ports, depth, &room)?;
+    assert_eq!(rt; queues.depth(), depth);
     for step in steps {
         follow(rt, &mut queues, ports, *step);
     }
@@ -117,7 +125,7 @@ fn run(rt: &impl Abort, alloc: Global, case: Case<'_>) -> Result<(), Fail> {
 
 #[test]
 fn heads_stay_for_their_fan_out(rt: HostRuntime) -> Result<(), Fail> {
-    use Step::{Admit, Fan, Fits, Head, Served, Spare};
+    use Step::{Admit, Fan, Fits, Head, Offer, Served, Spare};
     let cases = [
         Case {
             ports: 3,
@@ -168,6 +176,24 @@ fn heads_stay_for_their_fan_out(rt: HostRuntime) -> Result<(), Fail> {
                 Head(0, None),
                 Fits(0, 4, true),
                 Fits(0, 5, false),
+            ],
+        },
+        // A packet that does not fit leaves all as it was.
+        Case {
+            ports: 3,
+            depth: 3,
+            room: [0, 0, 3, 0],
+            steps: &[
+                Offer(2, 4, 2, 0x3, true),
+                Offer(2, 5, 2, 0x6, false),
+                Spare(2, 2),
+                Fan(2, 0x3),
+                Offer(2, 6, 1, 0x5, true),
+                Fan(2, 0x3),
+                Served(2, 0x3, true),
+                Served(2, 0x3, true),
+                Fan(2, 0x5),
+                Head(2, last(6, 0)),
             ],
         },
         // The ring of two places wraps.

@@ -1,4 +1,2 @@
 pub mod Queues
-pub mod Runs
-pub mod Rings
 pub mod Fields

@@ -1,13 +1,7 @@
 -- The unicast queues of an input, one for each output and level: lists of cells.
-use Rattle.std.specs.Prelude.{◌≡◌, ℕ, ◌+◌, ◌*◌, ◌<◌, ◌==◌, List, [], length, map, slice_index, slice_index_or}
-use Rattle.std.specs.List.{range_with_len}
+use Rattle.std.specs.Prelude.{◌≡◌, ℕ, ◌+◌, ◌*◌, ◌<◌, List, [], length, map, slice_index, slice_index_or}
 use Rattle.rotating_pick.specs.declared.limits.TheConstants.{LEVELS}
 use Rattle.cell_cutter.specs.declared.cell.CellName.{CellName}
-
--- the cells of a packet, in order, the last one marked
-abbrev pub cells_of_packet : ℕ → ℕ → List CellName
-cells_of_packet packet cells =
-    map (λ k. record { packet = packet; number = k; last = k + 1 == cells }) (range_with_len 0 cells)
 
 -- the queues of an input of a switch of so many ports: the most cells that each may have, the cells
 -- that wait in each, and how many packets may still enter each

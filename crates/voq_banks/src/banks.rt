@@ -1,11 +1,11 @@
-ghost use Rattle.std.specs.Prelude.{◌≡◌, ◌≢◌, ℕ, ◌+◌, ◌-◌, ◌*◌, ◌<◌, ◌≤◌, ◌↔◌, [], ◌∷◌, ◌++◌, map, length, All, IfOk, IsTrue};
+ghost use Rattle.std.specs.Prelude.{◌≡◌, ◌≢◌, ℕ, ◌+◌, ◌-◌, ◌*◌, ◌<◌, ◌≤◌, ◌↔◌, [], ◌∷◌, ◌++◌, map, length, nat_le, false, All, IfOk, IsTrue, if◌then◌else◌};
 ghost use Rattle.rotating_pick.specs.PortSets.{Has};
-ghost use Rattle.voq_banks.specs.Queues.{empty_queues, cells_of_packet, place_of, queue_at, spare_at, Waits, OthersStay};
-ghost use Rattle.voq_banks.specs.Rings.{empty_queue};
+ghost use Rattle.cell_rings.specs.CellQueues.{cells_of_packet, empty_queue};
+ghost use Rattle.voq_banks.specs.Queues.{empty_queues, place_of, queue_at, spare_at, Waits, OthersStay};
 
-use crate::limits::{MAX_CELLS, MAX_DEPTH, MAX_PACKETS};
-use crate::queue::Queue;
+use crate::limits::{MAX_DEPTH, MAX_PACKETS};
 use cell_cutter::CellName;
+use cell_rings::{CellRing, MAX_CELLS};
 use rotating_pick::{LEVELS, MAX_PORTS, OutOfMemory, Ports, with, without};
 use std::alloc::{AllocError, Global};
 use std::marker::Model;
@@ -15,7 +15,7 @@ use std::marker::Model;
 pub struct Banks {
     ports: u32,
     depth: u32,
-    queues: Vec<Queue>,
+    queues: Vec<CellRing<()>>,
     masks: [Ports; LEVELS as usize],
 }
 
@@ -39,7 +39,7 @@ impl Banks {
         requires ports { n ≤ MAX_PORTS }
         requires deep { 0 < depth }
         requires depth { depth ≤ MAX_DEPTH }
-        requires queues { length room.now ≡ 4 * n }
+        requires queues { length room.now ≡ LEVELS * n }
         requires room { All (λ packets. packets ≤ MAX_PACKETS) room.now }
         ensures banks { IfOk result (λ banks. banks ≡ empty_queues n depth room.now) }
         ensures empty { IfOk result (λ banks. (output level : ℕ) → queue_at banks output level ≡ []) }
@@ -50,6 +50,14 @@ impl Banks {
             queues: queues(alloc, depth, room)?,
             masks: [0; LEVELS as usize],
         })
+    }
+
+    /// The most cells that each queue may have. None has more.
+    pub fn depth(&self) -> u32
+        ensures depth { result ≡ self.now.depth }
+        ensures within { (output level : ℕ) → output < self.now.ports → level < LEVELS → length (queue_at self.now output level) ≤ result }
+    {
+        self.depth
     }
 
     /// Whether the queue of the output, one of the switch's ports, and the level, 0 to 3, can take so
@@ -85,9 +93,30 @@ impl Banks {
         ensures others { OthersStay output level self.old self.new }
     {
         let queue = &mut self.queues[place_of(output, level)];
-        queue.admit(packet, cells);
+        queue.admit(packet, cells, ());
         let level = level as usize;
         self.masks[level] = with(self.masks[level], output);
+    }
+
+    /// Appends the packet's cells, 1 to 1,171, to that queue where they fit: with them it has at most
+    /// the depth. Answers whether they did; if not, all stays. The other queues stay.
+    pub fn offer(&mut self, output: u32, level: u8, packet: u32, cells: u32) -> bool
+        requires output { output < self.old.ports }
+        requires level { level < LEVELS }
+        requires spare { 0 < spare_at self.old output level }
+        requires some { 0 < cells }
+        requires few { cells ≤ MAX_CELLS }
+        ensures fits { result ≡ nat_le (length (queue_at self.old output level) + cells) self.old.depth }
+        ensures queue { queue_at self.new output level ≡ queue_at self.old output level ++ (if result then cells_of_packet packet cells else []) }
+        ensures spare { spare_at self.new output level ≡ (if result then spare_at self.old output level - 1 else spare_at self.old output level) }
+        ensures others { OthersStay output level self.old self.new }
+        ensures rejected { result ≡ false → self.new ≡ self.old }
+    {
+        let fits = self.fits(output, level, cells);
+        if fits {
+            self.admit(output, level, packet, cells);
+        }
+        fits
     }
 
     /// The outputs whose queue of the level, 0 to 3, is not empty.
@@ -118,7 +147,7 @@ impl Banks {
         ensures others { OthersStay output level self.old self.new }
     {
         let queue = &mut self.queues[place_of(output, level)];
-        let name = queue.pop();
+        let name = queue.pop().name;
         let waiting = queue.cells();
         let level = level as usize;
         self.masks[level] = mask_after(self.masks[level], output, waiting);
@@ -149,12 +178,12 @@ fn place_of(output: u32, level: u8) -> usize
 }
 
 // An empty queue for each entry of `room`.
-fn queues(alloc: Global, depth: u32, room: &[u32]) -> Result<Vec<Queue>, AllocError>
+fn queues(alloc: Global, depth: u32, room: &[u32]) -> Result<Vec<CellRing<()>>, AllocError>
     ensures { IfOk result (λ queues. queues.items ≡ map (empty_queue depth) room.now) }
 {
     let mut queues = Vec::with_capacity(alloc, room.len())?;
     for packets in room {
-        queues.push(Queue::make(alloc, depth, *packets)?)?;
+        queues.push(CellRing::make(alloc, depth, *packets)?)?;
     }
     Ok(queues)
 }

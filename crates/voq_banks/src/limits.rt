@@ -3,6 +3,3 @@ pub const MAX_DEPTH: u32 = 131_072;
 
 /// The most packets that can enter one queue in a run.
 pub const MAX_PACKETS: u32 = 131_072;
-
-/// The most cells of a packet that is forwarded.
-pub const MAX_CELLS: u32 = 1_171;

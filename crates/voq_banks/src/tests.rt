@@ -13,6 +13,7 @@ enum Step {
     Fits(u32, u8, u32, bool),
     Spare(u32, u8, u32),
     Admit(u32, u8, u32, u32),
+    Offer(u32, u8, u32, u32, bool),
     Cells(u32, u8, u32),
     Mask(u8, Ports),
     Pop(u32, u8, CellName),
@@ -69,6 +70,7 @@ fn follow(rt: &impl Abort, banks: &mut Banks, ports: u32, step: Step)
         Step::Fits(output, level, _, _)
         | Step::Spare(output, level, _)
         | Step::Admit(output, level, _, _)
+        | Step::Offer(output, level, _, _, _)
         | Step::Cells(output, level, _)
         | Step::Pop(output, level, _) => (output, level),
         Step::Mask(level, _) => (0, level),
@@ -86,6 +88,11 @@ fn follow(rt: &impl Abort, banks: &mut Banks, ports: u32, step: Step)
             assert!(rt; banks.fits(output, level, cells), "{step:?}");
             assert!(rt; banks.spare(output, level) != 0, "{step:?}");
             banks.admit(output, level, packet, cells);
+        }
+        Step::Offer(_, _, packet, cells, fits) => {
+            assert!(rt; 0 < cells && cells <= MAX_CELLS, "{step:?}");
+            assert!(rt; banks.spare(output, level) != 0, "{step:?}");
+            assert_eq!(rt; banks.offer(output, level, packet, cells), fits, "{step:?}");
         }
         Step::Cells(_, _, cells) => assert_eq!(rt; banks.cells(output, level), cells, "{step:?}"),
         Step::Mask(_, mask) => assert_eq!(rt; banks.mask(level), mask, "{step:?}"),
@@ -107,9 +114,10 @@ fn run(rt: &impl Abort, alloc: Global, case: Case<'_>) -> Result<(), Fail> {
     let room = room_of(alloc, ports, room)?;
     assert!(rt; 0 < ports && ports <= MAX_PORTS);
     assert!(rt; 0 < depth && depth <= MAX_DEPTH);
-    assert!(rt; room.len() == (4 * ports) as usize);
+    assert!(rt; room.len() == (LEVELS * ports) as usize);
     assert!(rt; room.iter().all(|packets| *packets <= MAX_PACKETS));
     let mut banks = Banks::make(alloc, ports, depth, &room)?;
+    assert_eq!(rt; banks.depth(), depth);
     for step in steps {
         follow(rt, &mut banks, ports, *step);
     }
@@ -118,7 +126,7 @@ fn run(rt: &impl Abort, alloc: Global, case: Case<'_>) -> Result<(), Fail> {
 
 #[test]
 fn cells_leave_in_order(rt: HostRuntime) -> Result<(), Fail> {
-    use Step::{Admit, Cells, Fits, Mask, Pop, Spare};
+    use Step::{Admit, Cells, Fits, Mask, Offer, Pop, Spare};
     let cases = [
         Case {
             ports: 1,
@@ -140,6 +148,24 @@ fn cells_leave_in_order(rt: HostRuntime) -> Result<(), Fail> {
                 Spare(0, 0, 0),
                 Fits(0, 0, 3, true),
                 Fits(0, 0, 4, false),
+            ],
+        },
+        // A packet that does not fit leaves all as it was.
+        Case {
+            ports: 2,
+            depth: 3,
+            room: &[(1, 2, 3)],
+            steps: &[
+                Offer(1, 2, 4, 2, true),
+                Offer(1, 2, 5, 2, false),
+                Spare(1, 2, 2),
+                Cells(1, 2, 2),
+                Offer(1, 2, 6, 1, true),
+                Mask(2, 0x2),
+                Pop(1, 2, more(4, 0)),
+                Pop(1, 2, last(4, 1)),
+                Pop(1, 2, last(6, 0)),
+                Mask(2, 0x0),
             ],
         },
         // The ring of three places wraps.
