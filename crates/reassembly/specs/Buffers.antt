@@ -1,5 +1,7 @@
 -- A buffer holds the bytes of a flow until the next message begins.
-use Rattle.std.specs.Prelude.{ℕ, ◌+◌, List, [], ◌++◌, map, if◌then◌else◌, ◌==◌}
+use Rattle.std.specs.Prelude.{◌≡◌, ℕ, ◌+◌, ◌*◌, ◌≤◌, length, List, [], ◌++◌, map, if◌then◌else◌, ◌==◌}
+use Rattle.rotating_pick.specs.declared.limits.TheConstants.{MAX_PORTS}
+use Rattle.reassembly.specs.declared.limits.TheConstants.{FLOWS_PER_INPUT}
 use Rattle.cell_cutter.specs.declared.cell.Cell.{Cell}
 use Rattle.cell_cutter.specs.Cells.{used_bytes}
 use Rattle.reassembly.specs.Flows.{Flow, Flows}
@@ -29,3 +31,7 @@ stored_with stored cell = record {
   bytes = begun stored ++ used_bytes cell;
   next = if cell.last then 0 else cell.number + 1;
 }
+
+-- a buffer for each flow of an input, and no more inputs than a switch has
+abbrev pub HasBuffers : ℕ → List Stored → Type 0
+HasBuffers ports buffers = (length buffers ≡ FLOWS_PER_INPUT * ports) × (ports ≤ MAX_PORTS)

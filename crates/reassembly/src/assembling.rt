@@ -4,16 +4,11 @@ ghost use Rattle.reassembly.specs.Buffers.{flow_in};
 ghost use Rattle.reassembly.specs.Cutting.{Stands, messages_of};
 
 use crate::buffer::Buffer;
-use cell_cutter::Cell;
-use rotating_pick::{Kind, MAX_PORTS, OutOfMemory};
+use crate::limits::FLOWS_PER_INPUT;
+use cell_cutter::{Cell, MAX_MESSAGE_BYTES};
+use rotating_pick::{Kind, LEVELS, MAX_PORTS, OutOfMemory};
 use std::alloc::{AllocError, Global};
 use std::marker::Model;
-
-/// Flows of one input: four levels of two kinds.
-pub const FLOWS_PER_INPUT: usize = 8;
-
-/// The most bytes of a message that crosses as cells: its header of 16 and 65,535.
-pub const MAX_MESSAGE: u32 = 65_551;
 
 /// A message that is whole, and its flow.
 #[derive(Clone, Copy, Debug)]
@@ -36,15 +31,14 @@ pub struct Reassembly {
 }
 
 impl Model for Reassembly {
-    ghost use Rattle.std.specs.Prelude.{◌≡◌, ◌≤◌, ◌*◌, length};
     ghost use Rattle.reassembly.specs.Flows.{Flows};
-    ghost use Rattle.reassembly.specs.Buffers.{flows_in};
+    ghost use Rattle.reassembly.specs.Buffers.{flows_in, HasBuffers};
 
     ghost Value = { Flows };
 
     ghost view = { λ r. flows_in r.ports r.buffers.items };
 
-    ghost invariant = { λ r. (length r.buffers.items ≡ 8 * r.ports) × (r.ports ≤ 64) };
+    ghost invariant = { λ r. HasBuffers r.ports r.buffers.items };
 }
 
 impl Reassembly {
@@ -57,8 +51,8 @@ impl Reassembly {
     pub fn make(alloc: Global, n: u32, sizes: &[u32]) -> Result<Reassembly, OutOfMemory>
         requires some { 0 < n }
         requires ports { n ≤ MAX_PORTS }
-        requires flows { length sizes.now ≡ 8 * n }
-        requires sizes { All (λ size. size ≤ MAX_MESSAGE) sizes.now }
+        requires flows { length sizes.now ≡ FLOWS_PER_INPUT * n }
+        requires sizes { All (λ size. size ≤ MAX_MESSAGE_BYTES) sizes.now }
         ensures { IfOk result (λ r. r ≡ record { ports = n; flows = map fresh sizes.now }) }
     {
         Ok(Reassembly {
@@ -116,7 +110,7 @@ fn buffers(alloc: Global, sizes: &[u32]) -> Result<Vec<Buffer>, AllocError>
 
 // The place of the cell's flow among all.
 fn place_of(cell: &Cell) -> usize
-    requires { cell.now.level < 4 }
+    requires { cell.now.level < LEVELS }
     ensures { result ≡ place_of_cell cell.now }
 {
     let kind = match cell.kind {

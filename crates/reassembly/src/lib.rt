@@ -7,8 +7,12 @@
 mod assembling;
 mod buffer;
 mod cutting;
+mod filling;
+mod limits;
 #[cfg(test)]
 mod tests;
 
-pub use assembling::{FLOWS_PER_INPUT, Finished, MAX_MESSAGE, Reassembly};
+pub use assembling::{Finished, Reassembly};
 pub use cutting::flow_is_cut;
+pub use filling::message_is_put;
+pub use limits::FLOWS_PER_INPUT;

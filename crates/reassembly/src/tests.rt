@@ -1,5 +1,5 @@
-use crate::{MAX_MESSAGE, Reassembly};
-use cell_cutter::{CELL_BYTES, Cell};
+use crate::Reassembly;
+use cell_cutter::{CELL_BYTES, Cell, MAX_MESSAGE_BYTES};
 use std::alloc::{AllocError, Global};
 use std::process::Abort;
 use std::test::Fail;
@@ -297,7 +297,12 @@ fn flows_stay_apart(rt: HostRuntime) -> Result<(), Fail> {
         assert!(rt; 0 < ports && ports <= 64);
         let sizes = sizes_of(rt.alloc(), ports, sizes)?;
         assert_eq!(rt; sizes.len(), 8 * ports as usize);
-        assert!(rt; sizes.as_slice().iter().all(|size| *size <= MAX_MESSAGE));
+        assert!(rt;
+            sizes
+                .as_slice()
+                .iter()
+                .all(|size| *size as usize <= MAX_MESSAGE_BYTES)
+        );
         let mut flows = Reassembly::make(rt.alloc(), ports, sizes.as_slice())
             .ok()
             .ok_or("memory")?;
