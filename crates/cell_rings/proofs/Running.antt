@@ -8,7 +8,7 @@ use Rattle.std.proofs.lemmas.Option.{same_Some}
 use Rattle.std.proofs.Math.Seq.{drop-append_seam, drop-cons}
 use Rattle.std.proofs.Math.ListN.{get_or-append}
 use Rattle.circular_buffer.specs.Buffer.{keep_last}
-use Rattle.cell_rings.specs.declared.limits.TheConstants.{MAX_CELLS}
+use Rattle.cell_cutter.specs.declared.sizes.TheConstants.{MAX_FORWARDED_CELLS}
 use Rattle.cell_rings.specs.declared.ring.QueuedCell.{QueuedCell}
 use Rattle.cell_rings.specs.declared.ring.Waiting.{Waiting}
 use Rattle.cell_rings.specs.Runs.{cell_of, run_of, cells_left, IsBegun, IsSized, AreSized, IsQueue}
@@ -44,7 +44,7 @@ module _ {F : Type 0} where
   AreSized-more [] p one all = (one, tt)
   AreSized-more (x ∷ ps) p one all = (all.0, AreSized-more ps p one all.1)
 
-  pub IsQueue-more : (gone count : ℕ) (ps : List (Waiting F)) (p : Waiting F) → 0 < p.cells → p.cells ≤ MAX_CELLS → IsQueue gone count ps → IsQueue gone (count + p.cells) (ps ++ p ∷ [])
+  pub IsQueue-more : (gone count : ℕ) (ps : List (Waiting F)) (p : Waiting F) → 0 < p.cells → p.cells ≤ MAX_FORWARDED_CELLS → IsQueue gone count ps → IsQueue gone (count + p.cells) (ps ++ p ∷ [])
   IsQueue-more gone count ps p some few q = record {
     begun = IsBegun-more gone ps p some q.begun;
     sized = AreSized-more ps p (some, few) q.sized;
@@ -84,7 +84,7 @@ module _ {F : Type 0} where
   AreSized-rest (p ∷ ps) all = all.1
 
   -- the number of the next cell of the first packet fits
-  pub few_on : (gone : ℕ) (ps : List (Waiting F)) (p : Waiting F) → Some p ≡ slice_get ps 0 → IsBegun gone ps → AreSized ps → gone < MAX_CELLS
+  pub few_on : (gone : ℕ) (ps : List (Waiting F)) (p : Waiting F) → Some p ≡ slice_get ps 0 → IsBegun gone ps → AreSized ps → gone < MAX_FORWARDED_CELLS
   few_on gone [] p is begun all = absurd cc
   few_on gone (x ∷ ps) p is begun all = omega (arith, all.0.1)
 

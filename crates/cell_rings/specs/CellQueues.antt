@@ -5,8 +5,8 @@ use Rattle.cell_cutter.specs.declared.cell.CellName.{CellName}
 use Rattle.cell_rings.specs.declared.ring.QueuedCell.{QueuedCell}
 
 -- the cells of a packet, in order, the last one marked
-abbrev pub cells_of_packet : ℕ → ℕ → List CellName
-cells_of_packet packet cells =
+abbrev pub names_of_packet : ℕ → ℕ → List CellName
+names_of_packet packet cells =
     map (λ k. record { packet = packet; number = k; last = k + 1 == cells }) (range_with_len 0 cells)
 
 -- the most cells that may wait, those that wait (the first to leave first), and how many packets may
@@ -19,7 +19,7 @@ pub record CellQueue (F : Type 0) : Type 0 where
 module _ {F : Type 0} where
   -- those, each with what the queue keeps of the packet
   abbrev pub cells_with_fan : ℕ → ℕ → F → List (QueuedCell F)
-  cells_with_fan packet cells fan = map (λ name. record { name = name; fan = fan }) (cells_of_packet packet cells)
+  cells_with_fan packet cells fan = map (λ name. record { name = name; fan = fan }) (names_of_packet packet cells)
 
   -- a queue with no cell, of at most `depth` cells, which `room` packets will enter
   abbrev pub empty_queue : ℕ → ℕ → CellQueue F

@@ -1,7 +1,7 @@
 -- A list of packets that stands for the list of their cells.
 use Rattle.std.specs.Prelude.{◌≡◌, ℕ, ◌+◌, ◌<◌, ◌≤◌, ◌==◌, List, [], ◌∷◌, length, map, drop}
 use Rattle.std.specs.List.{range_with_len, flat_map}
-use Rattle.cell_rings.specs.declared.limits.TheConstants.{MAX_CELLS}
+use Rattle.cell_cutter.specs.declared.sizes.TheConstants.{MAX_FORWARDED_CELLS}
 use Rattle.cell_rings.specs.declared.ring.QueuedCell.{QueuedCell}
 use Rattle.cell_rings.specs.declared.ring.Waiting.{Waiting}
 
@@ -28,7 +28,7 @@ module _ {F : Type 0} where
 
   -- a packet has cells, and not too many
   abbrev pub IsSized : Waiting F → Type 0
-  IsSized waiting = (0 < waiting.cells) × (waiting.cells ≤ MAX_CELLS)
+  IsSized waiting = (0 < waiting.cells) × (waiting.cells ≤ MAX_FORWARDED_CELLS)
 
   -- all packets do
   abbrev pub AreSized : List (Waiting F) → Type 0

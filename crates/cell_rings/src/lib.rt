@@ -5,10 +5,8 @@
 //! fan-out where the queue is multicast, nothing where it is unicast.
 #![tactic(auto)]
 
-mod limits;
 mod ring;
 #[cfg(test)]
 mod tests;
 
-pub use limits::MAX_CELLS;
 pub use ring::{CellRing, QueuedCell};

@@ -1,8 +1,7 @@
 ghost use Rattle.std.specs.Prelude.{◌≡◌, ◌+◌, ◌<◌, ◌≤◌, ◌↔◌, ◌==◌, ◌∷◌, ◌++◌, length, slice_get, IfOk, IsTrue};
 ghost use Rattle.cell_rings.specs.CellQueues.{empty_queue, queue_with};
 
-use crate::limits::MAX_CELLS;
-use cell_cutter::CellName;
+use cell_cutter::{CellName, MAX_FORWARDED_CELLS};
 use circular_buffer::HeapCircularBuffer;
 use std::alloc::{AllocError, Global};
 use std::marker::Model;
@@ -107,7 +106,7 @@ impl<F: Copy> CellRing<F> {
         requires fits { length self.old.cells + cells ≤ self.old.depth }
         requires spare { 0 < self.old.spare }
         requires some { 0 < cells }
-        requires few { cells ≤ MAX_CELLS }
+        requires few { cells ≤ MAX_FORWARDED_CELLS }
         ensures { self.new ≡ queue_with self.old packet cells fan }
     {
         let Some(ring) = &mut self.ring else {

@@ -5,10 +5,11 @@
 ghost use Rattle.std.specs.Prelude.{◌≡◌, ◌<◌, IfOk};
 
 use crate::fields::{cell_name_text, level};
+use cell_cutter::MAX_FORWARDED_CELLS;
 use rotating_pick::{LEVELS, MAX_PORTS};
 use std::alloc::{AllocError, Global};
 use vector_rows::{NoAnswer, Row, number, port_count, set_up_row, words};
-use voq_banks::{Banks, MAX_CELLS, MAX_DEPTH, MAX_PACKETS};
+use voq_banks::{Banks, MAX_DEPTH, MAX_QUEUE_PACKETS};
 
 /// The block that is being read.
 #[derive(Drop)]
@@ -130,7 +131,7 @@ impl Queues {
         let QueueName { output, level } = queue_name(self.ports, output, level)?;
         let packet = number(packet)?;
         let cells = number(cells)?;
-        if cells == 0 || cells > MAX_CELLS {
+        if cells == 0 || cells > MAX_FORWARDED_CELLS {
             return Err(NoAnswer);
         }
         if !self.banks.fits(output, level, cells) || self.banks.spare(output, level) == 0 {
@@ -215,7 +216,7 @@ fn queue_name(ports: u32, output: &str, level_word: &str) -> Result<QueueName, N
 }
 
 fn made(alloc: Global, ports: u32, depth: u32, room: &[u32]) -> Result<Queues, NoAnswer> {
-    let fitting = room.iter().all(|packets| *packets <= MAX_PACKETS);
+    let fitting = room.iter().all(|packets| *packets <= MAX_QUEUE_PACKETS);
     if ports == 0 || ports > MAX_PORTS || room.len() != (LEVELS * ports) as usize || !fitting {
         return Err(NoAnswer);
     }

@@ -3,14 +3,15 @@
 //! `spare LEVEL -> PACKETS`, `fan LEVEL -> SET`, `head LEVEL -> PACKET NUMBER last` and
 //! `served LEVEL SET -> true` state what a call answers.
 ghost use Rattle.std.specs.Prelude.{◌≡◌, ◌<◌, ◌≤◌, IsTrue, IfOk};
-ghost use Rattle.multicast_queue.specs.FanQueues.{HasSeveral};
+ghost use Rattle.rotating_pick.specs.PortSets.{HasSeveral};
 
 use crate::fields::{cell_name_text, level};
+use cell_cutter::MAX_FORWARDED_CELLS;
 use multicast_queue::FanQueues;
 use rotating_pick::{LEVELS, Ports, is_among, is_empty, is_subset, lowest, without};
 use std::alloc::{AllocError, Global};
 use vector_rows::{NoAnswer, Row, number, port_count, port_set, set_up_row, words};
-use voq_banks::{MAX_CELLS, MAX_DEPTH, MAX_PACKETS};
+use voq_banks::{MAX_DEPTH, MAX_QUEUE_PACKETS};
 
 /// The block that is being read.
 #[derive(Drop)]
@@ -80,7 +81,11 @@ impl Queues {
         let packet = number(packet)?;
         let cells = number(cells)?;
         let fan = port_set(fan)?;
-        if cells == 0 || cells > MAX_CELLS || !has_several(fan) || !is_among(self.ports, fan) {
+        if cells == 0
+            || cells > MAX_FORWARDED_CELLS
+            || !has_several(fan)
+            || !is_among(self.ports, fan)
+        {
             return Err(NoAnswer);
         }
         if !self.queues.fits(level, cells) || self.queues.spare(level) == 0 {
@@ -191,7 +196,7 @@ fn with_room(
     if depth == 0 || depth > MAX_DEPTH {
         return Err(NoAnswer);
     }
-    if !room.iter().all(|packets| *packets <= MAX_PACKETS) {
+    if !room.iter().all(|packets| *packets <= MAX_QUEUE_PACKETS) {
         return Err(NoAnswer);
     }
     match FanQueues::make(alloc, ports, depth, &room) {

@@ -7,7 +7,7 @@ use Rattle.std.proofs.lemmas.List.FromFn.{length-map-range_with_len}
 use Rattle.std.proofs.lemmas.Simd.{map-map}
 use Rattle.cell_cutter.specs.declared.cell.CellName.{CellName}
 use Rattle.rotating_pick.specs.PortSets.{IsAmong}
-use Rattle.cell_rings.specs.CellQueues.{cells_of_packet, cells_with_fan}
+use Rattle.cell_rings.specs.CellQueues.{names_of_packet, cells_with_fan}
 use Rattle.multicast_queue.specs.FanQueues.{FanCell, FanQueue, empty_queue, empty_queues, queue_at, HeadLeaves, HeadStays, OthersStay}
 use Rattle.multicast_queue.specs.Fields.{Kept, empty_kept, kept_with, queues_in, kept_at, HaveFans, IsRest, IsKept, AreKept}
 use Rattle.multicast_queue.proofs.Rests.{HaveFans-append, HaveFans-packet, IsRest-more, IsRest-on, HaveFans-next, IsRest-next}
@@ -48,15 +48,15 @@ module _ (ports depth : ℕ) (kept : List Kept) (level : ℕ) (new : Kept) where
 -- that gains the cells of a packet
 pub IsKept-admitted : (ports depth packet cells fan : ℕ) (old new : Kept) → IsKept ports depth old → 0 < cells → length old.queue.cells + cells ≤ depth → fan ≢ 0 → IsAmong ports fan → new ≡ kept_with old packet cells fan → IsKept ports depth new
 IsKept-admitted ports depth packet cells fan old new kept some fits somewhere among is =
-    let names : length (cells_of_packet packet cells) ≡ cells = length-map-range_with_len _ 0 cells in
+    let names : length (names_of_packet packet cells) ≡ cells = length-map-range_with_len _ 0 cells in
     let with_fan : CellName → FanCell = λ name. record { name = name; fan = fan } in
-    let count = length-map (cells_of_packet packet cells) with_fan in
+    let count = length-map (names_of_packet packet cells) with_fan in
     let long = length-append old.queue.cells (cells_with_fan packet cells fan) in
     rw is record {
       deep = kept.deep;
       within = omega (arith, long, count, names);
-      fans = HaveFans-append ports old.queue.cells (cells_with_fan packet cells fan) kept.fans (HaveFans-packet ports fan (cells_of_packet packet cells) somewhere among);
-      rests = IsRest-more old.queue.rest fan old.queue.cells (cells_of_packet packet cells) kept.rests somewhere (omega (arith, names));
+      fans = HaveFans-append ports old.queue.cells (cells_with_fan packet cells fan) kept.fans (HaveFans-packet ports fan (names_of_packet packet cells) somewhere among);
+      rests = IsRest-more old.queue.rest fan old.queue.cells (names_of_packet packet cells) kept.rests somewhere (omega (arith, names));
     }
 
 -- whose head has left, or not

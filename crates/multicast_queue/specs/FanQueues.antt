@@ -57,14 +57,6 @@ queue_at all level = slice_index_or all.queues level (empty_queue 0)
 abbrev pub empty_queues : ℕ → ℕ → List ℕ → Queues
 empty_queues ports depth room = record { ports = ports; depth = depth; queues = map empty_queue room }
 
--- a set has two members at least
-pub record HasSeveral (outputs : ℕ) : Type 0 where
-  pub one : ℕ
-  pub other : ℕ
-  pub differ : one ≢ other
-  pub has_one : Has outputs one
-  pub has_other : Has outputs other
-
 -- the head has left: the next cell, if any, is head with its whole fan-out
 pub record HeadLeaves (old new : FanQueue) : Type 0 where
   pub cells : new.cells ≡ drop 1 old.cells

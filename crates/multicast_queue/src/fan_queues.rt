@@ -1,15 +1,14 @@
 ghost use Rattle.std.specs.Prelude.{◌≡◌, ◌≢◌, ℕ, ◌+◌, ◌<◌, ◌≤◌, ◌↔◌, [], map, length, nat_le, false, All, IfOk, IsTrue, if◌then◌else◌};
-ghost use Rattle.rotating_pick.specs.PortSets.{Has, IsAmong};
-ghost use Rattle.multicast_queue.specs.FanQueues.{empty_queues, queue_at, queue_with, first_fan, first_name, HasSeveral, HeadLeaves, HeadStays, OthersStay};
+ghost use Rattle.rotating_pick.specs.PortSets.{Has, HasSeveral, IsAmong};
+ghost use Rattle.multicast_queue.specs.FanQueues.{empty_queues, queue_at, queue_with, first_fan, first_name, HeadLeaves, HeadStays, OthersStay};
 ghost use Rattle.multicast_queue.specs.Fields.{empty_kept};
 
 use crate::queue::Queue;
-use cell_cutter::CellName;
-use cell_rings::MAX_CELLS;
+use cell_cutter::{CellName, MAX_FORWARDED_CELLS};
 use rotating_pick::{LEVELS, MAX_PORTS, OutOfMemory, Ports};
 use std::alloc::{AllocError, Global};
 use std::marker::Model;
-use voq_banks::{MAX_DEPTH, MAX_PACKETS};
+use voq_banks::{MAX_DEPTH, MAX_QUEUE_PACKETS};
 
 /// The multicast queues of one input: a queue of cells for each level.
 #[derive(Drop)]
@@ -44,7 +43,7 @@ impl FanQueues {
         requires ports { n ≤ MAX_PORTS }
         requires deep { 0 < depth }
         requires depth { depth ≤ MAX_DEPTH }
-        requires room { All (λ packets. packets ≤ MAX_PACKETS) room.now }
+        requires room { All (λ packets. packets ≤ MAX_QUEUE_PACKETS) room.now }
         ensures queues { IfOk result (λ queues. queues ≡ empty_queues n depth room.now) }
         ensures empty { IfOk result (λ queues. (level : ℕ) → (queue_at queues level).cells ≡ []) }
     {
@@ -93,7 +92,7 @@ impl FanQueues {
         requires fits { length (queue_at self.old level).cells + cells ≤ self.old.depth }
         requires spare { 0 < (queue_at self.old level).spare }
         requires some { 0 < cells }
-        requires few { cells ≤ MAX_CELLS }
+        requires few { cells ≤ MAX_FORWARDED_CELLS }
         requires several { HasSeveral fan }
         requires among { IsAmong self.old.ports fan }
         ensures queue { queue_at self.new level ≡ queue_with (queue_at self.old level) packet cells fan }
@@ -110,7 +109,7 @@ impl FanQueues {
         requires level { level < LEVELS }
         requires spare { 0 < (queue_at self.old level).spare }
         requires some { 0 < cells }
-        requires few { cells ≤ MAX_CELLS }
+        requires few { cells ≤ MAX_FORWARDED_CELLS }
         requires several { HasSeveral fan }
         requires among { IsAmong self.old.ports fan }
         ensures fits { result ≡ nat_le (length (queue_at self.old level).cells + cells) self.old.depth }

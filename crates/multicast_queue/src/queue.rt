@@ -3,8 +3,8 @@ ghost use Rattle.rotating_pick.specs.PortSets.{Has};
 ghost use Rattle.multicast_queue.specs.FanQueues.{first_fan, first_name, rest_with, HeadLeaves, HeadStays};
 ghost use Rattle.multicast_queue.specs.Fields.{empty_kept, kept_with};
 
-use cell_cutter::CellName;
-use cell_rings::{CellRing, MAX_CELLS};
+use cell_cutter::{CellName, MAX_FORWARDED_CELLS};
+use cell_rings::CellRing;
 use rotating_pick::{Ports, difference, is_empty};
 use std::alloc::{AllocError, Global};
 use std::marker::Model;
@@ -70,7 +70,7 @@ impl Queue {
         requires fits { length self.old.queue.cells + cells ≤ self.old.depth }
         requires spare { 0 < self.old.queue.spare }
         requires some { 0 < cells }
-        requires few { cells ≤ MAX_CELLS }
+        requires few { cells ≤ MAX_FORWARDED_CELLS }
         ensures { self.new ≡ kept_with self.old packet cells fan }
     {
         self.rest = rest_with(&self.ring, self.rest, fan);

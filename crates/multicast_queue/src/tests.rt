@@ -1,13 +1,12 @@
 ghost use Rattle.std.specs.Prelude.{◌≡◌};
 
 use crate::FanQueues;
-use cell_cutter::CellName;
-use cell_rings::MAX_CELLS;
+use cell_cutter::{CellName, MAX_FORWARDED_CELLS};
 use rotating_pick::{LEVELS, MAX_PORTS, Ports, contains, is_among, is_subset, lowest, without};
 use std::alloc::Global;
 use std::process::Abort;
 use std::test::Fail;
-use voq_banks::{MAX_DEPTH, MAX_PACKETS};
+use voq_banks::{MAX_DEPTH, MAX_QUEUE_PACKETS};
 
 // A call of the queue of a level, and its answer.
 #[derive(Clone, Copy, Debug)]
@@ -68,7 +67,7 @@ fn enter(rt: &impl Abort, queues: &mut FanQueues, ports: u32, step: Step)
         "{step:?}"
     );
     assert!(rt; is_among(ports, fan), "{step:?}");
-    assert!(rt; 0 < cells && cells <= MAX_CELLS, "{step:?}");
+    assert!(rt; 0 < cells && cells <= MAX_FORWARDED_CELLS, "{step:?}");
     assert!(rt; queues.spare(level) != 0, "{step:?}");
     if let Step::Offer(_, _, _, _, fits) = step {
         assert_eq!(rt; queues.offer(level, packet, cells, fan), fits, "{step:?}");
@@ -114,7 +113,7 @@ fn run(rt: &impl Abort, alloc: Global, case: Case<'_>) -> Result<(), Fail> {
     } = case;
     assert!(rt; 0 < ports && ports <= MAX_PORTS);
     assert!(rt; 0 < depth && depth <= MAX_DEPTH);
-    assert!(rt; room.iter().all(|packets| *packets <= MAX_PACKETS));
+    assert!(rt; room.iter().all(|packets| *packets <= MAX_QUEUE_PACKETS));
     let mut queues = FanQueues::make(alloc, ports, depth, &room)?;
     assert_eq!(rt; queues.depth(), depth);
     for step in steps {

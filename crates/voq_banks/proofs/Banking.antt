@@ -9,7 +9,7 @@ use Rattle.rotating_pick.proofs.Bits.{no_member-zero}
 use Rattle.rotating_pick.specs.PortSets.{Has}
 use Rattle.cell_cutter.specs.declared.cell.CellName.{CellName}
 use Rattle.cell_rings.specs.declared.ring.QueuedCell.{QueuedCell}
-use Rattle.cell_rings.specs.CellQueues.{cells_of_packet, cells_with_fan, empty_queue, queue_with}
+use Rattle.cell_rings.specs.CellQueues.{names_of_packet, cells_with_fan, empty_queue, queue_with}
 use Rattle.voq_banks.specs.Queues.{Queues, place_of, queue_at, spare_at, Waits, OthersStay, empty_queues}
 use Rattle.voq_banks.specs.Fields.{Kept, names_of, queues_in, ring_at, HasDepth, AreMasks, AreKept}
 
@@ -37,11 +37,11 @@ pub found_is : (kept : List Kept) (place : ℕ) (found : Kept) → place < lengt
 found_is kept place found inside is = is ∙ get_or_default kept place found (empty_queue 0 0) inside
 
 -- the names of the cells of a packet
-pub names-with_fan : (packet cells : ℕ) → map (λ (cell : QueuedCell (Unit {0})). cell.name) (cells_with_fan packet cells tt) ≡ cells_of_packet packet cells
-names-with_fan packet cells = map-map _ _ (cells_of_packet packet cells) ∙ map-id (cells_of_packet packet cells)
+pub names-with_fan : (packet cells : ℕ) → map (λ (cell : QueuedCell (Unit {0})). cell.name) (cells_with_fan packet cells tt) ≡ names_of_packet packet cells
+names-with_fan packet cells = map-map _ _ (names_of_packet packet cells) ∙ map-id (names_of_packet packet cells)
 
 -- the queue that a packet entered
-pub names-admitted : (queue : Kept) (packet cells : ℕ) → names_of (queue_with queue packet cells tt) ≡ names_of queue ++ cells_of_packet packet cells
+pub names-admitted : (queue : Kept) (packet cells : ℕ) → names_of (queue_with queue packet cells tt) ≡ names_of queue ++ names_of_packet packet cells
 names-admitted queue packet cells =
     map-append (λ cell. cell.name) queue.cells (cells_with_fan packet cells tt) ∙ ap (λ names. names_of queue ++ names) (names-with_fan packet cells)
 
@@ -111,8 +111,8 @@ pub count-admitted : (packet cells : ℕ) (old new : Kept) → new ≡ queue_wit
 count-admitted packet cells old new is =
     let long = length-append old.cells (cells_with_fan packet cells tt) in
     let with_fan : CellName → QueuedCell (Unit {0}) = λ name. record { name = name; fan = tt } in
-    let count = length-map (cells_of_packet packet cells) with_fan in
-    let names : length (cells_of_packet packet cells) ≡ cells = length-map-range_with_len _ 0 cells in
+    let count = length-map (names_of_packet packet cells) with_fan in
+    let names : length (names_of_packet packet cells) ≡ cells = length-map-range_with_len _ 0 cells in
     omega (arith, ap (λ k. length k.cells) is, long, count, names)
 
 pub HasDepth-admitted : (depth packet cells : ℕ) (old new : Kept) → HasDepth depth old → length old.cells + cells ≤ depth → new ≡ queue_with old packet cells tt → HasDepth depth new

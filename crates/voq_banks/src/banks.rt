@@ -1,11 +1,11 @@
 ghost use Rattle.std.specs.Prelude.{◌≡◌, ◌≢◌, ℕ, ◌+◌, ◌-◌, ◌*◌, ◌<◌, ◌≤◌, ◌↔◌, [], ◌∷◌, ◌++◌, map, length, nat_le, false, All, IfOk, IsTrue, if◌then◌else◌};
 ghost use Rattle.rotating_pick.specs.PortSets.{Has};
-ghost use Rattle.cell_rings.specs.CellQueues.{cells_of_packet, empty_queue};
+ghost use Rattle.cell_rings.specs.CellQueues.{names_of_packet, empty_queue};
 ghost use Rattle.voq_banks.specs.Queues.{empty_queues, place_of, queue_at, spare_at, Waits, OthersStay};
 
-use crate::limits::{MAX_DEPTH, MAX_PACKETS};
-use cell_cutter::CellName;
-use cell_rings::{CellRing, MAX_CELLS};
+use crate::limits::{MAX_DEPTH, MAX_QUEUE_PACKETS};
+use cell_cutter::{CellName, MAX_FORWARDED_CELLS};
+use cell_rings::CellRing;
 use rotating_pick::{LEVELS, MAX_PORTS, OutOfMemory, Ports, with, without};
 use std::alloc::{AllocError, Global};
 use std::marker::Model;
@@ -40,7 +40,7 @@ impl Banks {
         requires deep { 0 < depth }
         requires depth { depth ≤ MAX_DEPTH }
         requires queues { length room.now ≡ LEVELS * n }
-        requires room { All (λ packets. packets ≤ MAX_PACKETS) room.now }
+        requires room { All (λ packets. packets ≤ MAX_QUEUE_PACKETS) room.now }
         ensures banks { IfOk result (λ banks. banks ≡ empty_queues n depth room.now) }
         ensures empty { IfOk result (λ banks. (output level : ℕ) → queue_at banks output level ≡ []) }
     {
@@ -87,8 +87,8 @@ impl Banks {
         requires fits { length (queue_at self.old output level) + cells ≤ self.old.depth }
         requires spare { 0 < spare_at self.old output level }
         requires some { 0 < cells }
-        requires few { cells ≤ MAX_CELLS }
-        ensures queue { queue_at self.new output level ≡ queue_at self.old output level ++ cells_of_packet packet cells }
+        requires few { cells ≤ MAX_FORWARDED_CELLS }
+        ensures queue { queue_at self.new output level ≡ queue_at self.old output level ++ names_of_packet packet cells }
         ensures spare { spare_at self.new output level ≡ spare_at self.old output level - 1 }
         ensures others { OthersStay output level self.old self.new }
     {
@@ -105,9 +105,9 @@ impl Banks {
         requires level { level < LEVELS }
         requires spare { 0 < spare_at self.old output level }
         requires some { 0 < cells }
-        requires few { cells ≤ MAX_CELLS }
+        requires few { cells ≤ MAX_FORWARDED_CELLS }
         ensures fits { result ≡ nat_le (length (queue_at self.old output level) + cells) self.old.depth }
-        ensures queue { queue_at self.new output level ≡ queue_at self.old output level ++ (if result then cells_of_packet packet cells else []) }
+        ensures queue { queue_at self.new output level ≡ queue_at self.old output level ++ (if result then names_of_packet packet cells else []) }
         ensures spare { spare_at self.new output level ≡ (if result then spare_at self.old output level - 1 else spare_at self.old output level) }
         ensures others { OthersStay output level self.old self.new }
         ensures rejected { result ≡ false → self.new ≡ self.old }

@@ -10,5 +10,4 @@ mod limits;
 mod tests;
 
 pub use banks::Banks;
-pub use cell_rings::MAX_CELLS;
-pub use limits::{MAX_DEPTH, MAX_PACKETS};
+pub use limits::{MAX_DEPTH, MAX_QUEUE_PACKETS};

@@ -2,4 +2,4 @@
 pub const MAX_DEPTH: u32 = 131_072;
 
 /// The most packets that can enter one queue in a run.
-pub const MAX_PACKETS: u32 = 131_072;
+pub const MAX_QUEUE_PACKETS: u32 = 131_072;

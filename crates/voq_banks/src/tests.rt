@@ -1,7 +1,7 @@
 ghost use Rattle.std.specs.Prelude.{◌≡◌};
 
-use crate::{Banks, MAX_CELLS, MAX_DEPTH, MAX_PACKETS};
-use cell_cutter::CellName;
+use crate::{Banks, MAX_DEPTH, MAX_QUEUE_PACKETS};
+use cell_cutter::{CellName, MAX_FORWARDED_CELLS};
 use rotating_pick::{LEVELS, MAX_PORTS, Ports};
 use std::alloc::{AllocError, Global};
 use std::process::Abort;
@@ -84,13 +84,13 @@ fn follow(rt: &impl Abort, banks: &mut Banks, ports: u32, step: Step)
         ),
         Step::Spare(_, _, spare) => assert_eq!(rt; banks.spare(output, level), spare, "{step:?}"),
         Step::Admit(_, _, packet, cells) => {
-            assert!(rt; 0 < cells && cells <= MAX_CELLS, "{step:?}");
+            assert!(rt; 0 < cells && cells <= MAX_FORWARDED_CELLS, "{step:?}");
             assert!(rt; banks.fits(output, level, cells), "{step:?}");
             assert!(rt; banks.spare(output, level) != 0, "{step:?}");
             banks.admit(output, level, packet, cells);
         }
         Step::Offer(_, _, packet, cells, fits) => {
-            assert!(rt; 0 < cells && cells <= MAX_CELLS, "{step:?}");
+            assert!(rt; 0 < cells && cells <= MAX_FORWARDED_CELLS, "{step:?}");
             assert!(rt; banks.spare(output, level) != 0, "{step:?}");
             assert_eq!(rt; banks.offer(output, level, packet, cells), fits, "{step:?}");
         }
@@ -115,7 +115,7 @@ fn run(rt: &impl Abort, alloc: Global, case: Case<'_>) -> Result<(), Fail> {
     assert!(rt; 0 < ports && ports <= MAX_PORTS);
     assert!(rt; 0 < depth && depth <= MAX_DEPTH);
     assert!(rt; room.len() == (LEVELS * ports) as usize);
-    assert!(rt; room.iter().all(|packets| *packets <= MAX_PACKETS));
+    assert!(rt; room.iter().all(|packets| *packets <= MAX_QUEUE_PACKETS));
     let mut banks = Banks::make(alloc, ports, depth, &room)?;
     assert_eq!(rt; banks.depth(), depth);
     for step in steps {

@@ -1,5 +1,5 @@
 use Rattle.std.proofs.Common.{◌≡◌, ◌∙◌, ◌<◌, ◌≤◌, ◌+◌, ◌-◌, ◌++◌, length, ap, sym, subst, arith, refl, inl, inr}
-use Rattle.cell_rings.specs.CellQueues.{cells_of_packet}
+use Rattle.cell_rings.specs.CellQueues.{names_of_packet}
 use Rattle.voq_banks.specs.Queues.{queue_at, spare_at, place_of}
 use Rattle.voq_banks.specs.Fields.{names_of}
 use Rattle.voq_banks.proofs.Banking.{place-lt, found_is, queue-of_ring, spare-of_ring, count-of_ring, names-admitted, queue-set, spare-set, others-set, AreKept-set, HasDepth-admitted, count-admitted}
@@ -19,7 +19,7 @@ returns-clause-queue c =
     let found = found_is s.queues.items place _ (place-lt s.ports c.args.output c.args.level _ c.self.invariant.long inside c.requires.level) (rw c.place_of.ensures at c.index_mut-queue.ensures.value) in
     let old = queue-of_ring s.ports s.depth s.queues.items c.args.output c.args.level in
     rw (c.place_of.ensures, ← c.self.view_is)
-    (queue-set s.ports s.depth s.queues.items c.args.output c.args.level c.admit.new.self c.self.invariant.long inside c.requires.level ∙ ap names_of c.admit.ensures ∙ names-admitted c.index_mut-queue.result.now c.args.packet c.args.cells ∙ ap (λ k. names_of k ++ cells_of_packet c.args.packet c.args.cells) found ∙ ap (λ cells. cells ++ cells_of_packet c.args.packet c.args.cells) (sym old))
+    (queue-set s.ports s.depth s.queues.items c.args.output c.args.level c.admit.new.self c.self.invariant.long inside c.requires.level ∙ ap names_of c.admit.ensures ∙ names-admitted c.index_mut-queue.result.now c.args.packet c.args.cells ∙ ap (λ k. names_of k ++ names_of_packet c.args.packet c.args.cells) found ∙ ap (λ cells. cells ++ names_of_packet c.args.packet c.args.cells) (sym old))
 
 pub returns-clause-spare : goal.returns-clause-spare
 returns-clause-spare c =
