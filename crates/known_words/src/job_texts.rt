@@ -1,0 +1,55 @@
+//! Jobs as the rows state them.
+use std::alloc::{AllocError, Global};
+use switch_words::{GenJob, Job, RunJob, Settings};
+
+/// A command with its settings.
+pub fn job_text(alloc: Global, job: &Job) -> Result<String, AllocError> {
+    match job {
+        Job::Run(job) => run_text(alloc, job),
+        Job::Gen(job) => gen_text(alloc, job),
+    }
+}
+
+fn run_text(alloc: Global, job: &RunJob) -> Result<String, AllocError> {
+    let settings = settings_text(alloc, job.settings)?;
+    let slots = u32::from(job.slots);
+    let table = job.table.as_str();
+    let prefix = job.prefix.as_str();
+    let inputs = list_text(alloc, job.inputs.as_slice())?;
+    format!(in alloc;
+        "run {settings} slots={slots} journal=0 reference=0 table={table:?} prefix={prefix:?} inputs={inputs}"
+    )
+}
+
+fn gen_text(alloc: Global, job: &GenJob) -> Result<String, AllocError> {
+    let settings = settings_text(alloc, job.settings)?;
+    let seed = job.seed;
+    let count = job.count;
+    let ports = job.ports;
+    format!(in alloc; "gen {settings} seed={seed} count={count} ports={ports}")
+}
+
+fn settings_text(alloc: Global, settings: Settings) -> Result<String, AllocError> {
+    let rounds = settings.rounds;
+    let depth = settings.depth;
+    let workers = settings.workers;
+    match settings.pace_us {
+        Some(pace) => {
+            format!(in alloc; "rounds={rounds} depth={depth} workers={workers} pace={pace}")
+        }
+        None => format!(in alloc; "rounds={rounds} depth={depth} workers={workers} pace=-"),
+    }
+}
+
+// The names of a list, each in quotes, with commas between them.
+fn list_text(alloc: Global, names: &[String]) -> Result<String, AllocError> {
+    let mut text = String::new(alloc);
+    for name in names {
+        if !text.is_empty() {
+            text.push(',')?;
+        }
+        let quoted = format!(in alloc; "{name:?}")?;
+        text.push_str(quoted.as_str())?;
+    }
+    Ok(text)
+}

@@ -1,0 +1,35 @@
+ghost use Rattle.std.specs.Prelude.{◌≡◌, true, IsSomeAnd};
+
+use crate::word_rows;
+use std::alloc::{AllocError, Global};
+use vector_rows::{Row, RowReader};
+
+/// How the lines of a vector file are read, by the file's name.
+#[derive(Drop)]
+pub enum Reader {
+    Words,
+    // No file of this name is known: no line of it can be read.
+    Unknown,
+}
+
+impl RowReader for Reader {
+    ghost use Rattle.known_words.specs.declared.vector_file.Reader.TheVariants.{Unknown};
+    ghost use Rattle.vector_rows.specs.Rows.{is_wrong};
+
+    // Each line of a file of no known name is a wrong row.
+    ghost reads = { λ old _ given _. old ≡ Unknown → IsSomeAnd given (λ row. is_wrong row ≡ true) };
+
+    fn at(_alloc: Global, name: &str) -> Reader {
+        match name {
+            "words.txt" => Reader::Words,
+            _ => Reader::Unknown,
+        }
+    }
+
+    fn row(&mut self, alloc: Global, line: &str) -> Result<Option<Row>, AllocError> {
+        match self {
+            Reader::Words => Ok(Some(word_rows::row(alloc, line)?)),
+            Reader::Unknown => Ok(Some(Row::unread(alloc, line)?)),
+        }
+    }
+}

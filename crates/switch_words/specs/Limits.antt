@@ -1,0 +1,44 @@
+-- The limits of what a job says.
+use Rattle.std.specs.Prelude.{ℕ, ◌<◌, ◌≤◌, IfSome, vec_len}
+use Rattle.rotating_pick.specs.declared.limits.TheConstants.{MAX_PORTS, MAX_ROUNDS}
+use Rattle.line_pace.specs.declared.pace.TheConstants.{MAX_SLOT_MICROS}
+use Rattle.voq_banks.specs.declared.limits.TheConstants.{MAX_DEPTH}
+use Rattle.switch_words.specs.declared.limits.TheConstants.{MAX_WORKERS, MAX_SEED, MAX_COUNT}
+use Rattle.switch_words.specs.declared.job.Settings.{Settings}
+use Rattle.switch_words.specs.declared.job.RunJob.{RunJob}
+use Rattle.switch_words.specs.declared.job.GenJob.{GenJob}
+use Rattle.switch_words.specs.declared.job.Job.{Job}
+use Rattle.switch_words.specs.declared.job.Job.TheVariants.{Run, Gen}
+use Rattle.switch_words.specs.declared.given.Given.{Given}
+
+-- a number of 1 to so many
+pub record IsUpTo (greatest n : ℕ) : Type 0 where
+  pub some : 0 < n
+  pub most : n ≤ greatest
+
+pub record AreWithinLimits (settings : Settings) : Type 0 where
+  pub rounds : IsUpTo MAX_ROUNDS settings.rounds
+  pub depth : IsUpTo MAX_DEPTH settings.depth
+  pub workers : IsUpTo MAX_WORKERS settings.workers
+  pub pace : IfSome settings.pace_us (IsUpTo MAX_SLOT_MICROS)
+
+pub record IsRunWithinLimits (job : RunJob) : Type 0 where
+  pub settings : AreWithinLimits job.settings
+  pub inputs : IsUpTo MAX_PORTS (vec_len job.inputs)
+
+pub record IsGenWithinLimits (job : GenJob) : Type 0 where
+  pub settings : AreWithinLimits job.settings
+  pub seed : job.seed ≤ MAX_SEED
+  pub count : job.count ≤ MAX_COUNT
+  pub ports : IsUpTo MAX_PORTS job.ports
+
+abbrev pub IsWithinLimits : Job → Type 0
+IsWithinLimits (Run job) = IsRunWithinLimits job
+IsWithinLimits (Gen job) = IsGenWithinLimits job
+
+-- the options so far keep their limits
+pub record IsGiven (given : Given) : Type 0 where
+  pub rounds : IfSome given.rounds (IsUpTo MAX_ROUNDS)
+  pub depth : IfSome given.depth (IsUpTo MAX_DEPTH)
+  pub workers : IfSome given.workers (IsUpTo MAX_WORKERS)
+  pub pace : IfSome given.pace_us (IsUpTo MAX_SLOT_MICROS)

@@ -1,0 +1,49 @@
+/// How a job runs.
+#[derive(Clone, Copy, Debug, PartialEq, Eq)]
+pub struct Settings {
+    /// Rounds of request, grant and accept in a slot: 1 to 64, 4 where no option says them.
+    pub rounds: u32,
+    /// The depth of each queue, in cells: 1 to 131,072, which it is where no option says it.
+    pub depth: u32,
+    /// Workers: 1 to 32, 4 where no option says them.
+    pub workers: u32,
+    /// Microseconds of a slot, 1 to 1,000,000; None for line pace.
+    pub pace_us: Option<u32>,
+}
+
+/// Switch the packets of captures.
+#[derive(Debug, Drop)]
+pub struct RunJob {
+    /// How the job runs.
+    pub settings: Settings,
+    /// Whether the report names each slot.
+    pub slots: bool,
+    /// The name of the table's file.
+    pub table: String,
+    /// What the names of all files that are written begin with.
+    pub prefix: String,
+    /// The name of the capture of each port, from port 0 on: 1 to 64.
+    pub inputs: Vec<String>,
+}
+
+/// Switch the packets of a made input.
+#[derive(Clone, Copy, Debug, PartialEq, Eq)]
+pub struct GenJob {
+    /// How the job runs.
+    pub settings: Settings,
+    /// Where the random numbers begin: 0 to 1,000,000,000.
+    pub seed: u32,
+    /// How many packets each port gets: 0 to 4,000.
+    pub count: u32,
+    /// The ports of the switch: 1 to 64.
+    pub ports: u32,
+}
+
+/// What the words of a command line ask for.
+#[derive(Debug, Drop)]
+pub enum Job {
+    /// `run TABLE PREFIX INPUT..`
+    Run(RunJob),
+    /// `gen SEED COUNT PORTS`
+    Gen(GenJob),
+}

@@ -1,0 +1,84 @@
+use crate::{Job, RunJob, WordsFault, read_words};
+use std::alloc::Global;
+use std::test::Fail;
+
+// The job of the words of a line, which are parted by blanks.
+fn job(alloc: Global, line: &str) -> Result<Job, WordsFault> {
+    let mut words = Vec::new(alloc);
+    for word in line.split_whitespace() {
+        words.push(String::from_str(alloc, word)?)?;
+    }
+    read_words(alloc, words.as_slice())
+}
+
+fn run_job(alloc: Global, line: &str) -> Result<RunJob, WordsFault> {
+    match job(alloc, line)? {
+        Job::Run(run) => Ok(run),
+        Job::Gen(_) => Err(WordsFault::Usage),
+    }
+}
+
+#[test]
+fn words_of_a_run(rt: HostRuntime) -> Result<(), Fail> {
+    let rows = [
+        ("run t out a b", 4, ["a", "b"].as_slice()),
+        ("run --rounds=2 t out a", 2, ["a"].as_slice()),
+        ("run t --rounds 002 out a", 2, ["a"].as_slice()),
+        ("run -- t out --a", 4, ["--a"].as_slice()),
+    ];
+    for (line, rounds, inputs) in rows {
+        let run = run_job(rt.alloc(), line)?;
+        assert_eq!(rt; run.settings.rounds, rounds);
+        assert_eq!(rt; run.settings.depth, 131_072);
+        assert_eq!(rt; run.settings.workers, 4);
+        assert_eq!(rt; run.settings.pace_us, None);
+        assert!(rt; !run.slots);
+        assert_eq!(rt; run.table.as_str(), "t");
+        assert_eq!(rt; run.prefix.as_str(), "out");
+        assert_eq!(rt; run.inputs.len(), inputs.len());
+        for (input, name) in run.inputs.iter().zip(inputs) {
+            assert_eq!(rt; input.as_str(), *name);
+        }
+    }
+    Ok(())
+}
+
+#[test]
+fn words_of_a_made_input(rt: HostRuntime) -> Result<(), Fail> {
+    match job(rt.alloc(), "gen 1 2 2")? {
+        Job::Gen(made) => assert_eq!(rt; (made.seed, made.count, made.ports), (1, 2, 2)),
+        Job::Run(_) => assert!(rt; false),
+    }
+    Ok(())
+}
+
+#[test]
+fn other_words(rt: HostRuntime) -> Result<(), Fail> {
+    let lines = [
+        "",
+        "run t out",
+        "run --rounds 0 t out a",
+        "run --rounds 2 --rounds 2 t out a",
+        "run --round 2 t out a",
+        "run -x t out a",
+        "run --rounds +2 t out a",
+        "run --workers 33 t out a",
+        "gen 1 2 65",
+    ];
+    for line in lines {
+        assert_eq!(rt; job(rt.alloc(), line).err(), Some(WordsFault::Usage));
+    }
+    Ok(())
+}
+
+#[test]
+fn says_what_is_wrong(rt: HostRuntime) -> Result<(), Fail> {
+    let rows = [
+        (WordsFault::Usage, "usage"),
+        (WordsFault::OutOfMemory, "out of memory"),
+    ];
+    for (fault, text) in rows {
+        assert_eq!(rt; format!(in rt.alloc(); "{fault}")?.as_str(), text);
+    }
+    Ok(())
+}
