@@ -11,3 +11,7 @@ pub mod SetTests
 pub mod KeepingTests
 pub mod PostTests
 pub mod EventTests
+pub mod Takings
+pub mod Telling
+pub mod Growing
+pub mod ServedParts

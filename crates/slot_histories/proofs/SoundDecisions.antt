@@ -1,5 +1,5 @@
 -- The decided slots of a legal list: their matches are matches, their pointers at ports, and rows are kept.
-use Rattle.std.proofs.Common.{◌≡◌, ◌∙◌, ℕ, zero, suc, ◌+◌, ◌<◌, ◌≤◌, List, refl, sym, subst, arith, add-one}
+use Rattle.std.proofs.Common.{◌≡◌, ◌∙◌, ℕ, zero, suc, ◌+◌, ◌<◌, ◌≤◌, List, length, refl, sym, subst, arith, add-one}
 use Rattle.rotating_pick.specs.declared.limits.TheConstants.{MAX_PORTS}
 use Rattle.slot_match.specs.declared.rows.Row.{Row}
 use Rattle.slot_match.specs.Rows.{AreWithin}
@@ -15,7 +15,7 @@ use Rattle.eslip_rounds.proofs.Matching.{IsMatch-rounds}
 use Rattle.eslip_rounds.proofs.Settling.{IsSlot-decision_of, AreAtPorts-decision_of}
 use Rattle.crossbar.specs.declared.cards.Post.{Post as CardPost}
 use Rattle.slot_histories.specs.declared.events.Event.{Event}
-use Rattle.slot_histories.specs.Events.{Setup, decides, posted}
+use Rattle.slot_histories.specs.Events.{Setup, posts_of, decides, posted}
 use Rattle.slot_histories.specs.Slots.{slot_rows, places_at, decision_at, served_at}
 use Rattle.slot_histories.specs.Legal.{IsLegal}
 use Rattle.slot_histories.proofs.LegalLists.{AreInStep-legal, AreAccepted-legal}
@@ -71,11 +71,16 @@ module _ (s : Setup) (events : List Event) (some : 0 < s.ports) (size : s.ports 
       let before = places_at-legal t (omega arith) in
       IsSlot-decision_of s.ports t (slot_rows s.ports (posted events) t) (places_at s (posted events) t) (rows_within s events t legal below) before.0 before.1 s.rounds
 
--- requests stay until they are served
+-- requests stay until they are served, also in a slot that is posted and not decided
+pub rows_kept-posted : (s : Setup) (events : List Event) (i t : ℕ) → 0 < s.ports → s.ports ≤ MAX_PORTS → IsLegal s events → t + 1 < length (posts_of i events) → i < s.ports → Keeps (decision_at s (posted events) t).matched i (posted events i t).row (posted events i (t + 1)).row
+rows_kept-posted s events i t some size legal below inside =
+    let step = AreInStep-legal s events legal in
+    let stand = AreAccepted-legal s events legal in
+    let matches = (decision_at-legal s events some size legal t (omega (arith, step.posted_next i inside))).matches in
+    let keeps : KeepsRest (Gives (served_at s (posted events) i t)) (posted events i t).row (posted events i (suc t)).row = (stand.accepted i (suc t) inside (omega arith)).keeps in
+    rw add-one ((KeepsRest-iff_keeps s.ports (decision_at s (posted events) t).matched matches i (posted events i t).row (posted events i (suc t)).row).0 keeps)
+
 pub rows_kept : (s : Setup) (events : List Event) (i t : ℕ) → 0 < s.ports → s.ports ≤ MAX_PORTS → IsLegal s events → t + 1 < decides events → i < s.ports → Keeps (decision_at s (posted events) t).matched i (posted events i t).row (posted events i (t + 1)).row
 rows_kept s events i t some size legal below inside =
     let step = AreInStep-legal s events legal in
-    let stand = AreAccepted-legal s events legal in
-    let matches = (decision_at-legal s events some size legal t (omega arith)).matches in
-    let keeps : KeepsRest (Gives (served_at s (posted events) i t)) (posted events i t).row (posted events i (suc t)).row = (stand.accepted i (suc t) inside (omega (arith, step.decided_posted i inside))).keeps in
-    rw add-one ((KeepsRest-iff_keeps s.ports (decision_at s (posted events) t).matched matches i (posted events i t).row (posted events i (suc t)).row).0 keeps)
+    rows_kept-posted s events i t some size legal (omega (arith, step.decided_posted i inside)) inside
