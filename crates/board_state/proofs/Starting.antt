@@ -5,13 +5,13 @@ use Rattle.rotating_pick.specs.declared.limits.TheConstants.{MAX_PORTS, MAX_ROUN
 use Rattle.rotating_pick.proofs.Bits.{no_member-zero}
 use Rattle.pointer_state.specs.Places.{places_at_first}
 use Rattle.slot_histories.specs.Events.{Setup}
-use Rattle.board_state.specs.declared.limits.TheConstants.{MAX_SLOTS}
+use Rattle.board_state.specs.declared.limits.TheConstants.{MAX_SLOTS, MAX_SLOTS_WIDE}
 use Rattle.board_state.specs.Boards.{IsSetup}
 use Rattle.board_state.specs.Kept.{Parts, IsKept, IsRoom, events_of}
 
 pub IsSetup-within :
     {n rounds max_slots : ℕ} →
-    (0 < n) × (n ≤ MAX_PORTS) → (0 < rounds) × (rounds ≤ MAX_ROUNDS) → (0 < max_slots) × (max_slots ≤ MAX_SLOTS) →
+    (0 < n) × (n ≤ MAX_PORTS) → (0 < rounds) × (rounds ≤ MAX_ROUNDS) → (0 < max_slots) × (max_slots ≤ MAX_SLOTS) × (32 < n → max_slots ≤ MAX_SLOTS_WIDE) →
     IsSetup (record { ports = n; rounds = rounds; max_slots = max_slots })
 IsSetup-within ports rounds slots =
     record {
@@ -21,6 +21,7 @@ IsSetup-within ports rounds slots =
       rounds_few = rounds.1;
       slots_some = slots.0;
       slots_few = slots.1;
+      slots_halved = slots.2;
     }
 
 -- what is kept then

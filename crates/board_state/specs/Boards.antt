@@ -2,7 +2,6 @@
 use Rattle.std.specs.Prelude.{ℕ, ◌+◌, ◌<◌, ◌≤◌, ◌≡◌, ◌↔◌, nat_lt, true, List, [], ◌∷◌, ◌++◌, length}
 use Rattle.rotating_pick.specs.declared.limits.TheConstants.{MAX_PORTS, MAX_ROUNDS}
 use Rattle.rotating_pick.specs.PortSets.{Has}
-use Rattle.board_state.specs.declared.limits.TheConstants.{MAX_SLOTS}
 use Rattle.board_state.specs.declared.books.CardBook.{CardBook}
 use Rattle.slot_histories.specs.declared.events.Event.{Event}
 use Rattle.slot_histories.specs.Events.{Setup, posts_of, takes_of, decides, posted}
@@ -17,21 +16,17 @@ pub record IsSetup (s : Setup) : Type 0 where
   pub rounds_some : 0 < s.rounds
   pub rounds_few : s.rounds ≤ MAX_ROUNDS
   pub slots_some : 0 < s.max_slots
-  pub slots_few : s.max_slots ≤ MAX_SLOTS
+  pub slots_few : s.max_slots ≤ 262145
+  pub slots_halved : 32 < s.ports → s.max_slots ≤ 131073
 
--- A board: what it was made for, all that has happened, and how many refused calls are known of.
+-- A board: what it was made for, and all that has happened.
 pub record BoardValue : Type 0 where
   pub setup : Setup
   pub events : List Event
-  pub refused : ℕ
 
 -- the same board with an event more
 abbrev pub with_event : BoardValue → Event → BoardValue
-with_event board event = record { setup = board.setup; events = board.events ++ event ∷ []; refused = board.refused }
-
--- the same board with so many refused calls
-abbrev pub with_refused : BoardValue → ℕ → BoardValue
-with_refused board refused = record { setup = board.setup; events = board.events; refused = refused }
+with_event board event = record { setup = board.setup; events = board.events ++ event ∷ [] }
 
 -- where card i stands
 abbrev pub book_of : BoardValue → ℕ → CardBook
@@ -50,12 +45,11 @@ HavePosted s events ports = (i : ℕ) → Has ports i ↔ ((i < s.ports) × (len
 abbrev pub IsFinished : BoardValue → Type 0
 IsFinished board = (i : ℕ) → i < board.setup.ports → is_done_before board.setup.ports (posted board.events) (takes_of i board.events) ≡ true
 
--- A journal: the setup of its board, the decided slots, and how many events and known refused calls there were.
+-- A journal: the setup of its board, the decided slots, and how many events there were.
 pub record JournalValue : Type 0 where
   pub setup : Setup
   pub slots : List JournalSlot
   pub events : ℕ
-  pub refused : ℕ
 
 -- the journal of a board
 abbrev pub board_journal : BoardValue → JournalValue
@@ -63,7 +57,6 @@ board_journal board = record {
   setup = board.setup;
   slots = journal_of board.setup board.events;
   events = length board.events;
-  refused = board.refused;
 }
 
 -- a slot of which nothing is known

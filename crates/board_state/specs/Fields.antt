@@ -18,7 +18,7 @@ parts_of s = record {
 
 -- the board that they stand for
 abbrev pub board_of : Inside → BoardValue
-board_of s = record { setup = (parts_of s).setup; events = events_in (parts_of s); refused = s.refused }
+board_of s = record { setup = (parts_of s).setup; events = events_in (parts_of s) }
 
 -- what is kept stands for that board's events, and there is room for all that may come
 pub record AreKept (s : Inside) : Type 0 where

@@ -1,3 +1,4 @@
 pub mod Boards
 pub mod Fields
 pub mod Kept
+pub mod JournalRows

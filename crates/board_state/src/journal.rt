@@ -2,7 +2,8 @@ ghost use Rattle.std.specs.Prelude.{◌≡◌, ◌<◌, List, length, slice_inde
 ghost use Rattle.slot_histories.specs.declared.events.Event.{Event};
 ghost use Rattle.slot_histories.specs.Legal.{IsLegal};
 ghost use Rattle.slot_histories.specs.Answers.{journal_of};
-ghost use Rattle.board_state.specs.Boards.{no_slot};
+ghost use Rattle.board_state.specs.Boards.{IsSetup, no_slot};
+ghost use Rattle.board_state.specs.JournalRows.{AreJournalRows};
 
 use crate::state::BoardState;
 use crossbar::Post;
@@ -86,16 +87,13 @@ impl Journal {
         self.board.used(slot)
     }
 
-    /// How many refused calls are known of: so many at least there were.
-    pub fn least_refused(&self) -> u64
-        ensures { result ≡ self.now.refused }
-    {
-        self.board.least_refused()
-    }
-
-    /// The slots are those of a legal list of events, as many as [`Journal::events`] says.
+    /// The slots are those of a legal list of events, as many as [`Journal::events`] says, on a board
+    /// whose setup is within its limits. The rows of each slot are within the ports, and are kept until
+    /// they are served.
     pub fn legal(&self)
-        ensures { (events : List Event) × IsLegal self.now.setup events × (self.now.slots ≡ journal_of self.now.setup events) × (self.now.events ≡ length events) }
+        ensures legal { (events : List Event) × IsLegal self.now.setup events × (self.now.slots ≡ journal_of self.now.setup events) × (self.now.events ≡ length events) }
+        ensures setup { IsSetup self.now.setup }
+        ensures rows { AreJournalRows self.now.setup.ports self.now.slots }
     {
         self.board.legal();
     }

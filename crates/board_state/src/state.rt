@@ -3,12 +3,13 @@ ghost use Rattle.slot_histories.specs.Events.{takes_of, decides};
 ghost use Rattle.slot_histories.specs.Legal.{Allows, IsLegal};
 ghost use Rattle.slot_histories.specs.Answers.{answer_of, journal_of};
 ghost use Rattle.slot_histories.specs.Tests.{is_allowed};
-ghost use Rattle.board_state.specs.Boards.{IsSetup, with_event, with_refused, book_of, HavePosted, IsFinished};
+ghost use Rattle.board_state.specs.JournalRows.{AreJournalRows};
+ghost use Rattle.board_state.specs.Boards.{IsSetup, with_event, book_of, HavePosted, IsFinished};
 
 use crate::books::CardBook;
 use crate::counts::{Counts, no_counts};
 use crate::journal::Journal;
-use crate::limits::MAX_SLOTS;
+use crate::limits::{MAX_SLOTS, MAX_SLOTS_WIDE};
 use crossbar::Post;
 use islip_rounds::RoundsUsed;
 use pointer_state::Pointers;
@@ -24,8 +25,8 @@ mod slots;
 
 /// The state of a board: what was posted, decided and taken.
 ///
-/// Contracts see its setup, the list of its events and the refused calls that are known of. All of its
-/// memory is taken by [`BoardState::make`].
+/// Contracts see its setup and the list of its events. All of its memory is taken by
+/// [`BoardState::make`].
 #[derive(Drop)]
 pub struct BoardState {
     ports: u32,
@@ -45,7 +46,6 @@ pub struct BoardState {
     numbers: Vec<RoundsUsed>,
     // A byte for each event.
     order: Vec<u8>,
-    refused: u64,
 }
 
 impl Model for BoardState {
@@ -62,7 +62,8 @@ impl Model for BoardState {
 
 impl BoardState {
     /// A board of a switch of `n` ports, whose slots have so many rounds, each from 1 to 64, and on which
-    /// at most `max_slots` slots are posted, from 1 to [`MAX_SLOTS`]. Nothing has happened on it.
+    /// at most `max_slots` slots are posted, from 1 to [`MAX_SLOTS`], and to [`MAX_SLOTS_WIDE`] for more
+    /// than 32 ports. Nothing has happened on it.
     pub fn make(
         alloc: Global,
         n: u32,
@@ -71,8 +72,8 @@ impl BoardState {
     ) -> Result<BoardState, OutOfMemory>
         requires ports { (0 < n) × (n ≤ MAX_PORTS) }
         requires rounds { (0 < rounds) × (rounds ≤ MAX_ROUNDS) }
-        requires slots { (0 < max_slots) × (max_slots ≤ MAX_SLOTS) }
-        ensures { IfOk result (λ s. s ≡ record { setup = record { ports = n; rounds = rounds; max_slots = max_slots }; events = []; refused = 0 }) }
+        requires slots { (0 < max_slots) × (max_slots ≤ MAX_SLOTS) × (32 < n → max_slots ≤ MAX_SLOTS_WIDE) }
+        ensures { IfOk result (λ s. s ≡ record { setup = record { ports = n; rounds = rounds; max_slots = max_slots }; events = [] }) }
     {
         let slots = max_slots as usize;
         let posts = Vec::with_capacity(alloc, slots * n as usize)?;
@@ -92,7 +93,6 @@ impl BoardState {
             matches,
             numbers,
             order,
-            refused: 0,
         })
     }
 
@@ -154,17 +154,21 @@ impl BoardState {
         true
     }
 
-    /// The decided slots.
+    /// The decided slots. The rows of each are within the ports, and are kept until they are served.
     pub fn journal(self) -> Journal
-        ensures { result ≡ record { setup = self.setup; slots = journal_of self.setup self.events; events = length self.events; refused = self.refused } }
+        ensures journal { result ≡ record { setup = self.setup; slots = journal_of self.setup self.events; events = length self.events } }
+        ensures rows { AreJournalRows result.setup.ports result.slots }
     {
+        self.legal();
         Journal { board: self }
     }
 
-    /// The events are a legal list, and the setup is within its limits.
+    /// The events are a legal list, the setup is within its limits, and the rows of the decided slots are
+    /// within the ports and are kept until they are served.
     pub fn legal(&self)
         ensures legal { IsLegal self.now.setup self.now.events }
         ensures setup { IsSetup self.now.setup }
+        ensures rows { AreJournalRows self.now.setup.ports (journal_of self.now.setup self.now.events) }
     {
         let _ = &self.ports;
     }
@@ -202,20 +206,6 @@ impl BoardState {
         ensures { result ≡ length self.now.events }
     {
         self.order.len() as u64
-    }
-
-    /// How many refused calls are known of.
-    pub fn least_refused(&self) -> u64
-        ensures { result ≡ self.now.refused }
-    {
-        self.refused
-    }
-
-    /// Notes that so many calls at least were refused.
-    pub fn set_least_refused(&mut self, least: u64)
-        ensures { self.new ≡ with_refused self.old least }
-    {
-        self.refused = least;
     }
 
     // How many slots the card took.

@@ -6,6 +6,7 @@ mod PostTurns
 mod TakeTurns
 mod LeastTries
 mod NewSeats
-mod Takings
+mod Settled
 pub mod SeatColumns
 pub mod DecidedSlots
+pub mod AfterCalls

@@ -19,8 +19,9 @@ use Rattle.turn_lock.proofs.HistoryLemmas.{append_same-nil, entries_of-append, e
 use Rattle.slot_board.specs.declared.waits.TakeWait.{TakeWait}
 use Rattle.slot_board.specs.declared.waits.TakeWait.TheVariants.{Busy, NotYet}
 use Rattle.slot_board.specs.Turns.{MayAdd, post_entries, decision_entries}
-use Rattle.slot_board.specs.Seats.{setup_at, events_seen, column_of, column_at, with_post, with_taking, slot_of, events_before, HasCardTurn, HasPosted, HasTaken, IsUndecided, IsWait}
-use Rattle.slot_board.proofs.Takings.{takings_of-beyond, takings_of-take}
+use Rattle.slot_board.specs.Seats.{setup_at, events_seen, column_at, slot_of, events_before, HasCardTurn, HasPosted, HasTaken, IsUndecided, IsWait}
+use Rattle.slot_histories.specs.Columns.{column_of, with_post, with_taking}
+use Rattle.slot_histories.proofs.Takings.{takings_of-beyond, takings_of-take}
 use Rattle.slot_board.proofs.OtherTurns.{posts_of-others, takes_of-others, posts_of-decision, takes_of-decision}
 
 -- a seat's column goes on where the turns that follow are all of other seats
@@ -43,7 +44,7 @@ module _ (adds : List Event → List Event) (old new : SeatValue Event) (between
   abbrev at_turn : List Event
   at_turn = events_before old between
 
-  between_allowed : IsAllowed MayAdd between
+  pub between_allowed : IsAllowed MayAdd between
   between_allowed =
       let own : TurnOf Event = record { seat = old.number; entries = adds at_turn } in
       let all : IsAllowed MayAdd ((old.seen ++ between) ++ own ∷ []) = subst (IsAllowed MayAdd) (ap (λ s. s.seen) has.turn) has.allowed in

@@ -1,18 +1,19 @@
 -- A turn in which a card tries to take its part of its slot.
-use Rattle.std.proofs.Common.{◌≡◌, ◌∙◌, ℕ, ◌+◌, ◌-◌, ◌^◌, ◌<◌, ◌≤◌, inl, inr, min, Bool, true, false, List, [], ◌∷◌, ◌++◌, Option, refl, sym, ap, subst, arith}
+use Rattle.std.proofs.Common.{◌≡◌, ◌∙◌, ℕ, ◌+◌, ◌-◌, ◌^◌, ◌<◌, ◌≤◌, ◌≢◌, zero, suc, inl, inr, min, Bool, true, false, List, [], ◌∷◌, ◌++◌, length, Option, refl, sym, ap, subst, arith}
 use Rattle.std.specs.Prelude.{if◌then◌else◌, Result, Ok, Err}
-use Rattle.std.proofs.lemmas.Bool.{cases_lt, both_ways}
+use Rattle.std.proofs.lemmas.Bool.{cases_eq, cases_lt, both_ways}
 use Rattle.std.proofs.lemmas.List.{append-nil}
 use Rattle.slot_match.specs.declared.rows.Row.{Row}
 use Rattle.slot_match.specs.declared.matching.Served.{Served}
 use Rattle.crossbar.specs.declared.cards.Taken.{Taken}
 use Rattle.slot_histories.specs.declared.events.Event.{Event}
 use Rattle.slot_histories.specs.declared.events.Event.TheVariants.{Take}
-use Rattle.slot_histories.specs.Events.{takes_of, decides, posted}
+use Rattle.slot_histories.specs.Events.{posts_of, takes_of, decides, posted}
 use Rattle.slot_histories.specs.Slots.{taken_at}
-use Rattle.slot_histories.specs.Legal.{MayTake, IsLegal}
+use Rattle.slot_histories.specs.Legal.{MayTake, MayDecide, IsLegal}
 use Rattle.slot_histories.specs.Tests.{is_allowed}
 use Rattle.slot_histories.proofs.EventTests.{is_allowed-iff}
+use Rattle.slot_histories.proofs.LegalLists.{AreInStep-legal}
 use Rattle.turn_lock.specs.Seats.{SeatValue, HasTurn, after_turn, entries_before}
 use Rattle.turn_lock.proofs.SeatLemmas.{HasTurn-between}
 use Rattle.board_state.specs.Boards.{HavePosted}
@@ -22,6 +23,21 @@ use Rattle.slot_board.specs.Columns.{IsColumn, IsCardSeat}
 use Rattle.slot_board.proofs.ColumnSteps.{IsColumn-take}
 use Rattle.slot_board.proofs.RefusedTries.{refusals-acted, refusals-idle, count-more}
 use Rattle.slot_board.proofs.CardTurns.{card_below, slot-is, posted-true, before-is, column-before, seen-after, kept-after}
+
+-- where not all of the first n numbers are k, one of them is not
+other_one : (f : ℕ → ℕ) (k n : ℕ) → (((i : ℕ) → i < n → f i ≡ k) → ⊥) → (i : ℕ) × (i < n) × (f i ≢ k)
+other_one f k zero not_all = absurd (not_all (λ i below. absurd (omega arith)))
+other_one f k (suc n) not_all =
+    elim (cases_eq (f n) k) [
+      | inl is ↦
+          let found : (i : ℕ) × (i < n) × (f i ≢ k) = other_one f k n (λ all. not_all (λ i below. elim (cases_lt i n) [
+            | inl less ↦ all i less
+            | inr last ↦ let same : i ≡ n = omega arith in ap f same ∙ is
+          ])) in
+          let below = found.1 in
+          (found.0, omega arith, found.2)
+      | inr ne ↦ (n, omega arith, ne)
+    ]
 
 -- what a try to take has of its turn
 abbrev Answered : ℕ → Result Taken ℕ → List ℕ → List Event → Type 0
@@ -84,6 +100,13 @@ module _ (old : SeatValue Event) (ports card slot : ℕ) (has_posted done : Bool
             allowed = has.allowed;
             in_range = has.in_range;
           };
+          all_posted = λ i below.
+              let slot_is = slot-is old ports card slot has_posted done last served count room capacity kept in
+              let step = AreInStep-legal (setup_at old) at_turn legal_before in
+              let all = step.decided_posted i below in
+              let early = may.decided in
+              let takes = column.slot_is in
+              omega arith;
           answer = took.1 ∙ ap (λ i. taken_at (setup_at old) (posted at_turn) i (takes_of i at_turn)) kept.card_is;
         }
 
@@ -96,7 +119,7 @@ module _ (old : SeatValue Event) (ports card slot : ℕ) (has_posted done : Bool
 
   -- ---- the slot was not decided
   module _ (waiting : ℕ) (is_err : out ≡ Err waiting) where
-    waits : (is_allowed (setup_at old) at_turn (Take card) ≡ false) × HavePosted (setup_at old) at_turn waiting
+    waits : (is_allowed (setup_at old) at_turn (Take card) ≡ false) × HavePosted (setup_at old) at_turn waiting × (MayDecide (setup_at old) at_turn → ⊥)
     waits = subst (TakeAnswers (setup_at old) card at_turn) is_err answered
 
     adds_none : take_adds card old.turn.numbers (entries_before old has.between) ≡ []
@@ -114,6 +137,16 @@ module _ (old : SeatValue Event) (ports card slot : ℕ) (has_posted done : Bool
           | inr last ↦ omega arith
         ]
 
+    -- some card has not posted the slot, since one that all have posted is decided
+    some_missing : (i : ℕ) × (i < (setup_at old).ports) × (length (posts_of i at_turn) ≤ slot_of old)
+    some_missing =
+        let step = AreInStep-legal (setup_at old) at_turn legal_before in
+        let found = other_one (λ i. length (posts_of i at_turn)) (decides at_turn + 1) (setup_at old).ports waits.2 in
+        let most = step.posted_next found.0 found.1 in
+        let other : length (posts_of found.0 at_turn) ≢ decides at_turn + 1 = found.2 in
+        let after = late in
+        (found.0, found.1, omega arith)
+
     pub undecided_turn : IsUndecided waiting old new
     undecided_turn =
         record {
@@ -125,6 +158,7 @@ module _ (old : SeatValue Event) (ports card slot : ℕ) (has_posted done : Bool
             allowed = has.allowed;
             in_range = has.in_range;
           };
+          missing = some_missing;
           undecided = late;
           posted = waits.1;
         }

@@ -6,7 +6,7 @@ use Rattle.slot_histories.specs.Legal.{IsLegal}
 use Rattle.turn_lock.specs.declared.history.TurnOf.{TurnOf}
 use Rattle.turn_lock.specs.Histories.{IsPrefixOf, entries_of, turns_of, IsAllowed, IsBelow}
 use Rattle.turn_lock.specs.Seats.{TurnValue, SeatValue}
-use Rattle.board_state.specs.Boards.{BoardValue}
+use Rattle.slot_board.specs.States.{StateValue}
 use Rattle.slot_board.specs.Turns.{setup_of, MayAdd}
 use Rattle.slot_board.specs.Seats.{refusals, is_due}
 
@@ -22,7 +22,7 @@ least_refused seats = least_of (map refusals (filter is_due seats))
 -- The board's events are those of one history and legal, and each seat's seen turns begin it, with no further turn of the seat.
 -- A seat that found the board busy since its last turn was overtaken: the history goes on beyond what it had seen, or
 -- is at its last length.
-pub record IsClosed (turn : TurnValue Event) (seats : List (SeatValue Event)) (board : BoardValue) : Type 0 where
+pub record IsClosed (turn : TurnValue Event) (seats : List (SeatValue Event)) (board : StateValue) : Type 0 where
   pub history : List (TurnOf Event)
   pub setup : board.setup ≡ setup_of turn.numbers
   pub events : board.events ≡ entries_of history

@@ -3,3 +3,5 @@ pub mod Seats
 pub mod Columns
 pub mod Boards
 pub mod Schedules
+pub mod Calls
+pub mod States

@@ -9,7 +9,7 @@ use Rattle.slot_histories.specs.declared.events.Event.{Event}
 use Rattle.slot_histories.specs.declared.events.Event.TheVariants.{Take}
 use Rattle.slot_histories.specs.Events.{Setup, posts_of, takes_of, decides, posted}
 use Rattle.slot_histories.specs.Slots.{is_done_before, taken_at, row_before, served_before}
-use Rattle.slot_histories.specs.Answers.{takings_of}
+use Rattle.slot_histories.specs.Columns.{Column, column_of}
 use Rattle.slot_histories.specs.Legal.{IsAccepted, IsLegal}
 use Rattle.board_state.specs.Boards.{HavePosted}
 use Rattle.turn_lock.specs.declared.history.TurnOf.{TurnOf}
@@ -27,26 +27,9 @@ setup_at seat = setup_of seat.turn.numbers
 abbrev pub events_seen : SeatValue Event → List Event
 events_seen seat = entries_of seat.seen
 
--- A card's column: what it posted and what it took, each in order.
-pub record Column : Type 0 where
-  pub posts : List CardPost
-  pub takings : List Taken
-
--- card i's column in the events at a board
-abbrev pub column_of : Setup → ℕ → List Event → Column
-column_of s i events = record { posts = posts_of i events; takings = takings_of s i events }
-
 -- the column of the seat's card in what it has seen
 abbrev pub column_at : SeatValue Event → Column
 column_at seat = column_of (setup_at seat) seat.number (events_seen seat)
-
--- a column with a post more
-abbrev pub with_post : Column → CardPost → Column
-with_post column post = record column { posts = column.posts ++ post ∷ [] }
-
--- a column with a taking more
-abbrev pub with_taking : Column → Taken → Column
-with_taking column taken = record column { takings = column.takings ++ taken ∷ [] }
 
 -- the slot that the card has posted and not taken, or else the one that it posts next
 abbrev pub slot_of : SeatValue Event → ℕ
@@ -92,16 +75,18 @@ pub record HasPosted (post : CardPost) (old new : SeatValue Event) : Type 0 wher
   pub between : List (TurnOf Event)
   pub turn : HasCardTurn (λ events. post_entries (setup_at old) events old.number post) old new between
 
--- the card took its part of its slot, as the events before it give it
+-- the card took its part of its slot, which all cards have posted, as the events before it give it
 pub record HasTaken (taken : Taken) (old new : SeatValue Event) : Type 0 where
   pub between : List (TurnOf Event)
   pub turn : HasCardTurn (λ events. Take old.number ∷ []) old new between
+  pub all_posted : (i : ℕ) → i < (setup_at old).ports → slot_of old < length (posts_of i (events_before old between))
   pub answer : taken ≡ taken_at (setup_at old) (posted (events_before old between)) old.number (takes_of old.number (events_before old between))
 
--- the seat had a turn, but the card's slot was not decided there
+-- the seat had a turn, but the card's slot was not decided there, since some card had not posted it
 pub record IsUndecided (ports : ℕ) (old new : SeatValue Event) : Type 0 where
   pub between : List (TurnOf Event)
   pub turn : HasCardTurn (λ events. []) old new between
+  pub missing : (i : ℕ) × (i < (setup_at old).ports) × (length (posts_of i (events_before old between)) ≤ slot_of old)
   pub undecided : decides (events_before old between) ≤ slot_of old
   pub posted : HavePosted (setup_at old) (events_before old between) ports
 

@@ -6,7 +6,7 @@ use Rattle.slot_histories.specs.declared.events.Event.{Event}
 use Rattle.slot_histories.specs.declared.events.Event.TheVariants.{Post, Decide, Take}
 use Rattle.slot_histories.specs.Events.{Setup, takes_of, posted}
 use Rattle.slot_histories.specs.Slots.{taken_at}
-use Rattle.slot_histories.specs.Legal.{IsLegal}
+use Rattle.slot_histories.specs.Legal.{MayDecide, IsLegal}
 use Rattle.slot_histories.specs.Tests.{is_allowed}
 use Rattle.board_state.specs.Boards.{HavePosted}
 
@@ -47,7 +47,8 @@ pub record StayLegal (s : Setup) (events added : List Event) : Type 0 where
   pub before : IsLegal s events
   pub after : IsLegal s (events ++ added)
 
--- what a try to take is answered: the card's part of its slot, or where it may not take which cards have posted
+-- what a try to take is answered: the card's part of its slot, or where it may not take which cards have posted; a
+-- slot that all have posted is decided
 abbrev pub TakeAnswers : Setup → ℕ → List Event → Result Taken ℕ → Type 0
 TakeAnswers s card events (Ok taken) = (is_allowed s events (Take card) ≡ true) × (taken ≡ taken_at s (posted events) card (takes_of card events))
-TakeAnswers s card events (Err ports) = (is_allowed s events (Take card) ≡ false) × HavePosted s events ports
+TakeAnswers s card events (Err ports) = (is_allowed s events (Take card) ≡ false) × HavePosted s events ports × (MayDecide s events → ⊥)

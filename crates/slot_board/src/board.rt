@@ -1,13 +1,16 @@
-ghost use Rattle.std.specs.Prelude.{◌≡◌, ◌<◌, ◌≤◌, false, [], ◌∷◌, IfOk, IfErr};
+ghost use Rattle.std.specs.Prelude.{◌≡◌, ◌+◌, ◌^◌, ◌<◌, ◌≤◌, false, [], ◌∷◌, length, IfOk, IfErr};
 ghost use Rattle.turn_lock.specs.Seats.{refused, AreNewSeats};
 ghost use Rattle.slot_board.specs.Turns.{setup_of};
-ghost use Rattle.slot_board.specs.Seats.{column_at, with_post, with_taking, slot_of, IsPosted, is_done, Accepts, HasPosted, HasTaken, IsWait};
+ghost use Rattle.slot_histories.specs.Columns.{with_post, with_taking};
+ghost use Rattle.slot_board.specs.Seats.{column_at, slot_of, IsPosted, is_done, Accepts, HasPosted, HasTaken, IsWait};
+ghost use Rattle.slot_board.specs.Columns.{IsBoard};
+ghost use Rattle.slot_board.specs.Calls.{AfterPost, AfterTaking, AfterRefusal};
 
 use crate::acts::{KeptState, PostAct, TakeAct};
 use crate::making::card_seats;
 use crate::seat::{CardSeat, Seats};
 use crate::waits::TakeWait;
-use board_state::{BoardState, MAX_SLOTS};
+use board_state::{BoardState, MAX_SLOTS, MAX_SLOTS_WIDE};
 use crossbar::{Post, Taken};
 use rotating_pick::{MAX_PORTS, MAX_ROUNDS, OutOfMemory};
 use std::alloc::Global;
@@ -38,8 +41,9 @@ impl Model for Board {
 
 impl Board {
     /// A board of `n` ports, 1 to 64, with `rounds` rounds a slot, 1 to 64, on which at most `max_slots`
-    /// slots are posted, 1 to `MAX_SLOTS`; and its seats, that of card i at place i. It takes the memory
-    /// for all that comes after. The one refusal is want of memory.
+    /// slots are posted, 1 to `MAX_SLOTS`, and to `MAX_SLOTS_WIDE` for more than 32 ports; and its seats,
+    /// that of card i at place i. It takes the memory for all that comes after. It fails for want of
+    /// memory alone.
     pub fn make(
         alloc: Global,
         n: u32,
@@ -48,7 +52,7 @@ impl Board {
     ) -> Result<(Board, Seats), OutOfMemory>
         requires ports { (0 < n) × (n ≤ MAX_PORTS) }
         requires rounds { (0 < rounds) × (rounds ≤ MAX_ROUNDS) }
-        requires slots { (0 < max_slots) × (max_slots ≤ MAX_SLOTS) }
+        requires slots { (0 < max_slots) × (max_slots ≤ MAX_SLOTS) × (32 < n → max_slots ≤ MAX_SLOTS_WIDE) }
         ensures first { IfOk result (λ made. made.0.first ≡ []) }
         ensures numbers { IfOk result (λ made. made.0.numbers ≡ n ∷ rounds ∷ max_slots ∷ []) }
         ensures count { IfOk result (λ made. made.0.seats ≡ n) }
@@ -56,9 +60,17 @@ impl Board {
     {
         let state = BoardState::make(alloc, n, rounds, max_slots)?;
         state.legal();
-        let (turn, turn_seats) = Turn::make(alloc, KeptState { state }, n)?;
+        let boxed = Box::new(alloc, state)?;
+        let (turn, turn_seats) = Turn::make(alloc, KeptState { state: boxed }, n)?;
         let seats = card_seats(alloc, turn_seats, n)?;
         Ok((Board { turn, max_slots }, seats))
+    }
+
+    /// The board began with no event, and its setup is within the limits.
+    pub fn legal(&self)
+        ensures { IsBoard self.now }
+    {
+        let _ = &self.max_slots;
     }
 
     /// The most slots that may be posted.
@@ -71,8 +83,8 @@ impl Board {
     /// A try to post for the card's slot. Where this is the slot's last post, the slot is decided with it.
     ///
     /// Ok where the card had the board. Busy where another card had it, or where there were as many turns
-    /// as a `u64` counts: the post comes back as `act`, and nothing changes but the seat's count of
-    /// refused tries.
+    /// as a `u64` counts, which on a board of one port is the one cause: the post comes back as `act`, and
+    /// nothing changes but the seat's count of refused tries.
     pub fn try_post(&self, seat: &mut CardSeat, post: Post) -> Result<(), Busy<Post>>
         requires seat { seat.old.turn ≡ self.now }
         requires not_posted { IsPosted seat.old → ⊥ }
@@ -82,7 +94,10 @@ impl Board {
         ensures same { (seat.new.turn ≡ seat.old.turn) × (seat.new.number ≡ seat.old.number) }
         ensures posted { IfOk result (λ _. HasPosted post seat.old seat.new) }
         ensures column { IfOk result (λ _. column_at seat.new ≡ with_post (column_at seat.old) post) }
+        ensures after { IfOk result (λ _. AfterPost seat.old seat.new) }
         ensures busy { IfErr result (λ busy. (busy.act ≡ post) × (seat.new ≡ refused seat.old)) }
+        ensures alone { IfErr result (λ _. (setup_of self.now.numbers).ports ≡ 1 → 2 ^ 64 ≤ length seat.old.seen + 1) }
+        ensures refused { IfErr result (λ _. AfterRefusal seat.old seat.new) }
     {
         let act = PostAct {
             card: seat.card,
@@ -104,7 +119,7 @@ impl Board {
     /// A try to take the card's part of its slot, which it has posted. The part is that of the card's own
     /// slot, however late it comes.
     ///
-    /// `NotYet` where the card had the board and its slot is not decided, `Busy` as for
+    /// `NotYet` where the card had the board and some card has not posted this slot yet, `Busy` as for
     /// [`Board::try_post`]. Either is a refused try.
     pub fn try_take(&self, seat: &mut CardSeat) -> Result<Taken, TakeWait>
         requires seat { seat.old.turn ≡ self.now }
@@ -112,7 +127,10 @@ impl Board {
         ensures same { (seat.new.turn ≡ seat.old.turn) × (seat.new.number ≡ seat.old.number) }
         ensures taken { IfOk result (λ taken. HasTaken taken seat.old seat.new) }
         ensures column { IfOk result (λ taken. column_at seat.new ≡ with_taking (column_at seat.old) taken) }
+        ensures after { IfOk result (λ taken. AfterTaking taken seat.old seat.new) }
         ensures wait { IfErr result (λ wait. IsWait wait seat.old seat.new) }
+        ensures alone { IfErr result (λ wait. wait ≡ TakeWait.Busy → (setup_of self.now.numbers).ports ≡ 1 → 2 ^ 64 ≤ length seat.old.seen + 1) }
+        ensures refused { IfErr result (λ _. AfterRefusal seat.old seat.new) }
         ensures stays { IfErr result (λ _. column_at seat.new ≡ column_at seat.old) }
     {
         let act = TakeAct { card: seat.card };

@@ -1,30 +1,39 @@
 ghost use Rattle.std.specs.Prelude.{◌≡◌, ◌≤◌, ◌<◌, ℕ, Some, slice_get, length};
 ghost use Rattle.turn_lock.specs.Seats.{AreSeats};
-ghost use Rattle.slot_board.specs.Seats.{setup_at, column_of, column_at, due_tries};
+ghost use Rattle.slot_histories.specs.Answers.{journal_of};
+ghost use Rattle.slot_histories.specs.Columns.{column_of};
+ghost use Rattle.board_state.specs.JournalRows.{AreJournalRows};
+ghost use Rattle.slot_board.specs.Seats.{setup_at, column_at, due_tries};
 ghost use Rattle.slot_board.specs.Boards.{least_refused, IsClosed};
 
 use crate::acts::KeptState;
 use crate::board::Board;
 use crate::seat::{CardSeat, Seats};
-use board_state::BoardState;
+use crate::state::BoardState;
 use turn_lock::TurnSeats;
 
 impl Board {
     /// Hands out the board's state, which stands for all that the cards did, with the least of the due
     /// cards' refused tries. A card is due where it has posted its slot and not taken it, or where it has
     /// not taken the last slot of the run and a slot is left to post; where none is due, or the least is
-    /// more than a `u64` holds, it is the last value of a `u64`.
+    /// more than a `u64` holds, it is the last value of a `u64`. The rows of the decided slots are within
+    /// the ports, and are kept until they are served.
     pub fn close(self, seats: Seats) -> BoardState
         requires { AreSeats self seats.items }
         ensures closed { IsClosed self seats.items result }
         ensures columns { (i : ℕ) (s : _) → slice_get seats.items i ≡ Some s → column_of result.setup i result.events ≡ column_at s }
+        ensures rows { AreJournalRows result.setup.ports (journal_of result.setup result.events) }
     {
         let Board { turn, max_slots } = self;
         let least = least_refused(&seats, max_slots);
-        let KeptState { mut state } = turn.close(turn_seats(seats));
-        state.set_least_refused(least);
-        state.legal();
-        state
+        let KeptState { state } = turn.close(turn_seats(seats));
+        let state = Box::into_inner(state);
+        let closed = BoardState {
+            state,
+            refused: least,
+        };
+        closed.legal();
+        closed
     }
 }
 

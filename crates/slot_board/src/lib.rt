@@ -9,15 +9,19 @@
 mod acts;
 mod board;
 mod closing;
+mod journal;
 pub mod laws;
 mod making;
 mod seat;
+mod state;
 #[cfg(test)]
 mod tests;
 mod waits;
 
 pub use board::Board;
-pub use board_state::{BoardState, CardBook, Journal, MAX_SLOTS};
+pub use board_state::{CardBook, MAX_SLOTS, MAX_SLOTS_WIDE};
+pub use journal::Journal;
 pub use seat::{CardSeat, Seats};
 pub use slot_histories::{Answer, Event};
+pub use state::BoardState;
 pub use waits::TakeWait;

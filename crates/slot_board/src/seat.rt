@@ -1,6 +1,7 @@
 ghost use Rattle.std.specs.Prelude.{◌≡◌, ◌<◌, ◌≤◌, ◌↔◌, [], length, vec_capacity, IsTrue};
 ghost use Rattle.slot_match.specs.Keeping.{KeepsRest, Gives};
 ghost use Rattle.slot_board.specs.Columns.{IsBoard};
+ghost use Rattle.slot_board.specs.Calls.{IsSeat};
 ghost use Rattle.slot_board.specs.Seats.{setup_at, slot_of, IsPosted, is_done, last_row, last_served, Accepts};
 
 use crate::acts::KeptState;
@@ -55,6 +56,14 @@ impl CardSeat {
         ensures { result ≡ self.now.number }
     {
         self.card
+    }
+
+    /// The seat is one of a board's, what it has seen is legal there, and its column tells its slot,
+    /// whether it is done, its last row and what it was served last.
+    pub fn legal(&self)
+        ensures { IsSeat self.now }
+    {
+        let _ = &self.card;
     }
 
     /// The slot that the card has posted and not taken, or else the one that it posts next.

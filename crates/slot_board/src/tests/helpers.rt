@@ -1,7 +1,7 @@
 ghost use Rattle.std.specs.Prelude.{◌≡◌, ◌<◌, ◌≤◌, IfOk};
 ghost use Rattle.turn_lock.specs.Seats.{AreSeats};
 
-use crate::{Board, CardSeat, MAX_SLOTS, Seats, TakeWait};
+use crate::{Board, CardSeat, MAX_SLOTS_WIDE, Seats, TakeWait};
 use cell_cutter::{Cell, PAYLOAD_BYTES};
 use crossbar::{Post, Taken};
 use rotating_pick::{Kind, MAX_PORTS, OutOfMemory, Ports};
@@ -42,7 +42,7 @@ pub(crate) fn served(outputs: Ports) -> Option<Served> {
 // A board of one round a slot.
 pub(crate) fn board_of(alloc: Global, n: u32, max_slots: u32) -> Result<(Board, Seats), OutOfMemory>
     requires ports { (0 < n) × (n ≤ MAX_PORTS) }
-    requires slots { (0 < max_slots) × (max_slots ≤ MAX_SLOTS) }
+    requires slots { (0 < max_slots) × (max_slots ≤ MAX_SLOTS_WIDE) }
     ensures { IfOk result (λ made. AreSeats made.0 made.1.items) }
 {
     Board::make(alloc, n, 1, max_slots)

@@ -3,6 +3,8 @@ use Rattle.slot_board.specs.Turns.{setup_of}
 use Rattle.slot_board.specs.Seats.{setup_at, slot_of, IsPosted, is_done, Accepts, HasPosted}
 use Rattle.slot_board.proofs.PostTurns.{posted_turn, kept_then}
 use Rattle.slot_board.proofs.SeatColumns.{HasPosted-column}
+use Rattle.slot_board.specs.Calls.{IsSeat}
+use Rattle.slot_board.proofs.AfterCalls.{IsSeat-kept, AfterPost-has}
 use Rattle.slot_board.proofs.board.Board.try_post.Goals as goal
 
 pub invariant_of-seat : goal.invariant_of-seat
@@ -26,3 +28,9 @@ returns-in-Ok-clause-posted c =
 
 pub returns-in-Ok-clause-column : goal.returns-in-Ok-clause-column
 returns-in-Ok-clause-column c = HasPosted-column c.args.post c.args.seat.now c.try_turn.new.seat (returns-in-Ok-clause-posted c)
+
+pub returns-in-Ok-clause-after : goal.returns-in-Ok-clause-after
+returns-in-Ok-clause-after c =
+    let s = c.seat.inside in
+    let seat : IsSeat c.args.seat.now = subst IsSeat c.seat.view_is (IsSeat-kept s.seat s.ports s.card s.slot s.posted s.done s.last s.served s.refused s.room.items _ c.seat.invariant) in
+    AfterPost-has c.args.post c.args.seat.now c.try_turn.new.seat seat (returns-in-Ok-clause-posted c)

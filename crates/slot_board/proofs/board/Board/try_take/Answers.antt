@@ -3,6 +3,8 @@ use Rattle.slot_board.specs.Seats.{IsPosted, HasTaken, IsUndecided}
 use Rattle.slot_board.proofs.CardTurns.{slot-small}
 use Rattle.slot_board.proofs.TakeTurns.{taken_turn, kept_taken, undecided_turn, kept_undecided}
 use Rattle.slot_board.proofs.SeatColumns.{HasTaken-column, IsUndecided-column}
+use Rattle.slot_board.specs.Calls.{IsSeat}
+use Rattle.slot_board.proofs.AfterCalls.{IsSeat-kept, AfterTaking-has, AfterRefusal-undecided}
 use Rattle.slot_board.proofs.board.Board.try_take.Goals as goal
 
 pub overflow_add-seat : goal.overflow_add-seat
@@ -38,3 +40,15 @@ returns-in-Ok-Ok-clause-column c = HasTaken-column c.in-Ok-Ok.taken c.args.seat.
 
 pub returns-in-Ok-Err-clause-stays : goal.returns-in-Ok-Err-clause-stays
 returns-in-Ok-Err-clause-stays c = IsUndecided-column c.in-Ok-Err.posted c.args.seat.now c.try_turn.new.seat (returns-in-Ok-Err-clause-wait c)
+
+pub returns-in-Ok-Ok-clause-after : goal.returns-in-Ok-Ok-clause-after
+returns-in-Ok-Ok-clause-after c =
+    let s = c.seat.inside in
+    let seat : IsSeat c.args.seat.now = subst IsSeat c.seat.view_is (IsSeat-kept s.seat s.ports s.card s.slot s.posted s.done s.last s.served s.refused s.room.items _ c.seat.invariant) in
+    AfterTaking-has c.in-Ok-Ok.taken c.args.seat.now c.try_turn.new.seat seat c.requires.posted (returns-in-Ok-Ok-clause-taken c)
+
+pub returns-in-Ok-Err-clause-refused : goal.returns-in-Ok-Err-clause-refused
+returns-in-Ok-Err-clause-refused c =
+    let s = c.seat.inside in
+    let seat : IsSeat c.args.seat.now = subst IsSeat c.seat.view_is (IsSeat-kept s.seat s.ports s.card s.slot s.posted s.done s.last s.served s.refused s.room.items _ c.seat.invariant) in
+    AfterRefusal-undecided c.in-Ok-Err.posted c.args.seat.now c.try_turn.new.seat seat (returns-in-Ok-Err-clause-wait c)
