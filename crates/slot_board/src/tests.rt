@@ -1,3 +1,4 @@
+mod closed;
 mod contention;
 mod helpers;
 mod seats;
