@@ -62,7 +62,7 @@ fn begin_slot(posts: &mut Vec<Post>, ports: usize, slot: usize)
     }
 }
 
-// Adds so many posts of nothing.
+// Adds `count` posts of nothing.
 fn push_blanks(posts: &mut Vec<Post>, count: usize)
     requires { vec_len posts.old + count ≤ vec_capacity posts.old }
     ensures items { posts.new.items ≡ posts.old.items ++ replicate count no_post }
@@ -73,7 +73,7 @@ fn push_blanks(posts: &mut Vec<Post>, count: usize)
     }
 }
 
-// The rows of the posts, and none behind them.
+// The rows of the posts, and then rows that name nothing.
 fn rows_of(posts: &[Post]) -> [Row; PORTS]
     requires { length posts.now ≤ MAX_PORTS }
     ensures { take (length posts.now) result ≡ map (λ post. post.row) posts.now }

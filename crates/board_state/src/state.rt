@@ -61,7 +61,7 @@ impl Model for BoardState {
 }
 
 impl BoardState {
-    /// A board of a switch of `n` ports, whose slots have so many rounds, each from 1 to 64, and on which
+    /// A board of a switch of `n` ports, with `rounds` rounds a slot, each from 1 to 64, and on which
     /// at most `max_slots` slots are posted, from 1 to [`MAX_SLOTS`], and to [`MAX_SLOTS_WIDE`] for more
     /// than 32 ports. Nothing has happened on it.
     pub fn make(
