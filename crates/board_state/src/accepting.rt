@@ -38,14 +38,5 @@ fn is_from(card: u32, served: Served, cell: &Cell) -> bool
     cell.is_of_form()
         && u32::from(cell.input) == card
         && cell.level == served.level
-        && is_same(cell.kind, served.kind)
-}
-
-fn is_same(a: Kind, b: Kind) -> bool
-    ensures { IsTrue result ↔ (a ≡ b) }
-{
-    match (a, b) {
-        (Kind::Uni, Kind::Uni) | (Kind::Multi, Kind::Multi) => true,
-        _ => false,
-    }
+        && cell.kind == served.kind
 }

@@ -11,11 +11,8 @@ use crossbar::Post;
 use eslip_rounds::decide;
 use islip_rounds::RoundsUsed;
 use pointer_state::Pointers;
-use rotating_pick::{MAX_PORTS, MAX_ROUNDS};
+use rotating_pick::{MAX_PORTS, MAX_ROUNDS, PORT_COUNT};
 use slot_match::{Match, Row};
-
-// The ports as the length of an array.
-const PORTS: usize = MAX_PORTS as usize;
 
 // A post of nothing, which stands where a card has not posted.
 fn blank_post() -> Post
@@ -74,11 +71,11 @@ fn push_blanks(posts: &mut Vec<Post>, count: usize)
 }
 
 // The rows of the posts, and then rows that name nothing.
-fn rows_of(posts: &[Post]) -> [Row; PORTS]
+fn rows_of(posts: &[Post]) -> [Row; PORT_COUNT]
     requires { length posts.now ≤ MAX_PORTS }
     ensures { take (length posts.now) result ≡ map (λ post. post.row) posts.now }
 {
-    let mut rows = [Row::empty(); PORTS];
+    let mut rows = [Row::empty(); PORT_COUNT];
     for (place, post) in posts.iter().enumerate() {
         put_row(&mut rows, place, post);
     }
@@ -86,7 +83,7 @@ fn rows_of(posts: &[Post]) -> [Row; PORTS]
 }
 
 // Puts the row of the post at the place.
-fn put_row(rows: &mut [Row; PORTS], place: usize, post: &Post)
+fn put_row(rows: &mut [Row; PORT_COUNT], place: usize, post: &Post)
     requires { place < MAX_PORTS }
     ensures rows { rows.new ≡ slice_set rows.old place post.now.row }
     ensures long { length rows.new ≡ MAX_PORTS }

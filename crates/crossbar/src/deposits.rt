@@ -2,12 +2,9 @@ ghost use Rattle.std.specs.Prelude.{◌≡◌, ◌<◌, ◌≤◌, ◌↔◌, le
 ghost use Rattle.crossbar.specs.Crossing.{nothing_deposited, fetched, NothingCrosses};
 
 use cell_cutter::Cell;
-use rotating_pick::MAX_PORTS;
+use rotating_pick::{MAX_PORTS, PORT_COUNT};
 use slot_match::Match;
 use std::marker::Model;
-
-// The ports as the length of an array.
-const PORTS: usize = MAX_PORTS as usize;
 
 /// The crossbar of a switch: for each input the cell that it has deposited, or None.
 ///
@@ -15,7 +12,7 @@ const PORTS: usize = MAX_PORTS as usize;
 #[derive(Debug, Drop)]
 pub struct Crossbar {
     ports: u32,
-    deposits: [Option<Cell>; PORTS],
+    deposits: [Option<Cell>; PORT_COUNT],
 }
 
 impl Model for Crossbar {
@@ -70,8 +67,8 @@ impl Crossbar {
 }
 
 // An array in which nothing is deposited.
-fn no_deposits() -> [Option<Cell>; PORTS]
+fn no_deposits() -> [Option<Cell>; PORT_COUNT]
     ensures { result ≡ nothing_deposited MAX_PORTS }
 {
-    [None; PORTS]
+    [None; PORT_COUNT]
 }

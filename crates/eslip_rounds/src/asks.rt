@@ -5,16 +5,16 @@ ghost use Rattle.slot_match.specs.Rows.{Names, row_of, sets_of, AreWithin};
 ghost use Rattle.eslip_rounds.specs.Ranks.{level_at, kind_at};
 ghost use Rattle.eslip_rounds.specs.Steps.{column_of, AreAsks};
 
-use crate::ranks::{PORTS, RANKS, kind_of, level_of};
+use crate::ranks::{RANKS, kind_of, level_of};
 use islip_rounds::transpose;
-use rotating_pick::{Kind, LEVELS, MAX_PORTS, Ports, is_empty, with};
+use rotating_pick::{Kind, LEVELS, MAX_PORTS, PORT_COUNT, Ports, is_empty, with};
 use slot_match::Row;
 
 /// What the rows of a slot ask, by columns.
 #[derive(Drop)]
 pub(crate) struct Asks {
     /// For each rank and output the inputs whose rows name it there.
-    pub columns: [[Ports; PORTS]; RANKS],
+    pub columns: [[Ports; PORT_COUNT]; RANKS],
     /// The ranks at which some row names an output.
     pub ranks: Ports,
     /// The outputs that some row names.
@@ -47,7 +47,7 @@ fn fill(
     first_kind: Kind,
     rows: &[Row],
     named: &Row,
-    columns: &mut [[Ports; PORTS]; RANKS],
+    columns: &mut [[Ports; PORT_COUNT]; RANKS],
 ) -> Ports
     requires size { n ≤ MAX_PORTS }
     requires rows { AreWithin n rows.now }
@@ -80,20 +80,20 @@ fn joined(rows: &[Row]) -> Row
     named
 }
 
-fn no_columns() -> [[Ports; PORTS]; RANKS]
+fn no_columns() -> [[Ports; PORT_COUNT]; RANKS]
     ensures { result ≡ replicate RANKS (replicate MAX_PORTS 0) }
 {
-    [[0; PORTS]; RANKS]
+    [[0; PORT_COUNT]; RANKS]
 }
 
-fn no_sets() -> [Ports; PORTS]
+fn no_sets() -> [Ports; PORT_COUNT]
     ensures { result ≡ replicate MAX_PORTS 0 }
 {
-    [0; PORTS]
+    [0; PORT_COUNT]
 }
 
 // Turns the rows' sets of the level and kind into columns.
-fn gather(n: u32, rows: &[Row], level: u8, kind: Kind, columns: &mut [Ports; PORTS])
+fn gather(n: u32, rows: &[Row], level: u8, kind: Kind, columns: &mut [Ports; PORT_COUNT])
     requires size { n ≤ MAX_PORTS }
     requires rows { AreWithin n rows.now }
     requires level_in { level < LEVELS }
@@ -105,7 +105,7 @@ fn gather(n: u32, rows: &[Row], level: u8, kind: Kind, columns: &mut [Ports; POR
 }
 
 // Copies the rows' sets of the level and kind.
-fn collect(n: u32, rows: &[Row], level: u8, kind: Kind, sets: &mut [Ports; PORTS])
+fn collect(n: u32, rows: &[Row], level: u8, kind: Kind, sets: &mut [Ports; PORT_COUNT])
     requires size { n ≤ MAX_PORTS }
     requires rows { length rows.now ≡ n }
     requires level_in { level < LEVELS }

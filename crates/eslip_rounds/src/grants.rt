@@ -8,10 +8,11 @@ ghost use Rattle.eslip_rounds.specs.Ranks.{level_at, kind_at};
 ghost use Rattle.eslip_rounds.specs.Steps.{column_of, MayAsk, AreReady, IsChosen, AreOffers, IsOffered};
 
 use crate::asks::Asks;
-use crate::ranks::{PORTS, RANKS, kind_of, level_of};
+use crate::ranks::{RANKS, kind_of, level_of};
 use pointer_state::Pointers;
 use rotating_pick::{
-    Kind, LEVELS, MAX_PORTS, Ports, contains, intersection, lowest, pick, union, with, without,
+    Kind, LEVELS, MAX_PORTS, PORT_COUNT, Ports, contains, intersection, lowest, pick, union, with,
+    without,
 };
 use slot_match::Match;
 
@@ -52,9 +53,9 @@ pub(crate) struct Offers {
     /// The inputs that are granted.
     pub granted: Ports,
     /// For each of them the best rank at which it is granted.
-    pub ranks: [u32; PORTS],
+    pub ranks: [u32; PORT_COUNT],
     /// For each of them the outputs that grant it at that rank.
-    pub outputs: [Ports; PORTS],
+    pub outputs: [Ports; PORT_COUNT],
 }
 
 /// Offers what each of the free outputs grants. Nothing was offered before.
@@ -91,8 +92,8 @@ pub(crate) fn no_offers() -> Offers
 {
     Offers {
         granted: 0,
-        ranks: [0; PORTS],
-        outputs: [0; PORTS],
+        ranks: [0; PORT_COUNT],
+        outputs: [0; PORT_COUNT],
     }
 }
 

@@ -5,9 +5,6 @@ ghost use Rattle.eslip_rounds.specs.Ranks.{level_at, kind_at, other_kind};
 
 use rotating_pick::{Kind, MAX_PORTS};
 
-/// The ports as the length of an array.
-pub(crate) const PORTS: usize = MAX_PORTS as usize;
-
 /// The number of ranks: two kinds of four levels.
 pub(crate) const RANKS: usize = 8;
 

@@ -6,7 +6,7 @@ use Rattle.islip_rounds.specs.declared.unicast.UniPointers.{UniPointers}
 use Rattle.islip_rounds.specs.Numbers.{last_of}
 use Rattle.islip_rounds.specs.Rounds.{Feeds, IsRound, AreRounds}
 use Rattle.islip_rounds.specs.Slots.{unmatched, IsSlot}
-use Rattle.islip_rounds.proofs.Tables.{get_or-same}
+use Rattle.rotating_pick.proofs.Tables.{get_or-same}
 use Rattle.islip_rounds.proofs.Maximal.{some_accepts}
 use Rattle.islip_rounds.proofs.Running.{nothing_fed}
 

@@ -6,7 +6,7 @@ use Rattle.islip_rounds.specs.Numbers.{last_of, matched_count, added_from, numbe
 use Rattle.islip_rounds.specs.Rounds.{Feeds, IsRound, AreRounds}
 use Rattle.islip_rounds.specs.Slots.{unmatched}
 use Rattle.islip_rounds.proofs.Lasts.{last_of-append, added_from-append, length-added_from, length-map_counts, first-append}
-use Rattle.islip_rounds.proofs.Tables.{get_or-same}
+use Rattle.rotating_pick.proofs.Tables.{get_or-same}
 
 -- one more round at the end
 pub AreRounds-append : (n : ℕ) (asks : List ℕ) (pointers : UniPointers) (before after : List (Option ℕ)) (steps : List (List (Option ℕ))) → AreRounds n asks pointers before steps → IsRound n asks pointers (last_of before steps) after → AreRounds n asks pointers before (steps ++ after ∷ [])

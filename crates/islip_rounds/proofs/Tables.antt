@@ -14,13 +14,3 @@ below-next P d xs m x m_in here below k k_in =
           subst (λ y. P y (slice_index_or (slice_set xs m x) y d)) (sym same) at_m
       | inr other ↦ rw get_or-set_other (below k (omega arith))
     ]
-
--- a table of one value has it at each place, and no other beyond
-pub get_or-same : {X : Type 0} (d : X) (m k : ℕ) → slice_index_or (replicate m d) k d ≡ d
-get_or-same d zero k = refl
-get_or-same d (suc m) zero = refl
-get_or-same d (suc m) (suc k) = get_or-same d m k
-
--- a table of empty sets has no member at any place
-pub no_members : (m k x : ℕ) → Has (slice_index (replicate m 0) k) x → ⊥
-no_members m k x has = no_member-zero x (ap (λ set. bit_at set x) (sym (get_or-same 0 m k)) ∙ has)

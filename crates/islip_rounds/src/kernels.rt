@@ -4,8 +4,8 @@ ghost use Rattle.rotating_pick.specs.Rotation.{IsFirstFrom};
 ghost use Rattle.islip_rounds.specs.Choices.{AreChoices};
 ghost use Rattle.islip_rounds.specs.Columns.{AreColumns};
 
-use port_square::{PORTS, turn_square};
-use rotating_pick::{MAX_PORTS, Ports, contains, lowest, pick, with, without};
+use port_square::turn_square;
+use rotating_pick::{MAX_PORTS, PORT_COUNT, Ports, contains, lowest, pick, with, without};
 
 // Rows of no more members than this are put into columns member by member, since a whole square costs as
 // much as some three hundred of them.
@@ -67,10 +67,10 @@ fn transpose_many(n: u32, rows: &[Ports], columns: &mut [Ports])
 }
 
 // A table of empty sets.
-pub(crate) fn no_sets() -> [Ports; PORTS]
+pub(crate) fn no_sets() -> [Ports; PORT_COUNT]
     ensures { result ≡ replicate MAX_PORTS 0 }
 {
-    [0; PORTS]
+    [0; PORT_COUNT]
 }
 
 // Copies sets into the first places of others.

@@ -6,16 +6,15 @@ ghost use Rattle.islip_rounds.specs.Rounds.{Feeds, IsFreeInput, IsFreeOutput, Is
 
 use crate::kernels::{no_sets, picks};
 use crate::unicast::UniPointers;
-use port_square::PORTS;
-use rotating_pick::{MAX_PORTS, Ports, all, intersection, with, without};
+use rotating_pick::{MAX_PORTS, PORT_COUNT, Ports, all, intersection, with, without};
 
 // One round: each free output grants, and each input that was granted accepts. `columns` has for each
 // output the inputs that ask it.
 pub(crate) fn round(
     n: u32,
-    columns: &[Ports; PORTS],
+    columns: &[Ports; PORT_COUNT],
     pointers: &UniPointers,
-    fed: &mut [Option<u32>; PORTS],
+    fed: &mut [Option<u32>; PORT_COUNT],
 )
     requires some { 0 < n }
     requires size { n ≤ MAX_PORTS }
@@ -33,7 +32,12 @@ pub(crate) fn round(
 }
 
 // For each port of `free` the rotating choice of its set from its pointer on.
-fn choices(n: u32, from: &[u32; PORTS], masks: &[Ports; PORTS], free: Ports) -> [Option<u32>; PORTS]
+fn choices(
+    n: u32,
+    from: &[u32; PORT_COUNT],
+    masks: &[Ports; PORT_COUNT],
+    free: Ports,
+) -> [Option<u32>; PORT_COUNT]
     requires size { n ≤ MAX_PORTS }
     requires from_in { (k : ℕ) → k < n → slice_index from.now k < n }
     requires among { (k : ℕ) → k < n → IsAmong n (slice_index masks.now k) }
@@ -45,14 +49,14 @@ fn choices(n: u32, from: &[u32; PORTS], masks: &[Ports; PORTS], free: Ports) -> 
 }
 
 // A table that has a port at no place.
-pub(crate) fn no_ports() -> [Option<u32>; PORTS]
-    ensures { result ≡ replicate PORTS None }
+pub(crate) fn no_ports() -> [Option<u32>; PORT_COUNT]
+    ensures { result ≡ replicate PORT_COUNT None }
 {
-    [None; PORTS]
+    [None; PORT_COUNT]
 }
 
 // The inputs that are matched with no output.
-fn free_inputs(n: u32, fed: &[Option<u32>; PORTS]) -> Ports
+fn free_inputs(n: u32, fed: &[Option<u32>; PORT_COUNT]) -> Ports
     requires some { 0 < n }
     requires size { n ≤ MAX_PORTS }
     requires within { (i j : ℕ) → Feeds fed.now i j → (i < n) × (j < n) }
@@ -68,7 +72,7 @@ fn free_inputs(n: u32, fed: &[Option<u32>; PORTS]) -> Ports
 }
 
 // The outputs that are matched with no input.
-fn free_outputs(n: u32, fed: &[Option<u32>; PORTS]) -> Ports
+fn free_outputs(n: u32, fed: &[Option<u32>; PORT_COUNT]) -> Ports
     requires { n ≤ MAX_PORTS }
     ensures { (j : ℕ) → Has result j ↔ ((j < n) × IsFreeOutput fed.now j) }
 {
@@ -82,7 +86,7 @@ fn free_outputs(n: u32, fed: &[Option<u32>; PORTS]) -> Ports
 }
 
 // For each output the free inputs that ask it.
-fn requests(n: u32, columns: &[Ports; PORTS], free: Ports) -> [Ports; PORTS]
+fn requests(n: u32, columns: &[Ports; PORT_COUNT], free: Ports) -> [Ports; PORT_COUNT]
     requires { n ≤ MAX_PORTS }
     ensures { (j x : ℕ) → j < n → Has (slice_index result j) x ↔ (Has (slice_index columns.now j) x × Has free x) }
 {
@@ -95,7 +99,7 @@ fn requests(n: u32, columns: &[Ports; PORTS], free: Ports) -> [Ports; PORTS]
 }
 
 // For each input the outputs that grant it.
-fn by_input(n: u32, granted: &[Option<u32>; PORTS]) -> [Ports; PORTS]
+fn by_input(n: u32, granted: &[Option<u32>; PORT_COUNT]) -> [Ports; PORT_COUNT]
     requires size { n ≤ MAX_PORTS }
     requires inputs { (i j : ℕ) → Feeds granted.now i j → i < MAX_PORTS }
     ensures { (i j : ℕ) → Has (slice_index result i) j ↔ ((j < n) × Feeds granted.now i j) }
@@ -111,7 +115,7 @@ fn by_input(n: u32, granted: &[Option<u32>; PORTS]) -> [Ports; PORTS]
 }
 
 // Matches each input with the output that it accepted.
-fn feed(n: u32, accepted: &[Option<u32>; PORTS], fed: &mut [Option<u32>; PORTS])
+fn feed(n: u32, accepted: &[Option<u32>; PORT_COUNT], fed: &mut [Option<u32>; PORT_COUNT])
     requires size { n ≤ MAX_PORTS }
     requires outputs { (i j : ℕ) → slice_index_or accepted.now i None ≡ Some j → j < MAX_PORTS }
     requires free { (i j : ℕ) → slice_index_or accepted.now i None ≡ Some j → IsFreeOutput fed.old j }

@@ -8,8 +8,7 @@ use crate::kernels::{no_sets, transpose};
 use crate::numbers::RoundsUsed;
 use crate::rounds::{no_ports, round};
 use crate::unicast::{UniMatch, UniPointers};
-use port_square::PORTS;
-use rotating_pick::{MAX_PORTS, MAX_ROUNDS, Ports, next};
+use rotating_pick::{MAX_PORTS, MAX_ROUNDS, PORT_COUNT, Ports, next};
 
 /// One slot of iSLIP for one level of unicast: sets `out` to the match of `rounds` rounds and moves
 /// the pointers, for `n` and `rounds` from 1 to 64. `asks` has for each input the outputs that it asks, and
@@ -65,7 +64,7 @@ pub fn islip_slot(
 }
 
 // How many outputs are matched.
-fn matched_outputs(fed: &[Option<u32>; PORTS]) -> u32
+fn matched_outputs(fed: &[Option<u32>; PORT_COUNT]) -> u32
     ensures { result ≡ matched_count fed.now }
 {
     fed.iter().filter(|input| input.is_some()).count() as u32
@@ -74,9 +73,9 @@ fn matched_outputs(fed: &[Option<u32>; PORTS]) -> u32
 // Moves the pointers of each pair of the first round one beyond each other.
 fn move_pointers(
     n: u32,
-    first: &[Option<u32>; PORTS],
-    grant: &mut [u32; PORTS],
-    accept: &mut [u32; PORTS],
+    first: &[Option<u32>; PORT_COUNT],
+    grant: &mut [u32; PORT_COUNT],
+    accept: &mut [u32; PORT_COUNT],
 )
     requires size { n ≤ MAX_PORTS }
     requires within { (i j : ℕ) → Feeds first.now i j → (i < n) × (j < n) }

@@ -3,7 +3,9 @@
 //! `form CELL -> INPUT LEVEL KIND LAST USED NUMBER`, or `-> none`.
 use crate::fields::{byte, bytes, kind};
 use crate::texts::kind_letter;
-use cell_cutter::{CELL_BYTES, Cell, MAX_CAPTURED_BYTES, MAX_FORWARDED_BYTES, Packet, cells_of, cut};
+use cell_cutter::{
+    CELL_BYTES, Cell, MAX_CAPTURED_BYTES, MAX_FORWARDED_BYTES, Packet, cells_of, cut,
+};
 use rotating_pick::{LEVELS, MAX_PORTS};
 use std::alloc::{AllocError, Global};
 use vector_rows::{NoAnswer, Row, number, words};

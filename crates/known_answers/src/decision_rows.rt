@@ -3,15 +3,15 @@
 //! `shared_after` state what it gives.
 ghost use Rattle.std.specs.Prelude.{◌<◌, ◌≤◌};
 
-use crate::fields::{PORTS, numbers};
+use crate::fields::numbers;
 use crate::slot_fields::{
-    LEVEL_COUNT, Stated, accepts_text, grants_text, level_tables, match_text, pointers,
-    posted_rows, rounds_text, shared_text,
+    Stated, accepts_text, grants_text, level_tables, match_text, pointers, posted_rows,
+    rounds_text, shared_text,
 };
 use eslip_rounds::decide;
 use islip_rounds::RoundsUsed;
 use pointer_state::Pointers;
-use rotating_pick::{MAX_PORTS, MAX_ROUNDS};
+use rotating_pick::{LEVEL_COUNT, MAX_PORTS, MAX_ROUNDS, PORT_COUNT};
 use slot_match::{Match, are_within};
 use std::alloc::{AllocError, Global};
 use vector_rows::{NoAnswer, Row, number, set_up_row};
@@ -45,8 +45,8 @@ impl Block {
             slot: 0,
             rows: Vec::new(alloc),
             stated: Stated {
-                grant: [[0; PORTS]; LEVEL_COUNT],
-                accept: [[0; PORTS]; LEVEL_COUNT],
+                grant: [[0; PORT_COUNT]; LEVEL_COUNT],
+                accept: [[0; PORT_COUNT]; LEVEL_COUNT],
                 shared: [0; LEVEL_COUNT],
             },
             decided: None,

@@ -3,12 +3,9 @@ ghost use Rattle.std.specs.Prelude.{◌≡◌, ℕ, ◌<◌, ◌≤◌, length, 
 ghost use Rattle.rotating_pick.specs.PortSets.{IsAmong};
 
 use pcap_records::Link;
-use rotating_pick::{Kind, MAX_PORTS, Ports, is_among};
+use rotating_pick::{Kind, MAX_PORTS, PORT_COUNT, Ports, is_among};
 use std::alloc::{AllocError, Global};
 use vector_rows::{NoAnswer, number, port_set};
-
-/// The length of a table with an entry for each port.
-pub const PORTS: usize = 64;
 
 /// A decimal number that can be long.
 pub fn long_number(text: &str) -> Result<u64, NoAnswer> {
@@ -62,7 +59,7 @@ fn are_among(n: u32, sets: &[Ports]) -> bool
 }
 
 /// A table of ports, one for each of the `n` ports, parted by commas.
-pub fn port_table(alloc: Global, n: u32, text: &str) -> Result<[u32; PORTS], NoAnswer>
+pub fn port_table(alloc: Global, n: u32, text: &str) -> Result<[u32; PORT_COUNT], NoAnswer>
     requires some { 0 < n }
     requires size { n ≤ MAX_PORTS }
     ensures { IfOk result (λ table. (k : ℕ) → slice_index table k < n) }
@@ -74,13 +71,13 @@ pub fn port_table(alloc: Global, n: u32, text: &str) -> Result<[u32; PORTS], NoA
     table_of(n, list.as_slice())
 }
 
-fn table_of(n: u32, list: &[u32]) -> Result<[u32; PORTS], NoAnswer>
+fn table_of(n: u32, list: &[u32]) -> Result<[u32; PORT_COUNT], NoAnswer>
     requires some { 0 < n }
     requires size { n ≤ MAX_PORTS }
     ensures { IfOk result (λ table. (k : ℕ) → slice_index table k < n) }
 {
-    let mut table = [0; PORTS];
-    for k in 0..PORTS {
+    let mut table = [0; PORT_COUNT];
+    for k in 0..PORT_COUNT {
         let port = list.get(k).copied().unwrap_or(0);
         if port >= n {
             return Err(NoAnswer);

@@ -1,8 +1,9 @@
 //! Rows of the kernels of the rounds: `transpose N ROWS -> COLUMNS` and
 //! `picks N FROM SETS FREE -> CHOSEN`.
-use crate::fields::{PORTS, port_sets, port_table};
+use crate::fields::{port_sets, port_table};
 use crate::texts::{choices_text, port_sets_text};
 use islip_rounds::{picks, transpose};
+use rotating_pick::PORT_COUNT;
 use std::alloc::{AllocError, Global};
 use vector_rows::{NoAnswer, Row, port_count, port_set, words};
 
@@ -26,7 +27,7 @@ fn answer(alloc: Global, question: &str) -> Result<String, NoAnswer> {
 fn columns(alloc: Global, n: &str, rows: &str) -> Result<String, NoAnswer> {
     let n = port_count(n)?;
     let rows = port_sets(alloc, n, rows)?;
-    let mut columns = [0; PORTS];
+    let mut columns = [0; PORT_COUNT];
     transpose(n, rows.as_slice(), &mut columns);
     Ok(port_sets_text(alloc, &columns[..n as usize])?)
 }
@@ -36,7 +37,7 @@ fn chosen(alloc: Global, n: &str, from: &str, sets: &str, free: &str) -> Result<
     let from = port_table(alloc, n, from)?;
     let sets = port_sets(alloc, n, sets)?;
     let free = port_set(free)?;
-    let mut chosen = [None; PORTS];
+    let mut chosen = [None; PORT_COUNT];
     picks(n, &from, sets.as_slice(), free, &mut chosen);
     Ok(choices_text(alloc, &chosen[..n as usize])?)
 }

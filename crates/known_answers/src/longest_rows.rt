@@ -4,11 +4,10 @@
 //!
 //! A case states how many slots the longest service takes. A slot states that no queue has waited longer
 //! than since slot 0, which input 0 has for output 0, and that it is served in the last slot alone.
-use crate::fields::PORTS;
-use crate::slot_fields::{LEVEL_COUNT, Stated, pointers};
+use crate::slot_fields::{Stated, pointers};
 use eslip_rounds::decide;
 use pointer_state::Pointers;
-use rotating_pick::{Kind, MAX_PORTS, MAX_ROUNDS, Ports};
+use rotating_pick::{Kind, LEVEL_COUNT, MAX_PORTS, MAX_ROUNDS, PORT_COUNT, Ports};
 use service_bound::{MAX_NOTED, WaitMeter, longest_service};
 use slot_match::{Fed, Match, Row, are_within};
 use std::alloc::{AllocError, Global};
@@ -201,8 +200,8 @@ impl Course {
 // `GRANT ACCEPT..`: all pointers but these are at port 0.
 fn stated_pointers(alloc: Global, n: u32, value: &str) -> Result<Stated, NoAnswer> {
     let mut stated = Stated {
-        grant: [[0; PORTS]; LEVEL_COUNT],
-        accept: [[0; PORTS]; LEVEL_COUNT],
+        grant: [[0; PORT_COUNT]; LEVEL_COUNT],
+        accept: [[0; PORT_COUNT]; LEVEL_COUNT],
         shared: [0; LEVEL_COUNT],
     };
     let numbers: Vec<&str> = value.split(' ').collect(alloc)?;

@@ -2,25 +2,22 @@
 ghost use Rattle.std.specs.Prelude.{◌≡◌, ◌<◌, ◌≤◌, IfOk};
 ghost use Rattle.slot_match.specs.Rows.{AreWithin};
 
-use crate::fields::{PORTS, byte, port_table};
+use crate::fields::{byte, port_table};
 use crate::texts::{add_item, kind_letter, numbers_text};
 use islip_rounds::RoundsUsed;
 use pointer_state::Pointers;
-use rotating_pick::{Kind, LEVELS, MAX_PORTS, with};
+use rotating_pick::{Kind, LEVEL_COUNT, LEVELS, MAX_PORTS, PORT_COUNT, with};
 use slot_match::{Fed, Match, Row, are_within};
 use std::alloc::{AllocError, Global};
 use vector_rows::{NoAnswer, number, port_set};
-
-/// The number of levels, as a length.
-pub const LEVEL_COUNT: usize = 4;
 
 /// Pointers of four levels, as a row states them.
 #[derive(Clone, Copy)]
 pub struct Stated {
     /// For each level the grant pointers of the outputs.
-    pub grant: [[u32; PORTS]; LEVEL_COUNT],
+    pub grant: [[u32; PORT_COUNT]; LEVEL_COUNT],
     /// For each level the accept pointers of the inputs.
-    pub accept: [[u32; PORTS]; LEVEL_COUNT],
+    pub accept: [[u32; PORT_COUNT]; LEVEL_COUNT],
     /// The shared pointer of each level.
     pub shared: [u32; LEVEL_COUNT],
 }
@@ -71,7 +68,7 @@ pub fn level_tables(
     alloc: Global,
     n: u32,
     text: &str,
-) -> Result<[[u32; PORTS]; LEVEL_COUNT], NoAnswer>
+) -> Result<[[u32; PORT_COUNT]; LEVEL_COUNT], NoAnswer>
     requires some { 0 < n }
     requires size { n ≤ MAX_PORTS }
 {

@@ -3,6 +3,7 @@ use Rattle.std.proofs.Common.{◌≡◌, ◌≢◌, ℕ, ◌<◌, ◌∙◌, Lis
 use Rattle.std.proofs.lemmas.Bool.{cases_eq, cases_lt}
 use Rattle.std.proofs.lemmas.List.{length-replicate, get_or-replicate, get_or_past, ext_get_or}
 use Rattle.rotating_pick.specs.declared.limits.TheConstants.{LEVELS, MAX_PORTS}
+use Rattle.rotating_pick.proofs.Tables.{get_or-same}
 use Rattle.pointer_state.specs.Places.{place_of, with_place, IsTable}
 
 -- a row of the table after one place was set
@@ -43,21 +44,14 @@ module _ (table : List (List ℕ)) (whole : IsTable table) (level port place : �
         | inr apart ↦ ap (λ row. slice_index row x) (row-with_other table level port place other apart)
       ]
 
--- zeros, also past their end
-zero-replicate : (n k : ℕ) → slice_index (replicate n 0) k ≡ 0
-zero-replicate n k = elim (cases_lt k n) [
-  | inl below ↦ get_or-replicate n k 0 0 below
-  | inr above ↦ get_or_past (replicate n 0) k 0 (let long : length (replicate {A = ℕ} n 0) ≡ n = length-replicate n 0 in omega arith)
-]
-
 pub shared-at_first : (level : ℕ) → slice_index (replicate LEVELS 0) level ≡ 0
-shared-at_first level = zero-replicate LEVELS level
+shared-at_first level = get_or-same 0 LEVELS level
 
 pub place_of-at_first : (level port : ℕ) → place_of (replicate LEVELS (replicate MAX_PORTS 0)) level port ≡ 0
 place_of-at_first level port =
     let table : List (List ℕ) = replicate LEVELS (replicate MAX_PORTS 0) in
     elim (cases_lt level LEVELS) [
-      | inl below ↦ ap (λ row. slice_index row port) (get_or-replicate LEVELS level (replicate {A = ℕ} MAX_PORTS 0) [] below) ∙ zero-replicate MAX_PORTS port
+      | inl below ↦ ap (λ row. slice_index row port) (get_or-replicate LEVELS level (replicate {A = ℕ} MAX_PORTS 0) [] below) ∙ get_or-same 0 MAX_PORTS port
       | inr above ↦ ap (λ row. slice_index row port) (get_or_past table level [] (let long : length table ≡ LEVELS = length-replicate LEVELS (replicate {A = ℕ} MAX_PORTS 0) in omega arith))
     ]
 

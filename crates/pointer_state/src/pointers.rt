@@ -1,13 +1,8 @@
 ghost use Rattle.std.specs.Prelude.{◌≡◌, ℕ, ◌+◌, ◌%◌, ◌<◌, ◌≤◌, replicate};
 ghost use Rattle.pointer_state.specs.Places.{grant_of, accept_of, shared_of, with_place, AreAtPorts, places_at_first, places_met, places_passed, places_held};
 
-use rotating_pick::{LEVELS, MAX_PORTS, next};
+use rotating_pick::{LEVEL_COUNT, LEVELS, MAX_PORTS, PORT_COUNT, next};
 use std::marker::Model;
-
-// The ports and levels as lengths of arrays.
-const PORTS: usize = MAX_PORTS as usize;
-
-const LEVEL_COUNT: usize = LEVELS as usize;
 
 /// Where each output grants from, each input accepts from, and each level's multicast is picked from.
 ///
@@ -16,8 +11,8 @@ const LEVEL_COUNT: usize = LEVELS as usize;
 #[derive(Clone, Copy, Debug, PartialEq, Eq)]
 pub struct Pointers {
     ports: u32,
-    grant: [[u32; PORTS]; LEVEL_COUNT],
-    accept: [[u32; PORTS]; LEVEL_COUNT],
+    grant: [[u32; PORT_COUNT]; LEVEL_COUNT],
+    accept: [[u32; PORT_COUNT]; LEVEL_COUNT],
     shared: [u32; LEVEL_COUNT],
 }
 
@@ -34,14 +29,14 @@ impl Model for Pointers {
 }
 
 // A table in which every place is port 0.
-fn table_at_first() -> [[u32; PORTS]; LEVEL_COUNT]
+fn table_at_first() -> [[u32; PORT_COUNT]; LEVEL_COUNT]
     ensures { result ≡ replicate LEVELS (replicate MAX_PORTS 0) }
 {
-    [[0; PORTS]; LEVEL_COUNT]
+    [[0; PORT_COUNT]; LEVEL_COUNT]
 }
 
 // Sets the place of the level and port.
-fn point(table: &mut [[u32; PORTS]; LEVEL_COUNT], level: u8, port: u32, place: u32)
+fn point(table: &mut [[u32; PORT_COUNT]; LEVEL_COUNT], level: u8, port: u32, place: u32)
     requires level_in { level < LEVELS }
     requires port_in { port < MAX_PORTS }
     ensures { table.new ≡ with_place table.old level port place }

@@ -6,4 +6,4 @@
 
 mod square;
 
-pub use square::{PORTS, turn_square};
+pub use square::turn_square;

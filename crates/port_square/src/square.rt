@@ -4,17 +4,14 @@ ghost use Rattle.rotating_pick.specs.PortSets.{Has};
 ghost use Rattle.rotating_pick.specs.declared.limits.TheConstants.{MAX_PORTS};
 ghost use Rattle.port_square.specs.Exchange.{bit_of, take_bit};
 
-use rotating_pick::{MAX_PORTS, Ports};
-
-/// The rows of a square: as many as a switch can have ports.
-pub const PORTS: usize = MAX_PORTS as usize;
+use rotating_pick::{MAX_PORTS, PORT_COUNT, Ports};
 
 // The number of bits of a port's number.
 const PORT_BITS: u32 = 6;
 
 /// Turns the rows of a square into its columns: port i is in set j after it exactly where port j was in
 /// set i before.
-pub fn turn_square(rows: &mut [Ports; PORTS])
+pub fn turn_square(rows: &mut [Ports; PORT_COUNT])
     ensures { (i j : ℕ) → i < MAX_PORTS → j < MAX_PORTS → Has (slice_index rows.new j) i ↔ Has (slice_index rows.old i) j }
 {
     for step in 0..PORT_BITS {
@@ -23,13 +20,13 @@ pub fn turn_square(rows: &mut [Ports; PORTS])
 }
 
 // Exchanges bit `k` of a row's number with that of a column's.
-fn exchange(rows: &mut [Ports; PORTS], k: u32)
+fn exchange(rows: &mut [Ports; PORT_COUNT], k: u32)
     requires { k < PORT_BITS }
     ensures { (r c : ℕ) → r < MAX_PORTS → c < MAX_PORTS → bit_of rows.new r c ≡ bit_of rows.old (take_bit k r c) (take_bit k c r) }
 {
     let width = 1 << k;
     let mask = without_bit(k);
-    for r in 0..PORTS {
+    for r in 0..PORT_COUNT {
         if r & width == 0 {
             let (high, low) = (rows[r], rows[r + width]);
             let moved = ((high >> width) ^ low) & mask;
@@ -56,7 +53,8 @@ fn without_bit(k: u32) -> Ports
 
 #[cfg(test)]
 mod tests {
-    use crate::{PORTS, turn_square};
+    use crate::turn_square;
+    use rotating_pick::PORT_COUNT;
 
     // Rows that are set, and the columns that they are then.
     #[derive(Clone, Copy)]
@@ -78,8 +76,8 @@ mod tests {
             },
         ];
         for case in cases {
-            let mut square = [0; PORTS];
-            let mut turned = [0; PORTS];
+            let mut square = [0; PORT_COUNT];
+            let mut turned = [0; PORT_COUNT];
             for (i, row) in case.rows {
                 square[i] = row;
             }

@@ -4,3 +4,4 @@ pub mod First
 pub mod Members
 pub mod Picking
 pub mod Sets
+pub mod Tables

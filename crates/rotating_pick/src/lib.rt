@@ -11,7 +11,9 @@ mod port_set;
 mod rotation;
 
 pub use kinds::Kind;
-pub use limits::{LEVELS, MAX_FILE_BYTES, MAX_PORTS, MAX_ROUNDS, limits_are};
+pub use limits::{
+    LEVEL_COUNT, LEVELS, MAX_FILE_BYTES, MAX_PORTS, MAX_ROUNDS, PORT_COUNT, limits_are,
+};
 pub use memory::OutOfMemory;
 pub use port_set::{
     Ports, all, contains, difference, intersection, is_among, is_empty, is_subset, union, with,

@@ -9,6 +9,12 @@ pub const MAX_ROUNDS: u32 = 64;
 /// The number of priority levels. Level 0 is the best.
 pub const LEVELS: u32 = 4;
 
+/// The length of a table with a place for each port: 64.
+pub const PORT_COUNT: usize = MAX_PORTS as usize;
+
+/// The length of a table with a place for each level: 4.
+pub const LEVEL_COUNT: usize = LEVELS as usize;
+
 /// The most bytes of one input file, a table or a capture: 16 MiB.
 pub const MAX_FILE_BYTES: usize = 16_777_216;
 

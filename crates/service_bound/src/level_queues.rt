@@ -4,11 +4,8 @@ ghost use Rattle.rotating_pick.specs.PortSets.{Has};
 ghost use Rattle.service_bound.specs.Meters.{queues_at_first, longest_of, longest_at, HaveBegun, NotesSlot};
 
 use crate::limits::MAX_NOTED;
-use rotating_pick::{MAX_PORTS, Ports, difference, lowest, without};
+use rotating_pick::{PORT_COUNT, Ports, difference, lowest, without};
 use std::marker::Model;
-
-// The ports as a length.
-const PORTS: usize = MAX_PORTS as usize;
 
 /// The waits of the queues of one input at one level, one queue for each output that a switch can have.
 /// How many slots were noted is the caller's to know.
@@ -17,7 +14,7 @@ pub(crate) struct LevelQueues {
     // The outputs whose queue waits.
     waiting: Ports,
     // For each output the number of the slot in which its queue began to wait.
-    began: [u32; PORTS],
+    began: [u32; PORT_COUNT],
     // The longest wait that has ended.
     ended: u32,
 }
@@ -37,7 +34,7 @@ impl LevelQueues {
     {
         LevelQueues {
             waiting: 0,
-            began: [0; PORTS],
+            began: [0; PORT_COUNT],
             ended: 0,
         }
     }

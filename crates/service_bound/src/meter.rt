@@ -8,13 +8,10 @@ ghost use Rattle.service_bound.specs.Meters.{queues_at_first, place_of, queues_a
 
 use crate::level_queues::LevelQueues;
 use crate::limits::MAX_NOTED;
-use rotating_pick::{Kind, LEVELS, MAX_PORTS, OutOfMemory, Ports, difference};
+use rotating_pick::{Kind, LEVEL_COUNT, LEVELS, MAX_PORTS, OutOfMemory, Ports, difference};
 use slot_match::{Match, Row, Served};
 use std::alloc::{AllocError, Global};
 use std::marker::Model;
-
-// The levels as a length.
-const LEVEL_COUNT: usize = LEVELS as usize;
 
 /// A meter of waits. It is told of slot after slot and keeps for each level the longest wait: for how
 /// many slots, one after the other, a unicast queue of the level was posted and not served.

@@ -8,6 +8,7 @@ use Rattle.rotating_pick.specs.PortSets.{Has}
 use Rattle.rotating_pick.specs.declared.kinds.Kind.{Kind}
 use Rattle.rotating_pick.specs.declared.kinds.Kind.TheVariants.{Multi}
 use Rattle.rotating_pick.specs.declared.limits.TheConstants.{LEVELS, MAX_PORTS}
+use Rattle.rotating_pick.proofs.Tables.{no_members}
 use Rattle.slot_match.specs.declared.matching.Fed.{Fed}
 use Rattle.slot_match.specs.Matches.{unmatched, fed_of, Serves, IsFreeInput, IsServed, IsMatch, MayAdd}
 use Rattle.slot_match.specs.Fields.{AreSets, AreKept}
@@ -38,14 +39,6 @@ IsMatch-unmatched n =
       once = λ i j level kind k other again s r. absurd (nobody_at_first n i j level kind s);
     }
 
-no_zero_member : (n i j : ℕ) → Has (slice_index (replicate n 0) i) j → ⊥
-no_zero_member n i j =
-    let zero_there : slice_index (replicate n 0) i ≡ 0 = elim (cases_lt i n) [
-      | inl below ↦ get_or-replicate n i 0 0 below
-      | inr above ↦ get_or_past (replicate n 0) i 0 (let long : length (replicate {A = ℕ} n 0) ≡ n = length-replicate n 0 in omega arith)
-    ] in
-    λ has. zero-has (slice_index (replicate n 0) i) j zero_there has
-
 pub AreKept-new : (n : ℕ) (fed : List (Option Fed)) (fans : List ℕ) (inputs outputs : ℕ) → 0 < n → n ≤ MAX_PORTS → fed ≡ unmatched MAX_PORTS → fans ≡ replicate MAX_PORTS 0 → ((x : ℕ) → Has inputs x ↔ (x < n)) → ((x : ℕ) → Has outputs x ↔ (x < n)) → AreKept n fed 0 fans inputs outputs (replicate LEVELS 0)
 AreKept-new n fed fans inputs outputs some size e d all_inputs all_outputs =
     let nothing : Option Fed = None in
@@ -55,10 +48,10 @@ AreKept-new n fed fans inputs outputs some size e d all_inputs all_outputs =
       size = size;
       whole = IsMatch-unmatched n;
       counts = count_zero n;
-      feeds = λ i j. (λ has. absurd (no_zero_member MAX_PORTS i j has), λ s. absurd (nobody_at_first n i j s.0 s.1 s.2));
+      feeds = λ i j. (λ has. absurd (no_members MAX_PORTS i j has), λ s. absurd (nobody_at_first n i j s.0 s.1 s.2));
       inputs_left = λ i. (λ has. ((all_inputs i).0 has, nobody_at_first n i), λ p. (all_inputs i).1 p.0);
       outputs_left = λ j. (λ has. ((all_outputs j).0 has, fed_of-unmatched n j), λ p. (all_outputs j).1 p.0);
-      go_on = λ level i. (λ has. absurd (no_zero_member LEVELS level i has), λ on. absurd (nobody_at_first n i on.some.0 level Multi on.some.1));
+      go_on = λ level i. (λ has. absurd (no_members LEVELS level i has), λ on. absurd (nobody_at_first n i on.some.0 level Multi on.some.1));
     } in
     record {
       long = ap length e ∙ length-replicate MAX_PORTS nothing;

@@ -9,16 +9,13 @@ ghost use Rattle.slot_match.specs.Keeping.{Gives};
 ghost use Rattle.slot_match.specs.Parts.{served_of};
 ghost use Rattle.slot_match.specs.Steps.{IsReady, Wants};
 
-use crate::rows::{LEVEL_COUNT, Row};
+use crate::rows::Row;
 use rotating_pick::{
-    Kind, LEVELS, MAX_PORTS, Ports, all, contains, difference, intersection, is_empty, is_subset,
-    lowest, union, with, without,
+    Kind, LEVEL_COUNT, LEVELS, MAX_PORTS, PORT_COUNT, Ports, all, contains, difference,
+    intersection, is_empty, is_subset, lowest, union, with, without,
 };
 use std::marker::Model;
 use std::mem::size_of;
-
-// The ports as the length of an array.
-const PORTS: usize = MAX_PORTS as usize;
 
 // A journal keeps a match for each slot, so a match must stay small.
 const _: () = prove!(size_of::<Match>() <= 1536);
@@ -62,9 +59,9 @@ pub struct Match {
     // How many outputs are matched.
     count: u32,
     // For each output what feeds it.
-    fed: [Option<Fed>; PORTS],
+    fed: [Option<Fed>; PORT_COUNT],
     // For each input the outputs that it feeds.
-    outputs: [Ports; PORTS],
+    outputs: [Ports; PORT_COUNT],
     free_inputs: Ports,
     free_outputs: Ports,
     // For each level the inputs that are matched as multicast of it.
@@ -260,7 +257,7 @@ fn is_single(ports: Ports) -> bool
 }
 
 // Feeds the outputs by one input, and says how many they are.
-fn feed(fed: &mut [Option<Fed>; PORTS], outputs: Ports, by: Fed) -> u32
+fn feed(fed: &mut [Option<Fed>; PORT_COUNT], outputs: Ports, by: Fed) -> u32
     requires { (j : ℕ) → Has outputs j → fed_of fed.old j ≡ None }
     ensures long { length fed.new ≡ MAX_PORTS }
     ensures fed { (j : ℕ) → Has outputs j → fed_of fed.new j ≡ Some by }
@@ -278,7 +275,7 @@ fn feed(fed: &mut [Option<Fed>; PORTS], outputs: Ports, by: Fed) -> u32
 }
 
 // Adds to the outputs that the input feeds.
-fn join(fans: &mut [Ports; PORTS], input: u32, outputs: Ports)
+fn join(fans: &mut [Ports; PORT_COUNT], input: u32, outputs: Ports)
     requires { input < MAX_PORTS }
     ensures { (i j : ℕ) → Has (slice_index fans.new i) j ↔ (Has (slice_index fans.old i) j ⊎ ((i ≡ input) × Has outputs j)) }
 {
@@ -297,17 +294,17 @@ fn go_on(multicasting: &mut [Ports; LEVEL_COUNT], input: u32, level: u8, kind: K
 }
 
 // A table in which no output is fed.
-fn no_feeds() -> [Option<Fed>; PORTS]
+fn no_feeds() -> [Option<Fed>; PORT_COUNT]
     ensures { result ≡ unmatched MAX_PORTS }
 {
-    [None; PORTS]
+    [None; PORT_COUNT]
 }
 
 // A table in which no input feeds an output.
-fn no_outputs() -> [Ports; PORTS]
+fn no_outputs() -> [Ports; PORT_COUNT]
     ensures { result ≡ replicate MAX_PORTS 0 }
 {
-    [0; PORTS]
+    [0; PORT_COUNT]
 }
 
 #[cfg(test)]

@@ -6,11 +6,8 @@ ghost use Rattle.slot_match.specs.Keeping.{KeepsRest, KeepsLevel, Gives};
 
 use crate::matching::Served;
 use rotating_pick::{
-    Kind, LEVELS, MAX_PORTS, Ports, difference, is_among, is_empty, is_subset, union,
+    Kind, LEVEL_COUNT, LEVELS, MAX_PORTS, Ports, difference, is_among, is_empty, is_subset, union,
 };
-
-/// The levels as the length of an array.
-pub(crate) const LEVEL_COUNT: usize = LEVELS as usize;
 
 /// What one input posts in a slot. Levels are 0 to 3.
 #[derive(Clone, Copy, Debug, PartialEq, Eq)]

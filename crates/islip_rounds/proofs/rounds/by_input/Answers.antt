@@ -1,6 +1,6 @@
 use Rattle.std.proofs.Common.{ℕ, ◌<◌, length, arith, length-set}
 use Rattle.std.proofs.lemmas.List.{length-replicate}
-use Rattle.islip_rounds.proofs.Tables.{no_members}
+use Rattle.rotating_pick.proofs.Tables.{no_members}
 use Rattle.islip_rounds.proofs.Collecting.{AreOffers-put, AreOffers-skip}
 use Rattle.islip_rounds.proofs.rounds.by_input.Goals as goal
 use Rattle.islip_rounds.proofs.rounds.by_input.Goals.{in-Some, in_default}

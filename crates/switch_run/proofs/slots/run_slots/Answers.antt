@@ -1,7 +1,7 @@
 use Rattle.std.proofs.Common.{◌∙◌, ◌++◌, ℕ, [], length, drop, refl, arith, length-append}
 use Rattle.std.specs.Prelude.{IsTrue}
 use Rattle.std.proofs.lemmas.List.{length-take, length-drop}
-use Rattle.islip_rounds.proofs.Tables.{get_or-same}
+use Rattle.rotating_pick.proofs.Tables.{get_or-same}
 use Rattle.switch_run.specs.Cards.{traffic_of}
 use Rattle.switch_run.proofs.Stepping.{runs, stands_next, work_falls, still_loaded, still_ending}
 use Rattle.switch_run.proofs.slots.run_slots.Goals as goal
