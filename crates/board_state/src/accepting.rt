@@ -3,7 +3,6 @@ ghost use Rattle.slot_histories.specs.Legal.{IsGrantedCell, IsAccepted};
 
 use cell_cutter::Cell;
 use crossbar::Post;
-use rotating_pick::Kind;
 use slot_match::{Row, Served};
 
 /// Whether the post is accepted from the card, which posted the row `last` for the slot before and was
