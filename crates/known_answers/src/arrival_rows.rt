@@ -5,7 +5,8 @@ ghost use Rattle.line_pace.specs.Arrivals.{IsPace, CanCome};
 
 use crate::fields::long_number;
 use crate::texts::numbers_text;
-use line_pace::{MAX_CELLS, MAX_PACKETS, MAX_SLOT_MICROS, Pace, PaceFault, Stamp, arrivals};
+use cell_cutter::MAX_CAPTURED_CELLS;
+use line_pace::{MAX_CAPTURE_PACKETS, MAX_SLOT_MICROS, Pace, PaceFault, Stamp, arrivals};
 use std::alloc::{AllocError, Global};
 use vector_rows::{NoAnswer, Row, number, words};
 
@@ -50,11 +51,11 @@ fn pace(text: &str) -> Result<Pace, NoAnswer>
 
 // The packets, none of which the pace refuses.
 fn packets(alloc: Global, text: &str, pace: &Pace) -> Result<Vec<Stamp>, NoAnswer>
-    ensures few { IfOk result (λ packets. length packets.items ≤ MAX_PACKETS) }
+    ensures few { IfOk result (λ packets. length packets.items ≤ MAX_CAPTURE_PACKETS) }
     ensures can_come { IfOk result (λ packets. All (CanCome pace.now) packets.items) }
 {
     let packets = stamps(alloc, text)?;
-    if packets.len() > MAX_PACKETS || !all_can_come(packets.as_slice(), pace) {
+    if packets.len() > MAX_CAPTURE_PACKETS || !all_can_come(packets.as_slice(), pace) {
         return Err(NoAnswer);
     }
     Ok(packets)
@@ -94,5 +95,5 @@ fn can_come(packet: &Stamp, pace: &Pace) -> bool
         Pace::Line => 0,
         Pace::Micros { slot: _, base } => *base,
     };
-    0 < packet.cells && packet.cells <= MAX_CELLS && base <= packet.time
+    0 < packet.cells && packet.cells <= MAX_CAPTURED_CELLS && base <= packet.time
 }

@@ -9,7 +9,7 @@ use std::alloc::{AllocError, Global};
 pub const MAX_ARRIVAL_SLOTS: u64 = 131_072;
 
 /// The most packets of one capture.
-pub const MAX_PACKETS: usize = 1_048_576;
+pub const MAX_CAPTURE_PACKETS: usize = 1_048_576;
 
 /// The arrival slot of each packet of a port: the slot in which its last cell comes. Packets come in
 /// the order of the capture, one cell a slot; at a pace none starts before the slot of its time.
@@ -19,7 +19,7 @@ pub const MAX_PACKETS: usize = 1_048_576;
 pub fn arrivals(alloc: Global, packets: &[Stamp], pace: Pace) -> Result<Vec<u32>, PaceFault>
     requires pace { IsPace pace }
     requires packets { All (CanCome pace) packets.now }
-    requires few { length packets.now ≤ MAX_PACKETS }
+    requires few { length packets.now ≤ MAX_CAPTURE_PACKETS }
     ensures slots { IfOk result (λ slots. slots.items ≡ arrival_slots pace packets.now) }
     ensures within { OnOk result (slots_taken (arrival_slots pace packets.now) ≤ MAX_ARRIVAL_SLOTS) }
     ensures too_long { (n : ℕ) → IsErrOf result (PaceFault.TooLong n) ↔ ((n ≡ slots_taken (arrival_slots pace packets.now)) × (MAX_ARRIVAL_SLOTS < n)) }
@@ -52,7 +52,7 @@ fn listed(alloc: Global, packets: &[Stamp], pace: &Pace) -> Result<Vec<u32>, All
 fn slots_taken(packets: &[Stamp], pace: &Pace) -> u64
     requires pace { IsPace pace.now }
     requires packets { All (CanCome pace.now) packets.now }
-    requires few { length packets.now ≤ MAX_PACKETS }
+    requires few { length packets.now ≤ MAX_CAPTURE_PACKETS }
     ensures { result ≡ slots_taken (arrival_slots pace.now packets.now) }
 {
     let mut free = 0;

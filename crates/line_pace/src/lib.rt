@@ -3,10 +3,11 @@
 
 mod arriving;
 mod fault;
+pub mod laws;
 mod pace;
 #[cfg(test)]
 mod tests;
 
-pub use arriving::{MAX_ARRIVAL_SLOTS, MAX_PACKETS, arrivals};
+pub use arriving::{MAX_ARRIVAL_SLOTS, MAX_CAPTURE_PACKETS, arrivals};
 pub use fault::PaceFault;
-pub use pace::{MAX_CELLS, MAX_SLOT_MICROS, Pace, Stamp};
+pub use pace::{MAX_SLOT_MICROS, Pace, Stamp};

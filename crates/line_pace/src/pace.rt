@@ -1,13 +1,12 @@
 ghost use Rattle.std.specs.Prelude.{◌≡◌, ◌≤◌, ◌<◌, ◌^◌, ◌+◌, max};
 
-/// The most cells that a record of a capture can have: those of 262,144 bytes.
-pub const MAX_CELLS: u32 = 4_682;
+use cell_cutter::MAX_CAPTURED_CELLS;
 
 /// The longest slot, in microseconds.
 pub const MAX_SLOT_MICROS: u32 = 1_000_000;
 
 /// Nanoseconds of a microsecond.
-const NANOS_OF_MICRO: u64 = 1_000;
+const NANOS_PER_MICRO: u64 = 1_000;
 
 /// When a packet was captured and how long it occupies the line.
 #[derive(Clone, Copy, Debug, PartialEq, Eq, Hash)]
@@ -44,7 +43,7 @@ impl Pace {
     {
         match self {
             Pace::Line => 0,
-            Pace::Micros { slot, base } => (time - base) / (NANOS_OF_MICRO * u64::from(*slot)),
+            Pace::Micros { slot, base } => (time - base) / (NANOS_PER_MICRO * u64::from(*slot)),
         }
     }
 
@@ -54,7 +53,7 @@ impl Pace {
         requires packet { CanCome self.now packet.now }
         requires free { free < 2 ^ 62 }
         ensures value { result ≡ arrival self.now free packet.now }
-        ensures bound { result < max (2 ^ 60) free + MAX_CELLS }
+        ensures bound { result < max (2 ^ 60) free + MAX_CAPTURED_CELLS }
     {
         self.slot_of(packet.time).max(free) + u64::from(packet.cells) - 1
     }

@@ -1,7 +1,8 @@
 ghost use Rattle.std.specs.Prelude.{◌≤◌, IsTrue, length, All};
 ghost use Rattle.line_pace.specs.Arrivals.{IsPace, CanCome};
 
-use crate::{MAX_CELLS, MAX_PACKETS, MAX_SLOT_MICROS, Pace, PaceFault, Stamp, arrivals};
+use crate::{MAX_CAPTURE_PACKETS, MAX_SLOT_MICROS, Pace, PaceFault, Stamp, arrivals};
+use cell_cutter::MAX_CAPTURED_CELLS;
 use std::alloc::{AllocError, Global};
 use std::test::Fail;
 
@@ -26,16 +27,16 @@ fn stamps(alloc: Global, packets: &[(u64, u32)]) -> Result<Vec<Stamp>, AllocErro
 
 // Whether the packets can come at the pace.
 fn can_come(packets: &[Stamp], pace: Pace) -> bool
-    ensures { IsTrue result → IsPace pace × All (CanCome pace) packets.now × (length packets.now ≤ MAX_PACKETS) }
+    ensures { IsTrue result → IsPace pace × All (CanCome pace) packets.now × (length packets.now ≤ MAX_CAPTURE_PACKETS) }
 {
     let (paced, base) = match pace {
         Pace::Line => (true, 0),
         Pace::Micros { slot, base } => (0 < slot && slot <= MAX_SLOT_MICROS, base),
     };
     let come = packets.iter().all(|packet| 0 < packet.cells
-        && packet.cells <= MAX_CELLS
+        && packet.cells <= MAX_CAPTURED_CELLS
         && base <= packet.time);
-    paced && come && packets.len() <= MAX_PACKETS
+    paced && come && packets.len() <= MAX_CAPTURE_PACKETS
 }
 
 #[test]
@@ -180,7 +181,7 @@ fn names_how_many_slots(rt: HostRuntime) -> Result<(), Fail> {
     ];
     for (ends, answer) in rows {
         let mut packets = Vec::new(rt.alloc());
-        for cells in [MAX_CELLS; 27].iter().chain(ends) {
+        for cells in [MAX_CAPTURED_CELLS; 27].iter().chain(ends) {
             packets.push(Stamp {
                 time: 0,
                 cells: *cells,
