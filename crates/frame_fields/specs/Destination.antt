@@ -1,8 +1,26 @@
 -- The IPv4 destination address of a packet.
-use Rattle.std.specs.Prelude.{ℕ, ◌+◌, ◌/◌, ◌==◌, ◌&&◌, nat_le, if◌then◌else◌, List, [], ◌∷◌, length, slice_index, Option, None, Some, option_and_then}
+use Rattle.std.specs.Prelude.{◌≡◌, ◌⊎◌, ℕ, ◌+◌, ◌≤◌, ◌/◌, ◌==◌, ◌&&◌, nat_le, if◌then◌else◌, List, [], ◌∷◌, length, slice_index, Option, None, Some, option_and_then}
 use Rattle.std.specs.Int.{w16, w32, from_be_bytes}
 use Rattle.pcap_records.specs.declared.link.Link.{Link}
 use Rattle.pcap_records.specs.declared.link.Link.TheVariants.{Ethernet, RawIp}
+
+-- the type field at this place of an Ethernet frame has this number
+pub record HasType (frame : List ℕ) (place number : ℕ) : Type 0 where
+  pub within : place + 2 ≤ length frame
+  pub number_is : from_be_bytes w16 (slice_index frame place ∷ slice_index frame (place + 1) ∷ []) ≡ number
+
+-- where a frame's IPv4 packet begins: in an Ethernet frame behind the type field at byte 12, or behind that at byte 16 where a VLAN tag comes first; a raw IP packet begins at its front
+abbrev pub BeginsAt : Link → List ℕ → ℕ → Type 0
+BeginsAt Ethernet frame offset = ((offset ≡ 14) × HasType frame 12 0x0800) ⊎ ((offset ≡ 18) × HasType frame 12 0x8100 × HasType frame 16 0x0800)
+BeginsAt RawIp frame offset = offset ≡ 0
+
+-- A frame has an IPv4 packet with this destination address: its header of 20 bytes is there, its version is 4, and the address is the four bytes from byte 16 of the header on, the highest first.
+pub record HasDestination (link : Link) (frame : List ℕ) (address : ℕ) : Type 0 where
+  pub offset : ℕ
+  pub begins : BeginsAt link frame offset
+  pub header : offset + 20 ≤ length frame
+  pub version : slice_index frame offset / 16 ≡ 4
+  pub address_is : from_be_bytes w32 (slice_index frame (offset + 16) ∷ slice_index frame (offset + 17) ∷ slice_index frame (offset + 18) ∷ slice_index frame (offset + 19) ∷ []) ≡ address
 
 -- the steps of a `do` block: it gives nothing where one of them does
 infixl 10 ◌>>=◌

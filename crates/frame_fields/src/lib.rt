@@ -2,5 +2,6 @@
 #![tactic(auto)]
 
 mod address;
+pub mod laws;
 
 pub use address::destination;
