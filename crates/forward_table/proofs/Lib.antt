@@ -3,3 +3,5 @@ pub mod Indexing
 pub mod Ports
 pub mod Serving
 pub mod Splitting
+pub mod Fans
+pub mod FirstFaults

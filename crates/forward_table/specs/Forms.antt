@@ -1,5 +1,5 @@
 -- The form of a route line: `target blanks ports [blanks level]`.
-use Rattle.std.specs.Prelude.{ℕ, Bool, false, ◌+◌, ◌-◌, ◌*◌, ◌^◌, ◌==◌, ◌&&◌, nat_le, nat_lt, if◌then◌else◌, List, [], ◌∷◌, Option, None, Some, Result, Ok, Err, option_and_then, option_map, fold, bit_or}
+use Rattle.std.specs.Prelude.{ℕ, Bool, false, ◌+◌, ◌-◌, ◌*◌, ◌^◌, ◌==◌, ◌&&◌, nat_le, nat_lt, if◌then◌else◌, List, [], ◌∷◌, Option, None, Some, Result, Ok, Err, option_and_then, option_map, find, bit_or}
 use Rattle.std.specs.Int.{w32, from_be_bytes}
 use Rattle.forward_table.specs.declared.route_lines.Target.{Target}
 use Rattle.forward_table.specs.declared.route_lines.Target.TheVariants.{Prefix, Fallback}
@@ -78,14 +78,19 @@ numbers_of (text ∷ more) = do
   ns ← numbers_of more
   Some (n ∷ ns)
 
--- a fan-out with one port more: the set, or the first port that a switch of n ports does not have
-abbrev pub with_port : ℕ → Result ℕ ℕ → ℕ → Result ℕ ℕ
-with_port n (Ok set) port = if nat_lt port n then Ok (bit_or set (2 ^ port)) else Err port
-with_port n (Err beyond) port = Err beyond
+-- the set of these ports
+abbrev pub set_of : List ℕ → ℕ
+set_of [] = 0
+set_of (port ∷ more) = bit_or (2 ^ port) (set_of more)
 
--- the fan-out of these ports
+-- the set, or the port that is not one of the switch's
+abbrev pub unless_beyond : Option ℕ → ℕ → Result ℕ ℕ
+unless_beyond (Some beyond) set = Err beyond
+unless_beyond None set = Ok set
+
+-- the fan-out of these ports: their set, or the first of them that a switch of n ports does not have
 abbrev pub fan_of : ℕ → List ℕ → Result ℕ ℕ
-fan_of n ports = fold (with_port n) (Ok 0) ports
+fan_of n ports = unless_beyond (find (λ port. nat_le n port) ports) (set_of ports)
 
 -- ports = number *("," number)
 unfoldable pub ports_of : ℕ → List ℕ → Option (Result ℕ ℕ)

@@ -5,3 +5,5 @@ pub mod Forms
 pub mod Reading
 pub mod Routing
 pub mod Index
+pub mod Steps
+pub mod Texts

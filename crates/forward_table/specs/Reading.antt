@@ -1,5 +1,5 @@
 -- What a table's text means: its route lines, or its first fault.
-use Rattle.std.specs.Prelude.{ℕ, Bool, true, false, ◌+◌, nat_le, nat_lt, if◌then◌else◌, List, [], ◌∷◌, ◌++◌, Option, None, Some, Result, Ok, Err, option_map, find, count_by}
+use Rattle.std.specs.Prelude.{◌≡◌, ℕ, Bool, true, false, ◌+◌, ◌<◌, ◌≤◌, length, take, slice_index_or, nat_le, nat_lt, if◌then◌else◌, List, [], ◌∷◌, ◌++◌, Option, None, Some, Result, Ok, Err, option_map, find, count_by}
 use Rattle.std.specs.Option.{option_or}
 use Rattle.rotating_pick.specs.declared.limits.TheConstants.{LEVELS}
 use Rattle.forward_table.specs.declared.limits.TheConstants.{MAX_LINES}
@@ -82,12 +82,36 @@ first_fault n earlier number [] = None
 first_fault n earlier number (line ∷ more) =
     option_or (fault_of n earlier number line) (first_fault n (earlier ++ route_line_of n number line) (number + 1) more)
 
+-- the table, unless there is a fault
+abbrev pub unless_fault : Option TableFault → List RouteLine → Result (List RouteLine) TableFault
+unless_fault (Some fault) table = Err fault
+unless_fault None table = Ok table
+
 -- What a text means for a switch of n ports: its route lines in order, or its first fault. Too many
 -- route lines come before all others.
 unfoldable pub reading_of : ℕ → List ℕ → Result (List RouteLine) TableFault
 reading_of n text =
-    if nat_lt MAX_LINES (route_line_count text) then Err (TooManyLines (route_line_count text)) else of_fault (first_fault n [] 1 (lines text))
-  where
-    of_fault : Option TableFault → Result (List RouteLine) TableFault
-    of_fault (Some fault) = Err fault
-    of_fault None = Ok (route_lines_of n 1 (lines text))
+    if nat_lt MAX_LINES (route_line_count text) then Err (TooManyLines (route_line_count text)) else unless_fault (first_fault n [] 1 (lines text)) (route_lines_of n 1 (lines text))
+
+-- the fault of line k of these lines, counted from 0, where it has one: the lines before it are the first k
+abbrev pub fault_at : ℕ → List (List ℕ) → ℕ → Option TableFault
+fault_at n lines k = fault_of n (route_lines_of n 1 (take k lines)) (1 + k) (slice_index_or lines k [])
+
+-- a text has more route lines than a table may have
+pub record HasTooManyLines (text : List ℕ) (fault : TableFault) : Type 0 where
+  pub many : MAX_LINES < route_line_count text
+  pub fault_is : fault ≡ TooManyLines (route_line_count text)
+
+-- it has not too many, and this is the fault of its first line that has one
+pub record IsFirstFault (n : ℕ) (text : List ℕ) (fault : TableFault) : Type 0 where
+  pub few : route_line_count text ≤ MAX_LINES
+  pub line : ℕ
+  pub there : line < length (lines text)
+  pub fault_is : fault_at n (lines text) line ≡ Some fault
+  pub before : (k : ℕ) → k < line → fault_at n (lines text) k ≡ None
+
+-- it has not too many, none of its lines has a fault, and these are its route lines
+pub record IsTable (n : ℕ) (text : List ℕ) (table : List RouteLine) : Type 0 where
+  pub few : route_line_count text ≤ MAX_LINES
+  pub faultless : (k : ℕ) → k < length (lines text) → fault_at n (lines text) k ≡ None
+  pub lines_are : table ≡ route_lines_of n 1 (lines text)

@@ -46,6 +46,11 @@ pub enum TableFault {
 }
 
 impl fmt::Display for TableFault {
+    ghost use Rattle.std.specs.Prelude.{Some};
+    ghost use Rattle.forward_table.specs.Texts.{text_of};
+
+    ghost output = { λ fault. Some (text_of fault) };
+
     fn fmt<W: fmt::Write>(&self, f: &mut fmt::Formatter<W>) -> fmt::Result {
         match self {
             TableFault::BadLine { line } => write!(f, "table line {line}: bad line"),

@@ -3,7 +3,8 @@ ghost use Rattle.rotating_pick.specs.PortSets.{IsAmong};
 ghost use Rattle.forward_table.specs.Text.{slash, words, parts};
 ghost use Rattle.forward_table.specs.Targets.{HasLength};
 ghost use Rattle.forward_table.specs.Routes.{IsFan};
-ghost use Rattle.forward_table.specs.Forms.{digit_of, number_of, number_up_to, address_of, is_star, prefix_from, target_of, with_port, ports_of, form_of};
+ghost use Rattle.forward_table.specs.Forms.{digit_of, number_of, number_up_to, address_of, is_star, prefix_from, target_of, ports_of, form_of};
+ghost use Rattle.forward_table.specs.Steps.{with_port};
 
 use crate::route_lines::{ADDRESS_BITS, Target};
 use crate::text::{cut_at, first_word, last_part};

@@ -7,6 +7,7 @@
 
 mod faults;
 mod forms;
+pub mod laws;
 mod limits;
 mod lookup;
 mod reading;
@@ -14,7 +15,7 @@ mod route_lines;
 mod text;
 
 pub use faults::TableFault;
-pub use limits::{MAX_LINES, MAX_TEXT};
+pub use limits::MAX_LINES;
 pub use lookup::Table;
 pub use reading::read_table;
 pub use route_lines::Route;

@@ -5,11 +5,11 @@ ghost use Rattle.forward_table.specs.Reading.{route_line_count, is_route_line, c
 
 use crate::faults::TableFault;
 use crate::forms::{Form, form_of};
-use crate::limits::{MAX_LINES, MAX_TEXT};
+use crate::limits::MAX_LINES;
 use crate::lookup::Table;
 use crate::route_lines::{ADDRESS_BITS, Route, RouteLine, Target, without_host_bits};
 use crate::text::{first_line, route_words};
-use rotating_pick::{LEVELS, MAX_PORTS};
+use rotating_pick::{LEVELS, MAX_FILE_BYTES, MAX_PORTS};
 use std::alloc::Global;
 
 /// Reads a table's text for a switch of `n` ports, 1 to 64, of at most 16,777,216 bytes.
@@ -37,7 +37,7 @@ use std::alloc::Global;
 pub fn read_table(alloc: Global, text: &[u8], n: u32) -> Result<Table, TableFault>
     requires some { 0 < n }
     requires size { n ≤ MAX_PORTS }
-    requires length { length text.now ≤ MAX_TEXT }
+    requires length { length text.now ≤ MAX_FILE_BYTES }
     ensures table { IfOk result (λ table. reading_of n text.now ≡ Ok table) }
     ensures fault { IfErr result (λ fault. fault ≢ TableFault.OutOfMemory → reading_of n text.now ≡ Err fault) }
 
@@ -83,7 +83,7 @@ fn is_route_line(line: &[u8]) -> bool
 
 // How many route lines the text has.
 fn route_line_count(text: &[u8]) -> u32
-    requires { length text.now ≤ MAX_TEXT }
+    requires { length text.now ≤ MAX_FILE_BYTES }
     ensures { result ≡ route_line_count text.now }
 {
     let mut count = 0;
@@ -156,7 +156,8 @@ fn has_host_bits(target: &Target) -> bool
 
 #[cfg(test)]
 mod tests {
-    use crate::{MAX_TEXT, Route, Table, TableFault, read_table};
+    use crate::{Route, Table, TableFault, read_table};
+    use rotating_pick::MAX_FILE_BYTES;
     use std::process::Abort;
     use std::test::Fail;
 
@@ -169,7 +170,7 @@ mod tests {
 
     // The table of a text, for a switch of two ports.
     fn table_of(rt: &(impl Abort + AllocGlobal), text: &str) -> Result<Table, TableFault> {
-        assert!(rt; text.len() <= MAX_TEXT);
+        assert!(rt; text.len() <= MAX_FILE_BYTES);
         read_table(rt.alloc(), text.as_bytes(), 2)
     }
 

@@ -2,7 +2,8 @@
 //! with its numbers; a packet is `SECONDS.NANOSECONDS:ORIGINAL:START:LENGTH`.
 use crate::fields::bytes;
 use crate::texts::{add_item, link_number, unit_name};
-use pcap_records::{Capture, MAX_FILE_BYTES, PcapFault, Stored, read_capture};
+use pcap_records::{Capture, PcapFault, Stored, read_capture};
+use rotating_pick::MAX_FILE_BYTES;
 use std::alloc::{AllocError, Global};
 use vector_rows::{NoAnswer, Row};
 

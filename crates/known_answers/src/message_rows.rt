@@ -1,9 +1,8 @@
 //! Rows of output captures: `header UNIT LINK -> BYTES`, `record UNIT MESSAGE -> BYTES` and
 //! `capture UNIT LINK MESSAGES -> BYTES`.
 use crate::fields::{bytes, link, unit};
-use pcap_records::{
-    HEADER_BYTES, Link, MAX_CAPTURED_BYTES, RECORD_HEADER_BYTES, write_header, write_record,
-};
+use cell_cutter::MAX_CAPTURED_BYTES;
+use pcap_records::{FILE_HEADER_BYTES, Link, RECORD_HEADER_BYTES, write_header, write_record};
 use std::alloc::{AllocError, Global};
 use vector_rows::{NoAnswer, Row, words};
 
@@ -29,7 +28,7 @@ fn answer(alloc: Global, question: &str) -> Result<String, NoAnswer> {
 }
 
 fn header(alloc: Global, nano: bool, link: Link) -> Result<Vec<u8>, AllocError> {
-    let mut header = [0; HEADER_BYTES];
+    let mut header = [0; FILE_HEADER_BYTES];
     write_header(&mut header, nano, link);
     Vec::from_slice(alloc, &header)
 }

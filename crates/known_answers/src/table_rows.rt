@@ -2,8 +2,8 @@
 //! `answer ok LINES` or `answer FAULT NUMBERS`, and `route ADDRESS FAN LEVEL` or `route ADDRESS none`.
 use crate::fields::byte;
 use crate::unescaping::unescaped;
-use forward_table::{MAX_TEXT, Table, TableFault, read_table};
-use rotating_pick::MAX_PORTS;
+use forward_table::{Table, TableFault, read_table};
+use rotating_pick::{MAX_FILE_BYTES, MAX_PORTS};
 use std::alloc::{AllocError, Global};
 use vector_rows::{NoAnswer, Row, number, set_up_row};
 
@@ -74,7 +74,7 @@ impl Block {
 
     fn answer(&mut self, alloc: Global) -> Result<String, NoAnswer> {
         let n = self.n;
-        if n == 0 || n > MAX_PORTS || self.text.len() > MAX_TEXT {
+        if n == 0 || n > MAX_PORTS || self.text.len() > MAX_FILE_BYTES {
             return Err(NoAnswer);
         }
         match read_table(alloc, self.text.as_slice(), n) {

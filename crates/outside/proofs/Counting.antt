@@ -21,3 +21,7 @@ Rose-NeverFall a b c p rose kept = Rose-le (a p) (b p) (c p) rose (kept p)
 
 pub NeverFall-Rose : (a b c : Place → ℕ) (p : Place) → NeverFall a b → Rose (b p) (c p) → Rose (a p) (c p)
 NeverFall-Rose a b c p kept rose = le-Rose (a p) (b p) (c p) (kept p) rose
+
+-- a count that rose within a span of calls rose in it
+pub Rose-wider : (a b c d : Place → ℕ) (p : Place) → NeverFall a b → NeverFall c d → Rose (b p) (c p) → Rose (a p) (d p)
+Rose-wider a b c d p before after rose = NeverFall-Rose a b d p before (Rose-NeverFall b c d p rose after)

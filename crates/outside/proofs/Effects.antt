@@ -162,7 +162,7 @@ pub err_more : (bytes : List ℕ) (n k : ℕ) (o : Option Contents)
 err_more bytes n k None = refl
 err_more bytes n k (Some c) = ap Some (append_err-append_err (take n bytes) (take k (drop n bytes)) c ∙ ap (λ xs. append_err xs c) (sym (take-add n k bytes)))
 
--- a write that was refused, or not, leaves a name begun
+-- a write that failed, or not, leaves a name begun
 pub is_begun-after_write : {E : Type 0} (r : Result ℕ E) (name bytes n : List ℕ) (o : Option Contents) → IfSome o (λ c. c.begun n ≡ true) → IfSome (after_write r name bytes o) (λ c. c.begun n ≡ true)
 is_begun-after_write (Ok k) name bytes n o is = is_begun-append_file name (take k bytes) n o is
 is_begun-after_write (Err e) name bytes n o is = is

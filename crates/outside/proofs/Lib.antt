@@ -2,5 +2,7 @@ pub mod Counting
 pub mod Differing
 pub mod Effects
 pub mod Finding
+pub mod Fronts
 pub mod Given
+pub mod Putting
 pub mod Storing

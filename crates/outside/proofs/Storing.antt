@@ -27,7 +27,7 @@ kept : {X : Type 0} (g : FileState → X) (name n : List ℕ) (old new : List Fi
     → option_map g (file_named n new) ≡ option_map g (file_named n old)
 kept g name n old new f after there puts e = ap (option_map g) (puts.finds n) ∙ kept_at g name n old f after there e (bytes_eq n name) refl
 
--- A refused call
+-- A failed call
 
 -- a change of a file's counts alone changes no content
 counted_contents : (name : List ℕ) (old new : List FileState) (f after : FileState) → file_named name old ≡ Some f → PutsFile old new name after → after.bytes ≡ f.bytes → after.begun ≡ f.begun
@@ -91,7 +91,7 @@ part_kept : (g : CallCounts → ℕ) (here : Bool) (a b : CallCounts) → g a �
 part_kept g true a b e = e
 part_kept g false a b e = refl
 
--- the counts after a refused call that names a file
+-- the counts after a failed call that names a file
 
 pub read_counted : (name : List ℕ) (old new : List FileState) (was now : CallCounts) (out err : List ℕ) → CountsFault Read name old new was now
     → (p : Place) → faults_among new now p ≡ cond (is_counted (contents_among old out err) (ReadOf name) p) (raised (faults_among old was p)) (faults_among old was p)
@@ -180,6 +180,11 @@ begun_counts name n old after was faults false same = refl
 
 -- A file that is written
 
+-- a file that was begun is there
+pub begun_is_there : (o : Option FileState) → o ≡ None → unwrap_or (option_map (λ (f : FileState). f.begun) o) false ≡ true → ⊥
+begun_is_there None none begun = absurd (cc)
+begun_is_there (Some f) none begun = absurd (cc)
+
 appended_file : (name n : List ℕ) (old : List FileState) (f after : FileState) (more : List ℕ) → file_named name old ≡ Some f → after.bytes ≡ f.bytes ++ more
     → (same : Bool) → bytes_eq n name ≡ same
     → option_map (λ (g : FileState). g.bytes) (cond same (Some after) (file_named n old))
@@ -222,10 +227,11 @@ appended_faults name old new f after was there puts faults =
 
 -- the file that is begun in place of the one that was there
 pub begun_is : (name : List ℕ) (fs : List FileState) (d : FileState) (elsewhere : CallCounts) → file_named name fs ≡ Some d → d.name ≡ name
-    → record d { bytes = []; begun = true } ≡ record { name = name; bytes = []; begun = true; faults = counts_at fs elsewhere name }
+    → record d { bytes = []; begun = true } ≡ record { name = name; bytes = []; room = d.room; begun = true; faults = counts_at fs elsewhere name }
 begun_is name fs d elsewhere there is = λ j. record {
   name = is j;
   bytes = [];
+  room = d.room;
   begun = true;
   faults = unwrap_or (option_map (λ (f : FileState). f.faults) (sym there j)) elsewhere;
 }

@@ -1,4 +1,4 @@
--- How often calls of each kind were made, or were refused.
+-- How often calls of each kind were made, or failed.
 use Rattle.std.specs.Prelude.{◌≡◌, ◌+◌, ◌^◌, ℕ, List, Any, nat_lt, if◌then◌else◌}
 use Rattle.outside.specs.declared.memory_files.calls.Call.{Call}
 use Rattle.outside.specs.declared.memory_files.calls.Call.TheVariants.{Read, Begin, Write, Out, Err}

@@ -37,22 +37,22 @@ append_err more c = record { file = c.file; begun = c.begun; out = c.out; err = 
 -- what is told after a `begin` that answered this: the file is begun, or all is as before
 abbrev pub after_begin : {T E : Type 0} → Result T E → List ℕ → Option Contents → Option Contents
 after_begin (Ok done) name told = option_map (begin_file name) told
-after_begin (Err refusal) name told = told
+after_begin (Err failure) name told = told
 
 -- after a `write` of these bytes: the first k of them are at the file's end, or all is as before
 abbrev pub after_write : {E : Type 0} → Result ℕ E → List ℕ → List ℕ → Option Contents → Option Contents
 after_write (Ok k) name bytes told = option_map (append_file name (take k bytes)) told
-after_write (Err refusal) name bytes told = told
+after_write (Err failure) name bytes told = told
 
 -- after an `out` of these bytes: the first k of them were given to standard output, or all is as before
 abbrev pub after_out : {E : Type 0} → Result ℕ E → List ℕ → Option Contents → Option Contents
 after_out (Ok k) bytes told = option_map (append_out (take k bytes)) told
-after_out (Err refusal) bytes told = told
+after_out (Err failure) bytes told = told
 
 -- after an `err` of these bytes: the first k of them were given to standard error, or all is as before
 abbrev pub after_err : {E : Type 0} → Result ℕ E → List ℕ → Option Contents → Option Contents
 after_err (Ok k) bytes told = option_map (append_err (take k bytes)) told
-after_err (Err refusal) bytes told = told
+after_err (Err failure) bytes told = told
 
 -- The file is there, and the first k places of a buffer with this much room are its bytes from `at` on. There are none exactly where `at` is at or past its end.
 pub record GivesPiece (file : Option (List ℕ)) (at room : ℕ) (buf : List ℕ) (k : ℕ) : Type 0 where

@@ -1,7 +1,7 @@
--- Counts of refused calls: one for each kind of call with its name.
+-- Counts of failed calls: one for each kind of call with its name.
 use Rattle.std.specs.Prelude.{◌+◌, ◌^◌, ◌<◌, ◌≤◌, ◌⊎◌, ℕ, List}
 
--- Where a refusal is counted: the kind of the call, and its name where it has one.
+-- Where a failure is counted: the kind of the call, and its name where it has one.
 pub data Place : Type 0 where
   ReadOf : List ℕ → Place
   BeginOf : List ℕ → Place

@@ -2,3 +2,4 @@ pub mod Calls
 pub mod Contents
 pub mod Faults
 pub mod MemoryFiles
+pub mod WholeFiles

@@ -1,6 +1,6 @@
--- Files in memory: what they hold, and where a refused call is counted.
-use Rattle.std.specs.Prelude.{◌≡◌, ℕ, Bool, true, false, ◌||◌, ◌&&◌, List, [], Option, Some, Result, Ok, Err, option_map, unwrap_or, is_none, find, bytes_eq, string_bytes, if◌then◌else◌}
-use Rattle.std.specs.Prelude.{Vec, String}
+-- Files in memory: what they hold, and where a failed call is counted.
+use Rattle.std.specs.Prelude.{◌≡◌, ◌+◌, ◌<◌, ℕ, min, length, drop, Bool, true, false, ◌||◌, ◌&&◌, List, [], Option, Some, Result, Ok, Err, option_map, unwrap_or, is_none, find, bytes_eq, string_bytes, if◌then◌else◌}
+use Rattle.std.specs.Prelude.{Vec, String, vec_capacity}
 use Rattle.std.specs.Map.{lookup}
 use Rattle.outside.specs.Calls.{Names, count_of, no_calls, one_more, raised}
 use Rattle.outside.specs.Contents.{Contents}
@@ -9,14 +9,15 @@ use Rattle.outside.specs.declared.memory_files.calls.Call.{Call}
 use Rattle.outside.specs.declared.memory_files.calls.CallCounts.{CallCounts}
 use Rattle.outside.specs.declared.memory_files.calls.Fail.{Fail}
 
--- A file: its name, its bytes, whether it was begun, and how often a call of its name was refused.
+-- A file: its name, its bytes, for how many bytes it has memory, whether it was begun, and how often a call of its name failed.
 pub record FileState : Type 0 where
   pub name : List ℕ
   pub bytes : List ℕ
+  pub room : ℕ
   pub begun : Bool
   pub faults : CallCounts
 
--- Files in memory: `elsewhere` counts the refused calls that named no file that is there, those of `out` and `err` among them. Each call takes or gives at most `piece` bytes, those in `fails` fail, and `made` counts all calls.
+-- Files in memory: `elsewhere` counts the failed calls that named no file that is there, those of `out` and `err` among them. Each call takes or gives at most `piece` bytes, those in `fails` fail, and `made` counts all calls. There is memory for `out_room` bytes of standard output and `err_room` of standard error.
 pub record MemoryState : Type 0 where
   pub files : List FileState
   pub elsewhere : CallCounts
@@ -25,6 +26,8 @@ pub record MemoryState : Type 0 where
   pub piece : ℕ
   pub fails : List Fail
   pub made : CallCounts
+  pub out_room : ℕ
+  pub err_room : ℕ
 
 -- the file of this name
 abbrev pub file_named : List ℕ → List FileState → Option FileState
@@ -59,11 +62,11 @@ faults_among files elsewhere ToErr = elsewhere.err
 abbrev pub faults_of : MemoryState → Place → ℕ
 faults_of m = faults_among m.files m.elsewhere
 
--- two names that a refused call counts at alike: they are one, or neither is there
+-- two names that a failed call counts at alike: they are one, or neither is there
 abbrev pub is_alike : (List ℕ → Option (List ℕ)) → List ℕ → List ℕ → Bool
 is_alike file name n = bytes_eq n name || (is_none (file name) && is_none (file n))
 
--- whether a refused call of the first place counts at the second: its own kind and name, and where its name is not there all names that are not there
+-- whether a failed call of the first place counts at the second: its own kind and name, and where its name is not there all names that are not there
 abbrev pub is_counted : Contents → Place → Place → Bool
 is_counted c (ReadOf name) (ReadOf n) = is_alike c.file name n
 is_counted c (BeginOf name) (BeginOf n) = is_alike c.file name n
@@ -72,7 +75,7 @@ is_counted c ToOut ToOut = true
 is_counted c ToErr ToErr = true
 is_counted c _ _ = false
 
--- the counts after a call of this place that answered this: a refusal raises the counts that it counts at, and no other
+-- the counts after a call of this place that answered this: a failure raises the counts that it counts at, and no other
 abbrev pub faults_after : {T E : Type 0} → Result T E → Contents → Place → (Place → ℕ) → Place → ℕ
 faults_after (Ok x) c place counts p = counts p
 faults_after (Err e) c place counts p = if is_counted c place p then raised (counts p) else counts p
@@ -86,13 +89,23 @@ contents_given files = record {
   err = [];
 }
 
--- a given file as it is at the start: not begun, and no call of its name was refused
+-- a given file as it is at the start: not begun, and no call of its name has failed
 abbrev pub file_at_start : {A : Type 0} → String A × Vec ℕ A → FileState
-file_at_start file = record { name = string_bytes file.0; bytes = file.1.items; begun = false; faults = no_calls }
+file_at_start file = record { name = string_bytes file.0; bytes = file.1.items; room = vec_capacity file.1; begun = false; faults = no_calls }
 
 -- the next call of this kind is one of those that are to fail
 abbrev pub IsToFail : Call → MemoryState → Type 0
 IsToFail call m = Names m.fails call (raised (count_of call m.made))
+
+-- how many bytes a read of a file from `at` on gives: as many as a call may give, the buffer has room for, and the file has from there on
+abbrev pub piece_length : ℕ → ℕ → ℕ → Option (List ℕ) → ℕ
+piece_length most at room file = min most (min room (length (drop at (unwrap_or file []))))
+
+-- the file of this name has no memory for so many bytes more
+pub record HasNoRoom (files : List FileState) (name : List ℕ) (count : ℕ) : Type 0 where
+  pub file : FileState
+  pub there : file_named name files ≡ Some file
+  pub full : file.room < length file.bytes + count
 
 -- The next call of a kind was counted, and the rest of the plan stays.
 pub record MakesCall (call : Call) (old new : MemoryState) : Type 0 where
@@ -104,7 +117,7 @@ pub record MakesCall (call : Call) (old new : MemoryState) : Type 0 where
 pub record PutsFile (old new : List FileState) (name : List ℕ) (put : FileState) : Type 0 where
   pub finds : (n : List ℕ) → file_named n new ≡ (if bytes_eq n name then Some put else file_named n old)
 
--- The files hold what they held, and a refused call of this kind and name was counted.
+-- The files hold what they held, and a failed call of this kind and name was counted.
 pub record CountsFault (call : Call) (name : List ℕ) (old new : List FileState) (was now : CallCounts) : Type 0 where
   pub contents : (out err : List ℕ) → contents_among new out err ≡ contents_among old out err
   pub counts : (n : List ℕ) → counts_at new now n ≡ (if is_alike (contents_among old [] []).file name n then one_more call (counts_at old was n) else counts_at old was n)

@@ -20,12 +20,13 @@ pub struct DiskFiles<'r, R: rt::Files + Print + StandardError + AllocGlobal> {
     writing: Option<OpenFile<R::File>>,
 }
 
-// An open file, with the name that it was opened by. Where there was no memory for the name it is not
-// found again, and the next piece opens the file anew.
+// An open file, the name that it was opened by, and how many bytes from its start on were read. Where
+// there was no memory for the name it is not found again, and the next piece opens the file anew.
 #[derive(Drop)]
 struct OpenFile<F: Drop> {
     name: Option<String>,
     file: F,
+    place: u64,
 }
 
 impl<'r, R: rt::Files + Print + StandardError + AllocGlobal> Model for DiskFiles<'r, R> {
@@ -73,7 +74,8 @@ impl<'r, R: rt::Files + Print + StandardError + AllocGlobal> DiskFiles<'r, R> {
         String::from_str(self.rt.alloc(), name).ok()
     }
 
-    // A file is opened anew for its first piece, and closed behind its last.
+    // A file is opened anew for its first piece, and closed behind its last. It is moved to another
+    // place only where it does not stand at this one: a pipe, which cannot be moved, is read in order.
     fn read_at(&mut self, name: &str, at: u64, buf: &mut [u8]) -> io::Result<usize>
         ensures room { IfOk result (λ k. k ≤ length buf.old) }
         ensures faults { self.new ≡ self.old }
@@ -83,10 +85,14 @@ impl<'r, R: rt::Files + Print + StandardError + AllocGlobal> DiskFiles<'r, R> {
             _ => OpenFile {
                 name: self.kept_name(name),
                 file: fs::open(self.rt, name)?,
+                place: 0,
             },
         };
-        open.file.seek(SeekFrom::Start(at))?;
+        if open.place != at {
+            open.file.seek(SeekFrom::Start(at))?;
+        }
         let count = open.file.read(buf)?;
+        open.place = at.saturating_add(count as u64);
         if count > 0 {
             self.reading = Some(open);
         }
@@ -99,6 +105,7 @@ impl<'r, R: rt::Files + Print + StandardError + AllocGlobal> DiskFiles<'r, R> {
         self.writing = Some(OpenFile {
             name: self.kept_name(name),
             file: fs::create(self.rt, name)?,
+            place: 0,
         });
         Ok(())
     }
@@ -112,6 +119,7 @@ impl<'r, R: rt::Files + Print + StandardError + AllocGlobal> DiskFiles<'r, R> {
             _ => OpenFile {
                 name: self.kept_name(name),
                 file: OpenOptions::new().append(true).open(self.rt, name)?,
+                place: 0,
             },
         };
         let count = open.file.write(bytes)?;
@@ -162,30 +170,4 @@ impl<'r, R: rt::Files + Print + StandardError + AllocGlobal> Files for DiskFiles
 }
 
 #[cfg(test)]
-mod tests {
-    use crate::{DiskFiles, Failed, Files};
-    use std::test::Fail;
-    use std::{env, fs, process};
-
-    #[test]
-    fn writes_and_reads_back(rt: HostRuntime) -> Result<(), Fail> {
-        let name = format!(in rt.alloc(); "outside-test-{}", process::id(rt.process()))?;
-        let path = env::temp_dir(&rt)?.join(rt.alloc(), name.as_str())?;
-        let path = path.as_str();
-        let mut files = DiskFiles::make(&rt);
-        assert_eq!(rt; files.read(path, 0, &mut [0; 4]), Err(Failed));
-        files.begin(path)?;
-        assert_eq!(rt; files.write(path, b"one "), Ok(4));
-        assert_eq!(rt; files.write(path, b"two"), Ok(3));
-        let mut buf = [0; 5];
-        assert_eq!(rt; files.read(path, 0, &mut buf), Ok(5));
-        assert_eq!(rt; &buf, b"one t");
-        assert_eq!(rt; files.read(path, 5, &mut buf), Ok(2));
-        assert_eq!(rt; &buf[..2], b"wo".as_slice());
-        assert_eq!(rt; files.read(path, 7, &mut buf), Ok(0));
-        fs::remove_file(&rt, path)?;
-        assert_eq!(rt; files.out(b"out\n"), Ok(4));
-        assert_eq!(rt; files.err(b"err \xff\n"), Ok(6));
-        Ok(())
-    }
-}
+mod tests;

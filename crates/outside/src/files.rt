@@ -5,7 +5,7 @@ ghost use Rattle.outside.specs.Faults.{Place, ReadOf, BeginOf, WriteOf, ToOut, T
 use std::error::Error;
 use std::fmt;
 
-/// A call was refused by what lies outside. Its count of faults rose, and the contents stay.
+/// A call failed. Its count of faults rose, and the contents stay.
 #[derive(Clone, Copy, Debug, PartialEq, Eq, Hash)]
 pub struct Failed;
 
@@ -19,14 +19,14 @@ impl Error for Failed {}
 
 /// Files, standard output and standard error.
 ///
-/// Each call may be refused at any time, and a refusal is counted: for each kind of call and each
-/// name there is a count of faults, which never falls. What the files hold is told, or it is not.
+/// Each call may fail at any time, and a failure is counted: for each kind of call and each name there
+/// is a count of faults, which never falls. What the files hold is told, or it is not.
 pub trait Files {
     /// What the files hold, which names were begun, and what standard output and standard error
     /// were given; None where it is not told.
     ghost told: { Self → Option Contents };
 
-    /// How often a call of this kind and name was refused.
+    /// How often a call of this kind and name failed.
     ghost faults: { Self → Place → ℕ };
 
     /// Reads a piece of the named file, from byte `at` on, and answers its length in bytes. Where
@@ -45,8 +45,8 @@ pub trait Files {
         ensures cause { OnErr result (Rose (faults self.old (BeginOf name.now)) (faults self.new (BeginOf name.now))) }
         ensures never_fall { NeverFall (faults self.old) (faults self.new) };
 
-    /// Appends a first part of `bytes` to a file that was begun, and answers its length in bytes: at
-    /// least 1 where there are any.
+    /// Appends a first part of `bytes` to a file, which must have been begun, and answers its length in
+    /// bytes: at least 1 where there are any.
     fn write(&mut self, name: &str, bytes: &[u8]) -> Result<usize, Failed>
         requires begun { IfSome (told self.old) (λ c. c.begun name.now ≡ true) }
         ensures told { told self.new ≡ after_write result name.now bytes.now (told self.old) }

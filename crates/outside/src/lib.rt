@@ -5,8 +5,10 @@ mod disk_files;
 mod files;
 mod memory_files;
 mod standard_error;
+mod whole_file;
 
 pub use disk_files::DiskFiles;
 pub use files::{Failed, Files};
 pub use memory_files::{Call, Fail, MemFiles, names_differ};
 pub use standard_error::StandardError;
+pub use whole_file::{ReadFailure, put_whole, read_whole};

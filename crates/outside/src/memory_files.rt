@@ -1,9 +1,9 @@
-ghost use Rattle.std.specs.Prelude.{◌≡◌, ◌≢◌, ◌≤◌, ◌<◌, ◌↔◌, ◌⊎◌, ℕ, ◌++◌, true, Some, length, take, drop, min, string_bytes, AllPairs, IfOk, IsErr, IsNone, IsTrue, OnErr};
+ghost use Rattle.std.specs.Prelude.{◌≡◌, ◌≢◌, ◌≤◌, ◌<◌, ◌↔◌, ◌⊎◌, ◌+◌, ℕ, ◌++◌, true, Some, vec_capacity, length, take, drop, min, string_bytes, AllPairs, IfOk, IsErr, IsNone, IsTrue, OnErr};
 ghost use Rattle.std.specs.Option.{option_copied};
 ghost use Rattle.outside.specs.Calls.{no_calls, one_more};
 ghost use Rattle.outside.specs.Contents.{GivesPiece, after_begin, after_err, after_out, after_write};
 ghost use Rattle.outside.specs.Faults.{Place, ReadOf, BeginOf, WriteOf, ToOut, ToErr, NeverFall, Rose};
-ghost use Rattle.outside.specs.MemoryFiles.{contents_of, contents_given, faults_of, faults_after, IsToFail, MakesCall};
+ghost use Rattle.outside.specs.MemoryFiles.{contents_of, contents_given, faults_of, faults_after, piece_length, HasNoRoom, IsToFail, MakesCall};
 
 use crate::files::{Failed, Files};
 use crate::memory_files::calls::{CallCounts, FailPlan};
@@ -35,19 +35,20 @@ pub struct MemFiles {
 }
 
 impl Model for MemFiles {
-    ghost use Rattle.std.specs.Prelude.{◌<◌};
+    ghost use Rattle.std.specs.Prelude.{◌<◌, vec_capacity};
     ghost use Rattle.outside.specs.MemoryFiles.{MemoryState};
 
     ghost Value = { MemoryState };
 
-    ghost view = { λ m. record { files = m.files.items; elsewhere = m.elsewhere; out = m.out.items; err = m.err.items; piece = m.piece; fails = m.plan.fails.items; made = m.plan.made } };
+    ghost view = { λ m. record { files = m.files.items; elsewhere = m.elsewhere; out = m.out.items; err = m.err.items; piece = m.piece; fails = m.plan.fails.items; made = m.plan.made; out_room = vec_capacity m.out; err_room = vec_capacity m.err } };
 
     ghost invariant = { λ m. 0 < m.piece };
 }
 
 impl MemFiles {
-    /// The given files, none of them begun. Each call takes or gives at most `piece` bytes, and the
-    /// calls that `fails` names fail.
+    /// The given files, none of them begun, of which no two have the same name (`names_differ` tells).
+    /// Each call takes or gives at most `piece` bytes, at least 1, and the calls that `fails` names
+    /// fail.
     pub fn make(
         alloc: Global,
         files: Vec<(String, Vec<u8>)>,
@@ -101,7 +102,7 @@ impl MemFiles {
 // Copies a piece of at most `most` bytes, from byte `at` on.
 fn copy_piece(bytes: &[u8], at: u64, most: usize, buf: &mut [u8]) -> usize
     requires { 0 < most }
-    ensures most { result ≤ most }
+    ensures count { result ≡ min most (min (length buf.old) (length (drop at bytes.now))) }
     ensures room { result ≤ length buf.old }
     ensures within { result ≤ length (drop at bytes.now) }
     ensures same { take result buf.new ≡ take result (drop at bytes.now) }
@@ -128,13 +129,14 @@ fn append_piece(text: &mut Vec<u8>, bytes: &[u8], most: usize) -> Result<usize, 
     ensures count { IfOk result (λ k. k ≡ min most (length bytes.now)) }
     ensures ok { IfOk result (λ k. text.new.items ≡ text.old.items ++ take k bytes.now) }
     ensures err { OnErr result (text.new.items ≡ text.old.items) }
+    ensures full { OnErr result (vec_capacity text.old < length text.old.items + min most (length bytes.now)) }
 {
     let piece = first_piece(bytes, most);
     text.extend_from_slice(piece)?;
     Ok(piece.len())
 }
 
-// Counts a refused call that names no file.
+// Counts a failed call that names no file.
 fn count_elsewhere(elsewhere: &mut CallCounts, call: Call) -> Failed
     ensures { elsewhere.new ≡ one_more call elsewhere.old }
 {
@@ -142,8 +144,9 @@ fn count_elsewhere(elsewhere: &mut CallCounts, call: Call) -> Failed
     Failed
 }
 
-// Beside what the trait says: which calls are refused, and that a refusal raises the counts of its
-// own kind and name, or of all names that are not there, and no other.
+// Beside what the trait says: how many bytes a call takes or gives, when it fails, and that a failure
+// raises the counts of its own kind and name, or of all names that are not there, and no other. A call
+// that is not planned to fail, and needs no memory, does not fail.
 impl Files for MemFiles {
     ghost told = { λ m. Some (contents_of m) };
 
@@ -156,12 +159,12 @@ impl Files for MemFiles {
         ensures cause { OnErr result (Rose (faults_of self.old (ReadOf name.now)) (faults_of self.new (ReadOf name.now))) }
         ensures never_fall { NeverFall (faults_of self.old) (faults_of self.new) }
 
-        ensures most { IfOk result (λ k. k ≤ self.old.piece) }
-        ensures refused { IsErr result ↔ (IsToFail Call.Read self.old ⊎ IsNone ((contents_of self.old).file name.now)) }
+        ensures count { IfOk result (λ k. k ≡ piece_length self.old.piece at (length buf.old) ((contents_of self.old).file name.now)) }
+        ensures failed { IsErr result ↔ (IsToFail Call.Read self.old ⊎ IsNone ((contents_of self.old).file name.now)) }
         ensures counts { (p : Place) → faults_of self.new p ≡ faults_after result (contents_of self.old) (ReadOf name.now) (faults_of self.old) p }
         ensures call { MakesCall Call.Read self.old self.new }
     {
-        if self.plan.refuses(Call::Read) {
+        if self.plan.fails_next(Call::Read) {
             return Err(count_fault(&mut self.files, &mut self.elsewhere, Call::Read, name));
         }
         match bytes_of(self.files.as_slice(), name) {
@@ -176,10 +179,11 @@ impl Files for MemFiles {
         ensures never_fall { NeverFall (faults_of self.old) (faults_of self.new) }
 
         ensures planned { IsToFail Call.Begin self.old → IsErr result }
+        ensures cause_of_failure { OnErr result (IsToFail Call.Begin self.old ⊎ IsNone ((contents_of self.old).file name.now)) }
         ensures counts { (p : Place) → faults_of self.new p ≡ faults_after result (contents_of self.old) (BeginOf name.now) (faults_of self.old) p }
         ensures call { MakesCall Call.Begin self.old self.new }
     {
-        if self.plan.refuses(Call::Begin) {
+        if self.plan.fails_next(Call::Begin) {
             return Err(count_fault(&mut self.files, &mut self.elsewhere, Call::Begin, name));
         }
         match begin_file(&mut self.files, self.alloc, self.elsewhere, name) {
@@ -198,10 +202,11 @@ impl Files for MemFiles {
 
         ensures count { IfOk result (λ k. k ≡ min self.old.piece (length bytes.now)) }
         ensures planned { IsToFail Call.Write self.old → IsErr result }
+        ensures cause_of_failure { OnErr result (IsToFail Call.Write self.old ⊎ HasNoRoom self.old.files name.now (min self.old.piece (length bytes.now))) }
         ensures counts { (p : Place) → faults_of self.new p ≡ faults_after result (contents_of self.old) (WriteOf name.now) (faults_of self.old) p }
         ensures call { MakesCall Call.Write self.old self.new }
     {
-        if self.plan.refuses(Call::Write) {
+        if self.plan.fails_next(Call::Write) {
             return Err(count_fault(&mut self.files, &mut self.elsewhere, Call::Write, name));
         }
         let piece = first_piece(bytes, self.piece);
@@ -220,10 +225,11 @@ impl Files for MemFiles {
 
         ensures count { IfOk result (λ k. k ≡ min self.old.piece (length bytes.now)) }
         ensures planned { IsToFail Call.Out self.old → IsErr result }
+        ensures cause_of_failure { OnErr result (IsToFail Call.Out self.old ⊎ (self.old.out_room < length self.old.out + min self.old.piece (length bytes.now))) }
         ensures counts { (p : Place) → faults_of self.new p ≡ faults_after result (contents_of self.old) ToOut (faults_of self.old) p }
         ensures call { MakesCall Call.Out self.old self.new }
     {
-        if self.plan.refuses(Call::Out) {
+        if self.plan.fails_next(Call::Out) {
             return Err(count_elsewhere(&mut self.elsewhere, Call::Out));
         }
         match append_piece(&mut self.out, bytes, self.piece) {
@@ -241,10 +247,11 @@ impl Files for MemFiles {
 
         ensures count { IfOk result (λ k. k ≡ min self.old.piece (length bytes.now)) }
         ensures planned { IsToFail Call.Err self.old → IsErr result }
+        ensures cause_of_failure { OnErr result (IsToFail Call.Err self.old ⊎ (self.old.err_room < length self.old.err + min self.old.piece (length bytes.now))) }
         ensures counts { (p : Place) → faults_of self.new p ≡ faults_after result (contents_of self.old) ToErr (faults_of self.old) p }
         ensures call { MakesCall Call.Err self.old self.new }
     {
-        if self.plan.refuses(Call::Err) {
+        if self.plan.fails_next(Call::Err) {
             return Err(count_elsewhere(&mut self.elsewhere, Call::Err));
         }
         match append_piece(&mut self.err, bytes, self.piece) {

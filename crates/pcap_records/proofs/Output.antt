@@ -6,6 +6,7 @@ use Rattle.std.proofs.lemmas.List.{append-nil, length-append, length-drop, drop_
 use Rattle.std.proofs.lemmas.List.Concat.{flat_map-append}
 use Rattle.std.proofs.lemmas.List.Elements.{recursion_from_All, All-append, All-from_recursion}
 use Rattle.std.specs.Int.{byte_at, bytes_high_first}
+use Rattle.cell_cutter.specs.Messages.{message_header}
 use Rattle.pcap_records.specs.declared.link.Link.{Link}
 use Rattle.pcap_records.specs.declared.link.Link.TheVariants.{Ethernet, RawIp}
 use Rattle.pcap_records.specs.declared.order.Order.TheVariants.{Big, Little}
@@ -135,6 +136,14 @@ record IsSpelled (p : Packet) (m : List ℕ) : Type 0 where
   pub twelve_is : drop 12 m ≡ number_bytes Big 4 p.original ++ p.bytes
   pub sixteen_is : drop 16 m ≡ p.bytes
 
+-- the fields of a message one after another
+abbrev pub fields_of : Packet → List ℕ
+fields_of p = number_bytes Big 4 p.seconds ++ number_bytes Big 4 p.nanos ++ number_bytes Big 4 (length p.bytes) ++ number_bytes Big 4 p.original ++ p.bytes
+
+pub message_of-fields : (p : Packet) → message_of p ≡ fields_of p
+unfolding number_bytes message_header
+message_of-fields p = refl
+
 spelled : (p : Packet) → IsSpelled p (message_of p)
 spelled p =
     let m = message_of p in
@@ -142,7 +151,8 @@ spelled p =
     let n = number_bytes Big 4 p.nanos in
     let l = number_bytes Big 4 (length p.bytes) in
     let o = number_bytes Big 4 p.original in
-    let e0 : m ≡ s ++ (n ++ (l ++ (o ++ p.bytes))) = simp append_assoc in
+    let apart : fields_of p ≡ s ++ (n ++ (l ++ (o ++ p.bytes))) = simp append_assoc in
+    let e0 : m ≡ s ++ (n ++ (l ++ (o ++ p.bytes))) = message_of-fields p ∙ apart in
     let e4 : drop 4 m ≡ n ++ (l ++ (o ++ p.bytes)) = ap (drop 4) e0 ∙ drop_at s (n ++ (l ++ (o ++ p.bytes))) 4 (length-number_bytes Big 4 p.seconds) in
     let e8 : drop 8 m ≡ l ++ (o ++ p.bytes) = sym (drop-drop 4 4 m) ∙ ap (drop 4) e4 ∙ drop_at n (l ++ (o ++ p.bytes)) 4 (length-number_bytes Big 4 p.nanos) in
     let e12 : drop 12 m ≡ o ++ p.bytes = sym (drop-drop 4 8 m) ∙ ap (drop 4) e8 ∙ drop_at l (o ++ p.bytes) 4 (length-number_bytes Big 4 (length p.bytes)) in
@@ -158,7 +168,8 @@ length-message_of p =
     let b = length-number_bytes Big 4 p.nanos in
     let c = length-number_bytes Big 4 (length p.bytes) in
     let d = length-number_bytes Big 4 p.original in
-    simp length-append (omega arith)
+    let long : length (fields_of p) ≡ 16 + length p.bytes = simp length-append (omega arith) in
+    ap length (message_of-fields p) ∙ long
 
 pub message_is : (nano : Bool) (p : Packet) → IsWritable nano p → IsMessage nano (message_of p)
 message_is nano p w =
@@ -172,9 +183,10 @@ message_is nano p w =
     let o = number_bytes Big 4 p.original in
     record {
       bytes =
-          All-append (λ b. b < 256) (s ++ n ++ l ++ o) p.bytes
+          subst (All (λ b. b < 256)) (sym (message_of-fields p))
+          (All-append (λ b. b < 256) (s ++ n ++ l ++ o) p.bytes
           (All-append (λ b. b < 256) (s ++ n ++ l) o (All-append (λ b. b < 256) (s ++ n) l (All-append (λ b. b < 256) s n (number_fits 4 p.seconds) (number_fits 4 p.nanos)) (number_fits 4 (length p.bytes))) (number_fits 4 p.original))
-          w.bytes;
+          w.bytes);
       header = omega arith;
       size = omega (arith, w.size);
       below = rw read w.below;

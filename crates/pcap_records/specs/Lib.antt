@@ -4,3 +4,4 @@ pub mod Captures
 pub mod Faults
 pub mod Records
 pub mod Output
+pub mod Texts

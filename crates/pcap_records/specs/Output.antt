@@ -1,15 +1,15 @@
 -- The text of the captures that are written: little-endian files of one message a record.
 use Rattle.std.specs.Prelude.{◌≡◌, ℕ, ◌+◌, ◌/◌, ◌%◌, ◌^◌, ◌<◌, ◌≤◌, Bool, true, false, List, ◌++◌, length, drop, All}
 use Rattle.std.specs.List.{flat_map}
+use Rattle.cell_cutter.specs.Messages.{message}
 use Rattle.pcap_records.specs.declared.link.Link.{Link}
 use Rattle.pcap_records.specs.declared.order.Order.TheVariants.{Big, Little}
 use Rattle.pcap_records.specs.Packets.{Packet}
 use Rattle.pcap_records.specs.Format.{number_bytes, number_in, header_of, header_bytes, Record, record_bytes}
 
--- The message of a packet: its seconds, its nanoseconds, its captured length and its length on the line, each
--- as four bytes, the highest first, and then its captured bytes.
+-- the message of a packet, as it is cut into cells
 abbrev pub message_of : Packet → List ℕ
-message_of p = number_bytes Big 4 p.seconds ++ number_bytes Big 4 p.nanos ++ number_bytes Big 4 (length p.bytes) ++ number_bytes Big 4 p.original ++ p.bytes
+message_of p = message p.seconds p.nanos p.original p.bytes
 
 -- the packet that a message stands for
 abbrev pub message_packet : List ℕ → Packet

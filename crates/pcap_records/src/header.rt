@@ -5,7 +5,7 @@ ghost use Rattle.pcap_records.specs.Captures.{HasHeader};
 ghost use Rattle.pcap_records.specs.Faults.{IsFault};
 
 use crate::fault::PcapFault;
-use crate::limits::HEADER_BYTES;
+use crate::limits::FILE_HEADER_BYTES;
 use crate::link::Link;
 use crate::order::Order;
 
@@ -36,7 +36,7 @@ pub fn read_header(bytes: &[u8]) -> Result<Header, PcapFault>
         HasHeader bytes.now (header_of h.order h.nano h.link) (drop 24 bytes.now)) }
     ensures fault { IfErr result (IsFault bytes.now) }
 {
-    if bytes.len() < HEADER_BYTES {
+    if bytes.len() < FILE_HEADER_BYTES {
         return Err(PcapFault::ShortHeader {
             len: bytes.len() as u32,
         });

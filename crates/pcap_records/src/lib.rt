@@ -20,7 +20,7 @@ mod writing;
 
 pub use capture::{Capture, Stored};
 pub use fault::PcapFault;
-pub use limits::{HEADER_BYTES, MAX_CAPTURED_BYTES, MAX_FILE_BYTES, RECORD_HEADER_BYTES};
+pub use limits::{FILE_HEADER_BYTES, RECORD_HEADER_BYTES};
 pub use link::Link;
 pub use reading::read_capture;
 pub use writing::{write_header, write_record};

@@ -13,8 +13,8 @@ pub enum Link {
 }
 
 impl Link {
-    // The number of a link type in a file's header.
-    pub(crate) fn number(self) -> u32
+    /// The number of the link type in a file's header: 1 or 101.
+    pub fn number(self) -> u32
         ensures { result ≡ link_type self }
     {
         match self {

@@ -1,7 +1,7 @@
 ghost use Rattle.std.specs.Prelude.{◌≡◌, ◌⊎◌, ◌≤◌, ℕ, List, Bool, length, drop, map, All, vec_len, IfOk, IfErr, IsErrAnd, MatchResult};
 ghost use Rattle.pcap_records.specs.declared.fault.PcapFault.{PcapFault};
 ghost use Rattle.pcap_records.specs.declared.link.Link.{Link};
-ghost use Rattle.pcap_records.specs.Packets.{Packet, packet_in, packets_of, IsWithin};
+ghost use Rattle.pcap_records.specs.Packets.{Packet, packet_in, packets_of, AreInOrder, IsWithin};
 ghost use Rattle.pcap_records.specs.Format.{header_of};
 ghost use Rattle.pcap_records.specs.Captures.{HasHeader, IsCapture};
 ghost use Rattle.pcap_records.specs.Faults.{IsFault};
@@ -9,8 +9,9 @@ ghost use Rattle.pcap_records.specs.Faults.{IsFault};
 use crate::capture::{Capture, Stored};
 use crate::fault::PcapFault;
 use crate::header::{Header, read_header};
-use crate::limits::{HEADER_BYTES, MAX_FILE_BYTES};
+use crate::limits::FILE_HEADER_BYTES;
 use crate::record::read_record;
+use rotating_pick::MAX_FILE_BYTES;
 use std::alloc::Global;
 
 /// Reads a capture file of at most 16,777,216 bytes, each record once. The answer owns the file's
@@ -21,9 +22,10 @@ use std::alloc::Global;
 pub fn read_capture(alloc: Global, bytes: Vec<u8>) -> Result<Capture, PcapFault>
     requires { vec_len bytes ≤ MAX_FILE_BYTES }
 
-    // What is read is a capture, with just these packets.
+    // What is read is a capture, with just these packets, which stand in the file one behind another.
     ensures found { IfOk result (λ c. IsCapture bytes.items c.nano c.link (packets_of c)) }
     ensures within { IfOk result (λ c. All (IsWithin c.bytes.items) c.packets.items) }
+    ensures in_order { IfOk result (λ c. AreInOrder c.packets.items) }
     ensures bytes { IfOk result (λ c. c.bytes.items ≡ bytes.items) }
 
     // What is not read has that fault, or there was no memory.
@@ -57,11 +59,12 @@ fn read_records(alloc: Global, header: Header, bytes: &[u8]) -> Result<Vec<Store
     ensures found { IfOk result (λ v.
         IsCapture bytes.now header.nano header.link (map (packet_in bytes.now) v.items)) }
     ensures within { IfOk result (λ v. All (IsWithin bytes.now) v.items) }
+    ensures in_order { IfOk result (λ v. AreInOrder v.items) }
     ensures fault { IfErr result (λ answer.
         (answer ≡ PcapFault.OutOfMemory) ⊎ IsFault bytes.now answer) }
 {
     let mut packets = Vec::new(alloc);
-    let mut at = HEADER_BYTES;
+    let mut at = FILE_HEADER_BYTES;
     while at < bytes.len() {
         let packet = read_record(header.order, header.nano, bytes, at)?;
         at = packet.start as usize + packet.len as usize;

@@ -4,8 +4,10 @@ ghost use Rattle.pcap_records.specs.Records.{IsStored, IsBroken};
 
 use crate::capture::Stored;
 use crate::fault::PcapFault;
-use crate::limits::{MAX_CAPTURED_BYTES, MAX_FILE_BYTES, RECORD_HEADER_BYTES};
+use crate::limits::RECORD_HEADER_BYTES;
 use crate::order::Order;
+use cell_cutter::MAX_CAPTURED_BYTES;
+use rotating_pick::MAX_FILE_BYTES;
 
 // The last microsecond of a second.
 const LAST_MICRO: u32 = 999_999;

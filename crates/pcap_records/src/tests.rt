@@ -3,10 +3,12 @@ ghost use Rattle.pcap_records.specs.declared.capture.Stored.{Stored};
 ghost use Rattle.pcap_records.specs.Packets.{IsWithin};
 
 use crate::{
-    Capture, HEADER_BYTES, Link, MAX_CAPTURED_BYTES, MAX_FILE_BYTES, PcapFault,
-    RECORD_HEADER_BYTES, Stored, read_capture, write_header, write_record,
+    Capture, FILE_HEADER_BYTES, Link, PcapFault, RECORD_HEADER_BYTES, Stored, read_capture,
+    write_header, write_record,
 };
 use byteorder::{BigEndian, ByteOrder};
+use cell_cutter::MAX_CAPTURED_BYTES;
+use rotating_pick::MAX_FILE_BYTES;
 use std::alloc::Global;
 use std::process::Abort;
 use std::test::Fail;
@@ -96,13 +98,13 @@ fn written(rt: &impl Abort, alloc: Global, file: &[u8], nano: bool) -> Result<Ve
     assert!(rt; !capture.packets.is_empty());
     let message = message_of(alloc, &capture, 0)?;
     let mut out = vec![in alloc; 0u8; file.len()]?;
-    assert!(rt; HEADER_BYTES <= out.len());
+    assert!(rt; FILE_HEADER_BYTES <= out.len());
     write_header(&mut out, nano, capture.link);
     assert!(rt; RECORD_HEADER_BYTES <= message.len());
     assert!(rt; message.len() - RECORD_HEADER_BYTES <= MAX_CAPTURED_BYTES as usize);
-    assert!(rt; message.len() <= out.len() - HEADER_BYTES);
+    assert!(rt; message.len() <= out.len() - FILE_HEADER_BYTES);
     assert_eq!(rt;
-        write_record(&mut out, HEADER_BYTES, &message, nano),
+        write_record(&mut out, FILE_HEADER_BYTES, &message, nano),
         out.len()
     );
     Ok(out)

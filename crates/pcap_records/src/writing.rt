@@ -4,13 +4,15 @@ ghost use Rattle.pcap_records.specs.Format.{number_bytes};
 ghost use Rattle.pcap_records.specs.Output.{header_text, record_text, fraction_of};
 
 use crate::header::{MAJOR, MINOR, magic_number};
-use crate::limits::{MAX_CAPTURED_BYTES, RECORD_HEADER_BYTES};
+use crate::limits::RECORD_HEADER_BYTES;
 use crate::link::Link;
 use crate::order::Order;
 use crate::record::NANOS_PER_MICRO;
 use byteorder::{ByteOrder, LittleEndian};
+use cell_cutter::MAX_CAPTURED_BYTES;
 
-/// Writes the header of an output capture to the first 24 places: a little-endian file whose
+/// Writes the header of an output capture to the first 24 places of a buffer of at least so many: a
+/// little-endian file whose
 /// fractions are nanoseconds, or else microseconds, of that link type. The other places stay.
 pub fn write_header(buf: &mut [u8], nano: bool, link: Link)
     requires { 24 ≤ length buf.old }
@@ -26,6 +28,7 @@ pub fn write_header(buf: &mut [u8], nano: bool, link: Link)
 }
 
 /// Writes the record of a message from place `at` on, and answers the place after it; other places stay.
+/// The buffer has room from there on for as many bytes as the message has.
 ///
 /// A message is 16 bytes, which are its seconds, its nanoseconds, its captured length and its length
 /// on the line, each a big-endian number of four bytes, and then at most 262,144 captured bytes. The

@@ -7,9 +7,11 @@ use Rattle.std.proofs.lemmas.List.Elements.{All-get_or}
 use Rattle.outside.specs.Contents.{Contents}
 use Rattle.switch_run.specs.Causes.{Answers, IsComplete, IsRead, RefusalIsExact, TooLongIsExact, UsageIsExact}
 use Rattle.switch_run.specs.Endings.{IsMade, IsStopped, Run, Stops}
-use Rattle.switch_run.specs.Inputs.{AreRead, CapturesRead, EarlierFit, Fits, IsTooLong, most_bytes}
+use Rattle.switch_run.specs.Inputs.{AreRead, CapturesRead, EarlierFit}
+use Rattle.rotating_pick.specs.declared.limits.TheConstants.{MAX_FILE_BYTES}
+use Rattle.outside.specs.WholeFiles.{Fits, IsTooLong}
 use Rattle.switch_run.specs.Outcome.{IsNotMemory, IsOutcome, IsWant}
-use Rattle.switch_run.specs.OutputFiles.{AtBegin, AtWrite}
+use Rattle.outside.specs.WholeFiles.{AtBegin, AtWrite}
 use Rattle.switch_run.specs.Words.{IsInput, RunNames, input_name}
 use Rattle.switch_run.specs.declared.ending.Ending.{Ending}
 use Rattle.switch_run.specs.declared.ending.Ending.TheVariants.{Done, Usage, ReadFault, TooLong, Refused, OutOfMemory, WriteFault}
@@ -28,7 +30,7 @@ capture_there names c captures port read within =
     let inside : port < length captures = omega (arith, read.count) in (
       get_or captures port [],
       sym (get_or-map (λ name. c.file name) names port [] None within) ∙ ap (λ os. get_or os port None) read.there ∙ get_or-map (λ b. Some b) captures port [] None inside,
-      All-get_or (λ b. length b ≤ most_bytes) captures port [] inside read.fit,
+      All-get_or (λ b. length b ≤ MAX_FILE_BYTES) captures port [] inside read.fit,
     )
 
 -- what was read is not too long

@@ -5,7 +5,8 @@ use Rattle.std.proofs.lemmas.Fmt.{decimal_injective}
 use Rattle.std.proofs.lemmas.List.{append_cancel_left, append_cancel_right}
 use Rattle.outside.specs.Contents.{Contents, begin_file}
 use Rattle.outside.proofs.Effects.{file-append_file-begin_file, file-append_file-other, file-begin_file-other}
-use Rattle.switch_run.specs.OutputFiles.{HoldsOutputs, files_from, output_files, output_name, put_file, put_files}
+use Rattle.switch_run.specs.OutputFiles.{HoldsOutputs, files_from, output_files, output_name, put_files}
+use Rattle.outside.specs.WholeFiles.{put_file}
 
 -- outputs of different numbers have files of different names
 pub output_name-injective : (prefix : List ℕ) (j k : ℕ) → j < 2 ^ 64 → k < 2 ^ 64 → output_name prefix j ≡ output_name prefix k → j ≡ k

@@ -4,14 +4,16 @@ use Rattle.std.specs.Prelude.{IfSome, Result, Vec, is_ok, true, if◌then◌else
 use Rattle.std.proofs.lemmas.List.{length_push, map_more, map_push, take_more}
 use Rattle.std.proofs.lemmas.List.Elements.{All-more, All-push}
 use Rattle.outside.specs.Contents.{Contents}
-use Rattle.switch_run.specs.Inputs.{CapturesRead, EarlierFit, Fits, most_bytes}
+use Rattle.switch_run.specs.Inputs.{CapturesRead, EarlierFit}
+use Rattle.rotating_pick.specs.declared.limits.TheConstants.{MAX_FILE_BYTES}
+use Rattle.outside.specs.WholeFiles.{Fits}
 use Rattle.switch_run.specs.Outcome.{bytes_of}
 use Rattle.switch_run.specs.Words.{RunNames}
 use Rattle.switch_run.specs.declared.words.InputFile.TheVariants.{Capture}
 
 -- one file more is there
 pub earlier_more : (names : RunNames) (told : Option Contents) (port : ℕ) (bytes : List ℕ) → port < length names.inputs → IfSome told (EarlierFit names (Capture port))
-    → IfSome told (λ c. c.file (get_or names.inputs port []) ≡ Some bytes) → length bytes ≤ most_bytes → IfSome told (EarlierFit names (Capture (port + 1)))
+    → IfSome told (λ c. c.file (get_or names.inputs port []) ≡ Some bytes) → length bytes ≤ MAX_FILE_BYTES → IfSome told (EarlierFit names (Capture (port + 1)))
 earlier_more names None port bytes within earlier there fits = tt
 earlier_more names (Some c) port bytes within earlier there fits = (earlier.0, All-more (Fits c) names.inputs port [] within earlier.1 (bytes, there, fits))
 
@@ -27,10 +29,10 @@ there_more names (Some c) i captures bytes within there here =
 
 -- one capture more is read
 pub captures_more : (names : List (List ℕ)) (told : Option Contents) (i : ℕ) (captures : List (List ℕ)) (bytes : List ℕ) → i < length names → CapturesRead (take i names) told captures
-    → IfSome told (λ c. c.file (get_or names i []) ≡ Some bytes) → length bytes ≤ most_bytes → CapturesRead (take (i + 1) names) told (captures ++ bytes ∷ [])
+    → IfSome told (λ c. c.file (get_or names i []) ≡ Some bytes) → length bytes ≤ MAX_FILE_BYTES → CapturesRead (take (i + 1) names) told (captures ++ bytes ∷ [])
 captures_more names told i captures bytes within read here fits = record {
   count = length_push captures bytes ∙ ap (λ n. n + 1) read.count ∙ sym (ap length (take_more names i [] within) ∙ length_push (take i names) (get_or names i []));
-  fit = All-push (λ b. length b ≤ most_bytes) captures bytes read.fit fits;
+  fit = All-push (λ b. length b ≤ MAX_FILE_BYTES) captures bytes read.fit fits;
   there = there_more names told i captures bytes within read.there here;
 }
 

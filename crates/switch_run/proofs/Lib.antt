@@ -14,7 +14,6 @@ pub mod ReadingCaptures
 pub mod OneRun
 pub mod OneOutcome
 pub mod Answering
-pub mod Fronts
 pub mod Holding
 pub mod InputFiles
 pub mod Printing

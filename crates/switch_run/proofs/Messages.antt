@@ -5,11 +5,10 @@ use Rattle.std.specs.List.{flat_map, list_any}
 use Rattle.std.proofs.lemmas.List.{append-nil, length-map, length-replicate, get_or-map, get_or_default, take_all, take_at, drop_all, map_more}
 use Rattle.std.proofs.lemmas.List.Concat.{flat_map-append}
 use Rattle.std.specs.Int.{w32, to_be_bytes}
+use Rattle.cell_cutter.specs.Messages.{message_header}
 use Rattle.pcap_records.specs.declared.capture.Capture.{Capture}
 use Rattle.pcap_records.specs.declared.capture.Stored.{Stored}
 use Rattle.pcap_records.specs.declared.link.Link.{Link}
-use Rattle.pcap_records.specs.declared.order.Order.TheVariants.{Big}
-use Rattle.pcap_records.specs.Format.{number_bytes}
 use Rattle.pcap_records.specs.Packets.{Packet, captured_in, packet_in, packets_of, IsWithin}
 use Rattle.pcap_records.specs.Output.{message_of, record_text, header_text, capture_text}
 use Rattle.pcap_records.proofs.Output.{length-message_of}
@@ -17,26 +16,20 @@ use Rattle.switch_run.specs.declared.slots.Delivered.{Delivered}
 use Rattle.switch_run.specs.Jobs.{CaptureFile, file_of, IsBuilt, IsPacketIn, is_nano, no_packet, message_in}
 use Rattle.switch_run.proofs.Captured.{length-captured_in}
 
--- std and byteorder spell a number in the same way
-spelled : (x : ℕ) → to_be_bytes w32 x ≡ number_bytes Big 4 x
-unfolding number_bytes
-spelled x = refl
-
 -- the message of a packet, put together of its parts one after the other
 pub message_is_put : (file : List ℕ) (s : Stored) → IsWithin file s → (m0 m1 m2 m3 m4 m5 : List ℕ) → m0 ≡ [] → m1 ≡ m0 ++ to_be_bytes w32 s.seconds → m2 ≡ m1 ++ to_be_bytes w32 s.nanos → m3 ≡ m2 ++ to_be_bytes w32 s.len → m4 ≡ m3 ++ to_be_bytes w32 s.original → m5 ≡ m4 ++ captured_in file s
     → m5 ≡ message_of (packet_in file s)
+unfolding message_header
 message_is_put file s within m0 m1 m2 m3 m4 m5 e0 e1 e2 e3 e4 e5 =
     let len = length-captured_in file s within in
-    let n0 = spelled s.seconds in
-    let n1 = spelled s.nanos in
-    let n2 : to_be_bytes w32 s.len ≡ number_bytes Big 4 (length (captured_in file s)) = spelled s.len ∙ ap (number_bytes Big 4) (sym len) in
-    let n3 = spelled s.original in
-    let f1 : m1 ≡ number_bytes Big 4 s.seconds = e1 ∙ ap (λ (m : List ℕ). m ++ to_be_bytes w32 s.seconds) e0 ∙ n0 in
-    let f2 : m2 ≡ number_bytes Big 4 s.seconds ++ number_bytes Big 4 s.nanos = e2 ∙ ap (λ (m : List ℕ). m ++ to_be_bytes w32 s.nanos) f1 ∙ ap (λ (n : List ℕ). number_bytes Big 4 s.seconds ++ n) n1 in
-    let f3 : m3 ≡ number_bytes Big 4 s.seconds ++ number_bytes Big 4 s.nanos ++ number_bytes Big 4 (length (captured_in file s)) =
-    e3 ∙ ap (λ (m : List ℕ). m ++ to_be_bytes w32 s.len) f2 ∙ ap (λ (n : List ℕ). number_bytes Big 4 s.seconds ++ number_bytes Big 4 s.nanos ++ n) n2 in
-    let f4 : m4 ≡ number_bytes Big 4 s.seconds ++ number_bytes Big 4 s.nanos ++ number_bytes Big 4 (length (captured_in file s)) ++ number_bytes Big 4 s.original =
-    e4 ∙ ap (λ (m : List ℕ). m ++ to_be_bytes w32 s.original) f3 ∙ ap (λ (n : List ℕ). number_bytes Big 4 s.seconds ++ number_bytes Big 4 s.nanos ++ number_bytes Big 4 (length (captured_in file s)) ++ n) n3 in
+    let seconds = to_be_bytes w32 s.seconds in
+    let nanos = to_be_bytes w32 s.nanos in
+    let captured = to_be_bytes w32 (length (captured_in file s)) in
+    let original = to_be_bytes w32 s.original in
+    let f1 : m1 ≡ seconds = e1 ∙ ap (λ (m : List ℕ). m ++ seconds) e0 in
+    let f2 : m2 ≡ seconds ++ nanos = e2 ∙ ap (λ (m : List ℕ). m ++ nanos) f1 in
+    let f3 : m3 ≡ seconds ++ nanos ++ captured = e3 ∙ ap (λ (m : List ℕ). m ++ to_be_bytes w32 s.len) f2 ∙ ap (λ (n : ℕ). seconds ++ nanos ++ to_be_bytes w32 n) (sym len) in
+    let f4 : m4 ≡ seconds ++ nanos ++ captured ++ original = e4 ∙ ap (λ (m : List ℕ). m ++ original) f3 in
     e5 ∙ ap (λ (m : List ℕ). m ++ captured_in file s) f4
 
 -- ---- the message of a packet that left an output

@@ -3,24 +3,17 @@ use Rattle.std.proofs.Common.{◌≡◌, ◌<◌, ◌+◌, ℕ, suc, List, [], �
 use Rattle.std.specs.Prelude.{Result, Ok, Err, is_err, is_ok, true, false, if◌then◌else◌, option_map, string_bytes}
 use Rattle.std.proofs.lemmas.List.{get_or-map, length-map, map_push}
 use Rattle.std.proofs.lemmas.List.Sums.{fold_more}
-use Rattle.outside.specs.Contents.{Contents, append_file, begin_file}
-use Rattle.outside.specs.Faults.{Place, WriteOf, NeverFall}
-use Rattle.outside.proofs.Counting.{NeverFall-Rose, NeverFall-refl}
+use Rattle.outside.specs.Contents.{Contents}
+use Rattle.outside.specs.Faults.{Place, NeverFall}
+use Rattle.outside.specs.WholeFiles.{NamedBytes, Puts, StopsAt, put_file}
+use Rattle.outside.proofs.Counting.{NeverFall-refl}
+use Rattle.outside.proofs.Putting.{StopsAt-wider}
 use Rattle.outside.proofs.Effects.{option_map-option_map}
-use Rattle.switch_run.specs.OutputFiles.{Appends, AtWrite, NamedBytes, Puts, StopsAt, files_from, nameless, output_files, output_name, put_file, put_files, shown}
+use Rattle.switch_run.specs.OutputFiles.{files_from, nameless, output_files, output_name, put_files, shown}
 use Rattle.switch_run.specs.declared.output_files.OutputFile.{OutputFile}
 use Rattle.switch_run.proofs.Holding.{length-files_from}
-use Rattle.switch_run.proofs.Stopping.{StopsAt-wider}
 
--- a file that was begun, and to which all or a first part of its bytes was appended
-pub begun_put : {T E : Type 0} (r : Result T E) (f : NamedBytes) (a b d : Place → ℕ) (o mid new : Option Contents) → NeverFall a b → mid ≡ option_map (begin_file f.name) o → Appends r f b d mid new → Puts r f a d o new
-begun_put (Ok x) f a b d o mid new kept begun appends =
-    appends ∙ ap (option_map (append_file f.name f.bytes)) begun ∙ option_map-option_map (begin_file f.name) (append_file f.name f.bytes) o
-begun_put (Err e) f a b d o mid new kept begun appends =
-    AtWrite appends.1.0 (NeverFall-Rose a b d (WriteOf f.name) kept appends.0)
-    (appends.1.1 ∙ ap (option_map (append_file f.name (take appends.1.0 f.bytes))) begun ∙ option_map-option_map (begin_file f.name) (append_file f.name (take appends.1.0 f.bytes)) o)
-
--- a call on one of the files was refused
+-- a call on one of the files failed
 pub put_to : {X T E : Type 0} (text : X → NamedBytes) (files : List X) (i : ℕ) (x : X) (r : Result T E) (a b d : Place → ℕ) (o now new : Option Contents)
     → i < length files → x ≡ get_or files i x → is_err r ≡ true → NeverFall a b → now ≡ option_map (put_files (take i (map text files))) o → Puts r (text x) b d now new
     → StopsAt (get_or (map text files) i nameless) a d (option_map (put_files (take i (map text files))) o) new
@@ -65,14 +58,13 @@ named_more prefix files f outputs same name_is =
     ∙ ap (λ name. output_files prefix outputs ++ record { name = name; bytes = f.bytes.items } ∷ []) e
     ∙ sym (files_push prefix 0 outputs f.bytes.items)
 
--- what a push left, where it was not refused
+-- what a push left, where it did not fail
 pub pushed : {A T E : Type 0} (r : Result T E) (new old : List A) (x : A) (y : T) → new ≡ (if is_ok r then old ++ x ∷ [] else old) → r ≡ Ok y → new ≡ old ++ x ∷ []
 pushed r new old x y e ok = rw ok at e
 
 -- the same where the name and the bytes were taken out of the file
-pub begun_put_of : {T E : Type 0} (r : Result T E) (f : NamedBytes) (name bytes : List ℕ) (a b d : Place → ℕ) (o mid new : Option Contents) → name ≡ f.name → bytes ≡ f.bytes → NeverFall a b
-    → mid ≡ option_map (begin_file name) o → Appends r (record { name = name; bytes = bytes }) b d mid new → Puts r f a d o new
-begun_put_of r f name bytes a b d o mid new name_is bytes_is kept begun appends =
+pub puts_of : {T E : Type 0} (r : Result T E) (f : NamedBytes) (name bytes : List ℕ) (a d : Place → ℕ) (o new : Option Contents) → name ≡ f.name → bytes ≡ f.bytes
+    → Puts r (record { name = name; bytes = bytes }) a d o new → Puts r f a d o new
+puts_of r f name bytes a d o new name_is bytes_is puts =
     subst (λ (n : List ℕ). Puts r (record { name = n; bytes = f.bytes }) a d o new) name_is
-    (subst (λ (bs : List ℕ). Puts r (record { name = name; bytes = bs }) a d o new) bytes_is
-    (begun_put r (record { name = name; bytes = bytes }) a b d o mid new kept begun appends))
+    (subst (λ (bs : List ℕ). Puts r (record { name = name; bytes = bs }) a d o new) bytes_is puts)

@@ -2,24 +2,18 @@
 use Rattle.std.proofs.Common.{◌≡◌, ◌<◌, ◌≤◌, ◌+◌, ℕ, zero, suc, List, [], ◌∷◌, take, length, get_or, Option, inl, inr, ◌∙◌, ap, subst, arith}
 use Rattle.std.specs.Prelude.{option_map}
 use Rattle.outside.specs.Contents.{Contents}
-use Rattle.outside.specs.Faults.{Place, ReadOf, BeginOf, WriteOf, NeverFall, Rose}
-use Rattle.outside.proofs.Counting.{NeverFall-Rose, NeverFall-refl, Rose-NeverFall, le-Rose}
+use Rattle.outside.specs.Faults.{Place, ReadOf, NeverFall, Rose}
+use Rattle.outside.specs.WholeFiles.{NamedBytes, StopsAt}
+use Rattle.outside.proofs.Counting.{NeverFall-refl, Rose-wider, le-Rose}
+use Rattle.outside.proofs.Putting.{StopsAt-wider}
 use Rattle.switch_run.specs.Endings.{AreMade, IsDone, IsMade, IsStopped, IsWriteFault, Means, Run, Stops, StopsJob}
 use Rattle.switch_run.specs.Inputs.{AreRead}
 use Rattle.switch_run.specs.LineParts.{GivesLine}
-use Rattle.switch_run.specs.OutputFiles.{NamedBytes, StopsAt, AtBegin, AtWrite, files_from, nameless, output_file, output_files, output_name, put_files}
+use Rattle.switch_run.specs.OutputFiles.{files_from, nameless, output_file, output_files, output_name, put_files}
 use Rattle.switch_run.specs.Words.{RunNames, input_name}
 use Rattle.switch_run.specs.declared.ending.Ending.{Ending}
 use Rattle.switch_run.specs.declared.ending.Ending.TheVariants.{Done, Usage, ReadFault, TooLong, Refused, OutOfMemory, WriteFault}
 use Rattle.switch_run.proofs.Holding.{holds_told, length-files_from}
-
--- a count that rose within a span of calls rose in it
-pub Rose-wider : (a b c d : Place → ℕ) (p : Place) → NeverFall a b → NeverFall c d → Rose (b p) (c p) → Rose (a p) (d p)
-Rose-wider a b c d p before after rose = NeverFall-Rose a b d p before (Rose-NeverFall b c d p rose after)
-
-pub StopsAt-wider : (f : NamedBytes) (a b c d : Place → ℕ) (before after : Option Contents) → NeverFall a b → NeverFall c d → StopsAt f b c before after → StopsAt f a d before after
-StopsAt-wider f a b c d before after start end (AtBegin rose same) = AtBegin (Rose-wider a b c d (BeginOf f.name) start end rose) same
-StopsAt-wider f a b c d before after start end (AtWrite n rose part) = AtWrite n (Rose-wider a b c d (WriteOf f.name) start end rose) part
 
 pub Stops-wider : (names : RunNames) (old : Option Contents) (a b c d : Place → ℕ) (told : Option Contents) (ending : Ending) → NeverFall a b → NeverFall c d → Stops names old b c told ending → Stops names old a d told ending
 Stops-wider names old a b c d told Done start end stops = stops

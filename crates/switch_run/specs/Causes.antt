@@ -3,7 +3,8 @@ use Rattle.std.specs.Prelude.{◌≡◌, ◌<◌, ◌⊎◌, ◌↔◌, ℕ, Lis
 use Rattle.outside.specs.Contents.{Contents}
 use Rattle.outside.specs.Faults.{ReadOf, BeginOf, WriteOf, Rose}
 use Rattle.switch_run.specs.Endings.{Means, Run, status_of}
-use Rattle.switch_run.specs.Inputs.{AreRead, EarlierFit, IsTooLong}
+use Rattle.switch_run.specs.Inputs.{AreRead, EarlierFit}
+use Rattle.outside.specs.WholeFiles.{IsTooLong}
 use Rattle.switch_run.specs.Outcome.{IsNotMemory, IsOutcome}
 use Rattle.switch_run.specs.OutputFiles.{output_name}
 use Rattle.switch_run.specs.Words.{IsInput, RunNames, input_name}

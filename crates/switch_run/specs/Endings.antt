@@ -3,10 +3,12 @@ use Rattle.std.specs.Prelude.{◌≡◌, ◌<◌, ℕ, List, take, length, Optio
 use Rattle.outside.specs.Contents.{Contents}
 use Rattle.outside.specs.Faults.{Place, ReadOf, ToErr, Rose}
 use Rattle.switch_run.specs.ErrorLines.{line_of, usage_line}
-use Rattle.switch_run.specs.Inputs.{AreRead, EarlierFit, IsTooLong}
+use Rattle.switch_run.specs.Inputs.{AreRead, EarlierFit}
+use Rattle.outside.specs.WholeFiles.{IsTooLong}
 use Rattle.switch_run.specs.LineParts.{GivesLine}
 use Rattle.switch_run.specs.Outcome.{IsNotMemory, IsOutcome}
-use Rattle.switch_run.specs.OutputFiles.{HoldsOutputs, NamedBytes, StopsAt, output_file, output_files, put_files}
+use Rattle.switch_run.specs.OutputFiles.{HoldsOutputs, output_file, output_files, put_files}
+use Rattle.outside.specs.WholeFiles.{NamedBytes, StopsAt}
 use Rattle.switch_run.specs.Words.{IsInput, RunNames, input_name, read_words}
 use Rattle.switch_run.specs.declared.ending.Ending.{Ending}
 use Rattle.switch_run.specs.declared.ending.Ending.TheVariants.{Done, Usage, ReadFault, TooLong, Refused, OutOfMemory, WriteFault}

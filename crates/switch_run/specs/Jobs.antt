@@ -2,7 +2,7 @@
 use Rattle.std.specs.Prelude.{◌≡◌, ℕ, ◌+◌, ◌*◌, ◌<◌, ◌≤◌, Bool, List, [], length, map, sum_by, All, Option, None, Some, count_ones, slice_index_or}
 use Rattle.std.specs.List.{list_any}
 use Rattle.rotating_pick.specs.PortSets.{Has}
-use Rattle.cell_cutter.specs.Messages.{cells_in}
+use Rattle.cell_cutter.specs.Messages.{cells_of_packet}
 use Rattle.line_pace.specs.declared.pace.Stamp.{Stamp}
 use Rattle.line_pace.specs.declared.pace.Pace.TheVariants.{Line}
 use Rattle.line_pace.specs.Arrivals.{arrival_slots}
@@ -47,7 +47,7 @@ AreOfLink link captures = All (λ capture. capture.link ≡ link) captures
 
 -- how many cells a packet has
 abbrev pub packet_cells : Packet → ℕ
-packet_cells packet = cells_in (16 + length packet.bytes)
+packet_cells packet = cells_of_packet (length packet.bytes)
 
 -- a table that is built: each line has level 0 and a fan-out of one port
 abbrev pub IsBuiltTable : List RouteLine → Type 0

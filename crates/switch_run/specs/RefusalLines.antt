@@ -1,15 +1,14 @@
 -- The lines on standard error for what a job refuses.
-use Rattle.std.specs.Prelude.{ℕ, List, [], ◌∷◌, codes, decimal, slice_index_or}
+use Rattle.std.specs.Prelude.{ℕ, List, [], ◌∷◌, ◌++◌, codes, decimal, slice_index_or}
 use Rattle.std.specs.List.{concat}
-use Rattle.switch_run.specs.LineParts.{hex_text}
 use Rattle.switch_run.specs.Words.{RunNames}
 use Rattle.switch_run.specs.declared.job.Refusal.{Refusal}
 use Rattle.switch_run.specs.declared.job.Refusal.TheVariants.{Table, Capture, Links, NotBuiltTable, NotBuiltCapture, OutOfMemory}
 use Rattle.pcap_records.specs.Format.{link_type}
 use Rattle.pcap_records.specs.declared.fault.PcapFault.{PcapFault}
-use Rattle.pcap_records.specs.declared.fault.PcapFault.TheVariants.{ShortHeader, BadMagic, BadVersion, BadLink, CutRecord, LongRecord}
+use Rattle.pcap_records.specs.Texts as Captures
 use Rattle.forward_table.specs.declared.faults.TableFault.{TableFault}
-use Rattle.forward_table.specs.declared.faults.TableFault.TheVariants.{BadLine, HostBits, BadPort, BadLevel, Repeated, TooManyLines}
+use Rattle.forward_table.specs.Texts as Tables
 
 -- the line where memory runs out
 abbrev pub memory_line : List ℕ
@@ -17,27 +16,11 @@ memory_line = codes "out of memory\n"
 
 -- the line for a text that is no table
 abbrev pub table_line : TableFault → List ℕ
-table_line (BadLine line) = concat (codes "table line " ∷ decimal line ∷ codes ": bad line\n" ∷ [])
-table_line (HostBits line) = concat (codes "table line " ∷ decimal line ∷ codes ": host bits\n" ∷ [])
-table_line (BadPort line port) = concat (codes "table line " ∷ decimal line ∷ codes ": port " ∷ decimal port ∷ codes "\n" ∷ [])
-table_line (BadLevel line) = concat (codes "table line " ∷ decimal line ∷ codes ": level\n" ∷ [])
-table_line (Repeated line first) = concat (codes "table line " ∷ decimal line ∷ codes ": repeats line " ∷ decimal first ∷ codes "\n" ∷ [])
-table_line (TooManyLines count) = concat (codes "table: " ∷ decimal count ∷ codes " lines\n" ∷ [])
-table_line _ = memory_line
-
--- what the line for a file that is no capture says behind its port
-abbrev pub capture_fault : PcapFault → List (List ℕ)
-capture_fault (ShortHeader len) = codes ": short header, " ∷ decimal len ∷ codes " bytes\n" ∷ []
-capture_fault (BadMagic found) = codes ": bad magic " ∷ hex_text found ∷ codes "\n" ∷ []
-capture_fault (BadVersion major minor) = codes ": version " ∷ decimal major ∷ codes "." ∷ decimal minor ∷ codes "\n" ∷ []
-capture_fault (BadLink found) = codes ": link type " ∷ decimal found ∷ codes "\n" ∷ []
-capture_fault (CutRecord at) = codes ": cut record at " ∷ decimal at ∷ codes "\n" ∷ []
-capture_fault (LongRecord at len) = codes ": long record at " ∷ decimal at ∷ codes ", " ∷ decimal len ∷ codes " bytes\n" ∷ []
-capture_fault _ = codes ": out of memory\n" ∷ []
+table_line fault = concat (Tables.parts_of fault ++ codes "\n" ∷ [])
 
 -- the line for a file that is no capture
 abbrev pub capture_line : ℕ → PcapFault → List ℕ
-capture_line port fault = concat (codes "capture " ∷ decimal port ∷ capture_fault fault)
+capture_line port fault = concat (codes "capture " ∷ decimal port ∷ codes ": " ∷ (Captures.parts_of fault ++ codes "\n" ∷ []))
 
 -- the line for a file that is named
 abbrev pub named_line : List ℕ → List ℕ → List ℕ

@@ -1,5 +1,5 @@
 ghost use Rattle.std.specs.Prelude.{◌≡◌, ◌≢◌, ℕ, ◌+◌, ◌*◌, ◌<◌, ◌≤◌, ◌^◌, List, [], length, map, sum_by, All, IfOk, IfSome, slice_index_or, Some};
-ghost use Rattle.cell_cutter.specs.Messages.{cells_in};
+ghost use Rattle.cell_cutter.specs.Messages.{cells_of_packet};
 ghost use Rattle.pcap_records.specs.declared.link.Link.{Link};
 ghost use Rattle.pcap_records.specs.Packets.{packets_of};
 ghost use Rattle.forward_table.specs.Routes.{AreRoutesOf};
@@ -47,7 +47,7 @@ fn stamps(alloc: Global, capture: &Capture) -> Result<Vec<Stamp>, OutOfMemory>
 fn stamp(packet: &Stored) -> Stamp
     requires { packet.now.len ≤ MAX_CAPTURED_BYTES }
     ensures time { result.time ≡ packet.now.seconds * NANOS_PER_SECOND + packet.now.nanos }
-    ensures cells { result.cells ≡ cells_in (16 + packet.now.len) }
+    ensures cells { result.cells ≡ cells_of_packet packet.now.len }
 {
     Stamp {
         time: u64::from(packet.seconds) * NANOS_PER_SECOND + u64::from(packet.nanos),

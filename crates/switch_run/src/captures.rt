@@ -8,8 +8,8 @@ ghost use Rattle.switch_run.specs.Outcome.{bytes_of, IsFirstFault, HaveLinks, Is
 
 use crate::job::Refusal;
 use cell_cutter::{MAX_FORWARDED_BYTES, cells_of};
-use pcap_records::{Capture, Link, MAX_FILE_BYTES, PcapFault, read_capture};
-use rotating_pick::MAX_PORTS;
+use pcap_records::{Capture, Link, PcapFault, read_capture};
+use rotating_pick::{MAX_FILE_BYTES, MAX_PORTS};
 use std::alloc::Global;
 
 /// The most cells of a capture that is built.

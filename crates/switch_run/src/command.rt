@@ -2,7 +2,6 @@ ghost use Rattle.std.specs.Prelude.{◌≡◌, ◌≤◌, ◌<◌, Some, length,
 ghost use Rattle.outside.specs.Faults.{NeverFall};
 ghost use Rattle.switch_run.specs.Causes.{Answers, IsComplete, RefusalIsExact, TooLongIsExact, UsageIsExact};
 ghost use Rattle.switch_run.specs.Endings.{AreMade, IsDone, Means, Stops, StopsJob, run_of};
-ghost use Rattle.switch_run.specs.Inputs.{most_bytes};
 ghost use Rattle.switch_run.specs.Outcome.{bytes_of};
 ghost use Rattle.switch_run.specs.OutputFiles.{shown};
 ghost use Rattle.switch_run.specs.Words.{names_of};
@@ -15,7 +14,7 @@ use crate::job::{Refusal, run_job};
 use crate::output_files::{OutputFile, named, put_all};
 use crate::words::RunWords;
 use outside::Files;
-use rotating_pick::MAX_PORTS;
+use rotating_pick::{MAX_FILE_BYTES, MAX_PORTS};
 use std::alloc::Global;
 
 // The files of the outputs that the job makes of the inputs. The files and their names take all the
@@ -23,8 +22,8 @@ use std::alloc::Global;
 fn make_outputs(alloc: Global, words: &RunWords, inputs: Inputs) -> Result<Vec<OutputFile>, Ending>
     requires some { 0 < vec_len inputs.captures }
     requires most { vec_len inputs.captures ≤ MAX_PORTS }
-    requires table { length inputs.table.items ≤ most_bytes }
-    requires captures { All (λ bytes. length bytes ≤ most_bytes) (bytes_of inputs.captures) }
+    requires table { length inputs.table.items ≤ MAX_FILE_BYTES }
+    requires captures { All (λ bytes. length bytes ≤ MAX_FILE_BYTES) (bytes_of inputs.captures) }
     ensures made { IfOk result (λ v. AreMade inputs.table.items (bytes_of inputs.captures) words.now.prefix.now (map shown v.items)) }
     ensures stops { IfErr result (StopsJob inputs.table.items (bytes_of inputs.captures)) }
 {

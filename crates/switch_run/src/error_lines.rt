@@ -1,9 +1,9 @@
 ghost use Rattle.std.specs.Prelude.{◌≡◌, ◌<◌, map, IfOk, OnOk, OnErr};
 ghost use Rattle.std.specs.List.{concat};
 ghost use Rattle.outside.specs.Faults.{ToErr, NeverFall, Rose};
-ghost use Rattle.pcap_records.specs.Format.{link_type};
+ghost use Rattle.pcap_records.specs.Texts.{hex_text};
 ghost use Rattle.switch_run.specs.ErrorLines.{line_of, usage_line};
-ghost use Rattle.switch_run.specs.LineParts.{Gives, GivesLine, hex_digit, hex_text, part_text};
+ghost use Rattle.switch_run.specs.LineParts.{Gives, GivesLine, part_text};
 ghost use Rattle.switch_run.specs.RefusalLines.{capture_line, refusal_line, table_line};
 ghost use Rattle.switch_run.specs.Words.{names_of};
 
@@ -13,7 +13,7 @@ use crate::words::{InputFile, RunWords};
 use forward_table::TableFault;
 use itoa::Buffer;
 use outside::{Failed, Files};
-use pcap_records::{Link, PcapFault};
+use pcap_records::PcapFault;
 
 const USAGE: &str =
     "usage: tiny_tera run [options] TABLE PREFIX INPUT.. or tiny_tera gen [options] SEED COUNT PORTS\n";
@@ -42,38 +42,21 @@ fn give_bytes<F: Files>(files: &mut F, bytes: &[u8]) -> Result<(), Failed>
     while at < bytes.len() {
         match files.err(&bytes[at..]) {
             Ok(count) => at += count,
-            Err(refused) => return Err(refused),
+            Err(failed) => return Err(failed),
         }
     }
     Ok(())
 }
 
-// The hexadecimal digit at this unit, a power of 16.
-fn hex_digit(number: u32, unit: u32) -> u8
-    requires { 0 < unit }
-    ensures { result ≡ hex_digit number unit }
-{
-    let digit = (number / unit % 16) as u8;
-    if digit < 10 {
-        b'0' + digit
-    } else {
-        b'a' + (digit - 10)
-    }
-}
-
+// The number in 8 hexadecimal digits.
 fn hex_text(number: u32) -> [u8; 8]
     ensures { result ≡ hex_text number }
 {
-    [
-        hex_digit(number, 0x1000_0000),
-        hex_digit(number, 0x100_0000),
-        hex_digit(number, 0x10_0000),
-        hex_digit(number, 0x1_0000),
-        hex_digit(number, 0x1000),
-        hex_digit(number, 0x100),
-        hex_digit(number, 0x10),
-        hex_digit(number, 1),
-    ]
+    let mut text = [0; 8];
+    match hex::encode_to_slice(number.to_be_bytes(), &mut text) {
+        Ok(()) => text,
+        Err(_) => unreachable!(),
+    }
 }
 
 fn give_part<F: Files>(files: &mut F, part: &Part) -> Result<(), Failed>
@@ -88,7 +71,7 @@ fn give_part<F: Files>(files: &mut F, part: &Part) -> Result<(), Failed>
     }
 }
 
-// Gives the parts to standard error, one after the other, up to a call that is refused.
+// Gives the parts to standard error, one after the other, up to a call that fails.
 fn give_parts<F: Files>(files: &mut F, parts: &[Part])
     ensures line { GivesLine (concat (map part_text parts.now)) (F.told files.old) (F.told files.new) (F.faults files.old ToErr) (F.faults files.new ToErr) }
     ensures never_fall { NeverFall (F.faults files.old) (F.faults files.new) }
@@ -108,13 +91,23 @@ fn print_table_line<F: Files>(files: &mut F, fault: TableFault)
         TableFault::BadLine { line } => {
             give_parts(
                 files,
-                &[Text("table line "), Number(line), Text(": bad line\n")],
+                &[
+                    Text("table line "),
+                    Number(line),
+                    Text(": bad line"),
+                    Text("\n"),
+                ],
             );
         }
         TableFault::HostBits { line } => {
             give_parts(
                 files,
-                &[Text("table line "), Number(line), Text(": host bits\n")],
+                &[
+                    Text("table line "),
+                    Number(line),
+                    Text(": host bits"),
+                    Text("\n"),
+                ],
             );
         }
         TableFault::BadPort { line, port } => give_parts(
@@ -130,7 +123,12 @@ fn print_table_line<F: Files>(files: &mut F, fault: TableFault)
         TableFault::BadLevel { line } => {
             give_parts(
                 files,
-                &[Text("table line "), Number(line), Text(": level\n")],
+                &[
+                    Text("table line "),
+                    Number(line),
+                    Text(": level"),
+                    Text("\n"),
+                ],
             );
         }
         TableFault::Repeated { line, first } => give_parts(
@@ -144,9 +142,12 @@ fn print_table_line<F: Files>(files: &mut F, fault: TableFault)
             ],
         ),
         TableFault::TooManyLines { count } => {
-            give_parts(files, &[Text("table: "), Number(count), Text(" lines\n")]);
+            give_parts(
+                files,
+                &[Text("table: "), Number(count), Text(" lines"), Text("\n")],
+            );
         }
-        TableFault::OutOfMemory => give_parts(files, &[Text(MEMORY)]),
+        TableFault::OutOfMemory => give_parts(files, &[Text("out of memory"), Text("\n")]),
     }
 }
 
@@ -154,16 +155,18 @@ fn print_capture_line<F: Files>(files: &mut F, port: u32, fault: PcapFault)
     ensures line { GivesLine (capture_line port fault) (F.told files.old) (F.told files.new) (F.faults files.old ToErr) (F.faults files.new ToErr) }
     ensures never_fall { NeverFall (F.faults files.old) (F.faults files.new) }
 {
-    let (capture, port) = (Text("capture "), Number(port));
+    let (capture, port, colon) = (Text("capture "), Number(port), Text(": "));
     match fault {
         PcapFault::ShortHeader { len } => give_parts(
             files,
             &[
                 capture,
                 port,
-                Text(": short header, "),
+                colon,
+                Text("short header, "),
                 Number(len),
-                Text(" bytes\n"),
+                Text(" bytes"),
+                Text("\n"),
             ],
         ),
         PcapFault::BadMagic { found } => give_parts(
@@ -171,7 +174,8 @@ fn print_capture_line<F: Files>(files: &mut F, port: u32, fault: PcapFault)
             &[
                 capture,
                 port,
-                Text(": bad magic "),
+                colon,
+                Text("bad magic "),
                 Magic(found),
                 Text("\n"),
             ],
@@ -181,7 +185,8 @@ fn print_capture_line<F: Files>(files: &mut F, port: u32, fault: PcapFault)
             &[
                 capture,
                 port,
-                Text(": version "),
+                colon,
+                Text("version "),
                 Number(u32::from(major)),
                 Text("."),
                 Number(u32::from(minor)),
@@ -193,7 +198,8 @@ fn print_capture_line<F: Files>(files: &mut F, port: u32, fault: PcapFault)
             &[
                 capture,
                 port,
-                Text(": link type "),
+                colon,
+                Text("link type "),
                 Number(found),
                 Text("\n"),
             ],
@@ -203,7 +209,8 @@ fn print_capture_line<F: Files>(files: &mut F, port: u32, fault: PcapFault)
             &[
                 capture,
                 port,
-                Text(": cut record at "),
+                colon,
+                Text("cut record at "),
                 Number(at),
                 Text("\n"),
             ],
@@ -213,24 +220,19 @@ fn print_capture_line<F: Files>(files: &mut F, port: u32, fault: PcapFault)
             &[
                 capture,
                 port,
-                Text(": long record at "),
+                colon,
+                Text("long record at "),
                 Number(at),
                 Text(", "),
                 Number(len),
-                Text(" bytes\n"),
+                Text(" bytes"),
+                Text("\n"),
             ],
         ),
-        PcapFault::OutOfMemory => give_parts(files, &[capture, port, Text(": out of memory\n")]),
-    }
-}
-
-// The number of a link type.
-fn link_number(link: Link) -> u32
-    ensures { result ≡ link_type link }
-{
-    match link {
-        Link::Ethernet => 1,
-        Link::RawIp => 101,
+        PcapFault::OutOfMemory => give_parts(
+            files,
+            &[capture, port, colon, Text("out of memory"), Text("\n")],
+        ),
     }
 }
 
@@ -245,9 +247,9 @@ fn print_refusal<F: Files>(files: &mut F, words: &RunWords, refusal: Refusal)
             files,
             &[
                 Text("link types "),
-                Number(link_number(first)),
+                Number(first.number()),
                 Text(" and "),
-                Number(link_number(other)),
+                Number(other.number()),
                 Text("\n"),
             ],
         ),
@@ -270,7 +272,7 @@ pub(crate) fn print_usage<F: Files>(files: &mut F)
     give_parts(files, &[Text(USAGE)]);
 }
 
-/// Prints the line of an ending. Where a call is refused, the rest of the line is left out.
+/// Prints the line of an ending. Where a call fails, the rest of the line is left out.
 pub(crate) fn print_line<F: Files>(files: &mut F, words: &RunWords, ending: Ending)
     ensures line { GivesLine (line_of (names_of words.now) ending) (F.told files.old) (F.told files.new) (F.faults files.old ToErr) (F.faults files.new ToErr) }
     ensures never_fall { NeverFall (F.faults files.old) (F.faults files.new) }

@@ -1,15 +1,15 @@
 ghost use Rattle.std.specs.Prelude.{◌≡◌, ◌≤◌, ◌<◌, Some, length, vec_len, IfErr, IfOk, IfSome};
 ghost use Rattle.outside.specs.Faults.{NeverFall};
+ghost use Rattle.outside.specs.WholeFiles.{Fits};
 ghost use Rattle.switch_run.specs.Endings.{Stops};
-ghost use Rattle.switch_run.specs.Inputs.{AreRead, CapturesRead, EarlierFit, Fits, most_bytes};
+ghost use Rattle.switch_run.specs.Inputs.{AreRead, CapturesRead, EarlierFit};
 ghost use Rattle.switch_run.specs.Outcome.{bytes_of};
 ghost use Rattle.switch_run.specs.Words.{IsInput, input_name, names_of};
 
 use crate::ending::Ending;
-use crate::whole_file::{ReadRefusal, read_whole};
 use crate::words::{InputFile, RunWords};
-use outside::Files;
-use rotating_pick::MAX_PORTS;
+use outside::{Files, ReadFailure, read_whole};
+use rotating_pick::{MAX_FILE_BYTES, MAX_PORTS};
 use std::alloc::{AllocError, Global};
 
 /// The most bytes that are asked for at once.
@@ -22,7 +22,7 @@ pub(crate) struct Inputs {
     pub(crate) captures: Vec<Vec<u8>>,
 }
 
-// Apart, so that no proof sees a list of so many zeros.
+// A function of its own, so that the prover does not unfold a list of 65,536 zeros.
 fn blank(alloc: Global, len: usize) -> Result<Vec<u8>, AllocError>
     ensures { IfOk result (λ v. length v.items ≡ len) }
 {
@@ -43,14 +43,14 @@ fn read_input<F: Files>(
     ensures told { F.told files.new ≡ F.told files.old }
     ensures never_fall { NeverFall (F.faults files.old) (F.faults files.new) }
     ensures bytes { IfOk result (λ v. IfSome (F.told files.old) (λ c. c.file (input_name (names_of words.now) input) ≡ Some v.items)) }
-    ensures fits { IfOk result (λ v. length v.items ≤ most_bytes) }
+    ensures fits { IfOk result (λ v. length v.items ≤ MAX_FILE_BYTES) }
     ensures stops { IfErr result (Stops (names_of words.now) (F.told files.old) (F.faults files.old) (F.faults files.new) (F.told files.new)) }
 {
     match read_whole(alloc, files, words.name(input), buf) {
         Ok(bytes) => Ok(bytes),
-        Err(ReadRefusal::Fault) => Err(Ending::ReadFault(input)),
-        Err(ReadRefusal::TooLong) => Err(Ending::TooLong(input)),
-        Err(ReadRefusal::OutOfMemory) => Err(Ending::OutOfMemory),
+        Err(ReadFailure::Fault) => Err(Ending::ReadFault(input)),
+        Err(ReadFailure::TooLong) => Err(Ending::TooLong(input)),
+        Err(ReadFailure::OutOfMemory) => Err(Ending::OutOfMemory),
     }
 }
 

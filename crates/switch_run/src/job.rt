@@ -10,10 +10,10 @@ use crate::arrivals::load;
 use crate::captures::{check_built, common_link, read_captures};
 use crate::slots::{Delivered, run_slots};
 use crate::texts::output_texts;
-use forward_table::{MAX_TEXT, Table, TableFault, read_table};
+use forward_table::{Table, TableFault, read_table};
 use line_pace::MAX_ARRIVAL_SLOTS;
-use pcap_records::{Capture, Link, MAX_FILE_BYTES, PcapFault};
-use rotating_pick::{MAX_PORTS, OutOfMemory};
+use pcap_records::{Capture, Link, PcapFault};
+use rotating_pick::{MAX_FILE_BYTES, MAX_PORTS, OutOfMemory};
 use std::alloc::{AllocError, AllocFailed, Global};
 
 /// Why a job is not run.
@@ -67,7 +67,7 @@ impl<T: Drop> From<AllocFailed<T>> for Refusal {
 fn read_lines(alloc: Global, text: &[u8], n: u32) -> Result<Table, Refusal>
     requires some { 0 < n }
     requires size { n ≤ MAX_PORTS }
-    requires length { length text.now ≤ MAX_TEXT }
+    requires length { length text.now ≤ MAX_FILE_BYTES }
     ensures read { IfOk result (λ table. reading_of n text.now ≡ Ok table) }
     ensures routes { IfOk result (AreRoutesOf n) }
     ensures refused { IfErr result (λ refusal. (refusal ≡ Refusal.OutOfMemory) ⊎ ((fault : TableFault) × (refusal ≡ Refusal.Table fault) × (reading_of n text.now ≡ Err fault))) }
@@ -130,7 +130,7 @@ pub(crate) fn run_job(
 ) -> Result<Vec<Vec<u8>>, Refusal>
     requires some { 0 < vec_len files }
     requires most { vec_len files ≤ MAX_PORTS }
-    requires table { length text.now ≤ MAX_TEXT }
+    requires table { length text.now ≤ MAX_FILE_BYTES }
     requires files { All (λ bytes. length bytes ≤ MAX_FILE_BYTES) (bytes_of files) }
     ensures outcome { IsOutcome text.now (bytes_of files) (bytes_in result) }
     ensures count { IfOk result (λ outputs. vec_len outputs ≡ vec_len files) }

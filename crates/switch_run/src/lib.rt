@@ -14,7 +14,6 @@ mod line_card;
 mod output_files;
 mod slots;
 mod texts;
-mod whole_file;
 mod words;
 
 pub use command::switch_main;

@@ -1,10 +1,11 @@
-ghost use Rattle.std.specs.Prelude.{◌≡◌, ◌≤◌, ◌<◌, true, length, map, slice_index_or, take, IfErr, IfOk, IfSome, OnOk};
+ghost use Rattle.std.specs.Prelude.{◌≡◌, ◌≤◌, ◌<◌, length, map, slice_index_or, take, IfErr, IfOk, OnOk};
 ghost use Rattle.std.specs.Option.{option_map};
 ghost use Rattle.outside.specs.Faults.{NeverFall};
 ghost use Rattle.switch_run.specs.Outcome.{bytes_of};
-ghost use Rattle.switch_run.specs.OutputFiles.{Appends, Puts, StopsAt, nameless, output_files, put_files, shown};
+ghost use Rattle.outside.specs.WholeFiles.{Puts, StopsAt};
+ghost use Rattle.switch_run.specs.OutputFiles.{nameless, output_files, put_files, shown};
 
-use outside::{Failed, Files};
+use outside::{Failed, Files, put_whole};
 use rotating_pick::MAX_PORTS;
 use std::alloc::{AllocError, Global};
 
@@ -32,35 +33,15 @@ pub(crate) fn named(
     Ok(files)
 }
 
-// Appends all of the bytes to a file that was begun, in as many calls as it takes.
-fn append_all<F: Files>(files: &mut F, name: &str, bytes: &[u8]) -> Result<(), Failed>
-    requires begun { IfSome (F.told files.old) (λ c. c.begun name.now ≡ true) }
-    ensures told { Appends result (record { name = name.now; bytes = bytes.now }) (F.faults files.old) (F.faults files.new) (F.told files.old) (F.told files.new) }
-    ensures never_fall { NeverFall (F.faults files.old) (F.faults files.new) }
-{
-    let mut at = 0;
-    while at < bytes.len() {
-        match files.write(name, &bytes[at..]) {
-            Ok(count) => at += count,
-            Err(refused) => return Err(refused),
-        }
-    }
-    Ok(())
-}
-
 // Begins the file and gives it all its bytes.
 fn put_file<F: Files>(files: &mut F, file: &OutputFile) -> Result<(), Failed>
     ensures told { Puts result (shown file.now) (F.faults files.old) (F.faults files.new) (F.told files.old) (F.told files.new) }
     ensures never_fall { NeverFall (F.faults files.old) (F.faults files.new) }
 {
-    let name = file.name.as_str();
-    match files.begin(name) {
-        Ok(()) => append_all(files, name, file.bytes.as_slice()),
-        Err(refused) => Err(refused),
-    }
+    put_whole(files, file.name.as_str(), file.bytes.as_slice())
 }
 
-/// Begins and writes each file, in order; else the number of the first of which a call was refused.
+/// Begins and writes each file, in order; else the number of the first of which a call failed.
 pub(crate) fn put_all<F: Files>(files: &mut F, output_files: &[OutputFile]) -> Result<(), u32>
     requires { length output_files.now ≤ MAX_PORTS }
     ensures ok { OnOk result (F.told files.new ≡ option_map (put_files (map shown output_files.now)) (F.told files.old)) }

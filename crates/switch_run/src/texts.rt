@@ -7,7 +7,7 @@ ghost use Rattle.switch_run.specs.Jobs.{file_of, is_nano, message_in, LiesWithin
 ghost use Rattle.switch_run.specs.Outcome.{bytes_of};
 
 use crate::slots::Delivered;
-use pcap_records::{Capture, HEADER_BYTES, Link, write_header, write_record};
+use pcap_records::{Capture, FILE_HEADER_BYTES, Link, write_header, write_record};
 use rotating_pick::OutOfMemory;
 use std::alloc::Global;
 
@@ -40,7 +40,7 @@ fn output_text(
     requires packets { All (IsPacketIn captures.now) packets.now }
     ensures { IfOk result (λ text. text.items ≡ capture_text nano link (map (message_in (map file_of captures.now)) packets.now)) }
 {
-    let mut text = vec![in alloc; 0; HEADER_BYTES]?;
+    let mut text = vec![in alloc; 0; FILE_HEADER_BYTES]?;
     write_header(&mut text, nano, link);
     let mut message = Vec::new(alloc);
     for packet in packets {

@@ -77,7 +77,7 @@ pub(crate) struct FailPlan {
 
 impl FailPlan {
     // Counts the next call of this kind, and answers whether it is to fail.
-    pub(crate) fn refuses(&mut self, call: Call) -> bool
+    pub(crate) fn fails_next(&mut self, call: Call) -> bool
         ensures named { IsTrue result ↔ Names self.old.fails.items call (count_of call self.new.made) }
         ensures made { self.new.made ≡ one_more call self.old.made }
         ensures fails { self.new.fails ≡ self.old.fails }

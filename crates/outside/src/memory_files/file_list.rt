@@ -1,7 +1,7 @@
-ghost use Rattle.std.specs.Prelude.{◌≡◌, ◌<◌, [], ◌++◌, true, Some, length, map, option_map, position, bytes_eq, IfOk, IfSome, OnOk, OnErr};
+ghost use Rattle.std.specs.Prelude.{◌≡◌, ◌<◌, ◌⊎◌, ℕ, [], ◌++◌, true, None, Some, length, map, option_map, position, bytes_eq, IfOk, IfSome, OnOk, OnErr};
 ghost use Rattle.std.specs.Option.{option_copied};
 ghost use Rattle.outside.specs.Calls.{NamesFile};
-ghost use Rattle.outside.specs.MemoryFiles.{FileState, file_named, counts_at, CountsFault, PutsFile};
+ghost use Rattle.outside.specs.MemoryFiles.{FileState, file_named, counts_at, CountsFault, HasNoRoom, PutsFile};
 
 use crate::files::Failed;
 use crate::memory_files::calls::{Call, CallCounts};
@@ -24,7 +24,7 @@ pub(crate) fn bytes_of<'a>(files: &'a [StoredFile], name: &str) -> Option<&'a [u
     Some(files[place].bytes())
 }
 
-// Counts a refused call, at its name, or elsewhere where that is not there.
+// Counts a failed call, at its name, or elsewhere where that is not there.
 pub(crate) fn count_fault(
     files: &mut Vec<StoredFile>,
     elsewhere: &mut CallCounts,
@@ -48,8 +48,9 @@ pub(crate) fn begin_file(
     elsewhere: CallCounts,
     name: &str,
 ) -> Result<(), AllocError>
-    ensures ok { OnOk result (PutsFile files.old.items files.new.items name.now (record { name = name.now; bytes = []; begun = true; faults = counts_at files.old.items elsewhere name.now })) }
+    ensures ok { OnOk result ((room : ℕ) × PutsFile files.old.items files.new.items name.now (record { name = name.now; bytes = []; room = room; begun = true; faults = counts_at files.old.items elsewhere name.now })) }
     ensures err { OnErr result (files.new.items ≡ files.old.items) }
+    ensures absent { OnErr result (file_named name.now files.old.items ≡ None) }
 {
     match place_of(files.as_slice(), name) {
         Some(place) => {
@@ -68,7 +69,7 @@ fn add_begun(
     name: &str,
 ) -> Result<(), AllocError>
     requires absent { file_named name.now files.old.items ≡ None }
-    ensures ok { OnOk result (PutsFile files.old.items files.new.items name.now (record { name = name.now; bytes = []; begun = true; faults = faults })) }
+    ensures ok { OnOk result ((room : ℕ) × PutsFile files.old.items files.new.items name.now (record { name = name.now; bytes = []; room = room; begun = true; faults = faults })) }
     ensures err { OnErr result (files.new.items ≡ files.old.items) }
 {
     let name = String::from_str(alloc, name)?;
@@ -76,17 +77,18 @@ fn add_begun(
     Ok(())
 }
 
-// Appends these bytes to the file of this name. It fails where there is none, and where memory runs
-// out.
+// Appends these bytes to the file of this name. It fails where there is none, and where more memory
+// is needed and refused.
 pub(crate) fn append_to(files: &mut Vec<StoredFile>, name: &str, piece: &[u8]) -> Result<(), Failed>
-    ensures ok { OnOk result ((f : FileState) × (file_named name.now files.old.items ≡ Some f) × PutsFile files.old.items files.new.items name.now (record f { bytes = f.bytes ++ piece.now })) }
+    ensures ok { OnOk result ((f : FileState) × (room : ℕ) × (file_named name.now files.old.items ≡ Some f) × PutsFile files.old.items files.new.items name.now (record f { bytes = f.bytes ++ piece.now; room = room })) }
     ensures err { OnErr result (files.new.items ≡ files.old.items) }
+    ensures cause { OnErr result ((file_named name.now files.old.items ≡ None) ⊎ HasNoRoom files.old.items name.now (length piece.now)) }
 {
-    let Some(place) = place_of(files.as_slice(), name) else {
-        return Err(Failed);
-    };
-    match files[place].append(piece) {
-        Ok(()) => Ok(()),
-        Err(_) => Err(Failed),
+    match place_of(files.as_slice(), name) {
+        Some(place) => match files[place].append(piece) {
+            Ok(()) => Ok(()),
+            Err(_) => Err(Failed),
+        },
+        None => Err(Failed),
     }
 }

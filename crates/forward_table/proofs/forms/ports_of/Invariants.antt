@@ -2,7 +2,8 @@ use Rattle.std.proofs.Common.{◌≡◌, length}
 use Rattle.std.specs.Prelude.{option_map, fold, ◌<◌, IfOk, IfNone}
 use Rattle.rotating_pick.specs.PortSets.{IsAmong}
 use Rattle.forward_table.specs.Text.{comma, parts}
-use Rattle.forward_table.specs.Forms.{numbers_of, with_port, fan_of}
+use Rattle.forward_table.specs.Forms.{numbers_of, fan_of}
+use Rattle.forward_table.specs.Steps.{with_port}
 use Rattle.forward_table.proofs.Ports.{parts_left}
 use Rattle.forward_table.proofs.forms.ports_of.Given as goal
 

@@ -3,14 +3,14 @@ use Rattle.outside.specs.MemoryFiles.{contents_among}
 use Rattle.outside.proofs.Storing.{begun_contents, begin_counted}
 use Rattle.outside.proofs.memory_files.MemFilesFiles.begin.Goals as goal
 
-pub returns-then-refuses-clause-told : goal.returns-then-refuses-clause-told
-returns-then-refuses-clause-told c =
+pub returns-then-fails_next-clause-told : goal.returns-then-fails_next-clause-told
+returns-then-fails_next-clause-told c =
     rw (← c.self.view_is) (ap Some (c.count_fault.ensures.contents c.self.inside.out.items c.self.inside.err.items))
 
 pub returns-in-Ok-clause-told : goal.returns-in-Ok-clause-told
 returns-in-Ok-clause-told c =
     let m = c.self.inside in
-    rw (← c.self.view_is) (ap Some (begun_contents c.args.name.now m.files.items c.begin_file.new.files.items _ m.out.items m.err.items c.in-Ok.ensures.ok refl refl))
+    rw (← c.self.view_is) (ap Some (begun_contents c.args.name.now m.files.items c.begin_file.new.files.items _ m.out.items m.err.items c.in-Ok.ensures.ok.1 refl refl))
 
 pub returns-in-Err-clause-told : goal.returns-in-Err-clause-told
 returns-in-Err-clause-told c =

@@ -1,8 +1,8 @@
 use Rattle.std.proofs.Common.{Some, ap}
 use Rattle.outside.proofs.memory_files.MemFilesFiles.read.Goals as goal
 
-pub returns-then-refuses-clause-told : goal.returns-then-refuses-clause-told
-returns-then-refuses-clause-told c =
+pub returns-then-fails_next-clause-told : goal.returns-then-fails_next-clause-told
+returns-then-fails_next-clause-told c =
     rw (← c.self.view_is) (ap Some (c.count_fault.ensures.contents c.self.inside.out.items c.self.inside.err.items))
 
 pub returns-in-None-clause-told : goal.returns-in-None-clause-told

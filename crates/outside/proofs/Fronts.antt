@@ -53,6 +53,6 @@ too_long (Some c) name out buf room k most front piece within more =
 pub piece_here : (o now : Option Contents) (name : List ℕ) (at : ℕ) (n room : ℕ) (buf : List ℕ) (k m : ℕ) → now ≡ o → at ≡ n → k ≡ m → IfSome now (λ c. GivesPiece (c.file name) at room buf k) → IfSome o (λ c. GivesPiece (c.file name) n room buf m)
 piece_here o now name at n room buf k m e a b h = rw (← e, ← a, ← b) h
 
--- what an append left, where it was not refused
+-- what an append left, where it did not fail
 pub appended : {T E : Type 0} → (r : Result T E) (new old more : List ℕ) → new ≡ (if is_ok r then old ++ more else old) → is_ok r ≡ true → new ≡ old ++ more
 appended r new old more e ok = rw ok at e

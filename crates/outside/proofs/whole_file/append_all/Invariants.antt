@@ -2,7 +2,7 @@ use Rattle.std.proofs.Common.{◌≡◌, ◌≤◌, length, ◌-◌, take, true}
 use Rattle.std.specs.Prelude.{option_map, IfSome}
 use Rattle.outside.specs.Contents.{append_file}
 use Rattle.outside.specs.Faults.{NeverFall}
-use Rattle.switch_run.proofs.output_files.append_all.Given as goal
+use Rattle.outside.proofs.whole_file.append_all.Given as goal
 
 abbrev pub invariant-loop-at : goal.invariant-loop-at
 invariant-loop-at g l =

@@ -5,7 +5,7 @@ use Rattle.outside.specs.Contents.{append_file}
 use Rattle.outside.specs.Faults.{WriteOf}
 use Rattle.outside.proofs.Counting.{NeverFall-Rose}
 use Rattle.outside.proofs.Effects.{is_begun-append_file, write_more}
-use Rattle.switch_run.proofs.output_files.append_all.Goals as goal
+use Rattle.outside.proofs.whole_file.append_all.Goals as goal
 
 pub returns-in-Err-clause-told : goal.returns-in-Err-clause-told
 returns-in-Err-clause-told g c = (NeverFall-Rose (g.F.Files.faults c.args.files.now) (g.F.Files.faults c.loop-at.files) (g.F.Files.faults c.write.new.self) (WriteOf c.args.name.now) c.loop-at.invariant.never_fall c.in-Err.ensures.cause, (c.loop-at.at, c.in-Err.ensures.told ∙ c.loop-at.invariant.told))

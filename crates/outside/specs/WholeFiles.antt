@@ -1,0 +1,41 @@
+-- Whole files, read and written in as many calls as it takes.
+use Rattle.std.specs.Prelude.{◌≡◌, ◌<◌, ◌≤◌, ℕ, List, take, length, Option, Some, Result, Ok, Err, option_map}
+use Rattle.rotating_pick.specs.declared.limits.TheConstants.{MAX_FILE_BYTES}
+use Rattle.outside.specs.Contents.{Contents, begin_file, append_file}
+use Rattle.outside.specs.Faults.{Place, BeginOf, WriteOf, Rose}
+
+-- the file is there, and not too long
+abbrev pub Fits : Contents → List ℕ → Type 0
+Fits c name = (bytes : List ℕ) × (c.file name ≡ Some bytes) × (length bytes ≤ MAX_FILE_BYTES)
+
+-- the file is there, and has more bytes than a file may have
+abbrev pub IsTooLong : Contents → List ℕ → Type 0
+IsTooLong c name = (bytes : List ℕ) × (c.file name ≡ Some bytes) × (MAX_FILE_BYTES < length bytes)
+
+-- A name, and the bytes of the file of that name.
+pub record NamedBytes : Type 0 where
+  pub name : List ℕ
+  pub bytes : List ℕ
+
+-- the file is begun and given all its bytes; all else as before
+abbrev pub put_file : Contents → NamedBytes → Contents
+put_file c f = append_file f.name f.bytes (begin_file f.name c)
+
+-- the first n of the file's bytes
+abbrev pub first_part : ℕ → NamedBytes → NamedBytes
+first_part n f = record { name = f.name; bytes = take n f.bytes }
+
+-- A call on the file failed: `begin`, and it is as before; or `write`, and it holds a first part of its bytes.
+pub data StopsAt (f : NamedBytes) (was now : Place → ℕ) (before after : Option Contents) : Type 0 where
+  AtBegin : Rose (was (BeginOf f.name)) (now (BeginOf f.name)) → after ≡ before → StopsAt f was now before after
+  AtWrite : (n : ℕ) → Rose (was (WriteOf f.name)) (now (WriteOf f.name)) → after ≡ option_map (λ c. put_file c (first_part n f)) before → StopsAt f was now before after
+
+-- the calls put the file, or one of them failed
+abbrev pub Puts : {T E : Type 0} → Result T E → NamedBytes → (Place → ℕ) → (Place → ℕ) → Option Contents → Option Contents → Type 0
+Puts (Ok done) f was now before after = after ≡ option_map (λ c. put_file c f) before
+Puts (Err failure) f was now before after = StopsAt f was now before after
+
+-- the calls appended all of the bytes to the file; or one of them failed, and a first part of them was appended
+abbrev pub Appends : {T E : Type 0} → Result T E → NamedBytes → (Place → ℕ) → (Place → ℕ) → Option Contents → Option Contents → Type 0
+Appends (Ok done) f was now before after = after ≡ option_map (append_file f.name f.bytes) before
+Appends (Err failure) f was now before after = Rose (was (WriteOf f.name)) (now (WriteOf f.name)) × ((n : ℕ) × (after ≡ option_map (append_file f.name (take n f.bytes)) before))

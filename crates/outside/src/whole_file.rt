@@ -1,0 +1,102 @@
+ghost use Rattle.std.specs.Prelude.{◌≡◌, ◌≤◌, ◌<◌, [], Some, true, length, IfOk, OnOk, IfSome, IsErrOf};
+ghost use Rattle.outside.specs.Faults.{ReadOf, NeverFall, Rose};
+ghost use Rattle.outside.specs.WholeFiles.{Appends, IsTooLong, Puts};
+
+use crate::files::{Failed, Files};
+use rotating_pick::MAX_FILE_BYTES;
+use std::alloc::Global;
+
+/// Why a file was not read.
+#[derive(Clone, Copy, Debug, PartialEq, Eq)]
+pub enum ReadFailure {
+    /// A call of `read` failed.
+    Fault,
+    /// The file has more than 16,777,216 bytes.
+    TooLong,
+    /// There was no memory for its bytes.
+    OutOfMemory,
+}
+
+// Reads all bytes of the named file into an empty list, through a buffer.
+fn read_into<F: Files>(
+    files: &mut F,
+    name: &str,
+    bytes: &mut Vec<u8>,
+    buf: &mut [u8],
+) -> Result<(), ReadFailure>
+    requires room { 0 < length buf.old }
+    requires empty { bytes.old.items ≡ [] }
+    ensures told { F.told files.new ≡ F.told files.old }
+    ensures never_fall { NeverFall (F.faults files.old) (F.faults files.new) }
+    ensures bytes { OnOk result (IfSome (F.told files.old) (λ c. c.file name.now ≡ Some bytes.new.items)) }
+    ensures fits { OnOk result (length bytes.new.items ≤ MAX_FILE_BYTES) }
+    ensures fault { IsErrOf result ReadFailure.Fault → Rose (F.faults files.old (ReadOf name.now)) (F.faults files.new (ReadOf name.now)) }
+    ensures too_long { IsErrOf result ReadFailure.TooLong → IfSome (F.told files.old) (λ c. IsTooLong c name.now) }
+{
+    loop {
+        let count = match files.read(name, bytes.len() as u64, buf) {
+            Ok(count) => count,
+            Err(_) => return Err(ReadFailure::Fault),
+        };
+        if count == 0 {
+            return Ok(());
+        }
+        if count > MAX_FILE_BYTES - bytes.len() {
+            return Err(ReadFailure::TooLong);
+        }
+        if bytes.extend_from_slice(&buf[..count]).is_err() {
+            return Err(ReadFailure::OutOfMemory);
+        }
+    }
+}
+
+/// All bytes of the named file, read in pieces through `buf`, which must not be empty. Reads go on from
+/// where the one before ended, so a pipe is read like a file.
+pub fn read_whole<F: Files>(
+    alloc: Global,
+    files: &mut F,
+    name: &str,
+    buf: &mut [u8],
+) -> Result<Vec<u8>, ReadFailure>
+    requires { 0 < length buf.old }
+    ensures told { F.told files.new ≡ F.told files.old }
+    ensures never_fall { NeverFall (F.faults files.old) (F.faults files.new) }
+    ensures bytes { IfOk result (λ v. IfSome (F.told files.old) (λ c. c.file name.now ≡ Some v.items)) }
+    ensures fits { IfOk result (λ v. length v.items ≤ MAX_FILE_BYTES) }
+    ensures fault { IsErrOf result ReadFailure.Fault → Rose (F.faults files.old (ReadOf name.now)) (F.faults files.new (ReadOf name.now)) }
+    ensures too_long { IsErrOf result ReadFailure.TooLong → IfSome (F.told files.old) (λ c. IsTooLong c name.now) }
+{
+    let mut bytes = Vec::new(alloc);
+    match read_into(files, name, &mut bytes, buf) {
+        Ok(()) => Ok(bytes),
+        Err(failure) => Err(failure),
+    }
+}
+
+// Appends all of the bytes to a file that was begun, in as many calls as it takes.
+fn append_all<F: Files>(files: &mut F, name: &str, bytes: &[u8]) -> Result<(), Failed>
+    requires begun { IfSome (F.told files.old) (λ c. c.begun name.now ≡ true) }
+    ensures told { Appends result (record { name = name.now; bytes = bytes.now }) (F.faults files.old) (F.faults files.new) (F.told files.old) (F.told files.new) }
+    ensures never_fall { NeverFall (F.faults files.old) (F.faults files.new) }
+{
+    let mut at = 0;
+    while at < bytes.len() {
+        match files.write(name, &bytes[at..]) {
+            Ok(count) => at += count,
+            Err(failed) => return Err(failed),
+        }
+    }
+    Ok(())
+}
+
+/// Begins the named file and writes all of the bytes to it. Where a call fails, the file is as before,
+/// or holds a first part of the bytes.
+pub fn put_whole<F: Files>(files: &mut F, name: &str, bytes: &[u8]) -> Result<(), Failed>
+    ensures told { Puts result (record { name = name.now; bytes = bytes.now }) (F.faults files.old) (F.faults files.new) (F.told files.old) (F.told files.new) }
+    ensures never_fall { NeverFall (F.faults files.old) (F.faults files.new) }
+{
+    match files.begin(name) {
+        Ok(()) => append_all(files, name, bytes),
+        Err(failed) => Err(failed),
+    }
+}
