@@ -1,0 +1,74 @@
+-- A plan's packets, as far as they were looked at.
+use Rattle.std.proofs.Common.{◌≡◌, ◌∙◌, ◌⊎◌, ℕ, zero, suc, ◌+◌, ◌<◌, ◌≤◌, List, [], ◌∷◌, length, Option, Some, None, slice_get, slice_index_or, refl, sym, ap, subst, arith, inl, inr}
+use Rattle.std.proofs.lemmas.Bool.{cases_eq}
+use Rattle.std.proofs.lemmas.Option.{same_Some}
+use Rattle.card_core.specs.declared.plan.Planned.{Planned}
+use Rattle.card_core.specs.Plans.{IsPlanned, AreRising}
+
+pub get_some : (packets : List Planned) (k : ℕ) (p d : Planned) → slice_get packets k ≡ Some p → slice_index_or packets k d ≡ p
+get_some [] k p d is = absurd (cc)
+get_some (x ∷ packets) zero p d is = same_Some x p is
+get_some (x ∷ packets) (suc k) p d is = get_some packets k p d is
+
+pub some_get : (packets : List Planned) (k : ℕ) (d : Planned) → k < length packets → slice_get packets k ≡ Some (slice_index_or packets k d)
+some_get [] k d inside = absurd (omega arith)
+some_get (x ∷ packets) zero d inside = refl
+some_get (x ∷ packets) (suc k) d inside = some_get packets k d (omega arith)
+
+pub some_lt : (packets : List Planned) (k : ℕ) (p : Planned) → slice_get packets k ≡ Some p → k < length packets
+some_lt [] k p is = absurd (cc)
+some_lt (x ∷ packets) zero p is = omega arith
+some_lt (x ∷ packets) (suc k) p is = omega (arith, some_lt packets k p is)
+
+at_or_below : (k i : ℕ) → k < i + 1 → (k ≡ i) ⊎ (k < i)
+at_or_below k i below = elim (cases_eq k i) [ inl same ↦ inl same | inr other ↦ inr (omega arith) ]
+
+pub planned_more : (n bytes : ℕ) (packets : List Planned) (i : ℕ) (d : Planned) → ((k : ℕ) (p : Planned) → k < i → slice_get packets k ≡ Some p → IsPlanned n bytes p) → IsPlanned n bytes (slice_index_or packets i d)
+    → (k : ℕ) (p : Planned) → k < i + 1 → slice_get packets k ≡ Some p → IsPlanned n bytes p
+planned_more n bytes packets i d before here k p below is = elim (at_or_below k i below) [
+  | inl same ↦ subst (IsPlanned n bytes) (get_some packets i p d (ap (slice_get packets) (sym same) ∙ is)) here
+  | inr less ↦ before k p less is
+]
+
+-- ---- the packets rise so far, and the next may arrive in this slot at the earliest
+pub record RisesTo (packets : List Planned) (i least : ℕ) : Type 0 where
+  pub start : i ≡ 0 → least ≡ 0
+  pub last : (k : ℕ) (p : Planned) → k + 1 ≡ i → slice_get packets k ≡ Some p → least ≡ p.arrival + 1
+  pub above : (k : ℕ) (p : Planned) → k < i → slice_get packets k ≡ Some p → p.arrival < least
+  pub rising : (k j : ℕ) (p r : Planned) → j < i → slice_get packets k ≡ Some p → slice_get packets j ≡ Some r → k < j → p.arrival < r.arrival
+
+pub rises_none : (packets : List Planned) → RisesTo packets 0 0
+rises_none packets = record {
+  start = λ _. refl;
+  last = λ k p at there. absurd (omega arith);
+  above = λ k p less there. absurd (omega arith);
+  rising = λ k j p r less a b before. absurd (omega arith);
+}
+
+pub rises_more : (packets : List Planned) (i least : ℕ) (d : Planned) → RisesTo packets i least → least ≤ (slice_index_or packets i d).arrival → RisesTo packets (i + 1) ((slice_index_or packets i d).arrival + 1)
+rises_more packets i least d so_far from =
+    let at_i = λ (p : Planned) (is : slice_get packets i ≡ Some p). ap (λ (r : Planned). r.arrival) (get_some packets i p d is) in
+    record {
+      start = λ none. absurd (omega arith);
+      last = λ k p at there. let same : k ≡ i = omega arith in let e = at_i p (ap (slice_get packets) (sym same) ∙ there) in omega arith;
+      above = λ k p less there. elim (at_or_below k i less) [
+        | inl same ↦ let e = at_i p (ap (slice_get packets) (sym same) ∙ there) in omega arith
+        | inr below ↦ let a = so_far.above k p below there in omega arith
+      ];
+      rising = λ k j p r less a b before. elim (at_or_below j i less) [
+        | inl same ↦ let e = at_i r (ap (slice_get packets) (sym same) ∙ b) in let f = so_far.above k p (omega arith) a in omega arith
+        | inr below ↦ so_far.rising k j p r below a b before
+      ];
+    }
+
+pub rises_all : (packets : List Planned) (i least : ℕ) → length packets ≤ i → RisesTo packets i least → AreRising packets
+rises_all packets i least all so_far k j p r a b before = so_far.rising k j p r (let l = some_lt packets j r b in omega arith) a b before
+
+pub rises_not : (packets : List Planned) (i least : ℕ) (d : Planned) → RisesTo packets i least → i < length packets → (slice_index_or packets i d).arrival < least → AreRising packets → ⊥
+rises_not packets zero least d so_far inside less rising = let z = so_far.start refl in omega arith
+rises_not packets (suc i) least d so_far inside less rising =
+    let here = some_get packets (suc i) d inside in
+    let before = some_get packets i d (omega arith) in
+    let e = so_far.last i (slice_index_or packets i d) (omega arith) before in
+    let f = rising i (suc i) (slice_index_or packets i d) (slice_index_or packets (suc i) d) before here (omega arith) in
+    omega arith

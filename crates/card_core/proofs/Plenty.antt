@@ -1,0 +1,149 @@
+-- How many packets there are, and how many enter each queue.
+use Rattle.std.proofs.Common.{◌≡◌, ◌≢◌, ◌∙◌, ◌⊎◌, ℕ, zero, suc, ◌+◌, ◌-◌, ◌*◌, ◌^◌, ◌<◌, ◌≤◌, ◌==◌, ◌&&◌, not, Bool, true, false, List, [], ◌∷◌, ◌++◌, length, take, drop, Option, Some, None, slice_get, slice_index, slice_index_or, slice_set, refl, sym, ap, subst, arith, inl, inr, if◌then◌else◌, count_by, length-append}
+use Rattle.std.proofs.lemmas.Bool.{cases_eq, and_parts, eqb-true, eq-eqb, ne_eqb}
+use Rattle.std.proofs.lemmas.List.{get_or-set_same, get_or-set_other, length-set}
+use Rattle.multicast_queue.specs.FanQueues.{HasSeveral}
+use Rattle.card_core.specs.declared.plan.Planned.{Planned}
+use Rattle.card_core.specs.Plans.{Plan, Queue, OfOutput, OfLevel, IsGoodPlan, AreRising, is_queue, queue_of}
+use Rattle.card_core.specs.Queues.{is_routed}
+use Rattle.card_core.specs.States.{packets_for, HasRooms, AreFew}
+use Rattle.card_core.proofs.Arriving.{queue-unicast, queue-multicast, is_queue-refl, other-output, count-cons}
+
+-- ---- as many packets as arrival slots at most
+-- a packet within the list
+there_at : (packets : List Planned) (k : ℕ) → k < length packets → (p : Planned) × (slice_get packets k ≡ Some p)
+there_at [] k inside = absurd (omega arith)
+there_at (p ∷ packets) zero inside = (p, refl)
+there_at (p ∷ packets) (suc k) inside = there_at packets k (omega arith)
+
+late : (packets : List Planned) → AreRising packets → (k : ℕ) (p : Planned) → slice_get packets k ≡ Some p → k < length packets → k ≤ p.arrival
+late packets rising zero p there inside = omega arith
+late packets rising (suc k) p there inside =
+    let before = there_at packets k (omega arith) in
+    omega (arith, late packets rising k before.0 before.1 (omega arith), rising k (suc k) before.0 p before.1 there (omega arith))
+
+few_at : (plan : Plan) → IsGoodPlan plan → (n : ℕ) → length plan.packets ≡ n → n ≤ 131072
+few_at plan good zero is = omega arith
+few_at plan good (suc n) is =
+    let last = there_at plan.packets n (omega arith) in
+    omega (arith, late plan.packets good.rising n last.0 last.1 (omega arith), (good.packets n last.0 last.1).early)
+
+pub few_packets : (plan : Plan) → IsGoodPlan plan → length plan.packets ≤ 131072
+few_packets plan good = few_at plan good (length plan.packets) refl
+
+-- ---- the packets for a queue, with one more
+for_push : (q : Queue) (packets : List Planned) (p : Planned) → packets_for q (packets ++ p ∷ []) ≡ packets_for q packets + packets_for q (p ∷ [])
+for_push q [] p = omega arith
+for_push q (x ∷ packets) p =
+    let test = λ (r : Planned). is_routed r && is_queue q (queue_of r) in
+    omega (arith, for_push q packets p, count-cons test x (packets ++ p ∷ []), count-cons test x packets)
+
+one_true : (test : Planned → Bool) (p : Planned) → test p ≡ true → count_by test (p ∷ []) ≡ 1
+one_true test p is = rw is refl
+
+one_false : (test : Planned → Bool) (p : Planned) → test p ≡ false → count_by test (p ∷ []) ≡ 0
+one_false test p is = rw is refl
+
+and_false : (a b : Bool) → b ≡ false → a && b ≡ false
+and_false true b e = e
+and_false false b e = refl
+
+module _ (p : Planned) where
+  takes : (q : Queue) → p.fan ≢ 0 → q ≡ queue_of p → packets_for q (p ∷ []) ≡ 1
+  takes q some is =
+      let e : p.fan == 0 ≡ false = ne_eqb p.fan 0 some in
+      let f : is_queue q (queue_of p) ≡ true = subst (λ r. is_queue q r ≡ true) is (is_queue-refl q) in
+      one_true (λ r. is_routed r && is_queue q (queue_of r)) p (rw (e, f) refl)
+
+  skips : (q : Queue) → is_queue q (queue_of p) ≡ false → packets_for q (p ∷ []) ≡ 0
+  skips q no' = one_false (λ r. is_routed r && is_queue q (queue_of r)) p (and_false (is_routed p) (is_queue q (queue_of p)) no')
+
+  nowhere : (q : Queue) → p.fan ≡ 0 → packets_for q (p ∷ []) ≡ 0
+  nowhere q none =
+      let e : p.fan == 0 ≡ true = eq-eqb p.fan 0 none in
+      one_false (λ r. is_routed r && is_queue q (queue_of r)) p (rw e refl)
+
+  module _ (ports : ℕ) (before : List Planned) (uni fan : List ℕ) (rooms : HasRooms ports before uni fan) where
+    pub rooms-nowhere : p.fan ≡ 0 → HasRooms ports (before ++ p ∷ []) uni fan
+    rooms-nowhere none = record {
+      long = rooms.long;
+      unis = λ j l inside below. rooms.unis j l inside below ∙ (let n = nowhere (OfOutput j l) none in omega (arith, n, for_push (OfOutput j l) before p));
+      fans = λ l below. rooms.fans l below ∙ (let n = nowhere (OfLevel l) none in omega (arith, n, for_push (OfLevel l) before p));
+    }
+
+    uni_case : (j : ℕ) → queue_of p ≡ OfOutput j p.level → p.fan ≢ 0 → p.level < 4 → 4 * j + p.level < length uni → (k m : ℕ) → k < ports → m < 4
+        → slice_index (slice_set uni (4 * j + p.level) (slice_index_or uni (4 * j + p.level) 0 + 1)) (4 * k + m) ≡ packets_for (OfOutput k m) (before ++ p ∷ [])
+    uni_case j queue some below at k m k_in m_below = elim (cases_eq (4 * k + m) (4 * j + p.level)) [
+      | inl same ↦
+          let port : k ≡ j = omega arith in
+          let level : m ≡ p.level = omega arith in
+          let mine : OfOutput k m ≡ queue_of p = ap (λ i. OfOutput i m) port ∙ ap (λ i. OfOutput j i) level ∙ sym queue in
+          let n = takes (OfOutput k m) some mine in
+          let old = rooms.unis k m k_in m_below in
+          ap (slice_index (slice_set uni (4 * j + p.level) (slice_index_or uni (4 * j + p.level) 0 + 1))) same
+          ∙ get_or-set_same uni (4 * j + p.level) (slice_index_or uni (4 * j + p.level) 0 + 1) 0 at
+          ∙ ap (λ i. slice_index_or uni i 0 + 1) (sym same)
+          ∙ ap (λ i. i + 1) old ∙ omega (arith, n, for_push (OfOutput k m) before p)
+      | inr other ↦
+          let n = skips (OfOutput k m) (ap (is_queue (OfOutput k m)) queue ∙ other-output k m j p.level (λ both. other (omega (arith, both.0, both.1)))) in
+          get_or-set_other uni (4 * j + p.level) (4 * k + m) (slice_index_or uni (4 * j + p.level) 0 + 1) 0 other
+          ∙ rooms.unis k m k_in m_below ∙ omega (arith, n, for_push (OfOutput k m) before p)
+    ]
+
+    pub rooms-unicast : (j : ℕ) → p.fan ≡ 2 ^ j → p.fan ≢ 0 → j < 64 → p.level < 4 → 4 * j + p.level < length uni
+        → HasRooms ports (before ++ p ∷ []) (slice_set uni (4 * j + p.level) (slice_index_or uni (4 * j + p.level) 0 + 1)) fan
+    rooms-unicast j is some inside below at =
+        let queue = queue-unicast p j is inside in
+        record {
+          long = length-set uni (4 * j + p.level) (slice_index_or uni (4 * j + p.level) 0 + 1) ∙ rooms.long;
+          unis = λ k m k_in m_below. uni_case j queue some below at k m k_in m_below;
+          fans = λ l l_below.
+              let n = skips (OfLevel l) (ap (is_queue (OfLevel l)) queue) in
+              rooms.fans l l_below ∙ omega (arith, n, for_push (OfLevel l) before p);
+        }
+
+    fan_case : queue_of p ≡ OfLevel p.level → p.fan ≢ 0 → p.level < length fan → (l : ℕ) → l < 4
+        → slice_index (slice_set fan p.level (slice_index_or fan p.level 0 + 1)) l ≡ packets_for (OfLevel l) (before ++ p ∷ [])
+    fan_case queue some at l below = elim (cases_eq l p.level) [
+      | inl same ↦
+          let n = takes (OfLevel l) some (ap OfLevel same ∙ sym queue) in
+          let old = rooms.fans l below in
+          ap (slice_index (slice_set fan p.level (slice_index_or fan p.level 0 + 1))) same
+          ∙ get_or-set_same fan p.level (slice_index_or fan p.level 0 + 1) 0 at
+          ∙ ap (λ i. slice_index_or fan i 0 + 1) (sym same)
+          ∙ ap (λ i. i + 1) old ∙ omega (arith, n, for_push (OfLevel l) before p)
+      | inr other ↦
+          let n = skips (OfLevel l) (ap (is_queue (OfLevel l)) queue ∙ ne_eqb l p.level other) in
+          get_or-set_other fan p.level l (slice_index_or fan p.level 0 + 1) 0 other
+          ∙ rooms.fans l below ∙ omega (arith, n, for_push (OfLevel l) before p)
+    ]
+
+    pub rooms-multicast : HasSeveral p.fan → p.fan ≢ 0 → p.level < length fan
+        → HasRooms ports (before ++ p ∷ []) uni (slice_set fan p.level (slice_index_or fan p.level 0 + 1))
+    rooms-multicast several some at =
+        let queue = queue-multicast p several in
+        record {
+          long = rooms.long;
+          unis = λ j l inside below.
+              let n = skips (OfOutput j l) (ap (is_queue (OfOutput j l)) queue) in
+              rooms.unis j l inside below ∙ omega (arith, n, for_push (OfOutput j l) before p);
+          fans = λ l below. fan_case queue some at l below;
+        }
+
+-- ---- a number more at one place
+one_more : (xs : List ℕ) (i most place : ℕ) → i < length xs → ((k : ℕ) → slice_index xs k ≤ most) → slice_index (slice_set xs i (slice_index_or xs i 0 + 1)) place ≤ most + 1
+one_more xs i most place inside few = elim (cases_eq place i) [
+  | inl same ↦
+      let e : slice_index (slice_set xs i (slice_index_or xs i 0 + 1)) place ≡ slice_index_or xs i 0 + 1 = ap (slice_index (slice_set xs i (slice_index_or xs i 0 + 1))) same ∙ get_or-set_same xs i (slice_index_or xs i 0 + 1) 0 inside in
+      let f : slice_index_or xs i 0 ≤ most = few i in
+      omega (arith, e, f)
+  | inr other ↦
+      let e : slice_index (slice_set xs i (slice_index_or xs i 0 + 1)) place ≡ slice_index xs place = get_or-set_other xs i place (slice_index_or xs i 0 + 1) 0 other in
+      omega (arith, e, few place)
+]
+
+pub few-unicast : (most i : ℕ) (uni fan : List ℕ) → i < length uni → AreFew most uni fan → AreFew (most + 1) (slice_set uni i (slice_index_or uni i 0 + 1)) fan
+few-unicast most i uni fan inside few = record { unis = λ place. one_more uni i most place inside few.unis; fans = λ place. omega (arith, few.fans place) }
+
+pub few-multicast : (most i : ℕ) (uni fan : List ℕ) → i < length fan → AreFew most uni fan → AreFew (most + 1) uni (slice_set fan i (slice_index_or fan i 0 + 1))
+few-multicast most i uni fan inside few = record { unis = λ place. omega (arith, few.unis place); fans = λ place. one_more fan i most place inside few.fans }

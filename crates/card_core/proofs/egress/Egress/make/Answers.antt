@@ -1,0 +1,13 @@
+use Rattle.std.proofs.Common.{◌≡◌, ◌∙◌, ◌+◌, ◌*◌, ◌≤◌, ℕ, zero, suc, List, [], ◌∷◌, map, length, slice_index_or, sym, ap, subst, arith, refl}
+use Rattle.reassembly.specs.Flows.{Flow, Flows, fresh}
+use Rattle.card_core.specs.Cards.{AreFull}
+use Rattle.card_core.proofs.egress.Egress.make.Goals as goal
+
+fresh_at : (sizes : List ℕ) (place : ℕ) → length (slice_index_or (map fresh sizes) place (fresh 0)).bytes ≡ 56 * (slice_index_or (map fresh sizes) place (fresh 0)).next
+fresh_at [] place = refl
+fresh_at (size ∷ sizes) zero = refl
+fresh_at (size ∷ sizes) (suc place) = fresh_at sizes place
+
+pub invariant_of-result : goal.invariant_of-result
+invariant_of-result c =
+    (omega arith, omega arith, λ place. subst AreFull (sym c.in_ok-make.ensures) (fresh_at c.args.sizes.now) place)

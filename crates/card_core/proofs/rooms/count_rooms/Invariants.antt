@@ -1,0 +1,9 @@
+use Rattle.std.proofs.Common.{◌≡◌, ℕ, take}
+use Rattle.card_core.specs.States.{HasRooms, AreFew}
+use Rattle.card_core.proofs.rooms.count_rooms.Given as goal
+
+abbrev pub invariant-loop-packet : goal.invariant-loop-packet
+invariant-loop-packet l = record {
+  rooms : HasRooms l.n (take l.packet-index l.packets) l.unicast.items l.multicast;
+  few : AreFew l.packet-index l.unicast.items l.multicast;
+}

@@ -1,0 +1,144 @@
+ghost use Rattle.std.specs.Prelude.{◌≡◌, ℕ, ◌+◌, ◌<◌, ◌≤◌, ◌↔◌, ◌*◌, ◌^◌, ◌++◌, [], map, take, length, Option, Some, None, IfOk, IsTrue, All, true, false, if◌then◌else◌};
+ghost use Rattle.reassembly.specs.Flows.{Fits, fresh, flow_of, bytes_with, after_cell};
+ghost use Rattle.card_core.specs.Cards.{MayReceive, MayReceiveAny, received_with, received_any};
+
+use crate::limits::MAX_SLOTS;
+use crate::outcome::CardOut;
+use cell_cutter::{Cell, PAYLOAD_BYTES};
+use reassembly::{MAX_MESSAGE, Reassembly};
+use rotating_pick::{MAX_PORTS, OutOfMemory};
+use std::alloc::Global;
+use std::marker::Model;
+
+/// What a line card keeps of what comes to its output. `body` and `lens` have room for all that comes.
+#[derive(Drop)]
+pub(crate) struct Egress {
+    flows: Reassembly,
+    body: Vec<u8>,
+    filled: usize,
+    lens: Vec<u32>,
+    packets: usize,
+    cells: u32,
+}
+
+impl Model for Egress {
+    ghost use Rattle.std.specs.Prelude.{◌≤◌, length, take};
+    ghost use Rattle.card_core.specs.Cards.{Received, AreFull};
+
+    ghost Value = { Received };
+
+    ghost view = { λ e. record { flows = e.flows; body = take e.filled e.body.items; lens = take e.packets e.lens.items; cells = e.cells; body_room = length e.body.items; packet_room = length e.lens.items } };
+
+    ghost invariant = { λ e. (e.filled ≤ length e.body.items) × (e.packets ≤ length e.lens.items) × AreFull e.flows };
+}
+
+impl Egress {
+    /// An output to which nothing has come, for `n` inputs, with a flow of each size, and room for
+    /// `body_room` bytes and `packet_room` messages.
+    pub(crate) fn make(
+        alloc: Global,
+        n: u32,
+        sizes: &[u32],
+        body_room: u32,
+        packet_room: u32,
+    ) -> Result<Egress, OutOfMemory>
+        requires some { 0 < n }
+        requires ports { n ≤ MAX_PORTS }
+        requires flows { length sizes.now ≡ 8 * n }
+        requires sizes { All (λ size. size ≤ MAX_MESSAGE) sizes.now }
+        ensures { IfOk result (λ r. r ≡ record { flows = record { ports = n; flows = map fresh sizes.now }; body = []; lens = []; cells = 0; body_room = body_room; packet_room = packet_room }) }
+    {
+        Ok(Egress {
+            flows: Reassembly::make(alloc, n, sizes)?,
+            body: vec![in alloc; 0; body_room as usize]?,
+            filled: 0,
+            lens: vec![in alloc; 0; packet_room as usize]?,
+            packets: 0,
+            cells: 0,
+        })
+    }
+
+    /// Whether the cell, if any, may be put.
+    pub(crate) fn may_take(&self, cell: &Option<Cell>) -> bool
+        ensures { IsTrue result ↔ MayReceiveAny self.now cell.now }
+    {
+        match cell {
+            Some(cell) => self.flows.fits(cell) && (!cell.last || self.has_room(cell)),
+            None => true,
+        }
+    }
+
+    // Whether the message that ends with the cell has room.
+    fn has_room(&self, cell: &Cell) -> bool
+        requires { Fits self.now.flows cell.now }
+        ensures { IsTrue result ↔ ((length self.now.body + length (bytes_with (flow_of self.now.flows cell.now) cell.now) ≤ self.now.body_room) × (length self.now.lens < self.now.packet_room)) }
+    {
+        let len = PAYLOAD_BYTES * usize::from(cell.number) + usize::from(cell.used);
+        len <= self.body.len() - self.filled && self.packets < self.lens.len()
+    }
+
+    /// Puts the cell, if any. With a last one its message goes behind those that are whole.
+    pub(crate) fn take(&mut self, cell: &Option<Cell>)
+        requires may { MayReceiveAny self.old cell.now }
+        requires few { self.old.cells < MAX_SLOTS }
+        ensures { self.new ≡ received_any self.old cell.now }
+    {
+        let Some(cell) = cell else {
+            return;
+        };
+        self.cells += 1;
+        if let Some(len) = put(&mut self.flows, cell, &mut self.body, self.filled) {
+            self.filled += len;
+            self.lens[self.packets] = len as u32;
+            self.packets += 1;
+        }
+    }
+}
+
+impl Egress {
+    /// What came, beside the counts of the packets that the card sent.
+    pub(crate) fn finish(self, admitted: u32, dropped: u32) -> CardOut
+        requires { length self.lens < 2 ^ 32 }
+        ensures body { result.body.items ≡ self.body }
+        ensures lens { result.lens.items ≡ self.lens }
+        ensures packets { result.packets ≡ length self.lens }
+        ensures cells { result.cells ≡ self.cells }
+        ensures admitted { result.admitted ≡ admitted }
+        ensures dropped { result.dropped ≡ dropped }
+    {
+        let Egress {
+            flows: _,
+            mut body,
+            filled,
+            mut lens,
+            packets,
+            cells,
+        } = self;
+        body.truncate(filled);
+        lens.truncate(packets);
+        CardOut {
+            body,
+            lens,
+            packets: packets as u32,
+            cells,
+            admitted,
+            dropped,
+        }
+    }
+}
+
+// Puts the cell. With a last one its message is copied to the bytes from a place on, and the answer is its
+// length.
+fn put(flows: &mut Reassembly, cell: &Cell, body: &mut [u8], from: usize) -> Option<usize>
+    requires fits { Fits flows.old cell.now }
+    requires room { cell.now.last ≡ true → from + length (bytes_with (flow_of flows.old cell.now) cell.now) ≤ length body.old }
+    ensures flows { flows.new ≡ after_cell flows.old cell.now }
+    ensures len { result ≡ (if cell.now.last then Some (length (bytes_with (flow_of flows.old cell.now) cell.now)) else None) }
+    ensures whole { cell.now.last ≡ true → take (from + length (bytes_with (flow_of flows.old cell.now) cell.now)) body.new ≡ take from body.old ++ bytes_with (flow_of flows.old cell.now) cell.now }
+    ensures stays { cell.now.last ≡ false → body.new ≡ body.old }
+{
+    let done = flows.put(cell)?;
+    let len = done.message.len();
+    body[from..from + len].copy_from_slice(done.message);
+    Some(len)
+}

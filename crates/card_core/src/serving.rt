@@ -1,0 +1,47 @@
+ghost use Rattle.std.specs.Prelude.{ℕ, ◌≡◌, ◌↔◌, slice_index, IsTrue};
+ghost use Rattle.card_core.specs.Posts.{IsServable, IsPartOf, IsOneFor};
+ghost use Rattle.rotating_pick.specs.PortSets.{Has};
+ghost use Rattle.slot_match.specs.Rows.{sets_of};
+
+use crate::entering::only_port;
+use rotating_pick::{Kind, Ports, is_empty, is_subset};
+use slot_match::{Row, Served};
+
+/// Whether the part may be served of the row: nothing, or some of the outputs that the row names at the
+/// level with the kind, one for unicast.
+pub(crate) fn is_servable(row: &Row, served: Option<Served>) -> bool
+    ensures { IsTrue result ↔ IsServable row.now served }
+{
+    match served {
+        Some(part) => is_part(row, part),
+        None => true,
+    }
+}
+
+// Whether the outputs are some of those that the row names, and one for unicast.
+fn is_part(row: &Row, part: Served) -> bool
+    ensures { IsTrue result ↔ IsPartOf row.now part }
+{
+    is_subset(part.outputs, set(row, part.level, part.kind)) && is_some(part.outputs, part.kind)
+}
+
+// The outputs that the row names at the level with the kind.
+fn set(row: &Row, level: u8, kind: Kind) -> Ports
+    ensures { result ≡ slice_index (sets_of row.now kind) level }
+{
+    let set = match kind {
+        Kind::Uni => row.uni.get(usize::from(level)),
+        Kind::Multi => row.multi.get(usize::from(level)),
+    };
+    set.copied().unwrap_or(0)
+}
+
+// Whether there is an output, and for unicast no other.
+fn is_some(outputs: Ports, kind: Kind) -> bool
+    ensures { IsTrue result ↔ (((j : ℕ) × Has outputs j) × IsOneFor kind outputs) }
+{
+    match kind {
+        Kind::Uni => only_port(outputs).is_some(),
+        Kind::Multi => !is_empty(outputs),
+    }
+}
