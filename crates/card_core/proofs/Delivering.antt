@@ -14,10 +14,10 @@ use Rattle.cell_cutter.specs.Kinds.{kind_byte}
 use Rattle.cell_cutter.specs.declared.cell.Cell.{Cell}
 use Rattle.cell_cutter.specs.Cells.{used_bytes}
 use Rattle.reassembly.specs.Flows.{Flow, Flows, fresh, place_of, place_of_cell, flow_of, bytes_with, with_cell, after_cell, Fits}
-use Rattle.reassembly.specs.Cutting.{Stands}
-use Rattle.reassembly.proofs.Pieces.{Stands-with_cell}
+use Rattle.reassembly.specs.Cutting.{Stands, rest_after, joined, messages_of}
+use Rattle.reassembly.proofs.Pieces.{Stands-with_cell, messages_of-push}
 use Rattle.card_core.specs.Plans.{Plan, IsGoodPlan}
-use Rattle.card_core.specs.Deliveries.{is_of_flow, flow_cells, message_with, ended_by, messages_after, delivered}
+use Rattle.card_core.specs.Deliveries.{is_of_flow, flow_cells, message_with, ended_by, messages_after, delivered, messages_from}
 use Rattle.card_core.specs.Cards.{Received, HasReceived, MayReceive, received_with, flow_at}
 
 -- ---- the messages
@@ -168,3 +168,40 @@ module _ (plan : Plan) (good : IsGoodPlan plan) (r : Received) (cells : List Cel
         ∙ ap (map length) (sym (delivered-push cells cell));
     count = ap (λ n. n + 1) had.count ∙ sym (length_push cells cell);
   }
+
+-- ---- the messages of one flow are its cells, cut after each last one
+module _ (i l : ℕ) (k : Kind) where
+  own_flow : (before : List Cell) (cell : Cell) → is_of_flow i l k cell ≡ true → flow_cells cell.input cell.level cell.kind before ≡ flow_cells i l k before
+  own_flow before cell mine =
+      let p = parts_of (cell.input == i) (cell.level == l) (is_kind cell.kind k) mine in
+      ap (λ x. flow_cells x cell.level cell.kind before) (eqb-true cell.input i p.0)
+      ∙ ap (λ x. flow_cells i x cell.kind before) (eqb-true cell.level l p.1)
+      ∙ ap (λ x. flow_cells i l x before) (same_kind cell.kind k p.2)
+
+  last_case : (last : Bool) (messages : List (List ℕ)) (bytes message : List ℕ) → bytes ≡ message → messages ++ (if last then message ∷ [] else []) ≡ (if last then messages ++ bytes ∷ [] else messages)
+  last_case true messages bytes message same = ap (λ m. messages ++ m ∷ []) (sym same)
+  last_case false messages bytes message same = append-nil messages
+
+  one_more : (before : List Cell) (cell : Cell) (mine : Bool) → is_of_flow i l k cell ≡ mine
+      → messages_of (flow_cells i l k before) ++ (if mine then ended_by before cell else []) ≡ messages_of (flow_cells i l k (before ++ cell ∷ []))
+  one_more before cell true is =
+      let cells = flow_cells i l k before in
+      let flow : Flow = record { size = 0; bytes = joined (rest_after [] cells); next = length (rest_after [] cells) } in
+      let stands : Stands flow cells = record { bytes = refl; next = refl } in
+      last_case cell.last (messages_of cells) (bytes_with flow cell) (message_with before cell) (ap (λ cs. joined (rest_after [] cs) ++ used_bytes cell) (sym (own_flow before cell is)))
+      ∙ sym (messages_of-push flow cells cell stands)
+      ∙ ap messages_of (sym (cells-own before cell i l k is))
+  one_more before cell false is = append-nil (messages_of (flow_cells i l k before)) ∙ ap messages_of (sym (cells-other before cell i l k is))
+
+  from_all : (before cells : List Cell) → messages_of (flow_cells i l k before) ++ messages_from i l k before cells ≡ messages_of (flow_cells i l k (before ++ cells))
+  from_all before [] = append-nil (messages_of (flow_cells i l k before)) ∙ ap (λ cs. messages_of (flow_cells i l k cs)) (sym (append-nil before))
+  from_all before (cell ∷ cells) =
+      let here = if is_of_flow i l k cell then ended_by before cell else [] in
+      let rest = messages_from i l k (before ++ cell ∷ []) cells in
+      sym (append_assoc (messages_of (flow_cells i l k before)) here rest)
+      ∙ ap (λ xs. xs ++ rest) (one_more before cell (is_of_flow i l k cell) refl)
+      ∙ from_all (before ++ cell ∷ []) cells
+      ∙ ap (λ cs. messages_of (flow_cells i l k cs)) (append_assoc before (cell ∷ []) cells)
+
+  pub flow_is_cut : (cells : List Cell) → messages_from i l k [] cells ≡ messages_of (flow_cells i l k cells)
+  flow_is_cut cells = from_all [] cells

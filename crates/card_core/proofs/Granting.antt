@@ -129,12 +129,12 @@ module _ (plan : Plan) (good : IsGoodPlan plan) (q : Queue) (j : ℕ) where
       let next = rest_of q (with_since s (part ∷ s.since)) in
       same_test (has next j) (has rest j && not (serves q j part))
       (λ m.
-          let both = of.0 ((Decides-has next j).0 m) in
-          and_from (has rest j) (not (serves q j part)) ((Decides-has rest j).1 both.0) (not_true (serves q j part) (λ served. both.1 (tells.0 (serves-gives q j part served)))))
+      let both = of.0 ((Decides-has next j).0 m) in
+      and_from (has rest j) (not (serves q j part)) ((Decides-has rest j).1 both.0) (not_true (serves q j part) (λ served. both.1 (tells.0 (serves-gives q j part served)))))
       (λ m.
-          let both = and_parts (has rest j) (not (serves q j part)) m in
-          let left = (Decides-has rest j).0 both.0 in
-          (Decides-has next j).1 (of.1 (left, λ given. false_not (serves q j part) both.1 (back (tells.1 given) left))))
+      let both = and_parts (has rest j) (not (serves q j part)) m in
+      let left = (Decides-has rest j).0 both.0 in
+      (Decides-has next j).1 (of.1 (left, λ given. false_not (serves q j part) both.1 (back (tells.1 given) left))))
 
   part_if : (s : Passed) (part : Option Served) (c : FanCell) (v : List FanCell) (b : Bool) → waiting s ≡ c ∷ v → IsKept plan q s → (rest_of q (with_since s (part ∷ s.since)) == 0) ≡ b
       → (serves q j part ≡ true → has (rest_of q s) j ≡ true) → has (rest_of q (with_since s (part ∷ s.since))) j ≡ (has (rest_of q s) j && not (serves q j part))
@@ -145,7 +145,7 @@ module _ (plan : Plan) (good : IsGoodPlan plan) (q : Queue) (j : ℕ) where
       let left = has (rest_of q s) j in
       let among : left ≡ true → goes ≡ true = λ m. (Decides-has (first_fan (waiting s)) j).1 (remaining-has q (first_fan (waiting s)) s.since j ((Decides-has (rest_of q s) j).0 m)).0 in
       let joined = λ (next : Bool) (e : next ≡ (left && not (serves q j part))).
-          ap (λ w. (if goes && not left then first_of w else []) ++ (if serves q j part then first_of w else [])) is ∙ pieces goes left next (serves q j part) c named among e in
+      ap (λ w. (if goes && not left then first_of w else []) ++ (if serves q j part then first_of w else [])) is ∙ pieces goes left next (serves q j part) c named among e in
       let start = append_assoc out (begun_for q j s) (if serves q j part then first_of (waiting s) else []) in
       elim b as (λ v'. (rest_of q (with_since s (part ∷ s.since)) == 0) ≡ v' → given_of s ++ (if serves q j part then first_of (waiting s) else []) ≡ given_of (if v' then head_gone s else with_since s (part ∷ s.since))) [
         | true ↦ λ none.
@@ -161,7 +161,7 @@ module _ (plan : Plan) (good : IsGoodPlan plan) (q : Queue) (j : ℕ) where
         | false ↦ λ some.
             start
             ∙ ap (λ xs. out ++ xs) (joined (has (rest_of q (with_since s (part ∷ s.since))) j) after
-                ∙ ap (λ w. if goes && not (has (rest_of q (with_since s (part ∷ s.since))) j) then first_of w else []) (sym is))
+            ∙ ap (λ w. if goes && not (has (rest_of q (with_since s (part ∷ s.since))) j) then first_of w else []) (sym is))
       ] rest
 
   part_case : (s : Passed) (part : Option Served) (w : List FanCell) → waiting s ≡ w → IsKept plan q s
@@ -207,8 +207,8 @@ module _ (plan : Plan) (good : IsGoodPlan plan) (served : List (Option Served)) 
       let so_far = granted_is q j t (λ u less. may u (omega arith)) in
       ap (λ xs. xs ++ (if serves q j part then first_of (waiting s) else [])) (so_far ∙ sym (given_arrival plan good q j (before plan q served t) t (kept-before plan good q served t)))
       ∙ part_case plan good q j s part (waiting s) refl kept
-          (λ is. (Decides-has (rest_of q s) j).1 (rest_served q j t (may t (omega arith)) is))
-          (after_rest plan good q j s part (served_rest q j s part kept))
+      (λ is. (Decides-has (rest_of q s) j).1 (rest_served q j t (may t (omega arith)) is))
+      (after_rest plan good q j s part (served_rest q j s part kept))
 
   pub all_granted : (q : Queue) (j t : ℕ) → ((u : ℕ) → u < t → IsServable (row_at plan served u) (slice_index_or served u None)) → waiting (before plan q served t) ≡ []
       → granted_to plan q j served t ≡ to_output j (before plan q served t).entered

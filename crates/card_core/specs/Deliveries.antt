@@ -37,3 +37,9 @@ delivered cells = messages_after [] cells
 -- the cells that a card took
 abbrev pub cells_taken : List Taken → List Cell
 cells_taken takings = flat_map (λ taken. option_to_list taken.cell) takings
+
+-- the messages of one flow among those of some cells that come after others
+abbrev pub messages_from : ℕ → ℕ → Kind → List Cell → List Cell → List (List ℕ)
+messages_from input level kind before [] = []
+messages_from input level kind before (cell ∷ cells) =
+    (if is_of_flow input level kind cell then ended_by before cell else []) ++ messages_from input level kind (before ++ cell ∷ []) cells
