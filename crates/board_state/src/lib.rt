@@ -17,5 +17,5 @@ mod tests;
 pub use accepting::is_accepted;
 pub use books::CardBook;
 pub use journal::Journal;
-pub use limits::{MAX_SLOTS, MAX_SLOTS_WIDE};
+pub use limits::{MAX_SLOTS, MAX_SLOTS_WIDE, limits_are};
 pub use state::BoardState;

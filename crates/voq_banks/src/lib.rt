@@ -10,4 +10,4 @@ mod limits;
 mod tests;
 
 pub use banks::Banks;
-pub use limits::{MAX_DEPTH, MAX_QUEUE_PACKETS};
+pub use limits::{MAX_DEPTH, MAX_QUEUE_PACKETS, limits_are};
