@@ -1,0 +1,119 @@
+//! Rows of the texts of a run, in blocks. `case NAME` begins a block; `summary ..`, `outputs ..` for a
+//! report, and `slot_lines` with `slot USED FIRST MATCH` for each slot say what the text tells of; `text`
+//! makes it. After that each row `> LINE` states its next line.
+ghost use Rattle.std.specs.Prelude.{◌≡◌, ◌++◌, ℕ, List, IsSomeAnd, codes, string_bytes};
+
+use crate::fields::{outputs, summary};
+use crate::slots::Slots;
+use rotating_pick::{MAX_PORTS, OutOfMemory};
+use slot_report::{OutLine, Summary, report_text, summary_text};
+use std::alloc::{AllocError, Global};
+use vector_rows::{NoAnswer, Row, RowReader, set_up_row};
+
+/// The block that is being read.
+#[derive(Drop)]
+pub struct Block {
+    summary: Option<Summary>,
+    // None where only the summary is asked.
+    outputs: Option<Vec<OutLine>>,
+    // None where the report has no lines of slots.
+    slots: Option<Slots>,
+    text: String,
+    // How many lines of the text were stated.
+    stated: usize,
+}
+
+impl RowReader for Block {
+    // A line `> LINE` is a row that states LINE.
+    ghost reads = { λ _ line given _. (stated : List ℕ) → line ≡ codes "> " ++ stated → IsSomeAnd given (λ row. string_bytes row.stated ≡ stated) };
+
+    fn at(alloc: Global, _name: &str) -> Block {
+        Block::new(alloc)
+    }
+
+    fn row(&mut self, alloc: Global, line: &str) -> Result<Option<Row>, AllocError> {
+        if let Some(stated) = line.strip_prefix("> ") {
+            let answer = self.next_line(alloc);
+            return Ok(Some(Row::new(alloc, stated, answer)?));
+        }
+        let set_up = self.set_up(alloc, line);
+        set_up_row(alloc, line, set_up)
+    }
+}
+
+impl Block {
+    fn new(alloc: Global) -> Block {
+        Block {
+            summary: None,
+            outputs: None,
+            slots: None,
+            text: String::new(alloc),
+            stated: 0,
+        }
+    }
+
+    fn set_up(&mut self, alloc: Global, line: &str) -> Result<(), NoAnswer> {
+        let (key, value) = line.split_once(' ').unwrap_or((line, ""));
+        match key {
+            "case" => self.begin(alloc)?,
+            "summary" => self.summary = Some(summary(alloc, value)?),
+            "outputs" => self.outputs = Some(outputs(alloc, value)?),
+            "slot_lines" => {
+                let summary = self.summary.ok_or(NoAnswer)?;
+                self.slots = Some(Slots::new(alloc, summary.ports, summary.rounds)?);
+            }
+            "slot" => self.decide(alloc, value)?,
+            "text" => self.text = self.make_text(alloc)?,
+            _ => return Err(NoAnswer),
+        }
+        Ok(())
+    }
+
+    // Begins the next block. Each line of the text before it was stated.
+    fn begin(&mut self, alloc: Global) -> Result<(), NoAnswer> {
+        let is_whole = self.text.as_str().lines().nth(self.stated).is_none();
+        *self = Block::new(alloc);
+        if is_whole { Ok(()) } else { Err(NoAnswer) }
+    }
+
+    // Decides a slot with the match of this row. Its numbers are stated by the line of the slot.
+    fn decide(&mut self, alloc: Global, row: &str) -> Result<(), NoAnswer> {
+        let (_numbers, matched) = row.rsplit_once(' ').ok_or(NoAnswer)?;
+        match &mut self.slots {
+            Some(slots) => slots.decide(alloc, matched),
+            None => Err(NoAnswer),
+        }
+    }
+
+    fn make_text(&mut self, alloc: Global) -> Result<String, NoAnswer> {
+        let summary = self.summary.ok_or(NoAnswer)?;
+        let Some(outputs) = &self.outputs else {
+            return made(summary_text(alloc, &summary));
+        };
+        if outputs.len() > MAX_PORTS as usize {
+            return Err(NoAnswer);
+        }
+        let journal = match self.slots.take() {
+            Some(slots) => Some(slots.journal()),
+            None => None,
+        };
+        made(report_text(alloc, &summary, outputs, journal.as_ref()))
+    }
+
+    // The next line of the text, which a line feed ends.
+    fn next_line(&mut self, alloc: Global) -> Result<String, NoAnswer> {
+        let line = self.text.as_str().split_inclusive('\n').nth(self.stated);
+        let line = line.ok_or(NoAnswer)?.strip_suffix('\n').ok_or(NoAnswer)?;
+        let line = String::from_str(alloc, line)?;
+        self.stated = self.stated.saturating_add(1);
+        Ok(line)
+    }
+}
+
+// A text, unless memory ran out.
+fn made(text: Result<String, OutOfMemory>) -> Result<String, NoAnswer> {
+    match text {
+        Ok(text) => Ok(text),
+        Err(_) => Err(NoAnswer),
+    }
+}

@@ -1,0 +1,13 @@
+use Rattle.std.proofs.Common.{map, string_bytes}
+use Rattle.std.proofs.lemmas.Result.{on_ok_weaker}
+use Rattle.std.specs.Prelude.{codes}
+use Rattle.slot_report.specs.Pieces.{word_text}
+use Rattle.slot_report.proofs.Appending.{appended, whole_line}
+use Rattle.slot_report.proofs.lines.put_line.Goals as goal
+
+pub returns : goal.returns
+returns c =
+    on_ok_weaker c.push_str-2.result
+    (λ end. whole_line (string_bytes c.args.text.now) (string_bytes c.push_str.new.self) (string_bytes c.put_words.new.text) (string_bytes c.push_str-2.new.self) c.args.name.now (map word_text c.args.words.now)
+    c.in_ok-push_str.ensures.bytes c.in_ok-put_words.ensures end)
+    (appended c.push_str-2.result (string_bytes c.put_words.new.text) (codes "\n") (string_bytes c.push_str-2.new.self) c.push_str-2.ensures.bytes)

@@ -1,0 +1,110 @@
+ghost use Rattle.std.specs.Prelude.{◌≡◌, ◌∷◌, ◌++◌, ◌≤◌, length, map, codes, decimal, IfOk, OnOk, string_bytes};
+ghost use Rattle.std.specs.Option.{option_copied};
+ghost use Rattle.slot_report.specs.Lines.{line_text, lines_text};
+ghost use Rattle.slot_report.specs.Pieces.{count_line};
+ghost use Rattle.slot_report.specs.Texts.{map_with_place, output_line, report_lines, slots_of, summary_lines};
+
+use crate::lines::Word::{Name, Number};
+use crate::lines::put_line;
+use crate::slot_lines::{put_slots, slots_bytes};
+use crate::summary::{OutLine, Summary};
+use board_state::Journal;
+use rotating_pick::{LEVELS, MAX_PORTS, OutOfMemory};
+use std::alloc::{AllocError, Global};
+
+// The most bytes of the summary, whose numbers have ten digits at most.
+const SUMMARY_BYTES: usize = 255;
+
+// The most bytes of an output's line.
+const OUTPUT_BYTES: usize = 46;
+
+// Appends a line for each of these: a name and a number.
+fn put_counts(text: &mut String, counts: &[(&str, u32)]) -> Result<(), AllocError>
+    ensures { OnOk result (string_bytes text.new ≡ string_bytes text.old ++ lines_text (map count_line counts.now)) }
+{
+    for (name, count) in counts {
+        put_line(text, name, &[Number(*count)])?;
+    }
+    Ok(())
+}
+
+// Appends the line of the longest waits.
+fn put_longest(text: &mut String, longest: &[u32; LEVELS as usize]) -> Result<(), AllocError>
+    ensures { OnOk result (string_bytes text.new ≡ string_bytes text.old ++ line_text (codes "longest" ∷ map decimal longest.now)) }
+{
+    let [best, second, third, last] = *longest;
+    let waits = [Number(best), Number(second), Number(third), Number(last)];
+    put_line(text, "longest", &waits)
+}
+
+// Appends the lines of the summary.
+fn put_summary(text: &mut String, summary: &Summary) -> Result<(), AllocError>
+    ensures { OnOk result (string_bytes text.new ≡ string_bytes text.old ++ lines_text (summary_lines summary.now)) }
+{
+    let counts = [
+        ("ports", summary.ports),
+        ("rounds", summary.rounds),
+        ("depth", summary.depth),
+        ("slots", summary.slots),
+        ("packets", summary.packets),
+        ("oversize", summary.oversize),
+        ("unrouted", summary.unrouted),
+        ("dropped", summary.dropped),
+        ("forwarded", summary.forwarded),
+        ("copies", summary.copies),
+        ("cells", summary.cells),
+    ];
+    put_counts(text, &counts)?;
+    put_longest(text, &summary.longest)
+}
+
+// Appends the line of each output.
+fn put_outputs(text: &mut String, outputs: &[OutLine]) -> Result<(), AllocError>
+    requires { length outputs.now ≤ MAX_PORTS }
+    ensures { OnOk result (string_bytes text.new ≡ string_bytes text.old ++ lines_text (map_with_place output_line outputs.now)) }
+{
+    for (j, output) in outputs.iter().enumerate() {
+        let words = [
+            Number(j as u32),
+            Name("packets"),
+            Number(output.packets),
+            Name("cells"),
+            Number(output.cells),
+        ];
+        put_line(text, "output", &words)?;
+    }
+    Ok(())
+}
+
+/// The summary of a run: twelve lines. The only error is want of memory.
+pub fn summary_text(alloc: Global, summary: &Summary) -> Result<String, OutOfMemory>
+    ensures { IfOk result (λ text. string_bytes text ≡ lines_text (summary_lines summary.now)) }
+{
+    let mut text = String::with_capacity(alloc, SUMMARY_BYTES)?;
+    put_summary(&mut text, summary)?;
+    Ok(text)
+}
+
+/// The report of a run: the summary, a line for each of the outputs, 64 at most, and a line for each
+/// decided slot where a journal is given. The only error is want of memory.
+///
+/// Memory is taken once, before the first line: nothing that was written is copied.
+pub fn report_text(
+    alloc: Global,
+    summary: &Summary,
+    outputs: &[OutLine],
+    slots: Option<&Journal>,
+) -> Result<String, OutOfMemory>
+    requires { length outputs.now ≤ MAX_PORTS }
+    ensures { IfOk result (λ text. string_bytes text ≡ lines_text (report_lines summary.now outputs.now (slots_of (option_copied slots.entry)))) }
+{
+    let bytes = SUMMARY_BYTES + OUTPUT_BYTES * outputs.len();
+    let mut text = String::with_capacity(alloc, bytes.saturating_add(slots_bytes(slots)))?;
+    put_summary(&mut text, summary)?;
+    put_outputs(&mut text, outputs)?;
+    put_slots(&mut text, slots)?;
+    Ok(text)
+}
+
+#[cfg(test)]
+mod tests;
