@@ -4,7 +4,7 @@ ghost use Rattle.card_core.specs.Plans.{IsPlanned, AreRising};
 
 use crate::limits::MAX_ARRIVALS;
 use crate::plan::Planned;
-use cell_cutter::MAX_FORWARDED;
+use cell_cutter::MAX_FORWARDED_BYTES;
 use rotating_pick::{LEVELS, MAX_PORTS, is_among, is_empty};
 
 /// Whether each packet is well formed, of a switch of `n` ports and with so many captured bytes in all.
@@ -30,7 +30,7 @@ fn is_planned(n: u32, bytes: usize, packet: Planned) -> bool
     packet.start as usize + packet.len as usize <= bytes
         && u32::from(packet.level) < LEVELS
         && is_among(n, packet.fan)
-        && (is_empty(packet.fan) || packet.len as usize <= MAX_FORWARDED)
+        && (is_empty(packet.fan) || packet.len as usize <= MAX_FORWARDED_BYTES)
         && packet.arrival < MAX_ARRIVALS
 }
 

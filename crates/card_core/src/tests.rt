@@ -1,7 +1,7 @@
 use crate::{Card, CardOut, CardPlan, MAX_ARRIVALS, MAX_BODY, MAX_MESSAGES, MAX_SLOTS, Planned};
-use cell_cutter::{Cell, HEADER_BYTES};
+use cell_cutter::{CELL_HEADER_BYTES, Cell, MAX_MESSAGE_BYTES};
 use crossbar::Taken;
-use reassembly::MAX_MESSAGE;
+
 use rotating_pick::{Kind, Ports};
 use slot_match::{Row, Served};
 use std::alloc::{AllocError, Global};
@@ -27,7 +27,7 @@ struct Job<'a> {
 struct Slot {
     uni: [Ports; 4],
     multi: [Ports; 4],
-    cell: Option<[u8; HEADER_BYTES]>,
+    cell: Option<[u8; CELL_HEADER_BYTES]>,
     more: bool,
     served: Option<Served>,
     // Whether the cell that is posted crosses to the card's own output.
@@ -60,7 +60,7 @@ fn served(outputs: Ports, level: u8, kind: Kind) -> Option<Served> {
 // A slot of unicast alone, in which nothing crosses to the card's own output.
 fn unicast(
     uni: [Ports; 4],
-    cell: Option<[u8; HEADER_BYTES]>,
+    cell: Option<[u8; CELL_HEADER_BYTES]>,
     more: bool,
     served: Option<Served>,
 ) -> Slot {
@@ -92,7 +92,7 @@ fn plan_of(alloc: Global, job: &Job<'_>) -> Result<CardPlan, AllocError> {
 }
 
 // The header of a cell, as in its bytes.
-fn header(cell: Cell) -> [u8; HEADER_BYTES] {
+fn header(cell: Cell) -> [u8; CELL_HEADER_BYTES] {
     let kind = match cell.kind {
         Kind::Uni => 0,
         Kind::Multi => 1,
@@ -481,7 +481,7 @@ fn bad_plans_are_told(rt: HostRuntime) -> Result<(), Fail> {
         (Job { flows: 15, ..IDLE }, false),
         (
             Job {
-                size: MAX_MESSAGE + 1,
+                size: MAX_MESSAGE_BYTES as u32 + 1,
                 ..IDLE
             },
             false,

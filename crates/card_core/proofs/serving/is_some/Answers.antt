@@ -1,10 +1,9 @@
 use Rattle.std.proofs.Common.{◌≡◌, ◌≢◌, ◌∙◌, ◌^◌, ◌<◌, ℕ, Bool, true, false, not, Option, Some, None, is_some, sym, ap, subst, IsTrue, IfSome, IsNone, refl, arith}
-use Rattle.rotating_pick.specs.PortSets.{Has}
+use Rattle.rotating_pick.specs.PortSets.{Has, HasSeveral}
 use Rattle.rotating_pick.specs.declared.kinds.Kind.{Kind}
 use Rattle.rotating_pick.specs.declared.kinds.Kind.TheVariants.{Uni, Multi}
 use Rattle.rotating_pick.proofs.Bits.{zero-no_members}
 use Rattle.slot_match.proofs.Sets.{Has-some, zero-has}
-use Rattle.multicast_queue.specs.FanQueues.{HasSeveral}
 use Rattle.std.proofs.lemmas.Nat.Bits.{bit_at-pow_same}
 use Rattle.card_core.specs.Posts.{IsOneFor}
 use Rattle.card_core.proofs.Sets.{only_member}
