@@ -1,19 +1,17 @@
 -- The messages of the cells that came, with one cell more.
-use Rattle.std.proofs.Common.{◌≡◌, ◌≢◌, ◌∙◌, ◌⊎◌, ℕ, zero, suc, ◌+◌, ◌*◌, ◌<◌, ◌≤◌, ◌==◌, ◌&&◌, Bool, true, false, List, [], ◌∷◌, ◌++◌, map, length, Option, Some, None, slice_index_or, slice_set, refl, sym, ap, subst, arith, inl, inr, if◌then◌else◌, length-append, append_assoc, filter}
-use Rattle.std.specs.List.{concat, flat_map}
-use Rattle.std.specs.Option.{option_to_list}
-use Rattle.std.proofs.lemmas.Bool.{cases_eq, eq-eqb, ne_eqb, eqb-true}
-use Rattle.std.proofs.lemmas.List.{append-nil, map_push, map-set, map-append, set-get_or, get_or-set_same, get_or-set_other, length-set, length_push}
+use Rattle.std.proofs.Common.{◌≡◌, ◌≢◌, ◌∙◌, ◌⊎◌, ℕ, zero, suc, ◌+◌, ◌<◌, ◌==◌, ◌&&◌, Bool, true, false, List, [], ◌∷◌, ◌++◌, map, length, slice_index_or, slice_set, refl, sym, ap, subst, arith, inl, inr, if◌then◌else◌, append_assoc}
+use Rattle.std.specs.List.{concat}
+use Rattle.std.proofs.lemmas.Bool.{eq-eqb, eqb-true}
+use Rattle.std.proofs.lemmas.List.{append-nil, map-set, map-append, set-get_or, get_or-set_same, get_or-set_other, length_push}
 use Rattle.std.proofs.lemmas.List.Elements.{filter-append}
 use Rattle.std.proofs.lemmas.List.Folds.{concat-append}
-use Rattle.std.proofs.lemmas.Grind.{flat_map-append}
 use Rattle.rotating_pick.specs.declared.kinds.Kind.{Kind}
 use Rattle.rotating_pick.specs.declared.kinds.Kind.TheVariants.{Uni, Multi}
 use Rattle.eslip_rounds.specs.Decisions.{is_kind}
 use Rattle.cell_cutter.specs.Kinds.{kind_byte}
 use Rattle.cell_cutter.specs.declared.cell.Cell.{Cell}
 use Rattle.cell_cutter.specs.Cells.{used_bytes}
-use Rattle.reassembly.specs.Flows.{Flow, Flows, fresh, place_of, place_of_cell, flow_of, bytes_with, with_cell, after_cell, Fits}
+use Rattle.reassembly.specs.Flows.{Flow, fresh, place_of, place_of_cell, flow_of, bytes_with, with_cell, after_cell}
 use Rattle.reassembly.specs.Cutting.{Stands, rest_after, joined, messages_of}
 use Rattle.reassembly.proofs.Pieces.{Stands-with_cell, messages_of-push}
 use Rattle.card_core.specs.Plans.{Plan, IsGoodPlan}

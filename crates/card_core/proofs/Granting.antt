@@ -1,5 +1,5 @@
 -- The cells that are granted of a queue are the first that entered it, in order.
-use Rattle.std.proofs.Common.{◌≡◌, ◌≢◌, ◌∙◌, ◌⊎◌, ℕ, zero, suc, ◌+◌, ◌^◌, ◌<◌, ◌≤◌, ◌==◌, ◌&&◌, not, Bool, true, false, List, [], ◌∷◌, ◌++◌, drop, take, length, Option, Some, None, slice_index_or, refl, sym, ap, subst, arith, inl, inr, if◌then◌else◌, append_assoc, filter}
+use Rattle.std.proofs.Common.{◌≡◌, ◌∙◌, ℕ, zero, suc, ◌+◌, ◌^◌, ◌<◌, ◌≤◌, ◌==◌, ◌&&◌, not, Bool, true, false, List, [], ◌∷◌, ◌++◌, drop, take, length, Option, Some, None, slice_index_or, refl, sym, ap, subst, arith, if◌then◌else◌, append_assoc}
 use Rattle.std.specs.Option.{option_map}
 use Rattle.std.proofs.lemmas.Bool.{and_parts, and_from, eqb-true, eq-eqb}
 use Rattle.std.proofs.lemmas.List.{append-nil, take-append-le, take_all, length-drop}
@@ -17,14 +17,14 @@ use Rattle.slot_histories.specs.Tests.{has, gives}
 use Rattle.slot_histories.proofs.SetTests.{Decides-has}
 use Rattle.slot_histories.proofs.KeepingTests.{Decides-gives}
 use Rattle.multicast_queue.specs.FanQueues.{FanCell, first_fan, first_name}
-use Rattle.card_core.specs.Plans.{Plan, Queue, OfOutput, OfLevel, IsGoodPlan, level_of, kind_of, arriving, cell_named, last_port}
-use Rattle.card_core.specs.Queues.{Passed, waiting, remaining, rest_of, coming, with_arrival, with_since, head_gone, after_part, after_part_of, before, queue_in}
-use Rattle.card_core.specs.Posts.{has_cells, row_at, granted_by, granted_at, queue_by, queue_served, IsPartOf, IsServable}
+use Rattle.card_core.specs.Plans.{Plan, Queue, OfOutput, OfLevel, IsGoodPlan, level_of, kind_of, arriving, cell_named}
+use Rattle.card_core.specs.Queues.{Passed, waiting, remaining, rest_of, coming, with_arrival, with_since, head_gone, after_part_of, before, queue_in}
+use Rattle.card_core.specs.Posts.{has_cells, row_at, granted_by, granted_at, queue_by, IsPartOf, IsServable}
 use Rattle.card_core.specs.Grants.{serves, first_of, granted_to, to_output, begun_for}
 use Rattle.card_core.proofs.Remaining.{remaining-has, remaining-part, lacks}
 use Rattle.card_core.proofs.Sets.{same_test}
 use Rattle.card_core.proofs.Passing.{AreOf, AreOf-drop, kept-gone, IsHeld, IsKept, kept-before, kept-in, kept-arrival, waiting-more, small_fan}
-use Rattle.card_core.proofs.Accepting.{uni-in, multi-in, rest_output, output_left, head-of, one_output, last-only}
+use Rattle.card_core.proofs.Accepting.{uni-in, multi-in, rest_output, output_left, one_output, last-only}
 use Rattle.card_core.proofs.Taking.{remaining-whole}
 
 -- ---- what a part serves

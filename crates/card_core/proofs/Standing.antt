@@ -1,20 +1,17 @@
 -- A card after its takings.
-use Rattle.std.proofs.Common.{◌≡◌, ◌∙◌, ℕ, zero, suc, ◌+◌, ◌*◌, ◌<◌, ◌≤◌, ◌||◌, Bool, true, false, List, [], ◌∷◌, ◌++◌, map, length, Option, Some, None, slice_index_or, refl, sym, ap, subst, arith, length-append}
-use Rattle.std.specs.List.{flat_map, list_any}
+use Rattle.std.proofs.Common.{◌≡◌, ◌∙◌, ℕ, zero, suc, ◌<◌, ◌≤◌, ◌||◌, Bool, true, false, List, [], ◌∷◌, ◌++◌, map, length, Option, Some, None, slice_index_or, refl, sym, ap, subst, arith, length-append}
 use Rattle.std.specs.Option.{option_to_list}
 use Rattle.std.proofs.lemmas.List.{append-nil, map_push, length_push, length-map}
 use Rattle.std.proofs.lemmas.List.Folds.{list_any-append}
 use Rattle.std.proofs.lemmas.Grind.{flat_map-append}
-use Rattle.rotating_pick.specs.declared.kinds.Kind.{Kind}
 use Rattle.cell_cutter.specs.declared.cell.Cell.{Cell}
-use Rattle.slot_match.specs.declared.matching.Served.{Served}
-use Rattle.reassembly.specs.Flows.{Flow, Flows, fresh, place_of}
+use Rattle.reassembly.specs.Flows.{Flow, fresh, place_of}
 use Rattle.reassembly.specs.Cutting.{Stands}
 use Rattle.crossbar.specs.declared.cards.Taken.{Taken}
 use Rattle.card_core.specs.Plans.{Plan, IsGoodPlan}
 use Rattle.card_core.specs.Deliveries.{cells_taken}
-use Rattle.card_core.specs.Cards.{Received, CardState, card_of, served_in, is_done, flow_at, HasReceived, IsAfter, MayReceive, MayReceiveAny, MayTake, received_any}
-use Rattle.card_core.specs.States.{State, HasSent, slots_in}
+use Rattle.card_core.specs.Cards.{Received, CardState, card_of, served_in, is_done, HasReceived, IsAfter, MayReceiveAny, received_any}
+use Rattle.card_core.specs.States.{State, HasSent}
 use Rattle.card_core.proofs.Collecting.{received_of}
 use Rattle.card_core.proofs.Delivering.{received-push}
 

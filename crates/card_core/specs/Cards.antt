@@ -11,7 +11,7 @@ use Rattle.reassembly.specs.Cutting.{Stands}
 use Rattle.crossbar.specs.declared.cards.Taken.{Taken}
 use Rattle.card_core.specs.declared.limits.TheConstants.{MAX_SLOTS}
 use Rattle.card_core.specs.declared.outcome.CardOut.{CardOut}
-use Rattle.card_core.specs.Plans.{Plan, IsGoodPlan}
+use Rattle.card_core.specs.Plans.{Plan}
 use Rattle.card_core.specs.Queues.{admitted, dropped}
 use Rattle.card_core.specs.Posts.{IsServable}
 use Rattle.card_core.specs.Deliveries.{flow_cells, delivered, cells_taken}

@@ -1,7 +1,6 @@
 use crate::{Card, CardOut, CardPlan, MAX_ARRIVALS, MAX_BODY, MAX_MESSAGES, MAX_SLOTS, Planned};
 use cell_cutter::{CELL_HEADER_BYTES, Cell, MAX_MESSAGE_BYTES};
 use crossbar::Taken;
-
 use rotating_pick::{Kind, Ports};
 use slot_match::{Row, Served};
 use std::alloc::{AllocError, Global};

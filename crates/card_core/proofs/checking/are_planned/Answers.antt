@@ -1,4 +1,4 @@
-use Rattle.std.proofs.Common.{◌≡◌, ◌<◌, ◌≤◌, arith, refl}
+use Rattle.std.proofs.Common.{arith, refl}
 use Rattle.card_core.proofs.Ascending.{planned_more, some_get, some_lt}
 use Rattle.card_core.proofs.checking.are_planned.Goals as goal
 

@@ -1,4 +1,4 @@
-use Rattle.std.proofs.Common.{◌≡◌, ◌+◌, ◌<◌, ◌≤◌, arith, refl, sym, subst, slice_index_or}
+use Rattle.std.proofs.Common.{◌+◌, ◌<◌, ◌≤◌, arith, refl, sym, subst, slice_index_or}
 use Rattle.card_core.proofs.Ascending.{RisesTo, rises_none, rises_more, rises_all, rises_not}
 use Rattle.card_core.specs.Plans.{no_packet}
 use Rattle.card_core.proofs.checking.are_rising.Goals as goal

@@ -1,4 +1,4 @@
-use Rattle.std.proofs.Common.{◌≡◌, ◌∙◌, ◌+◌, suc, ap, arith, sym}
+use Rattle.std.proofs.Common.{◌≡◌, ◌∙◌, ◌+◌, suc, ap, arith}
 use Rattle.card_core.specs.Posts.{granted_at}
 use Rattle.card_core.proofs.Granting.{first_granted}
 use Rattle.card_core.proofs.laws.granted_cell_is_the_first.Goals as goal

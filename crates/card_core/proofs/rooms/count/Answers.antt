@@ -1,4 +1,4 @@
-use Rattle.std.proofs.Common.{◌≡◌, ◌≢◌, ◌∙◌, ◌+◌, ◌*◌, ◌^◌, ◌<◌, ◌≤◌, ℕ, Bool, true, false, refl, sym, ap, subst, arith, length}
+use Rattle.std.proofs.Common.{◌≡◌, ◌≢◌, ◌+◌, ◌*◌, ◌^◌, ◌<◌, ℕ, Bool, true, false, refl, sym, subst, arith, length}
 use Rattle.rotating_pick.proofs.Bits.{Has-lt}
 use Rattle.rotating_pick.specs.PortSets.{Has}
 use Rattle.std.proofs.lemmas.Nat.Bits.{bit_at-pow_same}

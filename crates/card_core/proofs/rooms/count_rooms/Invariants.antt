@@ -1,4 +1,4 @@
-use Rattle.std.proofs.Common.{◌≡◌, ℕ, take}
+use Rattle.std.proofs.Common.{take}
 use Rattle.card_core.specs.States.{HasRooms, AreFew}
 use Rattle.card_core.proofs.rooms.count_rooms.Given as goal
 

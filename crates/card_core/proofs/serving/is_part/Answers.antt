@@ -1,4 +1,4 @@
-use Rattle.std.proofs.Common.{◌≡◌, ℕ, true, sym, subst}
+use Rattle.std.proofs.Common.{sym, subst}
 use Rattle.rotating_pick.specs.PortSets.{Has}
 use Rattle.card_core.proofs.serving.is_part.Goals as goal
 

@@ -1,6 +1,5 @@
-use Rattle.std.proofs.Common.{◌≡◌, ◌≢◌, ◌∙◌, ◌^◌, ◌<◌, ℕ, Bool, true, false, not, Option, Some, None, is_some, sym, ap, subst, IsTrue, IfSome, IsNone, refl, arith}
+use Rattle.std.proofs.Common.{◌≡◌, ◌≢◌, ◌∙◌, ◌^◌, ◌<◌, ℕ, Bool, true, false, not, Option, Some, None, is_some, sym, subst, IfSome, IsNone, refl}
 use Rattle.rotating_pick.specs.PortSets.{Has, HasSeveral}
-use Rattle.rotating_pick.specs.declared.kinds.Kind.{Kind}
 use Rattle.rotating_pick.specs.declared.kinds.Kind.TheVariants.{Uni, Multi}
 use Rattle.rotating_pick.proofs.Bits.{zero-no_members}
 use Rattle.slot_match.proofs.Sets.{Has-some, zero-has}

@@ -1,11 +1,10 @@
-use Rattle.std.proofs.Common.{◌≡◌, ◌∙◌, List, length, map, Bool, refl, sym, ap, subst}
+use Rattle.std.proofs.Common.{◌∙◌, length, sym, ap, subst}
 use Rattle.std.proofs.lemmas.List.{length-map}
 use Rattle.crossbar.specs.declared.cards.Taken.{Taken}
 use Rattle.card_core.specs.Deliveries.{cells_taken, delivered}
 use Rattle.card_core.specs.Queues.{admitted, dropped}
 use Rattle.card_core.specs.States.{slots_in}
 use Rattle.card_core.specs.Cards.{CardState, IsAfter, served_in}
-use Rattle.card_core.specs.contracts.card.Card.{the_view}
 use Rattle.card_core.proofs.card.Card.finish.Goals as goal
 
 pub returns : goal.returns

@@ -1,4 +1,4 @@
-use Rattle.std.proofs.Common.{◌≡◌, ◌∙◌, ◌<◌, ◌≤◌, ℕ, List, [], length, map, false, slice_index_or, refl, sym, ap, subst}
+use Rattle.std.proofs.Common.{◌∙◌, ◌<◌, ◌≤◌, ℕ, List, [], length, map, false, slice_index_or, sym, ap, subst}
 use Rattle.reassembly.specs.Flows.{fresh}
 use Rattle.card_core.specs.Plans.{plan_of}
 use Rattle.card_core.specs.Cards.{IsAfter, card_of}

@@ -1,7 +1,5 @@
-use Rattle.std.proofs.Common.{◌≡◌, ◌∙◌, true, false, sym, ap, subst}
-use Rattle.card_core.specs.Posts.{IsServable}
+use Rattle.std.proofs.Common.{sym, subst}
 use Rattle.card_core.specs.Cards.{CardState, MayReceiveAny, MayTake}
-use Rattle.card_core.specs.contracts.card.Card.{the_view}
 use Rattle.card_core.proofs.card.Card.may_take.Goals as goal
 
 pub returns-then-may_take : goal.returns-then-may_take

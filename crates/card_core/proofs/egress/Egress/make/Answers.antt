@@ -1,5 +1,5 @@
-use Rattle.std.proofs.Common.{◌≡◌, ◌∙◌, ◌+◌, ◌*◌, ◌≤◌, ℕ, zero, suc, List, [], ◌∷◌, map, length, slice_index_or, sym, ap, subst, arith, refl}
-use Rattle.reassembly.specs.Flows.{Flow, Flows, fresh}
+use Rattle.std.proofs.Common.{◌≡◌, ◌*◌, ℕ, zero, suc, List, [], ◌∷◌, map, length, slice_index_or, sym, subst, arith, refl}
+use Rattle.reassembly.specs.Flows.{fresh}
 use Rattle.card_core.specs.Cards.{AreFull}
 use Rattle.card_core.proofs.egress.Egress.make.Goals as goal
 

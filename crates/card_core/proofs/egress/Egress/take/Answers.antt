@@ -1,10 +1,10 @@
-use Rattle.std.proofs.Common.{◌≡◌, ◌∙◌, ◌+◌, ◌<◌, ◌≤◌, ℕ, List, ◌++◌, Option, Some, None, take, drop, length, slice_set, true, refl, sym, ap, subst, arith}
+use Rattle.std.proofs.Common.{◌≡◌, ◌∙◌, ◌+◌, ◌<◌, ◌≤◌, ℕ, List, ◌++◌, Option, Some, take, drop, length, slice_set, true, sym, ap, subst, arith}
 use Rattle.std.proofs.lemmas.List.{take_at, length-set, length-take-le}
 use Rattle.cell_cutter.specs.declared.cell.Cell.{Cell}
 use Rattle.reassembly.specs.Flows.{flow_of, bytes_with}
-use Rattle.card_core.specs.Cards.{Received, MayReceive, MayReceiveAny, received_any, received_with, AreFull}
+use Rattle.card_core.specs.Cards.{Received, MayReceive, MayReceiveAny, received_any, AreFull}
 use Rattle.card_core.specs.contracts.egress.Egress.{the_view}
-use Rattle.card_core.proofs.Collecting.{received_of, with_message, without_message, last_is, more_is, full_after}
+use Rattle.card_core.proofs.Collecting.{received_of, with_message, last_is, full_after}
 use Rattle.card_core.proofs.egress.Egress.take.Goals as goal
 
 some_may : (r r' : Received) (any : Option Cell) (cell : Cell) → MayReceiveAny r any → r' ≡ r → any ≡ Some cell → MayReceive r' cell

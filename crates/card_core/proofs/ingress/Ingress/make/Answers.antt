@@ -1,8 +1,7 @@
-use Rattle.std.proofs.Common.{◌≡◌, ◌∙◌, ◌+◌, ◌*◌, ◌^◌, ◌<◌, ◌≤◌, ℕ, List, [], Some, false, None, slice_get, slice_index, slice_index_or, length, refl, sym, ap, subst, arith}
+use Rattle.std.proofs.Common.{◌≡◌, ◌∙◌, ◌<◌, ◌≤◌, ℕ, List, [], false, None, slice_get, slice_index, slice_index_or, length, refl, sym, ap, subst, arith}
 use Rattle.std.proofs.lemmas.List.{get_or_default}
-use Rattle.card_core.specs.declared.plan.Planned.{Planned}
-use Rattle.card_core.specs.Plans.{Plan, IsGoodPlan, OfOutput, OfLevel, plan_of}
-use Rattle.card_core.specs.States.{HasRooms, AreFew, HasSent, state_of, packets_for}
+use Rattle.card_core.specs.Plans.{Plan, IsGoodPlan, plan_of}
+use Rattle.card_core.specs.States.{HasRooms, HasSent, state_of}
 use Rattle.voq_banks.specs.Queues.{Queues as UniQueues, empty_queues as empty_unis}
 use Rattle.multicast_queue.specs.FanQueues.{Queues as FanQueues, empty_queues as empty_fans}
 use Rattle.slot_match.specs.declared.rows.Row.{Row}

@@ -1,5 +1,4 @@
-use Rattle.std.proofs.Common.{◌≡◌, ◌∙◌, true, false, sym, ap, subst, refl, Option}
-use Rattle.slot_match.specs.declared.matching.Served.{Served}
+use Rattle.std.proofs.Common.{◌≡◌, sym, ap, subst}
 use Rattle.slot_match.specs.declared.rows.Row.{Row}
 use Rattle.card_core.specs.Posts.{IsServable}
 use Rattle.card_core.specs.States.{State}
