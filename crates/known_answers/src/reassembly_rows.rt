@@ -4,8 +4,8 @@
 use crate::cell_rows::cell_bytes;
 use crate::fields::{byte, kind};
 use crate::texts::kind_letter;
-use cell_cutter::Cell;
-use reassembly::{FLOWS_PER_INPUT, MAX_MESSAGE, Reassembly};
+use cell_cutter::{Cell, MAX_MESSAGE_BYTES};
+use reassembly::{FLOWS_PER_INPUT, Reassembly};
 use rotating_pick::Kind;
 use std::alloc::{AllocError, Global};
 use vector_rows::{NoAnswer, Row, number, port_count, set_up_row, words};
@@ -121,7 +121,7 @@ fn place_of(input: u8, level: u8, kind: Kind) -> usize {
 }
 
 fn made(alloc: Global, n: u32, sizes: &[u32]) -> Result<Reassembly, NoAnswer> {
-    let fitting = sizes.iter().all(|size| *size <= MAX_MESSAGE);
+    let fitting = sizes.iter().all(|size| *size as usize <= MAX_MESSAGE_BYTES);
     if n == 0 || n > 64 || sizes.len() != FLOWS_PER_INPUT * n as usize || !fitting {
         return Err(NoAnswer);
     }
