@@ -14,7 +14,7 @@ fn numbers(alloc: Global, text: &str) -> Result<Vec<u32>, NoAnswer> {
     Ok(numbers)
 }
 
-/// `PORTS ROUNDS DEPTH SLOTS PACKETS OVERSIZE UNROUTED DROPPED FORWARDED COPIES CELLS W0 W1 W2 W3`.
+/// `PORTS ROUNDS DEPTH SLOTS PACKETS OVERSIZE UNROUTED DROPPED FORWARDED COPIES CELLS WAIT0 WAIT1 WAIT2 WAIT3`.
 pub fn summary(alloc: Global, text: &str) -> Result<Summary, NoAnswer> {
     let numbers = numbers(alloc, text)?;
     let [counts @ .., first, second, third, fourth] = numbers.as_slice() else {
