@@ -21,36 +21,13 @@ struct Case<'a> {
     steps: &'a [(&'a str, Want<'a>)],
 }
 
-// The bytes that a text of hexadecimal digits spells.
-fn bytes_of(alloc: Global, text: &str) -> Result<Vec<u8>, AllocError> {
-    let mut bytes = Vec::new(alloc);
-    for pair in text.as_bytes().chunks(2) {
-        let mut byte = 0;
-        for digit in pair {
-            byte = byte << 4 | value_of(*digit);
-        }
-        bytes.push(byte)?;
-    }
-    Ok(bytes)
-}
-
-// The value of a hexadecimal digit.
-fn value_of(digit: u8) -> u8 {
-    match digit {
-        b'0'..=b'9' => digit - b'0',
-        b'a'..=b'f' => digit - b'a' + 10,
-        _ => 0,
-    }
-}
-
-// The cell whose bytes a text spells.
-fn cell_of(alloc: Global, text: &str) -> Result<Option<Cell>, AllocError> {
+// The cell whose bytes a text of hexadecimal digits spells.
+fn cell_of(text: &str) -> Option<Cell> {
     let mut cell = [0; CELL_BYTES];
-    let bytes = bytes_of(alloc, text)?;
-    if bytes.len() == CELL_BYTES {
-        cell.copy_from_slice(bytes.as_slice());
+    match hex::decode_to_slice(text, &mut cell) {
+        Ok(()) => Cell::from_bytes(&cell),
+        Err(_) => None,
     }
-    Ok(Cell::from_bytes(&cell))
 }
 
 // The sizes of all flows.
@@ -75,7 +52,7 @@ fn follow(
     steps: &[(&str, Want<'_>)],
 ) -> Result<(), Fail> {
     for (text, want) in steps {
-        let cell = cell_of(alloc, text)?.ok_or("no cell")?;
+        let cell = cell_of(text).ok_or("no cell")?;
         match want {
             Want::NoFit => assert!(rt; !flows.fits(&cell), "{text}"),
             Want::Fit => assert!(rt; flows.fits(&cell), "{text}"),
@@ -88,7 +65,7 @@ fn follow(
                 let done = flows.put(&cell).ok_or("no message")?;
                 assert_eq!(rt;
                     done.message,
-                    bytes_of(alloc, message)?.as_slice(),
+                    hex::decode(alloc, *message)?.as_slice(),
                     "{text}"
                 );
                 assert_eq!(rt;

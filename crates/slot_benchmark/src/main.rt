@@ -1,4 +1,4 @@
-//! How long the decision of a slot takes, under some loads.
+//! How long the decision of a slot takes, under some loads, and how long a meter of waits takes to note it.
 //!
 //! The times go to standard error, which no stored run is compared with.
 #![tactic(auto)]
@@ -8,7 +8,9 @@ ghost use Rattle.std.specs.Prelude.{◌<◌, ◌≤◌};
 use eslip_rounds::decide;
 use pointer_state::Pointers;
 use rotating_pick::{LEVELS, MAX_PORTS, MAX_ROUNDS, all, next, with};
+use service_bound::{MAX_NOTED, WaitMeter};
 use slot_match::{Match, Row, are_within};
+use std::alloc::Global;
 use std::time::{Clock, Instant};
 use std::{fmt, io};
 
@@ -133,6 +135,55 @@ fn time_slots<R: Clock + Eprint>(rt: &R, load: Load, n: u32, rounds: u32) -> io:
     )
 }
 
+// Notes slots with these rows, of each match in turn.
+fn note_batch(meter: &mut WaitMeter, rows: &[Row], first: &Match, second: &Match) {
+    let n = meter.ports();
+    if !are_within(n, rows) {
+        return;
+    }
+    for _turn in 0..SLOTS / 2 {
+        if meter.ports() == n && first.ports() == n && meter.count() < MAX_NOTED {
+            meter.note(rows, first);
+        }
+        if meter.ports() == n && second.ports() == n && meter.count() < MAX_NOTED {
+            meter.note(rows, second);
+        }
+    }
+}
+
+// Times how a meter of waits notes full rows of `n` ports: with one match in all slots, so that no wait begins or
+// ends after the first, and with nothing matched in every second slot.
+fn time_meter<R: Clock + Eprint>(rt: &R, alloc: Global, n: u32, changing: bool) -> io::Result<()>
+    requires some { 0 < n }
+    requires size { n ≤ MAX_PORTS }
+{
+    let rows = [Load::Full.row(n, 0); MAX_PORTS as usize];
+    let mut p = Pointers::new(n);
+    let mut matched = Match::new(n);
+    let _pairs = decide_batch(Load::Full, 4, &rows[..n as usize], &mut p, &mut matched);
+    let nothing = Match::new(n);
+    let mut least = u128::MAX;
+    for _batch in 0..BATCHES {
+        let Ok(mut meter) = WaitMeter::make(alloc, n) else {
+            return eprintln!(rt; "no memory for a meter");
+        };
+        let second = if changing { &nothing } else { &matched };
+        let begin = Instant::now(rt)?;
+        note_batch(&mut meter, &rows[..n as usize], &matched, second);
+        let end = Instant::now(rt)?;
+        least = least.min(end.duration_since(begin).as_nanos());
+    }
+    let what = if changing {
+        "waits that begin and end"
+    } else {
+        "waits that go on"
+    };
+    eprintln!(rt;
+        "meter of waits, {what}, {n} ports: {} ns a slot",
+        least / SLOTS as u128
+    )
+}
+
 fn main(rt: HostRuntime) -> io::Result<()> {
     for load in [
         Load::Full,
@@ -146,5 +197,10 @@ fn main(rt: HostRuntime) -> io::Result<()> {
         time_slots(&rt, load, 32, 4)?;
         time_slots(&rt, load, 64, 4)?;
     }
-    time_slots(&rt, Load::Full, 64, 1)
+    time_slots(&rt, Load::Full, 64, 1)?;
+    for changing in [false, true] {
+        time_meter(&rt, rt.alloc(), 16, changing)?;
+        time_meter(&rt, rt.alloc(), 64, changing)?;
+    }
+    Ok(())
 }
