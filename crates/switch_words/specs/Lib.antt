@@ -1,5 +1,6 @@
 pub mod Numbers
 pub mod Options
-pub mod Steps
+pub mod Parts
 pub mod Reading
 pub mod Limits
+pub mod Lines

@@ -9,7 +9,6 @@ use Rattle.switch_words.specs.declared.job.RunJob.{RunJob}
 use Rattle.switch_words.specs.declared.job.GenJob.{GenJob}
 use Rattle.switch_words.specs.declared.job.Job.{Job}
 use Rattle.switch_words.specs.declared.job.Job.TheVariants.{Run, Gen}
-use Rattle.switch_words.specs.declared.given.Given.{Given}
 
 -- a number of 1 to so many
 pub record IsUpTo (greatest n : ℕ) : Type 0 where
@@ -35,10 +34,3 @@ pub record IsGenWithinLimits (job : GenJob) : Type 0 where
 abbrev pub IsWithinLimits : Job → Type 0
 IsWithinLimits (Run job) = IsRunWithinLimits job
 IsWithinLimits (Gen job) = IsGenWithinLimits job
-
--- the options so far keep their limits
-pub record IsGiven (given : Given) : Type 0 where
-  pub rounds : IfSome given.rounds (IsUpTo MAX_ROUNDS)
-  pub depth : IfSome given.depth (IsUpTo MAX_DEPTH)
-  pub workers : IfSome given.workers (IsUpTo MAX_WORKERS)
-  pub pace : IfSome given.pace_us (IsUpTo MAX_SLOT_MICROS)

@@ -1,7 +1,9 @@
 -- The reading of a list of words: the job that it means.
-use Rattle.std.specs.Prelude.{ℕ, Bool, false, ◌++◌, nat_le, if◌then◌else◌, List, [], ◌∷◌, length, map, Option, None, Some, option_and_then, option_map, string_bytes}
-use Rattle.rotating_pick.specs.declared.limits.TheConstants.{MAX_PORTS}
-use Rattle.switch_words.specs.declared.limits.TheConstants.{MAX_SEED, MAX_COUNT}
+use Rattle.std.specs.Prelude.{ℕ, Bool, nat_le, if◌then◌else◌, List, [], ◌∷◌, length, map, Option, None, Some, option_and_then, option_map, string_bytes, unwrap_or}
+use Rattle.rotating_pick.specs.declared.limits.TheConstants.{MAX_PORTS, MAX_ROUNDS}
+use Rattle.line_pace.specs.declared.pace.TheConstants.{MAX_SLOT_MICROS}
+use Rattle.voq_banks.specs.declared.limits.TheConstants.{MAX_DEPTH}
+use Rattle.switch_words.specs.declared.limits.TheConstants.{DEFAULT_ROUNDS, DEFAULT_WORKERS, MAX_COUNT, MAX_SEED, MAX_WORKERS}
 use Rattle.switch_words.specs.declared.job.Settings.{Settings}
 use Rattle.switch_words.specs.declared.job.RunJob.{RunJob}
 use Rattle.switch_words.specs.declared.job.GenJob.{GenJob}
@@ -9,37 +11,25 @@ use Rattle.switch_words.specs.declared.job.Job.{Job}
 use Rattle.switch_words.specs.declared.job.Job.TheVariants as job
 use Rattle.switch_words.specs.declared.options.Command.{Command}
 use Rattle.switch_words.specs.declared.options.Command.TheVariants.{Run, Gen}
-use Rattle.switch_words.specs.declared.given.Given.{Given}
-use Rattle.switch_words.specs.declared.steps.Progress.{Progress}
-use Rattle.switch_words.specs.declared.steps.Step.{Step}
-use Rattle.switch_words.specs.declared.steps.Step.TheVariants.{Name, Next}
 use Rattle.switch_words.specs.Numbers.{number_within}
-use Rattle.switch_words.specs.Options.{command_named, settings_of}
-use Rattle.switch_words.specs.Steps.{open_with, is_awaiting, progress_after, step}
+use Rattle.switch_words.specs.Options.{command_named}
+use Rattle.switch_words.specs.Parts.{Parts, no_parts, parts_from}
 
--- what no option says
-abbrev pub nothing_given : Given
-nothing_given = record { rounds = None; depth = None; workers = None; pace_us = None; slots = false }
+-- The number from 1 to `most` that an option's text writes, where the option was given. None where the text writes none.
+abbrev pub number_given : ℕ → Option (List ℕ) → Option (Option ℕ)
+number_given most None = Some None
+number_given most (Some text) = option_map (λ number. Some number) (number_within 1 most text)
 
--- before the first word behind the command
-abbrev pub start : Progress
-start = open_with nothing_given
-
--- what the options of a command say, and its names
-pub record WordParts : Type 0 where
-  pub given : Given
-  pub names : List (List ℕ)
-
-abbrev pub names_after : List (List ℕ) → List ℕ → Step → List (List ℕ)
-names_after names word Name = names ++ word ∷ []
-names_after names word (Next q) = names
-
--- what the rest of the words makes of what those before it gave
-unfoldable pub parts_from : Command → Progress → List (List ℕ) → List (List ℕ) → Option WordParts
-parts_from command p names [] =
-    if is_awaiting p.mode then None else Some (record { given = p.given; names = names })
-parts_from command p names (word ∷ rest) =
-    option_and_then (λ s. parts_from command (progress_after p s) (names_after names word s) rest) (step command p word)
+-- the settings, with the defaults of what was not given
+unfoldable pub settings_of : Parts → Option Settings
+settings_of parts =
+    option_and_then (λ rounds. option_and_then (λ depth. option_and_then (λ workers. option_map (λ pace_us. record {
+      rounds = unwrap_or rounds DEFAULT_ROUNDS;
+      depth = unwrap_or depth MAX_DEPTH;
+      workers = unwrap_or workers DEFAULT_WORKERS;
+      pace_us = pace_us;
+    }) (number_given MAX_SLOT_MICROS parts.pace_us)) (number_given MAX_WORKERS parts.workers))
+    (number_given MAX_DEPTH parts.depth)) (number_given MAX_ROUNDS parts.rounds)
 
 -- a job of `run`, with the bytes of its names
 pub record RunWords : Type 0 where
@@ -50,42 +40,43 @@ pub record RunWords : Type 0 where
   pub inputs : List (List ℕ)
 
 -- the names of `run`: a table, a prefix and 1 to 64 inputs
-abbrev pub run_with : Given → List (List ℕ) → Option RunWords
-run_with given (table ∷ prefix ∷ input ∷ more) =
+abbrev pub run_with : Settings → Bool → List (List ℕ) → Option RunWords
+run_with settings slots (table ∷ prefix ∷ input ∷ more) =
     if nat_le (length (input ∷ more)) MAX_PORTS then Some (record {
-      settings = settings_of given;
-      slots = given.slots;
+      settings = settings;
+      slots = slots;
       table = table;
       prefix = prefix;
       inputs = input ∷ more;
     }) else None
-run_with given _ = None
+run_with settings slots _ = None
 
 -- the names of `gen`: a seed, a count and a number of ports
-abbrev pub gen_with : Given → List (List ℕ) → Option GenJob
-gen_with given (seed ∷ count ∷ ports ∷ []) =
+abbrev pub gen_with : Settings → List (List ℕ) → Option GenJob
+gen_with settings (seed ∷ count ∷ ports ∷ []) =
     option_and_then (λ s. option_and_then (λ c. option_map (λ p. record {
-      settings = settings_of given;
+      settings = settings;
       seed = s;
       count = c;
       ports = p;
     }) (number_within 1 MAX_PORTS ports)) (number_within 0 MAX_COUNT count)) (number_within 0 MAX_SEED seed)
-gen_with given _ = None
+gen_with settings _ = None
 
 -- what a list of words asks for
 pub data JobWords : Type 0 where
   run : RunWords → JobWords
   gen : GenJob → JobWords
 
-unfoldable pub job_with : Command → WordParts → Option JobWords
-job_with Run parts = option_map run (run_with parts.given parts.names)
-job_with Gen parts = option_map gen (gen_with parts.given parts.names)
+unfoldable pub job_with : Command → Parts → Option JobWords
+job_with Run parts =
+    option_and_then (λ settings. option_map run (run_with settings parts.slots parts.names)) (settings_of parts)
+job_with Gen parts = option_and_then (λ settings. option_map gen (gen_with settings parts.names)) (settings_of parts)
 
 -- The job that a list of words means; None where they mean none.
 unfoldable pub reading_of : List (List ℕ) → Option JobWords
 reading_of [] = None
 reading_of (word ∷ rest) = option_and_then (λ command.
-    option_and_then (job_with command) (parts_from command start [] rest)) (command_named word)
+    option_and_then (job_with command) (parts_from command None no_parts rest)) (command_named word)
 
 -- a job, with the bytes of its names
 abbrev pub run_words : RunJob → RunWords

@@ -1,3 +1,4 @@
+use clap::error::ErrorKind;
 use std::alloc::{AllocError, AllocFailed};
 use std::error::Error;
 use std::fmt;
@@ -41,5 +42,23 @@ impl<T: Drop> From<AllocFailed<T>> for WordsFault {
 
     fn from(_error: AllocFailed<T>) -> WordsFault {
         WordsFault::OutOfMemory
+    }
+}
+
+// A parse without help and version fails at the words, or for want of memory.
+impl From<clap::Error> for WordsFault {
+    ghost use Rattle.std.specs.Prelude.{◌≡◌};
+    ghost use Rattle.clap.specs.Words.{kind_of};
+    ghost use Rattle.clap.specs.declared.error.kind.ErrorKind.TheVariants as kind;
+    ghost use Rattle.switch_words.specs.declared.fault.WordsFault.TheVariants.{Usage};
+
+    ghost from_gives = { λ error fault. fault ≡ Usage → kind_of error ≡ kind.OutOfMemory → ⊥ };
+
+    fn from(error: clap::Error) -> WordsFault {
+        if error.kind() == ErrorKind::OutOfMemory {
+            WordsFault::OutOfMemory
+        } else {
+            WordsFault::Usage
+        }
     }
 }

@@ -13,13 +13,11 @@
 #![tactic(auto)]
 
 mod fault;
-mod given;
 mod job;
 mod limits;
 mod numbers;
 mod options;
 mod reading;
-mod steps;
 #[cfg(test)]
 mod tests;
 

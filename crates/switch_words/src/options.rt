@@ -1,38 +1,16 @@
-ghost use Rattle.std.specs.Prelude.{◌≡◌};
-ghost use Rattle.switch_words.specs.Options.{command_named, option_named, is_option_of, option_of, most_of};
+ghost use Rattle.std.specs.Prelude.{◌≡◌, IfOk, false};
+ghost use Rattle.clap.specs.Words.{app_of, rule_of};
+ghost use Rattle.switch_words.specs.Options.{command_named};
+ghost use Rattle.switch_words.specs.Lines.{bare_line, flag_arg, line_for, names_arg, option_arg};
 
-use crate::limits::MAX_WORKERS;
-use line_pace::MAX_SLOT_MICROS;
-use rotating_pick::MAX_ROUNDS;
-use voq_banks::MAX_DEPTH;
+use clap::{Arg, ArgAction};
+use std::alloc::{AllocError, Global};
 
 /// What is to be done: the first word.
 #[derive(Clone, Copy, Debug, PartialEq, Eq)]
 pub(crate) enum Command {
     Run,
     Gen,
-}
-
-/// An option with a number as its value.
-#[derive(Clone, Copy, Debug, PartialEq, Eq)]
-pub(crate) enum Setting {
-    Rounds,
-    Depth,
-    Workers,
-    PaceUs,
-}
-
-/// An option without a value.
-#[derive(Clone, Copy, Debug, PartialEq, Eq)]
-pub(crate) enum Flag {
-    Slots,
-}
-
-/// An option of the command line.
-#[derive(Clone, Copy, Debug, PartialEq, Eq)]
-pub(crate) enum Switch {
-    Value(Setting),
-    Bare(Flag),
 }
 
 impl Command {
@@ -49,57 +27,52 @@ impl Command {
         }
     }
 
-    // Whether the command has the option.
-    fn has(self, switch: Switch) -> bool
-        ensures { result ≡ is_option_of self switch }
+    /// The options and the names that the command takes. An option's value is a text here, so that its
+    /// number is read by the rules of this crate alone. Fails where there is no memory.
+    pub(crate) fn line<'a>(self, alloc: Global) -> Result<clap::Command<'a>, AllocError>
+        ensures { IfOk result (λ line. app_of line ≡ line_for self) }
     {
-        match (self, switch) {
-            (Command::Run, _) => true,
-            (Command::Gen, Switch::Value(setting)) => setting != Setting::PaceUs,
-            (Command::Gen, Switch::Bare(_)) => false,
-        }
-    }
-
-    /// The option of this name, dashes included, if the command has it.
-    pub(crate) fn option(self, name: &str) -> Option<Switch>
-        ensures { result ≡ option_of self name.now }
-    {
-        let switch = Switch::named(name)?;
-        if self.has(switch) { Some(switch) } else { None }
-    }
-}
-
-impl Switch {
-    // The option of this name, of whatever command.
-    fn named(name: &str) -> Option<Switch>
-        ensures { result ≡ option_named name.now }
-    {
-        if name == "--rounds" {
-            Some(Switch::Value(Setting::Rounds))
-        } else if name == "--depth" {
-            Some(Switch::Value(Setting::Depth))
-        } else if name == "--workers" {
-            Some(Switch::Value(Setting::Workers))
-        } else if name == "--pace-us" {
-            Some(Switch::Value(Setting::PaceUs))
-        } else if name == "--slots" {
-            Some(Switch::Bare(Flag::Slots))
-        } else {
-            None
-        }
-    }
-}
-
-impl Setting {
-    /// The greatest value; the least is 1.
-    pub(crate) fn most(self) -> u32
-        ensures { result ≡ most_of self }
-    {
+        let line = bare_line(alloc)
+            .arg(option(alloc, "rounds"))?
+            .arg(option(alloc, "depth"))?
+            .arg(option(alloc, "workers"))?;
         match self {
-            Setting::Rounds => MAX_ROUNDS,
-            Setting::Depth => MAX_DEPTH,
-            Setting::Workers => MAX_WORKERS,
-            Setting::PaceUs => MAX_SLOT_MICROS,
+            Command::Run => line
+                .arg(option(alloc, "pace-us"))?
+                .arg(flag(alloc))?
+                .arg(names(alloc)),
+            Command::Gen => line.arg(names(alloc)),
         }
     }
+}
+
+// No options and no names, and no help.
+fn bare_line<'a>(alloc: Global) -> clap::Command<'a>
+    ensures { app_of result ≡ bare_line }
+{
+    clap::Command::new(alloc, "tiny_tera").disable_help_flag(true)
+}
+
+// An option with a value, which is given once at most.
+fn option<'a>(alloc: Global, id: &'a str) -> Arg<'a>
+    ensures rule { rule_of result ≡ option_arg id.now }
+    ensures local { result.global ≡ false }
+{
+    Arg::new(alloc, id).long(id).action(ArgAction::Set)
+}
+
+fn flag<'a>(alloc: Global) -> Arg<'a>
+    ensures rule { rule_of result ≡ flag_arg }
+    ensures local { result.global ≡ false }
+{
+    Arg::new(alloc, "slots")
+        .long("slots")
+        .action(ArgAction::SetTrue)
+}
+
+fn names<'a>(alloc: Global) -> Arg<'a>
+    ensures rule { rule_of result ≡ names_arg }
+    ensures local { result.global ≡ false }
+{
+    Arg::new(alloc, "names").action(ArgAction::Append)
 }

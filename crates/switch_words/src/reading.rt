@@ -1,23 +1,19 @@
-ghost use Rattle.std.specs.Prelude.{◌≡◌, Some, None, Err, [], map, string_bytes, IfOk, IfSome};
-ghost use Rattle.switch_words.specs.Reading.{WordParts, start, parts_from, run_with, gen_with, run_words, job_words, reading_of};
-ghost use Rattle.switch_words.specs.Limits.{IsGiven, IsRunWithinLimits, IsGenWithinLimits, IsWithinLimits};
+ghost use Rattle.std.specs.Prelude.{◌≡◌, codes, Some, None, Err, drop, map, option_map, string_bytes, IfOk, IfSome};
+ghost use Rattle.switch_words.specs.Parts.{no_parts, parts_from};
+ghost use Rattle.switch_words.specs.Reading.{number_given, settings_of, run_with, gen_with, run_words, job_words, reading_of};
+ghost use Rattle.switch_words.specs.Limits.{AreWithinLimits, IsUpTo, IsRunWithinLimits, IsGenWithinLimits, IsWithinLimits};
+ghost use Rattle.switch_words.specs.Lines.{first_text, is_true_text, look_of, parts_of};
 
 use crate::fault::WordsFault;
-use crate::given::Given;
-use crate::job::{GenJob, Job, RunJob};
-use crate::limits::{MAX_COUNT, MAX_SEED};
+use crate::job::{GenJob, Job, RunJob, Settings};
+use crate::limits::{DEFAULT_ROUNDS, DEFAULT_WORKERS, MAX_COUNT, MAX_SEED, MAX_WORKERS};
 use crate::numbers::number_within;
 use crate::options::Command;
-use crate::steps::{Progress, Step};
-use rotating_pick::MAX_PORTS;
+use clap::ArgMatches;
+use line_pace::MAX_SLOT_MICROS;
+use rotating_pick::{MAX_PORTS, MAX_ROUNDS};
 use std::alloc::{AllocError, Global};
-
-/// What the options of a command say, and its names.
-#[derive(Debug, Drop)]
-struct Parts<'a> {
-    given: Given,
-    names: Vec<&'a str>,
-}
+use voq_banks::MAX_DEPTH;
 
 /// Reads the words of a command line, without the program's name.
 ///
@@ -36,51 +32,92 @@ pub fn read_words(alloc: Global, words: &[String]) -> Result<Job, WordsFault>
     ensures usage { result ≡ Err WordsFault.Usage → reading_of (map string_bytes words.now) ≡ None }
     ensures limits { IfOk result IsWithinLimits }
 {
-    let [first, rest @ ..] = words else {
+    let [first, ..] = words else {
         return Err(WordsFault::Usage);
     };
     let command = Command::named(first.as_str()).ok_or(WordsFault::Usage)?;
-    let Parts { given, names } = read_parts(alloc, command, rest)?;
+    let matches = parsed(alloc, command, words)?;
+    let settings = settings(&matches).ok_or(WordsFault::Usage)?;
+    let names = names(&matches).ok_or(WordsFault::Usage)?;
     match command {
-        Command::Run => Ok(Job::Run(run_job(alloc, given, names.as_slice())?)),
-        Command::Gen => Ok(Job::Gen(gen_job(given, names.as_slice()).ok_or(WordsFault::Usage)?)),
+        Command::Run => Ok(Job::Run(run_job(alloc, settings, has_slots(&matches), names)?)),
+        Command::Gen => Ok(Job::Gen(gen_job(settings, names).ok_or(WordsFault::Usage)?)),
     }
 }
 
-// The options and the names of the words behind the command.
-#[tactic(auto, unfolding(crate::specs::Reading::parts_from))]
-fn read_parts<'a>(
+// The options and the names of the words behind the command, which stands where `clap` has the name of
+// the program.
+fn parsed<'a>(
     alloc: Global,
     command: Command,
     words: &'a [String],
-) -> Result<Parts<'a>, WordsFault>
-    ensures parts { IfOk result (λ p. parts_from command start [] (map string_bytes words.now) ≡ Some (record { given = p.given; names = map (λ name. name.now) p.names.items })) }
-    ensures usage { result ≡ Err WordsFault.Usage → parts_from command start [] (map string_bytes words.now) ≡ None }
-    ensures limits { IfOk result (λ p. IsGiven p.given) }
+) -> Result<ArgMatches<'a>, WordsFault>
+    ensures parts { IfOk result (λ m. parts_from command None no_parts (drop 1 (map string_bytes words.now)) ≡ Some (parts_of m)) }
+    ensures usage { result ≡ Err WordsFault.Usage → parts_from command None no_parts (drop 1 (map string_bytes words.now)) ≡ None }
 {
-    let mut progress = Progress::START;
-    let mut names = Vec::new(alloc);
-    for word in words {
-        match progress.step(command, word.as_str()) {
-            Some(Step::Name) => names.push(word.as_str())?,
-            Some(Step::Next(next)) => progress = next,
-            None => return Err(WordsFault::Usage),
-        }
-    }
-    if progress.mode.is_awaiting() {
-        return Err(WordsFault::Usage);
-    }
-    Ok(Parts {
-        given: progress.given,
-        names,
+    let line = command.line(alloc)?;
+    Ok(line.try_get_matches_from(words)?)
+}
+
+// The settings. An option that the command lacks has no text.
+#[tactic(auto, unfolding(crate::specs::Reading::settings_of))]
+fn settings(matches: &ArgMatches<'_>) -> Option<Settings>
+    ensures settings { result ≡ settings_of (parts_of matches.now) }
+    ensures limits { IfSome result AreWithinLimits }
+{
+    Some(Settings {
+        rounds: number(matches, "rounds", MAX_ROUNDS)?.unwrap_or(DEFAULT_ROUNDS),
+        depth: number(matches, "depth", MAX_DEPTH)?.unwrap_or(MAX_DEPTH),
+        workers: number(matches, "workers", MAX_WORKERS)?.unwrap_or(DEFAULT_WORKERS),
+        pace_us: number(matches, "pace-us", MAX_SLOT_MICROS)?,
     })
 }
 
+// The number of the option, if it was given; None where it is no number from 1 to `most`.
+fn number(matches: &ArgMatches<'_>, id: &str, most: u32) -> Option<Option<u32>>
+    ensures number { result ≡ number_given most (first_text (look_of matches.now id.now)) }
+    ensures limits { IfSome result (λ number. IfSome number (IsUpTo most)) }
+{
+    match text(matches, id) {
+        None => Some(None),
+        Some(text) => Some(Some(number_within(1, most, text)?)),
+    }
+}
+
+// Whether each slot is to be reported. A flag that is given has the text `true`.
+fn has_slots(matches: &ArgMatches<'_>) -> bool
+    ensures { result ≡ is_true_text (first_text (look_of matches.now (codes "slots"))) }
+{
+    match text(matches, "slots") {
+        Some(text) => text == "true",
+        None => false,
+    }
+}
+
+// The text of the option, if it was given.
+fn text<'a>(matches: &ArgMatches<'a>, id: &str) -> Option<&'a str>
+    ensures { option_map (λ text. text.now) result ≡ first_text (look_of matches.now id.now) }
+{
+    matches.get_str(id)
+}
+
+// The names, if there is one.
+fn names<'m, 'a>(matches: &'m ArgMatches<'a>) -> Option<&'m [&'a str]>
+    ensures { option_map (λ names. map (λ name. name.now) names.now) result ≡ look_of matches.now (codes "names") }
+{
+    matches.get_strs("names")
+}
+
 // The job of `run` with these names: a table, a prefix and 1 to 64 inputs.
-fn run_job(alloc: Global, given: Given, names: &[&str]) -> Result<RunJob, WordsFault>
-    ensures job { IfOk result (λ job. run_with given (map (λ name. name.now) names.now) ≡ Some (run_words job)) }
-    ensures usage { result ≡ Err WordsFault.Usage → run_with given (map (λ name. name.now) names.now) ≡ None }
-    ensures limits { IsGiven given → IfOk result IsRunWithinLimits }
+fn run_job(
+    alloc: Global,
+    settings: Settings,
+    slots: bool,
+    names: &[&str],
+) -> Result<RunJob, WordsFault>
+    ensures job { IfOk result (λ job. run_with settings slots (map (λ name. name.now) names.now) ≡ Some (run_words job)) }
+    ensures usage { result ≡ Err WordsFault.Usage → run_with settings slots (map (λ name. name.now) names.now) ≡ None }
+    ensures limits { AreWithinLimits settings → IfOk result IsRunWithinLimits }
 {
     let [table, prefix, inputs @ ..] = names else {
         return Err(WordsFault::Usage);
@@ -89,8 +126,8 @@ fn run_job(alloc: Global, given: Given, names: &[&str]) -> Result<RunJob, WordsF
         return Err(WordsFault::Usage);
     }
     Ok(RunJob {
-        settings: given.settings(),
-        slots: given.slots,
+        settings,
+        slots,
         table: String::from_str(alloc, table)?,
         prefix: String::from_str(alloc, prefix)?,
         inputs: copied(alloc, inputs)?,
@@ -108,15 +145,15 @@ fn copied(alloc: Global, names: &[&str]) -> Result<Vec<String>, AllocError>
 }
 
 // The job of `gen` with these names: a seed, a count and a number of ports.
-fn gen_job(given: Given, names: &[&str]) -> Option<GenJob>
-    ensures job { result ≡ gen_with given (map (λ name. name.now) names.now) }
-    ensures limits { IsGiven given → IfSome result IsGenWithinLimits }
+fn gen_job(settings: Settings, names: &[&str]) -> Option<GenJob>
+    ensures job { result ≡ gen_with settings (map (λ name. name.now) names.now) }
+    ensures limits { AreWithinLimits settings → IfSome result IsGenWithinLimits }
 {
     let [seed, count, ports] = names else {
         return None;
     };
     Some(GenJob {
-        settings: given.settings(),
+        settings,
         seed: number_within(0, MAX_SEED, seed)?,
         count: number_within(0, MAX_COUNT, count)?,
         ports: number_within(1, MAX_PORTS, ports)?,

@@ -1,0 +1,132 @@
+-- What a whole parse by clap gives.
+use Rattle.std.proofs.Common.{◌≡◌, ◌⊎◌, ◌∙◌, ap, ap₂, subst, sym, true, false, List, [], ◌∷◌, Option, None, Some, refl, inl, inr, drop, codes, map, string_bytes, String}
+use Rattle.std.specs.Prelude.{fold}
+use Rattle.std.proofs.lemmas.Str.{IsUtf8-string_bytes}
+use Rattle.clap.specs.Walk.{Held, Row, Rule, Text, finished, has_row, idle, nothing_held, rows_after, rows_of, settled, walk, walk_from, with_default}
+use Rattle.clap.specs.Simple.{App, HasMatchesOf, built, matches_of}
+use Rattle.clap.specs.Kinds.{HasKind, IsAmong, Kinds, or_else}
+use Rattle.clap.specs.Values.{kind_of}
+use Rattle.clap.specs.Matches.{found_of}
+use Rattle.clap.specs.declared.parser.matches.ArgMatches.{ArgMatches}
+use Rattle.clap.proofs.WalkLemmas.{both}
+use Rattle.clap.specs.declared.error.Error.{Error}
+use Rattle.clap.specs.declared.error.kind.ErrorKind.{ErrorKind}
+use Rattle.clap.specs.declared.error.kind.ErrorKind.TheVariants.{OutOfMemory}
+use Rattle.clap.specs.Faults.{check_fault, defaults_fault, fault_of, is_simple_and_free, level_fault, settle_fault, walk_fault}
+use Rattle.clap.specs.declared.builder.value_parser.Reading.TheVariants.{AsWritten}
+use Rattle.clap.specs.declared.parser.matches.ValueSource.TheVariants.{DefaultValue}
+use Rattle.clap.proofs.FaultLemmas.{leaf_fault}
+use Rattle.clap.proofs.OnLiterals.{clap_on_literals}
+use Rattle.switch_words.specs.declared.options.Command.{Command}
+use Rattle.switch_words.specs.declared.options.Command.TheVariants.{Run, Gen}
+use Rattle.switch_words.specs.Lines.{line_for, looked, parts_in, parts_of}
+use Rattle.switch_words.specs.Parts.{no_parts, parts_from}
+use Rattle.switch_words.proofs.Rows.{has_row-looked, looked-with, tells}
+use Rattle.switch_words.proofs.Rules.{HasRules, IsSound, absent, flag_rule, has_rules, rules_for, shape_with, unless, unless-or_else}
+use Rattle.switch_words.proofs.Turns.{idle_open, or_once}
+use Rattle.switch_words.proofs.Readings.{AreTexts, reads}
+
+-- an argument has no default, or is the flag
+abbrev pub AreUsual : List Rule → Type 0
+AreUsual [] = Unit {0}
+AreUsual (a ∷ rest) = ((a.defaults ≡ []) ⊎ (a ≡ flag_rule)) × AreUsual rest
+
+no_default_fault : (rows : List Row) (a : Rule) (rest : List Rule) → (a.defaults ≡ []) ⊎ (a ≡ flag_rule) → defaults_fault (with_default rows a) rest ≡ [] → defaults_fault rows (a ∷ rest) ≡ []
+unfolding defaults_fault
+no_default_fault rows a rest (inl none) h = elim (tells (has_row a.id rows)) [
+  | inl there ↦ rw there (rw there at h)
+  | inr there ↦ rw (there, none) (rw (there, none) at h)
+]
+no_default_fault rows a rest (inr is) h = elim (tells (has_row (codes "slots") rows)) [
+  | inl there ↦ rw (is, there) (rw (is, there) at h)
+  | inr there ↦ rw (is, there) (rw (is, there) at h)
+]
+
+no_faults : (c : List Rule) → AreUsual c → (rows : List Row) → defaults_fault rows c ≡ []
+unfolding defaults_fault
+no_faults [] usual rows = refl
+no_faults (a ∷ rest) usual rows = no_default_fault rows a rest usual.0 (no_faults rest usual.1 (with_default rows a))
+
+-- the default of the flag says what no flag says
+same_default : (rows : List Row) (a : Rule) → (a.defaults ≡ []) ⊎ (a ≡ flag_rule) → parts_in (looked (with_default rows a)) ≡ parts_in (looked rows)
+same_default rows a (inl none) = elim (tells (has_row a.id rows)) [
+  | inl there ↦ rw there refl
+  | inr there ↦ rw (there, none) refl
+]
+same_default rows a (inr is) = elim (tells (has_row (codes "slots") rows)) [
+  | inl there ↦ rw (is, there) refl
+  | inr there ↦
+      let none : looked rows (codes "slots") ≡ None = absent _ (sym (has_row-looked (codes "slots") rows) ∙ there) in
+      rw (is, there) (ap parts_in (λ i other. looked-with (codes "slots") AsWritten DefaultValue (codes "false" ∷ []) rows other i) ∙ rw none refl)
+]
+
+same_defaults : (c : List Rule) → AreUsual c → (rows : List Row) → parts_in (looked (fold with_default rows c)) ≡ parts_in (looked rows)
+same_defaults [] usual rows = refl
+same_defaults (a ∷ rest) usual rows = same_defaults rest usual.1 (with_default rows a) ∙ same_default rows a usual.0
+
+nothing_sound : IsSound (looked [])
+nothing_sound = record { texts = λ id. refl; flag = refl }
+
+no_more : {A : Type 0} (a b d e : Kinds) (o : Option A) → d ≡ [] → e ≡ [] → unless (or_else a (or_else [] (or_else b (or_else d e)))) o ≡ unless a (unless b o)
+no_more a b d e o no_d no_e = rw (no_d, no_e) (unless-or_else a (or_else b []) o ∙ ap (unless a) (or_once b o))
+
+level : (n : Text) (command : Command) (c : List Rule) (words : List Text) → HasRules command c → AreUsual c → AreTexts words
+    → ((rows : List Row) → check_fault (shape_with n c) rows false ≡ [])
+    → unless (level_fault (shape_with n c) [] nothing_held words false []) (Some (parts_in (looked (rows_after c [] words)))) ≡ parts_from command None no_parts words
+level n command c words has usual texts optional =
+    let end : Held = (walk c [] nothing_held words).held in
+    no_more (walk_fault (shape_with n c) [] (walk_from nothing_held) words) (settle_fault c false end) (defaults_fault (settled c end).rows c) (check_fault (shape_with n c) (finished c end) false) _
+    (no_faults c usual (settled c end).rows) (optional (finished c end))
+    ∙ (ap (λ p. unless (walk_fault (shape_with n c) [] (walk_from nothing_held) words) (unless (settle_fault c false end) (Some p))) (same_defaults c usual (settled c end).rows)
+    ∙ (reads n command c has words texts).anywhere [] None idle idle_open (λ none. nothing_sound))
+
+-- ---- the command line of a command
+
+pub simple_and_free : (command : Command) → is_simple_and_free (line_for command) ≡ true
+unfolding clap_on_literals
+simple_and_free Run = refl
+simple_and_free Gen = refl
+
+pub parse_reads : (command : Command) (words : List Text) → AreTexts (drop 1 words)
+    → unless (fault_of (line_for command) words) (Some (parts_in (looked (matches_of (line_for command) words)))) ≡ parts_from command None no_parts (drop 1 words)
+parse_reads Run words texts =
+    ap (λ (k : Kinds). unless k (Some (parts_in (looked (matches_of (line_for Run) words))))) (leaf_fault (built (line_for Run)) nothing_held (drop 1 words) refl)
+    ∙ level (codes "tiny_tera") Run (rules_for Run) (drop 1 words) (has_rules Run) (inl refl, (inl refl, (inl refl, (inl refl, (inr refl, (inl refl, tt)))))) texts (λ rows. refl)
+parse_reads Gen words texts =
+    ap (λ (k : Kinds). unless k (Some (parts_in (looked (matches_of (line_for Gen) words))))) (leaf_fault (built (line_for Gen)) nothing_held (drop 1 words) refl)
+    ∙ level (codes "tiny_tera") Gen (rules_for Gen) (drop 1 words) (has_rules Gen) (inl refl, (inl refl, (inl refl, (inl refl, tt)))) texts (λ rows. refl)
+
+-- where no kind of error comes, the matches say the parts
+pub parse_ok : (command : Command) (words : List Text) (line : App) (m : ArgMatches) → line ≡ line_for command → AreTexts (drop 1 words)
+    → (is_simple_and_free line ≡ true → fault_of line words ≡ []) → HasMatchesOf line words m
+    → parts_from command None no_parts (drop 1 words) ≡ Some (parts_of m)
+parse_ok command words line m is texts none matches =
+    let free : is_simple_and_free line ≡ true = ap is_simple_and_free is ∙ simple_and_free command in
+    let kinds : fault_of (line_for command) words ≡ [] = ap (λ (a : App). fault_of a words) (sym is) ∙ none free in
+    let rows : matches_of (line_for command) words ≡ rows_of (found_of m) = ap (λ (a : App). matches_of a words) (sym is) ∙ sym (matches (both _ _ free).0).0 in
+    sym (parse_reads command words texts) ∙ ap₂ (λ (k : Kinds) (r : List Row). unless k (Some (parts_in (looked r)))) kinds rows
+
+some_kind : {A : Type 0} (kind : ErrorKind) (kinds : Kinds) (o : Option A) → IsAmong kind kinds → unless kinds o ≡ None
+some_kind kind [] o among = absurd among
+some_kind kind (k ∷ ks) o among = refl
+
+-- where one does, there are none
+pub parse_err : (command : Command) (words : List Text) (line : App) (error : Error) → line ≡ line_for command → AreTexts (drop 1 words)
+    → (is_simple_and_free line ≡ true → HasKind (fault_of line words) error)
+    → (kind_of error ≡ OutOfMemory → ⊥) → parts_from command None no_parts (drop 1 words) ≡ None
+parse_err command words line error is texts has memory =
+    let kinds : HasKind (fault_of (line_for command) words) error =
+    subst (λ (a : App). HasKind (fault_of a words) error) is (has (ap is_simple_and_free is ∙ simple_and_free command)) in
+    sym (parse_reads command words texts) ∙ elim kinds [
+      | inl out ↦ absurd (memory out)
+      | inr among ↦ some_kind (kind_of error) (fault_of (line_for command) words) _ among
+    ]
+
+-- the words of the caller are text
+pub are_texts : {Z : Type 0} (words : List (String Z)) → AreTexts (drop 1 (map string_bytes words))
+are_texts [] = tt
+are_texts (word ∷ rest) = each rest
+  where
+    each : {Z : Type 0} (rest : List (String Z)) → AreTexts (map string_bytes rest)
+    each [] = tt
+    each (word ∷ rest) = (IsUtf8-string_bytes word, each rest)

@@ -1,0 +1,107 @@
+-- What the words behind the command are: options with the texts of their values, and names.
+use Rattle.std.specs.Prelude.{ℕ, Bool, true, false, is_some, ◌==◌, ◌++◌, if◌then◌else◌, List, [], ◌∷◌, Option, None, Some, option_and_then}
+use Rattle.std.specs.List.{list_any, before_first, after_first}
+use Rattle.switch_words.specs.declared.options.Command.{Command}
+use Rattle.switch_words.specs.Options.{Setting, rounds, depth, workers, pace_us, Switch, value, slots, option_of}
+
+-- the texts that the options have, and the names
+pub record Parts : Type 0 where
+  pub rounds : Option (List ℕ)
+  pub depth : Option (List ℕ)
+  pub workers : Option (List ℕ)
+  pub pace_us : Option (List ℕ)
+  pub slots : Bool
+  pub names : List (List ℕ)
+
+-- before the first word
+abbrev pub no_parts : Parts
+no_parts = record { rounds = None; depth = None; workers = None; pace_us = None; slots = false; names = [] }
+
+-- the text of an option, where it was given
+abbrev pub text_in : Parts → Setting → Option (List ℕ)
+text_in parts rounds = parts.rounds
+text_in parts depth = parts.depth
+text_in parts workers = parts.workers
+text_in parts pace_us = parts.pace_us
+
+-- with this text of an option
+abbrev pub set_text : Parts → Setting → List ℕ → Parts
+set_text parts rounds text = record parts { rounds = Some text }
+set_text parts depth text = record parts { depth = Some text }
+set_text parts workers text = record parts { workers = Some text }
+set_text parts pace_us text = record parts { pace_us = Some text }
+
+-- with the text of an option that was not given before
+abbrev pub with_text : Parts → Setting → List ℕ → Option Parts
+with_text parts setting text = if is_some (text_in parts setting) then None else Some (set_text parts setting text)
+
+-- with the flag that was not given before
+abbrev pub with_slots : Parts → Option Parts
+with_slots parts = if parts.slots then None else Some (record parts { slots = true })
+
+-- with more names
+abbrev pub with_names : List (List ℕ) → Parts → Parts
+with_names names parts = record parts { names = parts.names ++ names }
+
+-- the bytes of `-` and `=`
+abbrev pub dash : ℕ
+dash = 45
+
+abbrev pub equals_sign : ℕ
+equals_sign = 61
+
+-- what a word is where options may stand: `--`; an option, with its name and the value behind its first `=`; a name;
+-- or what is refused
+pub data Word : Type 0 where
+  closing : Word
+  option : List ℕ → Option (List ℕ) → Word
+  name : Word
+  refused : Word
+
+-- what stands behind the first `=`, if there is one
+abbrev pub value_in : List ℕ → Option (List ℕ)
+value_in text =
+    if list_any (λ byte. byte == equals_sign) text then Some (after_first (λ byte. byte == equals_sign) text) else None
+
+-- a word, by what follows its `--`
+abbrev pub behind_dashes : List ℕ → Word
+behind_dashes [] = closing
+behind_dashes (byte ∷ rest) = option (before_first (λ b. b == equals_sign) (byte ∷ rest)) (value_in (byte ∷ rest))
+
+-- `-` alone is a name, and so is what does not begin with `-`
+abbrev pub word_of : List ℕ → Word
+word_of [] = name
+word_of (first ∷ []) = name
+word_of (first ∷ second ∷ rest) =
+    if first == dash then (if second == dash then behind_dashes rest else refused) else name
+
+-- After an option, with the value behind its `=` if there is one. `go` reads the words behind it, of which the first is
+-- the value of an option if one is awaited.
+abbrev pub after_option : Parts → Option (List ℕ) → Switch → (Option Setting → Parts → Option Parts) → Option Parts
+after_option parts (Some text) (value setting) go = option_and_then (go None) (with_text parts setting text)
+after_option parts None (value setting) go = go (Some setting) parts
+after_option parts (Some text) slots go = None
+after_option parts None slots go = option_and_then (go None) (with_slots parts)
+
+-- After a word where options may stand. Behind `--` each word is a name.
+abbrev pub after_word : Command → Parts → List ℕ → List (List ℕ) → Word → (Option Setting → Parts → Option Parts) → Option Parts
+after_word command parts word rest closing go = Some (with_names rest parts)
+after_word command parts word rest (option text behind) go =
+    option_and_then (λ switch. after_option parts behind switch go) (option_of command text)
+after_word command parts word rest name go = go None (with_names (word ∷ []) parts)
+after_word command parts word rest refused go = None
+
+-- After the word that has to be the value of an option: one that could be a name.
+abbrev pub after_value : Parts → Setting → List ℕ → Word → (Option Setting → Parts → Option Parts) → Option Parts
+after_value parts setting word name go = option_and_then (go None) (with_text parts setting word)
+after_value parts setting word _ go = None
+
+-- The parts of the words, with those of the words before them. The first word is the value of the option that is
+-- awaited, if one is. None where a word is refused or an option has no value.
+unfoldable pub parts_from : Command → Option Setting → Parts → List (List ℕ) → Option Parts
+parts_from command None parts [] = Some parts
+parts_from command (Some setting) parts [] = None
+parts_from command None parts (word ∷ rest) =
+    after_word command parts word rest (word_of word) (λ awaited more. parts_from command awaited more rest)
+parts_from command (Some setting) parts (word ∷ rest) =
+    after_value parts setting word (word_of word) (λ awaited more. parts_from command awaited more rest)
