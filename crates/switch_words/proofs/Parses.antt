@@ -19,9 +19,9 @@ use Rattle.clap.proofs.FaultLemmas.{leaf_fault}
 use Rattle.clap.proofs.OnLiterals.{clap_on_literals}
 use Rattle.switch_words.specs.declared.options.Command.{Command}
 use Rattle.switch_words.specs.declared.options.Command.TheVariants.{Run, Gen}
-use Rattle.switch_words.specs.Lines.{line_for, looked, parts_in, parts_of}
+use Rattle.switch_words.specs.Lines.{line_for, lookup_in, parts_in, parts_of}
 use Rattle.switch_words.specs.Parts.{no_parts, parts_from}
-use Rattle.switch_words.proofs.Rows.{has_row-looked, looked-with, tells}
+use Rattle.switch_words.proofs.Rows.{has_row-lookup, lookup-with, tells}
 use Rattle.switch_words.proofs.Rules.{HasRules, IsSound, absent, flag_rule, has_rules, rules_for, shape_with, unless, unless-or_else}
 use Rattle.switch_words.proofs.Turns.{idle_open, or_once}
 use Rattle.switch_words.proofs.Readings.{AreTexts, reads}
@@ -48,7 +48,7 @@ no_faults [] usual rows = refl
 no_faults (a ∷ rest) usual rows = no_default_fault rows a rest usual.0 (no_faults rest usual.1 (with_default rows a))
 
 -- the default of the flag says what no flag says
-same_default : (rows : List Row) (a : Rule) → (a.defaults ≡ []) ⊎ (a ≡ flag_rule) → parts_in (looked (with_default rows a)) ≡ parts_in (looked rows)
+same_default : (rows : List Row) (a : Rule) → (a.defaults ≡ []) ⊎ (a ≡ flag_rule) → parts_in (lookup_in (with_default rows a)) ≡ parts_in (lookup_in rows)
 same_default rows a (inl none) = elim (tells (has_row a.id rows)) [
   | inl there ↦ rw there refl
   | inr there ↦ rw (there, none) refl
@@ -56,15 +56,15 @@ same_default rows a (inl none) = elim (tells (has_row a.id rows)) [
 same_default rows a (inr is) = elim (tells (has_row (codes "slots") rows)) [
   | inl there ↦ rw (is, there) refl
   | inr there ↦
-      let none : looked rows (codes "slots") ≡ None = absent _ (sym (has_row-looked (codes "slots") rows) ∙ there) in
-      rw (is, there) (ap parts_in (λ i other. looked-with (codes "slots") AsWritten DefaultValue (codes "false" ∷ []) rows other i) ∙ rw none refl)
+      let none : lookup_in rows (codes "slots") ≡ None = absent _ (sym (has_row-lookup (codes "slots") rows) ∙ there) in
+      rw (is, there) (ap parts_in (λ i other. lookup-with (codes "slots") AsWritten DefaultValue (codes "false" ∷ []) rows other i) ∙ rw none refl)
 ]
 
-same_defaults : (c : List Rule) → AreUsual c → (rows : List Row) → parts_in (looked (fold with_default rows c)) ≡ parts_in (looked rows)
+same_defaults : (c : List Rule) → AreUsual c → (rows : List Row) → parts_in (lookup_in (fold with_default rows c)) ≡ parts_in (lookup_in rows)
 same_defaults [] usual rows = refl
 same_defaults (a ∷ rest) usual rows = same_defaults rest usual.1 (with_default rows a) ∙ same_default rows a usual.0
 
-nothing_sound : IsSound (looked [])
+nothing_sound : IsSound (lookup_in [])
 nothing_sound = record { texts = λ id. refl; flag = refl }
 
 no_more : {A : Type 0} (a b d e : Kinds) (o : Option A) → d ≡ [] → e ≡ [] → unless (or_else a (or_else [] (or_else b (or_else d e)))) o ≡ unless a (unless b o)
@@ -72,7 +72,7 @@ no_more a b d e o no_d no_e = rw (no_d, no_e) (unless-or_else a (or_else b []) o
 
 level : (n : Text) (command : Command) (c : List Rule) (words : List Text) → HasRules command c → AreUsual c → AreTexts words
     → ((rows : List Row) → check_fault (shape_with n c) rows false ≡ [])
-    → unless (level_fault (shape_with n c) [] nothing_held words false []) (Some (parts_in (looked (rows_after c [] words)))) ≡ parts_from command None no_parts words
+    → unless (level_fault (shape_with n c) [] nothing_held words false []) (Some (parts_in (lookup_in (rows_after c [] words)))) ≡ parts_from command None no_parts words
 level n command c words has usual texts optional =
     let end : Held = (walk c [] nothing_held words).held in
     no_more (walk_fault (shape_with n c) [] (walk_from nothing_held) words) (settle_fault c false end) (defaults_fault (settled c end).rows c) (check_fault (shape_with n c) (finished c end) false) _
@@ -88,12 +88,12 @@ simple_and_free Run = refl
 simple_and_free Gen = refl
 
 pub parse_reads : (command : Command) (words : List Text) → AreTexts (drop 1 words)
-    → unless (fault_of (line_for command) words) (Some (parts_in (looked (matches_of (line_for command) words)))) ≡ parts_from command None no_parts (drop 1 words)
+    → unless (fault_of (line_for command) words) (Some (parts_in (lookup_in (matches_of (line_for command) words)))) ≡ parts_from command None no_parts (drop 1 words)
 parse_reads Run words texts =
-    ap (λ (k : Kinds). unless k (Some (parts_in (looked (matches_of (line_for Run) words))))) (leaf_fault (built (line_for Run)) nothing_held (drop 1 words) refl)
+    ap (λ (k : Kinds). unless k (Some (parts_in (lookup_in (matches_of (line_for Run) words))))) (leaf_fault (built (line_for Run)) nothing_held (drop 1 words) refl)
     ∙ level (codes "tiny_tera") Run (rules_for Run) (drop 1 words) (has_rules Run) (inl refl, (inl refl, (inl refl, (inl refl, (inr refl, (inl refl, tt)))))) texts (λ rows. refl)
 parse_reads Gen words texts =
-    ap (λ (k : Kinds). unless k (Some (parts_in (looked (matches_of (line_for Gen) words))))) (leaf_fault (built (line_for Gen)) nothing_held (drop 1 words) refl)
+    ap (λ (k : Kinds). unless k (Some (parts_in (lookup_in (matches_of (line_for Gen) words))))) (leaf_fault (built (line_for Gen)) nothing_held (drop 1 words) refl)
     ∙ level (codes "tiny_tera") Gen (rules_for Gen) (drop 1 words) (has_rules Gen) (inl refl, (inl refl, (inl refl, (inl refl, tt)))) texts (λ rows. refl)
 
 -- where no kind of error comes, the matches say the parts
@@ -104,7 +104,7 @@ parse_ok command words line m is texts none matches =
     let free : is_simple_and_free line ≡ true = ap is_simple_and_free is ∙ simple_and_free command in
     let kinds : fault_of (line_for command) words ≡ [] = ap (λ (a : App). fault_of a words) (sym is) ∙ none free in
     let rows : matches_of (line_for command) words ≡ rows_of (found_of m) = ap (λ (a : App). matches_of a words) (sym is) ∙ sym (matches (both _ _ free).0).0 in
-    sym (parse_reads command words texts) ∙ ap₂ (λ (k : Kinds) (r : List Row). unless k (Some (parts_in (looked r)))) kinds rows
+    sym (parse_reads command words texts) ∙ ap₂ (λ (k : Kinds) (r : List Row). unless k (Some (parts_in (lookup_in r)))) kinds rows
 
 some_kind : {A : Type 0} (kind : ErrorKind) (kinds : Kinds) (o : Option A) → IsAmong kind kinds → unless kinds o ≡ None
 some_kind kind [] o among = absurd among

@@ -8,7 +8,7 @@ use Rattle.clap.specs.Walk.{Row, Rule, Text, Waiting, idle, option as awaits, po
 use Rattle.clap.specs.Faults.{use_fault}
 use Rattle.switch_words.specs.declared.options.Command.{Command}
 use Rattle.switch_words.specs.Options.{Setting, Switch, value, slots, option_of}
-use Rattle.switch_words.specs.Lines.{looked, parts_in}
+use Rattle.switch_words.specs.Lines.{lookup_in, parts_in}
 use Rattle.switch_words.specs.Parts.{Parts, closing, name, option, parts_from, refused, with_names, word_of}
 use Rattle.switch_words.proofs.Rules.{HasRules, IsMet, IsSound, flag_rule, id_of, names_rule, option_rule, parts_name, set_flag, set_value, sound_name, sound_use, under, unless, unless-then}
 use Rattle.switch_words.proofs.Lexing.{Lexed, char_after_dash, closes, lexed, longs, plains, shorts}
@@ -39,7 +39,7 @@ map_then (Some p) f = refl
 -- ---- behind `--`
 
 ended-name : (c : List Rule) (rows : List Row) (word : Text) → arg_by_id c (codes "names") ≡ Some names_rule
-    → ended c (held_at rows (Some (codes "names", word ∷ []))) ≡ Some (with_names (word ∷ []) (parts_in (looked rows)))
+    → ended c (held_at rows (Some (codes "names", word ∷ []))) ≡ Some (with_names (word ∷ []) (parts_in (lookup_in rows)))
 ended-name c rows word by_id = rw by_id (ap (λ (p : Parts). Some p) (parts_name word rows))
 
 closed : (n : Text) (command : Command) (c : List Rule) → HasRules command c → (words : List Text) (rows : List Row) (pending : Pending) (waiting : Waiting)
@@ -48,19 +48,19 @@ closed n command c has [] rows pending waiting =
     outcome-end n c (walk_at rows pending waiting true) ∙ map_none (ended c (held_at rows pending))
 closed n command c has (word ∷ rest) rows pending waiting =
     let next : List Row = after c rows pending in
-    let more : outcome n c (walk_at next (Some (codes "names", word ∷ [])) positional true) rest ≡ Some (with_names (word ∷ rest) (parts_in (looked next))) =
+    let more : outcome n c (walk_at next (Some (codes "names", word ∷ [])) positional true) rest ≡ Some (with_names (word ∷ rest) (parts_in (lookup_in next))) =
     closed n command c has rest next (Some (codes "names", word ∷ [])) positional
     ∙ (ap (option_map (with_names rest)) (ended-name c next word has.by_id)
-    ∙ (λ i. Some (record (parts_in (looked next)) { names = append_assoc (parts_in (looked next)).names (word ∷ []) rest i }))) in
+    ∙ (λ i. Some (record (parts_in (lookup_in next)) { names = append_assoc (parts_in (lookup_in next)).names (word ∷ []) rest i }))) in
     out-trailing n c rows pending waiting word rest has.place
-    ∙ (under (settles c rows pending) _ (Some (with_names (word ∷ rest) (parts_in (looked next)))) (λ none. more)
-    ∙ (sym (unless-then (settles c rows pending) (λ p. Some (with_names (word ∷ rest) p)) (Some (parts_in (looked next))))
+    ∙ (under (settles c rows pending) _ (Some (with_names (word ∷ rest) (parts_in (lookup_in next)))) (λ none. more)
+    ∙ (sym (unless-then (settles c rows pending) (λ p. Some (with_names (word ∷ rest) p)) (Some (parts_in (lookup_in next))))
     ∙ sym (map_then (ended c (held_at rows pending)) (with_names (word ∷ rest)))))
 
 -- ---- the words before it
 
 abbrev pub IsSoundAfter : List Rule → List Row → Pending → Type 0
-IsSoundAfter c rows pending = settles c rows pending ≡ [] → IsSound (looked (after c rows pending))
+IsSoundAfter c rows pending = settles c rows pending ≡ [] → IsSound (lookup_in (after c rows pending))
 
 abbrev pub Goes : Text → Command → List Rule → List Text → List Row → Pending → Waiting → Type 0
 Goes n command c words rows pending waiting =
@@ -68,8 +68,8 @@ Goes n command c words rows pending waiting =
 
 pub record Reads (n : Text) (command : Command) (c : List Rule) (words : List Text) : Type 0 where
   pub anywhere : (rows : List Row) (pending : Pending) (waiting : Waiting) → IsOpen waiting → IsSoundAfter c rows pending → Goes n command c words rows pending waiting
-  pub awaiting : (rows : List Row) (s : Setting) → arg_by_id c (id_of s) ≡ Some (option_rule (id_of s)) → IsSound (looked rows)
-      → outcome n c (walk_at rows (Some (id_of s, [])) (awaits (id_of s)) false) words ≡ parts_from command (Some s) (parts_in (looked rows)) words
+  pub awaiting : (rows : List Row) (s : Setting) → arg_by_id c (id_of s) ≡ Some (option_rule (id_of s)) → IsSound (lookup_in rows)
+      → outcome n c (walk_at rows (Some (id_of s, [])) (awaits (id_of s)) false) words ≡ parts_from command (Some s) (parts_in (lookup_in rows)) words
 
 reads_end : (n : Text) (command : Command) (c : List Rule) → Reads n command c []
 unfolding parts_from
@@ -89,26 +89,26 @@ long_goes n command c word rest has reads text v e long is None known met rows p
     ∙ then_none (ended c (held_at rows pending)) _ (λ p. rw (is, known) refl)
 long_goes n command c word rest has reads text (Some t) e long is (Some (value s)) known met rows pending waiting sound =
     out-value n c rows pending waiting word rest text t (id_of s) e long met.0
-    ∙ (under (settles c rows pending) _ (parts_from command None (parts_in (looked (after c rows pending))) (word ∷ rest))
+    ∙ (under (settles c rows pending) _ (parts_from command None (parts_in (lookup_in (after c rows pending))) (word ∷ rest))
     (λ none. set_value s t (after c rows pending) (sound none) (λ p. parts_from command None p rest) _
     (λ sound2. reads.anywhere (used (option_rule (id_of s)) (t ∷ []) (after c rows pending)) None idle idle_open (λ _. sound2))
     ∙ rw (is, known) refl)
-    ∙ sym (unless-then (settles c rows pending) (λ p. parts_from command None p (word ∷ rest)) (Some (parts_in (looked (after c rows pending))))))
+    ∙ sym (unless-then (settles c rows pending) (λ p. parts_from command None p (word ∷ rest)) (Some (parts_in (lookup_in (after c rows pending))))))
 long_goes n command c word rest has reads text None e long is (Some (value s)) known met rows pending waiting sound =
     out-wait n c rows pending waiting word rest text (id_of s) e long met.0
-    ∙ (under (settles c rows pending) _ (parts_from command None (parts_in (looked (after c rows pending))) (word ∷ rest))
+    ∙ (under (settles c rows pending) _ (parts_from command None (parts_in (lookup_in (after c rows pending))) (word ∷ rest))
     (λ none. reads.awaiting (after c rows pending) s met.1 (sound none) ∙ rw (is, known) refl)
-    ∙ sym (unless-then (settles c rows pending) (λ p. parts_from command None p (word ∷ rest)) (Some (parts_in (looked (after c rows pending))))))
+    ∙ sym (unless-then (settles c rows pending) (λ p. parts_from command None p (word ∷ rest)) (Some (parts_in (lookup_in (after c rows pending))))))
 long_goes n command c word rest has reads text (Some t) e long is (Some slots) known met rows pending waiting sound =
     out-flag_value n c rows pending waiting word rest text t e long met
     ∙ then_none (ended c (held_at rows pending)) _ (λ p. rw (is, known) refl)
 long_goes n command c word rest has reads text None e long is (Some slots) known met rows pending waiting sound =
     out-flag n c rows pending waiting word rest text e long met
-    ∙ (under (settles c rows pending) _ (parts_from command None (parts_in (looked (after c rows pending))) (word ∷ rest))
+    ∙ (under (settles c rows pending) _ (parts_from command None (parts_in (lookup_in (after c rows pending))) (word ∷ rest))
     (λ none. set_flag (after c rows pending) (sound none) (λ p. parts_from command None p rest) _
     (λ sound2. reads.anywhere (used flag_rule [] (after c rows pending)) None idle idle_open (λ _. sound2))
     ∙ rw (is, known) refl)
-    ∙ sym (unless-then (settles c rows pending) (λ p. parts_from command None p (word ∷ rest)) (Some (parts_in (looked (after c rows pending))))))
+    ∙ sym (unless-then (settles c rows pending) (λ p. parts_from command None p (word ∷ rest)) (Some (parts_in (lookup_in (after c rows pending))))))
 
 closing_goes : (n : Text) (command : Command) (c : List Rule) (word : Text) (rest : List Text) → HasRules command c
     → bytes_eq word (45 ∷ 45 ∷ []) ≡ true → word_of word ≡ closing
@@ -136,21 +136,21 @@ plain_goes : (n : Text) (command : Command) (c : List Rule) (word : Text) (rest 
 unfolding parts_from
 plain_goes n command c word rest has reads is rows pending waiting out sound =
     let next : List Row = after c rows pending in
-    out ∙ (under (settles c rows pending) _ (parts_from command None (parts_in (looked next)) (word ∷ rest))
+    out ∙ (under (settles c rows pending) _ (parts_from command None (parts_in (lookup_in next)) (word ∷ rest))
     (λ none. reads.anywhere next (Some (codes "names", word ∷ [])) positional positional_open (λ _. rw has.by_id (sound_name word next (sound none)))
     ∙ (ap (option_and_then (λ p. parts_from command None p rest)) (ended-name c next word has.by_id)
     ∙ rw is refl))
-    ∙ sym (unless-then (settles c rows pending) (λ p. parts_from command None p (word ∷ rest)) (Some (parts_in (looked next)))))
+    ∙ sym (unless-then (settles c rows pending) (λ p. parts_from command None p (word ∷ rest)) (Some (parts_in (lookup_in next)))))
 
 -- the value in the next word
 given_goes : (n : Text) (command : Command) (c : List Rule) (word : Text) (rest : List Text) → Reads n command c rest → word_of word ≡ name
-    → (rows : List Row) (s : Setting) → arg_by_id c (id_of s) ≡ Some (option_rule (id_of s)) → IsSound (looked rows)
+    → (rows : List Row) (s : Setting) → arg_by_id c (id_of s) ≡ Some (option_rule (id_of s)) → IsSound (lookup_in rows)
     → outcome n c (walk_at rows (Some (id_of s, [])) (awaits (id_of s)) false) (word ∷ rest) ≡ outcome n c (walk_at rows (Some (id_of s, word ∷ [])) idle false) rest
-    → outcome n c (walk_at rows (Some (id_of s, [])) (awaits (id_of s)) false) (word ∷ rest) ≡ parts_from command (Some s) (parts_in (looked rows)) (word ∷ rest)
+    → outcome n c (walk_at rows (Some (id_of s, [])) (awaits (id_of s)) false) (word ∷ rest) ≡ parts_from command (Some s) (parts_in (lookup_in rows)) (word ∷ rest)
 unfolding parts_from
 given_goes n command c word rest reads is rows s found sound out =
     out ∙ (reads.anywhere rows (Some (id_of s, word ∷ [])) idle idle_open (rw found (λ none. sound_use s word rows sound none))
-    ∙ rw found (unless-then (use_fault false (option_rule (id_of s)) (word ∷ []) rows) (λ p. parts_from command None p rest) (Some (parts_in (looked (used (option_rule (id_of s)) (word ∷ []) rows))))
+    ∙ rw found (unless-then (use_fault false (option_rule (id_of s)) (word ∷ []) rows) (λ p. parts_from command None p rest) (Some (parts_in (lookup_in (used (option_rule (id_of s)) (word ∷ []) rows))))
     ∙ (set_value s word rows sound (λ p. parts_from command None p rest) _ (λ sound2. refl)
     ∙ rw is refl)))
 

@@ -4,7 +4,7 @@ use Rattle.std.specs.Prelude.{option_map, unwrap_or, if◌then◌else◌, find, 
 use Rattle.std.specs.Str.{bytes_eq}
 use Rattle.std.proofs.lemmas.Slice.Eq.{bytes_eq-Decides}
 use Rattle.clap.specs.Walk.{Row, Text, has_row, rows_of, with_values, without}
-use Rattle.switch_words.specs.Lines.{Look, first_text, looked}
+use Rattle.switch_words.specs.Lines.{Lookup, first_text, lookup_in}
 use Rattle.clap.specs.Matches.{first_value}
 use Rattle.clap.specs.declared.parser.matches.Found.{Found}
 use Rattle.clap.proofs.WalkLemmas.{first_value-rows}
@@ -16,8 +16,8 @@ tells true = inl refl
 tells false = inr refl
 
 -- with other values of an id
-abbrev pub put : Text → List Text → Look → Look
-put id values look other = if bytes_eq id other then Some values else look other
+abbrev pub put : Text → List Text → Lookup → Lookup
+put id values lookup other = if bytes_eq id other then Some values else lookup other
 
 other_text : (a b : Text) → bytes_eq a b ≡ false → a ≡ b → ⊥
 other_text a b h e =
@@ -25,13 +25,13 @@ other_text a b h e =
     cc
 
 -- values that are added to those of an id
-pub looked-with : (id : Text) (how : Reading) (s : ValueSource) (values : List Text) (rows : List Row) (other : Text)
-    → looked (with_values id how s values rows) other ≡ put id (unwrap_or (looked rows id) [] ++ values) (looked rows) other
-looked-with id how s values [] other = elim (tells (bytes_eq id other)) [
+pub lookup-with : (id : Text) (how : Reading) (s : ValueSource) (values : List Text) (rows : List Row) (other : Text)
+    → lookup_in (with_values id how s values rows) other ≡ put id (unwrap_or (lookup_in rows id) [] ++ values) (lookup_in rows) other
+lookup-with id how s values [] other = elim (tells (bytes_eq id other)) [
   | inl h ↦ rw h refl
   | inr h ↦ rw h refl
 ]
-looked-with id how s values (r ∷ rs) other = elim (tells (bytes_eq r.id id)) [
+lookup-with id how s values (r ∷ rs) other = elim (tells (bytes_eq r.id id)) [
   | inl h ↦
       let same : bytes_eq id other ≡ bytes_eq r.id other = ap (λ (x : Text). bytes_eq x other) (sym ((bytes_eq-Decides r.id id).0 h)) in
       elim (tells (bytes_eq r.id other)) [
@@ -45,20 +45,20 @@ looked-with id how s values (r ∷ rs) other = elim (tells (bytes_eq r.id id)) [
           | inr e ↦ e
         ] in
         rw (h, k, apart) refl
-    | inr k ↦ rw (h, k) (looked-with id how s values rs other)
+    | inr k ↦ rw (h, k) (lookup-with id how s values rs other)
   ]
 ]
 
 -- a row is there where its id is found
-pub has_row-looked : (id : Text) (rows : List Row) → has_row id rows ≡ is_some (looked rows id)
-has_row-looked id [] = refl
-has_row-looked id (r ∷ rs) = elim (tells (bytes_eq r.id id)) [
+pub has_row-lookup : (id : Text) (rows : List Row) → has_row id rows ≡ is_some (lookup_in rows id)
+has_row-lookup id [] = refl
+has_row-lookup id (r ∷ rs) = elim (tells (bytes_eq r.id id)) [
   | inl h ↦ rw h refl
-  | inr h ↦ rw h (has_row-looked id rs)
+  | inr h ↦ rw h (has_row-lookup id rs)
 ]
 
 -- nothing is taken out where there is no row
-pub without-none : (id : Text) (rows : List Row) → looked rows id ≡ None → without id rows ≡ rows
+pub without-none : (id : Text) (rows : List Row) → lookup_in rows id ≡ None → without id rows ≡ rows
 without-none id [] none = refl
 without-none id (r ∷ rs) none = elim (tells (bytes_eq r.id id)) [
   | inl h ↦
@@ -75,5 +75,5 @@ row_first : (o : Option Row) → option_and_then (λ r. slice_get r.values 0) o 
 row_first None = refl
 row_first (Some r) = values_first r.values
 
-pub first_text-is : (f : Found) (id : Text) → first_value f id ≡ first_text (looked (rows_of f) id)
+pub first_text-is : (f : Found) (id : Text) → first_value f id ≡ first_text (lookup_in (rows_of f) id)
 first_text-is f id = first_value-rows f id ∙ row_first (find (λ (r : Row). bytes_eq r.id id) (rows_of f))

@@ -11,9 +11,9 @@ use Rattle.clap.specs.declared.parser.matches.ValueSource.TheVariants.{CommandLi
 use Rattle.switch_words.specs.declared.options.Command.{Command}
 use Rattle.switch_words.specs.declared.options.Command.TheVariants.{Run, Gen}
 use Rattle.switch_words.specs.Options.{Setting, rounds, depth, workers, pace_us, Switch, value, slots, option_of}
-use Rattle.switch_words.specs.Lines.{Look, first_text, flag_arg, is_true_text, looked, names_arg, option_arg, parts_in}
+use Rattle.switch_words.specs.Lines.{Lookup, first_text, flag_arg, is_true_text, lookup_in, names_arg, option_arg, parts_in}
 use Rattle.switch_words.specs.Parts.{Parts, set_text, text_in, with_names, with_slots, with_text}
-use Rattle.switch_words.proofs.Rows.{has_row-looked, looked-with, put, tells, without-none}
+use Rattle.switch_words.proofs.Rows.{has_row-lookup, lookup-with, put, tells, without-none}
 
 -- ---- the rules, as they are written and as they are built
 
@@ -100,53 +100,53 @@ has_rules Gen = record { short = λ x. refl; place = refl; by_id = refl; long = 
 -- ---- the parts that the rows have
 
 -- no row is without a text, and a flag is true
-pub record IsSound (look : Look) : Type 0 where
-  pub texts : (id : Text) → is_some (first_text (look id)) ≡ is_some (look id)
-  pub flag : is_true_text (first_text (look (codes "slots"))) ≡ is_some (look (codes "slots"))
+pub record IsSound (lookup : Lookup) : Type 0 where
+  pub texts : (id : Text) → is_some (first_text (lookup id)) ≡ is_some (lookup id)
+  pub flag : is_true_text (first_text (lookup (codes "slots"))) ≡ is_some (lookup (codes "slots"))
 
-put_texts : (id : Text) (v : Text) (vs : List Text) (look : Look) → IsSound look → (other : Text)
-    → is_some (first_text (put id (v ∷ vs) look other)) ≡ is_some (put id (v ∷ vs) look other)
-put_texts id v vs look sound other = elim (tells (bytes_eq id other)) [
+put_texts : (id : Text) (v : Text) (vs : List Text) (lookup : Lookup) → IsSound lookup → (other : Text)
+    → is_some (first_text (put id (v ∷ vs) lookup other)) ≡ is_some (put id (v ∷ vs) lookup other)
+put_texts id v vs lookup sound other = elim (tells (bytes_eq id other)) [
   | inl h ↦ rw h refl
   | inr h ↦ rw h (sound.texts other)
 ]
 
-put_flag : (s : Setting) (vs : List Text) (look : Look) → is_true_text (first_text (put (id_of s) vs look (codes "slots"))) ≡ is_true_text (first_text (look (codes "slots")))
-put_flag rounds vs look = refl
-put_flag depth vs look = refl
-put_flag workers vs look = refl
-put_flag pace_us vs look = refl
+put_flag : (s : Setting) (vs : List Text) (lookup : Lookup) → is_true_text (first_text (put (id_of s) vs lookup (codes "slots"))) ≡ is_true_text (first_text (lookup (codes "slots")))
+put_flag rounds vs lookup = refl
+put_flag depth vs lookup = refl
+put_flag workers vs lookup = refl
+put_flag pace_us vs lookup = refl
 
-put_flag_there : (s : Setting) (vs : List Text) (look : Look) → is_some (put (id_of s) vs look (codes "slots")) ≡ is_some (look (codes "slots"))
-put_flag_there rounds vs look = refl
-put_flag_there depth vs look = refl
-put_flag_there workers vs look = refl
-put_flag_there pace_us vs look = refl
+put_flag_there : (s : Setting) (vs : List Text) (lookup : Lookup) → is_some (put (id_of s) vs lookup (codes "slots")) ≡ is_some (lookup (codes "slots"))
+put_flag_there rounds vs lookup = refl
+put_flag_there depth vs lookup = refl
+put_flag_there workers vs lookup = refl
+put_flag_there pace_us vs lookup = refl
 
-pub sound_value : (s : Setting) (v : Text) (look : Look) → IsSound look → IsSound (put (id_of s) (v ∷ []) look)
-sound_value s v look sound = record {
-  texts = put_texts (id_of s) v [] look sound;
-  flag = put_flag s (v ∷ []) look ∙ (sound.flag ∙ sym (put_flag_there s (v ∷ []) look));
+pub sound_value : (s : Setting) (v : Text) (lookup : Lookup) → IsSound lookup → IsSound (put (id_of s) (v ∷ []) lookup)
+sound_value s v lookup sound = record {
+  texts = put_texts (id_of s) v [] lookup sound;
+  flag = put_flag s (v ∷ []) lookup ∙ (sound.flag ∙ sym (put_flag_there s (v ∷ []) lookup));
 }
 
-pub sound_flag : (look : Look) → IsSound look → IsSound (put (codes "slots") (codes "true" ∷ []) look)
-sound_flag look sound = record { texts = put_texts (codes "slots") (codes "true") [] look sound; flag = refl }
+pub sound_flag : (lookup : Lookup) → IsSound lookup → IsSound (put (codes "slots") (codes "true" ∷ []) lookup)
+sound_flag lookup sound = record { texts = put_texts (codes "slots") (codes "true") [] lookup sound; flag = refl }
 
-more_names : (look : Look) (old : List Text) (x : Text) → IsSound look → IsSound (put (codes "names") (old ++ x ∷ []) look)
-more_names look [] x sound = record { texts = put_texts (codes "names") x [] look sound; flag = sound.flag }
-more_names look (y ∷ ys) x sound = record { texts = put_texts (codes "names") y (ys ++ x ∷ []) look sound; flag = sound.flag }
+more_names : (lookup : Lookup) (old : List Text) (x : Text) → IsSound lookup → IsSound (put (codes "names") (old ++ x ∷ []) lookup)
+more_names lookup [] x sound = record { texts = put_texts (codes "names") x [] lookup sound; flag = sound.flag }
+more_names lookup (y ∷ ys) x sound = record { texts = put_texts (codes "names") y (ys ++ x ∷ []) lookup sound; flag = sound.flag }
 
-text_in-parts_in : (s : Setting) (look : Look) → text_in (parts_in look) s ≡ first_text (look (id_of s))
-text_in-parts_in rounds look = refl
-text_in-parts_in depth look = refl
-text_in-parts_in workers look = refl
-text_in-parts_in pace_us look = refl
+text_in-parts_in : (s : Setting) (lookup : Lookup) → text_in (parts_in lookup) s ≡ first_text (lookup (id_of s))
+text_in-parts_in rounds lookup = refl
+text_in-parts_in depth lookup = refl
+text_in-parts_in workers lookup = refl
+text_in-parts_in pace_us lookup = refl
 
-parts_in-put : (s : Setting) (v : Text) (look : Look) → parts_in (put (id_of s) (v ∷ []) look) ≡ set_text (parts_in look) s v
-parts_in-put rounds v look = refl
-parts_in-put depth v look = refl
-parts_in-put workers v look = refl
-parts_in-put pace_us v look = refl
+parts_in-put : (s : Setting) (v : Text) (lookup : Lookup) → parts_in (put (id_of s) (v ∷ []) lookup) ≡ set_text (parts_in lookup) s v
+parts_in-put rounds v lookup = refl
+parts_in-put depth v lookup = refl
+parts_in-put workers v lookup = refl
+parts_in-put pace_us v lookup = refl
 
 -- ---- what a use of an argument adds
 
@@ -172,60 +172,60 @@ absent None h = refl
 absent (Some x) h = cc
 
 -- a first use adds the values
-first_use : (id : Text) (v : Text) (rows : List Row) → has_row id rows ≡ false → looked (used (option_rule id) (v ∷ []) rows) ≡ put id (v ∷ []) (looked rows)
+first_use : (id : Text) (v : Text) (rows : List Row) → has_row id rows ≡ false → lookup_in (used (option_rule id) (v ∷ []) rows) ≡ put id (v ∷ []) (lookup_in rows)
 first_use id v rows h =
-    let none : looked rows id ≡ None = absent _ (sym (has_row-looked id rows) ∙ h) in
-    let each : (other : Text) → looked (used (option_rule id) (v ∷ []) rows) other ≡ put id (v ∷ []) (looked rows) other =
-    λ other. rw (without-none id rows none) (looked-with id AsWritten CommandLine (v ∷ []) rows other ∙ ap (λ (o : Option (List Text)). put id (unwrap_or o [] ++ v ∷ []) (looked rows) other) none) in
+    let none : lookup_in rows id ≡ None = absent _ (sym (has_row-lookup id rows) ∙ h) in
+    let each : (other : Text) → lookup_in (used (option_rule id) (v ∷ []) rows) other ≡ put id (v ∷ []) (lookup_in rows) other =
+    λ other. rw (without-none id rows none) (lookup-with id AsWritten CommandLine (v ∷ []) rows other ∙ ap (λ (o : Option (List Text)). put id (unwrap_or o [] ++ v ∷ []) (lookup_in rows) other) none) in
     λ i other. each other i
 
 cons_nil : {A : Type 0} (x : A) (xs : List A) → x ∷ xs ≡ [] → ⊥
 cons_nil x xs h = cc
 
 -- a use that passes leaves the rows sound
-pub sound_use : (s : Setting) (v : Text) (rows : List Row) → IsSound (looked rows) → use_fault false (option_rule (id_of s)) (v ∷ []) rows ≡ []
-    → IsSound (looked (used (option_rule (id_of s)) (v ∷ []) rows))
+pub sound_use : (s : Setting) (v : Text) (rows : List Row) → IsSound (lookup_in rows) → use_fault false (option_rule (id_of s)) (v ∷ []) rows ≡ []
+    → IsSound (lookup_in (used (option_rule (id_of s)) (v ∷ []) rows))
 sound_use s v rows sound passes = elim (tells (has_row (id_of s) rows)) [
   | inl h ↦ absurd (cons_nil _ _ (rw h at passes))
-  | inr h ↦ subst IsSound (sym (first_use (id_of s) v rows h)) (sound_value s v (looked rows) sound)
+  | inr h ↦ subst IsSound (sym (first_use (id_of s) v rows h)) (sound_value s v (lookup_in rows) sound)
 ]
 
-pub set_value : (s : Setting) (v : Text) (rows : List Row) → IsSound (looked rows) → (k : Parts → Option Parts) (x : Option Parts)
-    → (IsSound (looked (used (option_rule (id_of s)) (v ∷ []) rows)) → x ≡ k (parts_in (looked (used (option_rule (id_of s)) (v ∷ []) rows))))
-    → unless (use_fault false (option_rule (id_of s)) (v ∷ []) rows) x ≡ option_and_then k (with_text (parts_in (looked rows)) s v)
+pub set_value : (s : Setting) (v : Text) (rows : List Row) → IsSound (lookup_in rows) → (k : Parts → Option Parts) (x : Option Parts)
+    → (IsSound (lookup_in (used (option_rule (id_of s)) (v ∷ []) rows)) → x ≡ k (parts_in (lookup_in (used (option_rule (id_of s)) (v ∷ []) rows))))
+    → unless (use_fault false (option_rule (id_of s)) (v ∷ []) rows) x ≡ option_and_then k (with_text (parts_in (lookup_in rows)) s v)
 set_value s v rows sound k x next =
-    let there : is_some (text_in (parts_in (looked rows)) s) ≡ has_row (id_of s) rows =
-    ap is_some (text_in-parts_in s (looked rows)) ∙ (sound.texts (id_of s) ∙ sym (has_row-looked (id_of s) rows)) in
+    let there : is_some (text_in (parts_in (lookup_in rows)) s) ≡ has_row (id_of s) rows =
+    ap is_some (text_in-parts_in s (lookup_in rows)) ∙ (sound.texts (id_of s) ∙ sym (has_row-lookup (id_of s) rows)) in
     elim (tells (has_row (id_of s) rows)) [
       | inl h ↦ rw (there, h) refl
       | inr h ↦
           let is = first_use (id_of s) v rows h in
-          let goes = next (subst IsSound (sym is) (sound_value s v (looked rows) sound)) in
-          rw (there, h) (goes ∙ ap k (ap parts_in is ∙ parts_in-put s v (looked rows)))
+          let goes = next (subst IsSound (sym is) (sound_value s v (lookup_in rows) sound)) in
+          rw (there, h) (goes ∙ ap k (ap parts_in is ∙ parts_in-put s v (lookup_in rows)))
     ]
 
-pub set_flag : (rows : List Row) → IsSound (looked rows) → (k : Parts → Option Parts) (x : Option Parts)
-    → (IsSound (looked (used flag_rule [] rows)) → x ≡ k (parts_in (looked (used flag_rule [] rows))))
-    → unless (use_fault false flag_rule [] rows) x ≡ option_and_then k (with_slots (parts_in (looked rows)))
+pub set_flag : (rows : List Row) → IsSound (lookup_in rows) → (k : Parts → Option Parts) (x : Option Parts)
+    → (IsSound (lookup_in (used flag_rule [] rows)) → x ≡ k (parts_in (lookup_in (used flag_rule [] rows))))
+    → unless (use_fault false flag_rule [] rows) x ≡ option_and_then k (with_slots (parts_in (lookup_in rows)))
 set_flag rows sound k x next =
-    let there : (parts_in (looked rows)).slots ≡ has_row (codes "slots") rows = sound.flag ∙ sym (has_row-looked (codes "slots") rows) in
+    let there : (parts_in (lookup_in rows)).slots ≡ has_row (codes "slots") rows = sound.flag ∙ sym (has_row-lookup (codes "slots") rows) in
     elim (tells (has_row (codes "slots") rows)) [
       | inl h ↦ rw (there, h) refl
       | inr h ↦
-          let none : looked rows (codes "slots") ≡ None = absent _ (sym (has_row-looked (codes "slots") rows) ∙ h) in
-          let each : (other : Text) → looked (used flag_rule [] rows) other ≡ put (codes "slots") (codes "true" ∷ []) (looked rows) other =
-          λ other. rw (without-none (codes "slots") rows none) (looked-with (codes "slots") AsWritten CommandLine (codes "true" ∷ []) rows other ∙ ap (λ (o : Option (List Text)). put (codes "slots") (unwrap_or o [] ++ codes "true" ∷ []) (looked rows) other) none) in
-          let is : looked (used flag_rule [] rows) ≡ put (codes "slots") (codes "true" ∷ []) (looked rows) = λ i other. each other i in
-          let goes = next (subst IsSound (sym is) (sound_flag (looked rows) sound)) in
+          let none : lookup_in rows (codes "slots") ≡ None = absent _ (sym (has_row-lookup (codes "slots") rows) ∙ h) in
+          let each : (other : Text) → lookup_in (used flag_rule [] rows) other ≡ put (codes "slots") (codes "true" ∷ []) (lookup_in rows) other =
+          λ other. rw (without-none (codes "slots") rows none) (lookup-with (codes "slots") AsWritten CommandLine (codes "true" ∷ []) rows other ∙ ap (λ (o : Option (List Text)). put (codes "slots") (unwrap_or o [] ++ codes "true" ∷ []) (lookup_in rows) other) none) in
+          let is : lookup_in (used flag_rule [] rows) ≡ put (codes "slots") (codes "true" ∷ []) (lookup_in rows) = λ i other. each other i in
+          let goes = next (subst IsSound (sym is) (sound_flag (lookup_in rows) sound)) in
           rw (there, h) (goes ∙ ap k (ap parts_in is))
     ]
 
 -- a name is added to the names
-pub add_name : (x : Text) (rows : List Row) → looked (used names_rule (x ∷ []) rows) ≡ put (codes "names") (unwrap_or (looked rows (codes "names")) [] ++ x ∷ []) (looked rows)
-add_name x rows = λ i other. looked-with (codes "names") AsWritten CommandLine (x ∷ []) rows other i
+pub add_name : (x : Text) (rows : List Row) → lookup_in (used names_rule (x ∷ []) rows) ≡ put (codes "names") (unwrap_or (lookup_in rows (codes "names")) [] ++ x ∷ []) (lookup_in rows)
+add_name x rows = λ i other. lookup-with (codes "names") AsWritten CommandLine (x ∷ []) rows other i
 
-pub sound_name : (x : Text) (rows : List Row) → IsSound (looked rows) → IsSound (looked (used names_rule (x ∷ []) rows))
-sound_name x rows sound = subst IsSound (sym (add_name x rows)) (more_names (looked rows) _ x sound)
+pub sound_name : (x : Text) (rows : List Row) → IsSound (lookup_in rows) → IsSound (lookup_in (used names_rule (x ∷ []) rows))
+sound_name x rows sound = subst IsSound (sym (add_name x rows)) (more_names (lookup_in rows) _ x sound)
 
-pub parts_name : (x : Text) (rows : List Row) → parts_in (looked (used names_rule (x ∷ []) rows)) ≡ with_names (x ∷ []) (parts_in (looked rows))
+pub parts_name : (x : Text) (rows : List Row) → parts_in (lookup_in (used names_rule (x ∷ []) rows)) ≡ with_names (x ∷ []) (parts_in (lookup_in rows))
 parts_name x rows = ap parts_in (add_name x rows)

@@ -7,7 +7,7 @@ use Rattle.clap.specs.Walk.{Held, Row, Rule, Text, Waiting, Walk, idle, option a
 use Rattle.clap.specs.Kinds.{Kinds, or_else}
 use Rattle.clap.specs.Faults.{settle_fault, turn_fault, use_fault, walk_fault, flags_fault}
 use Rattle.clap.specs.declared.error.kind.ErrorKind.TheVariants.{UnknownArgument, TooManyValues}
-use Rattle.switch_words.specs.Lines.{looked, parts_in}
+use Rattle.switch_words.specs.Lines.{lookup_in, parts_in}
 use Rattle.switch_words.specs.Parts.{Parts}
 use Rattle.switch_words.proofs.Rules.{flag_rule, names_rule, option_rule, shape_with, unless, unless-or_else}
 
@@ -30,7 +30,7 @@ after c rows pending = settled_rows c pending rows
 
 -- the parts where the words end
 abbrev pub ended : List Rule → Held → Option Parts
-ended c h = unless (settle_fault c false h) (Some (parts_in (looked (settled c h).rows)))
+ended c h = unless (settle_fault c false h) (Some (parts_in (lookup_in (settled c h).rows)))
 
 abbrev pub outcome : Text → List Rule → Walk → List Text → Option Parts
 outcome n c w words = unless (walk_fault (shape_with n c) [] w words) (ended c (fold (walked c []) w words).held)

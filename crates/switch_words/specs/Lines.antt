@@ -32,11 +32,11 @@ abbrev pub line_for : Command → App
 line_for command = record bare_line { top = record bare_line.top { rules = args_for command } }
 
 -- the texts that matches have for an id
-abbrev pub Look : Type 0
-Look = Text → Option (List Text)
+abbrev pub Lookup : Type 0
+Lookup = Text → Option (List Text)
 
-abbrev pub looked : List Row → Look
-looked rows id = all_of id rows
+abbrev pub lookup_in : List Row → Lookup
+lookup_in rows id = all_of id rows
 
 abbrev pub first_text : Option (List Text) → Option Text
 first_text None = None
@@ -48,18 +48,18 @@ abbrev pub is_true_text : Option Text → Bool
 is_true_text None = false
 is_true_text (Some text) = bytes_eq text (codes "true")
 
-abbrev pub parts_in : Look → Parts
-parts_in look = record {
-  rounds = first_text (look (codes "rounds"));
-  depth = first_text (look (codes "depth"));
-  workers = first_text (look (codes "workers"));
-  pace_us = first_text (look (codes "pace-us"));
-  slots = is_true_text (first_text (look (codes "slots")));
-  names = unwrap_or (look (codes "names")) [];
+abbrev pub parts_in : Lookup → Parts
+parts_in lookup = record {
+  rounds = first_text (lookup (codes "rounds"));
+  depth = first_text (lookup (codes "depth"));
+  workers = first_text (lookup (codes "workers"));
+  pace_us = first_text (lookup (codes "pace-us"));
+  slots = is_true_text (first_text (lookup (codes "slots")));
+  names = unwrap_or (lookup (codes "names")) [];
 }
 
-abbrev pub look_of : ArgMatches → Look
-look_of matches = looked (rows_of (found_of matches))
+abbrev pub lookup_of : ArgMatches → Lookup
+lookup_of matches = lookup_in (rows_of (found_of matches))
 
 abbrev pub parts_of : ArgMatches → Parts
-parts_of matches = parts_in (look_of matches)
+parts_of matches = parts_in (lookup_of matches)

@@ -75,26 +75,26 @@ word_of (first ∷ []) = name
 word_of (first ∷ second ∷ rest) =
     if first == dash then (if second == dash then behind_dashes rest else refused) else name
 
--- After an option, with the value behind its `=` if there is one. `go` reads the words behind it, of which the first is
+-- After an option, with the value behind its `=` if there is one. `read_on` reads the words behind it, of which the first is
 -- the value of an option if one is awaited.
 abbrev pub after_option : Parts → Option (List ℕ) → Switch → (Option Setting → Parts → Option Parts) → Option Parts
-after_option parts (Some text) (value setting) go = option_and_then (go None) (with_text parts setting text)
-after_option parts None (value setting) go = go (Some setting) parts
-after_option parts (Some text) slots go = None
-after_option parts None slots go = option_and_then (go None) (with_slots parts)
+after_option parts (Some text) (value setting) read_on = option_and_then (read_on None) (with_text parts setting text)
+after_option parts None (value setting) read_on = read_on (Some setting) parts
+after_option parts (Some text) slots read_on = None
+after_option parts None slots read_on = option_and_then (read_on None) (with_slots parts)
 
 -- After a word where options may stand. Behind `--` each word is a name.
 abbrev pub after_word : Command → Parts → List ℕ → List (List ℕ) → Word → (Option Setting → Parts → Option Parts) → Option Parts
-after_word command parts word rest closing go = Some (with_names rest parts)
-after_word command parts word rest (option text behind) go =
-    option_and_then (λ switch. after_option parts behind switch go) (option_of command text)
-after_word command parts word rest name go = go None (with_names (word ∷ []) parts)
-after_word command parts word rest refused go = None
+after_word command parts word rest closing read_on = Some (with_names rest parts)
+after_word command parts word rest (option text behind) read_on =
+    option_and_then (λ switch. after_option parts behind switch read_on) (option_of command text)
+after_word command parts word rest name read_on = read_on None (with_names (word ∷ []) parts)
+after_word command parts word rest refused read_on = None
 
 -- After the word that has to be the value of an option: one that could be a name.
 abbrev pub after_value : Parts → Setting → List ℕ → Word → (Option Setting → Parts → Option Parts) → Option Parts
-after_value parts setting word name go = option_and_then (go None) (with_text parts setting word)
-after_value parts setting word _ go = None
+after_value parts setting word name read_on = option_and_then (read_on None) (with_text parts setting word)
+after_value parts setting word _ read_on = None
 
 -- The parts of the words, with those of the words before them. The first word is the value of the option that is
 -- awaited, if one is. None where a word is refused or an option has no value.

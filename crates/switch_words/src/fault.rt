@@ -50,15 +50,14 @@ impl From<clap::Error> for WordsFault {
     ghost use Rattle.std.specs.Prelude.{◌≡◌};
     ghost use Rattle.clap.specs.Words.{kind_of};
     ghost use Rattle.clap.specs.declared.error.kind.ErrorKind.TheVariants as kind;
-    ghost use Rattle.switch_words.specs.declared.fault.WordsFault.TheVariants.{Usage};
+    ghost use Rattle.switch_words.specs.declared.fault.WordsFault.TheVariants.{OutOfMemory, Usage};
 
-    ghost from_gives = { λ error fault. fault ≡ Usage → kind_of error ≡ kind.OutOfMemory → ⊥ };
+    ghost from_gives = { λ error fault. (kind_of error ≡ kind.OutOfMemory → fault ≡ OutOfMemory) × ((kind_of error ≡ kind.OutOfMemory → ⊥) → fault ≡ Usage) };
 
     fn from(error: clap::Error) -> WordsFault {
-        if error.kind() == ErrorKind::OutOfMemory {
-            WordsFault::OutOfMemory
-        } else {
-            WordsFault::Usage
+        match error.kind() {
+            ErrorKind::OutOfMemory => WordsFault::OutOfMemory,
+            _ => WordsFault::Usage,
         }
     }
 }

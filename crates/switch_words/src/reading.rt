@@ -2,7 +2,7 @@ ghost use Rattle.std.specs.Prelude.{◌≡◌, codes, Some, None, Err, drop, map
 ghost use Rattle.switch_words.specs.Parts.{no_parts, parts_from};
 ghost use Rattle.switch_words.specs.Reading.{number_given, settings_of, run_with, gen_with, run_words, job_words, reading_of};
 ghost use Rattle.switch_words.specs.Limits.{AreWithinLimits, IsUpTo, IsRunWithinLimits, IsGenWithinLimits, IsWithinLimits};
-ghost use Rattle.switch_words.specs.Lines.{first_text, is_true_text, look_of, parts_of};
+ghost use Rattle.switch_words.specs.Lines.{first_text, is_true_text, lookup_of, parts_of};
 
 use crate::fault::WordsFault;
 use crate::job::{GenJob, Job, RunJob, Settings};
@@ -75,7 +75,7 @@ fn settings(matches: &ArgMatches<'_>) -> Option<Settings>
 
 // The number of the option, if it was given; None where it is no number from 1 to `most`.
 fn number(matches: &ArgMatches<'_>, id: &str, most: u32) -> Option<Option<u32>>
-    ensures number { result ≡ number_given most (first_text (look_of matches.now id.now)) }
+    ensures number { result ≡ number_given most (first_text (lookup_of matches.now id.now)) }
     ensures limits { IfSome result (λ number. IfSome number (IsUpTo most)) }
 {
     match text(matches, id) {
@@ -86,7 +86,7 @@ fn number(matches: &ArgMatches<'_>, id: &str, most: u32) -> Option<Option<u32>>
 
 // Whether each slot is to be reported. A flag that is given has the text `true`.
 fn has_slots(matches: &ArgMatches<'_>) -> bool
-    ensures { result ≡ is_true_text (first_text (look_of matches.now (codes "slots"))) }
+    ensures { result ≡ is_true_text (first_text (lookup_of matches.now (codes "slots"))) }
 {
     match text(matches, "slots") {
         Some(text) => text == "true",
@@ -96,14 +96,14 @@ fn has_slots(matches: &ArgMatches<'_>) -> bool
 
 // The text of the option, if it was given.
 fn text<'a>(matches: &ArgMatches<'a>, id: &str) -> Option<&'a str>
-    ensures { option_map (λ text. text.now) result ≡ first_text (look_of matches.now id.now) }
+    ensures { option_map (λ text. text.now) result ≡ first_text (lookup_of matches.now id.now) }
 {
     matches.get_str(id)
 }
 
 // The names, if there is one.
 fn names<'m, 'a>(matches: &'m ArgMatches<'a>) -> Option<&'m [&'a str]>
-    ensures { option_map (λ names. map (λ name. name.now) names.now) result ≡ look_of matches.now (codes "names") }
+    ensures { option_map (λ names. map (λ name. name.now) names.now) result ≡ lookup_of matches.now (codes "names") }
 {
     matches.get_strs("names")
 }
