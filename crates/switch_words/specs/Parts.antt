@@ -75,8 +75,8 @@ word_of (first ∷ []) = name
 word_of (first ∷ second ∷ rest) =
     if first == dash then (if second == dash then behind_dashes rest else refused) else name
 
--- After an option, with the value behind its `=` if there is one. `read_on` reads the words behind it, of which the first is
--- the value of an option if one is awaited.
+-- After an option, with the value behind its `=` if there is one. `read_on` reads the words behind it, of which the
+-- first is the value of an option if one is awaited.
 abbrev pub after_option : Parts → Option (List ℕ) → Switch → (Option Setting → Parts → Option Parts) → Option Parts
 after_option parts (Some text) (value setting) read_on = option_and_then (read_on None) (with_text parts setting text)
 after_option parts None (value setting) read_on = read_on (Some setting) parts
