@@ -19,7 +19,8 @@ use Rattle.slot_histories.proofs.KeepingTests.{Decides-gives}
 use Rattle.multicast_queue.specs.FanQueues.{FanCell, first_fan, first_name}
 use Rattle.card_core.specs.Plans.{Plan, Queue, OfOutput, OfLevel, IsGoodPlan, level_of, kind_of, arriving, cell_named}
 use Rattle.card_core.specs.Queues.{Passed, waiting, remaining, rest_of, coming, with_arrival, with_since, head_gone, after_part_of, before, queue_in}
-use Rattle.card_core.specs.Posts.{has_cells, row_at, granted_by, granted_at, queue_by, IsPartOf, IsServable}
+use Rattle.card_core.specs.Posts.{has_cells, row_at, granted_by, granted_at, queue_by, IsServable}
+use Rattle.slot_histories.specs.Parts.{IsPartOf}
 use Rattle.card_core.specs.Grants.{serves, first_of, granted_to, to_output, begun_for}
 use Rattle.card_core.proofs.Remaining.{remaining-has, remaining-part, lacks}
 use Rattle.card_core.proofs.Sets.{same_test}

@@ -5,7 +5,7 @@ ghost use Rattle.card_core.specs.Cards.{MayReceive, MayReceiveAny, received_with
 use crate::limits::MAX_SLOTS;
 use crate::outcome::CardOut;
 use cell_cutter::{Cell, MAX_MESSAGE_BYTES, PAYLOAD_BYTES};
-use reassembly::Reassembly;
+use reassembly::{FLOWS_PER_INPUT, Reassembly};
 use rotating_pick::{MAX_PORTS, OutOfMemory};
 use std::alloc::Global;
 use std::marker::Model;
@@ -44,7 +44,7 @@ impl Egress {
     ) -> Result<Egress, OutOfMemory>
         requires some { 0 < n }
         requires ports { n ≤ MAX_PORTS }
-        requires flows { length sizes.now ≡ 8 * n }
+        requires flows { length sizes.now ≡ FLOWS_PER_INPUT * n }
         requires sizes { All (λ size. size ≤ MAX_MESSAGE_BYTES) sizes.now }
         ensures { IfOk result (λ r. r ≡ record { flows = record { ports = n; flows = map fresh sizes.now }; body = []; lens = []; cells = 0; body_room = body_room; packet_room = packet_room }) }
     {

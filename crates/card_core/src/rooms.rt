@@ -3,10 +3,9 @@ ghost use Rattle.card_core.specs.declared.plan.Planned.{Planned as APlanned};
 ghost use Rattle.card_core.specs.Plans.{IsPlanned};
 ghost use Rattle.card_core.specs.States.{HasRooms, AreFew};
 
-use crate::entering::only_port;
 use crate::limits::MAX_ARRIVALS;
 use crate::plan::Planned;
-use rotating_pick::{LEVELS, MAX_PORTS, is_empty};
+use rotating_pick::{LEVELS, MAX_PORTS, is_empty, only};
 use std::alloc::{AllocError, Global};
 
 /// How many packets will enter each queue.
@@ -46,7 +45,7 @@ fn count(n: u32, unicast: &mut [u32], multicast: &mut [u32; LEVELS as usize], pa
         return;
     }
     let level = packet.level as usize;
-    match only_port(packet.fan) {
+    match only(packet.fan) {
         Some(output) => unicast[LEVELS as usize * output as usize + level] += 1,
         None => multicast[level] += 1,
     }

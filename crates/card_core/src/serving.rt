@@ -1,10 +1,10 @@
-ghost use Rattle.std.specs.Prelude.{ℕ, ◌≡◌, ◌↔◌, slice_index, IsTrue};
-ghost use Rattle.card_core.specs.Posts.{IsServable, IsPartOf, IsOneFor};
+ghost use Rattle.std.specs.Prelude.{ℕ, ◌≡◌, ◌<◌, ◌↔◌, slice_index, IsTrue};
+ghost use Rattle.card_core.specs.Posts.{IsServable, IsOneFor};
+ghost use Rattle.slot_histories.specs.Parts.{IsPartOf};
 ghost use Rattle.rotating_pick.specs.PortSets.{Has};
 ghost use Rattle.slot_match.specs.Rows.{sets_of};
 
-use crate::entering::only_port;
-use rotating_pick::{Kind, Ports, is_empty, is_subset};
+use rotating_pick::{Kind, LEVELS, Ports, is_empty, is_subset, only};
 use slot_match::{Row, Served};
 
 /// Whether the part may be served of the row: nothing, or some of the outputs that the row names at the
@@ -18,22 +18,24 @@ pub(crate) fn is_servable(row: &Row, served: Option<Served>) -> bool
     }
 }
 
-// Whether the outputs are some of those that the row names, and one for unicast.
+// Whether the level is one, and the outputs are some of those that the row names, one for unicast.
 fn is_part(row: &Row, part: Served) -> bool
     ensures { IsTrue result ↔ IsPartOf row.now part }
 {
-    is_subset(part.outputs, set(row, part.level, part.kind)) && is_some(part.outputs, part.kind)
+    u32::from(part.level) < LEVELS
+        && is_subset(part.outputs, set(row, part.level, part.kind))
+        && is_some(part.outputs, part.kind)
 }
 
 // The outputs that the row names at the level with the kind.
 fn set(row: &Row, level: u8, kind: Kind) -> Ports
+    requires { level < LEVELS }
     ensures { result ≡ slice_index (sets_of row.now kind) level }
 {
-    let set = match kind {
-        Kind::Uni => row.uni.get(usize::from(level)),
-        Kind::Multi => row.multi.get(usize::from(level)),
-    };
-    set.copied().unwrap_or(0)
+    match kind {
+        Kind::Uni => row.uni[usize::from(level)],
+        Kind::Multi => row.multi[usize::from(level)],
+    }
 }
 
 // Whether there is an output, and for unicast no other.
@@ -41,7 +43,7 @@ fn is_some(outputs: Ports, kind: Kind) -> bool
     ensures { IsTrue result ↔ (((j : ℕ) × Has outputs j) × IsOneFor kind outputs) }
 {
     match kind {
-        Kind::Uni => only_port(outputs).is_some(),
+        Kind::Uni => only(outputs).is_some(),
         Kind::Multi => !is_empty(outputs),
     }
 }

@@ -1,30 +1,31 @@
-use Rattle.std.proofs.Common.{◌≡◌, ◌≢◌, ◌∙◌, ◌^◌, ◌<◌, ℕ, Bool, true, false, not, Option, Some, None, is_some, sym, subst, IfSome, IsNone, refl}
+use Rattle.std.proofs.Common.{◌≡◌, ◌∙◌, ◌⊎◌, ◌^◌, ◌<◌, ℕ, Bool, true, false, not, Option, Some, None, is_some, sym, subst, IfSome, IsNone, refl}
 use Rattle.rotating_pick.specs.PortSets.{Has, HasSeveral}
 use Rattle.rotating_pick.specs.declared.kinds.Kind.TheVariants.{Uni, Multi}
 use Rattle.rotating_pick.proofs.Bits.{zero-no_members}
 use Rattle.slot_match.proofs.Sets.{Has-some, zero-has}
 use Rattle.std.proofs.lemmas.Nat.Bits.{bit_at-pow_same}
 use Rattle.card_core.specs.Posts.{IsOneFor}
-use Rattle.card_core.proofs.Sets.{only_member}
+use Rattle.rotating_pick.proofs.Members.{only_member}
+use Rattle.card_core.proofs.Sets.{several-of}
 use Rattle.card_core.proofs.serving.is_some.Goals as goal
 
-one_at : (outputs : ℕ) (port : Option ℕ) → IfSome port (λ j. (outputs ≡ 2 ^ j) × (j < 64)) → is_some port ≡ true → ((j : ℕ) × Has outputs j) × IsOneFor Uni outputs
+one_at : (outputs : ℕ) (port : Option ℕ) → IfSome port (λ j. (j < 64) × (outputs ≡ 2 ^ j)) → is_some port ≡ true → ((j : ℕ) × Has outputs j) × IsOneFor Uni outputs
 one_at outputs None one some = absurd (cc)
 one_at outputs (Some port) one some = (
-  (port, subst (λ s. Has s port) (sym one.0) (bit_at-pow_same port)),
-  λ kind j k a b. only_member port j (subst (λ s. Has s j) one.0 a) ∙ sym (only_member port k (subst (λ s. Has s k) one.0 b)),
+  (port, subst (λ s. Has s port) (sym one.1) (bit_at-pow_same port)),
+  λ kind j k a b. only_member port j (subst (λ s. Has s j) one.1 a) ∙ sym (only_member port k (subst (λ s. Has s k) one.1 b)),
 )
 
-some_at : (outputs : ℕ) (port : Option ℕ) → (IsNone port → outputs ≢ 0 → HasSeveral outputs) → ((j : ℕ) × Has outputs j) → ((j k : ℕ) → Has outputs j → Has outputs k → j ≡ k) → is_some port ≡ true
-some_at outputs None several some one =
-    let s = several refl (λ none. zero-has outputs some.0 none some.1) in
+some_at : (outputs : ℕ) (port : Option ℕ) → (IsNone port → (outputs ≡ 0) ⊎ HasSeveral outputs) → ((j : ℕ) × Has outputs j) → ((j k : ℕ) → Has outputs j → Has outputs k → j ≡ k) → is_some port ≡ true
+some_at outputs None none some one =
+    let s = several-of outputs (none refl) (λ empty. zero-has outputs some.0 empty some.1) in
     absurd (s.differ (one s.one s.other s.has_one s.has_other))
-some_at outputs (Some port) several some one = refl
+some_at outputs (Some port) none some one = refl
 
 pub returns-in-Uni : goal.returns-in-Uni
 returns-in-Uni c = (
-  λ yes_. subst (λ k. ((j : ℕ) × Has c.args.outputs j) × IsOneFor k c.args.outputs) (sym c.in-Uni.is) (one_at c.args.outputs c.only_port.result c.only_port.ensures.one (sym c.is_some.ensures ∙ yes_)),
-  λ both. c.is_some.ensures ∙ some_at c.args.outputs c.only_port.result c.only_port.ensures.several both.0 (both.1 c.in-Uni.is),
+  λ yes_. subst (λ k. ((j : ℕ) × Has c.args.outputs j) × IsOneFor k c.args.outputs) (sym c.in-Uni.is) (one_at c.args.outputs c.only.result c.only.ensures.one (sym c.is_some.ensures ∙ yes_)),
+  λ both. c.is_some.ensures ∙ some_at c.args.outputs c.only.result c.only.ensures.none.0 both.0 (both.1 c.in-Uni.is),
 )
 
 multi_some : (outputs : ℕ) (b : Bool) → outputs < 2 ^ 64 → (b ≡ true → outputs ≡ 0) → (outputs ≡ 0 → b ≡ true) → (not b ≡ true → ((j : ℕ) × Has outputs j) × IsOneFor Multi outputs) × (((j : ℕ) × Has outputs j) → not b ≡ true)

@@ -2,7 +2,7 @@ use Rattle.std.proofs.Common.{◌∙◌, List, Option, true, refl, ap, sym, subs
 use Rattle.slot_match.specs.declared.matching.Served.{Served}
 use Rattle.voq_banks.specs.Queues.{Queues as UniQueues}
 use Rattle.multicast_queue.specs.FanQueues.{Queues as FanQueues}
-use Rattle.card_core.specs.Posts.{IsPartOf}
+use Rattle.slot_histories.specs.Parts.{IsPartOf}
 use Rattle.card_core.specs.States.{State, HasSent, Leaves}
 use Rattle.card_core.proofs.After.{may_leave, taken, take_none, take_some, Named, named-of, cell-is, part-of}
 use Rattle.card_core.specs.contracts.ingress.Ingress.{the_view}
