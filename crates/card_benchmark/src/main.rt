@@ -82,15 +82,23 @@ fn full_plan(alloc: Global) -> Result<CardPlan, AllocError> {
     })
 }
 
-// Posts and takes in so many slots, and answers how many cells were posted.
-fn run_slots(card: &mut Card, slots: u32, served: Option<Served>) -> u32 {
-    let mut cells = 0u32;
+/// How many posts had a row that names an output, and how many a cell.
+#[derive(Clone, Copy)]
+struct Posts {
+    rows: u32,
+    cells: u32,
+}
+
+// Posts and takes in so many slots.
+fn run_slots(card: &mut Card, slots: u32, served: Option<Served>) -> Posts {
+    let mut posts = Posts { rows: 0, cells: 0 };
     for _slot in 0..slots {
         if card.posted() || card.done() || card.slot() >= MAX_SLOTS {
-            return cells;
+            return posts;
         }
         let post = card.post();
-        cells = cells.wrapping_add(u32::from(post.cell.is_some()));
+        posts.rows = posts.rows.wrapping_add(u32::from(!post.row.is_empty()));
+        posts.cells = posts.cells.wrapping_add(u32::from(post.cell.is_some()));
         let taken = Taken {
             slot: card.slot(),
             served,
@@ -101,22 +109,25 @@ fn run_slots(card: &mut Card, slots: u32, served: Option<Served>) -> u32 {
             card.take(&taken);
         }
     }
-    cells
+    posts
 }
 
 // Times the slots of a card once its queue is full, and tells the least time of one.
 fn time_slots<R: Clock + Eprint>(rt: &R, load: Load, card: &mut Card) -> io::Result<()> {
-    let _none = run_slots(card, PACKETS, None);
+    let mut posts = run_slots(card, PACKETS, None);
     let mut least = u128::MAX;
-    let mut cells = 0;
     for _batch in 0..BATCHES {
         let begin = Instant::now(rt)?;
-        cells = run_slots(card, SLOTS, load.served());
+        posts = run_slots(card, SLOTS, load.served());
         let end = Instant::now(rt)?;
         least = least.min(end.duration_since(begin).as_nanos());
     }
     let nanos = least / SLOTS as u128;
-    eprintln!(rt; "{load}: {nanos} ns a post and take, {cells} cells in {SLOTS} slots")
+    eprintln!(rt;
+        "{load}: {nanos} ns a post and take, {} rows and {} cells in {SLOTS} slots",
+        posts.rows,
+        posts.cells
+    )
 }
 
 fn main(rt: HostRuntime) -> io::Result<()> {
