@@ -1,11 +1,12 @@
 -- Which cells of a queue were granted, slot by slot.
-use Rattle.std.specs.Prelude.{ℕ, zero, suc, ◌==◌, ◌&&◌, not, Bool, if◌then◌else◌, List, [], ◌∷◌, ◌++◌, filter, Option, None, slice_index_or}
+use Rattle.std.specs.Prelude.{ℕ, zero, suc, ◌==◌, ◌&&◌, not, nat_lt, Bool, if◌then◌else◌, List, [], ◌∷◌, ◌++◌, filter, Option, None, slice_index_or}
 use Rattle.rotating_pick.specs.declared.kinds.Kind.TheVariants.{Uni, Multi}
 use Rattle.slot_match.specs.declared.matching.Served.{Served}
 use Rattle.multicast_queue.specs.FanQueues.{FanCell, first_fan}
 use Rattle.slot_histories.specs.Tests.{has, gives}
 use Rattle.card_core.specs.Plans.{Plan, Queue, OfOutput, OfLevel}
-use Rattle.card_core.specs.Queues.{Passed, waiting, rest_of, queue_in}
+use Rattle.card_core.specs.declared.plan.Planned.{Planned}
+use Rattle.card_core.specs.Queues.{Passed, waiting, rest_of, queue_in, enters}
 
 -- whether a part serves output j from the queue
 abbrev pub serves : Queue → ℕ → Option Served → Bool
@@ -31,3 +32,7 @@ to_output j cells = filter (λ cell. has cell.fan j) cells
 -- the head, where it goes to output j and was granted to it already
 abbrev pub begun_for : Queue → ℕ → Passed → List FanCell
 begun_for q j s = if has (first_fan (waiting s)) j && not (has (rest_of q s) j) then first_of (waiting s) else []
+
+-- the packets that arrive before slot t, enter the queue and go to output j, in order of arrival
+abbrev pub packets_to : Plan → Queue → ℕ → List (Option Served) → ℕ → List Planned
+packets_to plan q j served t = filter (λ packet. nat_lt packet.arrival t && enters plan q served packet && has packet.fan j) plan.packets
