@@ -125,8 +125,7 @@ fn time_slots<R: Clock + Eprint>(rt: &R, load: Load, card: &mut Card) -> io::Res
     let nanos = least / SLOTS as u128;
     eprintln!(rt;
         "{load}: {nanos} ns a post and take, {} rows and {} cells in {SLOTS} slots",
-        posts.rows,
-        posts.cells
+        posts.rows, posts.cells
     )
 }
 
