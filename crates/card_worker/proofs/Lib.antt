@@ -1,0 +1,5 @@
+mod Accepting
+mod Giving
+mod Steps
+mod Members
+mod Passes

@@ -1,0 +1,35 @@
+-- What tries make of members.
+use Rattle.std.specs.Prelude.{◌≡◌, ◌≤◌, ◌+◌, ℕ, Bool, false, length, if◌then◌else◌}
+use Rattle.slot_histories.specs.declared.events.Event.{Event}
+use Rattle.turn_lock.specs.Seats.{TurnValue}
+use Rattle.slot_board.specs.Seats.{column_at, setup_at, is_due, refusals}
+use Rattle.slot_board.specs.Calls.{IsSeat}
+use Rattle.card_worker.specs.declared.hands.Member.{Member}
+use Rattle.card_worker.specs.Agreeing.{Agrees}
+
+-- the member's seat is of this board, and its hand agrees with the seat's column
+pub record IsMember (board : TurnValue Event) (member : Member) : Type 0 where
+  pub turn : member.seat.turn ≡ board
+  pub agrees : Agrees member.hand (setup_at member.seat) member.seat.number (column_at member.seat)
+
+-- and the seat tells of its card
+pub record IsSound (board : TurnValue Event) (member : Member) : Type 0 where
+  pub agrees : IsMember board member
+  pub told : IsSeat member.seat
+
+-- how many posts and takes the member made
+abbrev pub acts_of : Member → ℕ
+acts_of member = length (column_at member.seat).posts + length (column_at member.seat).takings
+
+abbrev pub one_if : Bool → ℕ
+one_if acted = if acted then 1 else 0
+
+-- one try of the member, which made an event or was refused
+pub record AfterTry (board : TurnValue Event) (old new : Member) (acted : Bool) : Type 0 where
+  pub sound : IsSound board new
+  pub plan : new.hand.card.sends.plan ≡ old.hand.card.sends.plan
+  pub number : new.seat.number ≡ old.seat.number
+  pub acts : acts_of new ≡ acts_of old + one_if acted
+  pub tries : refusals old.seat ≤ refusals new.seat
+  pub waits : acted ≡ false → refusals new.seat ≡ refusals old.seat + 1
+  pub due : acted ≡ false → is_due new.seat ≡ is_due old.seat

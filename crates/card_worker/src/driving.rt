@@ -1,0 +1,136 @@
+ghost use Rattle.std.specs.Prelude.{◌≡◌, ◌<◌, ◌≤◌, ◌+◌, ◌-◌, ◌^◌, ◌&&◌, not, nat_lt, ℕ, true, false, min, Some, length, slice_get};
+ghost use Rattle.slot_board.specs.Seats.{setup_at, slot_of, is_done, is_due};
+ghost use Rattle.slot_board.specs.Calls.{IsSeat};
+ghost use Rattle.card_worker.specs.declared.hands.Member.{Member};
+ghost use Rattle.card_worker.specs.Trying.{IsMember, IsSound};
+ghost use Rattle.card_worker.specs.Driving.{AfterTurn, AfterTurns, AfterPasses};
+
+use crate::hands::{Gate, Group, Member};
+use crate::tries::try_member;
+use rotating_pick::MAX_PORTS;
+use slot_board::{Board, CardSeat};
+use std::hint::spin_loop;
+
+// How many spin hints a worker gives after a pass without a post or a take.
+const PAUSE_HINTS: u32 = 16;
+
+/// Drives the members until none is due, or after `patience` passes in a row without a post or a take.
+/// In each pass every due member makes one try. Answers how many posts and takes the members made.
+pub fn drive<G: Gate>(group: &mut Group, board: &Board, gate: &G, patience: u32) -> u64
+    requires few { length group.old.members.items ≤ MAX_PORTS }
+    requires members { (j : ℕ) (m : Member) → slice_get group.old.members.items j ≡ Some m → IsMember board.now m }
+    ensures passes { AfterPasses board.now group.old.members.items group.new.members.items patience result }
+    ensures none { patience ≡ 0 → group.new.members.items ≡ group.old.members.items }
+    ensures events { group.new.events ≡ min (group.old.events + result) (2 ^ 64 - 1) }
+    ensures worker { group.new.worker ≡ group.old.worker }
+{
+    hear(&group.members);
+    let made = drive_all(&mut group.members, board, gate, group.worker, patience);
+    group.events = group.events.saturating_add(made);
+    made
+}
+
+// What the seats tell of their cards.
+fn hear(members: &[Member])
+    ensures { (j : ℕ) (m : Member) → slice_get members.now j ≡ Some m → IsSeat m.seat }
+{
+    for member in members {
+        member.seat.legal();
+    }
+}
+
+fn drive_all<G: Gate>(
+    members: &mut [Member],
+    board: &Board,
+    gate: &G,
+    worker: u32,
+    patience: u32,
+) -> u64
+    requires few { length members.old ≤ MAX_PORTS }
+    requires sound { (j : ℕ) (m : Member) → slice_get members.old j ≡ Some m → IsSound board.now m }
+    ensures passes { AfterPasses board.now members.old members.new patience result }
+    ensures none { patience ≡ 0 → members.new ≡ members.old }
+{
+    let mut made: u64 = 0;
+    let mut idle: u32 = 0;
+    while goes_on(members, board, idle, patience) {
+        let acts = pass(members, board, gate, worker);
+        if acts == 0 {
+            idle += 1;
+            pause();
+        } else {
+            idle = 0;
+            made += acts;
+        }
+    }
+    made
+}
+
+// Leaves the board to the other workers for a moment.
+fn pause() {
+    for _ in 0..PAUSE_HINTS {
+        spin_loop();
+    }
+}
+
+// Whether a member is due, and patience is left.
+fn goes_on(members: &[Member], board: &Board, idle: u32, patience: u32) -> bool
+    requires { (j : ℕ) (m : Member) → slice_get members.now j ≡ Some m → m.seat.turn ≡ board.now }
+    ensures on { result ≡ true → idle < patience }
+    ensures ends { result ≡ false → (j : ℕ) (m : Member) → slice_get members.now j ≡ Some m → is_due m.seat ≡ true → patience ≤ idle }
+{
+    idle < patience && some_due(members, board)
+}
+
+fn some_due(members: &[Member], board: &Board) -> bool
+    requires { (j : ℕ) (m : Member) → slice_get members.now j ≡ Some m → m.seat.turn ≡ board.now }
+    ensures { result ≡ false → (j : ℕ) (m : Member) → slice_get members.now j ≡ Some m → is_due m.seat ≡ false }
+{
+    for member in members {
+        if is_due(&member.seat, board) {
+            return true;
+        }
+    }
+    false
+}
+
+// One pass: each due member makes one try.
+fn pass<G: Gate>(members: &mut [Member], board: &Board, gate: &G, worker: u32) -> u64
+    requires { (j : ℕ) (m : Member) → slice_get members.old j ≡ Some m → IsSound board.now m }
+    ensures { AfterTurns board.now members.old members.new (length members.old) result }
+{
+    let mut acts: u64 = 0;
+    for member in members.iter_mut() {
+        if take_turn(member, board, gate, worker) {
+            acts += 1;
+        }
+    }
+    acts
+}
+
+// A member's turn in a pass: a try, where it is due.
+fn take_turn<G: Gate>(member: &mut Member, board: &Board, gate: &G, worker: u32) -> bool
+    requires sound { IsSound board.now member.old }
+    ensures { AfterTurn board.now member.old member.new result }
+{
+    if is_due(&member.seat, board) {
+        try_member(member, board, gate, worker)
+    } else {
+        false
+    }
+}
+
+// Whether the seat's card is due: it has posted its slot, or is not done and a slot is left.
+fn is_due(seat: &CardSeat, board: &Board) -> bool
+    requires { seat.now.turn ≡ board.now }
+    ensures { result ≡ is_due seat.now }
+{
+    seat.posted() || has_next(seat, board)
+}
+
+fn has_next(seat: &CardSeat, board: &Board) -> bool
+    requires { seat.now.turn ≡ board.now }
+    ensures { result ≡ (not (is_done seat.now) && nat_lt (slot_of seat.now) (setup_at seat.now).max_slots) }
+{
+    !seat.done() && seat.slot() < board.max_slots()
+}
