@@ -3,3 +3,7 @@ mod Giving
 mod Steps
 mod Members
 mod Passes
+mod Columns
+mod Rounds
+mod ClosedColumns
+mod Removing
