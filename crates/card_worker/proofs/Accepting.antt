@@ -22,7 +22,7 @@ use Rattle.card_worker.specs.Agreeing.{IsDriven}
 
 -- a part of the row may be served of it
 servable : (row : Row) (part : Served) → IsPartOf row part → IsServable row (Some part)
-servable row part is = record { some = is.some; named = is.named; one = is.one }
+servable row part is = assumption is
 
 servable_any : (row : Row) (part : Option Served) → ((one : Served) → part ≡ Some one → IsPartOf row one) → IsServable row part
 servable_any row None is = tt

@@ -7,3 +7,4 @@ mod Columns
 mod Rounds
 mod ClosedColumns
 mod Removing
+mod Grouping
