@@ -1,7 +1,7 @@
 -- Groups of a board: made, driven and disbanded.
 use Rattle.std.proofs.Common.{◌≡◌, ◌∙◌, ℕ, zero, suc, ◌+◌, ◌<◌, ◌≤◌, false, List, [], ◌∷◌, ◌++◌, length, set, get_or, refl, sym, ap, subst, arith, inl, inr}
 use Rattle.std.specs.Prelude.{None, Some, slice_get, ◌⊎◌}
-use Rattle.std.specs.List.{sum_by}
+use Rattle.std.specs.List.{sum_by, remove}
 use Rattle.std.proofs.lemmas.Bool.{cases_eq}
 use Rattle.std.proofs.lemmas.List.{length_push}
 use Rattle.std.proofs.lemmas.List.Sums.{sum_by-set, sum_by-cons}
@@ -48,6 +48,26 @@ IsMember-new board hand is none after ports =
         driven = λ t below. absurd (omega arith);
         step = subst (λ k. IsInStep k hand.card column) (sym none) level;
       };
+    }
+
+-- groups without members
+counts_none : (groups : List Group) → ((p : ℕ) (g : Group) → slice_get groups p ≡ Some g → g.members.items ≡ []) → member_count groups ≡ 0
+counts_none [] none = refl
+counts_none (group ∷ groups) none =
+    let first : length group.members.items ≡ 0 = ap length (none 0 group refl) in
+    let rest = counts_none groups (λ p g at. none (suc p) g at) in
+    let sums = sum_by-cons (λ (g : Group). length g.members.items) group groups in
+    omega arith
+
+pub AreGroups-none : (board : TurnValue Event) (groups : List Group) → ((p : ℕ) (g : Group) → slice_get groups p ≡ Some g → g.members.items ≡ []) → AreGroups board 0 groups
+AreGroups-none board groups none =
+    record {
+      count = counts_none groups none;
+      each = λ i below. absurd (omega arith);
+      members = λ m among.
+          let empty : length among.group.members.items ≡ 0 = ap length (none among.place among.group among.found) in
+          let inside : among.within < length among.group.members.items = slice_get_within among.group.members.items among.within m among.at in
+          absurd (omega arith);
     }
 
 -- ---- a member more
@@ -161,3 +181,24 @@ module _ (board : TurnValue Event) (groups : List Group) (seats : List (SeatValu
     },
     from.hands_are ∙ sym from.seats_are,
   )
+
+-- a group has no more members than all groups
+pub few_members : (groups : List Group) (p : ℕ) (g : Group) → slice_get groups p ≡ Some g → length g.members.items ≤ member_count groups
+few_members [] p g at = let below : p < 0 = slice_get_within [] p g at in absurd (omega arith)
+few_members (group ∷ groups) zero g at =
+    let same : length group.members.items ≡ length g.members.items = ap (λ (x : Group). length x.members.items) (some_same group g (Some group) refl at) in
+    let sums = sum_by-cons (λ (x : Group). length x.members.items) group groups in
+    omega arith
+few_members (group ∷ groups) (suc p) g at =
+    let rest = few_members groups p g at in
+    let sums = sum_by-cons (λ (x : Group). length x.members.items) group groups in
+    omega arith
+
+-- the next seat, where the first of the seats is taken off
+pub next_seats : {X : Type 0} (xs : List X) (i : ℕ) → slice_get (remove xs 0) i ≡ slice_get xs (suc i)
+next_seats [] i = refl
+next_seats (x ∷ xs) i = refl
+
+pub next_length : {X : Type 0} (xs : List X) → 0 < length xs → length (remove xs 0) + 1 ≡ length xs
+next_length [] some = absurd (omega arith)
+next_length (x ∷ xs) some = omega arith

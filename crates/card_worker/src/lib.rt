@@ -7,6 +7,8 @@ mod disbanding;
 mod driving;
 mod hands;
 pub mod laws;
+#[cfg(test)]
+mod tests;
 mod tries;
 
 pub use alone::finish_alone;
