@@ -24,7 +24,7 @@ use Rattle.card_worker.proofs.Passes.{get-set_same, get-set_other, some_same}
 use Rattle.card_worker.proofs.Removing.{get-snoc}
 
 -- the element at a place within the list
-at_place : {X : Type 0} (xs : List X) (i : ℕ) → i < length xs → (x : X) × (slice_get xs i ≡ Some x)
+pub at_place : {X : Type 0} (xs : List X) (i : ℕ) → i < length xs → (x : X) × (slice_get xs i ≡ Some x)
 at_place [] i inside = absurd (omega (arith, inside))
 at_place (x ∷ xs) zero inside = (x, refl)
 at_place (x ∷ xs) (suc i) inside = at_place xs i (omega (arith, inside))

@@ -2,9 +2,9 @@ mod Accepting
 mod Giving
 mod Steps
 mod Members
-mod Passes
+pub mod Passes
 mod Columns
 mod Rounds
 mod ClosedColumns
-mod Removing
-mod Grouping
+pub mod Removing
+pub mod Grouping

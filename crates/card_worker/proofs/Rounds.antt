@@ -1,8 +1,8 @@
 -- Rounds of the cards' turns at a board's state.
-use Rattle.std.proofs.Common.{◌≡◌, ◌∙◌, ℕ, ◌+◌, ◌*◌, ◌<◌, ◌≤◌, Bool, List, length, set, refl, sym, ap, subst, arith, inl, inr}
+use Rattle.std.proofs.Common.{◌≡◌, ◌∙◌, ℕ, ◌+◌, ◌*◌, ◌<◌, ◌≤◌, Bool, List, length, set, get_or, refl, sym, ap, subst, arith, inl, inr}
 use Rattle.std.specs.Prelude.{slice_get}
 use Rattle.std.proofs.lemmas.Bool.{cases_eq, cases_lt, both_ways}
-use Rattle.std.proofs.lemmas.List.{length-set}
+use Rattle.std.proofs.lemmas.List.{length-set, map-set, get_or-map, set-get_or}
 use Rattle.slot_histories.specs.declared.events.Event.{Event}
 use Rattle.slot_histories.specs.declared.events.Event.TheVariants.{Decide}
 use Rattle.slot_histories.specs.Events.{Setup, posts_of, takes_of, decides, posted}
@@ -14,12 +14,21 @@ use Rattle.board_state.specs.Boards.{IsSetup}
 use Rattle.slot_board.specs.States.{StateValue}
 use Rattle.slot_histories.specs.Columns.{column_of}
 use Rattle.slot_histories.proofs.Telling.{IsTold-legal}
+use Rattle.card_core.specs.Plans.{Plan}
 use Rattle.card_worker.specs.declared.hands.Hand.{Hand}
 use Rattle.card_worker.specs.Agreeing.{Agrees}
 use Rattle.card_worker.specs.Trying.{one_if}
-use Rattle.card_worker.specs.Alone.{with_event, IsHandOf, AreHandsOf, IsStill, AfterAct, AfterRound, IsOver}
+use Rattle.card_worker.specs.Alone.{with_event, plans_of, IsHandOf, AreHandsOf, IsStill, AfterAct, AfterRound, IsOver}
 use Rattle.card_worker.proofs.Columns.{column-decide}
 use Rattle.card_worker.proofs.Passes.{get-set_same, get-set_other, some_same, one_none}
+
+-- a hand whose card keeps its plan
+pub plans_of-set : (hands : List Hand) (i : ℕ) (new old : Hand) → i < length hands → new.card.sends.plan ≡ (get_or hands i old).card.sends.plan → plans_of (set hands i new) ≡ plans_of hands
+plans_of-set hands i new old inside same =
+    let plan : Hand → Plan = λ hand. hand.card.sends.plan in
+    map-set plan hands i new
+    ∙ (ap (set (plans_of hands) i) (same ∙ sym (get_or-map plan hands i old (plan old) inside))
+    ∙ set-get_or (plans_of hands) i (plan old))
 
 pub AfterRound-none : (hands : List Hand) (board : StateValue) → AreHandsOf hands board → AfterRound hands board board 0 0
 AfterRound-none hands board are =

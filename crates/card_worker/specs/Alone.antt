@@ -1,13 +1,18 @@
 -- Hands that agree with a board's state, and what one event of a card makes of them.
-use Rattle.std.specs.Prelude.{◌≡◌, ◌⊎◌, ◌<◌, ◌≤◌, ◌+◌, ℕ, Bool, true, false, List, [], ◌∷◌, ◌++◌, length, slice_get, Some}
+use Rattle.std.specs.Prelude.{◌≡◌, ◌⊎◌, ◌<◌, ◌≤◌, ◌+◌, ℕ, Bool, true, false, List, [], ◌∷◌, ◌++◌, map, length, slice_get, Some}
 use Rattle.slot_histories.specs.declared.events.Event.{Event}
 use Rattle.slot_histories.specs.Events.{Setup, posts_of, takes_of, decides, posted}
 use Rattle.slot_histories.specs.Slots.{is_done_before}
 use Rattle.slot_board.specs.States.{StateValue}
 use Rattle.slot_histories.specs.Columns.{column_of}
+use Rattle.card_core.specs.Plans.{Plan}
 use Rattle.card_worker.specs.declared.hands.Hand.{Hand}
 use Rattle.card_worker.specs.Agreeing.{Agrees}
 use Rattle.card_worker.specs.Trying.{one_if}
+
+-- what each hand's card is to send
+abbrev pub plans_of : List Hand → List Plan
+plans_of hands = map (λ hand. hand.card.sends.plan) hands
 
 -- the hand agrees with card i's column after these events
 abbrev pub IsHandOf : Hand → Setup → ℕ → List Event → Type 0

@@ -5,7 +5,7 @@ ghost use Rattle.slot_histories.specs.Events.{takes_of, posts_of, posted};
 ghost use Rattle.slot_histories.specs.Slots.{taken_at, is_done_before};
 ghost use Rattle.slot_histories.specs.Legal.{Allows, MayTake, MayDecide, IsLegal};
 ghost use Rattle.card_worker.specs.Trying.{one_if};
-ghost use Rattle.card_worker.specs.Alone.{with_event, IsHandOf, AreHandsOf, AfterAct, AfterRound, IsOver};
+ghost use Rattle.card_worker.specs.Alone.{with_event, plans_of, IsHandOf, AreHandsOf, AfterAct, AfterRound, IsOver};
 
 use crate::hands::{Hand, Hands};
 use crate::tries::{give, next_post};
@@ -13,10 +13,11 @@ use crossbar::Taken;
 use slot_board::{Answer, BoardState, Event};
 
 /// Makes events of the cards and decisions until no more may come. Then each card has taken all that it
-/// posted, and is done or has used all slots. Answers how many events came.
+/// posted, and is done or has used all slots. The cards keep their plans. Answers how many events came.
 pub fn finish_alone(hands: &mut Hands, state: &mut BoardState) -> u64
     requires { AreHandsOf hands.old.items state.old }
     ensures hands { AreHandsOf hands.new.items state.new }
+    ensures plans { plans_of hands.new.items ≡ plans_of hands.old.items }
     ensures setup { state.new.setup ≡ state.old.setup }
     ensures refused { state.new.refused ≡ state.old.refused }
     ensures count { length state.new.events ≡ length state.old.events + result }
@@ -28,6 +29,7 @@ pub fn finish_alone(hands: &mut Hands, state: &mut BoardState) -> u64
 fn finish(hands: &mut [Hand], state: &mut BoardState) -> u64
     requires { AreHandsOf hands.old state.old }
     ensures hands { AreHandsOf hands.new state.new }
+    ensures plans { plans_of hands.new ≡ plans_of hands.old }
     ensures setup { state.new.setup ≡ state.old.setup }
     ensures refused { state.new.refused ≡ state.old.refused }
     ensures count { length state.new.events ≡ length state.old.events + result }
@@ -42,6 +44,7 @@ fn finish(hands: &mut [Hand], state: &mut BoardState) -> u64
 fn round(hands: &mut [Hand], state: &mut BoardState) -> bool
     requires { AreHandsOf hands.old state.old }
     ensures hands { AreHandsOf hands.new state.new }
+    ensures plans { plans_of hands.new ≡ plans_of hands.old }
     ensures setup { state.new.setup ≡ state.old.setup }
     ensures refused { state.new.refused ≡ state.old.refused }
     ensures grows { length state.old.events ≤ length state.new.events }
@@ -58,7 +61,8 @@ fn round(hands: &mut [Hand], state: &mut BoardState) -> bool
 // The turns of all cards.
 fn turns(hands: &mut [Hand], state: &mut BoardState) -> u64
     requires { AreHandsOf hands.old state.old }
-    ensures { AfterRound hands.new state.old state.new (length hands.new) result }
+    ensures plans { plans_of hands.new ≡ plans_of hands.old }
+    ensures round { AfterRound hands.new state.old state.new (length hands.new) result }
 {
     state.legal();
     let mut acts: u64 = 0;
@@ -93,6 +97,7 @@ fn act(hand: &mut Hand, card: u32, state: &mut BoardState) -> bool
     requires hand { IsHandOf hand.old state.old.setup card state.old.events }
     requires card { card < state.old.setup.ports }
     ensures hand { IsHandOf hand.new state.new.setup card state.new.events }
+    ensures plan { hand.new.card.sends.plan ≡ hand.old.card.sends.plan }
     ensures act { AfterAct card state.old state.new result }
 {
     state.legal();
@@ -118,6 +123,7 @@ fn post_alone(hand: &mut Hand, card: u32, state: &mut BoardState)
     requires going { is_done_before state.old.setup.ports (posted state.old.events) (takes_of card state.old.events) ≡ false }
     requires room { takes_of card state.old.events < state.old.setup.max_slots }
     ensures hand { IsHandOf hand.new state.new.setup card state.new.events }
+    ensures plan { hand.new.card.sends.plan ≡ hand.old.card.sends.plan }
     ensures act { AfterAct card state.old state.new true }
 {
     state.legal();
@@ -130,6 +136,7 @@ fn take_alone(hand: &mut Hand, card: u32, state: &mut BoardState)
     requires hand { IsHandOf hand.old state.old.setup card state.old.events }
     requires may { MayTake state.old.setup state.old.events card }
     ensures hand { IsHandOf hand.new state.new.setup card state.new.events }
+    ensures plan { hand.new.card.sends.plan ≡ hand.old.card.sends.plan }
     ensures act { AfterAct card state.old state.new true }
 {
     state.legal();
