@@ -1,0 +1,81 @@
+-- Answers of reading files, the captures among them, and the first fault.
+use Rattle.std.proofs.Common.{◌≡◌, ◌∙◌, ◌⊎◌, ◌≢◌, ℕ, ◌+◌, ◌<◌, ◌≤◌, List, [], ◌∷◌, ◌++◌, length, slice_index_or, ap, sym, subst, arith, inl, inr, length-append}
+use Rattle.std.specs.Prelude.{map, Result, Ok, Err, IfOk, IfErr, All}
+use Rattle.pcap_records.specs.declared.fault.PcapFault.{PcapFault}
+use Rattle.pcap_records.specs.declared.fault.PcapFault.TheVariants.{OutOfMemory}
+use Rattle.pcap_records.specs.declared.capture.Capture.{Capture}
+use Rattle.pcap_records.specs.Packets.{packets_of, AreInOrder, IsWithin}
+use Rattle.pcap_records.specs.Captures.{IsCapture}
+use Rattle.pcap_records.specs.Faults.{IsFault}
+use Rattle.switch_plan.specs.Traffic.{CaptureFile, file_of, IsFile}
+use Rattle.switch_plan.specs.Refusals.{IsFirstFault}
+use Rattle.switch_plan.specs.Reading.{IsCaptureOf, IsReadAs, AreReadAs, AreCapturesOf}
+use Rattle.switch_plan.proofs.Sizes.{capture_short, capture_few}
+use Rattle.switch_plan.proofs.Folding.{length_map, at_map, at_end, at_front, at_any}
+
+abbrev pub read_as : Capture → Result Capture PcapFault
+read_as capture = Ok capture
+
+-- the answer of a file within the first that were read is its capture
+capture_at : (files : List (List ℕ)) (answers rest : List (Result Capture PcapFault)) (captures : List Capture) → AreReadAs files answers → map read_as captures ++ rest ≡ answers
+    → (k : ℕ) (bytes : List ℕ) (d : Capture) → k < length captures → k < length files → IsCaptureOf (slice_index_or files k bytes) (slice_index_or captures k d)
+capture_at files answers rest captures read whole k bytes d inside within =
+    let inside' : k < length (map read_as captures) = omega (arith, length_map read_as captures) in
+    subst (IsReadAs (slice_index_or files k bytes))
+    (ap (λ xs. slice_index_or xs k (read_as d)) (sym whole) ∙ at_front (map read_as captures) rest k (read_as d) inside' ∙ at_map read_as captures k d)
+    (read.each k bytes (read_as d) within)
+
+pub all_read : (files : List (List ℕ)) (answers : List (Result Capture PcapFault)) (captures : List Capture) → AreReadAs files answers → map read_as captures ++ [] ≡ answers → AreCapturesOf files captures
+all_read files answers captures read whole =
+    let long : length answers ≡ length captures = sym (ap length whole) ∙ omega (arith, length-append (map read_as captures) [], length_map read_as captures) in
+    record {
+      count = sym long ∙ read.count;
+      each = λ k bytes capture within. capture_at files answers [] captures read whole k bytes capture (let n = read.count in omega arith) within;
+    }
+
+-- a capture among those that were read
+some_file : (bytes : List ℕ) (captures : List Capture) (k : ℕ) → k < length captures → ((d : Capture) → IsCaptureOf bytes (slice_index_or captures k d)) → (capture : CaptureFile) × IsFile bytes capture
+some_file bytes [] k inside is = absurd (omega arith)
+some_file bytes (capture ∷ captures) k inside is = (file_of (slice_index_or (capture ∷ captures) k capture), (is capture).file)
+
+-- the first answer that is none
+pub first_fault : (files : List (List ℕ)) (answers rest : List (Result Capture PcapFault)) (captures : List Capture) (fault : PcapFault) → AreReadAs files answers → map read_as captures ++ Err fault ∷ rest ≡ answers
+    → (fault ≡ OutOfMemory) ⊎ IsFirstFault files (length captures) fault
+first_fault files answers rest captures fault read whole =
+    let long : length answers ≡ length captures + (1 + length rest) =
+    sym (ap length whole) ∙ omega (arith, length-append (map read_as captures) (Err fault ∷ rest), length_map read_as captures) in
+    let within : length captures < length files = let n = read.count in omega arith in
+    let here = λ (bytes : List ℕ).
+    subst (IsReadAs (slice_index_or files (length captures) bytes))
+    (ap (λ xs. slice_index_or xs (length captures) (Err fault)) (sym whole) ∙ ap (λ k. slice_index_or (map read_as captures ++ Err fault ∷ rest) k (Err fault)) (sym (length_map read_as captures)) ∙ at_end (map read_as captures) rest (Err fault) (Err fault))
+    (read.each (length captures) bytes (Err fault) within) in
+    elim (here []) [
+      | inl memory ↦ inl memory
+      | inr found ↦
+          inr (record {
+            within = within;
+            before = λ k bytes less.
+                some_file (slice_index_or files k bytes) captures k less (λ d. capture_at files answers (Err fault ∷ rest) captures read whole k bytes d less (omega arith));
+            faulty = λ bytes. subst (λ file. IsFault file fault) (at_any files (length captures) [] bytes within) found;
+          })
+    ]
+
+-- which is no want of memory
+pub no_memory_fault : (files : List (List ℕ)) (port : ℕ) (fault : PcapFault) → IsFirstFault files port fault → fault ≢ OutOfMemory
+no_memory_fault files port fault first memory =
+    subst (IsFault (slice_index_or files port [])) memory (first.faulty [])
+
+-- what a reading of a file gave, by what it says of its answer
+pub read_as_given : (bytes : List ℕ) (answer : Result Capture PcapFault) → length bytes ≤ 16777216
+    → IfOk answer (λ c. IsCapture bytes c.nano c.link (packets_of c)) → IfOk answer (λ c. All (IsWithin c.bytes.items) c.packets.items)
+    → IfOk answer (λ c. AreInOrder c.packets.items) → IfOk answer (λ c. c.bytes.items ≡ bytes) → IfErr answer (λ e. (e ≡ OutOfMemory) ⊎ IsFault bytes e)
+    → IsReadAs bytes answer
+read_as_given bytes (Ok capture) size found within order kept fault = record {
+  file = found;
+  within = within;
+  order = order;
+  kept = kept;
+  short = capture_short bytes capture found within;
+  few = capture_few capture.bytes.items capture.packets.items order within (subst (λ (xs : List ℕ). length xs ≤ 16777216) (sym kept) size);
+}
+read_as_given bytes (Err e) size found within order kept fault = fault

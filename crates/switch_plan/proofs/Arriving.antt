@@ -1,0 +1,44 @@
+-- What the line needs of packets, and the last of their arrival slots.
+use Rattle.std.proofs.Common.{◌≡◌, ◌∙◌, ℕ, zero, suc, ◌+◌, ◌*◌, ◌<◌, ◌≤◌, List, [], ◌∷◌, length, slice_index_or, refl, ap, sym, subst, arith}
+use Rattle.std.specs.Prelude.{map, All}
+use Rattle.cell_cutter.specs.Messages.{cells_of_packet}
+use Rattle.line_pace.specs.declared.pace.Pace.{Pace}
+use Rattle.line_pace.specs.Arrivals.{base_of, CanCome, slots_taken}
+use Rattle.pcap_records.specs.declared.capture.Stored.{Stored}
+use Rattle.pcap_records.specs.Packets.{captured_in, packet_in, IsWithin}
+use Rattle.switch_plan.specs.Traffic.{stamp_of}
+use Rattle.switch_plan.proofs.Folding.{at_any, at_map, length_map}
+use Rattle.switch_plan.proofs.Times.{no_stored, length-captured_in}
+
+pub taken_last : (slots : List ℕ) (k : ℕ) → length slots ≡ k + 1 → slots_taken slots ≡ slice_index_or slots k 0 + 1
+taken_last [] k long = absurd (omega arith)
+taken_last (x ∷ []) zero long = refl
+taken_last (x ∷ []) (suc k) long = absurd (omega arith)
+taken_last (x ∷ y ∷ slots) zero long = absurd (omega arith)
+taken_last (x ∷ y ∷ slots) (suc k) long = taken_last (y ∷ slots) k (omega arith)
+
+-- a packet has a cell, and no more than the longest record
+pub cells_some : (len : ℕ) → 0 < cells_of_packet len
+cells_some len = omega arith
+
+cells_few : (len : ℕ) → len ≤ 262144 → cells_of_packet len ≤ 4682
+cells_few len short = omega arith
+
+can_come : (pace : Pace) (bytes : List ℕ) (s : Stored) → IsWithin bytes s → base_of pace ≤ s.seconds * 1000000000 + s.nanos → s.len ≤ 262144 → CanCome pace (stamp_of (packet_in bytes s))
+can_come pace bytes s within time short = record {
+  some = cells_some (length (captured_in bytes s));
+  few = cells_few (length (captured_in bytes s)) (omega (arith, length-captured_in bytes s within));
+  time = time;
+}
+
+pub all_can_come : (pace : Pace) (bytes : List ℕ) (packets : List Stored) → All (IsWithin bytes) packets → All (λ s. base_of pace ≤ s.seconds * 1000000000 + s.nanos) packets → All (λ s. s.len ≤ 262144) packets
+    → All (CanCome pace) (map stamp_of (map (packet_in bytes) packets))
+all_can_come pace bytes packets within times short k d inside =
+    let own = map (packet_in bytes) packets in
+    let k_in : k < length packets = omega (arith, length_map stamp_of own, length_map (packet_in bytes) packets) in
+    subst (CanCome pace)
+    (sym
+    (at_any (map stamp_of own) k d (stamp_of (packet_in bytes no_stored)) inside
+    ∙ at_map stamp_of own k (packet_in bytes no_stored)
+    ∙ ap stamp_of (at_map (packet_in bytes) packets k no_stored)))
+    (can_come pace bytes (slice_index_or packets k no_stored) (within k no_stored k_in) (times k no_stored k_in) (short k no_stored k_in))

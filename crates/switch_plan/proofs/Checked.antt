@@ -1,0 +1,118 @@
+-- A plan is good where its parts are.
+use Rattle.std.proofs.Common.{◌≡◌, ◌∙◌, ℕ, zero, suc, ◌<◌, ◌≤◌, List, [], ◌∷◌, length, Some, refl, sym, ap, subst, arith}
+use Rattle.std.specs.Prelude.{map, slice_get, slice_index_or, All}
+use Rattle.std.specs.Option.{option_map}
+use Rattle.std.proofs.lemmas.Option.{same_Some, slice_get-map, slice_get-get_or, get_or_from_slice_get}
+use Rattle.rotating_pick.specs.declared.limits.TheConstants.{MAX_PORTS, MAX_ROUNDS}
+use Rattle.card_core.specs.declared.plan.Planned.{Planned}
+use Rattle.card_core.specs.declared.plan.CardPlan.{CardPlan}
+use Rattle.card_core.specs.Plans.{Plan as CardView, plan_of as card_plan_of, IsGoodPlan}
+use Rattle.card_core.proofs.Plenty.{few_packets}
+use Rattle.switch_words.specs.declared.limits.TheConstants.{MAX_WORKERS}
+use Rattle.switch_words.specs.Limits.{IsUpTo}
+use Rattle.switch_plan.specs.declared.plan.Plan.{Plan}
+use Rattle.switch_plan.specs.Totals.{most_for, slots_of, total_work, total_aside, max_slots_of, sizes_for, body_room_for, packet_room_for}
+use Rattle.switch_plan.specs.Counting.{AreCountable, packets_of_cards}
+use Rattle.switch_plan.specs.Checking.{IsOwnCard, AreOwnCards, IsSizedFor, AreWhole, IsConsistent}
+use Rattle.switch_plan.specs.GoodPlans.{IsGood, IsCardOf, switch_plan_of, packets_in}
+use Rattle.switch_plan.proofs.Folding.{map_map, length_map, at_any}
+use Rattle.switch_plan.proofs.Summing.{packets_at}
+
+-- ---- the packets of good cards can be counted
+countable : (card : CardPlan) → IsGoodPlan (card_plan_of card) → AreCountable card.packets.items
+countable card good = record {
+  few = few_packets (card_plan_of card) good;
+  forwarded = λ k d inside. (good.packets k (slice_index_or card.packets.items k d) (slice_get-get_or card.packets.items k d inside)).forwarded;
+}
+
+-- an element within a list
+pub got_at : {A : Type 0} (xs : List A) (k : ℕ) → k < length xs → (x : A) × (slice_get xs k ≡ Some x)
+got_at [] k inside = absurd (omega arith)
+got_at (x ∷ xs) zero inside = (x, refl)
+got_at (x ∷ xs) (suc k) inside = got_at xs k (omega arith)
+
+-- the packets of cards that are all well formed
+pub countable_cards : (cards : List CardPlan) (depth : ℕ) → AreOwnCards depth cards → All AreCountable (packets_of_cards cards)
+countable_cards cards depth own k d inside =
+    let card = got_at cards k (let l = length_map (λ (c : CardPlan). c.packets.items) cards in omega arith) in
+    let is : card.0 ≡ slice_index_or cards k card.0 = sym (get_or_from_slice_get cards k card.0 card.0 card.1) in
+    let same = at_any (packets_of_cards cards) k d card.0.packets.items inside ∙ packets_at cards k card.0 is in
+    subst AreCountable (sym same) (countable card.0 (own k card.0 card.1).good)
+
+-- ---- a plan and its cards
+-- an element of a list that was made of another
+got_map : {A B : Type 0} (f : A → B) (xs : List A) (k : ℕ) (y : B) → slice_get (map f xs) k ≡ Some y → (x : A) × (slice_get xs k ≡ Some x) × (f x ≡ y)
+got_map f [] k y is = absurd (cc)
+got_map f (x ∷ xs) zero y is = (x, refl, same_Some (f x) y is)
+got_map f (x ∷ xs) (suc k) y is = got_map f xs k y is
+
+map_got : (cards : List CardPlan) (port : ℕ) (card : CardPlan) → slice_get cards port ≡ Some card → slice_get (map card_plan_of cards) port ≡ Some (card_plan_of card)
+map_got cards port card there = slice_get-map card_plan_of cards port ∙ ap (option_map card_plan_of) there
+
+pub same_packets : (plan : Plan) → packets_in (switch_plan_of plan) ≡ packets_of_cards plan.cards.items
+same_packets plan = map_map (λ (card : CardView). card.packets) card_plan_of plan.cards.items
+
+same_count : (plan : Plan) → length (switch_plan_of plan).cards ≡ length plan.cards.items
+same_count plan = length_map card_plan_of plan.cards.items
+
+pub record IsChecked (plan : Plan) : Type 0 where
+  pub size : IsUpTo MAX_PORTS (length plan.cards.items)
+  pub rounds : IsUpTo MAX_ROUNDS plan.rounds
+  pub workers : IsUpTo MAX_WORKERS plan.workers
+  pub own : AreOwnCards plan.depth plan.cards.items
+  pub rest : IsConsistent plan
+
+card_of : (plan : Plan) (packets : List (List Planned)) (ports : ℕ) → packets_in (switch_plan_of plan) ≡ packets → length (switch_plan_of plan).cards ≡ ports
+    → (port : ℕ) (card : CardPlan) → IsOwnCard ports plan.depth port card → IsSizedFor packets port card → IsCardOf (switch_plan_of plan) port (card_plan_of card)
+card_of plan packets ports same count port card own sized = record {
+  good = own.good;
+  number = own.number;
+  ports = own.switch ∙ sym count;
+  depth = own.deep;
+  sizes = sized.sizes ∙ ap (sizes_for port) (sym same);
+  body = sized.body ∙ ap (body_room_for port) (sym same);
+  messages = sized.messages ∙ ap (packet_room_for port) (sym same);
+}
+
+pub good_from : (plan : Plan) → IsChecked plan → IsGood (switch_plan_of plan)
+good_from plan checked =
+    let same = same_packets plan in
+    let count = same_count plan in
+    record {
+      size = subst (IsUpTo MAX_PORTS) (sym count) checked.size;
+      rounds = checked.rounds;
+      workers = checked.workers;
+      cards = λ port card there.
+          let made = got_map card_plan_of plan.cards.items port card there in
+          subst (IsCardOf (switch_plan_of plan) port) made.2 (card_of plan (packets_of_cards plan.cards.items) (length plan.cards.items) same count port made.0 (checked.own port made.0 made.1) (checked.rest.sized port made.0 made.1));
+      slots = subst (λ n. All (λ packets. slots_of packets ≤ most_for n) (packets_in (switch_plan_of plan))) (sym count) (subst (λ ps. All (λ packets. slots_of packets ≤ most_for (length plan.cards.items)) ps) (sym same) checked.rest.totals.slots);
+      cells = subst (λ n. total_work (packets_in (switch_plan_of plan)) ≤ most_for n) (sym count) (subst (λ ps. total_work ps ≤ most_for (length plan.cards.items)) (sym same) checked.rest.totals.cells);
+      max_slots = checked.rest.totals.end ∙ ap max_slots_of (sym same);
+      aside = checked.rest.aside ∙ ap total_aside (sym same);
+      whole = λ micro. subst (λ ps. All AreWhole ps) (sym same) (checked.rest.whole micro);
+    }
+
+pub good_to : (plan : Plan) → IsGood (switch_plan_of plan) → IsChecked plan
+good_to plan good =
+    let same = same_packets plan in
+    let count = same_count plan in
+    record {
+      size = subst (IsUpTo MAX_PORTS) count good.size;
+      rounds = good.rounds;
+      workers = good.workers;
+      own = λ port card there.
+          let is = good.cards port (card_plan_of card) (map_got plan.cards.items port card there) in
+          record { good = is.good; number = is.number; switch = is.ports ∙ count; deep = is.depth };
+      rest = record {
+        sized = λ port card there.
+            let is = good.cards port (card_plan_of card) (map_got plan.cards.items port card there) in
+            record { sizes = is.sizes ∙ ap (sizes_for port) same; body = is.body ∙ ap (body_room_for port) same; messages = is.messages ∙ ap (packet_room_for port) same };
+        totals = record {
+          slots = subst (λ n. All (λ packets. slots_of packets ≤ most_for n) (packets_of_cards plan.cards.items)) count (subst (λ ps. All (λ packets. slots_of packets ≤ most_for (length (switch_plan_of plan).cards)) ps) same good.slots);
+          cells = subst (λ n. total_work (packets_of_cards plan.cards.items) ≤ most_for n) count (subst (λ ps. total_work ps ≤ most_for (length (switch_plan_of plan).cards)) same good.cells);
+          end = good.max_slots ∙ ap max_slots_of same;
+        };
+        aside = good.aside ∙ ap total_aside same;
+        whole = λ micro. subst (λ ps. All AreWhole ps) same (good.whole micro);
+      };
+    }

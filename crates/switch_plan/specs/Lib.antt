@@ -1,0 +1,10 @@
+pub mod Made
+pub mod Traffic
+pub mod Totals
+pub mod Refusals
+pub mod Reading
+pub mod Counting
+pub mod Sizing
+pub mod GoodPlans
+pub mod Cards
+pub mod Checking

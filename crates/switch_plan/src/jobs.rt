@@ -1,0 +1,135 @@
+//! The plan of a job.
+
+ghost use Rattle.std.specs.Prelude.{◌≡◌, ◌⊎◌, ◌<◌, ◌≤◌, List, length, map, All, vec_len, None, Some, Ok, Err, IfOk, IfErr, IsErrAnd, sum_by, count_by};
+ghost use Rattle.forward_table.specs.declared.faults.TableFault.{TableFault};
+ghost use Rattle.forward_table.specs.declared.route_lines.RouteLine.{RouteLine};
+ghost use Rattle.forward_table.specs.Reading.{reading_of};
+ghost use Rattle.forward_table.specs.Routes.{AreRoutesOf};
+ghost use Rattle.switch_words.specs.Limits.{AreWithinLimits};
+ghost use Rattle.switch_plan.specs.declared.fault.PlanFault.{PlanFault};
+ghost use Rattle.switch_plan.specs.Traffic.{CaptureFile, file_of};
+ghost use Rattle.switch_plan.specs.Totals.{most_for, total_aside, greatest_slots};
+ghost use Rattle.switch_plan.specs.Refusals.{AreRead, IsRefusal, refusal_of, over_work};
+ghost use Rattle.switch_plan.specs.Reading.{bytes_of_files, IsCaptureOf};
+ghost use Rattle.switch_plan.specs.Counting.{AreCountable, packets_of_cards};
+ghost use Rattle.switch_plan.specs.Cards.{is_long, IsPlanWith};
+ghost use Rattle.switch_plan.specs.GoodPlans.{switch_plan_of, IsGood, IsPlanOf};
+
+use crate::cards::cards_of;
+use crate::fault::PlanFault;
+use crate::limits::{MAX_CELLS, most_for};
+use crate::links::common_link;
+use crate::plan::Plan;
+use crate::reading::read_captures;
+use crate::rooms::with_rooms;
+use crate::totals::{greatest_slots, total_aside, total_oversize, total_work};
+use crate::traffic::{is_nano, pace_of};
+use card_core::CardPlan;
+use forward_table::{Table, TableFault, read_table};
+use pcap_records::{Capture, Link};
+use rotating_pick::{MAX_FILE_BYTES, MAX_PORTS};
+use std::alloc::Global;
+use std::thread::Threads;
+use switch_words::Settings;
+
+/// What a job of this table and these captures is to do: a capture for each port, 1 to 64 of them, and
+/// each text of at most 16,777,216 bytes. A plan is good, and is that of the table and the captures; a
+/// fault is the first cause to refuse them, and a job that is to be refused is refused.
+///
+/// Each capture is read by itself, in threads where there are some. The cards keep the bytes of the
+/// captures, of which none are copied.
+pub fn plan<R: Threads + Sync>(
+    rt: &R,
+    alloc: Global,
+    settings: &Settings,
+    table: Vec<u8>,
+    captures: Vec<Vec<u8>>,
+) -> Result<Plan, PlanFault>
+    requires settings { AreWithinLimits settings.now }
+    requires some { 0 < vec_len captures }
+    requires few { vec_len captures ≤ MAX_PORTS }
+    requires table { vec_len table ≤ MAX_FILE_BYTES }
+    requires files { All (λ file. vec_len file ≤ MAX_FILE_BYTES) captures.items }
+    ensures good { IfOk result (λ plan. IsGood (switch_plan_of plan)) }
+    ensures planned { IfOk result (λ plan. (lines : List RouteLine) × (read : List CaptureFile) × AreRead table.items (bytes_of_files captures) lines read × (refusal_of settings.now.pace_us lines read ≡ None) × IsPlanOf settings.now (bytes_of_files captures) lines read (switch_plan_of plan)) }
+    ensures refused { IfErr result (λ fault. (fault ≡ PlanFault.OutOfMemory) ⊎ IsRefusal settings.now.pace_us table.items (bytes_of_files captures) fault) }
+    ensures every_refusal { (fault : PlanFault) → IsRefusal settings.now.pace_us table.items (bytes_of_files captures) fault → IsErrAnd result (λ answer. (answer ≡ PlanFault.OutOfMemory) ⊎ (answer ≡ fault)) }
+{
+    let table = table_of(alloc, &table, captures.len() as u32)?;
+    let captures = read_captures(rt, alloc, captures)?;
+    plan_of(alloc, settings, &table, captures)
+}
+
+// The table of a text, for a switch of so many ports.
+fn table_of(alloc: Global, text: &[u8], ports: u32) -> Result<Table, PlanFault>
+    requires some { 0 < ports }
+    requires few { ports ≤ MAX_PORTS }
+    requires length { length text.now ≤ MAX_FILE_BYTES }
+    ensures table { IfOk result (λ table. reading_of ports text.now ≡ Ok table) }
+    ensures routes { IfOk result (AreRoutesOf ports) }
+    ensures refused { IfErr result (λ answer. (answer ≡ PlanFault.OutOfMemory) ⊎ ((fault : TableFault) × (answer ≡ PlanFault.Table fault) × (reading_of ports text.now ≡ Err fault))) }
+{
+    match read_table(alloc, text, ports) {
+        Ok(table) => Ok(table),
+        Err(TableFault::OutOfMemory) => Err(PlanFault::OutOfMemory),
+        Err(fault) => Err(PlanFault::Table(fault)),
+    }
+}
+
+// The plan of a table and captures that were read.
+fn plan_of(
+    alloc: Global,
+    settings: &Settings,
+    table: &Table,
+    captures: Vec<Capture>,
+) -> Result<Plan, PlanFault>
+    requires settings { AreWithinLimits settings.now }
+    requires some { 0 < vec_len captures }
+    requires few { vec_len captures ≤ MAX_PORTS }
+    requires routes { AreRoutesOf (vec_len captures) table.now }
+    requires read { All (λ capture. IsCaptureOf capture.bytes.items capture) captures.items }
+    ensures good { IfOk result (λ plan. IsGood (switch_plan_of plan)) }
+    ensures planned { IfOk result (λ plan. (refusal_of settings.now.pace_us table.now (map file_of captures.items) ≡ None) × IsPlanOf settings.now (map (λ capture. capture.bytes.items) captures.items) table.now (map file_of captures.items) (switch_plan_of plan)) }
+    ensures refused { IfErr result (λ fault. (fault ≡ PlanFault.OutOfMemory) ⊎ (refusal_of settings.now.pace_us table.now (map file_of captures.items) ≡ Some fault)) }
+{
+    let link = common_link(&captures)?;
+    let nano = is_nano(&captures);
+    let pace = pace_of(settings.pace_us, &captures);
+    let cards = cards_of(alloc, table, pace, settings.depth, captures)?;
+    plan_with(alloc, settings, nano, link, cards)
+}
+
+// The plan of these cards, with their rooms.
+fn plan_with(
+    alloc: Global,
+    settings: &Settings,
+    nano: bool,
+    link: Link,
+    cards: Vec<CardPlan>,
+) -> Result<Plan, PlanFault>
+    requires few { length cards.items ≤ MAX_PORTS }
+    requires packets { All AreCountable (packets_of_cards cards.items) }
+    requires slots { greatest_slots (packets_of_cards cards.items) ≤ MAX_CELLS }
+    requires long { sum_by (count_by is_long) (packets_of_cards cards.items) ≤ total_aside (packets_of_cards cards.items) }
+    ensures plan { IfOk result (IsPlanWith settings.now nano link cards.items) }
+    ensures over { IfErr result (λ fault. (fault ≡ PlanFault.OutOfMemory) ⊎ (over_work (most_for (length cards.items)) (packets_of_cards cards.items) ≡ Some fault)) }
+{
+    let cells = total_work(&cards);
+    if cells > most_for(cards.len()) {
+        return Err(PlanFault::TooManyCells { cells });
+    }
+    let slots = greatest_slots(&cards);
+    let oversize = total_oversize(&cards);
+    let aside = total_aside(&cards);
+    Ok(Plan {
+        nano,
+        link,
+        rounds: settings.rounds,
+        depth: settings.depth,
+        workers: settings.workers,
+        max_slots: (slots + cells + 1) as u32,
+        oversize: oversize as u32,
+        unrouted: (aside - oversize) as u32,
+        cards: with_rooms(alloc, cards)?,
+    })
+}

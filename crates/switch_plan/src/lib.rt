@@ -1,0 +1,28 @@
+//! What a job is to do before its first slot: the made input of `gen`, the plan of a job's table and
+//! captures, and the first reason to refuse it.
+#![tactic(auto)]
+
+mod cards;
+mod checking;
+mod fault;
+pub mod jobs;
+pub mod laws;
+mod limits;
+mod links;
+mod made;
+mod made_capture;
+mod made_table;
+mod packets;
+mod plan;
+mod reading;
+mod rooms;
+mod slots;
+#[cfg(test)]
+mod tests;
+mod totals;
+mod traffic;
+
+pub use fault::PlanFault;
+pub use limits::{MAX_CELLS, MAX_CELLS_OF_MANY, limits_are};
+pub use made::{Made, made_input};
+pub use plan::Plan;

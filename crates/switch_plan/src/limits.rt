@@ -1,0 +1,29 @@
+ghost use Rattle.std.specs.Prelude.{◌≡◌, ◌<◌, ◌≤◌, ℕ};
+ghost use Rattle.switch_plan.specs.Totals.{most_for};
+
+/// The most ports of a switch for which the whole limit holds; it is halved for more.
+const WHOLE_LIMIT_PORTS: u32 = 32;
+
+/// The most arrival slots of a port, and the most cells of all packets counted for each output.
+pub const MAX_CELLS: u64 = 131_072;
+
+/// The same for a switch of more than 32 ports.
+pub const MAX_CELLS_OF_MANY: u64 = 65_536;
+
+/// The limit on a port's arrival slots, and on the cells of all packets counted for each output, for a
+/// switch of so many ports: 131,072, or 65,536 over 32 ports.
+pub(crate) fn most_for(ports: usize) -> u64
+    ensures { result ≡ most_for ports }
+{
+    if ports <= WHOLE_LIMIT_PORTS as usize {
+        MAX_CELLS
+    } else {
+        MAX_CELLS_OF_MANY
+    }
+}
+
+/// The limits on arrival slots and on cells by their numbers. It does nothing; its contract says them.
+pub fn limits_are()
+    ensures up_to_32 { (ports : ℕ) → ports ≤ 32 → most_for ports ≡ 131072 }
+    ensures over_32 { (ports : ℕ) → 32 < ports → most_for ports ≡ 65536 }
+{}

@@ -1,0 +1,199 @@
+ghost use Rattle.std.specs.Prelude.{◌≡◌, ◌≢◌, ℕ, ◌==◌, if◌then◌else◌, ◌<◌, ◌≤◌, Some, max, map, length, slice_get, slice_index, All, sum_by, count_by, IfOk};
+ghost use Rattle.std.specs.List.{range_with_len};
+ghost use Rattle.card_core.specs.declared.plan.CardPlan.{CardPlan as ACardPlan};
+ghost use Rattle.switch_plan.specs.Totals.{most_for, total_work, goes_to, bytes_to, flow_of, message_length, greatest_message, sizes_for, body_room_for, packet_room_for};
+ghost use Rattle.switch_plan.specs.Counting.{IsForwardable, AreCountable, packets_of_cards};
+ghost use Rattle.switch_plan.specs.Sizing.{IsSized};
+
+use card_core::{CardPlan, MAX_ARRIVALS, Planned};
+use cell_cutter::{MAX_FORWARDED_BYTES, MAX_MESSAGE_BYTES, MESSAGE_HEADER_BYTES};
+use reassembly::FLOWS_PER_INPUT;
+use rotating_pick::{MAX_PORTS, OutOfMemory, contains, only};
+use std::alloc::Global;
+
+// The most bytes that the packets of a port bring to an output.
+const MAX_PORT_BYTES: u64 = MAX_ARRIVALS as u64 * MAX_MESSAGE_BYTES as u64;
+
+// Whether the packet goes to this output.
+fn goes_to(output: u32, packet: &Planned) -> bool
+    requires { output < MAX_PORTS }
+    ensures { result ≡ goes_to output packet.now }
+{
+    contains(packet.fan, output)
+}
+
+// The bytes that a packet brings to an output.
+fn bytes_to(output: u32, packet: &Planned) -> u64
+    requires output { output < MAX_PORTS }
+    requires packet { IsForwardable packet.now }
+    ensures value { result ≡ bytes_to output packet.now }
+    ensures few { result ≤ MAX_MESSAGE_BYTES }
+{
+    if goes_to(output, packet) {
+        MESSAGE_HEADER_BYTES as u64 + u64::from(packet.len)
+    } else {
+        0
+    }
+}
+
+// The bytes that the packets of a port bring to an output.
+fn port_bytes(output: u32, packets: &[Planned]) -> u64
+    requires output { output < MAX_PORTS }
+    requires packets { AreCountable packets.now }
+    ensures value { result ≡ sum_by (bytes_to output) packets.now }
+    ensures few { result ≤ MAX_PORT_BYTES }
+{
+    let mut bytes = 0;
+    for packet in packets {
+        bytes += bytes_to(output, packet);
+    }
+    bytes
+}
+
+/// The bytes of all messages to an output.
+pub(crate) fn body_room(output: u32, cards: &[CardPlan]) -> u64
+    requires output { output < MAX_PORTS }
+    requires few { length cards.now ≤ MAX_PORTS }
+    requires packets { All AreCountable (packets_of_cards cards.now) }
+    ensures { result ≡ body_room_for output (packets_of_cards cards.now) }
+{
+    let mut bytes = 0;
+    for card in cards {
+        bytes += port_bytes(output, &card.packets);
+    }
+    bytes
+}
+
+// How many packets of a port go to an output.
+fn port_messages(output: u32, packets: &[Planned]) -> u64
+    requires output { output < MAX_PORTS }
+    requires packets { length packets.now ≤ MAX_ARRIVALS }
+    ensures value { result ≡ count_by (goes_to output) packets.now }
+    ensures few { result ≤ MAX_ARRIVALS }
+{
+    let mut messages = 0;
+    for packet in packets {
+        if goes_to(output, packet) {
+            messages += 1;
+        }
+    }
+    messages
+}
+
+/// The number of all messages to an output.
+pub(crate) fn packet_room(output: u32, cards: &[CardPlan]) -> u64
+    requires output { output < MAX_PORTS }
+    requires few { length cards.now ≤ MAX_PORTS }
+    requires packets { All AreCountable (packets_of_cards cards.now) }
+    ensures { result ≡ packet_room_for output (packets_of_cards cards.now) }
+{
+    let mut messages = 0;
+    for card in cards {
+        messages += port_messages(output, &card.packets);
+    }
+    messages
+}
+
+// The flow of a packet among those of its input: an even number for unicast, an odd one for multicast.
+fn flow_of(packet: &Planned) -> usize
+    requires { packet.now.fan ≢ 0 }
+    ensures { result ≡ flow_of packet.now }
+{
+    let unicast = 2 * usize::from(packet.level);
+    match only(packet.fan) {
+        Some(_) => unicast,
+        None => unicast + 1,
+    }
+}
+
+// Takes the message of a packet into account in its flow.
+fn count_message(sizes: &mut [u32; FLOWS_PER_INPUT], packet: &Planned)
+    requires some { packet.now.fan ≢ 0 }
+    requires short { packet.now.len ≤ MAX_FORWARDED_BYTES }
+    ensures { (flow : ℕ) → flow < FLOWS_PER_INPUT → slice_index sizes.new flow ≡ (if flow_of packet.now == flow then max (slice_index sizes.old flow) (message_length packet.now) else slice_index sizes.old flow) }
+{
+    let flow = flow_of(packet);
+    if flow < FLOWS_PER_INPUT {
+        sizes[flow] = sizes[flow].max(MESSAGE_HEADER_BYTES as u32 + packet.len);
+    }
+}
+
+/// The greatest message of each flow of an input with these packets to an output.
+pub(crate) fn greatest_messages(output: u32, packets: &[Planned]) -> [u32; FLOWS_PER_INPUT]
+    requires output { output < MAX_PORTS }
+    requires packets { AreCountable packets.now }
+    ensures { result ≡ map (λ flow. greatest_message output flow packets.now) (range_with_len 0 FLOWS_PER_INPUT) }
+{
+    let mut sizes = [0; FLOWS_PER_INPUT];
+    for packet in packets {
+        if goes_to(output, packet) {
+            count_message(&mut sizes, packet);
+        }
+    }
+    sizes
+}
+
+// The greatest messages of all flows of all inputs to an output.
+fn sizes_for(alloc: Global, output: u32, cards: &[CardPlan]) -> Result<Vec<u32>, OutOfMemory>
+    requires output { output < MAX_PORTS }
+    requires packets { All AreCountable (packets_of_cards cards.now) }
+    ensures { IfOk result (λ sizes. sizes.items ≡ sizes_for output (packets_of_cards cards.now)) }
+{
+    let mut sizes = Vec::new(alloc);
+    for card in cards {
+        sizes.extend_from_slice(&greatest_messages(output, &card.packets))?;
+    }
+    Ok(sizes)
+}
+
+// What comes to an output: the greatest message of each flow, the bytes of all messages and their number.
+#[derive(Drop)]
+struct Rooms {
+    sizes: Vec<u32>,
+    body_room: u32,
+    packet_room: u32,
+}
+
+// The rooms for what comes to an output.
+fn rooms_for(alloc: Global, output: u32, cards: &[CardPlan]) -> Result<Rooms, OutOfMemory>
+    requires output { output < MAX_PORTS }
+    requires few { length cards.now ≤ MAX_PORTS }
+    requires packets { All AreCountable (packets_of_cards cards.now) }
+    requires work { total_work (packets_of_cards cards.now) ≤ most_for (length cards.now) }
+    ensures sizes { IfOk result (λ rooms. rooms.sizes.items ≡ sizes_for output (packets_of_cards cards.now)) }
+    ensures body { IfOk result (λ rooms. rooms.body_room ≡ body_room_for output (packets_of_cards cards.now)) }
+    ensures messages { IfOk result (λ rooms. rooms.packet_room ≡ packet_room_for output (packets_of_cards cards.now)) }
+{
+    let sizes = sizes_for(alloc, output, cards)?;
+    let body_room = body_room(output, cards) as u32;
+    let packet_room = packet_room(output, cards) as u32;
+    Ok(Rooms {
+        sizes,
+        body_room,
+        packet_room,
+    })
+}
+
+// Fills in the rooms of a card.
+fn fill(card: &mut CardPlan, rooms: Rooms)
+    ensures { card.new ≡ record card.old { sizes = rooms.sizes; body_room = rooms.body_room; packet_room = rooms.packet_room } }
+{
+    card.sizes = rooms.sizes;
+    card.body_room = rooms.body_room;
+    card.packet_room = rooms.packet_room;
+}
+
+/// The cards with the rooms for what the packets of all of them bring to their outputs.
+pub(crate) fn with_rooms(alloc: Global, cards: Vec<CardPlan>) -> Result<Vec<CardPlan>, OutOfMemory>
+    requires few { length cards.items ≤ MAX_PORTS }
+    requires packets { All AreCountable (packets_of_cards cards.items) }
+    requires work { total_work (packets_of_cards cards.items) ≤ most_for (length cards.items) }
+    ensures { IfOk result (λ sized. (length sized.items ≡ length cards.items) × ((port : ℕ) (old new : ACardPlan) → slice_get cards.items port ≡ Some old → slice_get sized.items port ≡ Some new → IsSized (packets_of_cards cards.items) port old new)) }
+{
+    let mut cards = cards;
+    for output in 0..cards.len() {
+        let rooms = rooms_for(alloc, output as u32, &cards)?;
+        fill(&mut cards[output], rooms);
+    }
+    Ok(cards)
+}

@@ -1,0 +1,113 @@
+mod planning;
+
+use crate::{Made, Plan, made_input};
+use card_core::{CardPlan, Planned};
+use pcap_records::Link;
+use rotating_pick::OutOfMemory;
+use std::alloc::Global;
+use std::test::Fail;
+use switch_words::{GenJob, Settings};
+
+const SETTINGS: Settings = Settings {
+    rounds: 4,
+    depth: 131_072,
+    workers: 4,
+    pace_us: None,
+};
+
+// The routes of a switch of two ports.
+const TWO_PORTS: &[u8] = b"10.0.0.0/32 0 0\n10.0.0.1/32 1 0\n10.0.1.0/32 0,1 0\n10.0.1.1/32 1,0 0\n\
+10.1.0.0/32 0 1\n10.1.0.1/32 1 1\n10.1.1.0/32 0,1 1\n10.1.1.1/32 1,0 1\n\
+10.2.0.0/32 0 2\n10.2.0.1/32 1 2\n10.2.1.0/32 0,1 2\n10.2.1.1/32 1,0 2\n\
+10.3.0.0/32 0 3\n10.3.0.1/32 1 3\n10.3.1.0/32 0,1 3\n10.3.1.1/32 1,0 3\n";
+
+// The routes of a switch of one port.
+const ONE_PORT: &[u8] = b"10.0.0.0/32 0 0\n10.0.1.0/32 0 0\n10.1.0.0/32 0 1\n10.1.1.0/32 0 1\n\
+10.2.0.0/32 0 2\n10.2.1.0/32 0 2\n10.3.0.0/32 0 3\n10.3.1.0/32 0 3\n";
+
+// The header of each capture, and of the record of 209 bytes.
+const FIRST_BYTES: &[u8] = b"\xd4\xc3\xb2\xa1\x02\0\x04\0\0\0\0\0\0\0\0\0\0\0\x04\0\x01\0\0\0\
+\0\0\0\0\0\0\0\0\xd1\0\0\0\xd1\0\0\0\
+\0\0\0\0\0\0\0\0\0\0\0\0\x08\0\x45\0\0\0\0\0\0\0\0\0\0\0\0\0\0\0\x0a\x01\0\0\0";
+
+fn two_ports(alloc: Global) -> Result<Made, OutOfMemory> {
+    made_input(
+        alloc,
+        &GenJob {
+            settings: SETTINGS,
+            seed: 1,
+            count: 2,
+            ports: 2,
+        },
+    )
+}
+
+#[test]
+fn makes_two_packets_for_each_of_two_ports(rt: HostRuntime) -> Result<(), Fail> {
+    let made = two_ports(rt.alloc())?;
+    assert_eq!(rt; made.table.as_slice(), TWO_PORTS);
+    assert_eq!(rt; made.captures.len(), 2);
+    let first = made.captures[0].as_slice();
+    assert_eq!(rt; first.len(), 24 + 16 + 209 + 16 + 579);
+    assert!(rt; first.starts_with(FIRST_BYTES));
+    assert_eq!(rt; made.captures[1].len(), 24 + 16 + 1184 + 16 + 113);
+    Ok(())
+}
+
+#[test]
+fn makes_the_routes_of_one_port(rt: HostRuntime) -> Result<(), Fail> {
+    let job = GenJob {
+        settings: SETTINGS,
+        seed: 1,
+        count: 1,
+        ports: 1,
+    };
+    let made = made_input(rt.alloc(), &job)?;
+    assert_eq!(rt; made.table.as_slice(), ONE_PORT);
+    assert_eq!(rt; made.captures.len(), 1);
+    Ok(())
+}
+
+// The plan of a switch of one port, to which a packet of two cells comes at level 2 in slot 1.
+fn one_packet(alloc: Global) -> Result<Plan, OutOfMemory> {
+    let packet = Planned {
+        seconds: 7,
+        nanos: 1_000,
+        original: 60,
+        start: 0,
+        len: 60,
+        arrival: 1,
+        fan: 1,
+        level: 2,
+    };
+    let card = CardPlan {
+        n: 1,
+        card: 0,
+        depth: 4,
+        packets: vec![in alloc; packet]?,
+        bytes: vec![in alloc; 0; 60]?,
+        sizes: [0, 0, 0, 0, 76, 0, 0, 0].to_vec(alloc)?,
+        body_room: 76,
+        packet_room: 1,
+    };
+    Ok(Plan {
+        nano: false,
+        link: Link::Ethernet,
+        rounds: 4,
+        depth: 4,
+        workers: 1,
+        max_slots: 5,
+        oversize: 0,
+        unrouted: 0,
+        cards: vec![in alloc; card]?,
+    })
+}
+
+#[test]
+fn knows_a_good_plan_from_one_that_ends_early(rt: HostRuntime) -> Result<(), Fail> {
+    let mut plan = one_packet(rt.alloc())?;
+    assert!(rt; plan.is_good());
+    plan.max_slots = 4;
+    assert!(rt; !plan.is_good());
+    Ok(())
+}
