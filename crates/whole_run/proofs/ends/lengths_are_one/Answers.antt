@@ -1,0 +1,5 @@
+use Rattle.whole_run.proofs.FirstDone.{one_length}
+use Rattle.whole_run.proofs.ends.lengths_are_one.Goals as goal
+
+pub returns : goal.returns
+returns c plan a b ends also = one_length plan a b ends also

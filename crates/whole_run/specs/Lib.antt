@@ -1,0 +1,5 @@
+pub mod Runs
+pub mod Ends
+pub mod Crossings
+pub mod Sums
+pub mod Promises

@@ -1,0 +1,75 @@
+-- The run of a switch over its plan, slot by slot: what each card posts, what each slot decides, and its journal.
+use Rattle.std.specs.Prelude.{ℕ, zero, suc, List, [], ◌∷◌, ◌++◌, map, length, Option, slice_index_or}
+use Rattle.std.specs.List.{range_with_len}
+use Rattle.slot_match.specs.declared.rows.Row.{Row}
+use Rattle.slot_match.specs.declared.matching.Served.{Served}
+use Rattle.slot_match.specs.Parts.{served_of}
+use Rattle.pointer_state.specs.Places.{Places, places_at_first}
+use Rattle.eslip_rounds.specs.Slots.{Decision}
+use Rattle.eslip_rounds.specs.Decisions.{decision_of}
+use Rattle.crossbar.specs.declared.cards.Post.{Post}
+use Rattle.crossbar.specs.declared.cards.Taken.{Taken}
+use Rattle.slot_histories.specs.Events.{Setup}
+use Rattle.slot_histories.specs.Slots.{taken_at}
+use Rattle.slot_histories.specs.Answers.{JournalSlot, journal_slot}
+use Rattle.card_core.specs.Plans.{Plan}
+use Rattle.card_core.specs.Posts.{row_at, post_at}
+use Rattle.switch_plan.specs.GoodPlans.{SwitchPlan}
+
+-- how many ports the switch has
+abbrev pub ports_of : SwitchPlan → ℕ
+ports_of plan = length plan.cards
+
+-- a board for the run
+abbrev pub setup_for : SwitchPlan → Setup
+setup_for plan = record { ports = ports_of plan; rounds = plan.rounds; max_slots = plan.max_slots }
+
+-- a port without packets
+abbrev pub no_plan : Plan
+no_plan = record { ports = 0; card = 0; depth = 0; packets = []; bytes = []; sizes = []; body_room = 0; packet_room = 0 }
+
+-- what port i is to send
+abbrev pub card_at : SwitchPlan → ℕ → Plan
+card_at plan i = slice_index_or plan.cards i no_plan
+
+-- What a slot begins with: the pointers, and of each port what it was served in each slot before.
+pub record Before : Type 0 where
+  pub places : Places
+  pub served : ℕ → List (Option Served)
+
+-- the rows of slot t, by port
+abbrev pub rows_in : SwitchPlan → Before → ℕ → List Row
+rows_in plan b t = map (λ i. row_at (card_at plan i) (b.served i) t) (range_with_len 0 (ports_of plan))
+
+-- what slot t decides
+abbrev pub decision_in : SwitchPlan → Before → ℕ → Decision
+decision_in plan b t = decision_of (ports_of plan) plan.rounds t (rows_in plan b t) b.places
+
+-- what the slot after it begins with
+abbrev pub after_slot : Before → Decision → Before
+after_slot b decision = record { places = decision.places; served = λ i. b.served i ++ served_of decision.matched i ∷ [] }
+
+-- Slot 0 begins with all pointers at port 0 and nothing served, each further slot with what the one before left.
+unfoldable pub before : SwitchPlan → ℕ → Before
+before plan zero = record { places = places_at_first (ports_of plan); served = λ i. [] }
+before plan (suc t) = after_slot (before plan t) (decision_in plan (before plan t) t)
+
+-- what port i was served in the slots before slot t
+abbrev pub served_by : SwitchPlan → ℕ → ℕ → List (Option Served)
+served_by plan i t = (before plan t).served i
+
+-- what port i posts in slot t
+abbrev pub posts_in : SwitchPlan → ℕ → ℕ → Post
+posts_in plan i t = post_at (card_at plan i) (served_by plan i t) t
+
+-- slot t with its posts, its match and its numbers
+abbrev pub run_slot : SwitchPlan → ℕ → JournalSlot
+run_slot plan t = journal_slot (setup_for plan) (posts_in plan) t
+
+-- the journal of the first slots
+abbrev pub run_journal : SwitchPlan → ℕ → List JournalSlot
+run_journal plan slots = map (run_slot plan) (range_with_len 0 slots)
+
+-- what port i takes of the first slots: its part of each slot, and the cell that crosses to it
+abbrev pub run_takings : SwitchPlan → ℕ → ℕ → List Taken
+run_takings plan i slots = map (taken_at (setup_for plan) (posts_in plan) i) (range_with_len 0 slots)
