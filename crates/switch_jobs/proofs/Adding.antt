@@ -1,0 +1,99 @@
+-- Sums over the outputs of a run, what bounds them, and the least of some numbers.
+use Rattle.std.proofs.Common.{◌≡◌, ◌∙◌, ℕ, zero, suc, ◌^◌, ◌<◌, ◌≤◌, Bool, true, false, cond, List, [], ◌∷◌, ◌++◌, length, get_or, map, refl, sym, ap, arith}
+use Rattle.std.specs.Prelude.{Some, Option, None, slice_get, All}
+use Rattle.std.specs.List.{sum_by, filter, range_with_len, flat_map}
+use Rattle.std.specs.Option.{option_to_list}
+use Rattle.std.proofs.lemmas.List.{length-append, length-map, get_or-map}
+use Rattle.std.proofs.lemmas.List.FromFn.{fill_by_all, length-range_with_len}
+use Rattle.std.proofs.lemmas.List.Sums.{sum_by-le, sum-map}
+use Rattle.std.proofs.lemmas.Option.{slice_get-get_or, get_or_from_slice_get}
+use Rattle.cell_cutter.specs.declared.cell.Cell.{Cell}
+use Rattle.slot_match.specs.declared.matching.Served.{Served}
+use Rattle.slot_board.specs.Boards.{least_of}
+use Rattle.card_core.specs.declared.plan.Planned.{Planned}
+use Rattle.card_core.specs.Plans.{Plan as CardPlan, arriving}
+use Rattle.card_core.specs.Queues.{count_in, count_before}
+use Rattle.card_core.specs.Deliveries.{ended_by, messages_after}
+use Rattle.card_worker.proofs.Grouping.{at_place}
+
+-- a sum over a list, where each term is told by its place
+pub sum_of : {X : Type 0} (f : X → ℕ) (g : ℕ → ℕ) (xs : List X) (n : ℕ) → length xs ≡ n → ((i : ℕ) (x : X) → slice_get xs i ≡ Some x → f x ≡ g i) → sum_by f xs ≡ sum_by g (range_with_len 0 n)
+sum_of {X} f g xs n long each =
+    let term : (k : ℕ) → k < n → get_or (map f xs) k 0 ≡ g k = λ k below.
+    let inside : k < length xs = omega arith in
+    let (x, at) = at_place xs k inside in
+    get_or-map f xs k x 0 inside ∙ ap f (get_or_from_slice_get xs k x x at) ∙ each k x at in
+    let terms = fill_by_all g (map f xs) n 0 (length-map xs f ∙ long) term in
+    sym (sum-map f xs) ∙ ap (λ ys. sum_by (λ y. y) ys) terms ∙ sum-map g (range_with_len 0 n)
+
+pub map-map : {A B C : Type 0} (g : B → C) (f : A → B) (xs : List A) → map g (map f xs) ≡ map (λ x. g (f x)) xs
+map-map g f [] = refl
+map-map g f (x ∷ xs) = ap (λ ys. g (f x) ∷ ys) (map-map g f xs)
+
+-- a sum over a list that was made element by element
+pub sum_by-map : {A B : Type 0} (f : B → ℕ) (g : A → B) (xs : List A) → sum_by f (map g xs) ≡ sum_by (λ x. f (g x)) xs
+sum_by-map f g xs = sym (sum-map f (map g xs)) ∙ (ap (λ ys. sum_by (λ y. y) ys) (map-map f g xs) ∙ sum-map (λ x. f (g x)) xs)
+
+-- sums of small terms over a few elements fit
+pub sum_fits : {X : Type 0} (f : X → ℕ) (xs : List X) → length xs ≤ 64 → ((i : ℕ) (x : X) → slice_get xs i ≡ Some x → f x ≤ 262145) → sum_by f xs < 2 ^ 32
+sum_fits {X} f xs few each =
+    let all : All (λ x. f x ≤ 262145) xs = λ k d inside. each k (get_or xs k d) (slice_get-get_or xs k d inside) in
+    let most = sum_by-le f 262145 xs all in
+    omega arith
+
+-- ---- what bounds the numbers of a port by its slots
+one_at_most : (b : Bool) → cond b 1 0 ≤ 1
+one_at_most true = omega arith
+one_at_most false = omega arith
+
+count_in-le : (wanted : Bool) (plan : CardPlan) (served : List (Option Served)) (t : ℕ) (arrives : Option (ℕ × Planned)) → count_in wanted plan served t arrives ≤ 1
+count_in-le wanted plan served t None = omega arith
+count_in-le wanted plan served t (Some (k, packet)) = one_at_most _
+
+-- one packet a slot is admitted or dropped
+pub count_before-le : (wanted : Bool) (plan : CardPlan) (served : List (Option Served)) (t : ℕ) → count_before wanted plan served t ≤ t
+count_before-le wanted plan served zero = omega arith
+count_before-le wanted plan served (suc t) =
+    let before = count_before-le wanted plan served t in
+    let here = count_in-le wanted plan served t (arriving plan t) in
+    omega (arith, before, here)
+
+ended-le : (b : Bool) (m : List ℕ) → length (cond b (m ∷ []) []) ≤ 1
+ended-le true m = omega arith
+ended-le false m = omega arith
+
+-- a cell ends one message at most
+pub messages-le : (before cells : List Cell) → length (messages_after before cells) ≤ length cells
+messages-le before [] = omega arith
+messages-le before (cell ∷ cells) =
+    let more = messages-le (before ++ cell ∷ []) cells in
+    let here : length (ended_by before cell) ≤ 1 = ended-le cell.last _ in
+    let both = length-append (ended_by before cell) (messages_after (before ++ cell ∷ []) cells) in
+    omega (arith, more, here, both)
+
+option-le : {X : Type 0} (o : Option X) → length (option_to_list o) ≤ 1
+option-le None = omega arith
+option-le (Some x) = omega arith
+
+one_each-le : {X : Type 0} (f : ℕ → Option X) (ks : List ℕ) → length (flat_map (λ k. option_to_list (f k)) ks) ≤ length ks
+one_each-le f [] = omega arith
+one_each-le f (k ∷ ks) =
+    let more = one_each-le f ks in
+    let here = option-le (f k) in
+    let both = length-append (option_to_list (f k)) (flat_map (λ j. option_to_list (f j)) ks) in
+    omega (arith, more, here, both)
+
+-- a slot has one cell at most
+pub cells-le : {X : Type 0} (f : ℕ → Option X) (n : ℕ) → length (flat_map (λ k. option_to_list (f k)) (range_with_len 0 n)) ≤ n
+cells-le f n = let most = one_each-le f (range_with_len 0 n) in let long = length-range_with_len 0 n in omega arith
+
+-- ---- the least of some numbers
+least_more : {X : Type 0} (b : Bool) (f : X → ℕ) (x : X) (rest : List X) (n : ℕ) → n ≤ least_of (map f rest) → (b ≡ true → n ≤ f x) → n ≤ least_of (map f (cond b (x ∷ rest) rest))
+least_more true f x rest n more own = let here = own refl in omega (arith, more, here)
+least_more false f x rest n more own = more
+
+-- a number that none of those that count is below
+pub least-from : {X : Type 0} (p : X → Bool) (f : X → ℕ) (xs : List X) (n : ℕ) → n < 2 ^ 64 → ((i : ℕ) (x : X) → slice_get xs i ≡ Some x → p x ≡ true → n ≤ f x) → n ≤ least_of (map f (filter p xs))
+least-from p f [] n small each = omega arith
+least-from p f (x ∷ xs) n small each =
+    least_more (p x) f x (filter p xs) n (least-from p f xs n small (λ i y at passes. each (suc i) y at passes)) (each 0 x refl)

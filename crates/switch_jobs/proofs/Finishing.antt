@@ -1,0 +1,113 @@
+-- The outputs and the numbers of a run that was made to its end.
+use Rattle.std.proofs.Common.{◌≡◌, ◌∙◌, ℕ, ◌≤◌, List, length, map, sym, ap, arith}
+use Rattle.std.specs.Prelude.{Some, slice_get}
+use Rattle.std.specs.List.{sum_by, range_with_len}
+use Rattle.std.proofs.lemmas.List.FromFn.{length-map-range_with_len}
+use Rattle.std.proofs.lemmas.Option.{slice_get_within}
+use Rattle.rotating_pick.specs.declared.limits.TheConstants.{LEVELS}
+use Rattle.slot_histories.specs.Events.{Setup, decides}
+use Rattle.slot_histories.specs.Answers.{journal_of}
+use Rattle.service_bound.specs.Waits.{NotedSlot, noted_of, longest_wait}
+use Rattle.slot_board.specs.Schedules.{decided_slot}
+use Rattle.slot_board.specs.States.{StateValue, JournalValue}
+use Rattle.card_core.specs.declared.outcome.CardOut.{CardOut}
+use Rattle.card_core.specs.Plans.{Plan as CardPlan}
+use Rattle.card_worker.specs.declared.hands.Hand.{Hand}
+use Rattle.card_worker.proofs.Grouping.{at_place}
+use Rattle.slot_report.specs.declared.summary.Summary.{Summary}
+use Rattle.switch_plan.specs.GoodPlans.{SwitchPlan, packets_in, IsGood}
+use Rattle.whole_run.specs.Runs.{ports_of, setup_for, posts_in, run_slot, run_journal}
+use Rattle.whole_run.specs.Sums.{run_schedule}
+use Rattle.whole_run.specs.Crossings.{cells_to}
+use Rattle.switch_jobs.specs.declared.ready.Terms.{Terms}
+use Rattle.switch_jobs.specs.Outcomes.{messages_to, admitted_at, dropped_at, longest_at, summary_of, IsOutput}
+use Rattle.switch_jobs.specs.Readiness.{plan_with}
+use Rattle.switch_jobs.specs.Journals.{noted_in, longest_in, HaveSums, summary_in}
+use Rattle.switch_jobs.specs.Ending.{AreLeft, IsRunOf}
+use Rattle.switch_jobs.proofs.Adding.{map-map, sum_of, sum_fits}
+use Rattle.switch_jobs.proofs.Leaving.{IsFew, few_of}
+use Rattle.switch_jobs.proofs.Limits.{slots_few}
+
+-- the numbers of a run
+abbrev summary_with : Terms → ℕ → ℕ → ℕ → ℕ → ℕ → ℕ → ℕ → ℕ → List ℕ → Summary
+summary_with terms ports rounds slots packets dropped forwarded copies cells longest = record {
+  ports = ports;
+  rounds = rounds;
+  depth = terms.depth;
+  slots = slots;
+  packets = packets;
+  oversize = terms.oversize;
+  unrouted = terms.unrouted;
+  dropped = dropped;
+  forwarded = forwarded;
+  copies = copies;
+  cells = cells;
+  longest = longest;
+}
+
+-- are the same where each of them is
+same_numbers : (terms : Terms) (p p' r r' s s' k k' d d' f f' c c' w w' : ℕ) (l l' : List ℕ) → p ≡ p' → r ≡ r' → s ≡ s' → k ≡ k' → d ≡ d' → f ≡ f' → c ≡ c' → w ≡ w' → l ≡ l'
+    → summary_with terms p r s k d f c w l ≡ summary_with terms p' r' s' k' d' f' c' w' l'
+same_numbers terms p p' r r' s s' k k' d d' f f' c c' w w' l l' ports rounds slots packets dropped forwarded copies cells longest = cc
+
+-- the waits of a run are those of its journal
+noted_same : (plan : SwitchPlan) (slots : ℕ) → map noted_in (run_journal plan slots) ≡ map noted_of (run_schedule plan slots)
+noted_same plan slots = map-map noted_in (run_slot plan) (range_with_len 0 slots) ∙ sym (map-map noted_of (decided_slot (setup_for plan) (posts_in plan)) (range_with_len 0 slots))
+
+module _ (terms : Terms) (cards : List CardPlan) (good : IsGood (plan_with terms cards)) (state : StateValue) (hands : List Hand) (is : IsRunOf (plan_with terms cards) state hands) where
+  abbrev plan : SwitchPlan
+  plan = plan_with terms cards
+
+  abbrev slots : ℕ
+  slots = decides state.events
+
+  few_slots : slots ≤ 262145
+  few_slots = let within = is.within in let few = slots_few plan good in omega arith
+
+  -- so its journal can be noted
+  pub journal_few : journal_of state.setup state.events ≡ run_journal plan slots → length (journal_of state.setup state.events) ≤ 262145
+  journal_few same = let long = ap length same ∙ length-map-range_with_len (run_slot plan) 0 slots in let few = few_slots in omega arith
+
+  module _ (outputs : List CardOut) (left : AreLeft hands outputs) where
+    pub ports_left : length outputs ≡ ports_of plan
+    ports_left = left.count ∙ is.ports
+
+    pub output_is : (j : ℕ) (out : CardOut) → slice_get outputs j ≡ Some out → IsOutput plan slots j out
+    output_is j out at =
+        let inside = slice_get_within outputs j out at in
+        let count = left.count in
+        let (hand, mine) = at_place hands j (omega arith) in
+        is.outputs j hand out mine (left.each j hand out mine at)
+
+    few_outputs : length outputs ≤ 64
+    few_outputs = let count = ports_left in let few = good.size.most in omega arith
+
+    few_at : (j : ℕ) (out : CardOut) → slice_get outputs j ≡ Some out → IsFew plan slots j is.ends out
+    few_at j out at = few_of plan slots j is.ends out (output_is j out at)
+
+    pub sums_fit : HaveSums outputs
+    sums_fit =
+        let most = few_slots in
+        record {
+          dropped = sum_fits (λ (out : CardOut). out.dropped) outputs few_outputs (λ j out at. let few = (few_at j out at).dropped in omega arith);
+          admitted = sum_fits (λ (out : CardOut). out.admitted) outputs few_outputs (λ j out at. let few = (few_at j out at).admitted in omega arith);
+          packets = sum_fits (λ (out : CardOut). out.packets) outputs few_outputs (λ j out at. let few = (few_at j out at).packets in omega arith);
+          cells = sum_fits (λ (out : CardOut). out.cells) outputs few_outputs (λ j out at. let few = (few_at j out at).cells in omega arith);
+        }
+
+    pub summary_is : (journal : JournalValue) → journal.setup ≡ state.setup → journal.slots ≡ journal_of state.setup state.events → terms.packets ≡ sum_by length (packets_in plan) → summary_in terms journal outputs ≡ summary_of plan slots
+    unfolding summary_of
+    summary_is journal same decided packets =
+        let ports : journal.setup.ports ≡ ports_of plan = ap (λ (s : Setup). s.ports) (same ∙ is.setup) in
+        let rounds : journal.setup.rounds ≡ terms.rounds = ap (λ (s : Setup). s.rounds) (same ∙ is.setup) in
+        let journal_same : journal.slots ≡ run_journal plan slots = decided ∙ is.journal in
+        let count : length journal.slots ≡ slots = ap length journal_same ∙ length-map-range_with_len (run_slot plan) 0 slots in
+        let drops = sum_of (λ (out : CardOut). out.dropped) (dropped_at plan slots) outputs (ports_of plan) ports_left (λ j out at. (output_is j out at).dropped) in
+        let admits = sum_of (λ (out : CardOut). out.admitted) (admitted_at plan slots) outputs (ports_of plan) ports_left (λ j out at. (output_is j out at).admitted) in
+        let copies = sum_of (λ (out : CardOut). out.packets) (λ j. length (messages_to plan j slots)) outputs (ports_of plan) ports_left (λ j out at. (output_is j out at).packets) in
+        let cells = sum_of (λ (out : CardOut). out.cells) (λ j. length (cells_to plan j slots)) outputs (ports_of plan) ports_left (λ j out at. (output_is j out at).cells) in
+        let waits : longest_in journal.setup.ports journal.slots ≡ map (longest_at plan slots) (range_with_len 0 LEVELS) =
+        ap (λ n. longest_in n journal.slots) ports
+        ∙ (ap (longest_in (ports_of plan)) journal_same
+        ∙ ap (λ (noted : List NotedSlot). map (λ level. longest_wait (ports_of plan) level noted) (range_with_len 0 LEVELS)) (noted_same plan slots)) in
+        same_numbers terms _ _ _ _ _ _ _ _ _ _ _ _ _ _ _ _ _ _ ports rounds count packets drops admits copies cells waits

@@ -1,0 +1,10 @@
+mod Records
+mod Members
+mod Planning
+mod Adding
+mod Disbanded
+mod Serving
+mod Leaving
+mod Made
+mod Limits
+mod Finishing

@@ -1,0 +1,80 @@
+use Rattle.std.proofs.Common.{◌≡◌, ◌∙◌, ℕ, ◌≤◌, List, ◌++◌, length, take, drop, ap, sym, subst, arith}
+use Rattle.slot_histories.specs.Events.{decides}
+use Rattle.slot_board.specs.States.{StateValue, JournalValue}
+use Rattle.card_worker.specs.declared.hands.Hand.{Hand}
+use Rattle.card_worker.specs.declared.hands.Group.{Group}
+use Rattle.card_worker.proofs.Removing.{whole_back}
+use Rattle.switch_plan.specs.GoodPlans.{SwitchPlan, IsGood}
+use Rattle.whole_run.specs.Runs.{setup_for}
+use Rattle.switch_jobs.specs.declared.outcome.Outcome.{Outcome}
+use Rattle.switch_jobs.specs.Outcomes.{IsOutcome}
+use Rattle.switch_jobs.specs.Readiness.{plan_with, plans_in}
+use Rattle.switch_jobs.specs.Sharing.{ArePlanned, HaveWaited}
+use Rattle.switch_jobs.specs.Journals.{HaveSums, summary_in}
+use Rattle.switch_jobs.specs.Ending.{AreOfPlans, IsRunOf}
+use Rattle.switch_jobs.proofs.Finishing.{journal_few, ports_left, output_is, sums_fit, summary_is}
+use Rattle.switch_jobs.proofs.running.run_ready_with.Goals as goal
+
+-- groups that a call got as a slice and gave back
+back : (P : List Group → Type 0) (k : ℕ) (new old slice : List Group) → k ≡ length old → length new ≡ length slice → slice ≡ old → P new → P (take k (new ++ drop (length new) old))
+back P k new old slice all same value is = subst P (sym (whole_back k new old all (same ∙ ap length value))) is
+
+-- the run is that of the plan whose cards the hands have
+run_of : (plan : SwitchPlan) (state : StateValue) (hands slice : List Hand) → slice ≡ hands → ((plan : SwitchPlan) → IsGood plan → state.setup ≡ setup_for plan → AreOfPlans plan.cards slice → IsRunOf plan state slice)
+    → IsGood plan → state.setup ≡ setup_for plan → AreOfPlans plan.cards hands → IsRunOf plan state hands
+run_of plan state hands slice same law good setup planned = subst (IsRunOf plan state) same (law plan good setup (subst (AreOfPlans plan.cards) (sym same) planned))
+
+pub summarize-summary-requires-clause-slots : goal.summarize-summary-requires-clause-slots
+summarize-summary-requires-clause-slots g c =
+    let r = c.ready.inside in
+    let cards = plans_in r.members.items in
+    let state = c.end_run-state.result.0 in
+    let hands = c.end_run-state.result.1.items in
+    let shared : ArePlanned cards c.deref_mut.result.now = subst (ArePlanned cards) (sym c.deref_mut.ensures.value) c.share-groups.ensures.shared.planned in
+    let planned : AreOfPlans cards hands = c.end_run-state.ensures.planned cards (back (ArePlanned cards) c.share-groups.result.len c.drive_all.new.groups c.share-groups.result.items _ c.share-groups.result.ok.0 c.drive_all.auto.groups c.deref_mut.ensures.value (c.drive_all.ensures.planned cards shared)) in
+    let made : IsRunOf (plan_with r.terms cards) state hands = run_of (plan_with r.terms cards) state hands c.deref.result.now c.deref.ensures.value c.run_is_made.ensures c.ready.invariant.good (c.end_run-state.ensures.setup ∙ c.ready.invariant.setup) planned in
+    let few = journal_few r.terms cards c.ready.invariant.good state hands made made.journal in
+    let journal = ap (λ (j : JournalValue). length j.slots) c.journal-journal.ensures.journal in
+    omega (arith, few, journal)
+
+pub summarize-summary-requires-clause-sums : goal.summarize-summary-requires-clause-sums
+summarize-summary-requires-clause-sums g c =
+    let r = c.ready.inside in
+    let cards = plans_in r.members.items in
+    let state = c.end_run-state.result.0 in
+    let hands = c.end_run-state.result.1.items in
+    let shared : ArePlanned cards c.deref_mut.result.now = subst (ArePlanned cards) (sym c.deref_mut.ensures.value) c.share-groups.ensures.shared.planned in
+    let planned : AreOfPlans cards hands = c.end_run-state.ensures.planned cards (back (ArePlanned cards) c.share-groups.result.len c.drive_all.new.groups c.share-groups.result.items _ c.share-groups.result.ok.0 c.drive_all.auto.groups c.deref_mut.ensures.value (c.drive_all.ensures.planned cards shared)) in
+    let made : IsRunOf (plan_with r.terms cards) state hands = run_of (plan_with r.terms cards) state hands c.deref.result.now c.deref.ensures.value c.run_is_made.ensures c.ready.invariant.good (c.end_run-state.ensures.setup ∙ c.ready.invariant.setup) planned in
+    subst HaveSums (sym c.deref-2.ensures.value) (sums_fit r.terms cards c.ready.invariant.good state hands made c.finish_cards-outputs.result.items c.finish_cards-outputs.ensures)
+
+pub returns-clause-run : goal.returns-clause-run
+returns-clause-run g c =
+    let r = c.ready.inside in
+    let cards = plans_in r.members.items in
+    let state = c.end_run-state.result.0 in
+    let hands = c.end_run-state.result.1.items in
+    let shared : ArePlanned cards c.deref_mut.result.now = subst (ArePlanned cards) (sym c.deref_mut.ensures.value) c.share-groups.ensures.shared.planned in
+    let planned : AreOfPlans cards hands = c.end_run-state.ensures.planned cards (back (ArePlanned cards) c.share-groups.result.len c.drive_all.new.groups c.share-groups.result.items _ c.share-groups.result.ok.0 c.drive_all.auto.groups c.deref_mut.ensures.value (c.drive_all.ensures.planned cards shared)) in
+    let made : IsRunOf (plan_with r.terms cards) state hands = run_of (plan_with r.terms cards) state hands c.deref.result.now c.deref.ensures.value c.run_is_made.ensures c.ready.invariant.good (c.end_run-state.ensures.setup ∙ c.ready.invariant.setup) planned in
+    let outputs = c.finish_cards-outputs.result.items in
+    let left = c.finish_cards-outputs.ensures in
+    let journal = c.journal-journal.ensures.journal in
+    let setup = ap (λ (j : JournalValue). j.setup) journal in
+    let slots = ap (λ (j : JournalValue). j.slots) journal in
+    let outcome : Outcome = record { outputs = c.finish_cards-outputs.result; journal = c.journal-journal.result; summary = c.summarize-summary.result } in
+    subst (λ (plan : SwitchPlan). IsOutcome plan outcome) c.ready.view_is (record {
+      slots = decides state.events;
+      ends = made.ends;
+      setup = setup ∙ made.setup;
+      journal = slots ∙ made.journal;
+      ports = ports_left r.terms cards c.ready.invariant.good state hands made outputs left;
+      outputs = output_is r.terms cards c.ready.invariant.good state hands made outputs left;
+      summary = c.summarize-summary.ensures ∙ (ap (summary_in r.terms c.journal-journal.result) c.deref-2.ensures.value ∙ summary_is r.terms cards c.ready.invariant.good state hands made outputs left c.journal-journal.result setup slots c.ready.invariant.packets);
+    })
+
+pub returns-clause-tried : goal.returns-clause-tried
+returns-clause-tried g c =
+    let small = c.ranges.patience.fits in
+    let waited : HaveWaited c.args.patience _ = back (HaveWaited c.args.patience) c.share-groups.result.len c.drive_all.new.groups c.share-groups.result.items _ c.share-groups.result.ok.0 c.drive_all.auto.groups c.deref_mut.ensures.value c.drive_all.ensures.waited in
+    subst (λ (j : JournalValue). c.args.patience ≤ j.refused) (sym c.journal-journal.ensures.journal) (c.end_run-state.ensures.refused c.args.patience (omega arith) waited)

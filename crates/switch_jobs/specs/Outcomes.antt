@@ -1,0 +1,71 @@
+-- What the run of a plan leaves: its journal, what each output got, and its numbers.
+use Rattle.std.specs.Prelude.{◌≡◌, ℕ, List, map, length, Some, slice_get}
+use Rattle.std.specs.List.{sum_by, range_with_len, concat}
+use Rattle.rotating_pick.specs.declared.limits.TheConstants.{LEVELS}
+use Rattle.service_bound.specs.Waits.{noted_of, longest_wait}
+use Rattle.card_core.specs.declared.outcome.CardOut.{CardOut}
+use Rattle.card_core.specs.Queues.{admitted, dropped}
+use Rattle.card_core.specs.Deliveries.{delivered}
+use Rattle.slot_report.specs.declared.summary.Summary.{Summary}
+use Rattle.switch_plan.specs.GoodPlans.{SwitchPlan, packets_in}
+use Rattle.whole_run.specs.Runs.{ports_of, setup_for, card_at, served_by, run_journal}
+use Rattle.whole_run.specs.Ends.{IsLength}
+use Rattle.whole_run.specs.Crossings.{cells_to}
+use Rattle.whole_run.specs.Sums.{run_schedule}
+use Rattle.switch_jobs.specs.declared.outcome.Outcome.{Outcome}
+
+-- the messages that are delivered to output j in the first slots, in the order of the slots in which their last cells cross
+abbrev pub messages_to : SwitchPlan → ℕ → ℕ → List (List ℕ)
+messages_to plan j slots = delivered (cells_to plan j slots)
+
+-- how many packets of port i are admitted in the first slots
+abbrev pub admitted_at : SwitchPlan → ℕ → ℕ → ℕ
+admitted_at plan slots i = admitted (card_at plan i) (served_by plan i slots) slots
+
+-- and how many are dropped
+abbrev pub dropped_at : SwitchPlan → ℕ → ℕ → ℕ
+dropped_at plan slots i = dropped (card_at plan i) (served_by plan i slots) slots
+
+-- the sum over all ports
+abbrev pub over_ports : SwitchPlan → (ℕ → ℕ) → ℕ
+over_ports plan f = sum_by f (range_with_len 0 (ports_of plan))
+
+-- the longest wait of a unicast queue of the level in the first slots
+abbrev pub longest_at : SwitchPlan → ℕ → ℕ → ℕ
+longest_at plan slots level = longest_wait (ports_of plan) level (map noted_of (run_schedule plan slots))
+
+-- the numbers of a run of so many slots
+unfoldable pub summary_of : SwitchPlan → ℕ → Summary
+summary_of plan slots = record {
+  ports = ports_of plan;
+  rounds = plan.rounds;
+  depth = plan.depth;
+  slots = slots;
+  packets = sum_by length (packets_in plan);
+  oversize = plan.oversize;
+  unrouted = plan.unrouted;
+  dropped = over_ports plan (dropped_at plan slots);
+  forwarded = over_ports plan (admitted_at plan slots);
+  copies = over_ports plan (λ j. length (messages_to plan j slots));
+  cells = over_ports plan (λ j. length (cells_to plan j slots));
+  longest = map (longest_at plan slots) (range_with_len 0 LEVELS);
+}
+
+-- what a run of so many slots leaves at port j: what came to its output, and how its own packets fared
+pub record IsOutput (plan : SwitchPlan) (slots j : ℕ) (out : CardOut) : Type 0 where
+  pub body : out.body.items ≡ concat (messages_to plan j slots)
+  pub lens : out.lens.items ≡ map length (messages_to plan j slots)
+  pub packets : out.packets ≡ length (messages_to plan j slots)
+  pub cells : out.cells ≡ length (cells_to plan j slots)
+  pub admitted : out.admitted ≡ admitted_at plan slots j
+  pub dropped : out.dropped ≡ dropped_at plan slots j
+
+-- The run of the plan, to its end: the journal of its slots, what each port is left with, and its numbers.
+pub record IsOutcome (plan : SwitchPlan) (outcome : Outcome) : Type 0 where
+  pub slots : ℕ
+  pub ends : IsLength plan slots
+  pub setup : outcome.journal.setup ≡ setup_for plan
+  pub journal : outcome.journal.slots ≡ run_journal plan slots
+  pub ports : length outcome.outputs.items ≡ ports_of plan
+  pub outputs : (j : ℕ) (out : CardOut) → slice_get outcome.outputs.items j ≡ Some out → IsOutput plan slots j out
+  pub summary : outcome.summary ≡ summary_of plan slots

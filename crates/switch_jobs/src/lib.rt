@@ -1,0 +1,18 @@
+//! Runs a plan to its end: its line cards meet at a shared board, driven by workers on threads.
+#![tactic(auto)]
+
+mod captures;
+mod driving;
+mod ending;
+pub mod jobs;
+mod meters;
+mod outcome;
+mod ready;
+mod running;
+mod sharing;
+mod summaries;
+
+pub use captures::output_bytes;
+pub use outcome::Outcome;
+pub use ready::Ready;
+pub use running::{run_job, run_ready, run_ready_with};

@@ -1,0 +1,73 @@
+ghost use Rattle.std.specs.Prelude.{◌≡◌, ◌+◌, ◌<◌, ◌≤◌, List, [], ◌∷◌, ◌++◌, length, map, slice_set, take};
+ghost use Rattle.std.specs.List.{range_with_len};
+ghost use Rattle.slot_match.specs.Rows.{AreWithin};
+ghost use Rattle.service_bound.specs.Waits.{NotedSlot, longest_wait};
+ghost use Rattle.service_bound.specs.Meters.{HasNoted};
+ghost use Rattle.switch_jobs.specs.Journals.{rows_of, noted_in, longest_in};
+
+use crossbar::Post;
+use rotating_pick::{LEVEL_COUNT, LEVELS, MAX_PORTS, PORT_COUNT};
+use service_bound::{MAX_NOTED, WaitMeter};
+use slot_board::Journal;
+use slot_match::{Match, Row};
+
+/// The longest wait of each level in the journal's slots, by a meter that has noted none. It takes no memory.
+pub(crate) fn longest_waits(meter: WaitMeter, journal: &Journal) -> [u32; LEVEL_COUNT]
+    requires new { HasNoted meter [] }
+    requires ports { meter.ports ≡ journal.now.setup.ports }
+    requires few { length journal.now.slots ≤ MAX_NOTED }
+    ensures { result ≡ longest_in journal.now.setup.ports journal.now.slots }
+{
+    journal.legal();
+    let mut meter = meter;
+    for slot in 0..journal.slots() {
+        note_slot(&mut meter, journal.posts(slot), journal.decided(slot));
+    }
+    longest_of(&meter)
+}
+
+// Notes one slot more.
+fn note_slot(meter: &mut WaitMeter, posts: &[Post], matched: &Match)
+    requires rows { AreWithin meter.old.ports (rows_of posts.now) }
+    requires size { length posts.now ≤ MAX_PORTS }
+    requires matched { length matched.now ≡ meter.old.ports }
+    requires few { meter.old.count < MAX_NOTED }
+    ensures noted { (slots : List NotedSlot) → HasNoted meter.old slots → HasNoted meter.new (slots ++ record { rows = rows_of posts.now; matched = matched.now } ∷ []) }
+    ensures ports { meter.new.ports ≡ meter.old.ports }
+    ensures count { meter.new.count ≡ meter.old.count + 1 }
+{
+    let rows = copied_rows(posts);
+    meter.note(&rows[..posts.len()], matched);
+}
+
+// The rows of the posts, in the first places of a table.
+fn copied_rows(posts: &[Post]) -> [Row; PORT_COUNT]
+    requires { length posts.now ≤ MAX_PORTS }
+    ensures { take (length posts.now) result ≡ rows_of posts.now }
+{
+    let mut rows = [Row::empty(); PORT_COUNT];
+    for (place, post) in posts.iter().enumerate() {
+        put_row(&mut rows, place, post);
+    }
+    rows
+}
+
+// Writes the row of the post to a place of the table.
+fn put_row(rows: &mut [Row; PORT_COUNT], place: usize, post: &Post)
+    requires { place < MAX_PORTS }
+    ensures rows { rows.new ≡ slice_set rows.old place post.now.row }
+    ensures long { length rows.new ≡ MAX_PORTS }
+{
+    rows[place] = post.row;
+}
+
+// The longest wait of each level.
+fn longest_of(meter: &WaitMeter) -> [u32; LEVEL_COUNT]
+    ensures { (slots : List NotedSlot) → HasNoted meter.now slots → result ≡ map (λ level. longest_wait meter.now.ports level slots) (range_with_len 0 LEVELS) }
+{
+    let mut longest = [0; LEVEL_COUNT];
+    for level in 0..LEVELS as u8 {
+        longest[usize::from(level)] = meter.longest(level);
+    }
+    longest
+}

@@ -1,0 +1,85 @@
+ghost use Rattle.std.specs.Prelude.{◌≤◌, IfOk};
+ghost use Rattle.switch_plan.specs.GoodPlans.{switch_plan_of, IsGood};
+ghost use Rattle.switch_jobs.specs.Outcomes.{IsOutcome};
+
+use crate::driving::drive_all;
+use crate::ending::{end_run, finish_cards, run_is_made};
+use crate::jobs;
+use crate::outcome::Outcome;
+use crate::ready::{Ready, Rooms};
+use crate::sharing::share;
+use crate::summaries::summarize;
+use card_worker::Gate;
+use rotating_pick::OutOfMemory;
+use std::alloc::Global;
+use std::thread::Threads;
+use switch_plan::Plan;
+
+// After how many passes without a post or a take a worker leaves the board.
+const PATIENCE: u32 = 64;
+
+/// Runs the plan: takes all memory that this needs, and then makes all slots with a patience of 64. The only
+/// error is want of memory.
+pub fn run_job<R: Threads + Sync, G: Gate + Sync>(
+    rt: &R,
+    alloc: Global,
+    plan: Plan,
+    gate: &G,
+) -> Result<Outcome, OutOfMemory>
+    requires { IsGood (switch_plan_of plan) }
+    ensures run { IfOk result (λ outcome. IsOutcome (switch_plan_of plan) outcome) }
+    ensures tried { IfOk result (λ outcome. 64 ≤ outcome.journal.refused) }
+{
+    let ready = jobs::ready(alloc, plan)?;
+    Ok(run_ready(rt, ready, gate))
+}
+
+/// Makes all slots of the run with a patience of 64. It takes no memory.
+pub fn run_ready<R: Threads + Sync, G: Gate + Sync>(rt: &R, ready: Ready, gate: &G) -> Outcome
+    ensures run { IsOutcome ready result }
+    ensures tried { 64 ≤ result.journal.refused }
+{
+    run_ready_with(rt, ready, gate, PATIENCE)
+}
+
+/// Makes all slots of the run. Its workers drive their cards, each on a thread of its own, in rounds until in
+/// one of them no card posts or takes. In a round a worker makes tries until none of its cards is due, or
+/// after `patience` passes in a row without a post or a take. Then the board is closed, and what is left is
+/// made on this thread. The gate is called before each try of a worker. It takes no memory.
+///
+/// Each card that was due when the board was closed had been refused at least `patience` times.
+pub fn run_ready_with<R: Threads + Sync, G: Gate + Sync>(
+    rt: &R,
+    ready: Ready,
+    gate: &G,
+    patience: u32,
+) -> Outcome
+    ensures run { IsOutcome ready result }
+    ensures tried { patience ≤ result.journal.refused }
+{
+    let Ready {
+        terms,
+        board,
+        members,
+        rooms,
+    } = ready;
+    let Rooms {
+        groups,
+        seats,
+        hands,
+        outputs,
+        meter,
+    } = rooms;
+    let mut groups = share(&board, members, groups);
+    drive_all(rt, &board, &mut groups, gate, patience);
+    let (state, hands) = end_run(board, groups, seats, hands);
+    run_is_made(&state, &hands);
+    let outputs = finish_cards(hands, outputs);
+    let journal = state.journal();
+    let summary = summarize(&terms, &journal, &outputs, meter);
+    Outcome {
+        outputs,
+        journal,
+        summary,
+    }
+}

@@ -1,0 +1,54 @@
+ghost use Rattle.std.specs.Prelude.{◌≡◌, ◌+◌, ◌<◌, ℕ, List, Some, length, slice_get};
+ghost use Rattle.card_core.specs.Plans.{Plan as CardPlan};
+ghost use Rattle.card_worker.specs.Trying.{IsMember};
+ghost use Rattle.card_worker.specs.Groups.{AreGroups};
+ghost use Rattle.switch_jobs.specs.Readiness.{plans_in, AreMembers, AreEmptyGroups, HaveRoomFor};
+ghost use Rattle.switch_jobs.specs.Sharing.{ArePlanned, AreShared};
+
+use card_worker::{Group, Member, laws};
+use slot_board::Board;
+
+/// Shares the members of the board among groups that are empty and have room for all: they go to the groups
+/// in turn. It takes no memory.
+pub(crate) fn share(board: &Board, members: Vec<Member>, groups: Vec<Group>) -> Vec<Group>
+    requires members { AreMembers board.now members.items }
+    requires some { 0 < length groups.items }
+    requires empty { AreEmptyGroups groups.items }
+    requires room { HaveRoomFor (length members.items) groups.items }
+    ensures shared { AreShared board.now (plans_in members.items) result.items }
+    ensures count { length result.items ≡ length groups.items }
+{
+    let mut groups = groups;
+    let mut card: usize = 0;
+    for member in members {
+        let place = place_for(card, groups.len());
+        join(board, &mut groups, place, card, member);
+        card += 1;
+    }
+    groups
+}
+
+// The group of the card: the groups have the cards in turn.
+fn place_for(card: usize, groups: usize) -> usize
+    requires { 0 < groups }
+    ensures { result < groups }
+{
+    card % groups
+}
+
+// Puts the next card's member into the group at the place, which has room for it.
+fn join(board: &Board, groups: &mut Vec<Group>, place: usize, card: usize, member: Member)
+    requires groups { AreGroups board.now card groups.old.items }
+    requires place { place < length groups.old.items }
+    requires room { HaveRoomFor (card + 1) groups.old.items }
+    requires member { IsMember board.now member }
+    requires number { member.seat.number ≡ card }
+    ensures groups { AreGroups board.now (card + 1) groups.new.items }
+    ensures planned { (plans : List CardPlan) → ArePlanned plans groups.old.items → slice_get plans card ≡ Some member.hand.card.sends.plan → ArePlanned plans groups.new.items }
+    ensures room { (room : ℕ) → HaveRoomFor room groups.old.items → HaveRoomFor room groups.new.items }
+    ensures count { length groups.new.items ≡ length groups.old.items }
+{
+    laws::groups_grow();
+    let group = &mut groups[place];
+    group.members.push_reserved(member);
+}
