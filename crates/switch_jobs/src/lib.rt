@@ -11,6 +11,8 @@ mod ready;
 mod running;
 mod sharing;
 mod summaries;
+#[cfg(test)]
+mod tests;
 
 pub use captures::output_bytes;
 pub use outcome::Outcome;
