@@ -1,12 +1,17 @@
--- What the files hold once all outputs were written.
-use Rattle.std.proofs.Common.{◌≡◌, ◌≢◌, ◌<◌, ◌≤◌, ◌+◌, ◌^◌, ℕ, zero, suc, List, [], ◌∷◌, ◌++◌, length, get_or, Option, Some, None, refl, ◌∙◌, ap, arith}
-use Rattle.std.specs.Prelude.{IfSome, option_map, codes, decimal}
+-- What the files hold once all texts were written.
+use Rattle.std.proofs.Common.{◌≡◌, ◌≢◌, ◌<◌, ◌≤◌, ◌+◌, ◌^◌, ℕ, zero, suc, List, [], ◌∷◌, ◌++◌, length, get_or, Option, Some, None, refl, sym, ◌∙◌, ap, arith, length-append}
+use Rattle.std.specs.Prelude.{All, IfSome, option_map, codes, decimal}
 use Rattle.std.proofs.lemmas.Fmt.{decimal_injective}
 use Rattle.std.proofs.lemmas.List.{append_cancel_left, append_cancel_right}
+use Rattle.std.proofs.lemmas.List.Elements.{All-head, All-tail}
 use Rattle.outside.specs.Contents.{Contents, begin_file}
+use Rattle.outside.specs.WholeFiles.{NamedBytes, put_file}
 use Rattle.outside.proofs.Effects.{file-append_file-begin_file, file-append_file-other, file-begin_file-other}
-use Rattle.switch_run.specs.OutputFiles.{HoldsOutputs, files_from, output_files, output_name, put_files}
-use Rattle.outside.specs.WholeFiles.{put_file}
+use Rattle.switch_words.specs.Reading.{JobWords, run, gen, RunWords}
+use Rattle.switch_run.specs.Switched.{Texts}
+use Rattle.switch_run.specs.OutputFiles.{HoldsTexts, files_from, output_name, report_name, put_files, put_texts, run_files}
+
+-- ---- names
 
 -- outputs of different numbers have files of different names
 pub output_name-injective : (prefix : List ℕ) (j k : ℕ) → j < 2 ^ 64 → k < 2 ^ 64 → output_name prefix j ≡ output_name prefix k → j ≡ k
@@ -15,11 +20,46 @@ output_name-injective prefix j k j_fits k_fits same =
     let tails : decimal j ++ codes ".pcap" ≡ decimal k ++ codes ".pcap" = append_cancel_left (codes ".") _ _ dotted in
     decimal_injective j k j_fits k_fits (append_cancel_right (decimal j) (decimal k) (codes ".pcap") tails)
 
+ends_otherwise : (digits : List ℕ) → digits ++ codes ".pcap" ≡ codes "report" → ⊥
+ends_otherwise [] same = let first = ap (λ xs. get_or xs 0 0) same in absurd (omega (arith, first))
+ends_otherwise (x ∷ []) same = let second = ap (λ xs. get_or xs 1 0) same in absurd (omega (arith, second))
+ends_otherwise (x ∷ y ∷ rest) same = let long = ap length same in absurd (omega (arith, long, length-append rest (codes ".pcap")))
+
+-- no output has the name of the report
+output_is_no_report : (prefix : List ℕ) (j : ℕ) → output_name prefix j ≢ report_name prefix
+output_is_no_report prefix j same =
+    let dotted : codes "." ++ (decimal j ++ codes ".pcap") ≡ codes "." ++ codes "report" = append_cancel_left prefix _ _ same in
+    ends_otherwise (decimal j) (append_cancel_left (codes ".") _ _ dotted)
+
+-- ---- files that are put
+
 pub length-files_from : (prefix : List ℕ) (j : ℕ) (outputs : List (List ℕ)) → length (files_from prefix j outputs) ≡ length outputs
 length-files_from prefix j [] = refl
 length-files_from prefix j (bytes ∷ more) = ap suc (length-files_from prefix (j + 1) more)
 
+put_push : (files : List NamedBytes) (f : NamedBytes) (c : Contents) → put_files (files ++ f ∷ []) c ≡ put_file (put_files files c) f
+put_push [] f c = refl
+put_push (first ∷ more) f c = put_push more f (put_file c first)
+
 -- a name that is none of theirs finds what it found
+others_put : (files : List NamedBytes) (c : Contents) (name : List ℕ) → All (λ file. file.name ≢ name) files → (put_files files c).file name ≡ c.file name
+others_put [] c name other = refl
+others_put (f ∷ more) c name other =
+    let differs = All-head (λ (file : NamedBytes). file.name ≢ name) f more other in
+    let here : name ≢ f.name = λ same. differs (sym same) in
+    others_put more (put_file c f) name (All-tail (λ (file : NamedBytes). file.name ≢ name) f more other)
+    ∙ file-append_file-other f.name f.bytes name (begin_file f.name c) here
+    ∙ file-begin_file-other f.name name c here
+
+out_put : (files : List NamedBytes) (c : Contents) → (put_files files c).out ≡ c.out
+out_put [] c = refl
+out_put (f ∷ more) c = out_put more (put_file c f)
+
+err_put : (files : List NamedBytes) (c : Contents) → (put_files files c).err ≡ c.err
+err_put [] c = refl
+err_put (f ∷ more) c = err_put more (put_file c f)
+
+-- the same of a name that is that of no output from j on
 others_from : (prefix : List ℕ) (j : ℕ) (outputs : List (List ℕ)) (c : Contents) (name : List ℕ) → ((k : ℕ) → j ≤ k → k < j + length outputs → name ≢ output_name prefix k)
     → (put_files (files_from prefix j outputs) c).file name ≡ c.file name
 others_from prefix j [] c name other = refl
@@ -41,23 +81,49 @@ each_from prefix j (bytes ∷ more) c (suc i) within fits =
     let n : j + suc i ≡ j + 1 + i = omega arith in
     rw n (each_from prefix (j + 1) more (put_file c (record { name = output_name prefix j; bytes = bytes })) i (omega arith) (omega arith))
 
-out_from : (prefix : List ℕ) (j : ℕ) (outputs : List (List ℕ)) (c : Contents) → (put_files (files_from prefix j outputs) c).out ≡ c.out
-out_from prefix j [] c = refl
-out_from prefix j (bytes ∷ more) c = out_from prefix (j + 1) more (put_file c (record { name = output_name prefix j; bytes = bytes }))
+-- ---- the texts of a run
 
-err_from : (prefix : List ℕ) (j : ℕ) (outputs : List (List ℕ)) (c : Contents) → (put_files (files_from prefix j outputs) c).err ≡ c.err
-err_from prefix j [] c = refl
-err_from prefix j (bytes ∷ more) c = err_from prefix (j + 1) more (put_file c (record { name = output_name prefix j; bytes = bytes }))
+abbrev report_of : RunWords → Texts → NamedBytes
+report_of r texts = record { name = report_name r.prefix; bytes = texts.report }
 
-pub holds : (prefix : List ℕ) (outputs : List (List ℕ)) (c : Contents) → length outputs ≤ 2 ^ 64 → HoldsOutputs prefix outputs c (put_files (output_files prefix outputs) c)
-holds prefix outputs c fits = record {
-  each = λ j within. let n : 0 + j ≡ j = omega arith in rw n at (each_from prefix 0 outputs c j within (omega arith));
-  others = λ name other. others_from prefix 0 outputs c name (λ k low high. other k (omega arith));
-  out = out_from prefix 0 outputs c;
-  err = err_from prefix 0 outputs c;
+file_after : (r : RunWords) (texts : Texts) (c : Contents) (name : List ℕ) → (put_texts (run r) texts c).file name ≡ (put_file (put_files (files_from r.prefix 0 texts.outputs) c) (report_of r texts)).file name
+file_after r texts c name = ap (λ (d : Contents). d.file name) (put_push (files_from r.prefix 0 texts.outputs) (report_of r texts) c)
+
+output_held : (r : RunWords) (texts : Texts) (c : Contents) (j : ℕ) → length texts.outputs ≤ 2 ^ 64 → j < length texts.outputs → (put_texts (run r) texts c).file (output_name r.prefix j) ≡ Some (get_or texts.outputs j [])
+output_held r texts c j fits within =
+    let n : 0 + j ≡ j = omega arith in
+    let files = put_files (files_from r.prefix 0 texts.outputs) c in
+    let other = output_is_no_report r.prefix j in
+    file_after r texts c (output_name r.prefix j)
+    ∙ file-append_file-other (report_name r.prefix) texts.report (output_name r.prefix j) (begin_file (report_name r.prefix) files) other
+    ∙ file-begin_file-other (report_name r.prefix) (output_name r.prefix j) files other
+    ∙ (rw n at (each_from r.prefix 0 texts.outputs c j within (omega arith)))
+
+report_held : (r : RunWords) (texts : Texts) (c : Contents) → (put_texts (run r) texts c).file (report_name r.prefix) ≡ Some texts.report
+report_held r texts c = file_after r texts c (report_name r.prefix) ∙ file-append_file-begin_file (report_name r.prefix) texts.report (put_files (files_from r.prefix 0 texts.outputs) c)
+
+same_run : (r s : RunWords) → run r ≡ run s → s ≡ r
+same_run r s same = cc
+
+run_is_no_gen : (r : RunWords) (job : JobWords) → job ≡ run r → (g : _) → job ≡ gen g → ⊥
+run_is_no_gen r job is g other = absurd (cc)
+
+pub holds : (job : JobWords) (texts : Texts) (c : Contents) → length texts.outputs ≤ 2 ^ 64 → HoldsTexts job texts c (put_texts job texts c)
+holds (run r) texts c fits = record {
+  outputs = λ s j is within. rw (same_run r s is) (output_held r texts c j fits within);
+  report = λ s is. rw (same_run r s is) (report_held r texts c);
+  others = λ name other. others_put (run_files r.prefix texts) c name other;
+  out = ap (λ out. out ++ texts.summary) (out_put (run_files r.prefix texts) c);
+  err = err_put (run_files r.prefix texts) c;
+}
+holds (gen g) texts c fits = record {
+  outputs = λ s j is within. absurd (run_is_no_gen s (gen g) is g refl);
+  report = λ s is. absurd (run_is_no_gen s (gen g) is g refl);
+  others = λ name other. refl;
+  out = refl;
+  err = refl;
 }
 
-pub holds_told : (prefix : List ℕ) (outputs : List (List ℕ)) (old new : Option Contents) → length outputs ≤ 2 ^ 64 → new ≡ option_map (put_files (output_files prefix outputs)) old
-    → IfSome old (λ c. IfSome new (HoldsOutputs prefix outputs c))
-holds_told prefix outputs None new fits written = tt
-holds_told prefix outputs (Some c) new fits written = rw written (holds prefix outputs c fits)
+pub holds_told : (job : JobWords) (texts : Texts) (old new : Option Contents) → length texts.outputs ≤ 2 ^ 64 → new ≡ option_map (put_texts job texts) old → IfSome old (λ c. IfSome new (HoldsTexts job texts c))
+holds_told job texts None new fits written = tt
+holds_told job texts (Some c) new fits written = rw written (holds job texts c fits)

@@ -7,15 +7,15 @@ use Rattle.outside.specs.Contents.{Contents}
 use Rattle.switch_run.specs.Inputs.{CapturesRead, EarlierFit}
 use Rattle.rotating_pick.specs.declared.limits.TheConstants.{MAX_FILE_BYTES}
 use Rattle.outside.specs.WholeFiles.{Fits}
-use Rattle.switch_run.specs.Outcome.{bytes_of}
-use Rattle.switch_run.specs.Words.{RunNames}
-use Rattle.switch_run.specs.declared.words.InputFile.TheVariants.{Capture}
+use Rattle.switch_plan.specs.Reading.{bytes_of_files}
+use Rattle.switch_words.specs.Reading.{RunWords}
+use Rattle.switch_run.specs.declared.inputs.InputFile.TheVariants.{Capture}
 
 -- one file more is there
-pub earlier_more : (names : RunNames) (told : Option Contents) (port : ℕ) (bytes : List ℕ) → port < length names.inputs → IfSome told (EarlierFit names (Capture port))
-    → IfSome told (λ c. c.file (get_or names.inputs port []) ≡ Some bytes) → length bytes ≤ MAX_FILE_BYTES → IfSome told (EarlierFit names (Capture (port + 1)))
-earlier_more names None port bytes within earlier there fits = tt
-earlier_more names (Some c) port bytes within earlier there fits = (earlier.0, All-more (Fits c) names.inputs port [] within earlier.1 (bytes, there, fits))
+pub earlier_more : (r : RunWords) (told : Option Contents) (port : ℕ) (bytes : List ℕ) → port < length r.inputs → IfSome told (EarlierFit r (Capture port))
+    → IfSome told (λ c. c.file (get_or r.inputs port []) ≡ Some bytes) → length bytes ≤ MAX_FILE_BYTES → IfSome told (EarlierFit r (Capture (port + 1)))
+earlier_more r None port bytes within earlier there fits = tt
+earlier_more r (Some c) port bytes within earlier there fits = (earlier.0, All-more (Fits c) r.inputs port [] within earlier.1 (bytes, there, fits))
 
 there_more : (names : List (List ℕ)) (told : Option Contents) (i : ℕ) (captures : List (List ℕ)) (bytes : List ℕ) → i < length names
     → IfSome told (λ c. map (λ name. c.file name) (take i names) ≡ map (λ b. Some b) captures) → IfSome told (λ c. c.file (get_or names i []) ≡ Some bytes)
@@ -38,5 +38,5 @@ captures_more names told i captures bytes within read here fits = record {
 
 -- what a push left, where it was not refused
 pub bytes_pushed : {A B T E : Type 0} (r : Result T E) (new old : Vec (Vec ℕ A) B) (capture : Vec ℕ A) → new.items ≡ (if is_ok r then old.items ++ capture ∷ [] else old.items) → is_ok r ≡ true
-    → bytes_of new ≡ bytes_of old ++ capture.items ∷ []
+    → bytes_of_files new ≡ bytes_of_files old ++ capture.items ∷ []
 bytes_pushed r new old capture e ok = ap (map (λ v. v.items)) (rw ok at e) ∙ map_push (λ v. v.items) old.items capture

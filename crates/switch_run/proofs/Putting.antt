@@ -1,7 +1,8 @@
 -- The files that a run writes, one after the other.
-use Rattle.std.proofs.Common.{◌≡◌, ◌<◌, ◌+◌, ℕ, suc, List, [], ◌∷◌, ◌++◌, map, take, length, get_or, Option, Some, None, refl, sym, ◌∙◌, ap, subst, arith}
+use Rattle.std.proofs.Common.{◌≡◌, ◌<◌, ◌+◌, ℕ, suc, List, [], ◌∷◌, ◌++◌, map, take, length, get_or, Option, Some, None, inl, inr, refl, sym, ◌∙◌, ap, subst, arith}
 use Rattle.std.specs.Prelude.{Result, Ok, Err, is_err, is_ok, true, false, if◌then◌else◌, option_map, string_bytes}
 use Rattle.std.proofs.lemmas.List.{get_or-map, length-map, map_push}
+use Rattle.std.proofs.lemmas.Bool.Decides.{eqb_tells}
 use Rattle.std.proofs.lemmas.List.Sums.{fold_more}
 use Rattle.outside.specs.Contents.{Contents}
 use Rattle.outside.specs.Faults.{Place, NeverFall}
@@ -9,7 +10,8 @@ use Rattle.outside.specs.WholeFiles.{NamedBytes, Puts, StopsAt, put_file}
 use Rattle.outside.proofs.Counting.{NeverFall-refl}
 use Rattle.outside.proofs.Putting.{StopsAt-wider}
 use Rattle.outside.proofs.Effects.{option_map-option_map}
-use Rattle.switch_run.specs.OutputFiles.{files_from, nameless, output_files, output_name, put_files, shown}
+use Rattle.switch_run.specs.OutputFiles.{files_from, nameless, output_name, put_files, shown}
+use Rattle.switch_run.specs.Making.{StopsPutting, written_at}
 use Rattle.switch_run.specs.declared.output_files.OutputFile.{OutputFile}
 use Rattle.switch_run.proofs.Holding.{length-files_from}
 
@@ -49,13 +51,13 @@ files_push prefix j (first ∷ more) bytes =
     (files_push prefix (j + 1) more bytes ∙ ap (λ k. files_from prefix (j + 1) more ++ record { name = output_name prefix k; bytes = bytes } ∷ []) n)
 
 -- one file more is named
-pub named_more : (prefix : List ℕ) (files : List OutputFile) (f : OutputFile) (outputs : List (List ℕ)) → map shown files ≡ output_files prefix outputs → string_bytes f.name ≡ output_name prefix (length files)
-    → map shown (files ++ f ∷ []) ≡ output_files prefix (outputs ++ f.bytes.items ∷ [])
+pub named_more : (prefix : List ℕ) (files : List OutputFile) (f : OutputFile) (outputs : List (List ℕ)) → map shown files ≡ files_from prefix 0 outputs → string_bytes f.name ≡ output_name prefix (length files)
+    → map shown (files ++ f ∷ []) ≡ files_from prefix 0 (outputs ++ f.bytes.items ∷ [])
 named_more prefix files f outputs same name_is =
     let n : length files ≡ 0 + length outputs = omega (arith, length-map files shown, ap length same, length-files_from prefix 0 outputs) in
     let e : string_bytes f.name ≡ output_name prefix (0 + length outputs) = name_is ∙ ap (output_name prefix) n in
     map_push shown files f ∙ ap (λ xs. xs ++ shown f ∷ []) same
-    ∙ ap (λ name. output_files prefix outputs ++ record { name = name; bytes = f.bytes.items } ∷ []) e
+    ∙ ap (λ name. files_from prefix 0 outputs ++ record { name = name; bytes = f.bytes.items } ∷ []) e
     ∙ sym (files_push prefix 0 outputs f.bytes.items)
 
 -- what a push left, where it did not fail
@@ -68,3 +70,11 @@ pub puts_of : {T E : Type 0} (r : Result T E) (f : NamedBytes) (name bytes : Lis
 puts_of r f name bytes a d o new name_is bytes_is puts =
     subst (λ (n : List ℕ). Puts r (record { name = n; bytes = f.bytes }) a d o new) name_is
     (subst (λ (bs : List ℕ). Puts r (record { name = name; bytes = bs }) a d o new) bytes_is puts)
+
+-- a call on the file at a place, of which the report's is the last, was refused
+pub stops_at_place : (files : List NamedBytes) (text : List ℕ) (place n : ℕ) (old told : Option Contents) (was now : Place → ℕ) → n ≡ length files → place < length files
+    → StopsAt (get_or files place nameless) was now (option_map (put_files (take place files)) old) told → StopsPutting files text (written_at place n) old was now told
+stops_at_place files text place n old told was now count within stops = elim (eqb_tells (place + 1) n) [
+  | inl last ↦ rw last.0 (place, sym (last.1 ∙ count), record { within = within; stops = stops })
+  | inr other ↦ let differs = other.1 in rw other.0 (omega (arith, differs), record { within = within; stops = stops })
+]

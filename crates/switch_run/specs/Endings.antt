@@ -1,19 +1,22 @@
--- How a run ends, and what each ending means.
-use Rattle.std.specs.Prelude.{◌≡◌, ◌<◌, ℕ, List, take, length, Option, Some, None, Ok, Err, option_map, IfSome}
-use Rattle.outside.specs.Contents.{Contents}
-use Rattle.outside.specs.Faults.{Place, ReadOf, ToErr, Rose}
-use Rattle.switch_run.specs.ErrorLines.{line_of, usage_line}
-use Rattle.switch_run.specs.Inputs.{AreRead, EarlierFit}
-use Rattle.outside.specs.WholeFiles.{IsTooLong}
+-- How a command ends, and what each ending means.
+use Rattle.std.specs.Prelude.{◌≡◌, ◌<◌, ℕ, List, take, length, Option, Some, None, Ok, Err, option_map, IfSome, slice_index_or}
+use Rattle.outside.specs.Contents.{Contents, append_out}
+use Rattle.outside.specs.Faults.{Place, ReadOf, ToOut, ToErr, Rose}
+use Rattle.outside.specs.WholeFiles.{IsTooLong, StopsAt}
+use Rattle.switch_words.specs.Reading.{JobWords, run, RunWords, reading_of}
+use Rattle.switch_plan.specs.declared.fault.PlanFault.{PlanFault}
+use Rattle.switch_run.specs.Jobs.{settings_in, wants_slots, input_name, IsInput}
+use Rattle.switch_run.specs.Switched.{Texts, IsJobOutcome}
+use Rattle.switch_run.specs.Inputs.{EarlierFit, AreInputs}
+use Rattle.switch_run.specs.OutputFiles.{nameless, files_of, put_files, put_texts, HoldsTexts}
 use Rattle.switch_run.specs.LineParts.{GivesLine}
-use Rattle.switch_run.specs.Outcome.{IsNotMemory, IsOutcome}
-use Rattle.switch_run.specs.OutputFiles.{HoldsOutputs, output_file, output_files, put_files}
-use Rattle.outside.specs.WholeFiles.{NamedBytes, StopsAt}
-use Rattle.switch_run.specs.Words.{IsInput, RunNames, input_name, read_words}
+use Rattle.switch_run.specs.RefusalLines.{memory_line}
+use Rattle.switch_run.specs.ErrorLines.{line_of, usage_line}
+use Rattle.switch_run.specs.declared.inputs.InputFile.{InputFile}
+use Rattle.switch_run.specs.declared.ending.Written.{Written}
+use Rattle.switch_run.specs.declared.ending.Written.TheVariants.{Output, Report, StandardOutput}
 use Rattle.switch_run.specs.declared.ending.Ending.{Ending}
 use Rattle.switch_run.specs.declared.ending.Ending.TheVariants.{Done, Usage, ReadFault, TooLong, Refused, OutOfMemory, WriteFault}
-use Rattle.switch_run.specs.declared.job.Refusal.{Refusal}
-use Rattle.switch_run.specs.declared.words.InputFile.{InputFile}
 
 -- the exit status of each ending
 abbrev pub status_of : Ending → ℕ
@@ -21,105 +24,107 @@ status_of Done = 0
 status_of Usage = 2
 status_of (ReadFault input) = 3
 status_of (TooLong input) = 4
-status_of (Refused refusal) = 4
+status_of (Refused fault) = 4
 status_of OutOfMemory = 5
-status_of (WriteFault port) = 6
+status_of (WriteFault written) = 6
 
--- What a run found and left: what its words name, and the contents and the counts of faults before and after.
-pub record Run : Type 0 where
-  pub names : Option RunNames
+-- What a command found and left: the job that its words mean, and the contents and the counts of faults before and after.
+pub record Command : Type 0 where
+  pub job : Option JobWords
   pub old : Option Contents
   pub new : Option Contents
   pub was : Place → ℕ
   pub now : Place → ℕ
 
--- the run of these words
-abbrev pub run_of : List (List ℕ) → Option Contents → Option Contents → (Place → ℕ) → (Place → ℕ) → Run
-run_of words old new was now = record { names = read_words words; old = old; new = new; was = was; now = now }
+-- the command of these words
+abbrev pub command_of : List (List ℕ) → Option Contents → Option Contents → (Place → ℕ) → (Place → ℕ) → Command
+command_of words old new was now = record { job = reading_of words; old = old; new = new; was = was; now = now }
 
 -- A read of this file was refused. The files before it are there, and not too long.
-pub record IsReadFault (names : RunNames) (told : Option Contents) (was now : Place → ℕ) (input : InputFile) : Type 0 where
-  pub known : IsInput names input
-  pub earlier : IfSome told (EarlierFit names input)
-  pub rose : Rose (was (ReadOf (input_name names input))) (now (ReadOf (input_name names input)))
+pub record IsReadFault (job : JobWords) (told : Option Contents) (was now : Place → ℕ) (input : InputFile) : Type 0 where
+  pub words : RunWords
+  pub is_run : job ≡ run words
+  pub known : IsInput words input
+  pub earlier : IfSome told (EarlierFit words input)
+  pub rose : Rose (was (ReadOf (input_name words input))) (now (ReadOf (input_name words input)))
 
 -- This file is too long. The files before it are there, and not too long.
-pub record IsFirstTooLong (names : RunNames) (told : Option Contents) (input : InputFile) : Type 0 where
-  pub known : IsInput names input
-  pub earlier : IfSome told (EarlierFit names input)
-  pub longer : IfSome told (λ c. IsTooLong c (input_name names input))
+pub record IsFirstTooLong (job : JobWords) (told : Option Contents) (input : InputFile) : Type 0 where
+  pub words : RunWords
+  pub is_run : job ≡ run words
+  pub known : IsInput words input
+  pub earlier : IfSome told (EarlierFit words input)
+  pub longer : IfSome told (λ c. IsTooLong c (input_name words input))
 
--- The job refuses the bytes of the table and the captures.
-pub record IsRefused (names : RunNames) (told : Option Contents) (refusal : Refusal) : Type 0 where
+-- The bytes of the table and the captures are refused.
+pub record IsRefused (job : JobWords) (told : Option Contents) (fault : PlanFault) : Type 0 where
   pub table : List ℕ
   pub captures : List (List ℕ)
-  pub read : AreRead names told table captures
-  pub outcome : IsOutcome table captures (Err refusal)
-  pub other : IsNotMemory refusal
+  pub inputs : AreInputs job told table captures
+  pub outcome : IsJobOutcome (settings_in job) (wants_slots job) table captures (Err fault)
 
--- The job makes these outputs, one for each input, of the bytes of the table and the captures.
-pub record IsMade (names : RunNames) (told : Option Contents) (outputs : List (List ℕ)) : Type 0 where
+-- The job makes these texts of the bytes of the table and the captures.
+pub record IsMade (job : JobWords) (told : Option Contents) (texts : Texts) : Type 0 where
   pub table : List ℕ
   pub captures : List (List ℕ)
-  pub read : AreRead names told table captures
-  pub outcome : IsOutcome table captures (Ok outputs)
-  pub count : length outputs ≡ length names.inputs
+  pub inputs : AreInputs job told table captures
+  pub outcome : IsJobOutcome (settings_in job) (wants_slots job) table captures (Ok texts)
+  pub count : length texts.outputs ≡ length captures
 
--- All outputs were made and written, in order, and nothing else changed.
-pub record IsDone (names : RunNames) (old new : Option Contents) : Type 0 where
-  pub outputs : List (List ℕ)
-  pub made : IsMade names old outputs
-  pub written : new ≡ option_map (put_files (output_files names.prefix outputs)) old
-  pub holds : IfSome old (λ c. IfSome new (HoldsOutputs names.prefix outputs c))
+-- All texts were made and written, in order, and nothing else changed.
+pub record IsDone (job : JobWords) (old new : Option Contents) : Type 0 where
+  pub texts : Texts
+  pub made : IsMade job old texts
+  pub written : new ≡ option_map (put_texts job texts) old
+  pub holds : IfSome old (λ c. IfSome new (HoldsTexts job texts c))
 
--- A call on the file of output `port` was refused: the files before it are whole, and the later ones as before.
-pub record IsWriteFault (names : RunNames) (old : Option Contents) (was now : Place → ℕ) (told : Option Contents) (port : ℕ) : Type 0 where
-  pub outputs : List (List ℕ)
-  pub made : IsMade names old outputs
-  pub within : port < length outputs
-  pub stops : StopsAt (output_file names.prefix outputs port) was now (option_map (put_files (take port (output_files names.prefix outputs))) old) told
+-- A call on a file was refused: the files before it are whole, and the later ones as before.
+pub record StopsAtFile (job : JobWords) (texts : Texts) (place : ℕ) (old : Option Contents) (was now : Place → ℕ) (told : Option Contents) : Type 0 where
+  pub within : place < length (files_of job texts)
+  pub stops : StopsAt (slice_index_or (files_of job texts) place nameless) was now (option_map (put_files (take place (files_of job texts))) old) told
 
--- why a run stops before its end, and what it has made of the contents by then
-abbrev pub Stops : RunNames → Option Contents → (Place → ℕ) → (Place → ℕ) → Option Contents → Ending → Type 0
-Stops names old was now told Done = ⊥
-Stops names old was now told Usage = ⊥
-Stops names old was now told (ReadFault input) = IsReadFault names old was now input × (told ≡ old)
-Stops names old was now told (TooLong input) = IsFirstTooLong names old input × (told ≡ old)
-Stops names old was now told (Refused refusal) = IsRefused names old refusal × (told ≡ old)
-Stops names old was now told OutOfMemory = told ≡ old
-Stops names old was now told (WriteFault port) = IsWriteFault names old was now told port
+-- A call on standard output was refused: all files are whole, and a first part of the summary was given to it.
+pub record StopsAtOut (job : JobWords) (texts : Texts) (old : Option Contents) (was now : Place → ℕ) (told : Option Contents) : Type 0 where
+  pub rose : Rose (was ToOut) (now ToOut)
+  pub given : ℕ
+  pub told_is : told ≡ option_map (λ c. append_out (take given texts.summary) (put_files (files_of job texts) c)) old
 
--- why a run stops at its job
-abbrev pub StopsJob : List ℕ → List (List ℕ) → Ending → Type 0
-StopsJob table captures Done = ⊥
-StopsJob table captures Usage = ⊥
-StopsJob table captures (ReadFault input) = ⊥
-StopsJob table captures (TooLong input) = ⊥
-StopsJob table captures (Refused refusal) = IsOutcome table captures (Err refusal) × IsNotMemory refusal
-StopsJob table captures OutOfMemory = Unit {0}
-StopsJob table captures (WriteFault port) = ⊥
+-- a call on what was being written was refused
+abbrev pub StopsWriting : JobWords → Texts → Written → Option Contents → (Place → ℕ) → (Place → ℕ) → Option Contents → Type 0
+StopsWriting job texts (Output port) old was now told = (port < length texts.outputs) × StopsAtFile job texts port old was now told
+StopsWriting job texts Report old was now told = StopsAtFile job texts (length texts.outputs) old was now told
+StopsWriting job texts StandardOutput old was now told = StopsAtOut job texts old was now told
 
--- The files of the outputs that the job makes of these bytes, one output for each input.
-pub record AreMade (table : List ℕ) (captures : List (List ℕ)) (prefix : List ℕ) (files : List NamedBytes) : Type 0 where
-  pub outputs : List (List ℕ)
-  pub outcome : IsOutcome table captures (Ok outputs)
-  pub count : length outputs ≡ length captures
-  pub files_are : files ≡ output_files prefix outputs
+-- The texts were made, and a call that wrote them was refused.
+pub record IsWriteFault (job : JobWords) (old : Option Contents) (was now : Place → ℕ) (told : Option Contents) (written : Written) : Type 0 where
+  pub texts : Texts
+  pub made : IsMade job old texts
+  pub stops : StopsWriting job texts written old was now told
 
--- A run stopped, and then its line was given to standard error.
-pub record IsStopped (r : Run) (ending : Ending) : Type 0 where
-  pub names : RunNames
+-- why a command stops before its end, and what it has made of the contents by then
+abbrev pub Stops : JobWords → Option Contents → (Place → ℕ) → (Place → ℕ) → Option Contents → Ending → Type 0
+Stops job old was now told Done = ⊥
+Stops job old was now told Usage = ⊥
+Stops job old was now told (ReadFault input) = IsReadFault job old was now input × (told ≡ old)
+Stops job old was now told (TooLong input) = IsFirstTooLong job old input × (told ≡ old)
+Stops job old was now told (Refused fault) = IsRefused job old fault × (told ≡ old)
+Stops job old was now told OutOfMemory = told ≡ old
+Stops job old was now told (WriteFault written) = IsWriteFault job old was now told written
+
+-- A job stopped, and then its line was given to standard error.
+pub record IsStopped (c : Command) (ending : Ending) : Type 0 where
+  pub job : JobWords
   pub told : Option Contents
-  pub words : r.names ≡ Some names
-  pub stops : Stops names r.old r.was r.now told ending
-  pub line : GivesLine (line_of names ending) told r.new (r.was ToErr) (r.now ToErr)
+  pub words : c.job ≡ Some job
+  pub stops : Stops job c.old c.was c.now told ending
+  pub line : GivesLine (line_of job ending) told c.new (c.was ToErr) (c.now ToErr)
 
 -- what each ending means
-abbrev pub Means : Run → Ending → Type 0
-Means r Done = (names : RunNames) × (r.names ≡ Some names) × IsDone names r.old r.new
-Means r Usage = (r.names ≡ None) × GivesLine usage_line r.old r.new (r.was ToErr) (r.now ToErr)
-Means r (ReadFault input) = IsStopped r (ReadFault input)
-Means r (TooLong input) = IsStopped r (TooLong input)
-Means r (Refused refusal) = IsStopped r (Refused refusal)
-Means r OutOfMemory = IsStopped r OutOfMemory
-Means r (WriteFault port) = IsStopped r (WriteFault port)
+abbrev pub Means : Command → Ending → Type 0
+Means c Done = (job : JobWords) × (c.job ≡ Some job) × IsDone job c.old c.new
+Means c Usage = (c.job ≡ None) × GivesLine usage_line c.old c.new (c.was ToErr) (c.now ToErr)
+Means c (ReadFault input) = IsStopped c (ReadFault input)
+Means c (TooLong input) = IsStopped c (TooLong input)
+Means c (Refused fault) = IsStopped c (Refused fault)
+Means c OutOfMemory = GivesLine memory_line c.old c.new (c.was ToErr) (c.now ToErr)
+Means c (WriteFault written) = IsStopped c (WriteFault written)

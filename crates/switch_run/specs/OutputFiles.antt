@@ -1,15 +1,17 @@
--- The files that a run writes.
-use Rattle.std.specs.Prelude.{◌≡◌, ◌≢◌, ◌+◌, ◌<◌, ℕ, List, [], ◌∷◌, ◌++◌, length, slice_index_or, Some, codes, decimal, string_bytes}
+-- What a job writes: the file of each output and the report, and then the summary to standard output.
+use Rattle.std.specs.Prelude.{◌≡◌, ◌≢◌, ◌+◌, ◌<◌, ℕ, List, [], ◌∷◌, ◌++◌, length, slice_index_or, Some, All, codes, decimal, string_bytes}
 use Rattle.std.specs.List.{fold}
-use Rattle.outside.specs.Contents.{Contents}
+use Rattle.outside.specs.Contents.{Contents, append_out}
 use Rattle.outside.specs.WholeFiles.{NamedBytes, put_file}
+use Rattle.switch_words.specs.Reading.{JobWords, run, gen, RunWords}
+use Rattle.switch_run.specs.Switched.{Texts}
 use Rattle.switch_run.specs.declared.output_files.OutputFile.{OutputFile}
 
 -- no name and no bytes
 abbrev pub nameless : NamedBytes
 nameless = record { name = []; bytes = [] }
 
--- the name and the bytes of a file that a run writes
+-- the name and the bytes of a file that a job writes
 abbrev pub shown : OutputFile → NamedBytes
 shown f = record { name = string_bytes f.name; bytes = f.bytes.items }
 
@@ -17,26 +19,37 @@ shown f = record { name = string_bytes f.name; bytes = f.bytes.items }
 abbrev pub output_name : List ℕ → ℕ → List ℕ
 output_name prefix j = prefix ++ (codes "." ++ (decimal j ++ codes ".pcap"))
 
--- the file of output j, and what it is to hold
-abbrev pub output_file : List ℕ → List (List ℕ) → ℕ → NamedBytes
-output_file prefix outputs j = record { name = output_name prefix j; bytes = slice_index_or outputs j [] }
+-- and of the report: `PREFIX.report`
+abbrev pub report_name : List ℕ → List ℕ
+report_name prefix = prefix ++ codes ".report"
 
 -- the files of the outputs from output j on, in order
 abbrev pub files_from : List ℕ → ℕ → List (List ℕ) → List NamedBytes
 files_from prefix j [] = []
 files_from prefix j (bytes ∷ more) = record { name = output_name prefix j; bytes = bytes } ∷ files_from prefix (j + 1) more
 
--- the files of all outputs, in order
-abbrev pub output_files : List ℕ → List (List ℕ) → List NamedBytes
-output_files prefix outputs = files_from prefix 0 outputs
+-- the files of a run, in order: the outputs, and then the report
+abbrev pub run_files : List ℕ → Texts → List NamedBytes
+run_files prefix texts = files_from prefix 0 texts.outputs ++ record { name = report_name prefix; bytes = texts.report } ∷ []
+
+-- the files that a job writes, in order: none for `gen`
+abbrev pub files_of : JobWords → Texts → List NamedBytes
+files_of (run r) texts = run_files r.prefix texts
+files_of (gen g) texts = []
 
 -- the files are put, one after the other
 abbrev pub put_files : List NamedBytes → Contents → Contents
 put_files files c = fold put_file c files
 
--- Each output stands whole in the file of its number, every other file holds what it held, and standard output and standard error were given nothing.
-pub record HoldsOutputs (prefix : List ℕ) (outputs : List (List ℕ)) (before after : Contents) : Type 0 where
-  pub each : (j : ℕ) → j < length outputs → after.file (output_name prefix j) ≡ Some (slice_index_or outputs j [])
-  pub others : (name : List ℕ) → ((j : ℕ) → j < length outputs → name ≢ output_name prefix j) → after.file name ≡ before.file name
-  pub out : after.out ≡ before.out
+-- all files are put, and then the summary is given to standard output
+abbrev pub put_texts : JobWords → Texts → Contents → Contents
+put_texts job texts c = append_out texts.summary (put_files (files_of job texts) c)
+
+-- Each output of a run stands whole in the file of its number, and the report in its file; every other file holds what
+-- it held. Standard output was given the summary, and standard error nothing.
+pub record HoldsTexts (job : JobWords) (texts : Texts) (before after : Contents) : Type 0 where
+  pub outputs : (r : RunWords) (j : ℕ) → job ≡ run r → j < length texts.outputs → after.file (output_name r.prefix j) ≡ Some (slice_index_or texts.outputs j [])
+  pub report : (r : RunWords) → job ≡ run r → after.file (report_name r.prefix) ≡ Some texts.report
+  pub others : (name : List ℕ) → All (λ file. file.name ≢ name) (files_of job texts) → after.file name ≡ before.file name
+  pub out : after.out ≡ before.out ++ texts.summary
   pub err : after.err ≡ before.err

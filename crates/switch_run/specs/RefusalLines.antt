@@ -1,14 +1,12 @@
--- The lines on standard error for what a job refuses.
-use Rattle.std.specs.Prelude.{ℕ, List, [], ◌∷◌, ◌++◌, codes, decimal, slice_index_or}
+-- The lines on standard error for why a job is refused.
+use Rattle.std.specs.Prelude.{ℕ, List, [], ◌∷◌, ◌++◌, codes, decimal}
 use Rattle.std.specs.List.{concat}
-use Rattle.switch_run.specs.Words.{RunNames}
-use Rattle.switch_run.specs.declared.job.Refusal.{Refusal}
-use Rattle.switch_run.specs.declared.job.Refusal.TheVariants.{Table, Capture, Links, NotBuiltTable, NotBuiltCapture, OutOfMemory}
-use Rattle.pcap_records.specs.Format.{link_type}
 use Rattle.pcap_records.specs.declared.fault.PcapFault.{PcapFault}
 use Rattle.pcap_records.specs.Texts as Captures
 use Rattle.forward_table.specs.declared.faults.TableFault.{TableFault}
 use Rattle.forward_table.specs.Texts as Tables
+use Rattle.switch_plan.specs.declared.fault.PlanFault.{PlanFault}
+use Rattle.switch_plan.specs.declared.fault.PlanFault.TheVariants.{Table, Capture, MixedLink, TooManySlots, TooManyCells, OutOfMemory}
 
 -- the line where memory runs out
 abbrev pub memory_line : List ℕ
@@ -22,15 +20,11 @@ table_line fault = concat (Tables.parts_of fault ++ codes "\n" ∷ [])
 abbrev pub capture_line : ℕ → PcapFault → List ℕ
 capture_line port fault = concat (codes "capture " ∷ decimal port ∷ codes ": " ∷ (Captures.parts_of fault ++ codes "\n" ∷ []))
 
--- the line for a file that is named
-abbrev pub named_line : List ℕ → List ℕ → List ℕ
-named_line what name = concat (what ∷ name ∷ codes "\n" ∷ [])
-
--- the line for what a job refuses
-abbrev pub refusal_line : RunNames → Refusal → List ℕ
-refusal_line names (Table fault) = table_line fault
-refusal_line names (Capture port fault) = capture_line port fault
-refusal_line names (Links first other) = concat (codes "link types " ∷ decimal (link_type first) ∷ codes " and " ∷ decimal (link_type other) ∷ codes "\n" ∷ [])
-refusal_line names NotBuiltTable = named_line (codes "not built: ") names.table
-refusal_line names (NotBuiltCapture port) = named_line (codes "not built: ") (slice_index_or names.inputs port [])
-refusal_line names OutOfMemory = memory_line
+-- the line for each reason to refuse a job
+abbrev pub refusal_line : PlanFault → List ℕ
+refusal_line (Table fault) = table_line fault
+refusal_line (Capture port fault) = capture_line port fault
+refusal_line (MixedLink first other) = concat (codes "link types " ∷ decimal first ∷ codes " and " ∷ decimal other ∷ codes "\n" ∷ [])
+refusal_line (TooManySlots port slots) = concat (codes "too many slots: port " ∷ decimal port ∷ codes " has " ∷ decimal slots ∷ codes "\n" ∷ [])
+refusal_line (TooManyCells cells) = concat (codes "too many cells: " ∷ decimal cells ∷ codes "\n" ∷ [])
+refusal_line OutOfMemory = memory_line

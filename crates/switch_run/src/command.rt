@@ -1,121 +1,147 @@
-ghost use Rattle.std.specs.Prelude.{◌≡◌, ◌≤◌, ◌<◌, Some, length, map, string_bytes, vec_len, All, IfErr, IfOk, OnOk};
+ghost use Rattle.std.specs.Prelude.{◌≡◌, ℕ, Some, map, string_bytes, IfErr, OnOk};
 ghost use Rattle.outside.specs.Faults.{NeverFall};
-ghost use Rattle.switch_run.specs.Causes.{Answers, IsComplete, RefusalIsExact, TooLongIsExact, UsageIsExact};
-ghost use Rattle.switch_run.specs.Endings.{AreMade, IsDone, Means, Stops, StopsJob, run_of};
-ghost use Rattle.switch_run.specs.Outcome.{bytes_of};
-ghost use Rattle.switch_run.specs.OutputFiles.{shown};
-ghost use Rattle.switch_run.specs.Words.{names_of};
+ghost use Rattle.switch_words.specs.Limits.{IsWithinLimits};
+ghost use Rattle.switch_words.specs.Reading.{job_words};
+ghost use Rattle.switch_run.specs.Causes.{Answers, IsComplete, IsRunBy, RefusalIsExact, TooLongIsExact, UsageIsExact};
+ghost use Rattle.switch_plan.specs.GoodPlans.{SwitchPlan};
+ghost use Rattle.whole_run.specs.Promises.{BusySlotsMatch, DeliversAdmitted, DeliversNoOthers, HasFewSlots, ServesWaiting, WaitsAreShort};
+ghost use Rattle.switch_run.specs.Endings.{IsDone, Means, Stops, command_of};
 ghost use Rattle.switch_run.specs.declared.ending.Ending.{Ending};
 
 use crate::ending::Ending;
-use crate::error_lines::{print_line, print_usage};
-use crate::inputs::{Inputs, read_inputs};
-use crate::job::{Refusal, run_job};
-use crate::output_files::{OutputFile, named, put_all};
-use crate::words::RunWords;
+use crate::error_lines::{print_line, print_memory, print_usage};
+use crate::inputs::inputs_of;
+use crate::making::make_texts;
+use crate::output_files::put_texts;
+use card_worker::Gate;
 use outside::Files;
-use rotating_pick::{MAX_FILE_BYTES, MAX_PORTS};
 use std::alloc::Global;
+use std::thread::Threads;
+use switch_words::{Job, WordsFault, read_words};
+use whole_run::{deliveries, ends, waits};
 
-// The files of the outputs that the job makes of the inputs. The files and their names take all the
-// memory that is needed.
-fn make_outputs(alloc: Global, words: &RunWords, inputs: Inputs) -> Result<Vec<OutputFile>, Ending>
-    requires some { 0 < vec_len inputs.captures }
-    requires most { vec_len inputs.captures ≤ MAX_PORTS }
-    requires table { length inputs.table.items ≤ MAX_FILE_BYTES }
-    requires captures { All (λ bytes. length bytes ≤ MAX_FILE_BYTES) (bytes_of inputs.captures) }
-    ensures made { IfOk result (λ v. AreMade inputs.table.items (bytes_of inputs.captures) words.now.prefix.now (map shown v.items)) }
-    ensures stops { IfErr result (StopsJob inputs.table.items (bytes_of inputs.captures)) }
-{
-    let Inputs { table, captures } = inputs;
-    let outputs = match run_job(alloc, table.as_slice(), captures) {
-        Ok(outputs) => outputs,
-        Err(Refusal::OutOfMemory) => return Err(Ending::OutOfMemory),
-        Err(refusal) => return Err(Ending::Refused(refusal)),
-    };
-    match named(alloc, words.prefix, outputs) {
-        Ok(files) => Ok(files),
-        Err(_) => Err(Ending::OutOfMemory),
-    }
-}
-
-// Reads, runs the job and writes the outputs, up to the first that fails.
-fn attempt<F: Files>(alloc: Global, words: &RunWords, files: &mut F) -> Result<(), Ending>
-    requires some { 0 < length words.now.inputs.now }
-    requires most { length words.now.inputs.now ≤ MAX_PORTS }
-    ensures done { OnOk result (IsDone (names_of words.now) (F.told files.old) (F.told files.new)) }
-    ensures stops { IfErr result (Stops (names_of words.now) (F.told files.old) (F.faults files.old) (F.faults files.new) (F.told files.new)) }
+// Reads the job's inputs, runs it and writes its texts, up to the first call that is refused.
+fn attempt<R: Threads + Sync, F: Files, G: Gate + Sync>(
+    rt: &R,
+    alloc: Global,
+    job: &Job,
+    files: &mut F,
+    gate: &G,
+) -> Result<(), Ending>
+    requires { IsWithinLimits job.now }
+    ensures done { OnOk result (IsDone (job_words job.now) (F.told files.old) (F.told files.new)) }
+    ensures stops { IfErr result (Stops (job_words job.now) (F.told files.old) (F.faults files.old) (F.faults files.new) (F.told files.new)) }
     ensures never_fall { NeverFall (F.faults files.old) (F.faults files.new) }
 {
-    let inputs = match read_inputs(alloc, words, files) {
+    let inputs = match inputs_of(alloc, job, files) {
         Ok(inputs) => inputs,
         Err(ending) => return Err(ending),
     };
-    let output_files = match make_outputs(alloc, words, inputs) {
-        Ok(output_files) => output_files,
+    let texts = match make_texts(rt, alloc, job, inputs, gate) {
+        Ok(texts) => texts,
         Err(ending) => return Err(ending),
     };
-    match put_all(files, output_files.as_slice()) {
+    match put_texts(files, &texts) {
         Ok(()) => Ok(()),
-        Err(port) => Err(Ending::WriteFault(port)),
+        Err(written) => Err(Ending::WriteFault(written)),
     }
 }
 
-// The run that the words name, and the line of its ending.
-fn run<F: Files>(alloc: Global, words: &RunWords, files: &mut F) -> Ending
-    requires some { 0 < length words.now.inputs.now }
-    requires most { length words.now.inputs.now ≤ MAX_PORTS }
-    ensures meaning { Means (record { names = Some (names_of words.now); old = F.told files.old; new = F.told files.new; was = F.faults files.old; now = F.faults files.new }) result }
+// Runs the job, and prints the line of its ending.
+fn run<R: Threads + Sync, F: Files, G: Gate + Sync>(
+    rt: &R,
+    alloc: Global,
+    job: &Job,
+    files: &mut F,
+    gate: &G,
+) -> Ending
+    requires { IsWithinLimits job.now }
+    ensures meaning { Means (record { job = Some (job_words job.now); old = F.told files.old; new = F.told files.new; was = F.faults files.old; now = F.faults files.new }) result }
     ensures never_fall { NeverFall (F.faults files.old) (F.faults files.new) }
 {
-    match attempt(alloc, words, files) {
+    match attempt(rt, alloc, job, files, gate) {
         Ok(()) => Ending::Done,
         Err(ending) => {
-            print_line(files, words, ending);
+            print_line(files, job, ending);
             ending
         }
     }
 }
 
 // How the command of these words ends.
-fn end_of<F: Files>(alloc: Global, words: &[String], files: &mut F) -> Ending
-    ensures meaning { Means (run_of (map string_bytes words.now) (F.told files.old) (F.told files.new) (F.faults files.old) (F.faults files.new)) result }
+fn end_of<R: Threads + Sync, F: Files, G: Gate + Sync>(
+    rt: &R,
+    alloc: Global,
+    words: &[String],
+    files: &mut F,
+    gate: &G,
+) -> Ending
+    ensures meaning { Means (command_of (map string_bytes words.now) (F.told files.old) (F.told files.new) (F.faults files.old) (F.faults files.new)) result }
     ensures never_fall { NeverFall (F.faults files.old) (F.faults files.new) }
 {
-    match RunWords::read(words) {
-        Some(words) => run(alloc, &words, files),
-        None => {
+    match read_words(alloc, words) {
+        Ok(job) => run(rt, alloc, &job, files, gate),
+        Err(WordsFault::Usage) => {
             print_usage(files);
             Ending::Usage
+        }
+        Err(WordsFault::OutOfMemory) => {
+            print_memory(files);
+            Ending::OutOfMemory
         }
     }
 }
 
-/// Runs the command that the words give over the files, and answers its exit status.
+/// Runs the command that the words give over the files, and answers its exit status. The line cards are shared
+/// among threads of `rt`; before each try of a post or a take the gate is asked.
 ///
-/// The words are `run`, a table, a prefix and 1 to 64 inputs, of which each is the capture of one port,
-/// in order; none of these begins with `-`. The table and then each input is read whole, the job is run
-/// on their bytes, and the capture of output `j` is written to `PREFIX.j.pcap`, for each `j` in order.
-/// Nothing is given to standard output.
+/// The words are those of a `run` or a `gen` job, as [`switch_words`] says. A `run` job reads its table and then
+/// each capture whole. Of these, or of the input that a `gen` job makes, the switch is planned and run to its end.
+/// A `run` job then writes the capture of output `j` to `PREFIX.j.pcap`, for each `j` in order, and the report to
+/// `PREFIX.report`. Last, the summary is given to standard output.
 ///
-/// - 0: all outputs are written, and nothing else changed.
-/// - 2: the words are not of that form.
-/// - 3: a read of the table or of an input was refused.
-/// - 4: the table or an input has more than 16,777,216 bytes, or the job refuses what they hold.
-/// - 5: memory ran out. No file was begun.
-/// - 6: a call on an output was refused. The outputs before it are whole, the later ones as before.
+/// - 0: all is written, and nothing else changed.
+/// - 2: the words are not those of a job.
+/// - 3: a read of the table or of a capture was refused.
+/// - 4: the table or a capture has more than 16,777,216 bytes, or what they hold is refused.
+/// - 5: memory ran out. No file was begun, and nothing was given to standard output.
+/// - 6: a call on a file that is written or on standard output was refused. What was to be written before is whole,
+///   and what was to be written after is as before.
+///
+/// At 0 all that is written is that of the run which the words and the bytes that were read have, slot by slot, in
+/// whatever order the threads made it. Of that run: at each output each flow has just its admitted packets, in order
+/// of arrival; a unicast queue that is posted is served within the bound of `longest_service()` of `service_bound`,
+/// where nothing better is posted and no multicast of its level; and it has no more slots than the greatest number of
+/// arrival slots, the cells of the admitted packets counted for each output, and one.
 ///
 /// At 2 to 5 every file is as before. Each status but 0 gives one line to standard error; where a call
 /// of that is refused, the rest of the line is left out, and the status stays.
-pub fn switch_main<F: Files>(alloc: Global, words: &[String], files: &mut F) -> u8
-    ensures meaning { (ending : Ending) × Answers (run_of (map string_bytes words.now) (F.told files.old) (F.told files.new) (F.faults files.old) (F.faults files.new)) result ending }
+pub fn switch_main<R: Threads + Sync, F: Files, G: Gate + Sync>(
+    rt: &R,
+    alloc: Global,
+    words: &[String],
+    files: &mut F,
+    gate: &G,
+) -> u8
+    ensures meaning { (ending : Ending) × Answers (command_of (map string_bytes words.now) (F.told files.old) (F.told files.new) (F.faults files.old) (F.faults files.new)) result ending }
     ensures never_fall { NeverFall (F.faults files.old) (F.faults files.new) }
-    ensures usage { UsageIsExact (run_of (map string_bytes words.now) (F.told files.old) (F.told files.new) (F.faults files.old) (F.faults files.new)) result }
-    ensures too_long { TooLongIsExact (run_of (map string_bytes words.now) (F.told files.old) (F.told files.new) (F.faults files.old) (F.faults files.new)) result }
-    ensures refusal { RefusalIsExact (run_of (map string_bytes words.now) (F.told files.old) (F.told files.new) (F.faults files.old) (F.faults files.new)) result }
-    ensures complete { IsComplete (run_of (map string_bytes words.now) (F.told files.old) (F.told files.new) (F.faults files.old) (F.faults files.new)) result }
+    ensures usage { UsageIsExact (command_of (map string_bytes words.now) (F.told files.old) (F.told files.new) (F.faults files.old) (F.faults files.new)) result }
+    ensures too_long { TooLongIsExact (command_of (map string_bytes words.now) (F.told files.old) (F.told files.new) (F.faults files.old) (F.faults files.new)) result }
+    ensures refusal { RefusalIsExact (command_of (map string_bytes words.now) (F.told files.old) (F.told files.new) (F.faults files.old) (F.faults files.new)) result }
+    ensures complete { IsComplete (command_of (map string_bytes words.now) (F.told files.old) (F.told files.new) (F.faults files.old) (F.faults files.new)) result }
+    ensures delivers { (plan : SwitchPlan) (slots : ℕ) → IsRunBy (command_of (map string_bytes words.now) (F.told files.old) (F.told files.new) (F.faults files.old) (F.faults files.new)) plan slots → DeliversAdmitted plan slots }
+    ensures no_others { (plan : SwitchPlan) (slots : ℕ) → IsRunBy (command_of (map string_bytes words.now) (F.told files.old) (F.told files.new) (F.faults files.old) (F.faults files.new)) plan slots → DeliversNoOthers plan slots }
+    ensures serves { (plan : SwitchPlan) (slots : ℕ) → IsRunBy (command_of (map string_bytes words.now) (F.told files.old) (F.told files.new) (F.faults files.old) (F.faults files.new)) plan slots → ServesWaiting plan slots }
+    ensures waits { (plan : SwitchPlan) (slots : ℕ) → IsRunBy (command_of (map string_bytes words.now) (F.told files.old) (F.told files.new) (F.faults files.old) (F.faults files.new)) plan slots → WaitsAreShort plan slots }
+    ensures few_slots { (plan : SwitchPlan) (slots : ℕ) → IsRunBy (command_of (map string_bytes words.now) (F.told files.old) (F.told files.new) (F.faults files.old) (F.faults files.new)) plan slots → HasFewSlots plan slots }
+    ensures busy_slots { (plan : SwitchPlan) (slots : ℕ) → IsRunBy (command_of (map string_bytes words.now) (F.told files.old) (F.told files.new) (F.faults files.old) (F.faults files.new)) plan slots → BusySlotsMatch plan }
 {
-    end_of(alloc, words, files).status()
+    deliveries::admitted_packets_are_delivered();
+    waits::waiting_queues_are_served();
+    waits::best_level_waits_are_short();
+    ends::runs_end();
+    ends::busy_slots_match();
+    end_of(rt, alloc, words, files, gate).status()
 }
 
 #[cfg(test)]

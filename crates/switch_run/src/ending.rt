@@ -1,25 +1,35 @@
 ghost use Rattle.std.specs.Prelude.{◌≡◌};
 ghost use Rattle.switch_run.specs.Endings.{status_of};
 
-use crate::job::Refusal;
-use crate::words::InputFile;
+use crate::inputs::InputFile;
+use switch_plan::PlanFault;
 
-/// How a run ends.
+/// What a job writes.
+#[derive(Clone, Copy, Debug, PartialEq, Eq)]
+pub(crate) enum Written {
+    /// The file of this output.
+    Output(u32),
+    /// The report's file.
+    Report,
+    StandardOutput,
+}
+
+/// How a command ends.
 #[derive(Clone, Copy, Debug, PartialEq, Eq)]
 pub(crate) enum Ending {
-    /// All outputs are written.
+    /// All is written.
     Done,
-    /// The words are not those of a run.
+    /// The words are not those of a job.
     Usage,
     /// A read of the file was refused.
     ReadFault(InputFile),
     /// The file has more bytes than a file may have.
     TooLong(InputFile),
-    /// The job refuses what the files hold.
-    Refused(Refusal),
+    /// What the files hold is refused.
+    Refused(PlanFault),
     OutOfMemory,
-    /// A call on the file of this output was refused.
-    WriteFault(u32),
+    /// A call on what was being written was refused.
+    WriteFault(Written),
 }
 
 impl Ending {

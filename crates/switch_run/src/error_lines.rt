@@ -1,19 +1,20 @@
-ghost use Rattle.std.specs.Prelude.{◌≡◌, ◌<◌, map, IfOk, OnOk, OnErr};
+ghost use Rattle.std.specs.Prelude.{◌≡◌, codes, map, OnErr};
 ghost use Rattle.std.specs.List.{concat};
 ghost use Rattle.outside.specs.Faults.{ToErr, NeverFall, Rose};
 ghost use Rattle.pcap_records.specs.Texts.{hex_text};
-ghost use Rattle.switch_run.specs.ErrorLines.{line_of, usage_line};
+ghost use Rattle.switch_words.specs.Reading.{job_words};
+ghost use Rattle.switch_run.specs.ErrorLines.{line_of, name_read, name_written, named_line, usage_line};
 ghost use Rattle.switch_run.specs.LineParts.{Gives, GivesLine, part_text};
-ghost use Rattle.switch_run.specs.RefusalLines.{capture_line, refusal_line, table_line};
-ghost use Rattle.switch_run.specs.Words.{names_of};
+ghost use Rattle.switch_run.specs.RefusalLines.{capture_line, memory_line, refusal_line, table_line};
 
-use crate::ending::Ending;
-use crate::job::Refusal;
-use crate::words::{InputFile, RunWords};
+use crate::ending::{Ending, Written};
+use crate::inputs::{InputFile, input_name};
 use forward_table::TableFault;
 use itoa::Buffer;
 use outside::{Failed, Files};
 use pcap_records::PcapFault;
+use switch_plan::PlanFault;
+use switch_words::Job;
 
 const USAGE: &str =
     "usage: tiny_tera run [options] TABLE PREFIX INPUT.. or tiny_tera gen [options] SEED COUNT PORTS\n";
@@ -25,7 +26,7 @@ const MEMORY: &str = "out of memory\n";
 enum Part<'a> {
     Text(&'a str),
     /// In decimal digits.
-    Number(u32),
+    Number(u64),
     /// In 8 lower-case hexadecimal digits.
     Magic(u32),
 }
@@ -83,184 +84,150 @@ fn give_parts<F: Files>(files: &mut F, parts: &[Part])
     }
 }
 
-fn print_table_line<F: Files>(files: &mut F, fault: TableFault)
-    ensures line { GivesLine (table_line fault) (F.told files.old) (F.told files.new) (F.faults files.old ToErr) (F.faults files.new ToErr) }
-    ensures never_fall { NeverFall (F.faults files.old) (F.faults files.new) }
+// The line for a text that is no table, in parts.
+fn table_parts(fault: TableFault) -> [Part<'static>; 5]
+    ensures { concat (map part_text result) ≡ table_line fault }
 {
+    let (at, none, end) = (Text("table line "), Text(""), Text("\n"));
     match fault {
-        TableFault::BadLine { line } => {
-            give_parts(
-                files,
-                &[
-                    Text("table line "),
-                    Number(line),
-                    Text(": bad line"),
-                    Text("\n"),
-                ],
-            );
+        TableFault::BadLine { line } => [
+            at,
+            Number(u64::from(line)),
+            Text(": bad line"),
+            none,
+            end,
+        ],
+        TableFault::HostBits { line } => [
+            at,
+            Number(u64::from(line)),
+            Text(": host bits"),
+            none,
+            end,
+        ],
+        TableFault::BadPort { line, port } => {
+            let (line, port) = (Number(u64::from(line)), Number(u64::from(port)));
+            [at, line, Text(": port "), port, end]
         }
-        TableFault::HostBits { line } => {
-            give_parts(
-                files,
-                &[
-                    Text("table line "),
-                    Number(line),
-                    Text(": host bits"),
-                    Text("\n"),
-                ],
-            );
+        TableFault::BadLevel { line } => [at, Number(u64::from(line)), Text(": level"), none, end],
+        TableFault::Repeated { line, first } => {
+            let (line, first) = (Number(u64::from(line)), Number(u64::from(first)));
+            [at, line, Text(": repeats line "), first, end]
         }
-        TableFault::BadPort { line, port } => give_parts(
-            files,
-            &[
-                Text("table line "),
-                Number(line),
-                Text(": port "),
-                Number(port),
-                Text("\n"),
-            ],
-        ),
-        TableFault::BadLevel { line } => {
-            give_parts(
-                files,
-                &[
-                    Text("table line "),
-                    Number(line),
-                    Text(": level"),
-                    Text("\n"),
-                ],
-            );
-        }
-        TableFault::Repeated { line, first } => give_parts(
-            files,
-            &[
-                Text("table line "),
-                Number(line),
-                Text(": repeats line "),
-                Number(first),
-                Text("\n"),
-            ],
-        ),
         TableFault::TooManyLines { count } => {
-            give_parts(
-                files,
-                &[Text("table: "), Number(count), Text(" lines"), Text("\n")],
-            );
+            let count = Number(u64::from(count));
+            [Text("table: "), count, Text(" lines"), none, end]
         }
-        TableFault::OutOfMemory => give_parts(files, &[Text("out of memory"), Text("\n")]),
+        TableFault::OutOfMemory => [Text("out of memory"), none, none, none, end],
     }
 }
 
-fn print_capture_line<F: Files>(files: &mut F, port: u32, fault: PcapFault)
-    ensures line { GivesLine (capture_line port fault) (F.told files.old) (F.told files.new) (F.faults files.old ToErr) (F.faults files.new ToErr) }
-    ensures never_fall { NeverFall (F.faults files.old) (F.faults files.new) }
+// The line for a file that is no capture, in parts.
+fn capture_parts(port: u32, fault: PcapFault) -> [Part<'static>; 9]
+    ensures { concat (map part_text result) ≡ capture_line port fault }
 {
-    let (capture, port, colon) = (Text("capture "), Number(port), Text(": "));
+    let (file, port, colon) = (Text("capture "), Number(u64::from(port)), Text(": "));
+    let (none, end) = (Text(""), Text("\n"));
     match fault {
-        PcapFault::ShortHeader { len } => give_parts(
-            files,
-            &[
-                capture,
-                port,
-                colon,
+        PcapFault::ShortHeader { len } => {
+            let (what, len, unit) = (
                 Text("short header, "),
-                Number(len),
+                Number(u64::from(len)),
                 Text(" bytes"),
-                Text("\n"),
-            ],
-        ),
-        PcapFault::BadMagic { found } => give_parts(
-            files,
-            &[
-                capture,
-                port,
-                colon,
-                Text("bad magic "),
-                Magic(found),
-                Text("\n"),
-            ],
-        ),
-        PcapFault::BadVersion { major, minor } => give_parts(
-            files,
-            &[
-                capture,
+            );
+            [file, port, colon, what, len, unit, none, none, end]
+        }
+        PcapFault::BadMagic { found } => {
+            let (what, found) = (Text("bad magic "), Magic(found));
+            [file, port, colon, what, found, none, none, none, end]
+        }
+        PcapFault::BadVersion { major, minor } => {
+            let (major, minor) = (Number(u64::from(major)), Number(u64::from(minor)));
+            [
+                file,
                 port,
                 colon,
                 Text("version "),
-                Number(u32::from(major)),
+                major,
                 Text("."),
-                Number(u32::from(minor)),
-                Text("\n"),
-            ],
-        ),
-        PcapFault::BadLink { found } => give_parts(
-            files,
-            &[
-                capture,
-                port,
-                colon,
-                Text("link type "),
-                Number(found),
-                Text("\n"),
-            ],
-        ),
-        PcapFault::CutRecord { at } => give_parts(
-            files,
-            &[
-                capture,
-                port,
-                colon,
-                Text("cut record at "),
-                Number(at),
-                Text("\n"),
-            ],
-        ),
-        PcapFault::LongRecord { at, len } => give_parts(
-            files,
-            &[
-                capture,
+                minor,
+                none,
+                end,
+            ]
+        }
+        PcapFault::BadLink { found } => {
+            let (what, found) = (Text("link type "), Number(u64::from(found)));
+            [file, port, colon, what, found, none, none, none, end]
+        }
+        PcapFault::CutRecord { at } => {
+            let (what, at) = (Text("cut record at "), Number(u64::from(at)));
+            [file, port, colon, what, at, none, none, none, end]
+        }
+        PcapFault::LongRecord { at, len } => {
+            let (at, len, unit) = (
+                Number(u64::from(at)),
+                Number(u64::from(len)),
+                Text(" bytes"),
+            );
+            [
+                file,
                 port,
                 colon,
                 Text("long record at "),
-                Number(at),
+                at,
                 Text(", "),
-                Number(len),
-                Text(" bytes"),
-                Text("\n"),
-            ],
-        ),
-        PcapFault::OutOfMemory => give_parts(
-            files,
-            &[capture, port, colon, Text("out of memory"), Text("\n")],
-        ),
+                len,
+                unit,
+                end,
+            ]
+        }
+        PcapFault::OutOfMemory => {
+            [
+                file,
+                port,
+                colon,
+                Text("out of memory"),
+                none,
+                none,
+                none,
+                none,
+                end,
+            ]
+        }
     }
 }
 
-fn print_refusal<F: Files>(files: &mut F, words: &RunWords, refusal: Refusal)
-    ensures line { GivesLine (refusal_line (names_of words.now) refusal) (F.told files.old) (F.told files.new) (F.faults files.old ToErr) (F.faults files.new ToErr) }
+fn print_refusal<F: Files>(files: &mut F, fault: PlanFault)
+    ensures line { GivesLine (refusal_line fault) (F.told files.old) (F.told files.new) (F.faults files.old ToErr) (F.faults files.new ToErr) }
     ensures never_fall { NeverFall (F.faults files.old) (F.faults files.new) }
 {
-    match refusal {
-        Refusal::Table(fault) => print_table_line(files, fault),
-        Refusal::Capture { port, fault } => print_capture_line(files, port, fault),
-        Refusal::Links { first, other } => give_parts(
+    match fault {
+        PlanFault::Table(fault) => give_parts(files, &table_parts(fault)),
+        PlanFault::Capture { port, fault } => give_parts(files, &capture_parts(port, fault)),
+        PlanFault::MixedLink { first, other } => give_parts(
             files,
             &[
                 Text("link types "),
-                Number(first.number()),
+                Number(u64::from(first)),
                 Text(" and "),
-                Number(other.number()),
+                Number(u64::from(other)),
                 Text("\n"),
             ],
         ),
-        Refusal::NotBuiltTable => {
-            give_parts(files, &[Text("not built: "), Text(words.table), Text("\n")]);
-        }
-        Refusal::NotBuiltCapture { port } => {
-            let name = words.name(InputFile::Capture(port));
-            give_parts(files, &[Text("not built: "), Text(name), Text("\n")]);
-        }
-        Refusal::OutOfMemory => give_parts(files, &[Text(MEMORY)]),
+        PlanFault::TooManySlots { port, slots } => give_parts(
+            files,
+            &[
+                Text("too many slots: port "),
+                Number(u64::from(port)),
+                Text(" has "),
+                Number(slots),
+                Text("\n"),
+            ],
+        ),
+        PlanFault::TooManyCells { cells } => give_parts(
+            files,
+            &[Text("too many cells: "), Number(cells), Text("\n")],
+        ),
+        PlanFault::OutOfMemory => print_memory(files),
     }
 }
 
@@ -272,38 +239,66 @@ pub(crate) fn print_usage<F: Files>(files: &mut F)
     give_parts(files, &[Text(USAGE)]);
 }
 
+/// Prints the line where memory runs out.
+pub(crate) fn print_memory<F: Files>(files: &mut F)
+    ensures line { GivesLine memory_line (F.told files.old) (F.told files.new) (F.faults files.old ToErr) (F.faults files.new ToErr) }
+    ensures never_fall { NeverFall (F.faults files.old) (F.faults files.new) }
+{
+    give_parts(files, &[Text(MEMORY)]);
+}
+
+// The name of a file that the job reads; a `gen` job reads none.
+fn name_read(job: &Job, input: InputFile) -> &str
+    ensures { result.now ≡ name_read (job_words job.now) input }
+{
+    match job {
+        Job::Run(job) => input_name(job, input),
+        Job::Gen(_) => "",
+    }
+}
+
+// Prints the line for what the job was writing; a `gen` job writes no file.
+fn print_write_fault<F: Files>(files: &mut F, job: &Job, written: Written)
+    ensures line { GivesLine (named_line (codes "write fault: ") (name_written (job_words job.now) written)) (F.told files.old) (F.told files.new) (F.faults files.old ToErr) (F.faults files.new ToErr) }
+    ensures never_fall { NeverFall (F.faults files.old) (F.faults files.new) }
+{
+    let (what, end) = (Text("write fault: "), Text("\n"));
+    match (job, written) {
+        (Job::Run(job), Written::Output(port)) => {
+            let (prefix, number) = (Text(job.prefix.as_str()), Number(u64::from(port)));
+            give_parts(
+                files,
+                &[what, prefix, Text("."), number, Text(".pcap"), end],
+            );
+        }
+        (Job::Run(job), Written::Report) => {
+            let prefix = Text(job.prefix.as_str());
+            give_parts(files, &[what, prefix, Text(".report"), end]);
+        }
+        (_, Written::StandardOutput) => give_parts(files, &[what, Text("standard output"), end]),
+        (Job::Gen(_), _) => give_parts(files, &[what, end]),
+    }
+}
+
 /// Prints the line of an ending. Where a call fails, the rest of the line is left out.
-pub(crate) fn print_line<F: Files>(files: &mut F, words: &RunWords, ending: Ending)
-    ensures line { GivesLine (line_of (names_of words.now) ending) (F.told files.old) (F.told files.new) (F.faults files.old ToErr) (F.faults files.new ToErr) }
+pub(crate) fn print_line<F: Files>(files: &mut F, job: &Job, ending: Ending)
+    ensures line { GivesLine (line_of (job_words job.now) ending) (F.told files.old) (F.told files.new) (F.faults files.old ToErr) (F.faults files.new ToErr) }
     ensures never_fall { NeverFall (F.faults files.old) (F.faults files.new) }
 {
     match ending {
         Ending::Done => {}
         Ending::Usage => print_usage(files),
         Ending::ReadFault(input) => {
-            give_parts(
-                files,
-                &[Text("read fault: "), Text(words.name(input)), Text("\n")],
-            );
+            let name = Text(name_read(job, input));
+            give_parts(files, &[Text("read fault: "), name, Text("\n")]);
         }
         Ending::TooLong(input) => {
-            give_parts(
-                files,
-                &[Text("too long: "), Text(words.name(input)), Text("\n")],
-            );
+            let name = Text(name_read(job, input));
+            give_parts(files, &[Text("too long: "), name, Text("\n")]);
         }
-        Ending::Refused(refusal) => print_refusal(files, words, refusal),
-        Ending::OutOfMemory => print_refusal(files, words, Refusal::OutOfMemory),
-        Ending::WriteFault(port) => give_parts(
-            files,
-            &[
-                Text("write fault: "),
-                Text(words.prefix),
-                Text("."),
-                Number(port),
-                Text(".pcap\n"),
-            ],
-        ),
+        Ending::Refused(fault) => print_refusal(files, fault),
+        Ending::OutOfMemory => print_memory(files),
+        Ending::WriteFault(written) => print_write_fault(files, job, written),
     }
 }
 

@@ -1,11 +1,14 @@
 //! Laws of jobs: each is the contract of a call that does nothing.
 
-ghost use Rattle.std.specs.Prelude.{◌≡◌, ◌⊎◌, ℕ, List, Result, Ok, Err};
-ghost use Rattle.switch_run.specs.Outcome.{IsNotMemory, IsOutcome, IsWant};
-ghost use Rattle.switch_run.specs.declared.job.Refusal.{Refusal};
+ghost use Rattle.std.specs.Prelude.{◌≡◌, Bool, ℕ, Option, List};
+ghost use Rattle.switch_words.specs.declared.job.Settings.{Settings};
+ghost use Rattle.switch_plan.specs.declared.fault.PlanFault.{PlanFault};
+ghost use Rattle.switch_plan.specs.Refusals.{IsRefusal};
+ghost use Rattle.switch_run.specs.Switched.{Texts, IsSwitched};
 
-/// A job has one outcome, want of memory aside: one cause for which it is refused, or one list of outputs.
+/// A job has one outcome: no two causes for which it is refused, no cause beside texts, and one list of texts.
 pub fn one_outcome()
-    ensures refusal { (table : List ℕ) (captures : List (List ℕ)) (refusal : Refusal) → IsNotMemory refusal → IsOutcome table captures (Err refusal) → (answer : Result (List (List ℕ)) Refusal) → IsOutcome table captures answer → (answer ≡ Err refusal) ⊎ IsWant answer }
-    ensures outputs { (table : List ℕ) (captures : List (List ℕ)) (outputs : List (List ℕ)) (others : List (List ℕ)) → IsOutcome table captures (Ok outputs) → IsOutcome table captures (Ok others) → outputs ≡ others }
+    ensures refusal { (pace_us : Option ℕ) (table : List ℕ) (files : List (List ℕ)) (a b : PlanFault) → IsRefusal pace_us table files a → IsRefusal pace_us table files b → a ≡ b }
+    ensures either { (settings : Settings) (wanted : Bool) (table : List ℕ) (files : List (List ℕ)) (fault : PlanFault) (texts : Texts) → IsRefusal settings.pace_us table files fault → IsSwitched settings wanted table files texts → ⊥ }
+    ensures texts { (settings : Settings) (wanted : Bool) (table : List ℕ) (files : List (List ℕ)) (a b : Texts) → IsSwitched settings wanted table files a → IsSwitched settings wanted table files b → a ≡ b }
 {}

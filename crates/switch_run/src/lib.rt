@@ -1,19 +1,13 @@
-//! Runs a switch over captures: from the bytes of a table and of one capture for each input port to the
-//! bytes of one capture for each output port.
+//! The whole command: from the words of a command line to the files that its job writes.
 #![tactic(auto)]
 
-mod arrivals;
-mod captures;
 mod command;
 mod ending;
 mod error_lines;
 mod inputs;
-mod job;
 pub mod laws;
-mod line_card;
+mod making;
 mod output_files;
-mod slots;
-mod texts;
-mod words;
 
 pub use command::switch_main;
+pub use switch_jobs::{Outcome, Ready, output_bytes, run_job, run_ready, run_ready_with};

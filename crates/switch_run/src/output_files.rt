@@ -1,19 +1,31 @@
-ghost use Rattle.std.specs.Prelude.{◌≡◌, ◌≤◌, ◌<◌, length, map, slice_index_or, take, IfErr, IfOk, OnOk};
+ghost use Rattle.std.specs.Prelude.{◌≡◌, ◌≤◌, ◌<◌, ◌+◌, ◌∷◌, ◌++◌, [], length, map, slice_index_or, string_bytes, take, IfErr, IfOk, OnOk, OnErr};
 ghost use Rattle.std.specs.Option.{option_map};
-ghost use Rattle.outside.specs.Faults.{NeverFall};
-ghost use Rattle.switch_run.specs.Outcome.{bytes_of};
+ghost use Rattle.outside.specs.Contents.{append_out};
+ghost use Rattle.outside.specs.Faults.{NeverFall, Rose, ToOut};
 ghost use Rattle.outside.specs.WholeFiles.{Puts, StopsAt};
-ghost use Rattle.switch_run.specs.OutputFiles.{nameless, output_files, put_files, shown};
+ghost use Rattle.switch_plan.specs.Reading.{bytes_of_files};
+ghost use Rattle.switch_run.specs.Making.{GivesOut, StopsPutting, written_at};
+ghost use Rattle.switch_run.specs.OutputFiles.{files_from, nameless, put_files, report_name, shown};
 
+use crate::ending::Written;
 use outside::{Failed, Files, put_whole};
 use rotating_pick::MAX_PORTS;
 use std::alloc::{AllocError, Global};
 
-/// A file that a run writes.
+/// A file that a job writes.
 #[derive(Drop)]
 pub(crate) struct OutputFile {
-    name: String,
-    bytes: Vec<u8>,
+    pub(crate) name: String,
+    pub(crate) bytes: Vec<u8>,
+}
+
+/// What a job writes.
+#[derive(Drop)]
+pub(crate) struct JobTexts {
+    /// The files, in order. The report's is the last.
+    pub(crate) files: Vec<OutputFile>,
+    /// What standard output is given after them.
+    pub(crate) summary: String,
 }
 
 /// The files of the outputs, in order: `PREFIX.j.pcap` is that of output `j`.
@@ -22,7 +34,7 @@ pub(crate) fn named(
     prefix: &str,
     outputs: Vec<Vec<u8>>,
 ) -> Result<Vec<OutputFile>, AllocError>
-    ensures { IfOk result (λ v. map shown v.items ≡ output_files prefix.now (bytes_of outputs)) }
+    ensures { IfOk result (λ v. map shown v.items ≡ files_from prefix.now 0 (bytes_of_files outputs)) }
 {
     let mut files = Vec::new(alloc);
     for bytes in outputs {
@@ -33,6 +45,21 @@ pub(crate) fn named(
     Ok(files)
 }
 
+/// The file of the report, `PREFIX.report`.
+pub(crate) fn report_file(
+    alloc: Global,
+    prefix: &str,
+    report: String,
+) -> Result<OutputFile, AllocError>
+    ensures { IfOk result (λ file. shown file ≡ record { name = report_name prefix.now; bytes = string_bytes report }) }
+{
+    let name = format!(in alloc; "{prefix}.report")?;
+    Ok(OutputFile {
+        name,
+        bytes: report.into_bytes(),
+    })
+}
+
 // Begins the file and gives it all its bytes.
 fn put_file<F: Files>(files: &mut F, file: &OutputFile) -> Result<(), Failed>
     ensures told { Puts result (shown file.now) (F.faults files.old) (F.faults files.new) (F.told files.old) (F.told files.new) }
@@ -41,18 +68,63 @@ fn put_file<F: Files>(files: &mut F, file: &OutputFile) -> Result<(), Failed>
     put_whole(files, file.name.as_str(), file.bytes.as_slice())
 }
 
-/// Begins and writes each file, in order; else the number of the first of which a call failed.
-pub(crate) fn put_all<F: Files>(files: &mut F, output_files: &[OutputFile]) -> Result<(), u32>
-    requires { length output_files.now ≤ MAX_PORTS }
+// Begins and writes each file, in order; else the place of the first of which a call failed.
+fn put_all<F: Files>(files: &mut F, output_files: &[OutputFile]) -> Result<(), u32>
+    requires { length output_files.now ≤ MAX_PORTS + 1 }
     ensures ok { OnOk result (F.told files.new ≡ option_map (put_files (map shown output_files.now)) (F.told files.old)) }
-    ensures port { IfErr result (λ port. port < length output_files.now) }
-    ensures err { IfErr result (λ port. StopsAt (slice_index_or (map shown output_files.now) port nameless) (F.faults files.old) (F.faults files.new) (option_map (put_files (take port (map shown output_files.now))) (F.told files.old)) (F.told files.new)) }
+    ensures place { IfErr result (λ place. place < length output_files.now) }
+    ensures err { IfErr result (λ place. StopsAt (slice_index_or (map shown output_files.now) place nameless) (F.faults files.old) (F.faults files.new) (option_map (put_files (take place (map shown output_files.now))) (F.told files.old)) (F.told files.new)) }
     ensures never_fall { NeverFall (F.faults files.old) (F.faults files.new) }
 {
-    for (port, file) in output_files.iter().enumerate() {
+    for (place, file) in output_files.iter().enumerate() {
         if put_file(files, file).is_err() {
-            return Err(port as u32);
+            return Err(place as u32);
         }
     }
     Ok(())
+}
+
+// Gives all of the bytes to standard output, in as many calls as it takes.
+fn put_out<F: Files>(files: &mut F, bytes: &[u8]) -> Result<(), Failed>
+    ensures told { GivesOut result bytes.now (F.told files.old) (F.told files.new) }
+    ensures cause { OnErr result (Rose (F.faults files.old ToOut) (F.faults files.new ToOut)) }
+    ensures never_fall { NeverFall (F.faults files.old) (F.faults files.new) }
+{
+    let mut at = 0;
+    while at < bytes.len() {
+        match files.out(&bytes[at..]) {
+            Ok(count) => at += count,
+            Err(failed) => return Err(failed),
+        }
+    }
+    Ok(())
+}
+
+// What is written at a place among so many files, of which the report's is the last.
+fn written_at(place: u32, count: usize) -> Written
+    requires { place < count }
+    ensures { result ≡ written_at place count }
+{
+    if place as usize + 1 == count {
+        Written::Report
+    } else {
+        Written::Output(place)
+    }
+}
+
+/// Writes the files, one after the other, and then gives the summary to standard output; else what was being
+/// written when a call failed. It takes no memory.
+pub(crate) fn put_texts<F: Files>(files: &mut F, texts: &JobTexts) -> Result<(), Written>
+    requires { length texts.now.files.items ≤ MAX_PORTS + 1 }
+    ensures ok { OnOk result (F.told files.new ≡ option_map (λ c. append_out (string_bytes texts.now.summary) (put_files (map shown texts.now.files.items) c)) (F.told files.old)) }
+    ensures err { IfErr result (λ written. StopsPutting (map shown texts.now.files.items) (string_bytes texts.now.summary) written (F.told files.old) (F.faults files.old) (F.faults files.new) (F.told files.new)) }
+    ensures never_fall { NeverFall (F.faults files.old) (F.faults files.new) }
+{
+    if let Err(place) = put_all(files, texts.files.as_slice()) {
+        return Err(written_at(place, texts.files.len()));
+    }
+    match put_out(files, texts.summary.as_str().as_bytes()) {
+        Ok(()) => Ok(()),
+        Err(_) => Err(Written::StandardOutput),
+    }
 }

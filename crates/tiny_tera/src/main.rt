@@ -1,6 +1,7 @@
-//! The switch as a command: `tiny_tera run TABLE PREFIX INPUT..`.
+//! The switch as a command: `tiny_tera run [options] TABLE PREFIX INPUT..` or `tiny_tera gen [options] SEED COUNT PORTS`.
 #![tactic(auto)]
 
+use card_worker::OpenGate;
 use outside::DiskFiles;
 use std::process::ExitCode;
 use std::{env, io};
@@ -19,5 +20,11 @@ fn main(rt: HostRuntime) -> ExitCode {
         return ExitCode::from(NO_WORDS);
     };
     let mut files = DiskFiles::make(&rt);
-    ExitCode::from(switch_main(rt.alloc(), words.as_slice(), &mut files))
+    ExitCode::from(switch_main(
+        &rt,
+        rt.alloc(),
+        words.as_slice(),
+        &mut files,
+        &OpenGate,
+    ))
 }

@@ -1,13 +1,14 @@
-use crate::ending::Ending;
+use crate::ending::{Ending, Written};
 use crate::error_lines::print_line;
-use crate::job::Refusal;
-use crate::words::{InputFile, RunWords};
+use crate::inputs::InputFile;
 use forward_table::TableFault;
 use outside::MemFiles;
-use pcap_records::{Link, PcapFault};
+use pcap_records::PcapFault;
 use std::alloc::{AllocError, Global};
 use std::process::Abort;
 use std::test;
+use switch_plan::PlanFault;
+use switch_words::{Job, RunJob, Settings};
 
 fn input_names(alloc: Global) -> Result<Vec<String>, AllocError> {
     let mut names = Vec::new(alloc);
@@ -17,6 +18,21 @@ fn input_names(alloc: Global) -> Result<Vec<String>, AllocError> {
     Ok(names)
 }
 
+fn job(alloc: Global) -> Result<Job, AllocError> {
+    Ok(Job::Run(RunJob {
+        settings: Settings {
+            rounds: 4,
+            depth: 131_072,
+            workers: 4,
+            pace_us: None,
+        },
+        slots: false,
+        table: String::from_str(alloc, "the table")?,
+        prefix: String::from_str(alloc, "to")?,
+        inputs: input_names(alloc)?,
+    }))
+}
+
 // No files, seven bytes a call.
 fn no_files(alloc: Global) -> Result<MemFiles, test::Fail> {
     Ok(MemFiles::make(alloc, Vec::new(alloc), 7, Vec::new(alloc))?)
@@ -24,14 +40,9 @@ fn no_files(alloc: Global) -> Result<MemFiles, test::Fail> {
 
 // The line of the ending is this one.
 fn prints(rt: &impl Abort, alloc: Global, ending: Ending, line: &str) -> Result<(), test::Fail> {
-    let inputs = input_names(alloc)?;
-    let words = RunWords {
-        table: "the table",
-        prefix: "to",
-        inputs: inputs.as_slice(),
-    };
+    let job = job(alloc)?;
     let mut files = no_files(alloc)?;
-    print_line(&mut files, &words, ending);
+    print_line(&mut files, &job, ending);
     assert_eq!(rt; files.err_text(), line.as_bytes());
     Ok(())
 }
@@ -50,21 +61,35 @@ fn endings_print_their_lines(rt: HostRuntime) -> Result<(), test::Fail> {
         ),
         (Ending::TooLong(InputFile::Capture(0)), "too long: in.0\n"),
         (Ending::OutOfMemory, "out of memory\n"),
-        (Ending::WriteFault(12), "write fault: to.12.pcap\n"),
         (
-            Ending::Refused(Refusal::NotBuiltTable),
-            "not built: the table\n",
+            Ending::WriteFault(Written::Output(12)),
+            "write fault: to.12.pcap\n",
         ),
         (
-            Ending::Refused(Refusal::NotBuiltCapture { port: 1 }),
-            "not built: in.1\n",
+            Ending::WriteFault(Written::Report),
+            "write fault: to.report\n",
         ),
         (
-            Ending::Refused(Refusal::Links {
-                first: Link::Ethernet,
-                other: Link::RawIp,
+            Ending::WriteFault(Written::StandardOutput),
+            "write fault: standard output\n",
+        ),
+        (
+            Ending::Refused(PlanFault::MixedLink {
+                first: 1,
+                other: 101,
             }),
             "link types 1 and 101\n",
+        ),
+        (
+            Ending::Refused(PlanFault::TooManySlots {
+                port: 3,
+                slots: 4_294_967_296,
+            }),
+            "too many slots: port 3 has 4294967296\n",
+        ),
+        (
+            Ending::Refused(PlanFault::TooManyCells { cells: 131_073 }),
+            "too many cells: 131073\n",
         ),
     ];
     for (ending, line) in rows {
@@ -99,7 +124,7 @@ fn tables_print_their_lines(rt: HostRuntime) -> Result<(), test::Fail> {
         prints(
             &rt,
             rt.alloc(),
-            Ending::Refused(Refusal::Table(fault)),
+            Ending::Refused(PlanFault::Table(fault)),
             line,
         )?;
     }
@@ -138,7 +163,7 @@ fn captures_print_their_lines(rt: HostRuntime) -> Result<(), test::Fail> {
         ),
     ];
     for (fault, line) in rows {
-        let refusal = Refusal::Capture { port: 5, fault };
+        let refusal = PlanFault::Capture { port: 5, fault };
         prints(&rt, rt.alloc(), Ending::Refused(refusal), line)?;
     }
     Ok(())

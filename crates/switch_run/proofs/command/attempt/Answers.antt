@@ -1,32 +1,25 @@
-use Rattle.std.proofs.Common.{◌≤◌, ◌<◌, List, length, map, string_bytes, sym, subst, arith}
+use Rattle.std.proofs.Common.{map, string_bytes, arith}
 use Rattle.std.proofs.lemmas.List.{length-map}
-use Rattle.switch_run.specs.Endings.{AreMade}
-use Rattle.switch_run.specs.Outcome.{bytes_of}
+use Rattle.switch_words.specs.Reading.{job_words}
 use Rattle.switch_run.specs.OutputFiles.{shown}
-use Rattle.switch_run.specs.Words.{names_of}
-use Rattle.switch_run.specs.declared.output_files.OutputFile.{OutputFile}
-use Rattle.switch_run.proofs.Stopping.{done, length-made, write_fault}
+use Rattle.switch_run.proofs.Stopping.{done, few_files, write_fault}
 use Rattle.switch_run.proofs.command.attempt.Goals as goal
 
-pub put_all-requires : goal.put_all-requires
-put_all-requires g c =
-    let names = names_of c.args.words.now in
-    let files = map shown c.as_slice.result.now in
-    let made = subst (λ (xs : List OutputFile). AreMade c.in-Ok.inputs.table.items (bytes_of c.in-Ok.inputs.captures) names.prefix (map shown xs)) (sym c.as_slice.ensures.value) c.in-Ok-make_outputs.ensures.made in
-    omega (arith, length-map c.as_slice.result.now shown, length-made names _ _ _ files c.in-Ok.ensures.read made, length-map c.args.words.now.inputs.now string_bytes, c.requires.most)
+pub put_texts-requires : goal.put_texts-requires
+put_texts-requires g c =
+    let items = c.in-Ok-make_texts.texts.files.items in
+    let few = few_files (job_words c.args.job.now) _ _ (map shown items) _ c.in-Ok-make_texts.ensures.made c.in-Ok.ensures.size.ports.most in
+    omega (arith, few, length-map items shown)
 
-pub returns-in-Ok-put_all-clause-done : goal.returns-in-Ok-put_all-clause-done
-returns-in-Ok-put_all-clause-done g c =
-    let names = names_of c.args.words.now in
-    let made = subst (λ (xs : List OutputFile). AreMade c.in-Ok.inputs.table.items (bytes_of c.in-Ok.inputs.captures) names.prefix (map shown xs)) (sym c.as_slice.ensures.value) c.in-Ok-make_outputs.ensures.made in
-    let ports : length names.inputs ≤ 64 = omega (arith, length-map c.args.words.now.inputs.now string_bytes, c.requires.most) in
-    done names _ _ _ _ _ (map shown c.as_slice.result.now) c.in-Ok.ensures.read made ports c.in-Ok.ensures.told c.in-Ok-put_all.ensures.ok
+pub returns-in-Ok-put_texts-clause-done : goal.returns-in-Ok-put_texts-clause-done
+returns-in-Ok-put_texts-clause-done g c =
+    let contents = g.F.Files.told in
+    done (job_words c.args.job.now) _ _ (map shown c.in-Ok-make_texts.texts.files.items) (string_bytes c.in-Ok-make_texts.texts.summary) c.in-Ok-make_texts.ensures.made (contents c.args.files.now) (contents c.inputs_of.new.files) (contents c.put_texts.new.files)
+    c.in-Ok.ensures.inputs c.in-Ok.ensures.size.ports.most c.in-Ok.ensures.told c.in-Ok-put_texts.ensures.ok
 
 pub returns-clause-stops : goal.returns-clause-stops
 returns-clause-stops g c =
-    let names = names_of c.args.words.now in
+    let contents = g.F.Files.told in
     let counts = g.F.Files.faults in
-    let made = subst (λ (xs : List OutputFile). AreMade c.in-Ok.inputs.table.items (bytes_of c.in-Ok.inputs.captures) names.prefix (map shown xs)) (sym c.as_slice.ensures.value) c.in-Ok-make_outputs.ensures.made in
-    let within : c.in-Err-put_all.port < length (map shown c.as_slice.result.now) = omega (arith, length-map c.as_slice.result.now shown, c.in-Err-put_all.ensures.port) in
-    write_fault names _ _ _ (counts c.args.files.now) (counts c.read_inputs.new.files) (counts c.put_all.new.files) _ _ (map shown c.as_slice.result.now) c.in-Err-put_all.port c.in-Ok.ensures.read made
-    c.in-Ok.ensures.told c.in-Ok.ensures.never_fall within c.in-Err-put_all.ensures.err
+    write_fault (job_words c.args.job.now) _ _ (map shown c.in-Ok-make_texts.texts.files.items) (string_bytes c.in-Ok-make_texts.texts.summary) c.in-Ok-make_texts.ensures.made (contents c.args.files.now) (contents c.inputs_of.new.files) (contents c.put_texts.new.files)
+    (counts c.args.files.now) (counts c.inputs_of.new.files) (counts c.put_texts.new.files) c.in-Err-put_texts.written c.in-Ok.ensures.inputs c.in-Ok.ensures.told c.in-Ok.ensures.never_fall c.in-Err-put_texts.ensures.err

@@ -1,5 +1,6 @@
-use Rattle.switch_run.proofs.OneOutcome.{made_once, outcome_once}
+use Rattle.switch_run.proofs.OneOutcome.{not_made, refusal_once}
+use Rattle.switch_run.proofs.OnePlan.{texts_once}
 use Rattle.switch_run.proofs.laws.one_outcome.Goals as goal
 
 pub returns : goal.returns
-returns c = record { refusal = outcome_once; outputs = made_once }
+returns c = record { refusal = refusal_once; either = not_made; texts = texts_once }

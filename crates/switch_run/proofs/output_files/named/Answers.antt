@@ -1,6 +1,6 @@
 use Rattle.std.proofs.Common.{rules, ◌≡◌, length, map, sym, ◌∙◌, ap}
 use Rattle.std.proofs.lemmas.List.{map_push}
-use Rattle.switch_run.specs.OutputFiles.{output_files, shown}
+use Rattle.switch_run.specs.OutputFiles.{files_from, shown}
 use Rattle.switch_run.specs.declared.output_files.OutputFile.{OutputFile}
 use Rattle.switch_run.proofs.Putting.{named_more, pushed}
 use Rattle.switch_run.proofs.output_files.named.Goals as goal
@@ -12,4 +12,4 @@ loop-bytes-preserved c =
     let n : c.len-port.result ≡ length c.loop-bytes.files.items = search rules in
     let name_is = rw n at c.in_ok-name.ensures.ok in
     let more = named_more c.args.prefix.now c.loop-bytes.files.items file (map (λ v. v.items) c.loop-bytes.yielded) c.loop-bytes.invariant name_is in
-    ap (map shown) grown ∙ more ∙ ap (output_files c.args.prefix.now) (sym (map_push (λ v. v.items) c.loop-bytes.yielded c.in-Some.bytes))
+    ap (map shown) grown ∙ more ∙ ap (files_from c.args.prefix.now 0) (sym (map_push (λ v. v.items) c.loop-bytes.yielded c.in-Some.bytes))

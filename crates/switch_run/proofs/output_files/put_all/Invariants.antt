@@ -4,11 +4,11 @@ use Rattle.outside.specs.Faults.{NeverFall}
 use Rattle.switch_run.specs.OutputFiles.{put_files, shown}
 use Rattle.switch_run.proofs.output_files.put_all.Given as goal
 
-abbrev pub invariant-loop-port : goal.invariant-loop-port
-invariant-loop-port g l =
+abbrev pub invariant-loop-place : goal.invariant-loop-place
+invariant-loop-place g l =
     let contents = g.F.Files.told in
     let counts = g.F.Files.faults in
     record {
-      told : contents l.files ≡ option_map (put_files (take l.port (map shown l.output_files))) (contents l.fn.files);
+      told : contents l.files ≡ option_map (put_files (take l.place (map shown l.output_files))) (contents l.fn.files);
       never_fall : NeverFall (counts l.fn.files) (counts l.files);
     }
