@@ -1,0 +1,19 @@
+//! Tests of the whole switch: commands over files in memory, runs with several workers, and two workers that meet.
+#![tactic(auto)]
+
+#[cfg(test)]
+mod captures;
+#[cfg(test)]
+mod commands;
+#[cfg(test)]
+mod faults;
+#[cfg(test)]
+mod jobs;
+#[cfg(test)]
+mod large;
+#[cfg(test)]
+mod meeting;
+#[cfg(test)]
+mod refusals;
+#[cfg(test)]
+mod ways;
