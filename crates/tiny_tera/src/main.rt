@@ -20,11 +20,5 @@ fn main(rt: HostRuntime) -> ExitCode {
         return ExitCode::from(NO_WORDS);
     };
     let mut files = DiskFiles::make(&rt);
-    ExitCode::from(switch_main(
-        &rt,
-        rt.alloc(),
-        words.as_slice(),
-        &mut files,
-        &OpenGate,
-    ))
+    ExitCode::from(switch_main(&rt, rt.alloc(), words.as_slice(), &mut files, &OpenGate))
 }
