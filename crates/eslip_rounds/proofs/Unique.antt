@@ -20,7 +20,7 @@ use Rattle.pointer_state.specs.Places.{Places, AreAtPorts, ArePointing, grant_of
 use Rattle.pointer_state.proofs.Same.{Places-same}
 use Rattle.islip_rounds.specs.Numbers.{last_of, slot_numbers}
 use Rattle.eslip_rounds.specs.Rounds.{Grants, IsRound, AreRounds}
-use Rattle.eslip_rounds.specs.Slots.{Decision, AreMoved, IsSlot}
+use Rattle.eslip_rounds.specs.Slots.{Decision, AreMoved, IsSlotBy, IsSlot}
 use Rattle.eslip_rounds.proofs.Bests.{taken_from}
 use Rattle.eslip_rounds.proofs.Deciding.{some_below, Completes-or, HasHead-decides}
 use Rattle.eslip_rounds.proofs.Matching.{IsMatch-rounds}
@@ -165,6 +165,6 @@ named_rounds n t rows places before (step ∷ steps) chain i j level kind known 
           elim g.first.member [ inl p ↦ p.1.named | inr on ↦ subst (λ k. Names (row_of rows i) level k j) (sym on.multicast) on.named ]
     ]) s
 
-pub Serves-named : (n rounds t : ℕ) (rows : List Row) (places : Places) (a : Decision) → IsSlot n rounds t rows places a → (i j level : ℕ) (kind : Kind) → Serves a.matched i j level kind → Names (row_of rows i) level kind j
+pub Serves-named : {Moves : ℕ → ℕ → List Row → List (Option Fed) → List (Option Fed) → Places → Places → Type 0} (n rounds t : ℕ) (rows : List Row) (places : Places) (a : Decision) → IsSlotBy Moves n rounds t rows places a → (i j level : ℕ) (kind : Kind) → Serves a.matched i j level kind → Names (row_of rows i) level kind j
 Serves-named n rounds t rows places a r i j level kind s =
     named_rounds n t rows places (unmatched n) r.steps r.chain i j level kind (λ h. absurd (nobody_at_first n i j level kind h)) (subst (λ m. Serves m i j level kind) r.result s)
