@@ -18,7 +18,7 @@ use Rattle.eslip_rounds.specs.Schedules.{DecidedSlot}
 use Rattle.eslip_rounds.proofs.Deciding.{Completes-or}
 use Rattle.service_bound.specs.Windows.{IsClean, InFirst, IsWindow}
 use Rattle.service_bound.proofs.Distances.{distance-passed}
-use Rattle.service_bound.proofs.FirstRound.{IsTurn, grants_first, accepts_there}
+use Rattle.service_bound.proofs.FirstRound.{IsFirstKind, grants_first, accepts_there}
 use Rattle.service_bound.proofs.LaterRounds.{first_of, BeginsWith, BeginsWith-slot}
 use Rattle.service_bound.proofs.PointersAfter.{first_head, passed_head}
 use Rattle.service_bound.proofs.InWindows.{Any-here, Any-later, InFirst-along, IsWindowSlot, first_slot, later_slots}
@@ -35,9 +35,9 @@ module _ (n t level : ℕ) (rows : List Row) (first matched : List (Option Fed))
   first_completes : t % 2 ≡ 1 → (p : ℕ) → IsFirstFrom n (shared_of before level) (HasHead rows level) p → Completes rows matched level p
   first_completes odd p head y named =
       let y_in = within.ports p head.below level y Multi named in
-      let turn : IsTurn n t rows level Multi = record { turn = λ i j i_in there. sym (odd_prefers t odd) } in
-      let granted = grants_first n t rows before level level_in clean Multi turn p y y_in (record { below = head.below; member = named; least = λ z z_in there. head.least z z_in (y, there) }) in
-      let accepted : Accepts n t rows before (unmatched n) p y level Multi = record { best = accepts_there n t rows before level level_in clean Multi turn p y granted; taken = granted } in
+      let multicast_first : IsFirstKind n t rows level Multi = record { preferred_first = λ i j i_in there. sym (odd_prefers t odd) } in
+      let granted = grants_first n t rows before level level_in clean Multi multicast_first p y y_in (record { below = head.below; member = named; least = λ z z_in there. head.least z z_in (y, there) }) in
+      let accepted : Accepts n t rows before (unmatched n) p y level Multi = record { best = accepts_there n t rows before level level_in clean Multi multicast_first p y granted; taken = granted } in
       begins.stays p y level Multi ((begins.opening.pairs p y level Multi).1 (inr accepted))
 
   module _ (i : ℕ) (i_in : i < n) (waits : HasHead rows level i) (left : Completes rows matched level i → ⊥) where
@@ -68,7 +68,7 @@ module _ (n rounds level i : ℕ) (some : 0 < rounds) (i_in : i < n) where
       fewer_to_go n t level slot.rows (first_of n now.decided.steps) slot.decision.matched places slot.decision.places (now.within.levels i i_in level waits.0 Multi waits.1)
       (BeginsWith-slot n t slot.rows places AreMoved rounds slot.decision some now.decided) now.decided.moved now.pointing now.clean now.within i i_in waits left
 
-  -- so many slots are enough
+  -- it completes in one of these slots, where they are more than it has to go
   completes_by_then : (slots : List DecidedSlot) (t : ℕ) (places : Places) → IsWindow n rounds t level places slots → InFirst (λ rows. HasHead rows level i) slots → slots_to_go n level places t i < length slots → Any (λ slot. HasHead slot.rows level i × Completes slot.rows slot.decision.matched level i) slots
   completes_by_then [] t places window waits short = absurd (omega arith)
   completes_by_then (slot ∷ slots) t places window waits short =
