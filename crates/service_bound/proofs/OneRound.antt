@@ -28,7 +28,7 @@ use Rattle.service_bound.proofs.OneRoundRank.{silent_at, silent_at-le, silent_at
 use Rattle.service_bound.proofs.FirstRound.{grants_first}
 use Rattle.service_bound.proofs.LaterRounds.{first_of, BeginsWith, BeginsWith-slot}
 use Rattle.service_bound.proofs.Granting.{kind_is_first, served_by_first, refused}
-use Rattle.service_bound.proofs.InWindows.{IsWindowSlot}
+use Rattle.service_bound.proofs.InWindows.{AskOn, IsWindowSlot}
 
 -- whether input x is silent for the request of input i for output j, where these rows are posted: 1 or 0
 abbrev pub silent_for : ℕ → ℕ → Places → List Row → ℕ → ℕ → ℕ → ℕ
@@ -54,10 +54,6 @@ one_rank_of n level places rows i j g =
 -- input g is the first from the output's grant pointer on that asks for it
 abbrev pub IsNearest : ℕ → ℕ → Places → List Row → ℕ → ℕ → Type 0
 IsNearest n level places rows j g = IsFirstFrom n (grant_of places j level) (λ x. Names (row_of rows x) level Uni j) g
-
--- each of these rows names output j where it was named and not served
-abbrev pub AskOn : ℕ → ℕ → List (Option Fed) → List Row → List Row → ℕ → Type 0
-AskOn n level matched rows later j = (x : ℕ) → x < n → Names (row_of rows x) level Uni j → (Serves matched x j level Uni → ⊥) → Names (row_of later x) level Uni j
 
 -- where some input asks, one is the nearest
 pub nearest_of : (n level : ℕ) (places : Places) (rows : List Row) (i j : ℕ) → ArePointing n level places → i < n → j < n → Names (row_of rows i) level Uni j → (g : ℕ) × IsNearest n level places rows j g
