@@ -37,7 +37,7 @@ pub record IsWindowBy (Moves : ℕ → ℕ → List Row → List (Option Fed) �
   pub kept : AreKept n slots
   pub clean : All (λ slot. IsClean n level slot.rows) slots
 
--- such slots, whose pointers move as those of the scheduler of the board do
+-- the same where pointers move as those of iSLIP do
 abbrev pub IsWindow : ℕ → ℕ → ℕ → ℕ → Places → List DecidedSlot → Type 0
 IsWindow = IsWindowBy AreMoved
 

@@ -16,7 +16,7 @@ use Rattle.slot_match.specs.Parts.{served_of}
 use Rattle.slot_match.proofs.ServedParts.{served_of-is}
 use Rattle.pointer_state.specs.Places.{Places}
 use Rattle.eslip_rounds.specs.Slots.{IsSlotBy}
-use Rattle.eslip_rounds.proofs.Unique.{Serves-named}
+use Rattle.eslip_rounds.proofs.Unique.{Serves-named_by}
 use Rattle.crossbar.specs.declared.cards.Post.{Post as CardPost}
 use Rattle.eslip_rounds.specs.Schedulers.{Scheduler, IsSchedulerBy, StayAtPorts, IsScheduler}
 use Rattle.slot_histories.specs.Events.{Setup}
@@ -43,7 +43,7 @@ module _ (scheduler : Scheduler) (s : Setup) (posts : ℕ → ℕ → CardPost) 
   pub pair-named : (i j level : ℕ) (kind : Kind) → i < s.ports → Serves (decision_under scheduler s posts t).matched i j level kind → Names (posts i t).row level kind j
   pair-named i j level kind inside serves =
       subst (λ row. Names row level kind j) (row_of-slot_rows s.ports posts t i inside)
-      (Serves-named s.ports s.rounds t (slot_rows s.ports posts t) (places_under scheduler s posts t) (decision_under scheduler s posts t) slot i j level kind serves)
+      (Serves-named_by StayAtPorts s.ports s.rounds t (slot_rows s.ports posts t) (places_under scheduler s posts t) (decision_under scheduler s posts t) slot i j level kind serves)
 
   pub part-of : (i : ℕ) (part : Served) → i < s.ports → served_under scheduler s posts i t ≡ Some part → IsPartOf (posts i t).row part
   part-of i part inside is =

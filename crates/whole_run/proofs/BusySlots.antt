@@ -9,9 +9,9 @@ use Rattle.rotating_pick.specs.declared.kinds.Kind.{Kind}
 use Rattle.slot_match.specs.declared.matching.Fed.{Fed}
 use Rattle.slot_match.specs.Rows.{Names}
 use Rattle.slot_match.specs.Matches.{fed_of, Serves}
-use Rattle.eslip_rounds.proofs.Progress.{some_pair}
+use Rattle.eslip_rounds.proofs.Progress.{some_pair_by}
 use Rattle.crossbar.specs.declared.cards.Post.{Post as CardPost}
-use Rattle.eslip_rounds.specs.Schedulers.{Scheduler, IsScheduler}
+use Rattle.eslip_rounds.specs.Schedulers.{Scheduler, StayAtPorts, IsScheduler}
 use Rattle.slot_histories.specs.Slots.{slot_rows, places_under, decision_under, is_done_at}
 use Rattle.slot_histories.specs.Tests.{is_empty}
 use Rattle.slot_histories.proofs.PostedRows.{row_of-slot_rows}
@@ -88,7 +88,7 @@ module _ (scheduler : Scheduler) (scheduling : IsScheduler scheduler) (plan : Sw
         | inl found ↦ let fed = found.1 in (fed.input, found.0, fed.level, fed.kind, found.2)
         | inr none ↦
             absurd (both_ways (is_empty (posts i t).row) busy ((Decides-is_empty (posts i t).row).1 (λ level j kind named.
-            let pair = some_pair n t (slot_rows n posts t) (places_under scheduler s posts t) (within scheduler scheduling plan good t) places.0 places.1 plan.rounds decision good.rounds.some (is-slot scheduler scheduling plan good t) i j level kind inside
+            let pair = some_pair_by n t (slot_rows n posts t) (places_under scheduler s posts t) (within scheduler scheduling plan good t) places.0 places.1 StayAtPorts plan.rounds decision good.rounds.some (is-slot scheduler scheduling plan good t) i j level kind inside
             (subst (λ row. Names row level kind j) (sym (row_of-slot_rows n posts t i inside)) named) in
             none-some _ (sym (none pair.1) ∙ pair.4))))
       ]
