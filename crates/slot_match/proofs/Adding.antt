@@ -137,20 +137,13 @@ module _ (n : ℕ) (old new : List (Option Fed)) (input outputs level : ℕ) (ki
   )
 
   -- what is kept beside the match follows it
-  pub AreSets-added : (count more : ℕ) (fans later_fans : List ℕ) (free_inputs later_inputs free_outputs later_outputs : ℕ) (on later_on : List ℕ) → AreSets n old count fans free_inputs free_outputs on → count_by is_some new ≡ count_by is_some old + more → ((i j : ℕ) → Has (slice_index later_fans i) j ↔ (Has (slice_index fans i) j ⊎ ((i ≡ input) × Has outputs j))) → ((i : ℕ) → Has later_inputs i ↔ ((i ≢ input) × Has free_inputs i)) → ((j : ℕ) → Has later_outputs j ↔ (Has free_outputs j × (Has outputs j → ⊥))) → ((l i : ℕ) → Has (slice_index later_on l) i ↔ (((i ≡ input) × (l ≡ level) × (kind ≡ Multi)) ⊎ Has (slice_index on l) i)) → AreSets n new (count + more) later_fans later_inputs later_outputs later_on
-  AreSets-added count more fans later_fans free_inputs later_inputs free_outputs later_outputs on later_on sets counted fed inputs outs ons =
+  pub AreSets-added : (count more : ℕ) (free_inputs later_inputs free_outputs later_outputs : ℕ) (on later_on : List ℕ) → AreSets n old count free_inputs free_outputs on → count_by is_some new ≡ count_by is_some old + more → ((i : ℕ) → Has later_inputs i ↔ ((i ≢ input) × Has free_inputs i)) → ((j : ℕ) → Has later_outputs j ↔ (Has free_outputs j × (Has outputs j → ⊥))) → ((l i : ℕ) → Has (slice_index later_on l) i ↔ (((i ≡ input) × (l ≡ level) × (kind ≡ Multi)) ⊎ Has (slice_index on l) i)) → AreSets n new (count + more) later_inputs later_outputs later_on
+  AreSets-added count more free_inputs later_inputs free_outputs later_outputs on later_on sets counted inputs outs ons =
       record {
         some = sets.some;
         size = sets.size;
         whole = IsMatch-added;
         counts = ap (λ c. c + more) sets.counts ∙ sym counted;
-        feeds = λ i j. (
-          λ has. elim ((fed i j).0 has) [
-            | inl before ↦ let s = (sets.feeds i j).0 before in (s.0, s.1, kept i j s.0 s.1 s.2)
-            | inr p ↦ (level, kind, (Serves-added i j level kind).1 (inr (p.0, p.1, refl, refl)))
-          ],
-          λ s. (fed i j).1 (elim ((Serves-added i j s.0 s.1).0 s.2) [ inl before ↦ inl ((sets.feeds i j).1 (s.0, s.1, before)) | inr p ↦ inr (p.0, p.1) ]),
-        );
         inputs_left = λ i. (
           λ has. let p = (inputs i).0 has in let q = (sets.inputs_left i).0 p.1 in (q.0, (IsFreeInput-added i).1 (p.0, q.1)),
           λ p. let q = (IsFreeInput-added i).0 p.1 in (inputs i).1 (q.0, (sets.inputs_left i).1 (p.0, q.1)),

@@ -10,9 +10,8 @@ use Rattle.rotating_pick.specs.declared.kinds.Kind.TheVariants.{Multi}
 use Rattle.rotating_pick.specs.declared.limits.TheConstants.{LEVELS, MAX_PORTS}
 use Rattle.rotating_pick.proofs.Tables.{no_members}
 use Rattle.slot_match.specs.declared.matching.Fed.{Fed}
-use Rattle.slot_match.specs.Matches.{unmatched, fed_of, Serves, IsFreeInput, IsServed, IsMatch, MayAdd}
+use Rattle.slot_match.specs.Matches.{unmatched, fed_of, Serves, IsServed, IsMatch, MayAdd}
 use Rattle.slot_match.specs.Fields.{AreSets, AreKept}
-use Rattle.slot_match.proofs.Sets.{zero-has}
 use Rattle.slot_match.proofs.Pairs.{Serves-from, Serves-once, Serves-alike, Serves-along, fed_of-lt}
 use Rattle.slot_match.proofs.Tables.{fed_of-take, fed_of-past, count_by-take}
 use Rattle.slot_match.proofs.Adding.{IsAdded, IsMatch-added, AreSets-added}
@@ -39,16 +38,15 @@ IsMatch-unmatched n =
       once = λ i j level kind k other again s r. absurd (nobody_at_first n i j level kind s);
     }
 
-pub AreKept-new : (n : ℕ) (fed : List (Option Fed)) (fans : List ℕ) (inputs outputs : ℕ) → 0 < n → n ≤ MAX_PORTS → fed ≡ unmatched MAX_PORTS → fans ≡ replicate MAX_PORTS 0 → ((x : ℕ) → Has inputs x ↔ (x < n)) → ((x : ℕ) → Has outputs x ↔ (x < n)) → AreKept n fed 0 fans inputs outputs (replicate LEVELS 0)
-AreKept-new n fed fans inputs outputs some size e d all_inputs all_outputs =
+pub AreKept-new : (n : ℕ) (fed : List (Option Fed)) (inputs outputs : ℕ) → 0 < n → n ≤ MAX_PORTS → fed ≡ unmatched MAX_PORTS → ((x : ℕ) → Has inputs x ↔ (x < n)) → ((x : ℕ) → Has outputs x ↔ (x < n)) → AreKept n fed 0 inputs outputs (replicate LEVELS 0)
+AreKept-new n fed inputs outputs some size e all_inputs all_outputs =
     let nothing : Option Fed = None in
     let front : take n fed ≡ unmatched n = ap (take n) e ∙ take-replicate n MAX_PORTS nothing size in
-    let sets : AreSets n (unmatched n) 0 (replicate MAX_PORTS 0) inputs outputs (replicate LEVELS 0) = record {
+    let sets : AreSets n (unmatched n) 0 inputs outputs (replicate LEVELS 0) = record {
       some = some;
       size = size;
       whole = IsMatch-unmatched n;
       counts = count_zero n;
-      feeds = λ i j. (λ has. absurd (no_members MAX_PORTS i j has), λ s. absurd (nobody_at_first n i j s.0 s.1 s.2));
       inputs_left = λ i. (λ has. ((all_inputs i).0 has, nobody_at_first n i), λ p. (all_inputs i).1 p.0);
       outputs_left = λ j. (λ has. ((all_outputs j).0 has, fed_of-unmatched n j), λ p. (all_outputs j).1 p.0);
       go_on = λ level i. (λ has. absurd (no_members LEVELS level i has), λ on. absurd (nobody_at_first n i on.some.0 level Multi on.some.1));
@@ -56,25 +54,21 @@ AreKept-new n fed fans inputs outputs some size e d all_inputs all_outputs =
     record {
       long = ap length e ∙ length-replicate MAX_PORTS nothing;
       beyond = λ j above. ap (λ m. fed_of m j) e ∙ fed_of-unmatched MAX_PORTS j;
-      sets = rw (front, d) sets;
+      sets = rw front sets;
     } where
       count_zero : (k : ℕ) → 0 ≡ count_by is_some (unmatched k)
       count_zero k = count_by-take zero (unmatched k) (λ j above. fed_of-unmatched k j)
 
-module _ (n count : ℕ) (table : List (Option Fed)) (fans : List ℕ) (free_inputs free_outputs : ℕ) (on : List ℕ) (kept : AreKept n table count fans free_inputs free_outputs on) where
+module _ (n count : ℕ) (table : List (Option Fed)) (free_inputs free_outputs : ℕ) (on : List ℕ) (kept : AreKept n table count free_inputs free_outputs on) where
   long : n ≤ length table
   long = let e = kept.long in let size = kept.sets.size in omega arith
 
-  -- an input that feeds no output is free
-  pub free_from_fan : (i : ℕ) → slice_index fans i ≡ 0 → IsFreeInput (take n table) i
-  free_from_fan i e j level kind s = zero-has (slice_index fans i) j e ((kept.sets.feeds i j).1 (level, kind, s))
-
   -- the part of an input, from one of the outputs that it feeds
-  pub IsServed-from_fan : (i j : ℕ) (f : Fed) → Has (slice_index fans i) j → fed_of table j ≡ Some f → IsServed (take n table) i (record { outputs = slice_index fans i; level = f.level; kind = f.kind })
-  IsServed-from_fan i j f has e =
+  pub IsServed-from_fan : (i fan j : ℕ) (f : Fed) → ((y : ℕ) → Has fan y ↔ ((level : ℕ) × (kind : Kind) × Serves (take n table) i y level kind)) → Has fan j → fed_of table j ≡ Some f → IsServed (take n table) i (record { outputs = fan; level = f.level; kind = f.kind })
+  IsServed-from_fan i fan j f feeds has e =
       let m = take n table in
       let whole = kept.sets.whole in
-      let there = (kept.sets.feeds i j).0 has in
+      let there = (feeds j).0 has in
       let lt = fed_of-lt m j (record { input = i; level = there.0; kind = there.1 }) there.2 in
       let below : j < n = let count = whole.count in omega arith in
       let fed : fed_of m j ≡ Some f = fed_of-take n table j below ∙ e in
@@ -83,16 +77,16 @@ module _ (n count : ℕ) (table : List (Option Fed)) (fans : List ℕ) (free_inp
       record {
         some = (j, has);
         outputs = λ y. (
-          λ h. let s = (kept.sets.feeds i y).0 h in let alike = Serves-alike n m whole i y j s.0 f.level s.1 f.kind s.2 mine in Serves-along m i y s.0 f.level s.1 f.kind alike.0 alike.1 s.2,
-          λ s. (kept.sets.feeds i y).1 (f.level, f.kind, s),
+          λ h. let s = (feeds y).0 h in let alike = Serves-alike n m whole i y j s.0 f.level s.1 f.kind s.2 mine in Serves-along m i y s.0 f.level s.1 f.kind alike.0 alike.1 s.2,
+          λ s. (feeds y).1 (f.level, f.kind, s),
         );
         only = λ y l k s. Serves-alike n m whole i y j l f.level k f.kind s mine;
       }
 
   -- an output that an input feeds is fed
-  pub fan_is_fed : (i j : ℕ) → Has (slice_index fans i) j → fed_of table j ≡ None → ⊥
-  fan_is_fed i j has e =
-      let there = (kept.sets.feeds i j).0 has in
+  pub fan_is_fed : (i fan j : ℕ) → ((y : ℕ) → Has fan y ↔ ((level : ℕ) × (kind : Kind) × Serves (take n table) i y level kind)) → Has fan j → fed_of table j ≡ None → ⊥
+  fan_is_fed i fan j feeds has e =
+      let there = (feeds j).0 has in
       let f : Fed = record { input = i; level = there.0; kind = there.1 } in
       let lt = fed_of-lt (take n table) j f there.2 in
       let below : j < n = let count = kept.sets.whole.count in omega arith in
@@ -139,13 +133,13 @@ module _ (n count : ℕ) (table : List (Option Fed)) (fans : List ℕ) (free_inp
         let whole = count_by-take n table kept.beyond in
         omega arith
 
-    pub AreKept-added : (later_fans : List ℕ) (later_inputs later_outputs : ℕ) (later_on : List ℕ) → ((i j : ℕ) → Has (slice_index later_fans i) j ↔ (Has (slice_index fans i) j ⊎ ((i ≡ input) × Has outputs j))) → ((i : ℕ) → Has later_inputs i ↔ ((i ≢ input) × Has free_inputs i)) → ((j : ℕ) → Has later_outputs j ↔ (Has free_outputs j × (Has outputs j → ⊥))) → ((l i : ℕ) → Has (slice_index later_on l) i ↔ (((i ≡ input) × (l ≡ level) × (kind ≡ Multi)) ⊎ Has (slice_index on l) i)) → AreKept n after (count + more) later_fans later_inputs later_outputs later_on
-    AreKept-added later_fans later_inputs later_outputs later_on fan inputs outs ons =
+    pub AreKept-added : (later_inputs later_outputs : ℕ) (later_on : List ℕ) → ((i : ℕ) → Has later_inputs i ↔ ((i ≢ input) × Has free_inputs i)) → ((j : ℕ) → Has later_outputs j ↔ (Has free_outputs j × (Has outputs j → ⊥))) → ((l i : ℕ) → Has (slice_index later_on l) i ↔ (((i ≡ input) × (l ≡ level) × (kind ≡ Multi)) ⊎ Has (slice_index on l) i)) → AreKept n after (count + more) later_inputs later_outputs later_on
+    AreKept-added later_inputs later_outputs later_on inputs outs ons =
         let input_here : input < n = let size = ports in omega arith in
         record {
           long = after_long;
           beyond = beyond;
-          sets = AreSets-added n (take n table) (take n after) input outputs level kind kept.sets.whole may_here input_here level_in added count more fans later_fans free_inputs later_inputs free_outputs later_outputs on later_on kept.sets counts fan inputs outs ons;
+          sets = AreSets-added n (take n table) (take n after) input outputs level kind kept.sets.whole may_here input_here level_in added count more free_inputs later_inputs free_outputs later_outputs on later_on kept.sets counts inputs outs ons;
         }
 
     -- the new match, as callers see it

@@ -7,3 +7,4 @@ pub mod Kept
 pub mod Maximal
 pub mod KeepingParts
 pub mod KeepingSets
+pub mod PartsBelow

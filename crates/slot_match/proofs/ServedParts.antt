@@ -17,7 +17,7 @@ pub is_from-some : (i : ℕ) (o : Option Fed) → is_from i o ≡ true → (f : 
 is_from-some i None e = absurd (cc)
 is_from-some i (Some f) e = (f, refl, eqb-true f.input i e)
 
-is_from-true : (i : ℕ) (o : Option Fed) (f : Fed) → o ≡ Some f → f.input ≡ i → is_from i o ≡ true
+pub is_from-true : (i : ℕ) (o : Option Fed) (f : Fed) → o ≡ Some f → f.input ≡ i → is_from i o ≡ true
 is_from-true i None f e h = absurd (none-some f e)
 is_from-true i (Some g) f e h = let same : g.input ≡ i = ap (λ x. x.input) (same_Some g f e) ∙ h in grind (arith, tests)
 

@@ -1,8 +1,10 @@
 //! What the inputs of a switch post in a slot, and which of them the slot matches with which outputs.
 #![tactic(auto)]
 
+mod feeds;
 pub mod laws;
 mod matching;
+mod parts;
 mod rows;
 
 pub use matching::{Fed, Match, Served};

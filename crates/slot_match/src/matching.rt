@@ -1,4 +1,4 @@
-ghost use Rattle.std.specs.Prelude.{◌≡◌, ℕ, Some, None, ◌+◌, ◌<◌, ◌≤◌, ◌↔◌, ◌⊎◌, List, Option, length, replicate, count_by, is_some, slice_index, IsTrue, IsNone, IfSome};
+ghost use Rattle.std.specs.Prelude.{◌≡◌, ℕ, Some, None, ◌+◌, ◌<◌, ◌≤◌, ◌↔◌, ◌⊎◌, List, Option, length, count_by, is_some, slice_index, IsTrue, IsNone, IfSome};
 ghost use Rattle.rotating_pick.specs.PortSets.{Has};
 ghost use Rattle.rotating_pick.specs.declared.kinds.Kind.{Kind};
 ghost use Rattle.rotating_pick.specs.declared.kinds.Kind.TheVariants.{Multi};
@@ -6,19 +6,20 @@ ghost use Rattle.slot_match.specs.declared.matching.Fed.{Fed};
 ghost use Rattle.slot_match.specs.Rows.{AreWithin};
 ghost use Rattle.slot_match.specs.Matches.{unmatched, fed_of, Serves, IsFreeInput, IsFreeOutput, IsMulticasting, IsServed, IsMatch, MayAdd, IsMaximal};
 ghost use Rattle.slot_match.specs.Keeping.{Gives};
-ghost use Rattle.slot_match.specs.Parts.{served_of};
+ghost use Rattle.slot_match.specs.Parts.{is_from, served_of};
 ghost use Rattle.slot_match.specs.Steps.{IsReady, Wants};
 
+use crate::feeds::Feeds;
 use crate::rows::Row;
 use rotating_pick::{
-    Kind, LEVEL_COUNT, LEVELS, MAX_PORTS, PORT_COUNT, Ports, all, contains, difference,
-    intersection, is_empty, is_subset, lowest, union, with, without,
+    Kind, LEVEL_COUNT, LEVELS, MAX_PORTS, Ports, all, contains, difference, intersection, is_empty,
+    is_subset, lowest, union, with, without,
 };
 use std::marker::Model;
 use std::mem::size_of;
 
 // A journal keeps a match for each slot, so a match must stay small.
-const _: () = prove!(size_of::<Match>() <= 1536);
+const _: () = prove!(size_of::<Match>() <= 320);
 
 /// What feeds an output in a slot.
 #[derive(Clone, Copy, Debug, PartialEq, Eq)]
@@ -58,10 +59,7 @@ pub struct Match {
     ports: u32,
     // How many outputs are matched.
     count: u32,
-    // For each output what feeds it.
-    fed: [Option<Fed>; PORT_COUNT],
-    // For each input the outputs that it feeds.
-    outputs: [Ports; PORT_COUNT],
+    fed: Feeds,
     free_inputs: Ports,
     free_outputs: Ports,
     // For each level the inputs that are matched as multicast of it.
@@ -77,7 +75,7 @@ impl Model for Match {
 
     ghost view = { λ m. take m.ports m.fed };
 
-    ghost invariant = { λ m. AreKept m.ports m.fed m.count m.outputs m.free_inputs m.free_outputs m.multicasting };
+    ghost invariant = { λ m. AreKept m.ports m.fed m.count m.free_inputs m.free_outputs m.multicasting };
 }
 
 impl Match {
@@ -91,8 +89,7 @@ impl Match {
         Match {
             ports: n,
             count: 0,
-            fed: no_feeds(),
-            outputs: no_outputs(),
+            fed: Feeds::new(),
             free_inputs: all(n),
             free_outputs: all(n),
             multicasting: [0; LEVEL_COUNT],
@@ -122,7 +119,7 @@ impl Match {
         ensures value { result ≡ fed_of self.now output }
         ensures free { IsNone result ↔ IsFreeOutput self.now output }
     {
-        self.fed[output as usize]
+        self.fed.get(output)
     }
 
     /// The outputs that are free.
@@ -154,11 +151,14 @@ impl Match {
         ensures free { IsNone result ↔ IsFreeInput self.now input }
         ensures part { IfSome result (IsServed self.now input) }
     {
-        let outputs = self.outputs[input as usize];
+        if contains(self.free_inputs, input) {
+            return None;
+        }
+        let outputs = self.fed_by(input);
         let Some(output) = lowest(outputs) else {
             return None;
         };
-        match self.fed[output as usize] {
+        match self.fed.get(output) {
             Some(fed) => Some(Served {
                 outputs,
                 level: fed.level,
@@ -166,6 +166,19 @@ impl Match {
             }),
             None => None,
         }
+    }
+
+    // The outputs that the input feeds.
+    fn fed_by(&self, input: u32) -> Ports
+        ensures { (j : ℕ) → Has result j ↔ ((level : ℕ) × (kind : Kind) × Serves self.now input j level kind) }
+    {
+        let mut outputs = 0;
+        for output in 0..self.ports {
+            if is_from(self.fed.get(output), input) {
+                outputs = with(outputs, output);
+            }
+        }
+        outputs
     }
 
     /// Whether the match may gain these pairs of the input: there is an output, each is free and below
@@ -207,7 +220,6 @@ impl Match {
         ensures whole { IsMatch (length self.new) self.new }
     {
         self.count += feed(&mut self.fed, outputs, Fed { input, level, kind });
-        join(&mut self.outputs, input, outputs);
         self.free_inputs = without(self.free_inputs, input);
         self.free_outputs = difference(self.free_outputs, outputs);
         go_on(&mut self.multicasting, input, level, kind);
@@ -257,8 +269,10 @@ fn is_single(ports: Ports) -> bool
 }
 
 // Feeds the outputs by one input, and says how many they are.
-fn feed(fed: &mut [Option<Fed>; PORT_COUNT], outputs: Ports, by: Fed) -> u32
-    requires { (j : ℕ) → Has outputs j → fed_of fed.old j ≡ None }
+fn feed(fed: &mut Feeds, outputs: Ports, by: Fed) -> u32
+    requires input_in { by.input < MAX_PORTS }
+    requires long { length fed.old ≡ MAX_PORTS }
+    requires free { (j : ℕ) → Has outputs j → fed_of fed.old j ≡ None }
     ensures long { length fed.new ≡ MAX_PORTS }
     ensures fed { (j : ℕ) → Has outputs j → fed_of fed.new j ≡ Some by }
     ensures stays { (j : ℕ) → (Has outputs j → ⊥) → fed_of fed.new j ≡ fed_of fed.old j }
@@ -267,19 +281,11 @@ fn feed(fed: &mut [Option<Fed>; PORT_COUNT], outputs: Ports, by: Fed) -> u32
     let mut count = 0;
     let mut rest = outputs;
     while let Some(output) = lowest(rest) {
-        fed[output as usize] = Some(by);
+        fed.set(output, by);
         rest = without(rest, output);
         count += 1;
     }
     count
-}
-
-// Adds to the outputs that the input feeds.
-fn join(fans: &mut [Ports; PORT_COUNT], input: u32, outputs: Ports)
-    requires { input < MAX_PORTS }
-    ensures { (i j : ℕ) → Has (slice_index fans.new i) j ↔ (Has (slice_index fans.old i) j ⊎ ((i ≡ input) × Has outputs j)) }
-{
-    fans[input as usize] = union(fans[input as usize], outputs);
 }
 
 // Counts the input among those that are matched as multicast of the level, if it is.
@@ -293,18 +299,14 @@ fn go_on(multicasting: &mut [Ports; LEVEL_COUNT], input: u32, level: u8, kind: K
     }
 }
 
-// A table in which no output is fed.
-fn no_feeds() -> [Option<Fed>; PORT_COUNT]
-    ensures { result ≡ unmatched MAX_PORTS }
+// Whether what feeds an output is the input.
+fn is_from(fed: Option<Fed>, input: u32) -> bool
+    ensures { result ≡ is_from input fed }
 {
-    [None; PORT_COUNT]
-}
-
-// A table in which no input feeds an output.
-fn no_outputs() -> [Ports; PORT_COUNT]
-    ensures { result ≡ replicate MAX_PORTS 0 }
-{
-    [0; PORT_COUNT]
+    match fed {
+        Some(fed) => fed.input == input,
+        None => false,
+    }
 }
 
 #[cfg(test)]
@@ -351,6 +353,9 @@ mod tests {
         };
         assert_eq!(rt; matched.served(0), Some(part));
         assert_eq!(rt; matched.served(2), None);
+        let mut parts = [matched.served(0); 3];
+        matched.put_parts(&mut parts);
+        assert_eq!(rt; parts, [matched.served(0), matched.served(1), None]);
         assert_eq!(rt; matched.count(), 3);
         assert_eq!(rt; matched.free_inputs(), 0b100);
         assert_eq!(rt; matched.free_outputs(), 0);

@@ -7,10 +7,10 @@ use Rattle.slot_match.proofs.matching.Match.new.Goals as goal
 
 pub invariant_of-result : goal.invariant_of-result
 invariant_of-result c =
-    AreKept-new c.args.n c.no_feeds.result c.no_outputs.result c.all.result c.all-2.result c.requires.some c.requires.size c.no_feeds.ensures c.no_outputs.ensures c.all.ensures.members c.all-2.ensures.members
+    AreKept-new c.args.n c.new.result c.all.result c.all-2.result c.requires.some c.requires.size c.new.ensures c.all.ensures.members c.all-2.ensures.members
 
 pub returns-clause-value : goal.returns-clause-value
-returns-clause-value c = let nothing : Option Fed = None in ap (take c.args.n) c.no_feeds.ensures ∙ take-replicate c.args.n MAX_PORTS nothing c.requires.size
+returns-clause-value c = let nothing : Option Fed = None in ap (take c.args.n) c.new.ensures ∙ take-replicate c.args.n MAX_PORTS nothing c.requires.size
 
 pub returns-clause-whole : goal.returns-clause-whole
 returns-clause-whole c = rw (returns-clause-value c) (IsMatch-unmatched c.args.n)
