@@ -1,17 +1,11 @@
-ghost use Rattle.std.specs.Prelude.{◌≡◌, ℕ, ◌+◌, ◌*◌, ◌<◌, ◌≤◌, ◌↔◌, IsTrue, not, map, take, drop, length, replicate, slice_set, vec_len, vec_capacity, ◌++◌, ◌∷◌, []};
+ghost use Rattle.std.specs.Prelude.{◌≡◌, ℕ, ◌+◌, ◌*◌, ◌<◌, ◌≤◌, ◌↔◌, not, map, take, drop, length, replicate, slice_set, vec_len, vec_capacity, ◌++◌, ◌∷◌, []};
 ghost use Rattle.std.specs.List.{list_all};
-ghost use Rattle.slot_match.specs.Rows.{AreWithin};
-ghost use Rattle.eslip_rounds.specs.Decisions.{decision_of};
 ghost use Rattle.crossbar.specs.Crossing.{fetched};
 ghost use Rattle.slot_histories.specs.Events.{no_post};
 ghost use Rattle.board_state.specs.Kept.{with_slot};
 
 use cell_cutter::Cell;
 use crossbar::Post;
-use eslip_rounds::decide;
-use islip_rounds::RoundsUsed;
-use pointer_state::Pointers;
-use rotating_pick::{MAX_PORTS, MAX_ROUNDS, PORT_COUNT};
 use slot_match::{Match, Row};
 
 // A post of nothing, which stands where a card has not posted.
@@ -68,50 +62,6 @@ fn push_blanks(posts: &mut Vec<Post>, count: usize)
     for _ in 0..count {
         posts.push_reserved(blank_post());
     }
-}
-
-// The rows of the posts, and then rows that name nothing.
-fn rows_of(posts: &[Post]) -> [Row; PORT_COUNT]
-    requires { length posts.now ≤ MAX_PORTS }
-    ensures { take (length posts.now) result ≡ map (λ post. post.row) posts.now }
-{
-    let mut rows = [Row::empty(); PORT_COUNT];
-    for (place, post) in posts.iter().enumerate() {
-        put_row(&mut rows, place, post);
-    }
-    rows
-}
-
-// Puts the row of the post at the place.
-fn put_row(rows: &mut [Row; PORT_COUNT], place: usize, post: &Post)
-    requires { place < MAX_PORTS }
-    ensures rows { rows.new ≡ slice_set rows.old place post.now.row }
-    ensures long { length rows.new ≡ MAX_PORTS }
-{
-    rows[place] = post.row;
-}
-
-// Decides the slot from its posts: sets the match, moves the pointers and answers how the rounds were
-// used.
-pub(crate) fn decide_slot(
-    ports: u32,
-    rounds: u32,
-    slot: u32,
-    posts: &[Post],
-    pointers: &mut Pointers,
-    matched: &mut Match,
-) -> RoundsUsed
-    requires ports { (0 < ports) × (ports ≤ MAX_PORTS) }
-    requires rounds { (0 < rounds) × (rounds ≤ MAX_ROUNDS) }
-    requires posts { length posts.now ≡ ports }
-    requires rows { AreWithin ports (map (λ post. post.row) posts.now) }
-    requires pointers { pointers.old.ports ≡ ports }
-    requires matched { length matched.old ≡ ports }
-    ensures { record { matched = matched.new; numbers = result; places = pointers.new } ≡ decision_of ports rounds slot (map (λ post. post.row) posts.now) pointers.old }
-{
-    let rows = rows_of(posts);
-    let rows = &rows[..posts.len()];
-    decide(ports, rounds, slot, rows, pointers, matched)
 }
 
 // Whether no card has more.

@@ -13,9 +13,9 @@ use crate::limits::{MAX_SLOTS, MAX_SLOTS_WIDE};
 use crossbar::Post;
 use islip_rounds::RoundsUsed;
 use pointer_state::Pointers;
-use rotating_pick::{MAX_PORTS, MAX_ROUNDS, OutOfMemory, Ports};
+use rotating_pick::{MAX_PORTS, MAX_ROUNDS, OutOfMemory, PORT_COUNT, Ports};
 use slot_histories::{Answer, Event};
-use slot_match::Match;
+use slot_match::{Match, Row, Served};
 use std::alloc::{AllocError, Global};
 use std::marker::Model;
 
@@ -38,6 +38,10 @@ pub struct BoardState {
     // The cards that have posted the slot that is decided next.
     posted_next: Ports,
     pointers: Pointers,
+    // Each card's part of the slot that was decided last.
+    parts: [Option<Served>; PORT_COUNT],
+    // The rows of that slot, from which it was decided.
+    rows: [Row; PORT_COUNT],
     // Whether a decided slot is done. It is the last, since no card posts after it.
     done: bool,
     // Slot by slot and card by card.
@@ -88,6 +92,8 @@ impl BoardState {
             taken: no_counts(),
             posted_next: 0,
             pointers: Pointers::new(n),
+            parts: [None; PORT_COUNT],
+            rows: [Row::empty(); PORT_COUNT],
             done: false,
             posts,
             matches,

@@ -6,8 +6,10 @@
 
 mod cards;
 mod deposits;
+mod posted_rows;
 #[cfg(test)]
 mod tests;
 
 pub use cards::{Post, Taken};
 pub use deposits::Crossbar;
+pub use posted_rows::put_rows;

@@ -36,3 +36,4 @@ pub mod AnyQueue
 mod Greatest
 mod Levels
 mod Noting
+mod PartsServed

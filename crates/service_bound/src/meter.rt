@@ -3,12 +3,15 @@ ghost use Rattle.rotating_pick.specs.PortSets.{Has};
 ghost use Rattle.rotating_pick.specs.declared.kinds.Kind.TheVariants.{Uni};
 ghost use Rattle.slot_match.specs.Rows.{Names, AreWithin};
 ghost use Rattle.slot_match.specs.Keeping.{Gives};
+ghost use Rattle.slot_match.specs.Parts.{served_of};
 ghost use Rattle.service_bound.specs.Waits.{NotedSlot, is_waiting, longest_wait};
 ghost use Rattle.service_bound.specs.Meters.{queues_at_first, place_of, queues_at, AreBegun, NotesSlot, HasNoted};
 
 use crate::level_queues::LevelQueues;
 use crate::limits::MAX_NOTED;
-use rotating_pick::{Kind, LEVEL_COUNT, LEVELS, MAX_PORTS, OutOfMemory, Ports, difference};
+use rotating_pick::{
+    Kind, LEVEL_COUNT, LEVELS, MAX_PORTS, OutOfMemory, PORT_COUNT, Ports, difference,
+};
 use slot_match::{Match, Row, Served};
 use std::alloc::{AllocError, Global};
 use std::marker::Model;
@@ -114,17 +117,20 @@ fn note_slot(queues: &mut Vec<LevelQueues>, count: u32, rows: &[Row], matched: &
     ensures long { length queues.new.items ≡ length queues.old.items }
     ensures noted { (place : ℕ) → place < length queues.old.items → NotesSlot count (λ j. is_waiting (record { rows = rows.now; matched = matched.now }) (place / LEVELS) j (place % LEVELS)) (queues_at queues.old.items place) (queues_at queues.new.items place) }
 {
+    let mut parts = [None; PORT_COUNT];
+    matched.put_parts(&mut parts);
     for input in 0..rows.len() {
-        note_input(queues, count, rows, matched, input);
+        note_input(queues, count, rows, matched, parts[input], input);
     }
 }
 
-// The queues of the input note slot `count`.
+// The queues of the input, which is served so, note slot `count`.
 fn note_input(
     queues: &mut Vec<LevelQueues>,
     count: u32,
     rows: &[Row],
     matched: &Match,
+    served: Option<Served>,
     input: usize,
 )
     requires rows { AreWithin (length matched.now) rows.now }
@@ -132,12 +138,13 @@ fn note_input(
     requires long { length queues.old.items ≡ LEVELS * length rows.now }
     requires few { count < MAX_NOTED }
     requires input { input < length rows.now }
+    requires served { served ≡ served_of matched.now input }
     requires begun { (place : ℕ) → place / LEVELS ≡ input → AreBegun count (queues_at queues.old.items place) }
     ensures long { length queues.new.items ≡ length queues.old.items }
     ensures noted { (place : ℕ) → place / LEVELS ≡ input → NotesSlot count (λ j. is_waiting (record { rows = rows.now; matched = matched.now }) (place / LEVELS) j (place % LEVELS)) (queues_at queues.old.items place) (queues_at queues.new.items place) }
     ensures others { (place : ℕ) → place / LEVELS ≢ input → queues_at queues.new.items place ≡ queues_at queues.old.items place }
 {
-    let served = matched.served(input as u32);
+    let _ = matched.ports();
     for level in 0..LEVEL_COUNT {
         let outputs = outputs_waiting(&rows[input], served, level);
         queues[input * LEVEL_COUNT + level].note(count, outputs);

@@ -1,4 +1,4 @@
-ghost use Rattle.std.specs.Prelude.{◌≡◌, ◌<◌, ◌↔◌, ◌⊎◌, ℕ, Some, length, map};
+ghost use Rattle.std.specs.Prelude.{◌≡◌, ◌<◌, ◌↔◌, ◌⊎◌, ℕ, None, Some, length, map, slice_index_or};
 ghost use Rattle.std.specs.List.{range_with_len};
 ghost use Rattle.rotating_pick.specs.PortSets.{Has};
 ghost use Rattle.rotating_pick.specs.declared.limits.TheConstants.{MAX_PORTS};
@@ -6,12 +6,20 @@ ghost use Rattle.slot_match.specs.Parts.{served_of};
 ghost use Rattle.slot_match.specs.Steps.{outputs_in};
 
 use crate::matching::{Fed, Match, Served};
-use rotating_pick::{Ports, with};
+use rotating_pick::{PORT_COUNT, Ports, with};
 
 impl Match {
-    /// Writes each input's part of the match to the place of the input, None exactly where it is free. There
-    /// are as many places as ports. One pass over the outputs serves all inputs.
-    pub fn put_parts(&self, parts: &mut [Option<Served>])
+    /// Writes each input's part of the match to the place of the input, None exactly where it is free. One
+    /// pass over the outputs serves all inputs.
+    pub fn put_parts(&self, parts: &mut [Option<Served>; PORT_COUNT])
+        ensures { (i : ℕ) → i < length self.now → slice_index_or parts.new i None ≡ served_of self.now i }
+    {
+        let ports = self.ports() as usize;
+        self.fill_parts(&mut parts[..ports]);
+    }
+
+    // Writes each input's part of the match to the place of the input. There are as many places as ports.
+    fn fill_parts(&self, parts: &mut [Option<Served>])
         requires { length parts.old ≡ length self.now }
         ensures { parts.new ≡ map (served_of self.now) (range_with_len 0 (length self.now)) }
     {

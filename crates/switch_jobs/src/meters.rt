@@ -5,7 +5,7 @@ ghost use Rattle.service_bound.specs.Waits.{NotedSlot, longest_wait};
 ghost use Rattle.service_bound.specs.Meters.{HasNoted};
 ghost use Rattle.switch_jobs.specs.Journals.{rows_of, noted_in, longest_in};
 
-use crossbar::Post;
+use crossbar::{Post, put_rows};
 use rotating_pick::{LEVEL_COUNT, LEVELS, MAX_PORTS, PORT_COUNT};
 use service_bound::{MAX_NOTED, WaitMeter};
 use slot_board::Journal;
@@ -20,14 +20,20 @@ pub(crate) fn longest_waits(meter: WaitMeter, journal: &Journal) -> [u32; LEVEL_
 {
     journal.legal();
     let mut meter = meter;
+    let mut rows = [Row::empty(); PORT_COUNT];
     for slot in 0..journal.slots() {
-        note_slot(&mut meter, journal.posts(slot), journal.decided(slot));
+        note_slot(
+            &mut meter,
+            &mut rows,
+            journal.posts(slot),
+            journal.decided(slot),
+        );
     }
     longest_of(&meter)
 }
 
-// Notes one slot more.
-fn note_slot(meter: &mut WaitMeter, posts: &[Post], matched: &Match)
+// Notes one slot more, whose rows are written to the first places of the table.
+fn note_slot(meter: &mut WaitMeter, rows: &mut [Row; PORT_COUNT], posts: &[Post], matched: &Match)
     requires rows { AreWithin meter.old.ports (rows_of posts.now) }
     requires size { length posts.now ≤ MAX_PORTS }
     requires matched { length matched.now ≡ meter.old.ports }
@@ -36,29 +42,8 @@ fn note_slot(meter: &mut WaitMeter, posts: &[Post], matched: &Match)
     ensures ports { meter.new.ports ≡ meter.old.ports }
     ensures count { meter.new.count ≡ meter.old.count + 1 }
 {
-    let rows = copied_rows(posts);
+    put_rows(rows, posts);
     meter.note(&rows[..posts.len()], matched);
-}
-
-// The rows of the posts, in the first places of a table.
-fn copied_rows(posts: &[Post]) -> [Row; PORT_COUNT]
-    requires { length posts.now ≤ MAX_PORTS }
-    ensures { take (length posts.now) result ≡ rows_of posts.now }
-{
-    let mut rows = [Row::empty(); PORT_COUNT];
-    for (place, post) in posts.iter().enumerate() {
-        put_row(&mut rows, place, post);
-    }
-    rows
-}
-
-// Writes the row of the post to a place of the table.
-fn put_row(rows: &mut [Row; PORT_COUNT], place: usize, post: &Post)
-    requires { place < MAX_PORTS }
-    ensures rows { rows.new ≡ slice_set rows.old place post.now.row }
-    ensures long { length rows.new ≡ MAX_PORTS }
-{
-    rows[place] = post.row;
 }
 
 // The longest wait of each level.

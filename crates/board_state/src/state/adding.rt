@@ -6,9 +6,10 @@ ghost use Rattle.slot_histories.specs.Legal.{MayPost, MayDecide, MayTake};
 ghost use Rattle.board_state.specs.Boards.{with_event};
 
 use crate::counts::raise;
-use crate::posts::{decide_slot, is_last, posts_at, write_post};
+use crate::posts::{is_last, posts_at, write_post};
 use crate::state::BoardState;
-use crossbar::{Post, Taken};
+use crossbar::{Post, Taken, put_rows};
+use eslip_rounds::decide;
 use islip_rounds::RoundsUsed;
 use rotating_pick::{MAX_PORTS, with};
 use slot_match::Match;
@@ -40,14 +41,16 @@ impl BoardState {
         let slot = self.matches.len() as u32;
         let posts = posts_at(&self.posts, slot as usize, self.ports as usize);
         self.matches.push_reserved(Match::new(self.ports));
-        let numbers = decide_slot(
+        put_rows(&mut self.rows, posts);
+        let numbers = decide(
             self.ports,
             self.rounds,
             slot,
-            posts,
+            &self.rows[..posts.len()],
             &mut self.pointers,
             &mut self.matches[slot as usize],
         );
+        self.matches[slot as usize].put_parts(&mut self.parts);
         self.done = is_last(posts);
         self.posted_next = 0;
         self.numbers.push_reserved(numbers);

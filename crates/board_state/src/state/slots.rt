@@ -1,6 +1,6 @@
 ghost use Rattle.std.specs.Prelude.{◌≡◌, ◌+◌, ◌<◌, ◌≤◌, length};
 ghost use Rattle.slot_histories.specs.Events.{posts_of, decides, posted};
-ghost use Rattle.slot_histories.specs.Slots.{slot_posts, decision_at, is_done_at, is_done_before, crossed, taken_at, row_before, served_before};
+ghost use Rattle.slot_histories.specs.Slots.{slot_posts, decision_at, is_done_at, is_done_before, crossed, served_at, taken_at, row_before, served_before};
 
 use crate::posts::{crossing, posts_at};
 use crate::state::BoardState;
@@ -75,7 +75,20 @@ impl BoardState {
         if slot == 0 {
             None
         } else {
-            self.matched(slot - 1).served(card)
+            self.part_of(card, slot - 1)
+        }
+    }
+
+    // The card's part of the slot, which is decided. That of the last slot stands ready.
+    fn part_of(&self, card: u32, slot: u32) -> Option<Served>
+        requires card_in { card < self.now.setup.ports }
+        requires slot_in { slot < decides self.now.events }
+        ensures { result ≡ served_at self.now.setup (posted self.now.events) card slot }
+    {
+        if slot as usize + 1 == self.matches.len() {
+            self.parts[card as usize]
+        } else {
+            self.matched(slot).served(card)
         }
     }
 
@@ -100,7 +113,7 @@ impl BoardState {
     {
         Taken {
             slot,
-            served: self.matched(slot).served(card),
+            served: self.part_of(card, slot),
             cell: self.cell_for(card, slot),
             done: self.is_done(slot),
         }

@@ -8,6 +8,7 @@ use Rattle.service_bound.specs.Waits.{NotedSlot, is_waiting}
 use Rattle.service_bound.specs.Meters.{Queues, queues_at, NotesSlot}
 use Rattle.service_bound.proofs.Noting.{found_is, NotesSlot-along, noted-set, left-set}
 use Rattle.service_bound.proofs.Waiting.{Gives-iff_serves, member-waits}
+use Rattle.service_bound.proofs.PartsServed.{part_is_free, part_serves}
 use Rattle.service_bound.proofs.meter.note_input.Goals as goal
 
 pub note-requires-clause-among : goal.note-requires-clause-among
@@ -38,8 +39,9 @@ loop-level-preserved c =
     let slot : NotedSlot = record { rows = rows; matched = matched } in
     let inside : place < length now = omega arith in
     let found = found_is now place c.index_mut.result.now inside c.index_mut.ensures.value ∙ inv.left place (omega arith) in
-    let gives : (j : ℕ) → Gives c.served-served.result j level Uni ↔ Serves matched input j level Uni = λ j. Gives-iff_serves matched input j level Uni c.served-served.result c.served-served.ensures.free c.served-served.ensures.part in
-    let waits : (j : ℕ) → (bit_at c.outputs_waiting-outputs.result j == 1) ≡ is_waiting slot input j level = λ j. member-waits rows matched input j level c.outputs_waiting-outputs.result (Gives c.served-served.result j level Uni) (c.outputs_waiting-outputs.ensures j) (gives j) in
+    let whole = c.ports.ensures.whole in
+    let gives : (j : ℕ) → Gives c.args.served j level Uni ↔ Serves matched input j level Uni = λ j. Gives-iff_serves matched input j level Uni c.args.served (part_is_free c.ports.result matched input c.args.served whole c.requires.served) (part_serves c.ports.result matched input c.args.served whole c.requires.served) in
+    let waits : (j : ℕ) → (bit_at c.outputs_waiting-outputs.result j == 1) ≡ is_waiting slot input j level = λ j. member-waits rows matched input j level c.outputs_waiting-outputs.result (Gives c.args.served j level Uni) (c.outputs_waiting-outputs.ensures j) (gives j) in
     let row : input ≡ place / LEVELS = omega arith in
     let column : level ≡ place % LEVELS = omega arith in
     let there : (j : ℕ) → (bit_at c.outputs_waiting-outputs.result j == 1) ≡ is_waiting slot (place / LEVELS) j (place % LEVELS) = λ j. waits j ∙ ap (λ r. is_waiting slot r j level) row ∙ ap (λ l. is_waiting slot (place / LEVELS) j l) column in

@@ -25,6 +25,7 @@ invariant_of-self c =
     let next = IsKept-post kept c.args.card c.args.post mask.result (omega (arith, c.self.told.0, may.card_in, kept.setup.ports_few)) may mask.ensures in
     record {
       kept = rw (c.write_post.ensures.items, c.push_reserved.ensures.items, c.raise.ensures, events) next;
+      parts = c.self.invariant.parts;
       room = rw (c.write_post.ensures.room, c.push_reserved.ensures.capacity) c.self.invariant.room;
     }
 

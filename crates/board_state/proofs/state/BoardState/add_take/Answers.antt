@@ -17,6 +17,7 @@ invariant_of-self c =
     let next = IsKept-take kept c.args.card (omega (arith, c.self.told.1, may.card_in, kept.setup.ports_few)) may in
     record {
       kept = rw (c.push_reserved.ensures.items, c.raise.ensures, take_events kept c.args.card may.card_in) next;
+      parts = c.self.invariant.parts;
       room = rw c.push_reserved.ensures.capacity c.self.invariant.room;
     }
 

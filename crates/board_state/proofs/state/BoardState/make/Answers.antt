@@ -1,4 +1,4 @@
-use Rattle.std.proofs.Common.{refl}
+use Rattle.std.proofs.Common.{refl, arith}
 use Rattle.board_state.proofs.Starting.{IsSetup-within, IsKept-first, IsRoom-enough, events_of-none}
 use Rattle.board_state.proofs.state.BoardState.make.Goals as goal
 
@@ -14,6 +14,7 @@ invariant_of-result c =
           let none = events_of-none c.args.n in
           rw (posts.items, matches.items, numbers.items, order.items, none, c.no_counts.ensures, c.no_counts-2.ensures, c.new.ensures.value)
           (IsKept-first setup);
+      parts = rw matches.items (λ t i e below. absurd (omega arith));
       room = rw (posts.exact, matches.exact, numbers.exact, order.exact) (IsRoom-enough _);
     }
 

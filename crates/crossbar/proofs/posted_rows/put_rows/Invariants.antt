@@ -1,7 +1,7 @@
 use Rattle.std.proofs.Common.{◌≡◌, take, map, length}
 use Rattle.rotating_pick.specs.declared.limits.TheConstants.{MAX_PORTS}
 use Rattle.crossbar.specs.declared.cards.Post.{Post as CardPost}
-use Rattle.board_state.proofs.posts.rows_of.Given as goal
+use Rattle.crossbar.proofs.posted_rows.put_rows.Given as goal
 
 abbrev pub invariant-loop-place : goal.invariant-loop-place
 invariant-loop-place l = record {

@@ -1,6 +1,6 @@
 use Rattle.std.proofs.Common.{◌≡◌, ℕ, ◌<◌, None, length, slice_index_or}
 use Rattle.slot_match.specs.Steps.{StandsBelow}
-use Rattle.slot_match.proofs.matching.Match.put_parts.Given as goal
+use Rattle.slot_match.proofs.matching.Match.fill_parts.Given as goal
 
 abbrev pub invariant-loop-output : goal.invariant-loop-output
 invariant-loop-output l = record {
