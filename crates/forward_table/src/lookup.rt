@@ -1,4 +1,6 @@
-ghost use Rattle.std.specs.Prelude.{◌≡◌, ◌≢◌, ◌↔◌, ℕ, Some, None, List, [], ◌∷◌, ◌++◌, length, map, All, Contains, IfSome, IfOk, IfErr, IsTrue, option_map, count_ones};
+ghost use Rattle.std.specs.Prelude.{◌≡◌, ◌≢◌, ◌↔◌, ℕ, Some, None, List, [], ◌∷◌, ◌++◌, length, map, All, Contains, IfSome, IfOk, IfErr, IsTrue, option_map, count_ones, ◌≤◌, false, replicate};
+ghost use Rattle.forward_table.specs.declared.route_lines.Target.TheVariants.{Prefix};
+ghost use Rattle.forward_table.specs.Index.{with_length};
 ghost use Rattle.forward_table.specs.Targets.{IsPrefix};
 ghost use Rattle.forward_table.specs.Reading.{line_with};
 ghost use Rattle.forward_table.specs.Routing.{covering, longest, serving_line, route_of};
@@ -11,23 +13,25 @@ use std::marker::Model;
 
 /// A forwarding table: the route lines of its text, in order.
 ///
-/// A look-up takes a search of an ordered map for each prefix length, from the longest on, at most 33.
+/// A look-up takes a search of an ordered map for each prefix length that occurs, from the longest on, at
+/// most 33.
 #[derive(Debug, Drop)]
 pub struct Table {
     lines: Vec<RouteLine>,
     index: BTreeMap<Target, RouteLine>,
+    lengths: Lengths,
 }
 
 impl Model for Table {
     ghost use Rattle.std.specs.Prelude.{List};
     ghost use Rattle.forward_table.specs.declared.route_lines.RouteLine.{RouteLine};
-    ghost use Rattle.forward_table.specs.Index.{IsIndexed};
+    ghost use Rattle.forward_table.specs.Index.{IsIndexed, AreLengths};
 
     ghost Value = { List RouteLine };
 
     ghost view = { λ table. table.lines.items };
 
-    ghost invariant = { λ table. IsIndexed table.lines.items table.index };
+    ghost invariant = { λ table. IsIndexed table.lines.items table.index × AreLengths table.lines.items table.lengths };
 }
 
 impl Table {
@@ -38,6 +42,7 @@ impl Table {
         Table {
             lines: Vec::new(alloc),
             index: BTreeMap::new(alloc),
+            lengths: no_lengths(),
         }
     }
 
@@ -51,6 +56,7 @@ impl Table {
         let Table {
             mut lines,
             mut index,
+            mut lengths,
         } = self;
         if let Some(first) = index.insert(line.target, line)? {
             return Err(TableFault::Repeated {
@@ -59,7 +65,12 @@ impl Table {
             });
         }
         lines.push(line)?;
-        Ok(Table { lines, index })
+        note_length(&mut lengths, &line.target);
+        Ok(Table {
+            lines,
+            index,
+            lengths,
+        })
     }
 
     /// The route of an address, by the line of greatest length among those that cover it, else by the
@@ -105,15 +116,25 @@ impl Table {
         ensures { result ≡ longest (covering self.now address) }
     {
         for host_bits in 0..ADDRESS_BITS + 1 {
-            let target = Target::Prefix {
-                length: ADDRESS_BITS - host_bits,
-                address: without_host_bits(address, host_bits),
-            };
-            if let Some(line) = self.line_with(&target) {
+            let prefix = without_host_bits(address, host_bits);
+            if let Some(line) = self.line_of_prefix(ADDRESS_BITS - host_bits, prefix) {
                 return Some(line);
             }
         }
         None
+    }
+
+    // The line of the prefix. No search is made for a length that does not occur.
+    fn line_of_prefix(&self, length: u32, address: u32) -> Option<RouteLine>
+        requires { length ≤ 32 }
+        ensures line { result ≡ line_with (Prefix length address) self.now }
+        ensures prefixes { All (λ line. IsPrefix line.target) self.now }
+    {
+        if self.lengths[length as usize] {
+            self.line_with(&Target::Prefix { length, address })
+        } else {
+            None
+        }
     }
 
     // The line with this target.
@@ -122,5 +143,27 @@ impl Table {
         ensures prefixes { All (λ line. IsPrefix line.target) self.now }
     {
         self.index.get(target).copied()
+    }
+}
+
+// For each prefix length whether it occurs.
+type Lengths = [bool; LENGTH_COUNT];
+
+// How many prefix lengths there are.
+const LENGTH_COUNT: usize = ADDRESS_BITS as usize + 1;
+
+fn no_lengths() -> Lengths
+    ensures { result ≡ replicate 33 false }
+{
+    [false; LENGTH_COUNT]
+}
+
+// The target's length occurs.
+fn note_length(lengths: &mut Lengths, target: &Target)
+    requires { IsPrefix target.now }
+    ensures { lengths.new ≡ with_length target.now lengths.old }
+{
+    if let Target::Prefix { length, .. } = target {
+        lengths[*length as usize] = true;
     }
 }
