@@ -10,9 +10,13 @@ use crate::tries::try_member;
 use rotating_pick::MAX_PORTS;
 use slot_board::{Board, CardSeat};
 use std::hint::spin_loop;
+use std::thread::yield_now;
 
-// How many spin hints a worker gives after a pass without a post or a take.
+// How many spin hints a worker gives after a pass without a post or a take, doubled with each further one.
 const PAUSE_HINTS: u32 = 16;
+
+// After how many such passes in a row a worker leaves the processor to other threads instead.
+const SPINNING_PASSES: u32 = 4;
 
 /// Drives the members until none is due, or after `patience` passes in a row without a post or a take.
 /// In each pass every due member makes one try. Answers how many posts and takes the members made.
@@ -57,7 +61,7 @@ fn drive_all<G: Gate>(
         let acts = pass(members, board, gate, worker);
         if acts == 0 {
             idle += 1;
-            pause();
+            pause(idle);
         } else {
             idle = 0;
             made += acts;
@@ -66,9 +70,14 @@ fn drive_all<G: Gate>(
     made
 }
 
-// Leaves the board to the other workers for a moment.
-fn pause() {
-    for _ in 0..PAUSE_HINTS {
+// Leaves the board to the other workers for a while, after as many passes in a row without a post or a
+// take: a worker that waits for one that does not run must not give up before that one can.
+fn pause(idle: u32) {
+    if idle > SPINNING_PASSES {
+        yield_now();
+        return;
+    }
+    for _ in 0..PAUSE_HINTS << idle {
         spin_loop();
     }
 }
