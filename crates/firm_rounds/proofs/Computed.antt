@@ -31,7 +31,7 @@ use Rattle.firm_rounds.proofs.OneDecision.{IsFirmSlot-only}
 
 module _ (n t : ℕ) (rows : List Row) (before : Places) (within : AreWithin n rows) (at_ports : AreAtPorts before) (ports_are : before.ports ≡ n) where
   -- an output grants one input
-  grants_once : (i x j level : ℕ) → Grants n t rows before (unmatched n) i j level Uni → Grants n t rows before (unmatched n) x j level Uni → i ≡ x
+  pub grants_once : (i x j level : ℕ) → Grants n t rows before (unmatched n) i j level Uni → Grants n t rows before (unmatched n) x j level Uni → i ≡ x
   grants_once i x j level g h =
       IsFirstFrom-only n (grant_of before j level) (λ y. Requests rows (unmatched n) y j level Uni) i x
       (from_in n t rows before (unmatched n) (IsMatch-unmatched n) at_ports ports_are j level Uni g.output_in (level_asked rows (unmatched n) i j level Uni g.first.member)) g.first h.first
