@@ -10,8 +10,8 @@ use crate::grants::{Choice, chosen};
 use crate::ranks::{RANKS, kind_of, level_of};
 use pointer_state::Pointers;
 use rotating_pick::{
-    Kind, LEVELS, MAX_PORTS, PORT_COUNT, Ports, all, difference, intersection,
-    lowest, with, without,
+    Kind, LEVELS, MAX_PORTS, PORT_COUNT, Ports, all, difference, intersection, lowest, with,
+    without,
 };
 
 /// The unicast grants of a slot's first round that were not accepted.

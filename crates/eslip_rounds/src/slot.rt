@@ -93,7 +93,7 @@ pub fn decide_with_refused(
 
 #[cfg(test)]
 mod tests {
-    use crate::decide;
+    use crate::{decide, decide_with_refused};
     use pointer_state::Pointers;
     use rotating_pick::Kind;
     use slot_match::{Fed, Match, Row, are_within};
@@ -285,6 +285,21 @@ mod tests {
         assert_eq!(rt; p.grant(0, 0), 0);
         assert_eq!(rt; p.grant(1, 0), 2);
         assert_eq!(rt; p.accept(1, 0), 2);
+    }
+
+    #[test]
+    fn refused_grant_is_told(rt: HostRuntime) {
+        let mut p = Pointers::new(3);
+        p.met(1, 0, 0);
+        p.held(0, 0, 0);
+        let rows = [Row::empty(), uni(0b011), uni(0b001)];
+        assert!(rt; are_within(3, &rows));
+        let mut out = Match::new(3);
+        let (numbers, refused) = decide_with_refused(3, 2, 2, &rows, &mut p, &mut out);
+        assert_eq!(rt; numbers.used, 2);
+        assert_eq!(rt; refused.outputs, 0b001);
+        assert_eq!(rt; refused.inputs[0], 1);
+        assert_eq!(rt; refused.levels[0], 0);
     }
 
     #[test]

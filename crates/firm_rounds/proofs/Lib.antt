@@ -4,3 +4,4 @@ pub mod InTime
 pub mod Holding
 pub mod OneDecision
 pub mod Computed
+pub mod PointersMoved

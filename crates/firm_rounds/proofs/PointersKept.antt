@@ -1,5 +1,5 @@
 -- After a slot the pointers of the level are at ports again, and the shared pointer has passed the first head that completed.
-use Rattle.std.proofs.Common.{◌≡◌, ℕ, ◌<◌, ◌≤◌, sym, refl, inl, inr, arith}
+use Rattle.std.proofs.Common.{ℕ, sym, refl, inl, inr, arith}
 use Rattle.std.proofs.lemmas.Bool.{cases_lt}
 use Rattle.pointer_state.specs.Places.{ArePointing, grant_of, accept_of, shared_of}
 use Rattle.pointer_state.proofs.Moves.{below_by}

@@ -1,5 +1,5 @@
 -- The rank of a request: it falls in each slot of a window without multicast in which the request is not served.
-use Rattle.std.proofs.Common.{◌≡◌, ℕ, ◌+◌, ◌*◌, ◌%◌, ◌<◌, ◌≤◌, ◌∙◌, List, Option, ap, sym, subst, inl, inr, arith}
+use Rattle.std.proofs.Common.{◌≡◌, ℕ, ◌+◌, ◌*◌, ◌%◌, ◌<◌, ◌≤◌, ◌∙◌, List, Option, subst, inl, inr, arith}
 use Rattle.std.proofs.Math.Nat.{mul-le-mul_left}
 use Rattle.std.proofs.lemmas.Bool.{cases_eq}
 use Rattle.rotating_pick.specs.Rotation.{distance, IsFirstFrom}
@@ -35,13 +35,13 @@ pub record RanksBelow (n level i j : ℕ) (places : Places) (most : ℕ) (rows :
 -- an input that is nearer has a lower rank, whatever accept pointer counts
 lower_by_far : (n far far_later turns most : ℕ) → far_later < far → n * far < most + 1 → turns < n → n * far_later + turns < most
 lower_by_far n far far_later turns most nearer below turns_in =
-    let scaled : n * (far_later + 1) ≤ n * far = mul-le-mul_left n nearer in
+    let scaled : n * (far_later + 1) ≤ n * far = mul-le-mul_left n (omega arith) in
     omega (arith, scaled)
 
 -- every rank is below n * n
 below_all : (n far turns : ℕ) → far < n → turns < n → n * far + turns < n * n
 below_all n far turns far_in turns_in =
-    let scaled : n * (far + 1) ≤ n * n = mul-le-mul_left n far_in in
+    let scaled : n * (far + 1) ≤ n * n = mul-le-mul_left n (omega arith) in
     omega (arith, scaled)
 
 -- at first
@@ -102,7 +102,7 @@ module _ (n t level : ℕ) (rows : List Row) (first matched : List (Option Fed))
               let passed = distance-passed n (accept_of before h level) y j accept_in accepted.below j_in (omega arith) in
               let turned : accept_of after h level ≡ (y + 1) % n = moved.held.accepts h level ∙ moved.as_first.accepted h y level served in
               let closer : distance n (accept_of after h level) j < distance n (accept_of before h level) j = rw turned (omega arith) in
-              rw place (record { named = named; far = omega (arith, near, closer); near = λ asking. omega (arith, near, closer) })
+              record { named = named; far = rw place (omega (arith, near, closer)); near = λ asking. rw place (omega (arith, near, closer)) }
         ]
 
     -- either way the rank falls

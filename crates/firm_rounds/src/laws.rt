@@ -6,8 +6,9 @@ ghost use Rattle.rotating_pick.specs.declared.kinds.Kind.TheVariants.{Uni};
 ghost use Rattle.slot_match.specs.declared.rows.Row.{Row};
 ghost use Rattle.slot_match.specs.declared.matching.Fed.{Fed};
 ghost use Rattle.slot_match.specs.Rows.{Names, row_of, HasHead, AreWithin};
-ghost use Rattle.slot_match.specs.Matches.{Serves, Completes};
+ghost use Rattle.slot_match.specs.Matches.{unmatched, Serves, Completes};
 ghost use Rattle.pointer_state.specs.Places.{Places, AreAtPorts, ArePointing, grant_of, accept_of};
+ghost use Rattle.eslip_rounds.specs.Rounds.{Grants, IsRound};
 ghost use Rattle.eslip_rounds.specs.Slots.{Decision, IsRefused};
 ghost use Rattle.eslip_rounds.specs.Schedules.{DecidedSlot, IsScheduleBy};
 ghost use Rattle.service_bound.specs.Windows.{IsWindowBy, InFirst, AreKept, IsClean, IsWithoutMulticast, places_after};
@@ -57,10 +58,16 @@ pub fn firm_decision_is_of_the_slot()
     ensures at_ports { (n rounds t : ℕ) (rows : List Row) (before : Places) → AreWithin n rows → AreAtPorts before → before.ports ≡ n → AreAtPorts (firm_decision n rounds t rows before).places }
 {}
 
-/// Where the pointers of unicast are after a slot of which `first_match` is the match after the first round. A pair of
-/// the first round moves its two pointers one beyond each other, a refused grant of it points to the input that
-/// refused it, and all others stay.
+/// Where a slot leaves the pointers of unicast, of which `first_match` is the match after the first round. A pair of the
+/// first round moves its two pointers one beyond each other, an output whose unicast grant was refused points to the
+/// input that refused it, and one that granted no unicast stays; so does an input that accepted none.
 pub fn firm_pointers_move()
-    ensures accepted { (n t : ℕ) (rows : List Row) (first_match matched : List (Option Fed)) (before after : Places) → AreMovedByFirm n t rows first_match matched before after → (i j level : ℕ) → Serves first_match i j level Uni → accept_of after i level ≡ (j + 1) % n }
-    ensures refused { (n t : ℕ) (rows : List Row) (first_match matched : List (Option Fed)) (before after : Places) → AreMovedByFirm n t rows first_match matched before after → (i j level : ℕ) → IsRefused n t rows before i j level → grant_of after j level ≡ i }
+    ensures paired { (n t : ℕ) (rows : List Row) (first_match matched : List (Option Fed)) (before after : Places) → AreWithin n rows → AreAtPorts before → before.ports ≡ n → IsRound n t rows before (unmatched n) first_match → AreMovedByFirm n t rows first_match matched before after
+        → (i j level : ℕ) → Serves first_match i j level Uni → (grant_of after j level ≡ (i + 1) % n) × (accept_of after i level ≡ (j + 1) % n) }
+    ensures refused { (n t : ℕ) (rows : List Row) (first_match matched : List (Option Fed)) (before after : Places) → AreMovedByFirm n t rows first_match matched before after
+        → (i j level : ℕ) → IsRefused n t rows before i j level → grant_of after j level ≡ i }
+    ensures grant_stays { (n t : ℕ) (rows : List Row) (first_match matched : List (Option Fed)) (before after : Places) → IsRound n t rows before (unmatched n) first_match → AreMovedByFirm n t rows first_match matched before after
+        → (j level : ℕ) → ((i : ℕ) → Grants n t rows before (unmatched n) i j level Uni → ⊥) → grant_of after j level ≡ grant_of before j level }
+    ensures accept_stays { (n t : ℕ) (rows : List Row) (first_match matched : List (Option Fed)) (before after : Places) → AreMovedByFirm n t rows first_match matched before after
+        → (i level : ℕ) → ((j : ℕ) → Serves first_match i j level Uni → ⊥) → accept_of after i level ≡ accept_of before i level }
 {}

@@ -1,8 +1,8 @@
-use Rattle.std.proofs.Common.{◌≡◌, ℕ, ◌<◌, refl, subst, inl, inr, arith}
+use Rattle.std.proofs.Common.{ℕ, ◌<◌, refl, subst, inl, inr}
 use Rattle.std.proofs.lemmas.Bool.{cases_eq}
 use Rattle.rotating_pick.specs.PortSets.{Has}
-use Rattle.slot_match.proofs.Sets.{zero-has, Has-or}
-use Rattle.eslip_rounds.specs.Steps.{Tells, GrantsUnicast}
+use Rattle.slot_match.proofs.Sets.{zero-has}
+use Rattle.eslip_rounds.specs.Steps.{GrantsUnicast}
 use Rattle.eslip_rounds.proofs.refusals.refused_grants.Goals as goal
 
 pub chosen-choice-requires-clause-ready : goal.chosen-choice-requires-clause-ready

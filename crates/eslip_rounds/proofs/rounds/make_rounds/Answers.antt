@@ -17,11 +17,11 @@ loop-done-init c =
       used = c.after_round-numbers.ensures.used;
       decided = λ t rows first_is are. (
         IsDecided-first n t rows c.args.p.now c.args.first_kind first_is c.args.asks.now are c.new.result c.round.new.out c.count-matched.result c.after_round-numbers.result c.difference-first_outputs.result c.new.ensures.value c.round.ensures.step c.round.ensures.whole c.count-matched.ensures
-        (c.after_round-numbers.ensures.numbers [] refl c.none.ensures) c.after_round-numbers.ensures.used
-        (λ j.
-        let d = c.difference-first_outputs.ensures j in
-        let all = c.all.ensures.members j in
-        (λ has. let p = d.0 has in (all.0 p.0, λ vacant. p.1 ((free j).1 (all.0 p.0, vacant))), λ p. d.1 (all.1 p.0, λ has. p.1 ((free j).0 has).1))),
+            (c.after_round-numbers.ensures.numbers [] refl c.none.ensures) c.after_round-numbers.ensures.used
+            (λ j.
+            let d = c.difference-first_outputs.ensures j in
+            let all = c.all.ensures.members j in
+            (λ has. let p = d.0 has in (all.0 p.0, λ vacant. p.1 ((free j).1 (all.0 p.0, vacant))), λ p. d.1 (all.1 p.0, λ has. p.1 ((free j).0 has).1))),
         IsSettled-first n t rows c.args.p.now c.args.first_kind first_is c.args.asks.now are c.new.result c.round.new.out c.count-matched.result c.requires.at_ports c.requires.ports c.new.ensures.value c.round.ensures.step c.round.ensures.whole c.count-matched.ensures,
       );
     }

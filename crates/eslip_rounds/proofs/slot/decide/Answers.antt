@@ -1,6 +1,4 @@
-use Rattle.std.proofs.Common.{ℕ}
 use Rattle.rotating_pick.specs.declared.kinds.Kind.TheVariants.{Multi}
-use Rattle.eslip_rounds.specs.Slots.{IsSlot}
 use Rattle.eslip_rounds.specs.Steps.{AreMade}
 use Rattle.eslip_rounds.proofs.Decided.{IsSlot-from, enough_rounds, nothing_added}
 use Rattle.eslip_rounds.proofs.Settling.{decision_of-only}

@@ -1,8 +1,7 @@
-use Rattle.std.proofs.Common.{ℕ}
 use Rattle.rotating_pick.specs.declared.kinds.Kind.TheVariants.{Multi}
-use Rattle.eslip_rounds.specs.Slots.{IsSlot}
 use Rattle.eslip_rounds.specs.Steps.{AreMade}
 use Rattle.eslip_rounds.proofs.Decided.{IsSlot-from, enough_rounds, nothing_added}
+use Rattle.eslip_rounds.proofs.Refusing.{AreRefused-from}
 use Rattle.eslip_rounds.proofs.Settling.{decision_of-only}
 use Rattle.eslip_rounds.proofs.slot.decide_with_refused.Goals as goal
 
@@ -29,3 +28,8 @@ returns-clause-unused c =
 pub returns-clause-enough : goal.returns-clause-enough
 returns-clause-enough c =
     enough_rounds c.args.n c.args.rounds c.args.slot c.args.rows.now c.args.p.now c.make_rounds-made.new.out c.make_rounds-made.result c.requires.rounds_some (c.make_rounds-made.ensures.made c.args.slot c.args.rows.now c.preferred_kind-first_kind.ensures c.asks_of-asks.ensures) c.ports.ensures.at_ports c.requires.pointers c.requires.rows
+
+pub returns-clause-refused : goal.returns-clause-refused
+returns-clause-refused c =
+    AreRefused-from c.args.n c.args.slot c.args.rounds c.args.rows.now c.args.p.now c.preferred_kind-first_kind.result c.asks_of-asks.result c.ports.ensures.at_ports c.requires.pointers c.preferred_kind-first_kind.ensures c.asks_of-asks.ensures c.make_rounds-made.new.out c.make_rounds-made.result c.requires.rounds_some
+    (c.make_rounds-made.ensures.made c.args.slot c.args.rows.now c.preferred_kind-first_kind.ensures c.asks_of-asks.ensures) c.refused_grants-refused.result c.refused_grants-refused.ensures
