@@ -59,7 +59,7 @@ fn drive_at(board: &Board, seats: &mut Seats, card: usize)
     }
 }
 
-// So many calls of each card, one card after the other.
+// Makes `calls` calls of each card, one card after the other.
 fn drive_in_turn(board: &Board, seats: &mut Seats, calls: u32)
     requires { AreSeats board.now seats.old.items }
     ensures { AreSeats board.now seats.new.items }

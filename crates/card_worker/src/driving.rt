@@ -130,7 +130,7 @@ fn take_turn<G: Gate>(member: &mut Member, board: &Board, gate: &G, worker: u32)
 }
 
 // Whether the seat's card is due: it has posted its slot, or is not done and a slot is left.
-fn is_due(seat: &CardSeat, board: &Board) -> bool
+pub(crate) fn is_due(seat: &CardSeat, board: &Board) -> bool
     requires { seat.now.turn ≡ board.now }
     ensures { result ≡ is_due seat.now }
 {

@@ -29,7 +29,7 @@ number_of (a ∷ b ∷ c ∷ []) = if a == digit_zero then None else do
   Some (100 * x + 10 * y + z)
 number_of _ = None
 
--- a number of at most so much
+-- a number of at most `most`
 abbrev pub number_up_to : ℕ → List ℕ → Option ℕ
 number_up_to most text = do
   n ← number_of text

@@ -131,7 +131,7 @@ fn with_port(n: u32, fan: Result<Ports, u32>, port: u32) -> Result<Ports, u32>
     }
 }
 
-// A number of at most so much.
+// A number of at most `most`.
 fn number_up_to(most: u32, text: &[u8]) -> Option<u32>
     ensures number { result ≡ number_up_to most text.now }
     ensures bound { IfSome result (λ n. n ≤ most) }

@@ -9,7 +9,7 @@ use std::test::Fail;
 // The most bytes that a call takes or gives.
 const PIECE: u32 = 65_536;
 
-// So many zeros. Its length is no literal, so that the prover does not unfold the list.
+// `len` zeros. The length is no literal, so that the prover does not unfold the list.
 fn zeros(alloc: Global, len: usize) -> Result<Vec<u8>, AllocError> {
     vec![in alloc; 0u8; len]
 }
@@ -80,7 +80,7 @@ const CELLS_ROWS: [CellsRow<'static>; 2] = [
     },
 ];
 
-// So many packets of 65,535 bytes to 10.0.9.1.
+// A capture of `packets` packets of 65,535 bytes to 10.0.9.1.
 fn longest_packets(alloc: Global, packets: u32) -> Result<Vec<u8>, AllocError> {
     let mut first = IPV4.to_vec(alloc)?;
     first.extend_from_slice(&[10, 0, 9, 1])?;

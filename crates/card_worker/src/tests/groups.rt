@@ -9,6 +9,8 @@ ghost use Rattle.card_worker.specs.Trying.{IsMember};
 ghost use Rattle.card_worker.specs.Groups.{AreGroups, IsGroup, IsDrivenGroup};
 ghost use Rattle.card_worker.specs.Alone.{AreHandsOf};
 
+use crate::driving::is_due;
+use crate::tries::next_post;
 use crate::{Group, Hand, Hands, Member, OpenGate, close_with, disband, drive, finish_alone, laws};
 use card_core::{Card, CardPlan, Planned};
 use rotating_pick::MAX_PORTS;
@@ -18,7 +20,7 @@ use std::test::Fail;
 use std::thread;
 use std::thread::Threads;
 
-// A run: the packets of each card, in a switch of so many ports that makes so many rounds a slot.
+// A run: the packets of each card, in a switch of `n` ports that makes `rounds` rounds a slot.
 #[derive(Clone, Copy)]
 pub(crate) struct Job<'a> {
     pub(crate) n: u32,
@@ -26,13 +28,15 @@ pub(crate) struct Job<'a> {
     pub(crate) packets: &'a [&'a [Planned]],
 }
 
-// How the cards are shared: into so many groups, which so many threads drive at once, so often.
+// How the cards are shared: into how many groups, how many threads drive them at once, and how often. Whether
+// each card has made its first post before, which its hand keeps, as where the board was busy.
 #[derive(Clone, Copy, Debug)]
 pub(crate) struct Way {
     pub(crate) groups: u32,
     pub(crate) threads: usize,
     pub(crate) patience: u32,
     pub(crate) times: u32,
+    pub(crate) ahead: bool,
 }
 
 // The most captured bytes of a card's packets, and the most bytes and messages of its output.
@@ -81,7 +85,7 @@ fn hand_of(alloc: Global, job: &Job<'_>, card: u32) -> Result<Hand, Fail>
     Ok(Hand { card, kept: None })
 }
 
-// So many groups without members.
+// `count` groups without members.
 fn empty_groups(alloc: Global, count: u32) -> Result<Vec<Group>, AllocError>
     ensures count { IfOk result (λ groups. length groups.items ≡ count) }
     ensures empty { IfOk result (λ groups. (p : ℕ) (g : Group) → slice_get groups.items p ≡ Some g → g.members.items ≡ []) }
@@ -103,6 +107,32 @@ fn place_for(card: u32, groups: usize) -> usize
     ensures { result < groups }
 {
     card as usize % groups
+}
+
+// Makes the next post of a member and keeps it, as a try does where the board is busy. A member that is not to
+// post stays as it is.
+fn keep_post(board: &Board, member: &mut Member)
+    requires { IsMember board.now member.old }
+    ensures member { IsMember board.now member.new }
+    ensures number { member.new.seat.number ≡ member.old.seat.number }
+{
+    member.seat.legal();
+    if !member.seat.posted() && is_due(&member.seat, board) {
+        let post = next_post(&mut member.hand);
+        member.hand.kept = Some(post);
+    }
+}
+
+// The member, or where it is to be ahead the member with its first post kept.
+fn prepared(board: &Board, mut member: Member, ahead: bool) -> Member
+    requires { IsMember board.now member }
+    ensures member { IsMember board.now result }
+    ensures number { result.seat.number ≡ member.seat.number }
+{
+    if ahead {
+        keep_post(board, &mut member);
+    }
+    member
 }
 
 // Puts the next card's member into the group at the place.
@@ -132,23 +162,24 @@ pub(crate) fn join_all(
     board: &Board,
     seats: Seats,
     job: &Job<'_>,
-    count: u32,
+    way: &Way,
 ) -> Result<Vec<Group>, Fail>
     requires seats { AreNewSeats board.now seats.items }
     requires ports { board.now.seats ≡ job.now.n }
     requires size { job.now.n ≤ MAX_PORTS }
-    requires some { 0 < count }
+    requires some { 0 < way.now.groups }
     ensures { IfOk result (λ groups. AreGroups board.now board.now.seats groups.items) }
 {
     board.legal();
     laws::new_members_agree();
     let mut seats = seats;
-    let mut groups = empty_groups(alloc, count)?;
+    let mut groups = empty_groups(alloc, way.groups)?;
     for card in 0..job.n {
         let place = place_for(card, groups.len());
         let seat = seats.remove(0);
         let hand = hand_of(alloc, job, card)?;
-        join(board, &mut groups, place, card, Member { hand, seat })?;
+        let member = prepared(board, Member { hand, seat }, way.ahead);
+        join(board, &mut groups, place, card, member)?;
     }
     Ok(groups)
 }
@@ -161,7 +192,7 @@ fn drive_one(board: &Board, group: &mut Group, patience: u32)
     drive(group, board, &OpenGate, patience);
 }
 
-// Drives each group, so many at once.
+// Drives each group, `threads` at once.
 fn drive_each<R: Threads + Sync>(
     rt: &R,
     board: &Board,
@@ -181,7 +212,7 @@ fn drive_each<R: Threads + Sync>(
     );
 }
 
-// Drives all groups of a board, so many at once.
+// Drives all groups of a board, as many at once as the way has threads.
 pub(crate) fn drive_groups<R: Threads + Sync>(
     rt: &R,
     board: &Board,

@@ -3,9 +3,10 @@ ghost use Rattle.std.specs.Prelude.{◌<◌};
 use crate::Hands;
 use crate::tests::groups::{Job, Way, drive_groups, finish, join_all};
 use card_core::Planned;
+use crossbar::Post;
 use rotating_pick::{Kind, MAX_PORTS, MAX_ROUNDS, Ports};
 use slot_board::{Board, Journal};
-use slot_match::Fed;
+use slot_match::{Fed, Row};
 use std::alloc::Global;
 use std::process::Abort;
 use std::test::Fail;
@@ -45,7 +46,7 @@ fn run<R: Threads + Sync>(
         return Err("job".into());
     }
     let (board, seats) = Board::make(alloc, job.n, job.rounds, SLOTS)?;
-    let mut groups = join_all(alloc, &board, seats, job, way.groups)?;
+    let mut groups = join_all(alloc, &board, seats, job, way)?;
     for _ in 0..way.times {
         drive_groups(rt, &board, &mut groups, way);
     }
@@ -97,33 +98,46 @@ const fn from(input: u32, kind: Kind) -> Option<Fed> {
     })
 }
 
-// One group, two in turn, two at once, and two that make no try.
-const WAYS: [Way; 4] = [
+// One group, two in turn, two at once, two that make no try, and one whose hands keep their first posts.
+const WAYS: [Way; 5] = [
     Way {
         groups: 1,
         threads: 1,
         patience: 1,
         times: 1,
+        ahead: false,
     },
     Way {
         groups: 2,
         threads: 1,
         patience: 1,
         times: 20,
+        ahead: false,
     },
     Way {
         groups: 2,
         threads: 2,
         patience: 100_000,
         times: 1,
+        ahead: false,
     },
     Way {
         groups: 2,
         threads: 1,
         patience: 0,
         times: 1,
+        ahead: false,
     },
+    KEPT,
 ];
+
+const KEPT: Way = Way {
+    groups: 1,
+    threads: 1,
+    patience: 1,
+    times: 1,
+    ahead: true,
+};
 
 // How many events the state makes on its own: none after drives to the end, all after none.
 fn compare_events(rt: &impl Abort, journal: &Journal, alone: u64, way: &Way) {
@@ -179,5 +193,39 @@ fn multicast_waits_for_both(rt: HostRuntime) -> Result<(), Fail> {
         compare_journal(&rt, &journal, &fed, &way);
         compare_outputs(&rt, hands, &[&[20], &[10, 20, 30], &[20]], 36, &way);
     }
+    Ok(())
+}
+
+// A first post: its row of level 0, no cell, and whether more is to come.
+fn first_post(uni: Ports, multi: Ports, more: bool) -> Post {
+    let mut row = Row::empty();
+    row.uni[0] = uni;
+    row.multi[0] = multi;
+    Post {
+        row,
+        cell: None,
+        more,
+    }
+}
+
+#[test]
+fn kept_posts_are_posted_unchanged(rt: HostRuntime) -> Result<(), Fail> {
+    let job = Job {
+        n: 3,
+        rounds: 1,
+        packets: &[
+            &[packet(20, 0, 20, 0, 0b111)],
+            &[packet(10, 0, 20, 0, 0b010), packet(30, 20, 20, 1, 0b010)],
+        ],
+    };
+    let (journal, _hands, alone) = run(&rt, rt.alloc(), &job, &KEPT)?;
+    assert_eq!(rt; alone, 0);
+    assert!(rt; 0 < journal.slots());
+    let expected = [
+        first_post(0, 0b111, true),
+        first_post(0b010, 0, true),
+        first_post(0, 0, false),
+    ];
+    assert_eq!(rt; journal.posts(0), &expected[..]);
     Ok(())
 }

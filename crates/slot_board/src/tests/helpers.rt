@@ -97,7 +97,7 @@ pub(crate) fn take_at(
     takes(board, seat)
 }
 
-// So many tries of a card to take.
+// Makes `tries` tries of a card to take.
 pub(crate) fn take_often(board: &Board, seats: &mut Seats, card: usize, tries: u32)
     requires { AreSeats board.now seats.old.items }
     ensures { AreSeats board.now seats.new.items }

@@ -23,7 +23,7 @@ const SLOTS: u32 = 300;
 
 const TRIES: u32 = 1_000;
 
-// So many tries of a card to post that it has nothing yet, or to take.
+// Makes `tries` tries of a card to post that it has nothing yet, or to take.
 fn drive(board: &Board, seat: &mut CardSeat, tries: u32)
     requires { seat.old.turn ≡ board.now }
     ensures { (seat.new.turn ≡ seat.old.turn) × (seat.new.number ≡ seat.old.number) }

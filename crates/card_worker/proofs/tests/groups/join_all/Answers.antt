@@ -45,10 +45,10 @@ join-requires-clause-card c =
     let ports = c.requires.ports in
     let inside : 0 < length at.seats.items = omega arith in
     let first : slice_get at.seats.items 0 ≡ Some c.remove-seat.result = slice_get-get_or at.seats.items 0 c.remove-seat.result inside ∙ ap Some (sym c.remove-seat.ensures.value) in
-    ap (λ (s : SeatValue Event). s.number) (at.invariant.seats 0 c.remove-seat.result first) ∙ omega arith
+    c.prepared-member.ensures.number ∙ ap (λ (s : SeatValue Event). s.number) (at.invariant.seats 0 c.remove-seat.result first) ∙ omega arith
 
-pub join-requires-clause-member : goal.join-requires-clause-member
-join-requires-clause-member c =
+pub prepared-member-requires : goal.prepared-member-requires
+prepared-member-requires c =
     let board = c.args.board.now in
     let at = c.loop-card in
     let hand = c.in_ok-hand.hand in
