@@ -11,6 +11,7 @@ pub mod Columns
 pub mod Matching
 pub mod Enough
 pub mod Decided
+pub mod Refusing
 pub mod Unique
 pub mod Progress
 pub mod EmptyRounds

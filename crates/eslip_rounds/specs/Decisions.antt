@@ -154,4 +154,4 @@ decision_of = decision_by (λ n t. places_after n)
 -- whether output j grants input i as unicast of the level in the first round, and the input does not accept
 abbrev pub is_refused : ℕ → ℕ → List Row → Places → ℕ → ℕ → ℕ → Bool
 is_refused n t rows places i j level =
-    is_fed i level Uni (granted n t rows places (unmatched n) j) && not (is_fed i level Uni (fed_of (round_of n t rows places (unmatched n)) j))
+    is_fed i level Uni (fed_of (map (granted n t rows places (unmatched n)) (ports n)) j) && not (is_fed i level Uni (fed_of (round_of n t rows places (unmatched n)) j))

@@ -2,10 +2,18 @@
 //! `pointers GRANT ACCEPT..`, the grant pointer of output 0 and the accept pointer of each input, and for
 //! one slot after the other `rows SET..`, the outputs that each input posts at level 0.
 //!
-//! A case states how many slots the longest service takes. A slot states that no queue has waited longer
-//! than since slot 0, which input 0 has for output 0, and that it is served in the last slot alone.
+//! A case states how many slots the longest service takes; under the second scheduler it states some slots that
+//! are no more than that. A slot states that no queue has waited longer than since slot 0, which input 0 has
+//! for output 0, and that it is served in the last slot alone.
+ghost use Rattle.std.specs.Prelude.{◌≡◌, ◌<◌, ◌≤◌, length};
+ghost use Rattle.pointer_state.specs.Places.{AreAtPorts};
+ghost use Rattle.slot_match.specs.Rows.{AreWithin};
+ghost use Rattle.slot_match.specs.Matches.{IsMatch};
+
 use crate::slot_fields::{Stated, pointers};
 use eslip_rounds::decide;
+use firm_rounds::decide_firm;
+use islip_rounds::RoundsUsed;
 use pointer_state::Pointers;
 use rotating_pick::{Kind, LEVEL_COUNT, MAX_PORTS, MAX_ROUNDS, PORT_COUNT, Ports};
 use service_bound::{MAX_NOTED, WaitMeter, longest_service};
@@ -13,9 +21,17 @@ use slot_match::{Fed, Match, Row, are_within};
 use std::alloc::{AllocError, Global};
 use vector_rows::{NoAnswer, Row as VectorRow, number, set_up_row};
 
+/// What decides the slots.
+#[derive(Clone, Copy)]
+pub enum Scheduler {
+    Islip,
+    Firm,
+}
+
 /// The block that is being read.
 #[derive(Drop)]
 pub struct Block {
+    scheduler: Scheduler,
     n: u32,
     rounds: u32,
     slots: u32,
@@ -26,6 +42,7 @@ pub struct Block {
 // What the slots of a block left.
 #[derive(Drop)]
 struct Course {
+    scheduler: Scheduler,
     // The number of the slot that comes next.
     slot: u32,
     pointers: Pointers,
@@ -36,8 +53,9 @@ struct Course {
 
 impl Block {
     /// Before the first block.
-    pub fn new() -> Block {
+    pub fn new(scheduler: Scheduler) -> Block {
         Block {
+            scheduler,
             n: 0,
             rounds: 0,
             slots: 0,
@@ -80,7 +98,10 @@ impl Block {
         if self.n == 0 || self.n > MAX_PORTS || self.rounds == 0 {
             return Err(NoAnswer);
         }
-        let longest = longest_service(self.n, self.rounds);
+        let longest = match self.scheduler {
+            Scheduler::Islip => longest_service(self.n, self.rounds),
+            Scheduler::Firm => self.slots.min(self.n * self.n),
+        };
         Ok(format!(in alloc; "{longest}")?)
     }
 
@@ -94,6 +115,7 @@ impl Block {
             return Err(NoAnswer);
         };
         self.course = Some(Course {
+            scheduler: self.scheduler,
             slot: 0,
             pointers: pointers(n, &stated)?,
             meter,
@@ -124,6 +146,33 @@ impl Block {
     }
 }
 
+impl Scheduler {
+    fn decide(
+        self,
+        n: u32,
+        rounds: u32,
+        slot: u32,
+        rows: &[Row],
+        p: &mut Pointers,
+        out: &mut Match,
+    ) -> RoundsUsed
+        requires some { 0 < n }
+        requires size { n ≤ MAX_PORTS }
+        requires rounds_some { 0 < rounds }
+        requires rounds_few { rounds ≤ MAX_ROUNDS }
+        requires rows { AreWithin n rows.now }
+        requires pointers { p.old.ports ≡ n }
+        requires matched { length out.old ≡ n }
+        ensures whole { IsMatch n out.new }
+        ensures at_ports { AreAtPorts p.new }
+    {
+        match self {
+            Scheduler::Islip => decide(n, rounds, slot, rows, p, out),
+            Scheduler::Firm => decide_firm(n, rounds, slot, rows, p, out),
+        }
+    }
+}
+
 impl Course {
     // Decides the slot of these rows, which keep the ones before.
     fn slot_text(&mut self, alloc: Global, rounds: u32, value: &str) -> Result<String, NoAnswer> {
@@ -142,7 +191,7 @@ impl Course {
             return Err(NoAnswer);
         }
         let mut matched = Match::new(n);
-        let _numbers = decide(
+        let _numbers = self.scheduler.decide(
             n,
             rounds,
             self.slot,

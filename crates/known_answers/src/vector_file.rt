@@ -1,5 +1,6 @@
 ghost use Rattle.std.specs.Prelude.{◌≡◌, true, IsSomeAnd};
 
+use crate::longest_rows::Scheduler;
 use crate::{
     arrival_rows, capture_rows, cell_rows, decision_rows, destination_rows, islip_rows,
     kernel_rows, longest_rows, message_rows, reassembly_rows, rotating_rows, schedule_rows,
@@ -52,7 +53,12 @@ impl RowReader for Reader {
             "schedules.txt" => Reader::Schedules(schedule_rows::Block::new()),
             "destinations.txt" => Reader::Destinations,
             "waits.txt" => Reader::Waits(wait_rows::Block::new()),
-            "longest_waits.txt" => Reader::LongestWaits(longest_rows::Block::new()),
+            "longest_waits.txt" => {
+                Reader::LongestWaits(longest_rows::Block::new(Scheduler::Islip))
+            }
+            "longest_waits_firm.txt" => {
+                Reader::LongestWaits(longest_rows::Block::new(Scheduler::Firm))
+            }
             "tables.txt" => Reader::Tables(table_rows::Block::new(alloc)),
             _ => Reader::Unknown,
         }

@@ -59,3 +59,15 @@ distance-beyond n x y x_in y_in other =
     let passed = distance-passed n x x y x_in x_in y_in (omega arith) in
     let below = distance-lt n x y x_in in
     omega (arith, passed, below)
+
+-- a pointer is at its own port
+pub distance-own : (n from : ℕ) → from < n → distance n from from ≡ 0
+distance-own n from f = let here = distance-above n from from f f (omega arith) in omega (arith, here)
+
+reached_by : (n from x y a b c : ℕ) → from < n → x < n → y < n → IsDistance n from x a → IsDistance n from y b → IsDistance n x y c → a ≤ b → c + a ≡ b
+reached_by n from x y a b c f x_in y_in da db dc less = grind (arith, da.above, da.below, db.above, db.below, dc.above, dc.below)
+
+-- a pointer that moves to a port x comes nearer to a port y no nearer than x, by all the steps that it moves
+pub distance-reached : (n from x y : ℕ) → from < n → x < n → y < n → distance n from x ≤ distance n from y → distance n x y + distance n from x ≡ distance n from y
+distance-reached n from x y f x_in y_in less =
+    reached_by n from x y (distance n from x) (distance n from y) (distance n x y) f x_in y_in (IsDistance-distance n from x f x_in) (IsDistance-distance n from y f y_in) (IsDistance-distance n x y x_in y_in) less
