@@ -30,13 +30,13 @@ pub record HaveSums (outputs : List CardOut) : Type 0 where
   pub packets : sum_by (λ out. out.packets) outputs < 2 ^ 32
   pub cells : sum_by (λ out. out.cells) outputs < 2 ^ 32
 
--- the numbers of a run with this journal and these outputs
-abbrev pub summary_in : Terms → JournalValue → List CardOut → Summary
-summary_in terms journal outputs = record {
-  ports = journal.setup.ports;
-  rounds = journal.setup.rounds;
+-- the numbers of a run of so many ports, rounds and slots, with these outputs and longest waits
+abbrev pub summary_with : Terms → ℕ → ℕ → ℕ → List CardOut → List ℕ → Summary
+summary_with terms ports rounds slots outputs longest = record {
+  ports = ports;
+  rounds = rounds;
   depth = terms.depth;
-  slots = length journal.slots;
+  slots = slots;
   packets = terms.packets;
   oversize = terms.oversize;
   unrouted = terms.unrouted;
@@ -44,5 +44,9 @@ summary_in terms journal outputs = record {
   forwarded = sum_by (λ out. out.admitted) outputs;
   copies = sum_by (λ out. out.packets) outputs;
   cells = sum_by (λ out. out.cells) outputs;
-  longest = longest_in journal.setup.ports journal.slots;
+  longest = longest;
 }
+
+-- the numbers of a run with this journal and these outputs
+abbrev pub summary_in : Terms → JournalValue → List CardOut → Summary
+summary_in terms journal outputs = summary_with terms journal.setup.ports journal.setup.rounds (length journal.slots) outputs (longest_in journal.setup.ports journal.slots)

@@ -36,8 +36,8 @@ pub fn ready(alloc: Global, plan: Plan) -> Result<Ready, OutOfMemory>
     })
 }
 
-// What the plan says beside its cards.
-fn terms_of(plan: &Plan) -> Terms
+/// What the plan says beside its cards, with the number of packets of all of them.
+pub fn terms_of(plan: &Plan) -> Terms
     requires { IsGood (switch_plan_of plan.now) }
     ensures plan { plan_with result (map plan_of plan.now.cards.items) ≡ switch_plan_of plan.now }
     ensures packets { result.packets ≡ sum_by length (packets_in (switch_plan_of plan.now)) }

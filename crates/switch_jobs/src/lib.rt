@@ -15,6 +15,8 @@ mod summaries;
 mod tests;
 
 pub use captures::output_bytes;
+pub use meters::longest_of;
 pub use outcome::Outcome;
-pub use ready::Ready;
+pub use ready::{Ready, Terms};
 pub use running::{run_job, run_ready, run_ready_with};
+pub use summaries::sum_up;

@@ -46,8 +46,8 @@ fn note_slot(meter: &mut WaitMeter, rows: &mut [Row; PORT_COUNT], posts: &[Post]
     meter.note(&rows[..posts.len()], matched);
 }
 
-// The longest wait of each level.
-fn longest_of(meter: &WaitMeter) -> [u32; LEVEL_COUNT]
+/// The longest wait of each level in the slots that the meter has noted.
+pub fn longest_of(meter: &WaitMeter) -> [u32; LEVEL_COUNT]
     ensures { (slots : List NotedSlot) → HasNoted meter.now slots → result ≡ map (λ level. longest_wait meter.now.ports level slots) (range_with_len 0 LEVELS) }
 {
     let mut longest = [0; LEVEL_COUNT];

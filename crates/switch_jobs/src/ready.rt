@@ -7,25 +7,25 @@ use std::marker::Model;
 
 /// What a plan says beside its cards.
 #[derive(Clone, Copy, Debug)]
-pub(crate) struct Terms {
+pub struct Terms {
     /// Whether outputs are written in nanoseconds.
-    pub(crate) nano: bool,
+    pub nano: bool,
     /// The link type of all captures.
-    pub(crate) link: Link,
+    pub link: Link,
     /// Rounds of a slot.
-    pub(crate) rounds: u32,
+    pub rounds: u32,
     /// The most cells of a queue.
-    pub(crate) depth: u32,
+    pub depth: u32,
     /// Workers.
-    pub(crate) workers: u32,
+    pub workers: u32,
     /// The run ends before this slot.
-    pub(crate) max_slots: u32,
+    pub max_slots: u32,
     /// How many packets are too long to be forwarded.
-    pub(crate) oversize: u32,
+    pub oversize: u32,
     /// How many others have no route.
-    pub(crate) unrouted: u32,
+    pub unrouted: u32,
     /// How many packets all ports have.
-    pub(crate) packets: u32,
+    pub packets: u32,
 }
 
 /// Empty lists with room for all that a run makes.

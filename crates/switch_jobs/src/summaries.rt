@@ -1,13 +1,43 @@
 ghost use Rattle.std.specs.Prelude.{◌≡◌, ◌≤◌, [], length};
 ghost use Rattle.service_bound.specs.Meters.{HasNoted};
-ghost use Rattle.switch_jobs.specs.Journals.{summary_in, HaveSums};
+ghost use Rattle.switch_jobs.specs.Journals.{summary_with, summary_in, HaveSums};
 
 use crate::meters::longest_waits;
 use crate::ready::Terms;
 use card_core::CardOut;
+use rotating_pick::LEVEL_COUNT;
 use service_bound::{MAX_NOTED, WaitMeter};
 use slot_board::Journal;
 use slot_report::Summary;
+
+/// The numbers of a run of so many slots, each of so many rounds, in a switch of so many ports, with these longest
+/// waits by level, whose cards left these outputs. It takes no memory.
+pub fn sum_up(
+    terms: &Terms,
+    ports: u32,
+    rounds: u32,
+    slots: u32,
+    outputs: &[CardOut],
+    longest: [u32; LEVEL_COUNT],
+) -> Summary
+    requires { HaveSums outputs.now }
+    ensures { result ≡ summary_with terms.now ports rounds slots outputs.now longest }
+{
+    Summary {
+        ports,
+        rounds,
+        depth: terms.depth,
+        slots,
+        packets: terms.packets,
+        oversize: terms.oversize,
+        unrouted: terms.unrouted,
+        dropped: outputs.iter().map(|out| out.dropped).sum(),
+        forwarded: outputs.iter().map(|out| out.admitted).sum(),
+        copies: outputs.iter().map(|out| out.packets).sum(),
+        cells: outputs.iter().map(|out| out.cells).sum(),
+        longest,
+    }
+}
 
 /// The numbers of a run with this journal, whose cards left these outputs. It takes no memory.
 pub(crate) fn summarize(
@@ -22,18 +52,13 @@ pub(crate) fn summarize(
     requires sums { HaveSums outputs.now }
     ensures { result ≡ summary_in terms.now journal.now outputs.now }
 {
-    Summary {
-        ports: journal.ports(),
-        rounds: journal.rounds(),
-        depth: terms.depth,
-        slots: journal.slots(),
-        packets: terms.packets,
-        oversize: terms.oversize,
-        unrouted: terms.unrouted,
-        dropped: outputs.iter().map(|out| out.dropped).sum(),
-        forwarded: outputs.iter().map(|out| out.admitted).sum(),
-        copies: outputs.iter().map(|out| out.packets).sum(),
-        cells: outputs.iter().map(|out| out.cells).sum(),
-        longest: longest_waits(meter, journal),
-    }
+    let longest = longest_waits(meter, journal);
+    sum_up(
+        terms,
+        journal.ports(),
+        journal.rounds(),
+        journal.slots(),
+        outputs,
+        longest,
+    )
 }

@@ -32,7 +32,7 @@ module _ (n : ℕ) (posts : ℕ → ℕ → CardPost) where
       ]
 
 -- the first done slot is one
-pub one_length : (plan : SwitchPlan) (a b : ℕ) → IsLengthUnder scheduler plan a → IsLengthUnder scheduler plan b → a ≡ b
+pub one_length : (scheduler : Scheduler) (plan : SwitchPlan) (a b : ℕ) → IsLengthUnder scheduler plan a → IsLengthUnder scheduler plan b → a ≡ b
 one_length scheduler plan a b ends also =
     let n = ports_of plan in
     elim (cases_order ends.last also.last) [

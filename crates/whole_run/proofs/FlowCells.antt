@@ -117,7 +117,7 @@ flat_range f a (suc t) =
     ∙ sym (append_assoc (f a) (flat_map f (range_with_len (a + 1) t)) (f (a + 1 + t)))
     ∙ ap (λ k. (f a ++ flat_map f (range_with_len (a + 1) t)) ++ f k) (let e : a + 1 + t ≡ a + suc t = omega arith in e)
 
-pub cells_to-push : (plan : SwitchPlan) (j t : ℕ) → cells_under scheduler plan j (suc t) ≡ cells_under scheduler plan j t ++ option_to_list (crossed_under scheduler (setup_for plan) (posts_under scheduler plan) j t)
+pub cells_to-push : (scheduler : Scheduler) (plan : SwitchPlan) (j t : ℕ) → cells_under scheduler plan j (suc t) ≡ cells_under scheduler plan j t ++ option_to_list (crossed_under scheduler (setup_for plan) (posts_under scheduler plan) j t)
 cells_to-push scheduler plan j t =
     let cell : ℕ → List Cell = λ u. option_to_list (crossed_under scheduler (setup_for plan) (posts_under scheduler plan) j u) in
     flat_range cell 0 t ∙ ap (λ u. cells_under scheduler plan j t ++ cell u) (let e : 0 + t ≡ t = omega arith in e)

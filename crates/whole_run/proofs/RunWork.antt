@@ -147,7 +147,7 @@ module _ (scheduler : Scheduler) (scheduling : IsScheduler scheduler) (plan : Sw
       (λ i from inside. card_work (card_at plan i) (good-card plan good i (omega arith)).good (parts_under scheduler plan i t) t (ports_of plan) (λ u below. servable scheduler scheduling plan good i u t (omega arith) below))
 
 -- ---- all packets
-admitted_work-le : (plan : SwitchPlan) (slots i : ℕ) (packet : Planned) → work_under scheduler plan slots i packet ≤ work_of packet
+admitted_work-le : (scheduler : Scheduler) (plan : SwitchPlan) (slots i : ℕ) (packet : Planned) → work_under scheduler plan slots i packet ≤ work_of packet
 admitted_work-le scheduler plan slots i packet = some_of _ (work_of packet) where
   some_of : (b : Bool) (x : ℕ) → (if b then x else 0) ≤ x
   some_of true x = omega arith
@@ -163,7 +163,7 @@ sum_of_cards f (card ∷ cards) =
     ∙ sum_of_cards f cards)
     ∙ sym (sum_by-cons f card.packets (map (λ c. c.packets) cards))
 
-pub total_admitted-le : (plan : SwitchPlan) (slots : ℕ) → total_under scheduler plan slots ≤ total_work (packets_in plan)
+pub total_admitted-le : (scheduler : Scheduler) (plan : SwitchPlan) (slots : ℕ) → total_under scheduler plan slots ≤ total_work (packets_in plan)
 total_admitted-le scheduler plan slots =
     let few = range_sum-le 0 (ports_of plan) (λ i. sum_by (work_under scheduler plan slots i) (card_at plan i).packets) (λ i. sum_by work_of (card_at plan i).packets)
     (λ i from below. sum_by-le-sum_by (work_under scheduler plan slots i) work_of (card_at plan i).packets (admitted_work-le scheduler plan slots i)) in

@@ -1,4 +1,6 @@
 use Rattle.std.proofs.Common.{◌≤◌, subst}
+use Rattle.eslip_rounds.specs.Decisions.{decision_of}
+use Rattle.eslip_rounds.proofs.Scheduling.{IsScheduler-decision_of}
 use Rattle.slot_histories.specs.Events.{Setup}
 use Rattle.slot_histories.specs.Legal.{IsLegal}
 use Rattle.switch_jobs.proofs.Made.{run_made}
@@ -15,6 +17,6 @@ returns c = λ plan good setup planned.
       taken = λ driven over. c.finished_boards_end_the_run.ensures.taken plan state.events good legal driven over;
       given = λ j slots given below are. c.all_takings_are_given.ensures plan j slots given good below are;
       most = λ slots ends.
-          let end = c.runs_end.ensures.ends plan good in
-          subst (λ n. n ≤ plan.max_slots) (c.lengths_are_one.ensures plan end.0 slots end.1 ends) end.2;
+          let end = c.runs_end.ensures.ends decision_of plan IsScheduler-decision_of good in
+          subst (λ n. n ≤ plan.max_slots) (c.lengths_are_one.ensures decision_of plan end.0 slots end.1 ends) end.2;
     })
