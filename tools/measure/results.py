@@ -13,7 +13,11 @@ LEFT_OUT_LAST = 0.1
 
 
 class Result(NamedTuple):
-    """A row. Loads are cells per input and slot; delays and waits are in slots."""
+    """A row. Loads are cells per input and slot; delays and waits are in slots.
+
+    The measured cells are those that came in the middle of the run. `mean_first_half` and
+    `mean_second_half` are over the halves of these slots: they differ where queues still grew.
+    """
 
     kind: str
     load: float
@@ -27,9 +31,16 @@ class Result(NamedTuple):
     came_load: float
     measured: int
     mean_delay: float
+    mean_first_half: float
+    mean_second_half: float
     delay_99: int
     longest_delay: int
     longest_wait: int
+
+
+def mean(delays_of_cells):
+    """The mean of delays, to four places."""
+    return round(sum(delays_of_cells) / len(delays_of_cells), 4)
 
 
 def measure(words, report, arrivals):
@@ -42,9 +53,12 @@ def measure(words, report, arrivals):
     found = delays(arrivals, report.slots)
     arrival_slots = max((packet.slot for packet in arrivals), default=0) + 1
     first, last = arrival_slots * LEFT_OUT_FIRST, arrival_slots * (1 - LEFT_OUT_LAST)
-    measured = sorted(delay for came, delay in found if first <= came < last)
-    if not measured:
+    middle = (first + last) / 2
+    early = [delay for came, delay in found if first <= came < middle]
+    late = [delay for came, delay in found if middle <= came < last]
+    if not (early and late):
         raise ValueError("no cell came in the measured slots")
+    measured = sorted(early + late)
     return Result(
         kind=words.kind,
         load=words.load,
@@ -57,7 +71,9 @@ def measure(words, report, arrivals):
         cells=summary["cells"],
         came_load=round(summary["cells"] / (summary["ports"] * arrival_slots), 4),
         measured=len(measured),
-        mean_delay=round(sum(measured) / len(measured), 4),
+        mean_delay=mean(measured),
+        mean_first_half=mean(early),
+        mean_second_half=mean(late),
         delay_99=measured[len(measured) * 99 // 100],
         longest_delay=measured[-1],
         longest_wait=report.longest[0],
