@@ -1,6 +1,7 @@
 """The figures, with matplotlib, without a display."""
 
 from collections import defaultdict
+from pathlib import Path
 
 import matplotlib
 
@@ -9,22 +10,25 @@ matplotlib.use("Agg")
 matplotlib.rcParams["svg.hashsalt"] = "tiny_tera"
 
 from matplotlib import pyplot  # noqa: E402
+from matplotlib.ticker import MaxNLocator, StrMethodFormatter  # noqa: E402
 
 FORMATS = ("png", "svg")
 DOTS_PER_INCH = 120
 COLOURS = ("#0072b2", "#d55e00", "#009e73", "#cc79a7", "#56b4e9", "#e69f00")
 MARKERS = ("o", "s", "^", "D", "v", "P")
+PLAIN = StrMethodFormatter("{x:g}")  # As 0.01, and not as a power of ten.
 WINDOWS = 200  # Slots are averaged over so many windows.
 
 
-def save(figure, name):
-    """Writes NAME.png and NAME.svg, and answers these names."""
-    names = [f"{name}.{form}" for form in FORMATS]
-    for file, form in zip(names, FORMATS):
+def save(figure, folder, name):
+    """Writes NAME.png and NAME.svg in a folder, which is made where it is missing, and prints their names."""
+    Path(folder).mkdir(parents=True, exist_ok=True)
+    for form in FORMATS:
+        file = Path(folder) / f"{name}.{form}"
         stamp = {"Date": None} if form == "svg" else None
         figure.savefig(file, format=form, dpi=DOTS_PER_INCH, metadata=stamp)
+        print(file)
     pyplot.close(figure)
-    return names
 
 
 def _one(title, across, up):
@@ -36,14 +40,20 @@ def _one(title, across, up):
     return figure, axes
 
 
+def _plain_log(axes):
+    axes.set_yscale("log")
+    axes.yaxis.set_major_formatter(PLAIN)
+
+
 def waits_figure(title, counts):
     """For each level, the share of services before which the queue had waited at least so many slots."""
     figure, axes = _one(title, "wait of a unicast queue (slots)", "share of cells served after at least this wait")
     for level, count in enumerate(counts):
         if count:
-            axes.step(*_at_least(count), where="post", color=COLOURS[level], label=f"level {level}")
-    axes.set_yscale("log")
+            axes.step(*_at_least(count), where="pre", color=COLOURS[level], label=f"level {level}")
+    _plain_log(axes)
     axes.set_xlim(left=0)
+    axes.xaxis.set_major_locator(MaxNLocator(integer=True))
     axes.legend()
     return figure
 
@@ -99,7 +109,9 @@ def load_figure(title, runs):
         if means:
             axes.plot(*zip(*means), "o", color=colour, label=f"mean, {name}")
         axes.plot(*zip(*longest), "^", color=colour, fillstyle="none", label=f"longest, {name}")
+    # Waits of 0 have no place on a logarithmic axis, so up to 1 it is linear.
     axes.set_yscale("symlog", linthresh=1)
+    axes.yaxis.set_major_formatter(PLAIN)
     axes.set_ylim(bottom=0)
     axes.set_xlim(0, 1)
     axes.legend(loc="upper left")
@@ -124,7 +136,7 @@ def sweep_figure(curves, ports, burst):
         bursts = f", mean burst {burst} cells" if kind == "bursty" else ""
         axes.set_title(f"{kind} traffic, {ports} ports{bursts}")
         axes.set_xlabel("offered load (cells per input and slot)")
-        axes.set_yscale("log")
+        _plain_log(axes)
         axes.set_xlim(0, 1)
         axes.grid(alpha=0.3, which="both")
         axes.legend(loc="upper left")
