@@ -1,0 +1,108 @@
+"""The arrivals of the packets of captures, by the rules of the switch for files that it accepts.
+
+Files that the switch refuses are not told apart here: run the switch on them first.
+"""
+
+import struct
+from typing import NamedTuple
+
+from .arrivals import Arrival
+
+MICROSECONDS, NANOSECONDS = 0xA1B2C3D4, 0xA1B23C4D
+FILE_HEADER, RECORD_HEADER = 24, 16
+ETHERNET, RAW_IP = 1, 101
+TAGGED, IPV4 = 0x8100, 0x0800
+IP_HEADER = 20
+MESSAGE_HEADER, CELL_PAYLOAD = 16, 56
+LONGEST_FORWARDED = 65_535
+SECOND = 1_000_000_000
+
+
+class Packet(NamedTuple):
+    """A record: its time in nanoseconds and its captured bytes."""
+
+    time: int
+    frame: bytes
+
+
+def read_capture(data):
+    """The link type of a capture and its packets, in their order; ValueError where it has no such form."""
+    for order in "<>":
+        magic, _, _, _, _, _, link = struct.unpack(order + "IHHIIII", data[:FILE_HEADER])
+        if magic in (MICROSECONDS, NANOSECONDS) and link in (ETHERNET, RAW_IP):
+            unit = 1000 if magic == MICROSECONDS else 1
+            return link, list(_records(data, order, unit))
+    raise ValueError("a file is no capture of Ethernet or raw IP")
+
+
+def _records(data, order, unit):
+    at = FILE_HEADER
+    while at < len(data):
+        seconds, fraction, length, _ = struct.unpack_from(order + "IIII", data, at)
+        at += RECORD_HEADER
+        within = min(fraction * unit, SECOND - unit)
+        yield Packet(seconds * SECOND + within, data[at:at + length])
+        at += length
+
+
+def destination(link, frame):
+    """The address that a frame goes to, as a number, or None where it has none."""
+    at = 0
+    if link == ETHERNET:
+        at, kind = 14, frame[12:14]
+        if int.from_bytes(kind, "big") == TAGGED:
+            at, kind = 18, frame[16:18]
+        if int.from_bytes(kind, "big") != IPV4:
+            return None
+    if len(frame) < at + IP_HEADER or frame[at] >> 4 != 4:
+        return None
+    return int.from_bytes(frame[at + 16:at + 20], "big")
+
+
+def read_table(text):
+    """The routes of a table by prefix length and prefix, and that of the line `*` by None."""
+    routes = {}
+    for line in text.split("\n"):
+        words = line.split()
+        if not words or words[0].startswith("#"):
+            continue
+        outputs = tuple(sorted({int(port) for port in words[1].split(",")}))
+        level = int(words[2]) if len(words) > 2 else 0
+        routes[_target(words[0])] = (outputs, level)
+    return routes
+
+
+def _target(word):
+    if word == "*":
+        return None
+    address, _, length = word.partition("/")
+    number = int.from_bytes(bytes(map(int, address.split("."))), "big")
+    return int(length), number >> (32 - int(length))
+
+
+def route(routes, address):
+    """The outputs and the level of an address (None: a packet without one), or None."""
+    if address is not None:
+        for length in range(32, -1, -1):
+            found = routes.get((length, address >> (32 - length)))
+            if found:
+                return found
+    return routes.get(None)
+
+
+def arrivals_of(table, captures, pace_us):
+    """The packets that are offered to queues, in the order of slots; pace_us None is line pace."""
+    routes = read_table(table)
+    read = [read_capture(data) for data in captures]
+    base = min((packet.time for _, packets in read for packet in packets), default=0)
+    found = []
+    for card, (link, packets) in enumerate(read):
+        next_slot = 0
+        for packet in packets:
+            cells = -(-(MESSAGE_HEADER + len(packet.frame)) // CELL_PAYLOAD)
+            due = (packet.time - base) // (1000 * pace_us) if pace_us else 0
+            next_slot = max(next_slot, due) + cells
+            served = route(routes, destination(link, packet.frame))
+            if served and len(packet.frame) <= LONGEST_FORWARDED:
+                found.append(Arrival(next_slot - 1, card, served[0], served[1], cells))
+    return sorted(found)
