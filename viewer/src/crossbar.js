@@ -2,7 +2,7 @@
 (function (viewer) {
     "use strict";
 
-    const { MULTICAST, LEVELS } = viewer;
+    const { UNICAST, MULTICAST, LEVELS } = viewer;
 
     const MARGIN = { left: 46, right: 8, top: 8, bottom: 40 };
     const LEAST_LABEL_GAP = 15;
@@ -13,6 +13,29 @@
     /** A wait of so many slots has the full tint. */
     const DARKEST_WAIT = 1024;
     const FONT = "system-ui, 'DejaVu Sans', sans-serif";
+
+    /** How strong the tint of a queue is, from its wait. */
+    function strength(wait) {
+        return 0.16 + 0.54 * Math.min(1, Math.log2(1 + (wait || 0)) / Math.log2(DARKEST_WAIT));
+    }
+
+    /** Small tints of many crosspoints, drawn as one picture. */
+    class Tint {
+        constructor(side, colours) {
+            this.side = side;
+            this.colours = colours.map((colour) => d3.rgb(colour));
+            this.image = new ImageData(side, side);
+        }
+
+        set(x, y, level, alpha) {
+            const { r, g, b } = this.colours[level];
+            this.image.data.set([r, g, b, 255 * alpha], 4 * (y * this.side + x));
+        }
+
+        draw(context, left, top, side) {
+            viewer.stretchImage(context, this.image, left, top, side, side);
+        }
+    }
 
     class Crossbar {
         /** `onSelect` is told the input and output of a crosspoint that was chosen by mouse. */
@@ -86,25 +109,35 @@
             }
         }
 
-        /** Tints what is posted, darker the longer it waits. Of all levels each has a quarter of the cell. */
+        /** Tints what is posted, stronger the longer it waits. Of all levels each has a quarter of the cell. */
         drawRows() {
             const isSingle = this.settings.rowLevel !== "all";
             const levels = isSingle ? [Number(this.settings.rowLevel)] : d3.range(LEVELS);
-            const gap = Math.min(2, this.cell / 10);
-            const size = (this.cell - 2 * gap) / (isSingle ? 1 : 2);
-            const { context } = this;
-            context.font = `${Math.min(13, size * 0.45)}px ${FONT}`;
+            const parts = isSingle ? 1 : 2;
+            const gap = this.cell < LEAST_TEXT_CELL ? 0 : 2;
+            const size = (this.cell - 2 * gap) / parts;
+            const tint = this.cell < LEAST_TEXT_CELL ? new Tint(this.view.ports * parts, this.palette.levels) : null;
+            this.context.font = `${Math.min(13, size * 0.45)}px ${FONT}`;
             this.view.eachPosted(levels, (input, output, level, kind, wait) => {
-                const x = this.x(output) - this.cell / 2 + gap + (isSingle ? 0 : (level & 1) * size);
-                const y = this.y(input) - this.cell / 2 + gap + (isSingle ? 0 : (level >> 1) * size);
+                const column = isSingle ? 0 : level & 1;
+                const row = isSingle ? 0 : level >> 1;
+                if (tint !== null && kind === UNICAST) {
+                    tint.set(output * parts + column, input * parts + row, level, strength(wait));
+                    return;
+                }
+                const x = this.x(output) - this.cell / 2 + gap + column * size;
+                const y = this.y(input) - this.cell / 2 + gap + row * size;
                 this.drawPosted(x, y, size, level, kind, wait);
             });
-            context.globalAlpha = 1;
+            if (tint !== null) {
+                tint.draw(this.context, MARGIN.left, MARGIN.top, this.side);
+            }
+            this.context.globalAlpha = 1;
         }
 
         drawPosted(x, y, size, level, kind, wait) {
             const { context } = this;
-            context.globalAlpha = 0.16 + 0.54 * Math.min(1, Math.log2(1 + (wait || 0)) / Math.log2(DARKEST_WAIT));
+            context.globalAlpha = strength(wait);
             if (kind === MULTICAST) {
                 const width = Math.max(1, size / 10);
                 context.globalAlpha = Math.min(1, context.globalAlpha + 0.25);
@@ -118,9 +151,9 @@
             if (wait > 0 && size >= LEAST_TEXT_CELL) {
                 context.globalAlpha = 1;
                 context.fillStyle = this.palette.ink;
-                context.textAlign = "right";
+                context.textAlign = "left";
                 context.textBaseline = kind === MULTICAST ? "bottom" : "top";
-                context.fillText(wait, x + size - 3, kind === MULTICAST ? y + size - 3 : y + 3);
+                context.fillText(wait, x + 4, kind === MULTICAST ? y + size - 4 : y + 4);
             }
         }
 

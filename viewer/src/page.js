@@ -84,7 +84,7 @@
             });
             element("next-difference").hidden = true;
             viewer.drawSummary(element("summary"), run, this.analysis);
-            this.showNotice(hasSlots ? null : `${name} has no slot lines, so there is no slot to see: write them with tiny_tera run --slots.`);
+            this.showNotice(hasSlots ? "Going through all slots." : `${name} has no slot lines, so there is no slot to see: write them with tiny_tera run --slots.`);
             if (hasSlots) {
                 this.showSlots();
             }
@@ -259,7 +259,7 @@
             const [from, to] = this.timeline.seen();
             const range = `Slots ${Math.floor(from)} to ${Math.ceil(to) - 1} are seen.`;
             const tone = data.isShare ? "The strongest tone is a port that is matched in every slot."
-                : `The strongest tone is a unicast queue of the port that has waited ${plural(data.most, "slot")}.`;
+                : `The strongest tone is a unicast queue of the port that has waited ${plural(data.most, "slot")}${data.most === data.outputs.most ? " or more" : ""}.`;
             element("timeline-scale").textContent = `${range} ${tone}`;
         }
 

@@ -35,6 +35,17 @@
         return context;
     }
 
+    /** Draws an image stretched, each of its pixels as a plain rectangle. */
+    function stretchImage(context, image, left, top, width, height) {
+        const sheet = document.createElement("canvas");
+        sheet.width = image.width;
+        sheet.height = image.height;
+        sheet.getContext("2d").putImageData(image, 0, 0);
+        context.imageSmoothingEnabled = false;
+        context.drawImage(sheet, left, top, width, height);
+    }
+
+    viewer.stretchImage = stretchImage;
     viewer.HEAT_STEPS = HEAT_STEPS;
     viewer.readPalette = readPalette;
     viewer.sizeCanvas = sizeCanvas;

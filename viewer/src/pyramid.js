@@ -15,6 +15,7 @@
             this.lanes = lanes;
             this.isSum = mode === "sum";
             this.tiers = [new Numbers(slots * lanes)];
+            /** The greatest number that one slot can have. */
             this.most = 2 ** (8 * Numbers.BYTES_PER_ELEMENT) - 1;
             for (let length = slots; length > 1;) {
                 length = Math.ceil(length / BLOCK);
@@ -42,9 +43,9 @@
             }
         }
 
-        /** The sum or the greatest of a lane's numbers from slot `from` up to before slot `to`. */
-        over(from, to, lane) {
-            let total = 0;
+        /** For each lane the sum or the greatest of its numbers from slot `from` up to before slot `to`. */
+        over(from, to, totals = new Uint32Array(this.lanes)) {
+            totals.fill(0);
             let at = from;
             while (at < to) {
                 let tier = 0;
@@ -53,16 +54,23 @@
                     size *= BLOCK;
                     tier += 1;
                 }
-                const value = this.tiers[tier][at / size * this.lanes + lane];
-                total = this.isSum ? total + value : Math.max(total, value);
+                this.addBlock(this.tiers[tier], at / size, totals);
                 at += size;
             }
-            return total;
+            return totals;
         }
 
-        /** The greatest number of a lane; the sum of all of them in the mode "sum". */
-        total(lane) {
-            return this.over(0, this.slots, lane);
+        addBlock(tier, index, totals) {
+            const start = index * this.lanes;
+            for (let lane = 0; lane < this.lanes; lane += 1) {
+                const value = tier[start + lane];
+                totals[lane] = this.isSum ? totals[lane] + value : Math.max(totals[lane], value);
+            }
+        }
+
+        /** The greatest number of all; the greatest sum of a lane in the mode "sum". */
+        greatest() {
+            return this.over(0, this.slots).reduce((most, total) => Math.max(most, total), 0);
         }
     }
 

@@ -4,7 +4,7 @@
 
     const { KIND_NAMES, UNICAST, MULTICAST, LEVELS } = viewer;
 
-    const MOST_LINES = 200;
+    const MOST_LINES = 100;
 
     function plural(count, noun) {
         return `${count} ${noun}${count === 1 ? "" : "s"}`;
@@ -129,33 +129,39 @@
         return parts.length === 0 ? null : `input ${input}: ${parts.join("; ")}`;
     }
 
-    function appendRows(root, view) {
+    /** A part that folds; it is filled when it is opened first. */
+    function appendFolded(root, title, isOpen, fill) {
+        const part = root.append("details");
+        part.append("summary").text(title);
+        const body = part.append("div");
+        const fillOnce = () => {
+            if (part.node().open && body.selectAll("*").empty()) {
+                fill(body);
+            }
+        };
+        part.node().open = isOpen;
+        part.on("toggle", fillOnce);
+        fillOnce();
+    }
+
+    function fillRows(root, view) {
         const lines = d3.range(view.ports).map((input) => rowText(view, input)).filter((line) => line !== null);
         const more = d3.range(view.ports).filter((input) => view.rows.more[input]);
-        const part = root.append("details");
-        part.append("summary").text(`Posted rows: ${plural(lines.length, "input")} with cells`);
-        appendList(part, lines);
-        part.append("p").text(more.length === 0 ? "No input has more to come." : `More is to come at ${plural(more.length, "input")}: ${more.join(", ")}.`);
+        appendList(root, lines);
+        root.append("p").text(more.length === 0 ? "No input has more to come." : `More is to come at ${plural(more.length, "input")}: ${more.join(", ")}.`);
     }
 
-    function appendPointers(root, view, level) {
+    function fillPointers(root, view, level) {
         const { grant, accept, shared } = view.pointers;
-        const part = root.append("details");
-        part.append("summary").text(`Pointers before the slot, level ${level}`);
-        part.append("p").text(`Shared multicast pointers of levels 0 to 3: inputs ${Array.from(shared).join(", ")}.`);
+        root.append("p").text(`Shared multicast pointers of levels 0 to 3: inputs ${Array.from(shared).join(", ")}.`);
         const rows = d3.range(view.ports).map((port) => [port, grant[level * view.ports + port], accept[level * view.ports + port]]);
-        appendTable(part, `Pointers of level ${level}`, ["port", "grant pointer of the output, at input", "accept pointer of the input, at output"], rows);
+        appendTable(root, `Pointers of level ${level}`, ["port", "grant pointer of the output, at input", "accept pointer of the input, at output"], rows);
     }
 
-    /** Which parts that fold are open, by their place, so that a new slot leaves them so. */
-    function openParts(root) {
-        return root.selectAll("details").nodes().map((part) => part.open);
-    }
-
-    /** Fills the element with a slot in words. */
+    /** Fills the element with a slot in words; what is folded stays as it was. */
     function drawSlotText(element, view, pointerLevel) {
         const root = d3.select(element);
-        const open = openParts(root);
+        const [isRowsOpen, isPointersOpen] = root.selectAll("details").nodes().map((part) => part.open);
         root.selectAll("*").remove();
         root.append("h2").attr("id", "slot-title").text(`Slot ${view.slot} of 0 to ${view.run.slots - 1}`);
         sentences(view).forEach((sentence) => root.append("p").text(sentence));
@@ -167,14 +173,12 @@
             appendWaiting(root, view);
         }
         if (view.rows !== null) {
-            appendRows(root, view);
+            appendFolded(root, "Posted rows", isRowsOpen || false, (body) => fillRows(body, view));
         }
         if (view.pointers !== null && pointerLevel !== "none") {
-            appendPointers(root, view, Number(pointerLevel));
+            const level = Number(pointerLevel);
+            appendFolded(root, `Pointers before the slot, level ${level}`, isPointersOpen || false, (body) => fillPointers(body, view, level));
         }
-        root.selectAll("details").nodes().forEach((part, index) => {
-            part.open = open[index] || false;
-        });
     }
 
     viewer.plural = plural;

@@ -19,6 +19,7 @@
             this.pointers = null;
             this.walker = null;
             this.differing = [];
+            this.waitingQueues = null;
             this.used = null;
             this.first = null;
             if (run.form === "report") {
@@ -85,6 +86,13 @@
 
         /** The queues that wait, the longest wait first; a multicast head is one queue with its outputs. */
         waiting() {
+            if (this.waitingQueues === null) {
+                this.waitingQueues = this.findWaiting();
+            }
+            return this.waitingQueues;
+        }
+
+        findWaiting() {
             const found = [];
             for (let input = 0; input < this.ports; input += 1) {
                 for (let level = 0; level < LEVELS; level += 1) {

@@ -16,7 +16,7 @@
         if (analysis.longest === null) {
             return rows;
         }
-        rows.push(["cells", analysis.fed.total(0)]);
+        rows.push(["cells", analysis.fed.greatest()]);
         return rows.concat(analysis.longest.map((wait, level) => [`longest wait of level ${level}`, wait]));
     }
 

@@ -126,7 +126,7 @@
         laneData() {
             const { analysis } = this;
             if (analysis.run.form === "journal" && this.lanes === "waits") {
-                const most = d3.max(d3.range(analysis.run.ports), (port) => analysis.outputWaits.total(port));
+                const most = analysis.outputWaits.greatest();
                 return { outputs: analysis.outputWaits, inputs: analysis.inputWaits, most, isShare: false };
             }
             return { outputs: analysis.outputShares, inputs: analysis.inputShares, most: 1, isShare: true };
@@ -165,7 +165,7 @@
             const height = d3.scaleLinear().domain([0, this.analysis.run.ports]).range([0, PAIRS.height]);
             context.fillStyle = this.palette.accent;
             for (const { x, from, to } of columns) {
-                const bar = height(this.analysis.fed.over(from, to, 0) / (to - from));
+                const bar = height(this.analysis.fed.over(from, to)[0] / (to - from));
                 context.fillRect(x, PAIRS.top + PAIRS.height - bar, 1, bar);
             }
             this.drawFrame(context, PAIRS.top, PAIRS.height);
@@ -182,28 +182,26 @@
             if (columns.length > 0) {
                 const image = new ImageData(columns.length, pyramid.lanes);
                 const pixels = new Uint32Array(image.data.buffer);
-                const heat = this.palette.heat.map(pixelOf);
-                const tone = isShare ? d3.scaleLinear().domain([0, 1]) : d3.scaleSymlog().domain([0, Math.max(1, most)]);
-                tone.range([0, HEAT_STEPS - 1]);
+                const tones = this.tones(isShare ? HEAT_STEPS - 1 : most, isShare);
+                const totals = new Uint32Array(pyramid.lanes);
                 columns.forEach(({ from, to }, column) => {
+                    pyramid.over(from, to, totals);
+                    const scale = isShare ? (HEAT_STEPS - 1) / (to - from) : 1;
                     for (let lane = 0; lane < pyramid.lanes; lane += 1) {
-                        const value = pyramid.over(from, to, lane);
-                        const step = value === 0 ? 0 : Math.ceil(tone(isShare ? value / (to - from) : value));
-                        pixels[lane * columns.length + column] = heat[step];
+                        pixels[lane * columns.length + column] = tones[Math.ceil(totals[lane] * scale)];
                     }
                 });
-                this.stretch(context, image, columns[0].x, top);
+                viewer.stretchImage(context, image, columns[0].x, top, image.width, this.lanesHeight);
             }
             this.drawFrame(context, top, this.lanesHeight);
         }
 
-        stretch(context, image, left, top) {
-            const sheet = document.createElement("canvas");
-            sheet.width = image.width;
-            sheet.height = image.height;
-            sheet.getContext("2d").putImageData(image, 0, 0);
-            context.imageSmoothingEnabled = false;
-            context.drawImage(sheet, left, top, image.width, this.lanesHeight);
+        /** The pixels of the numbers from 0 to the greatest one. */
+        tones(most, isLinear) {
+            const scale = isLinear ? d3.scaleLinear() : d3.scaleSymlog();
+            scale.domain([0, Math.max(1, most)]).range([0, HEAT_STEPS - 1]);
+            const heat = this.palette.heat.map(pixelOf);
+            return Uint32Array.from({ length: most + 1 }, (_, value) => heat[Math.ceil(scale(value))]);
         }
 
         /** A tick over each column with a slot whose match is not that of the rules. */
@@ -211,7 +209,7 @@
             const { differences } = this.analysis;
             if (differences !== undefined) {
                 context.fillStyle = this.palette.alarm;
-                columns.filter(({ from, to }) => differences.over(from, to, 0) > 0)
+                columns.filter(({ from, to }) => differences.over(from, to)[0] > 0)
                     .forEach(({ x }) => context.fillRect(x - 1, TICKS.top, 3, TICKS.height));
             }
         }
