@@ -73,7 +73,8 @@
             this.crossbar.selected = null;
             element("welcome").hidden = true;
             element("run").hidden = false;
-            element("file-line").textContent = `${name}: a ${run.form} of ${plural(run.ports, "port")} and ${plural(run.slots, "slot")}.`;
+            const title = `${name}: a ${run.form} of ${plural(run.ports, "port")} and ${plural(run.slots, "slot")}.`;
+            element("file-line").textContent = title;
             document.title = `${name} - Slot viewer`;
             const hasSlots = run.matches !== null;
             document.querySelectorAll(".controls, .columns, .timeline-part").forEach((part) => {
@@ -84,7 +85,9 @@
             });
             element("next-difference").hidden = true;
             viewer.drawSummary(element("summary"), run, this.analysis);
-            this.showNotice(hasSlots ? "Going through all slots." : `${name} has no slot lines, so there is no slot to see: write them with tiny_tera run --slots.`);
+            const notice = hasSlots ? "Going through all slots." : `${name} has no slot lines, so there is no slot to see: write them with tiny_tera run --slots.`;
+            this.showNotice(notice);
+            this.say(hasSlots ? title : `${title} ${notice}`);
             if (hasSlots) {
                 this.showSlots();
             }
@@ -133,6 +136,11 @@
         showNotice(text) {
             element("notice").hidden = text === null;
             element("notice").textContent = text;
+        }
+
+        /** Tells a screen reader. */
+        say(text) {
+            element("spoken").textContent = text;
         }
 
         // Slots.
@@ -250,7 +258,7 @@
                 : viewer.describeCrosspoint(view, this.crossbar.selected);
             if (this.isSpokenDue) {
                 this.isSpokenDue = false;
-                element("spoken").textContent = brief;
+                this.say(brief);
             }
         }
 
@@ -335,7 +343,7 @@
             const moves = { ArrowLeft: -step, ArrowRight: step };
             if (target === element("timeline")) {
                 const last = this.run.slots;
-                Object.assign(moves, { ArrowDown: -step, ArrowUp: step, PageUp: -PAGE_STEP, PageDown: PAGE_STEP, Home: -last, End: last });
+                Object.assign(moves, { ArrowDown: -step, ArrowUp: step, PageUp: PAGE_STEP, PageDown: -PAGE_STEP, Home: -last, End: last });
             }
             if (moves[key] !== undefined) {
                 this.goByUser(this.slot + moves[key]);

@@ -25,6 +25,8 @@
             this.analysis = null;
             this.lanes = "waits";
             this.slot = 0;
+            /** From slots to pixels of the part that is seen; null before a run is open. */
+            this.scale = null;
             const root = d3.select(element);
             this.canvas = root.append("canvas").node();
             this.cursorCanvas = root.append("canvas").node();
@@ -63,12 +65,14 @@
         open(analysis) {
             this.analysis = analysis;
             this.slots = analysis.run.slots;
+            this.scale = null;
             this.layOut();
-            this.zoomAll();
         }
 
+        /** Fits the time line to its width; the same slots stay seen. */
         layOut() {
             const { ports } = this.analysis.run;
+            const seen = this.scale === null ? [0, this.slots] : this.seen();
             this.width = this.element.clientWidth;
             this.lanesHeight = ports * Math.min(MOST_LANE_HEIGHT, Math.floor(LANES_HEIGHT / ports));
             this.inputsTop = OUTPUTS_TOP + this.lanesHeight + LANES_GAP;
@@ -79,7 +83,14 @@
             const extent = [[MARGIN.left, 0], [this.width - MARGIN.right, this.height]];
             this.zoom.extent(extent).translateExtent(extent).scaleExtent([1, Math.max(1, this.slots / LEAST_SEEN)]);
             this.wholeScale = d3.scaleLinear().domain([0, this.slots]).range([MARGIN.left, this.width - MARGIN.right]);
-            this.scale = d3.zoomTransform(this.element).rescaleX(this.wholeScale);
+            this.see(seen);
+        }
+
+        /** Sets the first slot that is seen, and the one after the last. */
+        see([from, to]) {
+            const factor = this.slots / (to - from);
+            const shift = MARGIN.left - factor * this.wholeScale(from);
+            this.zoom.transform(d3.select(this.element), d3.zoomIdentity.translate(shift, 0).scale(factor));
         }
 
         onZoom() {
@@ -105,7 +116,7 @@
         }
 
         zoomAll() {
-            this.zoom.transform(d3.select(this.element), d3.zoomIdentity);
+            this.see([0, this.slots]);
         }
 
         /** The first slot that is seen, and the one after the last. */
