@@ -4,7 +4,7 @@
 
     const { UNICAST, MULTICAST, LEVELS } = viewer;
 
-    const MARGIN = { left: 46, right: 8, top: 8, bottom: 40 };
+    const MARGIN = { left: 52, right: 8, top: 8, bottom: 40 };
     const LEAST_LABEL_GAP = 15;
     const LEAST_TEXT_CELL = 22;
     /** A few ports do not fill the page. */

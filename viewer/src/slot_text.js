@@ -58,8 +58,10 @@
         const found = [`${pairs.length} of ${plural(ports, "output")} are fed. The slot prefers ${preferred}.`];
         if (view.used !== null) {
             const by = run.form === "journal" ? "By the rules " : "";
-            const rounds = `${view.used} of ${plural(run.rounds, "round")} added pairs, and the first of them matched ${plural(view.first, "output")}.`;
-            found.push(by + rounds);
+            const rounds = view.used === 0
+                ? `none of ${plural(run.rounds, "round")} added a pair.`
+                : `${view.used} of ${plural(run.rounds, "round")} added pairs, and the first of them matched ${plural(view.first, "output")}.`;
+            found.push(by === "" ? rounds[0].toUpperCase() + rounds.slice(1) : by + rounds);
         }
         if (!view.isComplete) {
             found.push("Pointers and waits of this slot are not computed yet.");
