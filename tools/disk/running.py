@@ -51,9 +51,12 @@ def _state_of(path):
         return f"link to {os.readlink(path)}"
     if stat.S_ISDIR(mode):
         return "folder"
-    if stat.S_ISREG(mode):
+    if not stat.S_ISREG(mode):
+        return "special"
+    try:
         return path.read_bytes()
-    return "special"
+    except PermissionError:
+        return "a file that may not be read"
 
 
 def _told(state):
