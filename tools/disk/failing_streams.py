@@ -5,7 +5,7 @@ import resource
 
 from . import sixteen_ports
 from .cases import case
-from .files import EMPTY, SUMMARY, WORDS, outputs
+from .files import EMPTY, SUMMARY, WORDS, outputs, usage
 from .running import Wrong, expect, expect_state
 from .sixteen_ports import job_files
 
@@ -61,6 +61,14 @@ def out_pipe_closed(place):
     expect(place.run_job(*WORDS, out=writing), 6, OUT_FAULT)
     os.close(writing)
     expect_state(place, before, outputs())
+
+
+@case("standard error, and usage")
+def usage_line(place):
+    before = place.state()
+    for words in ((), ("run",), ("run", "--workers", "33", *WORDS), ("gen", "1", "2", "65"), ("-",)):
+        expect(place.run(*words), 2, f"{usage()}\n".encode())
+    expect_state(place, before)
 
 
 @case("a closed standard error, and usage")

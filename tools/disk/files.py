@@ -4,7 +4,11 @@ The table sends 10.0.0.0/24 to output 0 and 10.0.1.0/24 to output 1. Port 0 has 
 10.0.1.1, of two cells, and port 1 none: it crosses to output 1 in four slots.
 """
 
+import re
 import struct
+from pathlib import Path
+
+FORMATS = Path(__file__).resolve().parent.parent.parent / "docs/FORMATS.md"
 
 ETHERNET, RAW_IP = 1, 101
 FILE_HEADER, RECORD_HEADER = 24, 16
@@ -62,6 +66,11 @@ REPORT = report(SUMMARY, (0, 0), (1, 2))
 def outputs(prefix="out"):
     """The files that the job writes, by name."""
     return {f"{prefix}.0.pcap": EMPTY, f"{prefix}.1.pcap": ONE_FRAME, f"{prefix}.report": REPORT}
+
+
+def usage():
+    """The line of usage that docs/FORMATS.md has."""
+    return re.search(r"`(usage: tiny_tera [^`]*)`", FORMATS.read_text()).group(1)
 
 
 def empty_report(ports):
