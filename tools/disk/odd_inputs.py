@@ -12,7 +12,7 @@ from .files import (
     EMPTY, FILE_HEADER, INPUTS, MAX_CAPTURED, MAX_FILE_BYTES, MAX_PORTS, MAX_ROUTES, ONE_FRAME, RECORD_HEADER,
     SUMMARY, TABLE, empty_report, header, outputs, record, report, summary, usage,
 )
-from .running import Skipped, Wrong, ended, expect, expect_state, wait_for
+from .running import SECONDS, Skipped, Wrong, ended, expect, expect_state, wait_for
 
 
 def refuses(place, words, status, line):
@@ -111,60 +111,64 @@ def process_substitution(place):
     expect_state(place, before, outputs())
 
 
-# Packets that are too long to be forwarded, of 4,682 cells each.
+# Packets that are too long to be forwarded, of 4,682 cells each; so many have too many arrival slots.
 OVERSIZE = record(bytes(MAX_CAPTURED))
 OVERSIZE_CELLS = 4_682
-SHRINKING_RECORDS = 5
+SHRINKING_RECORDS = 60
 SHRINKING = header() + OVERSIZE * SHRINKING_RECORDS
 SHRINK_TRIES = 20
-SHRINK_DELAY = 0.000_05  # Seconds by which each try waits longer than the one before.
 
 
-def expect_some_records(place, found, before):
-    """The run read a first part of the shrinking file, and ended as over these bytes."""
-    if found.status == 4:
-        line = re.fullmatch(rb"capture 1: (?:short header, (\d+) bytes|cut record at (\d+))\n", found.err)
-        if not line:
-            raise Wrong(f"standard error: {found.err!r}")
-        short, at = line.groups()
-        if int(short or 0) >= FILE_HEADER or at and (int(at) - FILE_HEADER) % len(OVERSIZE):
-            raise Wrong(f"no first part of the file has the fault {found.err!r}")
-        expect(found, 4, found.err)
-        expect_state(place, before)
-        return
-    expect(found, 0, out=found.out)
-    wanted = {f"packets {number}\n".encode() for number in range(SHRINKING_RECORDS + 1)}
-    if not any(text in found.out for text in wanted):
-        raise Wrong(f"standard output: {found.out!r}")
-    expect_state(place, before, {
-        "out.0.pcap": EMPTY, "out.1.pcap": EMPTY,
-        "out.report": found.out + b"output 0 packets 0 cells 0\noutput 1 packets 0 cells 0\n",
-    })
+def bytes_read(process, path):
+    """How many bytes of the file a run has read, where it has it open now."""
+    try:
+        for entry in os.scandir(f"/proc/{process.pid}/fd"):
+            if os.readlink(entry.path) == str(path):
+                with open(f"/proc/{process.pid}/fdinfo/{entry.name}") as told:
+                    return int(told.readline().split()[1])
+    except OSError:
+        pass  # It was closed meanwhile, or the run has ended.
+    return 0
 
 
+def shrink_while_read(place, path, length):
+    """Cuts the file as soon as a run has read some of it; answers how many bytes it had, and how it ended."""
+    feeder = feed(place.folder / "first", EMPTY)
+    process = place.start(("run", "--workers", "1", "table", "out", "first", path.name))
+    feeder.join()
+    had_read = 0
+    end = time.monotonic() + SECONDS
+    while process.poll() is None and not had_read and time.monotonic() < end:
+        had_read = bytes_read(process, path)
+    os.truncate(path, length)
+    return had_read, ended(process)
+
+
+# A fault before the bytes that were read by then, or that the file kept, would have lost some.
 @case("a file that shrinks while it is read", {"table": TABLE})
 def shrinks(place):
-    path = place.folder / "shrinking"
+    if not os.path.isdir("/proc/self/fdinfo"):
+        raise Skipped("no /proc tells how far a run has read")
     place.make_fifo("first")
-    statuses = []
+    path = place.folder / "shrinking"
+    whole = f"too many slots: port 1 has {SHRINKING_RECORDS * OVERSIZE_CELLS}\n".encode()
+    cuts = 0
     for number in range(SHRINK_TRIES):
-        place.write("shrinking", SHRINKING)
-        feeder = feed(place.folder / "first", EMPTY)
-        process = place.start(("run", "--workers", "1", "table", "out", "first", "shrinking"))
-        feeder.join()
-        time.sleep(number * SHRINK_DELAY)
-        length = FILE_HEADER + len(OVERSIZE) * (number % SHRINKING_RECORDS) + number % 3 * 1_000
-        os.truncate(path, length)
-        found = ended(process)
-        place.write("shrinking", b"")
-        before = {**place.state(), "table": TABLE}
-        for name in ("out.0.pcap", "out.1.pcap", "out.report"):
-            before.pop(name, None)
-        expect_some_records(place, found, before)
-        for name in ("out.0.pcap", "out.1.pcap", "out.report"):
-            (place.folder / name).unlink(missing_ok=True)
-        statuses.append(found.status)
-    return f"status 0 {statuses.count(0)} times, status 4 {statuses.count(4)} times"
+        place.write(path.name, SHRINKING)
+        kept = number * len(OVERSIZE) // 2 + 1_000
+        had_read, found = shrink_while_read(place, path, kept)
+        expect(found, 4, found.err)
+        cut = re.fullmatch(rb"capture 1: cut record at (\d+)\n", found.err)
+        if cut:
+            at = int(cut.group(1))
+            least = max(had_read, kept)
+            if (at - FILE_HEADER) % len(OVERSIZE) or at + len(OVERSIZE) <= least:
+                raise Wrong(f"with {had_read} bytes read and {kept} kept: {found.err!r}")
+        elif found.err != whole:
+            raise Wrong(f"standard error: {found.err!r}")
+        cuts += cut is not None
+        expect_state(place, {"first": "special", "shrinking": SHRINKING[:kept], "table": TABLE})
+    return f"read in part {cuts} times, whole {SHRINK_TRIES - cuts} times"
 
 
 def _cells(captured):
