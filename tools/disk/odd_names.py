@@ -3,10 +3,12 @@
 import os
 
 from .cases import case
-from .files import EMPTY, INPUTS, ONE_FRAME, REPORT, SUMMARY, TABLE, WORDS, outputs, report, summary
+from .files import EMPTY, INPUTS, ONE_FRAME, REPORT, SUMMARY, TABLE, WORDS, outputs, report, summary, usage
 from .running import expect, expect_state
 
 LONG_NAME = "n" * 300  # A name in a folder has at most 255 bytes.
+LONG_WORD = "n" * 131_000  # The system hands on words of up to 131,071 bytes.
+MANY_WORDS = 100_000
 
 
 @case("names with a line feed, blanks, quotes and letters of several bytes")
@@ -43,6 +45,15 @@ def empty_names(place):
 def no_text(place):
     before = place.state()
     expect(place.run_job("table", "out", "a", b"\xff"), 1)
+    expect_state(place, before)
+
+
+@case("100,000 words, and a word of 131,000 bytes")
+def many_words(place):
+    before = place.state()
+    expect(place.run("run", "table", "out", *["a"] * MANY_WORDS), 2, f"{usage()}\n".encode())
+    expect(place.run_job("table", "out", "a", LONG_WORD), 3, f"read fault: {LONG_WORD}\n".encode())
+    expect(place.run_job("table", LONG_WORD, "a", "b"), 6, f"write fault: {LONG_WORD}.0.pcap\n".encode())
     expect_state(place, before)
 
 
