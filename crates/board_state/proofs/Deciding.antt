@@ -115,6 +115,6 @@ module _ (s : Setup) (events : List Event) (some : 0 < s.ports) (legal : IsLegal
             rw (ne_eqb k (decides events) ne) (and-false done ∙ sym none)
       ]
 
-  -- a decided slot is done exactly where one of the first so many is, of which it is the last
+  -- a decided slot is done exactly where one of the slots up to it is
   pub done_at : (t : ℕ) → t < decides events → is_done_before s.ports (posted events) (t + 1) ≡ is_done_at s.ports (posted events) t
   done_at t below = rw (add-one, none_done s events some legal t (omega (arith, step.decided_posted 0 some))) refl

@@ -37,7 +37,7 @@ module _ (n slot : ℕ) (posts : List CardPost) where
         | inr new ↦ rw (with_slot-new new, length-append posts (replicate n no_post), length-replicate n no_post) (omega arith)
       ]
 
-  -- so many slots are begun then, if it is none after the next
+  -- how many slots are begun then, where the slot is one that is begun or the next one
   with_slot-begun :
       (begun : ℕ) → 0 < n → length posts ≡ begun * n → slot ≤ begun →
       length (with_slot n slot posts) ≡ max begun (slot + 1) * n

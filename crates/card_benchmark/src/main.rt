@@ -89,7 +89,7 @@ struct Posts {
     cells: u32,
 }
 
-// Posts and takes in so many slots.
+// Posts and takes in `slots` slots.
 fn run_slots(card: &mut Card, slots: u32, served: Option<Served>) -> Posts {
     let mut posts = Posts { rows: 0, cells: 0 };
     for _slot in 0..slots {

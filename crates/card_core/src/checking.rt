@@ -7,7 +7,7 @@ use crate::plan::Planned;
 use cell_cutter::MAX_FORWARDED_BYTES;
 use rotating_pick::{LEVELS, MAX_PORTS, is_among, is_empty};
 
-/// Whether each packet is well formed, of a switch of `n` ports and with so many captured bytes in all.
+/// Whether each packet is well formed, of a switch of `n` ports and with `bytes` captured bytes in all.
 pub(crate) fn are_planned(n: u32, bytes: usize, packets: &[Planned]) -> bool
     requires some { 0 < n }
     requires size { n ≤ MAX_PORTS }

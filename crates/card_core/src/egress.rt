@@ -77,7 +77,7 @@ impl Egress {
         len <= self.body.len() - self.filled && self.packets < self.lens.len()
     }
 
-    /// Puts the cell, if any. With a last one its message goes behind those that are whole.
+    /// Puts the cell, if any. With a last one its message goes after those that are whole.
     pub(crate) fn take(&mut self, cell: &Option<Cell>)
         requires may { MayReceiveAny self.old cell.now }
         requires few { self.old.cells < MAX_SLOTS }

@@ -9,7 +9,8 @@ use std::alloc::{AllocError, Global};
 use std::process::Abort;
 use std::test::Fail;
 
-// A plan by its numbers: so many captured bytes, 0, 1, 2 and so on, and so many flows of one size.
+// A plan by its numbers: how many captured bytes, which are 0, 1, 2 and so on, and how many flows, all of
+// one size.
 #[derive(Clone, Copy)]
 struct Job<'a> {
     n: u32,

@@ -40,7 +40,7 @@ pub record AfterAct (i : ℕ) (old new : StateValue) (acted : Bool) : Type 0 whe
   pub others : (j : ℕ) → (j ≡ i → ⊥) → column_of old.setup j new.events ≡ column_of old.setup j old.events
   pub still : acted ≡ false → (new.events ≡ old.events) × IsStill old.setup i old.events
 
--- the first k cards had their turns, in which so many events came
+-- the first k cards had their turns, in which `made` events came
 pub record AfterRound (hands : List Hand) (old new : StateValue) (k made : ℕ) : Type 0 where
   pub hands_are : AreHandsOf hands new
   pub setup : new.setup ≡ old.setup

@@ -32,7 +32,7 @@ pub record HasWaited (old new : Member) : Type 0 where
   pub due : is_due new.seat ≡ is_due old.seat
   pub tries : is_due old.seat ≡ true → refusals old.seat + 1 ≤ refusals new.seat
 
--- the first k members had their turns, in which they made so many posts and takes
+-- the first k members had their turns, in which they made `made` posts and takes
 pub record AfterTurns (board : TurnValue Event) (olds news : List Member) (k made : ℕ) : Type 0 where
   pub count : length news ≡ length olds
   pub acts : all_acts news ≡ all_acts olds + made
@@ -41,7 +41,7 @@ pub record AfterTurns (board : TurnValue Event) (olds news : List Member) (k mad
   pub same : (j : ℕ) (old new : Member) → slice_get olds j ≡ Some old → slice_get news j ≡ Some new → IsSameMember old new
   pub idle : made ≡ 0 → (j : ℕ) (old new : Member) → j < k → slice_get olds j ≡ Some old → slice_get news j ≡ Some new → HasWaited old new
 
--- Passes in which the members made so many posts and takes, the last so many with none: each member that is
+-- Passes in which the members made `made` posts and takes, the last `idle` of them with none: each member that is
 -- due was refused in each of these.
 pub record AfterPasses (board : TurnValue Event) (olds news : List Member) (idle made : ℕ) : Type 0 where
   pub count : length news ≡ length olds

@@ -9,7 +9,7 @@ use Rattle.card_worker.specs.Trying.{IsMember}
 use Rattle.card_worker.specs.Driving.{AfterPasses}
 use Rattle.card_worker.specs.Disbanding.{IsAmong, HasCard, member_count}
 
--- The first so many cards of the board have each a member in one of the groups, and the groups have no others.
+-- The first `cards` cards of the board have each a member in one of the groups, and the groups have no others.
 pub record AreGroups (board : TurnValue Event) (cards : ℕ) (groups : List Group) : Type 0 where
   pub count : member_count groups ≡ cards
   pub each : (i : ℕ) → i < cards → HasCard groups i
@@ -20,7 +20,7 @@ pub record IsGroup (board : TurnValue Event) (group : Group) : Type 0 where
   pub few : length group.members.items ≤ MAX_PORTS
   pub members : (j : ℕ) (m : Member) → slice_get group.members.items j ≡ Some m → IsMember board m
 
--- the group was driven, with so many posts and takes
+-- the group was driven, and made `made` posts and takes
 pub record IsDrivenGroup (board : TurnValue Event) (patience : ℕ) (old new : Group) : Type 0 where
   pub made : ℕ
   pub passes : AfterPasses board old.members.items new.members.items patience made

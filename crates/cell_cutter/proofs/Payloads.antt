@@ -20,21 +20,21 @@ pub four_fields : (a b c d : List ℕ) (seconds nanos captured original : ℕ) �
 unfolding message_header
 four_fields a b c d seconds nanos captured original e f g h = rw (e, f, g, h) refl
 
--- zeros stand behind bytes that were written over the front of zeros
+-- zeros stand after bytes that were written over the front of zeros
 pub padded_after : (bytes : List ℕ) → length bytes ≤ 56 → bytes ++ drop (length bytes) (replicate 56 0) ≡ padded bytes
 padded_after bytes h = ap (λ r. bytes ++ r) (drop-replicate (length bytes) 56 0)
 
--- bytes and then some others of a list, written behind its front
-put_behind : (front zeros bytes : List ℕ) (n : ℕ) → length front ≡ 16 → put_mid 16 n (front ++ zeros) bytes ≡ front ++ (bytes ++ drop n zeros)
-put_behind front zeros bytes n fronts =
+-- bytes and then some others of a list, written after its front
+put_after : (front zeros bytes : List ℕ) (n : ℕ) → length front ≡ 16 → put_mid 16 n (front ++ zeros) bytes ≡ front ++ (bytes ++ drop n zeros)
+put_after front zeros bytes n fronts =
     ap (λ t. t ++ (bytes ++ drop n (drop 16 (front ++ zeros)))) (take_at front zeros 16 fronts)
     ∙ ap (λ d. front ++ (bytes ++ drop n d)) (drop_at front zeros 16 fronts)
 
--- zeros stand behind bytes that were written behind a front of 16
-pub written_behind : (front bytes : List ℕ) (count : ℕ) → length front ≡ 16 → length bytes ≡ count → count ≤ 40 → put_mid 16 (16 + count - 16) (front ++ replicate 40 0) bytes ≡ padded (front ++ bytes)
-written_behind front bytes count fronts counts few =
+-- zeros stand after bytes that were written after a front of 16
+pub written_after : (front bytes : List ℕ) (count : ℕ) → length front ≡ 16 → length bytes ≡ count → count ≤ 40 → put_mid 16 (16 + count - 16) (front ++ replicate 40 0) bytes ≡ padded (front ++ bytes)
+written_after front bytes count fronts counts few =
     let left : 40 - (16 + count - 16) ≡ 56 - length (front ++ bytes) = omega (arith, length-append front bytes) in
-    put_behind front (replicate 40 0) bytes (16 + count - 16) fronts
+    put_after front (replicate 40 0) bytes (16 + count - 16) fronts
     ∙ (ap (λ r. front ++ (bytes ++ r)) (drop-replicate (16 + count - 16) 40 0 ∙ ap (λ m. replicate m 0) left) ∙ sym (append_assoc front bytes _))
 
 -- the first cell has the message's front
@@ -50,7 +50,7 @@ part-later front bytes k h some =
     let e : drop (56 * k) (front ++ bytes) ≡ drop (56 * k - 16) bytes = ap (λ m. drop m (front ++ bytes)) (sym n) ∙ (sym (drop-drop (56 * k - 16) 16 (front ++ bytes)) ∙ ap (drop (56 * k - 16)) (drop_at front bytes 16 h)) in
     ap (take 56) e
 
--- so many bytes of a part as the message has for it
+-- as many bytes of a part as the message has for it
 pub take_used : (bytes : List ℕ) (n used : ℕ) → used ≡ min n (length bytes) → take used bytes ≡ take n bytes
 take_used bytes n used e = ap (λ m. take m bytes) e ∙ take_min n bytes
 

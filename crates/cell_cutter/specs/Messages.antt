@@ -12,10 +12,10 @@ message_header seconds nanos captured original =
 abbrev pub message : ℕ → ℕ → ℕ → List ℕ → List ℕ
 message seconds nanos original bytes = message_header seconds nanos (length bytes) original ++ bytes
 
--- how many cells a message of so many bytes has: its bytes by 56, rounded up
+-- how many cells a message of this length has: its bytes by 56, rounded up
 abbrev pub cells_in : ℕ → ℕ
 cells_in bytes = div_ceil bytes PAYLOAD_BYTES
 
--- how many cells a packet of so many captured bytes has: those of its message
+-- how many cells a packet of this number of captured bytes has: those of its message
 abbrev pub cells_of_packet : ℕ → ℕ
 cells_of_packet captured = cells_in (MESSAGE_HEADER_BYTES + captured)

@@ -16,7 +16,7 @@ module _ {F : Type 0} where
   capacity_of None = 0
   capacity_of (Some ring) = ring.capacity
 
-  -- the queue that a ring stands for, where so many cells of its first packet have left
+  -- the queue that a ring stands for, where `gone` cells of its first packet have left
   abbrev pub queue_of : ℕ → ℕ → ℕ → Option (Buffer (Waiting F)) → CellQueue F
   queue_of depth gone spare ring = record { depth = depth; cells = cells_left gone (packets_in ring); spare = spare }
 

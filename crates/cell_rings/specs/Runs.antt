@@ -21,7 +21,7 @@ module _ {F : Type 0} where
   abbrev pub cells_left : ℕ → List (Waiting F) → List (QueuedCell F)
   cells_left gone packets = drop gone (flat_map run_of packets)
 
-  -- so many cells of the first packet have gone, and not all
+  -- `gone` cells of the first packet have gone, and not all
   abbrev pub IsBegun : ℕ → List (Waiting F) → Type 0
   IsBegun gone [] = gone ≡ 0
   IsBegun gone (waiting ∷ packets) = gone < waiting.cells

@@ -83,7 +83,7 @@ impl<F: Copy> CellRing<F> {
         self.spare
     }
 
-    /// Whether the queue can take so many more cells: with them it has at most the depth.
+    /// Whether the queue can take `cells` cells more: with them it has at most the depth.
     pub fn fits(&self, cells: u32) -> bool
         ensures { IsTrue result ↔ (length self.now.cells + cells ≤ self.now.depth) }
     {
@@ -144,7 +144,7 @@ impl<F: Copy> CellRing<F> {
     }
 }
 
-// Cell `number` of a packet of so many cells.
+// Cell `number` of a packet of `cells` cells.
 fn cell_of<F>(packet: u32, number: u16, cells: u16, fan: F) -> QueuedCell<F>
     requires { number < cells }
     ensures { result ≡ record { name = record { packet = packet; number = number; last = number + 1 == cells }; fan = fan } }

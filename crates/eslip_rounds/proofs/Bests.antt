@@ -29,12 +29,12 @@ IsBest-only t P l m k q a b =
       | inl one ↦
           let S : Kind → Type 0 = λ x. P l x in
           let T : ℕ → Type 0 = λ x. P x (preferred t) in
-          one ∙ sym (b.turn (subst T levels (subst S one a.there)))
+          one ∙ sym (b.preferred_first (subst T levels (subst S one a.there)))
       | inr other ↦ elim (kinds_decide q (preferred t)) [
         | inl one ↦
             let S : Kind → Type 0 = λ x. P m x in
             let T : ℕ → Type 0 = λ x. P x (preferred t) in
-            absurd (other (a.turn (subst T (sym levels) (subst S one b.there))))
+            absurd (other (a.preferred_first (subst T (sym levels) (subst S one b.there))))
         | inr also ↦ other_once k q (preferred t) other also
       ]
     ] in
@@ -42,7 +42,7 @@ IsBest-only t P l m k q a b =
 
 pub IsBest-along : (t : ℕ) (P Q : ℕ → Kind → Type 0) (level : ℕ) (kind : Kind) → ((m : ℕ) (k : Kind) → P m k ↔ Q m k) → IsBest t P level kind → IsBest t Q level kind
 IsBest-along t P Q level kind same b =
-    record { there = (same level kind).0 b.there; least = λ m k q. b.least m k ((same m k).1 q); turn = λ q. b.turn ((same level (preferred t)).1 q) }
+    record { there = (same level kind).0 b.there; least = λ m k q. b.least m k ((same m k).1 q); preferred_first = λ q. b.preferred_first ((same level (preferred t)).1 q) }
 
 -- the least rank with P is the best level and kind
 pub IsBest-from_rank : (t : ℕ) (P : ℕ → Kind → Type 0) (rank : ℕ) → P (level_at rank) (kind_at (preferred t) rank) → ((m : ℕ) (k : Kind) → P m k → rank ≤ rank_of (preferred t) m k) → IsBest t P (level_at rank) (kind_at (preferred t) rank)
@@ -50,7 +50,7 @@ IsBest-from_rank t P rank there least =
     record {
       there = there;
       least = λ m k p. let low = least m k p in let high = rank_of-high (preferred t) m k in omega arith;
-      turn = λ p.
+      preferred_first = λ p.
           let low = least (level_at rank) (preferred t) p in
           let at = rank_of-first (preferred t) (level_at rank) in
           kind_at-even (preferred t) rank (omega arith);
@@ -70,7 +70,7 @@ IsBest-to_rank t P level kind best m k p =
         | inl one ↦
             let Q : Kind → Type 0 = λ x. P m x in
             let R : ℕ → Type 0 = λ x. P x first_kind in
-            let mine : kind ≡ first_kind = best.turn (subst R (sym same) (subst Q one p)) in
+            let mine : kind ≡ first_kind = best.preferred_first (subst R (sym same) (subst Q one p)) in
             let here : rank_of first_kind level kind ≡ 2 * level = ap (rank_of first_kind level) mine ∙ rank_of-first first_kind level in
             omega arith
       ]

@@ -56,10 +56,10 @@ module _ (t : ℕ) (P : ℕ → Kind → Type 0) (dec : (m : ℕ) (k : Kind) →
             let l = f.0 in
             let lowest : (other : ℕ) (q : Kind) → P other q → l ≤ other = λ other q h. elim (cases_lt other l) [ inl under ↦ absurd (f.3 other under (any_kind P other q h)) | inr at ↦ at ] in
             elim (dec l (preferred t)) [
-              | inl has ↦ (l, preferred t, record { there = has; least = lowest; turn = λ h. refl })
+              | inl has ↦ (l, preferred t, record { there = has; least = lowest; preferred_first = λ h. refl })
               | inr lacks ↦ elim f.2 [
-                | inl u ↦ (l, Uni, record { there = u; least = lowest; turn = λ h. absurd (lacks h) })
-                | inr v ↦ (l, Multi, record { there = v; least = lowest; turn = λ h. absurd (lacks h) })
+                | inl u ↦ (l, Uni, record { there = u; least = lowest; preferred_first = λ h. absurd (lacks h) })
+                | inr v ↦ (l, Multi, record { there = v; least = lowest; preferred_first = λ h. absurd (lacks h) })
               ]
             ]
       ]
@@ -73,10 +73,10 @@ module _ (t : ℕ) (P : ℕ → Kind → Type 0) (dec : (m : ℕ) (k : Kind) →
           | inr none ↦
               let lowest : (other : ℕ) (q : Kind) → P other q → l ≤ other = λ other q h. elim (cases_lt other l) [ inl under ↦ absurd (none other under (any_kind P other q h)) | inr at ↦ at ] in
               elim (dec l (preferred t)) [
-                | inr not_there ↦ inl (record { there = has; least = lowest; turn = λ h. absurd (not_there h) })
+                | inr not_there ↦ inl (record { there = has; least = lowest; preferred_first = λ h. absurd (not_there h) })
                 | inl here ↦ elim (kinds_decide k (preferred t)) [
-                  | inl same ↦ inl (record { there = has; least = lowest; turn = λ h. same })
-                  | inr other ↦ inr (λ b. other (b.turn here))
+                  | inl same ↦ inl (record { there = has; least = lowest; preferred_first = λ h. same })
+                  | inr other ↦ inr (λ b. other (b.preferred_first here))
                 ]
               ]
         ]

@@ -106,7 +106,7 @@ module _ (n t level : ℕ) (rows : List Row) (places : Places) (level_in : level
       record {
         there = there;
         least = λ m k p. let same = (only m k p).0 in omega arith;
-        turn = λ p. sym ((only level (preferred t) p).1);
+        preferred_first = λ p. sym ((only level (preferred t) p).1);
       }
 
   grants : (i j : ℕ) → islip.Grants n (unicast_of level rows) (pointers_of level places) (inputs_of before) i j ↔ Grants n t rows places before i j level Uni

@@ -30,7 +30,7 @@ pub record IsRankFound (t : ℕ) (test : ℕ → Kind → Bool) (a b : ℕ) (fou
   pub is : found ≡ Some (record { level = level; kind = kind })
   pub passes : test level kind ≡ true
   pub least : (m : ℕ) (k : Kind) → a ≤ m → m < level → test m k ≡ true → ⊥
-  pub turn : test level (preferred t) ≡ true → kind ≡ preferred t
+  pub preferred_first : test level (preferred t) ≡ true → kind ≡ preferred t
 
 -- no rank of the levels from a below b has the test
 pub record IsNoRank (test : ℕ → Kind → Bool) (a b : ℕ) (found : Option Rank) : Type 0 where
@@ -60,7 +60,7 @@ module _ (t : ℕ) (test : ℕ → Kind → Bool) where
             inl (
               a,
               first_kind,
-              record { low = omega arith; high = omega arith; is = cond-true (test a first_kind) (Some one) _ pass; passes = pass; least = λ m k low high h. absurd (omega arith); turn = λ h. refl },
+              record { low = omega arith; high = omega arith; is = cond-true (test a first_kind) (Some one) _ pass; passes = pass; least = λ m k low high h. absurd (omega arith); preferred_first = λ h. refl },
             )
         | inr fail ↦ elim (cases_Bool (test a (other_kind first_kind))) [
           | inl pass ↦
@@ -73,7 +73,7 @@ module _ (t : ℕ) (test : ℕ → Kind → Bool) where
                   is = cond-false (test a first_kind) (Some one) _ fail ∙ cond-true (test a (other_kind first_kind)) (Some two) rest pass;
                   passes = pass;
                   least = λ m k low high h. absurd (omega arith);
-                  turn = λ h. absurd (cc);
+                  preferred_first = λ h. absurd (cc);
                 },
               )
           | inr also ↦
@@ -88,7 +88,7 @@ module _ (t : ℕ) (test : ℕ → Kind → Bool) where
                     let g = f.2 in
                     let low = g.low in
                     let high = g.high in
-                    inl (f.0, f.1, record { low = omega arith; high = omega arith; is = skip ∙ g.is; passes = g.passes; least = λ m k. later f.0 m k g.least; turn = g.turn })
+                    inl (f.0, f.1, record { low = omega arith; high = omega arith; is = skip ∙ g.is; passes = g.passes; least = λ m k. later f.0 m k g.least; preferred_first = g.preferred_first })
                 | inr none ↦ inr (record { is = skip ∙ none.is; fails = λ m k low high. later ((a + 1) + n) m k none.fails low (omega arith) })
               ]
         ]
@@ -109,7 +109,7 @@ module _ (t : ℕ) (test : ℕ → Kind → Bool) (P : ℕ → Kind → Type 0) 
           record {
             there = (each level f.1 below).0 g.passes;
             least = λ m k p. elim (cases_lt m level) [ inl under ↦ absurd (g.least m k (omega arith) under ((each m k (level_in m k p)).1 p)) | inr above ↦ above ];
-            turn = λ p. g.turn ((each level (preferred t) below).1 p);
+            preferred_first = λ p. g.preferred_first ((each level (preferred t) below).1 p);
           },
         )
     | inr none ↦ inr (none.is, λ m k p. none.fails m k (omega arith) (let below = level_in m k p in omega arith) ((each m k (level_in m k p)).1 p))

@@ -83,25 +83,29 @@ pub record IsDecided (n k t : ℕ) (rows : List Row) (places : Places) (now : Li
   pub mets : (j : ℕ) → Has met j ↔ ((j < n) × (IsFreeOutput first_match j → ⊥))
   pub used : numbers.used ≤ k
 
-module _ (n k t : ℕ) (rows : List Row) (places : Places) (now : List (Option Fed)) (matched : ℕ) (numbers : RoundsUsed) (met : ℕ) (decided : IsDecided n k t rows places now matched numbers met) where
+-- what the first of some rounds matched stays matched
+pub first_kept : (n t : ℕ) (rows : List Row) (places : Places) (steps : List (List (Option Fed))) → 0 < length steps → AreRounds n t rows places (unmatched n) steps → (i j level : ℕ) (kind : Kind) → Serves (slice_index_or steps 0 (unmatched n)) i j level kind → Serves (last_of (unmatched n) steps) i j level kind
+first_kept n t rows places [] some chain i j level kind s = absurd (omega arith)
+first_kept n t rows places (step ∷ steps) some chain i j level kind s = AreRounds-keep n t rows places step steps chain.1 i j level kind s
+
+module _ (n : ℕ) (first_match now : List (Option Fed)) (met : ℕ) (whole : IsMatch n now) (kept : (i j level : ℕ) (kind : Kind) → Serves first_match i j level kind → Serves now i j level kind) (mets : (j : ℕ) → Has met j ↔ ((j < n) × (IsFreeOutput first_match j → ⊥))) where
   -- the unicast pairs of the first round are those of the outputs that it matched
-  pub Serves-met : (i j level : ℕ) → (Has met j × Serves now i j level Uni) ↔ Serves decided.first_match i j level Uni
+  pub Serves-met : (i j level : ℕ) → (Has met j × Serves now i j level Uni) ↔ Serves first_match i j level Uni
   Serves-met i j level = (
-    λ p. go (fed_of decided.first_match j) refl p.0 p.1,
+    λ p. go (fed_of first_match j) refl p.0 p.1,
     λ s.
         let f : Fed = record { input = i; level = level; kind = Uni } in
-        let kept = decided.run.kept i j level Uni s in
-        let below : j < n = let lt = fed_of-lt now j f kept in let size = decided.whole.count in omega arith in
-        ((decided.mets j).1 (below, λ free. none-some f (sym free ∙ s)), kept),
+        let there = kept i j level Uni s in
+        let below : j < n = let lt = fed_of-lt now j f there in let size = whole.count in omega arith in
+        ((mets j).1 (below, λ free. none-some f (sym free ∙ s)), there),
   ) where
-    go : (o : Option Fed) → fed_of decided.first_match j ≡ o → Has met j → Serves now i j level Uni → Serves decided.first_match i j level Uni
-    go None e has s = absurd (((decided.mets j).0 has).1 e)
+    go : (o : Option Fed) → fed_of first_match j ≡ o → Has met j → Serves now i j level Uni → Serves first_match i j level Uni
+    go None e has s = absurd (((mets j).0 has).1 e)
     go (Some f) e has s =
-        let there = Serves-from decided.first_match j f e in
-        let kept = decided.run.kept f.input j f.level f.kind there in
-        let once = Serves-once now j f.input i f.level level f.kind Uni kept s in
-        let P : ℕ → Type 0 = λ x. Serves decided.first_match x j level Uni in
-        subst P once.0 (Serves-along decided.first_match f.input j f.level level f.kind Uni once.1 once.2 there)
+        let there = Serves-from first_match j f e in
+        let once = Serves-once now j f.input i f.level level f.kind Uni (kept f.input j f.level f.kind there) s in
+        let P : ℕ → Type 0 = λ x. Serves first_match x j level Uni in
+        subst P once.0 (Serves-along first_match f.input j f.level level f.kind Uni once.1 once.2 there)
 
 -- no unicast input has two outputs
 pub once_unicast : (n : ℕ) (matched : List (Option Fed)) → IsMatch n matched → (i j k level : ℕ) → Serves matched i j level Uni → Serves matched i k level Uni → j ≡ k

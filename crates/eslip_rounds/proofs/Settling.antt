@@ -13,8 +13,8 @@ use Rattle.slot_match.specs.Matches.{unmatched, fed_of, IsMatch}
 use Rattle.slot_match.proofs.Kept.{IsMatch-unmatched}
 use Rattle.pointer_state.specs.Places.{Places, AreAtPorts, ArePointing, grant_of, accept_of, shared_of}
 use Rattle.eslip_rounds.specs.Rounds.{AreRounds}
-use Rattle.eslip_rounds.specs.Slots.{Decision, AreMoved, IsSlot}
-use Rattle.eslip_rounds.specs.Decisions.{ports, is_fed, moved_by, passed, places_after, round_of, rounds_of, decision_of}
+use Rattle.eslip_rounds.specs.Slots.{Decision, AreMoved, IsSlotBy, IsSlot}
+use Rattle.eslip_rounds.specs.Decisions.{ports, is_fed, moved_by, passed, places_after, round_of, rounds_of, decision_by, decision_of}
 use Rattle.eslip_rounds.proofs.Matching.{IsMatch-round}
 use Rattle.eslip_rounds.proofs.Unique.{ArePointing-moved, IsSlot-only}
 use Rattle.eslip_rounds.proofs.Accepting.{IsRound-round_of}
@@ -98,23 +98,34 @@ module _ (n t : ℕ) (rows : List Row) (places : Places) (within : AreWithin n r
       let start = unmatched n in
       IsMatch-round n t rows places at_ports ports_are start (round_of n t rows places start) (IsMatch-unmatched n) (IsRound-round_of n t rows places start (IsMatch-unmatched n) at_ports ports_are)
 
-  -- what is computed is what the slot decides
+  module _ (move : ℕ → ℕ → List Row → List (Option Fed) → List (Option Fed) → Places → Places) where
+    -- what is computed is what the slot decides, where the pointers that are computed are so
+    pub IsSlotBy-decision_by : (Moves : ℕ → ℕ → List Row → List (Option Fed) → List (Option Fed) → Places → Places → Type 0)
+        → ((first_match matched : List (Option Fed)) → IsMatch n first_match → Moves n t rows first_match matched places (move n t rows first_match matched places)) → (rounds : ℕ) → IsSlotBy Moves n rounds t rows places (decision_by move n rounds t rows places)
+    unfolding decision_by
+    IsSlotBy-decision_by Moves moved rounds =
+        let start = unmatched n in
+        record {
+          steps = rounds_of n t rows places rounds start;
+          count = length-rounds_of rounds start;
+          chain = AreRounds-rounds_of rounds start (IsMatch-unmatched n);
+          result = refl;
+          numbered = refl;
+          moved = moved (slice_index_or (rounds_of n t rows places rounds start) 0 start) _ (first_whole rounds);
+        }
+
+    -- and the pointers are at ports, where those that are computed are
+    pub AreAtPorts-decision_by : ((first_match matched : List (Option Fed)) → IsMatch n first_match → AreAtPorts (move n t rows first_match matched places)) → (rounds : ℕ) → AreAtPorts (decision_by move n rounds t rows places).places
+    unfolding decision_by
+    AreAtPorts-decision_by at_ports_after rounds = at_ports_after (slice_index_or (rounds_of n t rows places rounds (unmatched n)) 0 (unmatched n)) _ (first_whole rounds)
+
   pub IsSlot-decision_of : (rounds : ℕ) → IsSlot n rounds t rows places (decision_of n rounds t rows places)
   unfolding decision_of
-  IsSlot-decision_of rounds =
-      let start = unmatched n in
-      record {
-        steps = rounds_of n t rows places rounds start;
-        count = length-rounds_of rounds start;
-        chain = AreRounds-rounds_of rounds start (IsMatch-unmatched n);
-        result = refl;
-        numbered = refl;
-        moved = AreMoved-places_after n t rows (slice_index_or (rounds_of n t rows places rounds start) 0 start) _ places within (first_whole rounds) at_ports ports_are;
-      }
+  IsSlot-decision_of = IsSlotBy-decision_by (λ n t. places_after n) AreMoved (λ first_match matched whole. AreMoved-places_after n t rows first_match matched places within whole at_ports ports_are)
 
   pub AreAtPorts-decision_of : (rounds : ℕ) → AreAtPorts (decision_of n rounds t rows places).places
   unfolding decision_of
-  AreAtPorts-decision_of rounds = AreAtPorts-places_after n t rows (slice_index_or (rounds_of n t rows places rounds (unmatched n)) 0 (unmatched n)) _ places within (first_whole rounds) at_ports ports_are
+  AreAtPorts-decision_of = AreAtPorts-decision_by (λ n t. places_after n) (λ first_match matched whole. AreAtPorts-places_after n t rows first_match matched places within whole at_ports ports_are)
 
   -- every decision of the slot is the one that is computed
   pub decision_of-only : (rounds : ℕ) (a : Decision) → AreAtPorts a.places → IsSlot n rounds t rows places a → a ≡ decision_of n rounds t rows places

@@ -17,10 +17,10 @@ use Rattle.slot_match.specs.Matches.{unmatched, fed_of, Serves, IsMatch, Complet
 use Rattle.slot_match.proofs.Pairs.{Serves-decides, fed_of-lt}
 use Rattle.slot_match.proofs.Kept.{IsMatch-unmatched, nobody_at_first}
 use Rattle.pointer_state.specs.Places.{Places, AreAtPorts, ArePointing, grant_of, accept_of, shared_of}
-use Rattle.pointer_state.proofs.Same.{Places-same}
+use Rattle.pointer_state.proofs.Same.{AreAlike, Places-same}
 use Rattle.islip_rounds.specs.Numbers.{last_of, slot_numbers}
 use Rattle.eslip_rounds.specs.Rounds.{Grants, IsRound, AreRounds}
-use Rattle.eslip_rounds.specs.Slots.{Decision, AreMoved, IsSlot}
+use Rattle.eslip_rounds.specs.Slots.{Decision, AreMoved, IsSlotBy, IsSlot}
 use Rattle.eslip_rounds.proofs.Bests.{taken_from}
 use Rattle.eslip_rounds.proofs.Deciding.{some_below, Completes-or, HasHead-decides}
 use Rattle.eslip_rounds.proofs.Matching.{IsMatch-rounds}
@@ -95,15 +95,17 @@ module _ (n t : ℕ) (rows : List Row) (first_match matched : List (Option Fed))
   ]
 
   -- one place for each pointer
-  pub AreMoved-only : (a b : Places) → AreAtPorts a → AreAtPorts b → AreMoved n t rows first_match matched before a → AreMoved n t rows first_match matched before b → a ≡ b
-  AreMoved-only a b x y r s =
-      Places-same a b x y
-      (record {
+  pub AreMoved-alike : (a b : Places) → AreMoved n t rows first_match matched before a → AreMoved n t rows first_match matched before b → AreAlike a b
+  AreMoved-alike a b r s =
+      record {
         ports = r.ports ∙ sym s.ports;
         grant = λ j level. elim (fed_by first_match j level) [ inl h ↦ r.granted h.0 j level h.1 ∙ sym (s.granted h.0 j level h.1) | inr none ↦ r.grant_stays j level none ∙ sym (s.grant_stays j level none) ];
         accept = λ i level. elim (feeds i level) [ inl h ↦ r.accepted i h.0 level h.1 ∙ sym (s.accepted i h.0 level h.1) | inr none ↦ r.accept_stays i level none ∙ sym (s.accept_stays i level none) ];
         shared = λ level. elim (passes level) [ inl h ↦ r.passed h.0 level h.1 h.2 ∙ sym (s.passed h.0 level h.1 h.2) | inr none ↦ r.shared_stays level none ∙ sym (s.shared_stays level none) ];
-      })
+      }
+
+  pub AreMoved-only : (a b : Places) → AreAtPorts a → AreAtPorts b → AreMoved n t rows first_match matched before a → AreMoved n t rows first_match matched before b → a ≡ b
+  AreMoved-only a b x y r s = Places-same a b x y (AreMoved-alike a b r s)
 
   -- after a slot the pointers are at ports again
   pub ArePointing-moved : (after : Places) → AreMoved n t rows first_match matched before after → (level : ℕ) → level < LEVELS → ArePointing n level after
@@ -133,25 +135,36 @@ module _ (n rounds t : ℕ) (rows : List Row) (places : Places) (within : AreWit
   some_ports : 0 < n
   some_ports = let some = at_ports.some in omega arith
 
-  -- two decisions of one slot are one
-  pub IsSlot-only : (a b : Decision) → AreAtPorts a.places → AreAtPorts b.places → IsSlot n rounds t rows places a → IsSlot n rounds t rows places b → a ≡ b
-  IsSlot-only a b x y r s =
-      let steps : r.steps ≡ s.steps = AreRounds-only n t rows places (unmatched n) r.steps s.steps (r.count ∙ sym s.count) r.chain s.chain in
-      let matches : a.matched ≡ b.matched = r.result ∙ (ap (last_of (unmatched n)) steps ∙ sym s.result) in
-      let numbers : a.numbers ≡ b.numbers = r.numbered ∙ (ap slot_numbers steps ∙ sym s.numbered) in
-      let firsts : slice_index_or s.steps 0 (unmatched n) ≡ slice_index_or r.steps 0 (unmatched n) = ap (λ m. slice_index_or m 0 (unmatched n)) (sym steps) in
-      let First = slice_index_or r.steps 0 (unmatched n) in
-      let moved : AreMoved n t rows First a.matched places b.places = subst (λ m. AreMoved n t rows First m places b.places) (sym matches) (subst (λ f. AreMoved n t rows f b.matched places b.places) firsts s.moved) in
-      let after = AreMoved-only n t rows First a.matched places within (first_size n t rows places r.steps r.chain) at_ports ports some_ports a.places b.places x y r.moved moved in
-      λ i. record { matched = matches i; numbers = numbers i; places = after i }
+  first_of_slot : (steps : List (List (Option Fed))) → AreRounds n t rows places (unmatched n) steps → length (slice_index_or steps 0 (unmatched n)) ≡ n
+  first_of_slot = first_size n t rows places
 
-  -- the match of a slot is a match
+  module _ (Moves : ℕ → ℕ → List Row → List (Option Fed) → List (Option Fed) → Places → Places → Type 0) where
+    -- two decisions of one slot are one, where there is one place for each pointer
+    pub IsSlotBy-only : ((first_match matched : List (Option Fed)) → length first_match ≡ n → (a b : Places) → AreAtPorts a → AreAtPorts b → Moves n t rows first_match matched places a → Moves n t rows first_match matched places b → a ≡ b)
+        → (a b : Decision) → AreAtPorts a.places → AreAtPorts b.places → IsSlotBy Moves n rounds t rows places a → IsSlotBy Moves n rounds t rows places b → a ≡ b
+    IsSlotBy-only moves_only a b x y r s =
+        let steps : r.steps ≡ s.steps = AreRounds-only n t rows places (unmatched n) r.steps s.steps (r.count ∙ sym s.count) r.chain s.chain in
+        let matches : a.matched ≡ b.matched = r.result ∙ (ap (last_of (unmatched n)) steps ∙ sym s.result) in
+        let numbers : a.numbers ≡ b.numbers = r.numbered ∙ (ap slot_numbers steps ∙ sym s.numbered) in
+        let firsts : slice_index_or s.steps 0 (unmatched n) ≡ slice_index_or r.steps 0 (unmatched n) = ap (λ m. slice_index_or m 0 (unmatched n)) (sym steps) in
+        let First = slice_index_or r.steps 0 (unmatched n) in
+        let moved : Moves n t rows First a.matched places b.places = subst (λ m. Moves n t rows First m places b.places) (sym matches) (subst (λ f. Moves n t rows f b.matched places b.places) firsts s.moved) in
+        let after = moves_only First a.matched (first_of_slot r.steps r.chain) a.places b.places x y r.moved moved in
+        λ i. record { matched = matches i; numbers = numbers i; places = after i }
+
+    -- the match of a slot is a match
+    pub IsMatch-slot_by : (a : Decision) → IsSlotBy Moves n rounds t rows places a → IsMatch n a.matched
+    IsMatch-slot_by a r = subst (IsMatch n) (sym r.result) (IsMatch-rounds n t rows places at_ports ports (unmatched n) r.steps (IsMatch-unmatched n) r.chain)
+
+  pub IsSlot-only : (a b : Decision) → AreAtPorts a.places → AreAtPorts b.places → IsSlot n rounds t rows places a → IsSlot n rounds t rows places b → a ≡ b
+  IsSlot-only = IsSlotBy-only AreMoved (λ first_match matched size. AreMoved-only n t rows first_match matched places within size at_ports ports some_ports)
+
   pub IsMatch-slot : (a : Decision) → IsSlot n rounds t rows places a → IsMatch n a.matched
-  IsMatch-slot a r = subst (IsMatch n) (sym r.result) (IsMatch-rounds n t rows places at_ports ports (unmatched n) r.steps (IsMatch-unmatched n) r.chain)
+  IsMatch-slot = IsMatch-slot_by AreMoved
 
   -- and the pointers after it are at ports
   pub ArePointing-slot : (a : Decision) → IsSlot n rounds t rows places a → (level : ℕ) → level < LEVELS → ArePointing n level a.places
-  ArePointing-slot a r = ArePointing-moved n t rows (slice_index_or r.steps 0 (unmatched n)) a.matched places within (first_size n t rows places r.steps r.chain) at_ports ports some_ports a.places r.moved
+  ArePointing-slot a r = ArePointing-moved n t rows (slice_index_or r.steps 0 (unmatched n)) a.matched places within (first_of_slot r.steps r.chain) at_ports ports some_ports a.places r.moved
 
 -- what is matched was named
 named_rounds : (n t : ℕ) (rows : List Row) (places : Places) (before : List (Option Fed)) (steps : List (List (Option Fed))) → AreRounds n t rows places before steps → (i j level : ℕ) (kind : Kind) → (Serves before i j level kind → Names (row_of rows i) level kind j) → Serves (last_of before steps) i j level kind → Names (row_of rows i) level kind j
@@ -165,6 +178,9 @@ named_rounds n t rows places before (step ∷ steps) chain i j level kind known 
           elim g.first.member [ inl p ↦ p.1.named | inr on ↦ subst (λ k. Names (row_of rows i) level k j) (sym on.multicast) on.named ]
     ]) s
 
-pub Serves-named : (n rounds t : ℕ) (rows : List Row) (places : Places) (a : Decision) → IsSlot n rounds t rows places a → (i j level : ℕ) (kind : Kind) → Serves a.matched i j level kind → Names (row_of rows i) level kind j
-Serves-named n rounds t rows places a r i j level kind s =
+pub Serves-named_by : (Moves : ℕ → ℕ → List Row → List (Option Fed) → List (Option Fed) → Places → Places → Type 0) (n rounds t : ℕ) (rows : List Row) (places : Places) (a : Decision) → IsSlotBy Moves n rounds t rows places a → (i j level : ℕ) (kind : Kind) → Serves a.matched i j level kind → Names (row_of rows i) level kind j
+Serves-named_by Moves n rounds t rows places a r i j level kind s =
     named_rounds n t rows places (unmatched n) r.steps r.chain i j level kind (λ h. absurd (nobody_at_first n i j level kind h)) (subst (λ m. Serves m i j level kind) r.result s)
+
+pub Serves-named : (n rounds t : ℕ) (rows : List Row) (places : Places) (a : Decision) → IsSlot n rounds t rows places a → (i j level : ℕ) (kind : Kind) → Serves a.matched i j level kind → Names (row_of rows i) level kind j
+Serves-named = Serves-named_by AreMoved

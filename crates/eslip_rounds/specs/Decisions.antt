@@ -139,9 +139,19 @@ places_after n rows first_match matched before = record {
   shared = map (λ level. moved_by n (passed n rows matched before level) (shared_of before level)) (range_with_len 0 LEVELS);
 }
 
--- what slot t decides in `rounds` rounds, from these rows and pointers
-unfoldable pub decision_of : ℕ → ℕ → ℕ → List Row → Places → Decision
-decision_of n rounds t rows places =
+-- what slot t decides in `rounds` rounds, from these rows and pointers, where `move` gives the pointers after it
+-- from the slot, its rows, the match after its first round, its match and the pointers before it
+unfoldable pub decision_by : (ℕ → ℕ → List Row → List (Option Fed) → List (Option Fed) → Places → Places) → ℕ → ℕ → ℕ → List Row → Places → Decision
+decision_by move n rounds t rows places =
     let steps = rounds_of n t rows places rounds (unmatched n) in
     let matched = last_of (unmatched n) steps in
-    record { matched = matched; numbers = slot_numbers steps; places = places_after n rows (slice_index_or steps 0 (unmatched n)) matched places }
+    record { matched = matched; numbers = slot_numbers steps; places = move n t rows (slice_index_or steps 0 (unmatched n)) matched places }
+
+-- what slot t decides in `rounds` rounds, from these rows and pointers
+unfoldable pub decision_of : ℕ → ℕ → ℕ → List Row → Places → Decision
+decision_of = decision_by (λ n t. places_after n)
+
+-- whether output j grants input i as unicast of the level in the first round, and the input does not accept
+abbrev pub is_refused : ℕ → ℕ → List Row → Places → ℕ → ℕ → ℕ → Bool
+is_refused n t rows places i j level =
+    is_fed i level Uni (fed_of (map (granted n t rows places (unmatched n)) (ports n)) j) && not (is_fed i level Uni (fed_of (round_of n t rows places (unmatched n)) j))

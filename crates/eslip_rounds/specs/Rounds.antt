@@ -35,7 +35,7 @@ Requests rows before i j level kind = (IsFreeInput before i × Asks (row_of rows
 pub record IsBest (t : ℕ) (P : ℕ → Kind → Type 0) (level : ℕ) (kind : Kind) : Type 0 where
   pub there : P level kind
   pub least : (other : ℕ) (also : Kind) → P other also → level ≤ other
-  pub turn : P level (preferred t) → kind ≡ preferred t
+  pub preferred_first : P level (preferred t) → kind ≡ preferred t
 
 -- from where output j picks: its own grant pointer for unicast, the shared pointer for multicast
 abbrev pub from_of : Places → ℕ → ℕ → Kind → ℕ

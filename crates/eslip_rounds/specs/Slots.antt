@@ -9,7 +9,7 @@ use Rattle.slot_match.specs.Matches.{unmatched, Serves, Completes}
 use Rattle.pointer_state.specs.Places.{Places, grant_of, accept_of, shared_of}
 use Rattle.islip_rounds.specs.declared.numbers.RoundsUsed.{RoundsUsed}
 use Rattle.islip_rounds.specs.Numbers.{last_of, slot_numbers}
-use Rattle.eslip_rounds.specs.Rounds.{AreRounds}
+use Rattle.eslip_rounds.specs.Rounds.{Grants, Accepts, AreRounds}
 
 -- what a slot decides
 pub record Decision : Type 0 where
@@ -43,3 +43,7 @@ pub record IsSlotBy (Moves : ℕ → ℕ → List Row → List (Option Fed) → 
 -- slot t decides this
 abbrev pub IsSlot : ℕ → ℕ → ℕ → List Row → Places → Decision → Type 0
 IsSlot = IsSlotBy AreMoved
+
+-- in the first round of slot t output j grants input i as unicast of the level, and the input does not accept
+abbrev pub IsRefused : ℕ → ℕ → List Row → Places → ℕ → ℕ → ℕ → Type 0
+IsRefused n t rows places i j level = Grants n t rows places (unmatched n) i j level Uni × (Accepts n t rows places (unmatched n) i j level Uni → ⊥)

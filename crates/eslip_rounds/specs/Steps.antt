@@ -1,20 +1,24 @@
 -- What the steps of a slot keep and answer: columns of asks by rank, choices, offers and takings.
-use Rattle.std.specs.Prelude.{◌≡◌, ◌≢◌, ℕ, ◌+◌, ◌%◌, ◌<◌, ◌≤◌, ◌↔◌, ◌⊎◌, List, [], Option, slice_index, slice_index_or}
+use Rattle.std.specs.Prelude.{◌≡◌, ◌≢◌, ℕ, ◌+◌, ◌%◌, ◌<◌, ◌≤◌, ◌↔◌, ◌⊎◌, List, [], Option, Some, length, slice_index, slice_index_or}
 use Rattle.rotating_pick.specs.PortSets.{Has}
 use Rattle.rotating_pick.specs.Rotation.{IsFirstFrom}
 use Rattle.rotating_pick.specs.declared.kinds.Kind.{Kind}
-use Rattle.rotating_pick.specs.declared.kinds.Kind.TheVariants.{Multi}
+use Rattle.rotating_pick.specs.declared.kinds.Kind.TheVariants.{Uni, Multi}
 use Rattle.slot_match.specs.declared.rows.Row.{Row}
 use Rattle.slot_match.specs.declared.matching.Fed.{Fed}
 use Rattle.slot_match.specs.Rows.{Names, row_of, HasHead}
-use Rattle.slot_match.specs.Matches.{Serves, IsFreeInput, IsFreeOutput, IsMulticasting, Completes}
+use Rattle.slot_match.specs.Matches.{unmatched, Serves, IsFreeInput, IsFreeOutput, IsMulticasting, Completes}
 use Rattle.pointer_state.specs.Places.{Places, grant_of, accept_of, shared_of}
 use Rattle.eslip_rounds.specs.declared.asks.Asks.{Asks}
 use Rattle.eslip_rounds.specs.declared.ranks.TheConstants.{RANKS}
 use Rattle.eslip_rounds.specs.declared.grants.Choice.{Choice}
+use Rattle.islip_rounds.specs.Numbers.{last_of, slot_numbers}
 use Rattle.eslip_rounds.specs.declared.grants.Offers.{Offers}
+use Rattle.eslip_rounds.specs.declared.refusals.Refused.{Refused}
+use Rattle.eslip_rounds.specs.declared.rounds.Made.{Made}
 use Rattle.eslip_rounds.specs.Ranks.{level_at, kind_at}
-use Rattle.eslip_rounds.specs.Rounds.{from_of, Takes}
+use Rattle.eslip_rounds.specs.Rounds.{from_of, Takes, AreRounds}
+use Rattle.eslip_rounds.specs.Slots.{IsRefused}
 
 -- the column of output j at the rank
 abbrev pub column_of : List (List ℕ) → ℕ → ℕ → ℕ
@@ -103,3 +107,35 @@ pub record AreMet (Pairs : ℕ → ℕ → ℕ → Type 0) (before after : Place
 pub record IsPassed (n : ℕ) (rows : List Row) (matched : List (Option Fed)) (before after : Places) (level : ℕ) : Type 0 where
   pub passed : (i : ℕ) → IsFirstFrom n (shared_of before level) (HasHead rows level) i → Completes rows matched level i → shared_of after level ≡ (i + 1) % n
   pub stays : ((i : ℕ) → IsFirstFrom n (shared_of before level) (HasHead rows level) i → Completes rows matched level i → ⊥) → shared_of after level ≡ shared_of before level
+
+-- `rounds` rounds from nothing matched made this match, and are told by their numbers and by the outputs that the
+-- first of them matched
+pub record AreMade (n rounds t : ℕ) (rows : List Row) (places : Places) (matched : List (Option Fed)) (made : Made) : Type 0 where
+  pub steps : List (List (Option Fed))
+  pub count : length steps ≡ rounds
+  pub chain : AreRounds n t rows places (unmatched n) steps
+  pub result : matched ≡ last_of (unmatched n) steps
+  pub numbered : made.numbers ≡ slot_numbers steps
+  pub firsts : (j : ℕ) → Has made.first_outputs j ↔ ((j < n) × (IsFreeOutput (slice_index_or steps 0 (unmatched n)) j → ⊥))
+
+-- output j is told to have granted input i as unicast of the level, and to be refused
+abbrev pub Tells : Refused → ℕ → ℕ → ℕ → Type 0
+Tells refused i j level = Has refused.outputs j × (slice_index refused.inputs j ≡ i) × (slice_index refused.levels j ≡ level)
+
+-- the choice is of input i, as unicast of the level
+abbrev pub IsUnicastChoice : Kind → Option Choice → ℕ → ℕ → Type 0
+IsUnicastChoice first_kind choice i level = (rank : ℕ) × (choice ≡ Some (record { rank = rank; input = i })) × (kind_at first_kind rank ≡ Uni) × (level ≡ level_at rank)
+
+-- output j grants input i as unicast of the level
+abbrev pub GrantsUnicast : ℕ → Kind → Asks → List ℕ → Places → ℕ → ℕ → ℕ → Type 0
+GrantsUnicast n first_kind asks ready places i j level = (rank : ℕ) × IsChosen n first_kind asks ready places j (record { rank = rank; input = i }) × (kind_at first_kind rank ≡ Uni) × (level ≡ level_at rank)
+
+-- of these outputs each that grants unicast, where nothing is matched yet, is told with what it grants
+pub record AreToldOf (n : ℕ) (first_kind : Kind) (asks : Asks) (places : Places) (Outputs : ℕ → Type 0) (refused : Refused) : Type 0 where
+  pub ready : List ℕ
+  pub readies : AreReady n first_kind (unmatched n) ready
+  pub told : (i j level : ℕ) → Tells refused i j level ↔ (Outputs j × GrantsUnicast n first_kind asks ready places i j level)
+
+-- the refused unicast grants of the first round of slot t are told, and no others
+abbrev pub AreRefused : ℕ → ℕ → List Row → Places → Refused → Type 0
+AreRefused n t rows places refused = (i j level : ℕ) → Tells refused i j level ↔ IsRefused n t rows places i j level

@@ -97,8 +97,8 @@ pub(crate) fn no_offers() -> Offers
     }
 }
 
-// What output `j` grants: of the inputs that ask it at the lowest rank, the first from its pointer on.
-fn chosen(
+/// What output `j` grants: of the inputs that ask it at the lowest rank, the first from its pointer on.
+pub(crate) fn chosen(
     n: u32,
     first_kind: Kind,
     asks: &Asks,

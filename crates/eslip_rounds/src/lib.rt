@@ -11,7 +11,9 @@ mod grants;
 pub mod laws;
 mod moves;
 mod ranks;
+mod refusals;
 mod rounds;
 mod slot;
 
-pub use slot::decide;
+pub use refusals::Refused;
+pub use slot::{decide, decide_with_refused};

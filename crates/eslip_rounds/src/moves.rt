@@ -1,4 +1,4 @@
-ghost use Rattle.std.specs.Prelude.{◌≡◌, ℕ, Some, ◌<◌, ◌≤◌, ◌↔◌, length, IsTrue};
+ghost use Rattle.std.specs.Prelude.{◌≡◌, ℕ, Some, ◌<◌, ◌≤◌, ◌↔◌, List, Option, length, IsTrue};
 ghost use Rattle.rotating_pick.specs.PortSets.{Has};
 ghost use Rattle.rotating_pick.specs.declared.kinds.Kind.TheVariants.{Uni, Multi};
 ghost use Rattle.slot_match.specs.declared.matching.Fed.{Fed};
@@ -6,6 +6,7 @@ ghost use Rattle.slot_match.specs.Keeping.{Gives};
 ghost use Rattle.slot_match.specs.Rows.{Names, row_of, AreWithin, HasHead};
 ghost use Rattle.slot_match.specs.Matches.{Serves, IsMatch, Completes};
 ghost use Rattle.pointer_state.specs.Places.{AreAtPorts, grant_of, accept_of, shared_of};
+ghost use Rattle.eslip_rounds.specs.Slots.{AreMoved};
 ghost use Rattle.eslip_rounds.specs.Steps.{AreMet, IsPassed};
 
 use pointer_state::Pointers;
@@ -14,8 +15,32 @@ use rotating_pick::{
 };
 use slot_match::{Fed, Match, Row, Served};
 
-/// Moves the pointers of each unicast pair of the outputs that the first round matched.
-pub(crate) fn meet(matched: &Match, first_outputs: Ports, p: &mut Pointers)
+/// Moves the pointers after the rounds of a slot: those of the unicast pairs of `first_outputs`, which the
+/// first round matched, and each level's shared pointer. `named` names all that the rows do.
+pub(crate) fn move_pointers(
+    n: u32,
+    rows: &[Row],
+    named: &Row,
+    matched: &Match,
+    first_outputs: Ports,
+    p: &mut Pointers,
+)
+    requires at_ports { AreAtPorts p.old }
+    requires size { n ≤ MAX_PORTS }
+    requires ports { p.old.ports ≡ n }
+    requires whole { IsMatch n matched.now }
+    requires rows { AreWithin n rows.now }
+    requires named { (i j level : ℕ) → i < n → Names (row_of rows.now i) level Multi j → Names named.now level Multi j }
+    requires first_outputs { (j : ℕ) → Has first_outputs j → j < n }
+    ensures moved { (t : ℕ) (first_match : List (Option Fed)) → ((i j level : ℕ) → (Has first_outputs j × Serves matched.now i j level Uni) ↔ Serves first_match i j level Uni) → AreMoved n t rows.now first_match matched.now p.old p.new }
+    ensures at_ports { AreAtPorts p.new }
+{
+    meet(matched, first_outputs, p);
+    pass_all(n, rows, named, matched, p);
+}
+
+// Moves the pointers of each unicast pair of the outputs that the first round matched.
+fn meet(matched: &Match, first_outputs: Ports, p: &mut Pointers)
     requires at_ports { AreAtPorts p.old }
     requires whole { IsMatch p.old.ports matched.now }
     requires first_outputs { (j : ℕ) → Has first_outputs j → j < p.old.ports }
@@ -30,9 +55,9 @@ pub(crate) fn meet(matched: &Match, first_outputs: Ports, p: &mut Pointers)
     }
 }
 
-/// Moves each level's shared pointer one beyond the first head from it on, where that completes.
-/// `named` names all that the rows do.
-pub(crate) fn pass_all(n: u32, rows: &[Row], named: &Row, matched: &Match, p: &mut Pointers)
+// Moves each level's shared pointer one beyond the first head from it on, where that completes.
+// `named` names all that the rows do.
+fn pass_all(n: u32, rows: &[Row], named: &Row, matched: &Match, p: &mut Pointers)
     requires at_ports { AreAtPorts p.old }
     requires size { n ≤ MAX_PORTS }
     requires ports { p.old.ports ≡ n }

@@ -1,20 +1,75 @@
-ghost use Rattle.std.specs.Prelude.{◌≡◌, ℕ, ◌<◌, ◌≤◌};
+ghost use Rattle.std.specs.Prelude.{◌≡◌, ℕ, ◌<◌, ◌≤◌, List, length};
 ghost use Rattle.rotating_pick.specs.PortSets.{Has};
 ghost use Rattle.pointer_state.specs.Places.{AreAtPorts};
+ghost use Rattle.slot_match.specs.declared.rows.Row.{Row};
 ghost use Rattle.slot_match.specs.Matches.{IsMatch};
-ghost use Rattle.eslip_rounds.specs.Steps.{column_of, IsStep};
+ghost use Rattle.eslip_rounds.specs.Rounds.{preferred};
+ghost use Rattle.eslip_rounds.specs.Steps.{column_of, AreAsks, IsStep, AreMade};
 
 use crate::accepts::accept_all;
 use crate::asks::Asks;
 use crate::grants::{no_offers, offer_all, ready_inputs};
 use crate::ranks::RANKS;
+use islip_rounds::RoundsUsed;
 use pointer_state::Pointers;
-use rotating_pick::{Kind, MAX_PORTS, intersection};
+use rotating_pick::{Kind, MAX_PORTS, MAX_ROUNDS, Ports, all, difference, intersection};
 use slot_match::Match;
 
-/// One round: the free outputs that any row names grant what they are asked, and the inputs accept of
-/// what they are granted.
-pub(crate) fn round(n: u32, first_kind: Kind, asks: &Asks, p: &Pointers, out: &mut Match)
+/// What is told of the rounds of a slot beside their match.
+#[derive(Clone, Copy)]
+pub(crate) struct Made {
+    /// How the rounds were used.
+    pub numbers: RoundsUsed,
+    /// The outputs that the first of them matched.
+    pub first_outputs: Ports,
+}
+
+/// Makes the rounds of a slot, whose rows have these columns, and sets `out` to their match.
+pub(crate) fn make_rounds(
+    n: u32,
+    rounds: u32,
+    first_kind: Kind,
+    asks: &Asks,
+    p: &Pointers,
+    out: &mut Match,
+) -> Made
+    requires some { 0 < n }
+    requires size { n ≤ MAX_PORTS }
+    requires rounds_some { 0 < rounds }
+    requires rounds_few { rounds ≤ MAX_ROUNDS }
+    requires ports { p.now.ports ≡ n }
+    requires at_ports { AreAtPorts p.now }
+    requires ranks { (rank : ℕ) → Has asks.now.ranks rank → rank < RANKS }
+    requires named { (rank i j : ℕ) → rank < RANKS → Has (column_of asks.now.columns rank j) i → Has asks.now.ranks rank }
+    requires asked { (rank i j : ℕ) → rank < RANKS → Has (column_of asks.now.columns rank j) i → Has asks.now.outputs j }
+    ensures made { (t : ℕ) (rows : List Row) → first_kind ≡ preferred t → AreAsks n first_kind rows asks.now → AreMade n rounds t rows p.now out.new result }
+    ensures whole { IsMatch n out.new }
+{
+    *out = Match::new(n);
+    round(n, first_kind, asks, p, out);
+    let first_outputs = difference(all(n), out.free_outputs());
+    let mut matched = out.count();
+    let mut added = matched;
+    let mut numbers = RoundsUsed::none().after_round(0, added);
+    for done in 1..rounds {
+        // Once a round adds nothing, no later one would.
+        if added > 0 {
+            round(n, first_kind, asks, p, out);
+            let now = out.count();
+            added = now.saturating_sub(matched);
+            matched = now;
+        }
+        numbers = numbers.after_round(done, added);
+    }
+    Made {
+        numbers,
+        first_outputs,
+    }
+}
+
+// One round: the free outputs that any row names grant what they are asked, and the inputs accept of
+// what they are granted.
+fn round(n: u32, first_kind: Kind, asks: &Asks, p: &Pointers, out: &mut Match)
     requires size { n ≤ MAX_PORTS }
     requires ports { p.now.ports ≡ n }
     requires at_ports { AreAtPorts p.now }

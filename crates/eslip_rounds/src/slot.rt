@@ -1,17 +1,19 @@
-ghost use Rattle.std.specs.Prelude.{◌≡◌, ℕ, ◌<◌, ◌≤◌, length};
+ghost use Rattle.std.specs.Prelude.{◌≡◌, ◌<◌, ◌≤◌, length};
 ghost use Rattle.slot_match.specs.Rows.{AreWithin};
 ghost use Rattle.slot_match.specs.Matches.{IsMatch, IsMaximal};
 ghost use Rattle.pointer_state.specs.Places.{AreAtPorts};
 ghost use Rattle.eslip_rounds.specs.Slots.{IsSlot};
+ghost use Rattle.eslip_rounds.specs.Steps.{AreRefused};
 ghost use Rattle.eslip_rounds.specs.Decisions.{decision_of};
 
 use crate::asks::asks_of;
-use crate::moves::{meet, pass_all};
+use crate::moves::move_pointers;
 use crate::ranks::preferred_kind;
-use crate::rounds::round;
+use crate::refusals::{Refused, refused_grants};
+use crate::rounds::make_rounds;
 use islip_rounds::RoundsUsed;
 use pointer_state::Pointers;
-use rotating_pick::{MAX_PORTS, MAX_ROUNDS, all, difference};
+use rotating_pick::{MAX_PORTS, MAX_ROUNDS};
 use slot_match::{Match, Row};
 
 /// Decides slot number `slot` of a switch of `n` ports in `rounds` rounds, each from 1 to 64: sets
@@ -46,25 +48,47 @@ pub fn decide(
     prove!(p.ports() == n);
     let first_kind = preferred_kind(slot);
     let asks = asks_of(n, first_kind, rows);
-    *out = Match::new(n);
-    round(n, first_kind, &asks, p, out);
-    let first_outputs = difference(all(n), out.free_outputs());
-    let mut matched = out.count();
-    let mut added = matched;
-    let mut numbers = RoundsUsed::none().after_round(0, added);
-    for done in 1..rounds {
-        // Once a round adds nothing, no later one would.
-        if added > 0 {
-            round(n, first_kind, &asks, p, out);
-            let now = out.count();
-            added = now.saturating_sub(matched);
-            matched = now;
-        }
-        numbers = numbers.after_round(done, added);
-    }
-    meet(out, first_outputs, p);
-    pass_all(n, rows, &asks.named, out, p);
-    numbers
+    let made = make_rounds(n, rounds, first_kind, &asks, p, out);
+    move_pointers(n, rows, &asks.named, out, made.first_outputs, p);
+    made.numbers
+}
+
+/// Decides the slot as [`decide`] does, and answers beside the numbers which unicast grants of the first
+/// round were not accepted. Takes no memory.
+pub fn decide_with_refused(
+    n: u32,
+    rounds: u32,
+    slot: u32,
+    rows: &[Row],
+    p: &mut Pointers,
+    out: &mut Match,
+) -> (RoundsUsed, Refused)
+    requires some { 0 < n }
+    requires size { n ≤ MAX_PORTS }
+    requires rounds_some { 0 < rounds }
+    requires rounds_few { rounds ≤ MAX_ROUNDS }
+    requires rows { AreWithin n rows.now }
+    requires pointers { p.old.ports ≡ n }
+    requires matched { length out.old ≡ n }
+    ensures slot { IsSlot n rounds slot rows.now p.old (record { matched = out.new; numbers = result.0; places = p.new }) }
+
+    // The same as one value: a slot leaves no choice.
+    ensures decision { record { matched = out.new; numbers = result.0; places = p.new } ≡ decision_of n rounds slot rows.now p.old }
+    ensures whole { IsMatch n out.new }
+    ensures at_ports { AreAtPorts p.new }
+
+    // The match is maximal where the last round of all added nothing, and where there are n rounds.
+    ensures unused { result.0.last_added ≡ 0 → IsMaximal n rows.now out.new }
+    ensures enough { n ≤ rounds → IsMaximal n rows.now out.new }
+    ensures refused { AreRefused n slot rows.now p.old result.1 }
+{
+    prove!(p.ports() == n);
+    let first_kind = preferred_kind(slot);
+    let asks = asks_of(n, first_kind, rows);
+    let made = make_rounds(n, rounds, first_kind, &asks, p, out);
+    let refused = refused_grants(n, first_kind, &asks, p, made.first_outputs);
+    move_pointers(n, rows, &asks.named, out, made.first_outputs, p);
+    (made.numbers, refused)
 }
 
 #[cfg(test)]

@@ -12,7 +12,7 @@ use Rattle.forward_table.specs.Targets.{IsPrefix, is_same_target, covers, length
 use Rattle.forward_table.specs.Reading.{line_with}
 use Rattle.forward_table.specs.Routing.{covering, longest, longer}
 
--- the prefix of an address that leaves so many bits open
+-- the prefix of an address that leaves `open_bits` bits open
 abbrev pub prefix_at : ℕ → ℕ → Target
 prefix_at address open_bits = Prefix (32 - open_bits) (address - address % 2 ^ open_bits)
 

@@ -11,7 +11,7 @@ use Rattle.forward_table.specs.declared.route_lines.RouteLine.{RouteLine}
 use Rattle.forward_table.specs.Text.{lines}
 use Rattle.forward_table.specs.Reading.{route_line_count, fault_of, route_line_of, route_lines_of, first_fault, unless_fault, reading_of, fault_at, HasTooManyLines, IsFirstFault, IsTable}
 
--- the fault of line k of lines that come behind others, of which the first has this number
+-- the fault of line k of lines that come after others, of which the first has this number
 abbrev later_fault : ℕ → List RouteLine → ℕ → List (List ℕ) → ℕ → Option TableFault
 later_fault n earlier number ls k = fault_of n (earlier ++ route_lines_of n number (take k ls)) (number + k) (slice_index_or ls k [])
 
@@ -56,7 +56,7 @@ first_here n earlier number l ls fault is = record {
   before = λ k below. absurd (omega arith);
 }
 
--- a line with a fault, or else the first of those behind it
+-- a line with a fault, or else the first of those after it
 found_at : (n : ℕ) (earlier : List RouteLine) (number : ℕ) (l : List ℕ) (ls : List (List ℕ)) (fault : TableFault)
     → (first_fault n (earlier ++ route_line_of n number l) (number + 1) ls ≡ Some fault → IsFirst n (earlier ++ route_line_of n number l) (number + 1) ls fault)
     → (o : Option TableFault) → fault_of n earlier number l ≡ o

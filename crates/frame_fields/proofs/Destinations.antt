@@ -37,7 +37,7 @@ type_there frame place number h = there _ _ (le-leb (place + 2) (length frame) h
 
 -- ---- where the packet begins
 
--- the place by the type behind a VLAN tag, and by the first type
+-- the place by the type after a VLAN tag, and by the first type
 abbrev inner_step : ℕ → Option ℕ
 inner_step inner = cond (inner == ipv4_type) (Some 18) None
 

@@ -9,7 +9,7 @@ pub record HasType (frame : List ℕ) (place number : ℕ) : Type 0 where
   pub within : place + 2 ≤ length frame
   pub number_is : from_be_bytes w16 (slice_index frame place ∷ slice_index frame (place + 1) ∷ []) ≡ number
 
--- where a frame's IPv4 packet begins: in an Ethernet frame behind the type field at byte 12, or behind that at byte 16 where a VLAN tag comes first; a raw IP packet begins at its front
+-- where a frame's IPv4 packet begins: in an Ethernet frame after the type field at byte 12, or after that at byte 16 where a VLAN tag comes first; a raw IP packet begins at its front
 abbrev pub BeginsAt : Link → List ℕ → ℕ → Type 0
 BeginsAt Ethernet frame offset = ((offset ≡ 14) × HasType frame 12 0x0800) ⊎ ((offset ≡ 18) × HasType frame 12 0x8100 × HasType frame 16 0x0800)
 BeginsAt RawIp frame offset = offset ≡ 0
@@ -40,7 +40,7 @@ abbrev pub type_at : List ℕ → ℕ → Option ℕ
 type_at frame place =
     if nat_le (place + 2) (length frame) then Some (from_be_bytes w16 (slice_index frame place ∷ slice_index frame (place + 1) ∷ [])) else None
 
--- The place at which the IPv4 packet of an Ethernet frame begins: 14, or 18 behind a VLAN tag. Of
+-- The place at which the IPv4 packet of an Ethernet frame begins: 14, or 18 after a VLAN tag. Of
 -- several tags only the first is read.
 unfoldable pub packet_place : List ℕ → Option ℕ
 packet_place frame = do

@@ -9,7 +9,7 @@ const IPV4_TYPE: u16 = 0x0800;
 // The Ethernet type of a VLAN tag.
 const TAG_TYPE: u16 = 0x8100;
 
-// Where the type field of an Ethernet frame stands: behind its two addresses.
+// Where the type field of an Ethernet frame stands: after its two addresses.
 const TYPE_PLACE: usize = 12;
 
 // The bytes of a VLAN tag. It stands before the type field of the frame that it tags.

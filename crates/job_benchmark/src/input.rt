@@ -42,7 +42,7 @@ pub(crate) fn captures_of(alloc: Global, load: &Load) -> Result<Vec<Vec<u8>>, Al
     Ok(captures)
 }
 
-// The capture of a port. Its packets go to the ports behind it in turn.
+// The capture of a port. Its packets go to the ports after it in turn.
 fn capture_of(alloc: Global, load: &Load, port: u32) -> Result<Vec<u8>, AllocError>
     requires ports { load.now.ports ≤ MAX_PORTS }
     requires port { port < load.now.ports }

@@ -38,7 +38,7 @@ impl Run {
     }
 }
 
-// The plan of a switch of so many ports and workers, or None where there was none.
+// The plan of a switch of `ports` ports for `workers` workers, or None where there was none.
 fn plan_of<R: Threads + Sync>(rt: &R, alloc: Global, ports: u32, workers: u32) -> Option<Plan>
     requires ports { ports ≤ MAX_PORTS }
     requires workers { IsUpTo MAX_WORKERS workers }
@@ -100,7 +100,7 @@ fn least_run<R: Threads + Sync + Clock + AllocGlobal>(
     Ok(least)
 }
 
-// Tells the time of a slot with so many ports and workers.
+// Tells the time of a slot with `ports` ports and `workers` workers.
 fn tell_slots<R: Threads + Sync + Clock + Eprint + AllocGlobal>(
     rt: &R,
     ports: u32,
@@ -119,7 +119,7 @@ fn tell_slots<R: Threads + Sync + Clock + Eprint + AllocGlobal>(
     )
 }
 
-/// Tells the time of a slot with so many ports, and with 1, 2 and 4 workers.
+/// Tells the time of a slot with `ports` ports, and with 1, 2 and 4 workers.
 pub(crate) fn time_slots<R: Threads + Sync + Clock + Eprint + AllocGlobal>(
     rt: &R,
     ports: u32,

@@ -202,7 +202,7 @@ impl Queues {
     }
 }
 
-// The queue of an output and a level of a switch of so many ports.
+// The queue of an output and a level of a switch of this number of ports.
 fn queue_name(ports: u32, output: &str, level_word: &str) -> Result<QueueName, NoAnswer>
     ensures output { IfOk result (λ name. name.output < ports) }
     ensures level { IfOk result (λ name. name.level < LEVELS) }

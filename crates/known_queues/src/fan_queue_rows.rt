@@ -183,7 +183,7 @@ fn made(alloc: Global, words: &[&str]) -> Result<Queues, NoAnswer> {
     with_room(alloc, ports, depth, room)
 }
 
-// Empty queues of this depth, which so many packets will enter.
+// Empty queues of this depth; `room` has for each level the number of packets that will enter.
 fn with_room(
     alloc: Global,
     ports: u32,

@@ -16,7 +16,7 @@ pub record FanQueue : Type 0 where
   pub rest : ℕ
   pub spare : ℕ
 
--- the queues of an input of a switch of so many ports, level by level, and the most cells of each
+-- the queues of an input, level by level, with the ports of its switch and the most cells of each
 pub record Queues : Type 0 where
   pub ports : ℕ
   pub depth : ℕ
@@ -45,7 +45,7 @@ queue_with queue packet cells fan = record {
   spare = queue.spare - 1;
 }
 
--- a queue that so many packets will enter
+-- an empty queue that `packets` packets will enter
 abbrev pub empty_queue : ℕ → FanQueue
 empty_queue packets = record { cells = []; rest = 0; spare = packets }
 

@@ -15,7 +15,7 @@ abbrev pub kept_of : CellQueue ℕ → ℕ → Kept
 kept_of ring rest =
     record { depth = ring.depth; queue = record { cells = ring.cells; rest = rest; spare = ring.spare } }
 
--- one that so many packets will enter
+-- an empty one that `packets` packets will enter
 abbrev pub empty_kept : ℕ → ℕ → Kept
 empty_kept depth packets = record { depth = depth; queue = empty_queue packets }
 

@@ -67,7 +67,7 @@ impl FanQueues {
         self.depth
     }
 
-    /// Whether the queue of the level, 0 to 3, can take so many more cells: with them it has at most the
+    /// Whether the queue of the level, 0 to 3, can take `cells` cells more: with them it has at most the
     /// depth.
     pub fn fits(&self, level: u8, cells: u32) -> bool
         requires { level < LEVELS }

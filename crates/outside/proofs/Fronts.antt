@@ -23,7 +23,7 @@ pub wholes : (o : Option Contents) (name out buf : List ℕ) (room : ℕ) → If
 wholes None name out buf room front piece some = tt
 wholes (Some c) name out buf room front piece some = whole (c.file name) out buf room front piece some
 
--- a front, and a piece behind it
+-- a front, and a piece after it
 longer_front : (out bytes more : List ℕ) (k : ℕ) → length out ≤ length bytes → out ≡ take (length out) bytes → k ≤ length (drop (length out) bytes) → more ≡ take k (drop (length out) bytes) → (length (out ++ more) ≤ length bytes) × (out ++ more ≡ take (length (out ++ more)) bytes)
 longer_front out bytes more k within front_is k_within more_is =
     let n : length more ≡ k = omega (arith, ap length more_is, length-take k (drop (length out) bytes)) in

@@ -101,7 +101,7 @@ IsToFail call m = Names m.fails call (raised (count_of call m.made))
 abbrev pub piece_length : ℕ → ℕ → ℕ → Option (List ℕ) → ℕ
 piece_length most at room file = min most (min room (length (drop at (unwrap_or file []))))
 
--- the file of this name has no memory for so many bytes more
+-- the file of this name has no memory for `count` bytes more
 pub record HasNoRoom (files : List FileState) (name : List ℕ) (count : ℕ) : Type 0 where
   pub file : FileState
   pub there : file_named name files ≡ Some file

@@ -74,7 +74,7 @@ impl<'r, R: rt::Files + Print + StandardError + AllocGlobal> DiskFiles<'r, R> {
         String::from_str(self.rt.alloc(), name).ok()
     }
 
-    // A file is opened anew for its first piece, and closed behind its last. It is moved to another
+    // A file is opened anew for its first piece, and closed after its last. It is moved to another
     // place only where it does not stand at this one: a pipe, which cannot be moved, is read in order.
     fn read_at(&mut self, name: &str, at: u64, buf: &mut [u8]) -> io::Result<usize>
         ensures room { IfOk result (λ k. k ≤ length buf.old) }

@@ -35,7 +35,7 @@ link_once RawIp RawIp e = refl
 link_once Ethernet RawIp e = absurd (omega arith)
 link_once RawIp Ethernet e = absurd (omega arith)
 
--- the fields behind the magic, in one byte order
+-- the fields after the magic number, in one byte order
 fields_once : (order : Order) (major major' minor minor' link link' : ℕ) (free free' rest rest' : List ℕ) → major < 256 ^ 2 → major' < 256 ^ 2 → minor < 256 ^ 2 → minor' < 256 ^ 2 → link < 256 ^ 4 → link' < 256 ^ 4
     → length free ≡ length free' → number_bytes order 2 major ++ (number_bytes order 2 minor ++ (free ++ (number_bytes order 4 link ++ rest))) ≡ number_bytes order 2 major' ++ (number_bytes order 2 minor' ++ (free' ++ (number_bytes order 4 link' ++ rest')))
     → (major ≡ major') × (minor ≡ minor') × (link ≡ link') × (rest ≡ rest')
@@ -70,7 +70,7 @@ announced_apart order s f c o rest = simp append_assoc
 same_lengths : (order : Order) (x y : ℕ) → length (number_bytes order 4 x) ≡ length (number_bytes order 4 y)
 same_lengths order x y = length-number_bytes order 4 x ∙ sym (length-number_bytes order 4 y)
 
--- two headers of records that are spelled alike: the same fields, and the same behind them
+-- two headers of records that are spelled alike: the same fields, followed by the same bytes
 pub record IsSameHeader (order : Order) (s f c o s' f' c' o' : ℕ) (rest rest' : List ℕ) : Type 0 where
   pub seconds : number_bytes order 4 s ≡ number_bytes order 4 s'
   pub fraction : number_bytes order 4 f ≡ number_bytes order 4 f'
@@ -148,8 +148,8 @@ announced_by order rest r more e = record { seconds = r.seconds; fraction = r.fr
 
 pub no_record_when_cut : (order : Order) (rest : List ℕ) → IsCut order rest → HasNoRecord order rest
 no_record_when_cut order rest (in_header some short) = too_short order rest short
-no_record_when_cut order rest (in_bytes c behind announced few short) = λ r more is e.
-    let same = announced_once order rest c (length r.bytes) behind (r.bytes ++ more) announced (announced_by order rest r more e) (omega arith) (omega (arith, is.bytes)) in
+no_record_when_cut order rest (in_bytes c bytes announced few short) = λ r more is e.
+    let same = announced_once order rest c (length r.bytes) bytes (r.bytes ++ more) announced (announced_by order rest r more e) (omega arith) (omega (arith, is.bytes)) in
     omega (arith, same.0, ap length same.1, length-append r.bytes more)
 
 pub no_record_when_long : (order : Order) (rest : List ℕ) (c : ℕ) → IsLong order rest c → HasNoRecord order rest

@@ -91,7 +91,7 @@ pub read_again : (nano : Bool) (link : Link) (messages : List (List ℕ)) (recor
     → IsCapture (capture_text nano link messages ++ records_bytes Little records) nano link (map message_packet messages ++ map (packet_of nano) records)
 read_again nano link messages records all each =
     let by_one = recursion_from_All (IsMessage nano) messages all in
-    let behind : flat_map (record_text nano) messages ++ records_bytes Little records ≡ records_bytes Little (records_of nano messages ++ records) =
+    let records_follow : flat_map (record_text nano) messages ++ records_bytes Little records ≡ records_bytes Little (records_of nano messages ++ records) =
     ap (λ (w : List ℕ). w ++ records_bytes Little records) (text_is nano messages) ∙ sym (flat_map-append (record_bytes Little) (records_of nano messages) records) in
     record {
       order = Little;
@@ -103,7 +103,7 @@ read_again nano link messages records all each =
         link = link_fits link;
         free = free_text;
         twelve = length-free_text;
-        spelled = append_assoc (header_text nano link) (flat_map (record_text nano) messages) (records_bytes Little records) ∙ ap (λ (w : List ℕ). header_text nano link ++ w) behind;
+        spelled = append_assoc (header_text nano link) (flat_map (record_text nano) messages) (records_bytes Little records) ∙ ap (λ (w : List ℕ). header_text nano link ++ w) records_follow;
       };
       packets_are = packets_again nano messages records by_one;
     }

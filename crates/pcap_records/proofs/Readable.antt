@@ -46,8 +46,8 @@ pub readable : (file : List ℕ) (nano : Bool) (link : Link) (packets : List Pac
 readable file nano link packets bytes is =
     let by_one = recursion_from_All (λ b. b < 256) file bytes in
     let spelled = subst (λ (w : List ℕ). AllByRecursion (λ b. b < 256) w) is.header.spelled by_one in
-    let behind = each_part (λ b. b < 256) (header_bytes (header_of is.order nano link) is.header.free) (records_bytes is.order is.records) spelled in
-    let all : AllByRecursion (IsWritable nano) packets = rw is.packets_are (each_writable is.order nano is.records is.each behind.1) in
+    let parts = each_part (λ b. b < 256) (header_bytes (header_of is.order nano link) is.header.free) (records_bytes is.order is.records) spelled in
+    let all : AllByRecursion (IsWritable nano) packets = rw is.packets_are (each_writable is.order nano is.records is.each parts.1) in
     All-from_recursion (IsWritable nano) packets all
 
 -- in nanoseconds every packet can be written that can be in its own unit

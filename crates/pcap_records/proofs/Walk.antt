@@ -35,7 +35,7 @@ each_push P (y ∷ ys) x all p = (all.0, each_push P ys x all.1 p)
 none_in_order : AreInOrder []
 none_in_order k d below = absurd (omega arith)
 
--- a packet behind others in order, where its own record follows theirs
+-- a packet after others in order, where its own record follows theirs
 in_order_push : (packets : List Stored) (s : Stored) → AreInOrder packets → s.start ≡ 40 + records_length packets → AreInOrder (packets ++ s ∷ [])
 in_order_push packets s before own k d below =
     elim (cases_lt k (length packets)) [

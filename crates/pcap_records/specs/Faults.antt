@@ -18,7 +18,7 @@ pub record IsWholeBefore (file : List ℕ) (order : Order) (at : ℕ) (rest : Li
   pub header : HasHeader file (header_of order nano link) (records_bytes order records ++ rest)
   pub place : at + length rest ≡ length file
 
--- The rest of a file begins with the header of a record of so many captured bytes, and goes on with more.
+-- The rest of a file begins with the header of a record of `captured` bytes, and goes on with more.
 pub record Announces (order : Order) (rest : List ℕ) (captured : ℕ) (more : List ℕ) : Type 0 where
   pub seconds : ℕ
   pub fraction : ℕ

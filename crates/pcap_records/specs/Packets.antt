@@ -22,7 +22,7 @@ IsWithin file s = s.start + s.len ≤ length file
 abbrev pub records_length : List Stored → ℕ
 records_length packets = sum_by (λ s. 16 + s.len) packets
 
--- Each packet's captured bytes begin behind the file's header of 24 bytes, the records before its own, and the 16 bytes of its own record's header.
+-- Each packet's captured bytes begin after the file's header of 24 bytes, the records before its own, and the 16 bytes of its own record's header.
 abbrev pub AreInOrder : List Stored → Type 0
 AreInOrder packets = (k : ℕ) (d : Stored) → k < length packets → (slice_index_or packets k d).start ≡ 40 + records_length (take k packets)
 

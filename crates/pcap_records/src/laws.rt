@@ -40,8 +40,8 @@ pub fn one_fault()
         (fault : PcapFault) → IsCapture file nano link packets → IsFault file fault → ⊥ }
 {}
 
-/// An output capture is a capture, with the packets of its messages; and so is one with any records
-/// behind them, with their packets too.
+/// An output capture is a capture, with the packets of its messages; and so is one that
+/// is followed by any records, with their packets too.
 pub fn output_is_read_again()
     ensures alone { (nano : Bool) (link : Link) (messages : List (List ℕ))
         → All (IsMessage nano) messages

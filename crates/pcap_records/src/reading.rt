@@ -22,7 +22,7 @@ use std::alloc::Global;
 pub fn read_capture(alloc: Global, bytes: Vec<u8>) -> Result<Capture, PcapFault>
     requires { vec_len bytes ≤ MAX_FILE_BYTES }
 
-    // What is read is a capture, with just these packets, which stand in the file one behind another.
+    // What is read is a capture, with just these packets, which stand in the file one after the other.
     ensures found { IfOk result (λ c. IsCapture bytes.items c.nano c.link (packets_of c)) }
     ensures within { IfOk result (λ c. All (IsWithin c.bytes.items) c.packets.items) }
     ensures in_order { IfOk result (λ c. AreInOrder c.packets.items) }

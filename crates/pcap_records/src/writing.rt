@@ -11,9 +11,9 @@ use crate::record::NANOS_PER_MICRO;
 use byteorder::{ByteOrder, LittleEndian};
 use cell_cutter::MAX_CAPTURED_BYTES;
 
-/// Writes the header of an output capture to the first 24 places of a buffer of at least so many: a
-/// little-endian file whose
-/// fractions are nanoseconds, or else microseconds, of that link type. The other places stay.
+/// Writes the header of an output capture to the first 24 places of a buffer, which has 24 or more:
+/// that of a little-endian file whose fractions are nanoseconds, or else microseconds, of that link
+/// type. The other places stay.
 pub fn write_header(buf: &mut [u8], nano: bool, link: Link)
     requires { 24 ≤ length buf.old }
     ensures { buf.new ≡ header_text nano link ++ drop 24 buf.old }

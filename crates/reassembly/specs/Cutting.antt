@@ -11,7 +11,7 @@ pieces_after before [] = []
 pieces_after before (cell ∷ cells) =
     if cell.last then (before ++ cell ∷ []) ∷ pieces_after [] cells else pieces_after (before ++ cell ∷ []) cells
 
--- the cells behind the last last cell, where some cells were begun before
+-- the cells after the last one that ends a message, where some cells were begun before
 abbrev pub rest_after : List Cell → List Cell → List Cell
 rest_after before [] = before
 rest_after before (cell ∷ cells) = if cell.last then rest_after [] cells else rest_after (before ++ cell ∷ []) cells

@@ -44,7 +44,7 @@ impl Buffer {
         cell.number == self.next && self.begun() + usize::from(cell.used) <= self.bytes.len()
     }
 
-    /// Writes the used bytes of the flow's next cell behind those of its message.
+    /// Writes the used bytes of the flow's next cell after those of its message.
     pub(crate) fn add(&mut self, cell: &Cell)
         requires form { IsCellForm cell.now }
         requires room { length (begun self.old) + cell.now.used ≤ self.old.size }

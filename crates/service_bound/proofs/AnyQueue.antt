@@ -21,7 +21,7 @@ use Rattle.service_bound.proofs.OneRoundFamily as one
 use Rattle.service_bound.proofs.MoreRoundsFamily as more
 use Rattle.service_bound.proofs.TwoPortsFamily as two
 
--- a queue is served last in some window of so many slots
+-- a queue is served last in some window of `slot_count` slots
 abbrev pub IsReached : ℕ → ℕ → ℕ → ℕ → ℕ → ℕ → ℕ → Type 0
 IsReached n rounds t i j level slot_count = (places : Places) × (slots : List DecidedSlot) × IsServedLast n rounds t i j level places slots × (length slots ≡ slot_count)
 

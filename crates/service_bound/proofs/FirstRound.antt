@@ -15,9 +15,9 @@ use Rattle.eslip_rounds.specs.Rounds.{Asks, preferred, from_of, Requests, IsBest
 use Rattle.eslip_rounds.proofs.Deciding.{Names-decides}
 use Rattle.service_bound.specs.Windows.{IsClean}
 
--- the kind is the slot's turn: where some row names an output with the preferred kind at the level, it is that kind
-pub record IsTurn (n t : ℕ) (rows : List Row) (level : ℕ) (kind : Kind) : Type 0 where
-  pub turn : (i j : ℕ) → i < n → Names (row_of rows i) level (preferred t) j → kind ≡ preferred t
+-- the kind comes first in the slot: where some row names an output with the preferred kind at the level, it is that kind
+pub record IsFirstKind (n t : ℕ) (rows : List Row) (level : ℕ) (kind : Kind) : Type 0 where
+  pub preferred_first : (i j : ℕ) → i < n → Names (row_of rows i) level (preferred t) j → kind ≡ preferred t
 
 -- all inputs are free, so what is asked is asked by the rows
 pub asks_at_first : (n : ℕ) (rows : List Row) (i j level : ℕ) (kind : Kind) → Requests rows (unmatched n) i j level kind → Asks (row_of rows i) j level kind
@@ -35,7 +35,7 @@ module _ (n t : ℕ) (rows : List Row) (places : Places) (level : ℕ) (level_in
   named_iff_asked : (kind : Kind) (j i : ℕ) → i < n → Names (row_of rows i) level kind j ↔ Requests rows (unmatched n) i j level kind
   named_iff_asked kind j i i_in = (λ named. asked i j kind i_in named, λ r. (asks_at_first n rows i j level kind r).named)
 
-  module _ (kind : Kind) (turn : IsTurn n t rows level kind) where
+  module _ (kind : Kind) (first_kind : IsFirstKind n t rows level kind) where
     -- an output grants the first input from its pointer on that names it
     pub grants_first : (i j : ℕ) → j < n → IsFirstFrom n (from_of places j level kind) (λ x. Names (row_of rows x) level kind j) i → Grants n t rows places (unmatched n) i j level kind
     grants_first i j j_in first =
@@ -45,7 +45,7 @@ module _ (n t : ℕ) (rows : List Row) (places : Places) (level : ℕ) (level_in
           best = record {
             there = (i, first.below, asked i j kind first.below first.member);
             least = λ other also some. not_better some.0 j other also some.1 some.2;
-            turn = λ some. turn.turn some.0 j some.1 (asks_at_first n rows some.0 j level (preferred t) some.2).named;
+            preferred_first = λ some. first_kind.preferred_first some.0 j some.1 (asks_at_first n rows some.0 j level (preferred t) some.2).named;
           };
           first = IsFirstFrom-along n (from_of places j level kind) (λ x. Names (row_of rows x) level kind j) (λ x. Requests rows (unmatched n) x j level kind) i (named_iff_asked kind j) first;
         }
@@ -62,7 +62,7 @@ module _ (n t : ℕ) (rows : List Row) (places : Places) (level : ℕ) (level_in
         record {
           there = (j, granted);
           least = λ other also some. let first = some.1.first in not_better i some.0 other also first.below first.member;
-          turn = λ some. let first = some.1.first in turn.turn i some.0 first.below (asks_at_first n rows i some.0 level (preferred t) first.member).named;
+          preferred_first = λ some. let first = some.1.first in first_kind.preferred_first i some.0 first.below (asks_at_first n rows i some.0 level (preferred t) first.member).named;
         }
 
     pub Grants-decides : (i j : ℕ) → from_of places j level kind < n → j < n → Decides (Grants n t rows places (unmatched n) i j level kind)

@@ -13,7 +13,7 @@ use Rattle.pointer_state.specs.Places.{Places, ArePointing, grant_of, accept_of}
 use Rattle.eslip_rounds.specs.Slots.{AreMoved}
 use Rattle.eslip_rounds.proofs.Deciding.{some_below}
 use Rattle.service_bound.proofs.Sums.{sum_below, sum_below-le, sum_below-less, sum_below-most}
-use Rattle.service_bound.proofs.Distances.{distance-passed, distance-behind, distance-beyond}
+use Rattle.service_bound.proofs.Distances.{distance-passed, distance-after, distance-beyond}
 use Rattle.service_bound.proofs.Rank.{fresh_at, fresh_at-le, lower_or_stale}
 
 -- whether input x is fresh for the request of input i for output j: 1 or 0
@@ -52,7 +52,7 @@ module _ (n t level : ℕ) (rows : List Row) (first matched : List (Option Fed))
         (distance n (grant_of before j level) i) (distance n (grant_of before j level) x) (distance n (accept_of after x level) j) turns_in
         (λ within. (within, elim (accept_later x j x_in j_in) [ inl served ↦ absurd (nobody x served) | inr later ↦ later ])))
 
-    -- nor where input h accepted it, which is before i from its pointer on: then h is behind i
+    -- nor where input h accepted it, which is before i from its pointer on: then h comes after i
     no_fresher-accepted : (h : ℕ) → h < n → Serves first h j level Uni → distance n (grant_of before j level) h < distance n (grant_of before j level) i → (x : ℕ) → x < n → fresh_for n level after i j x ≤ fresh_for n level before i j x
     no_fresher-accepted h h_in served nearer x x_in =
         let place = moved.granted h j level served in
@@ -63,7 +63,7 @@ module _ (n t level : ℕ) (rows : List Row) (first matched : List (Option Fed))
         rw place (fresh_at-le n (distance n (grant_of before j level) i) (distance n (grant_of before j level) x) (distance n (accept_of before x level) j)
         (distance n ((h + 1) % n) i) (distance n ((h + 1) % n) x) (distance n (accept_of after x level) j) turns_in
         (λ within. elim (cases_lt (distance n (grant_of before j level) h) (distance n (grant_of before j level) x)) [
-          | inr behind ↦ let end = distance-behind n (grant_of before j level) h x from_in h_in x_in behind in absurd (omega arith)
+          | inr not_before ↦ let end = distance-after n (grant_of before j level) h x from_in h_in x_in not_before in absurd (omega arith)
           | inl ahead ↦
               let also = distance-passed n (grant_of before j level) h x from_in h_in x_in ahead in (
                 omega arith,

@@ -1,12 +1,15 @@
 -- A window's first slot, and the window of the slots after it.
-use Rattle.std.proofs.Common.{ℕ, suc, ◌+◌, ◌<◌, List, [], ◌∷◌, Any, refl, arith}
+use Rattle.std.proofs.Common.{◌≡◌, ℕ, suc, ◌+◌, ◌<◌, List, [], ◌∷◌, Option, length, Any, refl, arith}
 use Rattle.std.proofs.lemmas.List.Elements.{All-head, All-tail}
+use Rattle.rotating_pick.specs.declared.kinds.Kind.TheVariants.{Uni}
 use Rattle.slot_match.specs.declared.rows.Row.{Row}
-use Rattle.slot_match.specs.Rows.{AreWithin}
+use Rattle.slot_match.specs.declared.matching.Fed.{Fed}
+use Rattle.slot_match.specs.Rows.{Names, row_of, AreWithin}
+use Rattle.slot_match.specs.Matches.{Serves}
 use Rattle.pointer_state.specs.Places.{Places, ArePointing}
-use Rattle.eslip_rounds.specs.Slots.{IsSlot}
+use Rattle.eslip_rounds.specs.Slots.{AreMoved, IsSlotBy}
 use Rattle.eslip_rounds.specs.Schedules.{DecidedSlot}
-use Rattle.service_bound.specs.Windows.{IsClean, InFirst, IsWindow}
+use Rattle.service_bound.specs.Windows.{IsClean, InFirst, IsWindowBy, IsWindow}
 use Rattle.service_bound.proofs.LaterRounds.{first_of, length-first_of}
 use Rattle.service_bound.proofs.PointersAfter.{ArePointing-after}
 
@@ -20,35 +23,62 @@ pub InFirst-along : (P Q : List Row → Type 0) → ((rows : List Row) → P row
 InFirst-along P Q f [] there = there
 InFirst-along P Q f (slot ∷ slots) there = f slot.rows there
 
--- after a slot the pointers of the level are at ports
-pub pointing_on : (n rounds t level : ℕ) (places : Places) (slot : DecidedSlot) → 0 < n → ArePointing n level places → AreWithin n slot.rows → IsSlot n rounds t slot.rows places slot.decision → ArePointing n level slot.decision.places
-pointing_on n rounds t level places slot ports pointing within decided =
-    ArePointing-after n level slot.rows places within pointing t ports (first_of n decided.steps) slot.decision.matched (length-first_of n t slot.rows places decided.steps decided.chain) slot.decision.places decided.moved
+-- each of these rows names output j where it was named and not served
+abbrev pub AskOn : ℕ → ℕ → List (Option Fed) → List Row → List Row → ℕ → Type 0
+AskOn n level matched rows later j = (x : ℕ) → x < n → Names (row_of rows x) level Uni j → (Serves matched x j level Uni → ⊥) → Names (row_of later x) level Uni j
 
--- one slot of a window
-pub record IsWindowSlot (n rounds t level : ℕ) (places : Places) (slot : DecidedSlot) : Type 0 where
-  pub pointing : ArePointing n level places
-  pub decided : IsSlot n rounds t slot.rows places slot.decision
-  pub within : AreWithin n slot.rows
-  pub clean : IsClean n level slot.rows
+-- where pointers move so, those of the level are at ports again after a slot
+abbrev pub KeepPointing : (ℕ → ℕ → List Row → List (Option Fed) → List (Option Fed) → Places → Places → Type 0) → ℕ → ℕ → Type 0
+KeepPointing Moves n level =
+    (t : ℕ) (rows : List Row) (first matched : List (Option Fed)) (before after : Places) → length first ≡ n → AreWithin n rows → ArePointing n level before → Moves n t rows first matched before after → ArePointing n level after
+
+-- those of iSLIP do
+pub AreMoved-keep : (n level : ℕ) → KeepPointing AreMoved n level
+AreMoved-keep n level t rows first matched before after size within pointing moved =
+    ArePointing-after n level rows before within pointing t (let here = pointing.shared in omega arith) first matched size after moved
+
+module _ (Moves : ℕ → ℕ → List Row → List (Option Fed) → List (Option Fed) → Places → Places → Type 0) where
+  -- one slot of a window
+  pub record IsWindowSlotBy (n rounds t level : ℕ) (places : Places) (slot : DecidedSlot) : Type 0 where
+    pub pointing : ArePointing n level places
+    pub decided : IsSlotBy Moves n rounds t slot.rows places slot.decision
+    pub within : AreWithin n slot.rows
+    pub clean : IsClean n level slot.rows
+
+  module _ (n rounds t level : ℕ) (places : Places) (slot : DecidedSlot) where
+    -- after it the pointers of the level are at ports
+    pub pointing_by : KeepPointing Moves n level → ArePointing n level places → AreWithin n slot.rows → IsSlotBy Moves n rounds t slot.rows places slot.decision → ArePointing n level slot.decision.places
+    pointing_by keep pointing within decided =
+        keep t slot.rows (first_of n decided.steps) slot.decision.matched places slot.decision.places (length-first_of n t slot.rows places decided.steps decided.chain) within pointing decided.moved
+
+    module _ (slots : List DecidedSlot) (window : IsWindowBy Moves n rounds t level places (slot ∷ slots)) where
+      pub first_slot_by : IsWindowSlotBy n rounds t level places slot
+      first_slot_by =
+          record {
+            pointing = window.pointing;
+            decided = window.schedule.0;
+            within = All-head (λ s. AreWithin n s.rows) slot slots window.within;
+            clean = All-head (λ s. IsClean n level s.rows) slot slots window.clean;
+          }
+
+      pub later_slots_by : KeepPointing Moves n level → IsWindowBy Moves n rounds (t + 1) level slot.decision.places slots
+      later_slots_by keep =
+          let now = first_slot_by in
+          record {
+            pointing = pointing_by keep now.pointing now.within now.decided;
+            schedule = window.schedule.1;
+            within = All-tail (λ s. AreWithin n s.rows) slot slots window.within;
+            kept = window.kept.1;
+            clean = All-tail (λ s. IsClean n level s.rows) slot slots window.clean;
+          }
+
+-- the same where pointers move as those of iSLIP do
+abbrev pub IsWindowSlot : ℕ → ℕ → ℕ → ℕ → Places → DecidedSlot → Type 0
+IsWindowSlot = IsWindowSlotBy AreMoved
 
 module _ (n rounds t level : ℕ) (places : Places) (slot : DecidedSlot) (slots : List DecidedSlot) (window : IsWindow n rounds t level places (slot ∷ slots)) where
   pub first_slot : IsWindowSlot n rounds t level places slot
-  first_slot =
-      record {
-        pointing = window.pointing;
-        decided = window.schedule.0;
-        within = All-head (λ s. AreWithin n s.rows) slot slots window.within;
-        clean = All-head (λ s. IsClean n level s.rows) slot slots window.clean;
-      }
+  first_slot = first_slot_by AreMoved n rounds t level places slot slots window
 
   pub later_slots : 0 < n → IsWindow n rounds (t + 1) level slot.decision.places slots
-  later_slots ports =
-      let now = first_slot in
-      record {
-        pointing = pointing_on n rounds t level places slot ports now.pointing now.within now.decided;
-        schedule = window.schedule.1;
-        within = All-tail (λ s. AreWithin n s.rows) slot slots window.within;
-        kept = window.kept.1;
-        clean = All-tail (λ s. IsClean n level s.rows) slot slots window.clean;
-      }
+  later_slots ports = later_slots_by AreMoved n rounds t level places slot slots window (AreMoved-keep n level)

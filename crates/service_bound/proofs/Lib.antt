@@ -9,6 +9,7 @@ pub mod InWindows
 pub mod Fresh
 pub mod RankFalls
 pub mod ServedInTime
+pub mod Falling
 pub mod OneRoundRank
 pub mod OneRound
 pub mod OneRoundServed
@@ -17,7 +18,6 @@ pub mod PartsOfSchedules
 pub mod Waiting
 pub mod AllBelow
 pub mod LongestWaits
-pub mod OneRoundWaits
 pub mod WaitsByRounds
 pub mod Comparing
 pub mod TwoPorts

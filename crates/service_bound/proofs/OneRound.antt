@@ -22,13 +22,13 @@ use Rattle.eslip_rounds.proofs.Testing.{Decides-named}
 use Rattle.service_bound.specs.Windows.{IsClean, IsWithoutMulticast}
 use Rattle.service_bound.specs.Waits.{longest_service_in_one_round}
 use Rattle.service_bound.proofs.Sums.{sum_below, sum_below-le, sum_below-less, sum_below-most}
-use Rattle.service_bound.proofs.Distances.{distance-passed, distance-behind}
+use Rattle.service_bound.proofs.Distances.{distance-passed, distance-after}
 use Rattle.service_bound.proofs.Fresh.{fresh_of, fresh_of-most, fresh-accepted, stale-refused}
 use Rattle.service_bound.proofs.OneRoundRank.{silent_at, silent_at-le, silent_at-most, silent_at-own, silent_at-before, silent_at-after, one_rank, one_rank-far, one_rank-silent, one_rank-turns, one_rank-bound}
 use Rattle.service_bound.proofs.FirstRound.{grants_first}
 use Rattle.service_bound.proofs.LaterRounds.{first_of, BeginsWith, BeginsWith-slot}
-use Rattle.service_bound.proofs.Granting.{turn_alone, served_by_first, refused}
-use Rattle.service_bound.proofs.InWindows.{IsWindowSlot}
+use Rattle.service_bound.proofs.Granting.{kind_is_first, served_by_first, refused}
+use Rattle.service_bound.proofs.InWindows.{AskOn, IsWindowSlot}
 
 -- whether input x is silent for the request of input i for output j, where these rows are posted: 1 or 0
 abbrev pub silent_for : ℕ → ℕ → Places → List Row → ℕ → ℕ → ℕ → ℕ
@@ -54,10 +54,6 @@ one_rank_of n level places rows i j g =
 -- input g is the first from the output's grant pointer on that asks for it
 abbrev pub IsNearest : ℕ → ℕ → Places → List Row → ℕ → ℕ → Type 0
 IsNearest n level places rows j g = IsFirstFrom n (grant_of places j level) (λ x. Names (row_of rows x) level Uni j) g
-
--- each of these rows names output j where it was named and not served
-abbrev pub AskOn : ℕ → ℕ → List (Option Fed) → List Row → List Row → ℕ → Type 0
-AskOn n level matched rows later j = (x : ℕ) → x < n → Names (row_of rows x) level Uni j → (Serves matched x j level Uni → ⊥) → Names (row_of later x) level Uni j
 
 -- where some input asks, one is the nearest
 pub nearest_of : (n level : ℕ) (places : Places) (rows : List Row) (i j : ℕ) → ArePointing n level places → i < n → j < n → Names (row_of rows i) level Uni j → (g : ℕ) × IsNearest n level places rows j g
@@ -87,7 +83,7 @@ module _ (n t level : ℕ) (rows : List Row) (matched : List (Option Fed)) (befo
         let stay : (x : ℕ) → x < n → silent_for n level after later i j x ≤ silent_for n level before rows i j x = λ x x_in.
         rw place (silent_at-le (distance n (grant_of before j level) i) (distance n (grant_of before j level) x) (distance n ((g + 1) % n) i) (distance n ((g + 1) % n) x) (is_named (row_of rows x) level Uni j) (is_named (row_of later x) level Uni j)
         (λ near. elim (cases_lt (distance n (grant_of before j level) g) (distance n (grant_of before j level) x)) [
-          | inr behind ↦ let end = distance-behind n (grant_of before j level) g x from_in g_in x_in behind in absurd (omega arith)
+          | inr not_before ↦ let end = distance-after n (grant_of before j level) g x from_in g_in x_in not_before in absurd (omega arith)
           | inl beyond ↦
               let also = distance-passed n (grant_of before j level) g x from_in g_in x_in beyond in
               (omega arith, tests_on x x_in (λ taken. let same : x ≡ g = (Serves-once matched j x g level level Uni Uni taken served).0 in let e = ap (distance n (grant_of before j level)) same in absurd (omega arith)))
@@ -129,7 +125,7 @@ module _ (n t level : ℕ) (rows : List Row) (matched : List (Option Fed)) (befo
     -- either way the rank falls
     one_falls : one_rank_of n level after later i j h + 1 ≤ one_rank_of n level before rows i j g
     one_falls =
-        let granted = grants_first n t rows before level level_in clean Uni (turn_alone n t level rows matched before level_in begins.opening pointing clean alone) g j j_in nearest in
+        let granted = grants_first n t rows before level level_in clean Uni (kind_is_first n t level rows matched before level_in begins.opening pointing clean alone) g j j_in nearest in
         let met = served_by_first n t level rows matched before level_in begins.opening pointing clean alone g j nearest.below granted in
         elim (cases_eq met.0 j) [
           | inl same ↦ one_falls_where_accepted (subst (λ y. Serves matched g y level Uni) same met.2)

@@ -35,7 +35,7 @@ record IsOpened (n : ℕ) (places : Places) (x : ℕ) : Type 0 where
   grant : grant_of places 0 0 ≡ x % n
   accepts : (i : ℕ) → i < x → accept_of places i 0 ≡ 1 % n
 
--- the slots of `rest`, from the pointers `after` on, follow on so many slots of a run
+-- the slots of `rest`, from the pointers `after` on, follow on the first `count` slots of a run
 record Follows (n rounds t : ℕ) (places : Places) (ps : List Posting) (count : ℕ) (after : Places) (rest : List Posting) : Type 0 where
   slots : drop count (run n rounds t places ps) ≡ run n rounds (t + count) after rest
   left : places_after places (take count (run n rounds t places ps)) ≡ after

@@ -1,19 +1,21 @@
 -- Slots out of the middle of a schedule whose rows are kept are such a schedule, and a window where they are clean.
-use Rattle.std.proofs.Common.{◌≡◌, ℕ, zero, suc, ◌+◌, ◌<◌, List, [], ◌∷◌, take, drop, All, subst, arith}
+use Rattle.std.proofs.Common.{◌≡◌, ℕ, zero, suc, ◌+◌, ◌<◌, List, [], ◌∷◌, Option, take, drop, All, subst, arith}
 use Rattle.std.proofs.lemmas.List.Elements.{All-head, All-tail, All-take}
 use Rattle.slot_match.specs.declared.rows.Row.{Row}
+use Rattle.slot_match.specs.declared.matching.Fed.{Fed}
 use Rattle.slot_match.specs.Rows.{row_of, AreWithin}
 use Rattle.slot_match.specs.Keeping.{Keeps}
 use Rattle.pointer_state.specs.Places.{Places, ArePointing}
-use Rattle.eslip_rounds.specs.Schedules.{DecidedSlot, IsSchedule}
-use Rattle.service_bound.specs.Windows.{IsClean, AreKept, InFirst, IsWindow, places_after}
-use Rattle.service_bound.proofs.InWindows.{pointing_on}
+use Rattle.eslip_rounds.specs.Slots.{AreMoved}
+use Rattle.eslip_rounds.specs.Schedules.{DecidedSlot, IsScheduleBy, IsSchedule}
+use Rattle.service_bound.specs.Windows.{IsClean, AreKept, InFirst, IsWindowBy, IsWindow, places_after}
+use Rattle.service_bound.proofs.InWindows.{KeepPointing, AreMoved-keep, pointing_by}
 
-module _ (n rounds level : ℕ) (ports : 0 < n) where
+module _ (Moves : ℕ → ℕ → List Row → List (Option Fed) → List (Option Fed) → Places → Places → Type 0) (n rounds level : ℕ) (keep : KeepPointing Moves n level) where
   -- a schedule of rows that are kept, from pointers at ports
   record IsKeptSchedule (t : ℕ) (places : Places) (slots : List DecidedSlot) : Type 0 where
     pointing : ArePointing n level places
-    schedule : IsSchedule n rounds t places slots
+    schedule : IsScheduleBy Moves n rounds t places slots
     within : All (λ slot. AreWithin n slot.rows) slots
     kept : AreKept n slots
 
@@ -23,7 +25,7 @@ module _ (n rounds level : ℕ) (ports : 0 < n) where
   IsKeptSchedule-drop (suc first) [] t places s = record { pointing = s.pointing; schedule = tt; within = s.within; kept = tt }
   IsKeptSchedule-drop (suc first) (slot ∷ slots) t places s =
       let next : IsKeptSchedule (t + 1) slot.decision.places slots = record {
-        pointing = pointing_on n rounds t level places slot ports s.pointing (All-head (λ x. AreWithin n x.rows) slot slots s.within) s.schedule.0;
+        pointing = pointing_by Moves n rounds t level places slot keep s.pointing (All-head (λ x. AreWithin n x.rows) slot slots s.within) s.schedule.0;
         schedule = s.schedule.1;
         within = All-tail (λ x. AreWithin n x.rows) slot slots s.within;
         kept = s.kept.1;
@@ -32,7 +34,7 @@ module _ (n rounds level : ℕ) (ports : 0 < n) where
       subst (λ u. IsKeptSchedule u (places_after slot.decision.places (take first slots)) (drop first slots)) same (IsKeptSchedule-drop first slots (t + 1) slot.decision.places next)
 
   -- without its last slots
-  IsSchedule-take : (count : ℕ) (slots : List DecidedSlot) (t : ℕ) (places : Places) → IsSchedule n rounds t places slots → IsSchedule n rounds t places (take count slots)
+  IsSchedule-take : (count : ℕ) (slots : List DecidedSlot) (t : ℕ) (places : Places) → IsScheduleBy Moves n rounds t places slots → IsScheduleBy Moves n rounds t places (take count slots)
   IsSchedule-take zero slots t places s = tt
   IsSchedule-take (suc count) [] t places s = tt
   IsSchedule-take (suc count) (slot ∷ slots) t places s = (s.0, IsSchedule-take count slots (t + 1) slot.decision.places s.1)
@@ -49,7 +51,7 @@ module _ (n rounds level : ℕ) (ports : 0 < n) where
       (InFirst-take (λ rows. (i : ℕ) → i < n → Keeps slot.decision.matched i (row_of slot.rows i) (row_of rows i)) count slots kept.0, AreKept-take count slots kept.1)
 
   -- some slots from slot `first` on
-  IsWindow-part : (t first count : ℕ) (places : Places) (slots : List DecidedSlot) → IsKeptSchedule t places slots → All (λ slot. IsClean n level slot.rows) (take count (drop first slots)) → IsWindow n rounds (t + first) level (places_after places (take first slots)) (take count (drop first slots))
+  IsWindow-part : (t first count : ℕ) (places : Places) (slots : List DecidedSlot) → IsKeptSchedule t places slots → All (λ slot. IsClean n level slot.rows) (take count (drop first slots)) → IsWindowBy Moves n rounds (t + first) level (places_after places (take first slots)) (take count (drop first slots))
   IsWindow-part t first count places slots s clean =
       let later = IsKeptSchedule-drop first slots t places s in
       record {
@@ -60,7 +62,12 @@ module _ (n rounds level : ℕ) (ports : 0 < n) where
         clean = clean;
       }
 
+pub part_is_window_by : (Moves : ℕ → ℕ → List Row → List (Option Fed) → List (Option Fed) → Places → Places → Type 0) (n rounds t level first count : ℕ) (places : Places) (slots : List DecidedSlot) → KeepPointing Moves n level → ArePointing n level places → IsScheduleBy Moves n rounds t places slots → All (λ slot. AreWithin n slot.rows) slots → AreKept n slots → All (λ slot. IsClean n level slot.rows) (take count (drop first slots))
+    → IsWindowBy Moves n rounds (t + first) level (places_after places (take first slots)) (take count (drop first slots))
+part_is_window_by Moves n rounds t level first count places slots keep pointing schedule within kept clean =
+    IsWindow-part Moves n rounds level keep t first count places slots (record { pointing = pointing; schedule = schedule; within = within; kept = kept }) clean
+
+-- where pointers move as those of iSLIP do
 pub part_is_window : (n rounds t level first count : ℕ) (places : Places) (slots : List DecidedSlot) → 0 < n → ArePointing n level places → IsSchedule n rounds t places slots → All (λ slot. AreWithin n slot.rows) slots → AreKept n slots → All (λ slot. IsClean n level slot.rows) (take count (drop first slots))
     → IsWindow n rounds (t + first) level (places_after places (take first slots)) (take count (drop first slots))
-part_is_window n rounds t level first count places slots ports pointing schedule within kept clean =
-    IsWindow-part n rounds level ports t first count places slots (record { pointing = pointing; schedule = schedule; within = within; kept = kept }) clean
+part_is_window n rounds t level first count places slots ports = part_is_window_by AreMoved n rounds t level first count places slots (AreMoved-keep n level)

@@ -17,7 +17,7 @@ use Rattle.eslip_rounds.specs.Rounds.{Requests, Grants, Accepts, IsRound, prefer
 use Rattle.eslip_rounds.proofs.Bests.{taken_from}
 use Rattle.eslip_rounds.proofs.Matching.{IsMatch-round}
 use Rattle.service_bound.proofs.FirstRound.{grants_first, first_granted, asks_at_first}
-use Rattle.service_bound.proofs.Granting.{turn_alone, served_by_first}
+use Rattle.service_bound.proofs.Granting.{kind_is_first, served_by_first}
 use Rattle.service_bound.proofs.Postings.{Posting, IsPosted, rows_of, posted, names, IsClean-rows, IsWithoutMulticast-rows}
 
 -- where there is no other
@@ -67,11 +67,11 @@ module _ (n t : ℕ) (p : Posting) (places : Places) (at_ports : AreAtPorts plac
 
   grants_it : (i j : ℕ) → j < n → IsFirstFrom n (grant_of places j 0) (Asked j) i → Granted i j
   unfolding Granted Asked
-  grants_it i j j_in nearest = grants_first n t (rows_of n p) places 0 level_in (IsClean-rows n p) Uni (turn_alone n t 0 (rows_of n p) first places level_in opening pointing (IsClean-rows n p) (IsWithoutMulticast-rows n p)) i j j_in nearest
+  grants_it i j j_in nearest = grants_first n t (rows_of n p) places 0 level_in (IsClean-rows n p) Uni (kind_is_first n t 0 (rows_of n p) first places level_in opening pointing (IsClean-rows n p) (IsWithoutMulticast-rows n p)) i j j_in nearest
 
   is_first : (i j : ℕ) → Granted i j → IsFirstFrom n (grant_of places j 0) (Asked j) i
   unfolding Granted Asked
-  is_first i j granted = first_granted n t (rows_of n p) places 0 level_in (IsClean-rows n p) Uni (turn_alone n t 0 (rows_of n p) first places level_in opening pointing (IsClean-rows n p) (IsWithoutMulticast-rows n p)) i j granted
+  is_first i j granted = first_granted n t (rows_of n p) places 0 level_in (IsClean-rows n p) Uni (kind_is_first n t 0 (rows_of n p) first places level_in opening pointing (IsClean-rows n p) (IsWithoutMulticast-rows n p)) i j granted
 
   is_asked : (i j : ℕ) → Granted i j → IsPosted p i j
   unfolding Asked
@@ -288,7 +288,7 @@ module _ (n t : ℕ) (p : Posting) (places : Places) (at_ports : AreAtPorts plac
       best = record {
         there = (p.other, other_in, asking_other);
         least = λ other kind asks. omega arith;
-        turn = λ asks. sym (request_named asks.0 0 0 (preferred t) asks.2 asks.1).1;
+        preferred_first = λ asks. sym (request_named asks.0 0 0 (preferred t) asks.2 asks.1).1;
       };
       first = nearest_other;
     }
@@ -298,7 +298,7 @@ module _ (n t : ℕ) (p : Posting) (places : Places) (at_ports : AreAtPorts plac
       best = record {
         there = (0, granted_second);
         least = λ other kind grants. omega arith;
-        turn = λ grants. sym (request_named p.other grants.0 0 (preferred t) grants.1.first.member other_in).1;
+        preferred_first = λ grants. sym (request_named p.other grants.0 0 (preferred t) grants.1.first.member other_in).1;
       };
       taken = first_alone n (accept_of places p.other 0) 0 (λ y. Grants n t (rows_of n p) places first p.other y 0 Uni) zero_in granted_second (λ y y_in granted. elim (request_named p.other y 0 Uni granted.first.member other_in).2 [
         | inl a ↦ absurd (suits.apart some a.0)

@@ -21,7 +21,7 @@ use Rattle.service_bound.proofs.Fresh.{fresh_of, fresh_of-most, fresh-accepted, 
 use Rattle.service_bound.proofs.Rank.{twice_longest, twice_rank, twice_rank-far, twice_rank-near, twice_rank-turns, twice_rank-bound}
 use Rattle.service_bound.proofs.FirstRound.{grants_first}
 use Rattle.service_bound.proofs.LaterRounds.{first_of, BeginsWith, BeginsWith-slot}
-use Rattle.service_bound.proofs.Granting.{turn_alone, served_by_first, refused}
+use Rattle.service_bound.proofs.Granting.{kind_is_first, served_by_first, refused}
 use Rattle.service_bound.proofs.InWindows.{IsWindowSlot}
 
 -- twice the rank of the request of input i for output j, where input g asks for it too
@@ -90,7 +90,7 @@ module _ (n t level : ℕ) (rows : List Row) (first matched : List (Option Fed))
     falls =
         let nearest = IsFirstFrom-some n (grant_of before j level) (λ x. Names (row_of rows x) level Uni j) (λ x. Names-decides (row_of rows x) level Uni j) (pointing.grant j j_in) g g_in asking in
         let h = nearest.0 in
-        let granted = grants_first n t rows before level level_in clean Uni (turn_alone n t level rows first before level_in begins.opening pointing clean alone) h j j_in nearest.1 in
+        let granted = grants_first n t rows before level level_in clean Uni (kind_is_first n t level rows first before level_in begins.opening pointing clean alone) h j j_in nearest.1 in
         let met = served_by_first n t level rows first before level_in begins.opening pointing clean alone h j nearest.1.below granted in
         elim (cases_eq met.0 j) [
           | inl same ↦ (i, falls_where_accepted h nearest.1 (subst (λ y. Serves first h y level Uni) same met.2))

@@ -148,7 +148,7 @@ module _ (n t : ℕ) (ins ins_back outs outs_back : ℕ → ℕ) (a b : Side) (a
           best = record {
             there = (ins x, there.0, there.1);
             least = λ level kind asks. let at = (asked_back.only asks.0 (outs y) level kind (asks.1, asks.2)).2 in omega arith;
-            turn = λ asks. sym (asked_back.only asks.0 (outs y) b.level (preferred t) (asks.1, asks.2)).3;
+            preferred_first = λ asks. sym (asked_back.only asks.0 (outs y) b.level (preferred t) (asks.1, asks.2)).3;
           };
           first = subst (λ from. IsFirstFrom n from (λ z. Requests b.rows g z (outs y) b.level Uni) (ins x)) (sym (alike.pointers.grants y y_in))
               (IsFirstFrom-renumbered n ins ins_back alike.inputs (grant_of a.places y a.level) (λ z. Requests a.rows f z y a.level Uni) (λ z. Requests b.rows g z (outs y) b.level Uni) x (alike.pointers.grant_in y y_in)
@@ -176,7 +176,7 @@ module _ (n t : ℕ) (ins ins_back outs outs_back : ℕ → ℕ) (a b : Side) (a
           best = record {
             there = (outs y, granted_to.carried x y granted);
             least = λ level kind more. let at = (granted_back.only (ins x) more.0 level kind more.1).2 in omega arith;
-            turn = λ more. sym (granted_back.only (ins x) more.0 b.level (preferred t) more.1).3;
+            preferred_first = λ more. sym (granted_back.only (ins x) more.0 b.level (preferred t) more.1).3;
           };
           taken = subst (λ from. IsFirstFrom n from (λ v. Grants n t b.rows b.places g (ins x) v b.level Uni) (outs y)) (sym (alike.pointers.accepts x x_in))
               (IsFirstFrom-renumbered n outs outs_back alike.outputs (accept_of a.places x a.level) (λ v. Grants n t a.rows a.places f x v a.level Uni) (λ v. Grants n t b.rows b.places g (ins x) v b.level Uni) y (alike.pointers.accept_in x x_in)

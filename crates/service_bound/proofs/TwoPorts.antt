@@ -28,7 +28,7 @@ use Rattle.service_bound.specs.Windows.{IsClean, IsWithoutMulticast, InFirst, Is
 use Rattle.service_bound.proofs.Distances.{distance-passed, distance-beyond}
 use Rattle.service_bound.proofs.FirstRound.{grants_first, asks_at_first}
 use Rattle.service_bound.proofs.LaterRounds.{first_of, second_of, BeginsWith, BeginsWith-slot}
-use Rattle.service_bound.proofs.Granting.{kind_alone, turn_alone, served_by_first, refused}
+use Rattle.service_bound.proofs.Granting.{kind_alone, kind_is_first, served_by_first, refused}
 use Rattle.service_bound.proofs.Fresh.{accept_later}
 use Rattle.service_bound.proofs.InWindows.{Any-here, Any-later, InFirst-along, IsWindowSlot, first_slot, later_slots}
 
@@ -88,8 +88,8 @@ module _ (t level : ℕ) (rows : List Row) (first : List (Option Fed)) (places :
     not_better : (x z l : ℕ) (k : Kind) → x < 2 → Requests rows first x z l k → level ≤ l
     not_better x z l k x_in asks = elim (cases_lt l level) [ inl better ↦ absurd (clean x l z k x_in better (named_of x z l k asks)) | inr worse ↦ worse ]
 
-    turn_of : (x z : ℕ) → x < 2 → Requests rows first x z level (preferred t) → Uni ≡ preferred t
-    turn_of x z x_in asks = (turn_alone 2 t level rows first places level_in opening pointing clean alone).turn x z x_in (named_of x z level (preferred t) asks)
+    first_kind_of : (x z : ℕ) → x < 2 → Requests rows first x z level (preferred t) → Uni ≡ preferred t
+    first_kind_of x z x_in asks = (kind_is_first 2 t level rows first places level_in opening pointing clean alone).preferred_first x z x_in (named_of x z level (preferred t) asks)
 
     -- the input that took the other output asks no more
     asks_alone : (x : ℕ) → x < 2 → Requests rows first x j level Uni → x ≡ i
@@ -111,7 +111,7 @@ module _ (t level : ℕ) (rows : List Row) (first : List (Option Fed)) (places :
       best = record {
         there = (i, i_in, asks_on);
         least = λ l k asks. not_better asks.0 j l k asks.1 asks.2;
-        turn = λ asks. turn_of asks.0 j asks.1 asks.2;
+        preferred_first = λ asks. first_kind_of asks.0 j asks.1 asks.2;
       };
       first = record { below = i_in; member = asks_on; least = λ x x_in asks. let e = ap (distance 2 (grant_of places j level)) (asks_alone x x_in asks) in omega arith };
     }
@@ -121,7 +121,7 @@ module _ (t level : ℕ) (rows : List Row) (first : List (Option Fed)) (places :
       best = record {
         there = (j, granted_second);
         least = λ l k grants. not_better i grants.0 l k i_in grants.1.first.member;
-        turn = λ grants. turn_of i grants.0 i_in grants.1.first.member;
+        preferred_first = λ grants. first_kind_of i grants.0 i_in grants.1.first.member;
       };
       taken = record { below = j_in; member = granted_second; least = λ z z_in grants. let e = ap (distance 2 (accept_of places i level)) (free_alone z z_in grants.output_free) in omega arith };
     }
@@ -195,7 +195,7 @@ module _ (rounds level i j : ℕ) (two : 1 < rounds) (i_in : i < 2) where
     falls =
         let nearest = IsFirstFrom-some 2 (grant_of places j level) (λ x. Names (row_of slot.rows x) level Uni j) (λ x. Names-decides (row_of slot.rows x) level Uni j) (now.pointing.grant j j_in) i i_in named in
         let h = nearest.0 in
-        let granted = grants_first 2 t slot.rows places level level_in now.clean Uni (turn_alone 2 t level slot.rows First places level_in begins.opening now.pointing now.clean alone) h j j_in nearest.1 in
+        let granted = grants_first 2 t slot.rows places level level_in now.clean Uni (kind_is_first 2 t level slot.rows First places level_in begins.opening now.pointing now.clean alone) h j j_in nearest.1 in
         let met = served_by_first 2 t level slot.rows First places level_in begins.opening now.pointing now.clean alone h j nearest.1.below granted in
         elim (cases_eq met.0 j) [
           | inl same ↦ falls_where_accepted h nearest.1 (subst (λ y. Serves First h y level Uni) same met.2)

@@ -31,11 +31,11 @@ place_of i level = LEVELS * i + level
 abbrev pub queues_at : List Queues → ℕ → Queues
 queues_at queues place = slice_index_or queues place queues_at_first
 
--- the wait of the queue to output j after so many slots: the slots since it began, if it waits
+-- the wait of the queue to output j after `count` slots: the slots since it began, if it waits
 abbrev pub wait_at : Queues → ℕ → ℕ → ℕ
 wait_at queues count j = if bit_at queues.waiting j == 1 then count - slice_index queues.began j else 0
 
--- the greatest of the waits of these outputs after so many slots, where they began so
+-- the greatest of the waits of these outputs after `count` slots, where the waits began in these slots
 abbrev pub longest_of : List ℕ → ℕ → ℕ → ℕ
 longest_of began outputs count =
     greatest (map (wait_at (record { waiting = outputs; began = began; ended = 0 }) count) (range_with_len 0 (length began)))
@@ -44,11 +44,11 @@ longest_of began outputs count =
 abbrev pub longest_at : Queues → ℕ → ℕ
 longest_at queues count = max queues.ended (longest_of queues.began queues.waiting count)
 
--- these outputs are some of the queues', whose waits began in one of so many slots
+-- these outputs are some of the queues', whose waits began in the first `count` slots or begin with the next
 abbrev pub HaveBegun : List ℕ → ℕ → ℕ → Type 0
 HaveBegun began outputs count = (j : ℕ) → Has outputs j → (j < length began) × (slice_index began j ≤ count)
 
--- queues as so many slots leave them
+-- the queues after `count` slots
 pub record AreBegun (count : ℕ) (queues : Queues) : Type 0 where
   pub long : length queues.began ≡ MAX_PORTS
   pub begun : HaveBegun queues.began queues.waiting count

@@ -50,6 +50,6 @@ longest_service n = n * (n * n - n + 2) / 2
 abbrev pub longest_service_in_one_round : ℕ → ℕ
 longest_service_in_one_round n = 2 * n * n + 2 - 3 * n
 
--- and where they have so many rounds
+-- the same by the number of rounds of a slot
 abbrev pub longest_service_by : ℕ → ℕ → ℕ
 longest_service_by n rounds = if rounds == 1 then longest_service_in_one_round n else longest_service n

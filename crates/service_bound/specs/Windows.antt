@@ -1,12 +1,14 @@
 -- Windows: slots one after the other in which the laws speak of one level.
-use Rattle.std.specs.Prelude.{ℕ, ◌<◌, List, [], ◌∷◌, All}
+use Rattle.std.specs.Prelude.{ℕ, ◌<◌, List, [], ◌∷◌, Option, All}
 use Rattle.rotating_pick.specs.declared.kinds.Kind.{Kind}
 use Rattle.rotating_pick.specs.declared.kinds.Kind.TheVariants.{Multi}
 use Rattle.slot_match.specs.declared.rows.Row.{Row}
+use Rattle.slot_match.specs.declared.matching.Fed.{Fed}
 use Rattle.slot_match.specs.Rows.{Names, row_of, AreWithin}
 use Rattle.slot_match.specs.Keeping.{Keeps}
 use Rattle.pointer_state.specs.Places.{Places, ArePointing}
-use Rattle.eslip_rounds.specs.Schedules.{DecidedSlot, IsSchedule}
+use Rattle.eslip_rounds.specs.Slots.{AreMoved}
+use Rattle.eslip_rounds.specs.Schedules.{DecidedSlot, IsScheduleBy}
 
 -- no row names an output at a level better than this one
 abbrev pub IsClean : ℕ → ℕ → List Row → Type 0
@@ -26,14 +28,18 @@ abbrev pub AreKept : ℕ → List DecidedSlot → Type 0
 AreKept n [] = Unit {0}
 AreKept n (slot ∷ slots) = InFirst (λ rows. (i : ℕ) → i < n → Keeps slot.decision.matched i (row_of slot.rows i) (row_of rows i)) slots × AreKept n slots
 
--- Slots from slot t on, decided from these pointers, of rows that are kept. None names an output at a better
--- level, and the level's pointers are at ports.
-pub record IsWindow (n rounds t level : ℕ) (places : Places) (slots : List DecidedSlot) : Type 0 where
+-- Slots from slot t on, decided from these pointers, of rows that are kept, where `Moves` says how pointers move. None
+-- names an output at a better level, and the level's pointers are at ports.
+pub record IsWindowBy (Moves : ℕ → ℕ → List Row → List (Option Fed) → List (Option Fed) → Places → Places → Type 0) (n rounds t level : ℕ) (places : Places) (slots : List DecidedSlot) : Type 0 where
   pub pointing : ArePointing n level places
-  pub schedule : IsSchedule n rounds t places slots
+  pub schedule : IsScheduleBy Moves n rounds t places slots
   pub within : All (λ slot. AreWithin n slot.rows) slots
   pub kept : AreKept n slots
   pub clean : All (λ slot. IsClean n level slot.rows) slots
+
+-- the same where pointers move as those of iSLIP do
+abbrev pub IsWindow : ℕ → ℕ → ℕ → ℕ → Places → List DecidedSlot → Type 0
+IsWindow = IsWindowBy AreMoved
 
 -- the pointers after some slots
 abbrev pub places_after : Places → List DecidedSlot → Places

@@ -4,8 +4,8 @@ ghost use Rattle.service_bound.specs.Waits.{longest_service_by};
 use rotating_pick::MAX_PORTS;
 
 /// In how many slots a unicast request is served at the latest, where nothing of a better level and no
-/// multicast of its own is posted: in a switch of `n` ports, 1 to 64, whose slots have so many rounds, 1 or
-/// more. For 64 ports these are 8,002 slots of one round, and 129,088 of two or more.
+/// multicast of its own is posted: in a switch of `n` ports, 1 to 64, whose slots have `rounds` rounds, 1
+/// or more. For 64 ports these are 8,002 slots of one round, and 129,088 of two or more.
 pub fn longest_service(n: u32, rounds: u32) -> u32
     requires some { 0 < n }
     requires size { n ≤ MAX_PORTS }

@@ -12,7 +12,7 @@ use Rattle.slot_histories.specs.declared.events.Event.TheVariants.{Post, Take}
 use Rattle.slot_histories.specs.Events.{posts_of, takes_of}
 use Rattle.slot_histories.specs.Legal.{IsLegal}
 use Rattle.turn_lock.specs.declared.history.TurnOf.{TurnOf}
-use Rattle.turn_lock.specs.Seats.{SeatValue, refused}
+use Rattle.turn_lock.specs.Seats.{SeatValue, busy}
 use Rattle.slot_board.specs.declared.waits.TakeWait.{TakeWait}
 use Rattle.slot_board.specs.declared.waits.TakeWait.TheVariants.{Busy, NotYet}
 use Rattle.slot_board.specs.Turns.{post_entries, decision_entries}
@@ -109,7 +109,7 @@ module _ (old new : SeatValue Event) (seat : IsSeat old) (after : IsSeat new) (c
         tries = tries;
       }
 
-pub AfterRefusal-busy : (old : SeatValue Event) → AfterRefusal old (refused old)
+pub AfterRefusal-busy : (old : SeatValue Event) → AfterRefusal old (busy old)
 AfterRefusal-busy old = record { column = refl; slot = refl; posted = (λ it. it, λ it. it); done = refl; tries = omega arith }
 
 pub AfterRefusal-undecided : (ports : ℕ) (old new : SeatValue Event) → IsSeat old → IsUndecided ports old new → AfterRefusal old new

@@ -11,7 +11,7 @@ use Rattle.turn_lock.specs.Seats.{TurnValue, SeatValue, new_seat}
 use Rattle.slot_board.specs.Seats.{setup_at, events_seen, refusals}
 use Rattle.slot_board.specs.Turns.{numbers_of, setup_of}
 
--- how many slots a card has posted that took so many
+-- how many slots a card has posted: one more than it took, where it has posted and not taken
 abbrev pub slots_posted : Bool → ℕ → ℕ
 slots_posted has_posted slot = if has_posted then slot + 1 else slot
 
@@ -44,7 +44,7 @@ pub record IsCardSeat (seat : SeatValue Event) (ports card slot : ℕ) (has_post
   pub empty : room ≡ []
   pub room_for_all : card ≡ 0 → ports ≤ capacity
 
--- the seat is that of card i, as the turn lock of a board of so many ports gives it
+-- the seat is that of card i, as the turn lock of a board of `ports` ports gives it
 pub record IsNewCard (ports i : ℕ) (seat : SeatValue Event) : Type 0 where
   pub board : IsBoard seat.turn
   pub ports_are : ports ≡ (setup_at seat).ports

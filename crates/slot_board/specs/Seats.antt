@@ -14,7 +14,7 @@ use Rattle.slot_histories.specs.Legal.{IsAccepted, IsLegal}
 use Rattle.board_state.specs.Boards.{HavePosted}
 use Rattle.turn_lock.specs.declared.history.TurnOf.{TurnOf}
 use Rattle.turn_lock.specs.Histories.{entries_of, turns_of, IsAllowed, IsBelow}
-use Rattle.turn_lock.specs.Seats.{SeatValue, refused, after_turn}
+use Rattle.turn_lock.specs.Seats.{SeatValue, busy, after_turn}
 use Rattle.slot_board.specs.declared.waits.TakeWait.{TakeWait}
 use Rattle.slot_board.specs.declared.waits.TakeWait.TheVariants.{Busy, NotYet}
 use Rattle.slot_board.specs.Turns.{setup_of, MayAdd, post_entries}
@@ -92,7 +92,7 @@ pub record IsUndecided (ports : ℕ) (old new : SeatValue Event) : Type 0 where
 
 -- why a card could not take, and what that makes of its seat
 abbrev pub IsWait : TakeWait → SeatValue Event → SeatValue Event → Type 0
-IsWait Busy old new = new ≡ refused old
+IsWait Busy old new = new ≡ busy old
 IsWait (NotYet ports) old new = IsUndecided ports old new
 
 -- ---- how often a seat was refused

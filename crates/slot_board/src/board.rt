@@ -1,5 +1,5 @@
 ghost use Rattle.std.specs.Prelude.{◌≡◌, ◌+◌, ◌^◌, ◌<◌, ◌≤◌, false, [], ◌∷◌, length, IfOk, IfErr};
-ghost use Rattle.turn_lock.specs.Seats.{refused, AreNewSeats};
+ghost use Rattle.turn_lock.specs.Seats.{busy, AreNewSeats};
 ghost use Rattle.slot_board.specs.Turns.{setup_of};
 ghost use Rattle.slot_histories.specs.Columns.{with_post, with_taking};
 ghost use Rattle.slot_board.specs.Seats.{column_at, slot_of, IsPosted, is_done, Accepts, HasPosted, HasTaken, IsWait};
@@ -95,7 +95,7 @@ impl Board {
         ensures posted { IfOk result (λ _. HasPosted post seat.old seat.new) }
         ensures column { IfOk result (λ _. column_at seat.new ≡ with_post (column_at seat.old) post) }
         ensures after { IfOk result (λ _. AfterPost seat.old seat.new) }
-        ensures busy { IfErr result (λ busy. (busy.act ≡ post) × (seat.new ≡ refused seat.old)) }
+        ensures busy { IfErr result (λ back. (back.act ≡ post) × (seat.new ≡ busy seat.old)) }
         ensures alone { IfErr result (λ _. (setup_of self.now.numbers).ports ≡ 1 → 2 ^ 64 ≤ length seat.old.seen + 1) }
         ensures refused { IfErr result (λ _. AfterRefusal seat.old seat.new) }
     {

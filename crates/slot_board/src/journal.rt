@@ -96,7 +96,7 @@ impl Journal {
         self.journal.used(slot)
     }
 
-    /// Each card that was due when the board was closed had been refused at least so many tries. Where no
+    /// The least number of refused tries of the cards that were due when the board was closed. Where no
     /// card was due it says nothing of any card, and is the last value of a `u64`; that is also told where
     /// the least is no smaller.
     pub fn least_refused(&self) -> u64

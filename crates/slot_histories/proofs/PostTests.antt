@@ -51,9 +51,9 @@ Decides-is_cell_form cell =
     let used = is_used cell.last cell.used in
     let number = nat_le cell.number MAX_NUMBER in
     let room = length cell.payload == PAYLOAD_BYTES in
-    let behind = drop cell.used cell.payload in
-    let blank = list_all (λ byte. byte == 0) behind in
-    let count : length cell.payload ≡ PAYLOAD_BYTES → length behind ≡ PAYLOAD_BYTES - cell.used = λ long. omega (arith, length-drop cell.used cell.payload) in
+    let unused = drop cell.used cell.payload in
+    let blank = list_all (λ byte. byte == 0) unused in
+    let count : length cell.payload ≡ PAYLOAD_BYTES → length unused ≡ PAYLOAD_BYTES - cell.used = λ long. omega (arith, length-drop cell.used cell.payload) in
     Decides-like (input && level && used && number && room && blank)
     (λ p. record { input = p.0.0.0.0.0; level = p.0.0.0.0.1; used = p.0.0.0.1; number = p.0.0.1; room = p.0.1; rest = p.1 ∙ ap (λ m. replicate m 0) (count p.0.1) })
     (λ form. (((((form.input, form.level), form.used), form.number), form.room), form.rest ∙ sym (ap (λ m. replicate m 0) (count form.room))))
@@ -63,7 +63,7 @@ Decides-is_cell_form cell =
     (Decides-and (input && level) used (Decides-and input level (Decides-ltb cell.input MAX_PORTS) (Decides-ltb cell.level LEVELS)) (Decides-is_used cell.last cell.used))
     (Decides-leb cell.number MAX_NUMBER))
     (Decides-eqb (length cell.payload) PAYLOAD_BYTES))
-    (Decides-zeros behind))
+    (Decides-zeros unused))
 
 pub Decides-is_granted_cell : (card : ℕ) (served : Option Served) (cell : Option Cell) → Decides (is_granted_cell card served cell) (IsGrantedCell card served cell)
 unfolding is_granted_cell

@@ -48,7 +48,7 @@ has_ended column = list_any (λ taken. taken.done) column.takings
 abbrev pub row_told : Column → Row
 row_told column = row_before (λ i t. slice_index_or column.posts t no_post) 0 (slots_taken column)
 
--- what it was served in the last of so many slots
+-- what it was served in the last of its first k slots
 abbrev pub part_told : ℕ → List Taken → Option Served
 part_told zero takings = None
 part_told (suc k) takings = option_and_then (λ taken. taken.served) (slice_get takings k)

@@ -5,7 +5,7 @@ use Rattle.crossbar.specs.declared.cards.Post.{Post as CardPost}
 use Rattle.slot_histories.specs.declared.events.Event.{Event}
 use Rattle.slot_histories.specs.declared.events.Event.TheVariants.{Post, Decide, Take}
 
--- A board of so many ports, whose slots have so many rounds, and on which at most so many slots are posted.
+-- What a board was made for: how many ports it has, how many rounds a slot has, and how many slots are posted at most.
 pub record Setup : Type 0 where
   pub ports : ℕ
   pub rounds : ℕ

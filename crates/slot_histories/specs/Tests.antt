@@ -60,7 +60,7 @@ keeps_level n served old new level =
 unfoldable pub keeps_rest : ℕ → Option Served → Row → Row → Bool
 keeps_rest n served old new = list_all (keeps_level n served old new) (range_with_len 0 LEVELS)
 
--- whether so many bytes are used in a cell, that is a last one or is not
+-- whether `used` is a number of used bytes of a last cell, or of one that is not the last
 abbrev pub is_used : Bool → ℕ → Bool
 is_used true used = nat_lt 0 used && nat_le used PAYLOAD_BYTES
 is_used false used = used == PAYLOAD_BYTES

@@ -1,4 +1,4 @@
--- The fields behind a match: at first, and after some pairs were added.
+-- The fields of a match: at first, and after some pairs were added.
 use Rattle.std.proofs.Common.{◌≡◌, ◌≢◌, ℕ, zero, ◌+◌, ◌^◌, ◌<◌, ◌≤◌, ◌↔◌, ◌⊎◌, ◌∙◌, List, Option, None, Some, length, replicate, take, count_by, is_some, slice_index, sym, ap, subst, inl, inr, arith}
 use Rattle.std.proofs.lemmas.Bool.{cases_lt}
 use Rattle.std.proofs.lemmas.Option.{none-some}

@@ -1,4 +1,4 @@
--- The table of 64 outputs behind a match of n ports, and how many of its outputs are fed.
+-- The table of 64 outputs that keeps a match of n ports, and how many of its outputs are fed.
 use Rattle.std.proofs.Common.{◌≡◌, ℕ, zero, suc, ◌+◌, ◌<◌, ◌≤◌, cond, List, [], ◌∷◌, Option, None, Some, length, take, set, count_by, is_some, refl, ap, arith}
 use Rattle.std.proofs.lemmas.List.{get_or-take, get_or_past, length-take-le}
 use Rattle.std.proofs.lemmas.List.Sums.{sum_by-set, sum_by-cons}

@@ -41,11 +41,11 @@ pub record AreMembers (board : TurnValue Event) (members : List Member) : Type 0
 abbrev pub AreEmptyGroups : List Group → Type 0
 AreEmptyGroups groups = (place : ℕ) (group : Group) → slice_get groups place ≡ Some group → group.members.items ≡ []
 
--- groups with room for so many members each
+-- groups with room for `room` members each
 abbrev pub HaveRoomFor : ℕ → List Group → Type 0
 HaveRoomFor room groups = (place : ℕ) (group : Group) → slice_get groups place ≡ Some group → room ≤ vec_capacity group.members
 
--- Groups, one at least, and lists with room for all of so many ports, and a meter of so many. All are empty.
+-- Groups, one at least, and lists with room for all of `ports` ports, and a meter of `ports` ports. All are empty.
 pub record AreRooms (ports : ℕ) (rooms : Rooms) : Type 0 where
   pub some : 0 < length rooms.groups.items
   pub groups_empty : AreEmptyGroups rooms.groups.items

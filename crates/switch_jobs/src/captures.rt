@@ -27,7 +27,7 @@ pub fn output_bytes(
     Ok(bytes)
 }
 
-// Writes the records of the messages behind the header, where the buffer has just the room for them.
+// Writes the records of the messages after the header, where the buffer has just the room for them.
 fn write_records(buffer: &mut [u8], body: &[u8], lens: &[u32], nano: bool)
     requires cut { AreLengths lens.now (length body.now) }
     requires room { length buffer.old ≡ 24 + length body.now }

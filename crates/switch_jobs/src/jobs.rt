@@ -104,7 +104,7 @@ fn hand_of(alloc: Global, plan: CardPlan) -> Result<Hand, OutOfMemory>
     Ok(Hand { card, kept: None })
 }
 
-// Room for a run with so many ports and workers.
+// Room for a run with `ports` ports and `workers` workers.
 fn rooms_for(alloc: Global, ports: u32, workers: u32) -> Result<Rooms, OutOfMemory>
     requires ports { (0 < ports) × (ports ≤ MAX_PORTS) }
     requires workers { 0 < workers }
@@ -120,7 +120,7 @@ fn rooms_for(alloc: Global, ports: u32, workers: u32) -> Result<Rooms, OutOfMemo
     })
 }
 
-// So many groups without members, with room for so many each.
+// `count` groups without members, with room for `room` members each.
 fn empty_groups(alloc: Global, count: u32, room: usize) -> Result<Vec<Group>, AllocError>
     ensures count { IfOk result (λ groups. length groups.items ≡ count) }
     ensures empty { IfOk result (λ groups. AreEmptyGroups groups.items) }

@@ -29,7 +29,7 @@ not_found : {A B : Type 0} (f : A → B) (found : Option A) → option_map f fou
 not_found f None none = refl
 not_found f (Some x) none = absurd (cc)
 
--- of a list in which none is found, the first does not pass, and none is found behind it
+-- of a list in which none is found, the first does not pass, and none is found after it
 none_first : {A : Type 0} (passes : Bool) (x : A) (rest : Option A) → (if passes then Some x else rest) ≡ None → (passes ≡ false) × (rest ≡ None)
 none_first true x rest none = absurd (cc)
 none_first false x rest none = (refl, none)

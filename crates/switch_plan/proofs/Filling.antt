@@ -9,7 +9,7 @@ use Rattle.switch_plan.specs.Totals.{sizes_for, body_room_for, packet_room_for}
 use Rattle.switch_plan.specs.Counting.{packets_of_cards}
 use Rattle.switch_plan.specs.Sizing.{IsSized}
 
--- the first so many cards have the rooms for the packets of all, and the others are as they were
+-- the first k cards have the rooms for the packets of all, and the others are as they were
 pub record AreFilled (k : ℕ) (old new : List CardPlan) : Type 0 where
   pub count : length new ≡ length old
   pub packets : packets_of_cards new ≡ packets_of_cards old

@@ -43,7 +43,7 @@ greatest_more output flow packets k p inside is goes = greatest_next output flow
 abbrev pub greatest_of : ℕ → List Planned → List ℕ
 greatest_of output packets = map (λ flow. greatest_message output flow packets) (range_with_len 0 8)
 
--- the first so many inputs, with one more
+-- the first k inputs, and one more
 pub sizes_next : (output : ℕ) (cards : List CardPlan) (k : ℕ) (card : CardPlan) → k < length cards → card ≡ slice_index_or cards k card
     → sizes_for output (take (k + 1) (packets_of_cards cards)) ≡ sizes_for output (take k (packets_of_cards cards)) ++ greatest_of output card.packets.items
 sizes_next output cards k card inside is =

@@ -49,7 +49,7 @@ at_map f [] (suc k) d = refl
 at_map f (x ∷ xs) zero d = refl
 at_map f (x ∷ xs) (suc k) d = at_map f xs k d
 
--- what stands behind a list
+-- what stands after a list
 pub at_end : {A : Type 0} (xs ys : List A) (y d : A) → slice_index_or (xs ++ y ∷ ys) (length xs) d ≡ y
 at_end [] ys y d = refl
 at_end (x ∷ xs) ys y d = at_end xs ys y d

@@ -16,7 +16,7 @@ range_next a (suc k) =
     let last : (a + 1) + k ≡ a + suc k = omega arith in
     ap (range_with_len a) same ∙ ap (λ xs. a ∷ xs) (range_next (a + 1) k ∙ ap (λ x. range_with_len (a + 1) k ++ x ∷ []) last)
 
--- a text of parts for 0 to k - 1, with the part for k behind it
+-- a text of parts for 0 to k - 1, followed by the part for k
 pub flat_map_next : {A : Type 0} (f : ℕ → List A) (bytes : List A) (k : ℕ)
     → (bytes ++ flat_map f (range_with_len 0 k)) ++ f k ≡ bytes ++ flat_map f (range_with_len 0 (k + 1))
 flat_map_next f bytes k =
@@ -27,7 +27,7 @@ map-append : {A B : Type 0} (g : A → B) (xs : List A) (x : A) → map g (xs ++
 map-append g [] x = refl
 map-append g (y ∷ xs) x = ap (λ ys. g y ∷ ys) (map-append g xs x)
 
--- a list of what was made for 0 to k - 1, with that for k behind it
+-- a list of what was made for 0 to k - 1, followed by that for k
 pub map_next : {A B : Type 0} (g : A → B) (f : ℕ → B) (xs : List A) (x : A) (k : ℕ)
     → map g xs ≡ map f (range_with_len 0 k) → g x ≡ f k → map g (xs ++ x ∷ []) ≡ map f (range_with_len 0 (k + 1))
 map_next g f xs x k before here =

@@ -61,7 +61,7 @@ traffic_slots_at table pace capture =
     (map_map (λ (p : Planned). p.arrival) (λ pair. planned table capture.link pair.0 pair.1) pairs
     ∙ zip_right (packets_of capture) (slots_at pace capture) (sym (slots_long pace (packets_of capture))))
 
--- packets that stand in a file each behind the record before, the first of them at this place
+-- packets that stand in a file each after the record before, the first of them at this place
 starts_from : (bytes : List ℕ) (at : ℕ) (stored : List Stored) → All (IsWithin bytes) stored → ((k : ℕ) (d : Stored) → k < length stored → (slice_index_or stored k d).start ≡ at + records_length (take k stored))
     → map (λ (s : Stored). s.start) stored ≡ places_from at (map (packet_in bytes) stored)
 starts_from bytes at [] within order = refl

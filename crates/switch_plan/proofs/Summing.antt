@@ -13,7 +13,7 @@ use Rattle.switch_plan.specs.Cards.{is_long}
 use Rattle.switch_plan.proofs.Folding.{at_map, length_map, fold_next}
 use Rattle.switch_plan.proofs.Arriving.{taken_last}
 
--- a number of so many bits has no more that are set
+-- a number of `bits` bits has at most as many that are set
 pub ones_within : (bits n : ℕ) → n < 2 ^ bits → count_ones n ≤ bits
 ones_within zero n below = let none = ones_le_self n in omega arith
 ones_within (suc bits) n below =

@@ -34,7 +34,7 @@ pub record CanBePlanned (pace : Pace) (capture : Capture) : Type 0 where
   pub read : IsCaptureOf capture.bytes.items capture
   pub times : All (λ packet. base_of pace ≤ packet.seconds * 1000000000 + packet.nanos) capture.packets.items
 
--- the card of this port of so many, but for what comes to its output
+-- the card of this port of a switch of `ports` ports, but for what comes to its output
 pub record IsCardFor (ports depth : ℕ) (table : List RouteLine) (pace : Pace) (port : ℕ) (capture : Capture) (card : CardPlan) : Type 0 where
   pub number : card.card ≡ port
   pub size : card.n ≡ ports

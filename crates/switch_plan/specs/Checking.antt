@@ -7,7 +7,7 @@ use Rattle.switch_plan.specs.declared.plan.Plan.{Plan}
 use Rattle.switch_plan.specs.Totals.{most_for, slots_of, total_work, total_aside, max_slots_of, sizes_for, body_room_for, packet_room_for}
 use Rattle.switch_plan.specs.Counting.{packets_of_cards}
 
--- a card that is well formed, of the port, of a switch of so many ports, and with queues of such a depth
+-- a card that is well formed, of the port, of a switch of `ports` ports, and with queues of this depth
 pub record IsOwnCard (ports depth port : ℕ) (card : CardPlan) : Type 0 where
   pub good : IsGoodPlan (plan_of card)
   pub number : card.card ≡ port
@@ -29,7 +29,7 @@ pub record IsSizedFor (packets : List (List Planned)) (port : ℕ) (card : CardP
 abbrev pub AreSized : List CardPlan → Type 0
 AreSized cards = (port : ℕ) (card : CardPlan) → slice_get cards port ≡ Some card → IsSizedFor (packets_of_cards cards) port card
 
--- packets within the limits of a switch of so many ports, and the slot before which their run ends
+-- packets within the limits of a switch of `ports` ports, and the slot before which their run ends
 pub record AreTotals (ports max_slots : ℕ) (packets : List (List Planned)) : Type 0 where
   pub slots : All (λ packets. slots_of packets ≤ most_for ports) packets
   pub cells : total_work packets ≤ most_for ports

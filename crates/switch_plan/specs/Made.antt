@@ -39,7 +39,7 @@ group_text ports level group = flat_map (route_text ports level group) (below po
 abbrev pub level_text : ℕ → ℕ → List ℕ
 level_text ports level = flat_map (group_text ports level) (below 2)
 
--- the table for a switch of so many ports: for each level and each of two groups a route to each port
+-- the table for a switch of `ports` ports: for each level and each of two groups a route to each port
 abbrev pub made_table : ℕ → List ℕ
 made_table ports = flat_map (level_text ports) (below LEVELS)
 

@@ -30,13 +30,13 @@ abbrev pub mixed_links : List CaptureFile → Option PlanFault
 mixed_links captures =
     option_map (MixedLink (link_type (first_link captures))) (find (λ other. not (other == link_type (first_link captures))) (map (λ capture. link_type capture.link) captures))
 
--- the first of these ports that has more arrival slots than so many; they are numbered from `port` on
+-- the first of these ports that has more than `most` arrival slots; they are numbered from `port` on
 abbrev pub first_over : ℕ → ℕ → List (List Planned) → Option PlanFault
 first_over most port [] = None
 first_over most port (packets ∷ ports) =
     if nat_lt most (slots_of packets) then Some (TooManySlots port (slots_of packets)) else first_over most (port + 1) ports
 
--- all packets together have more cells, counted for each output, than so many
+-- all packets together have more than `most` cells, counted for each output
 abbrev pub over_work : ℕ → List (List Planned) → Option PlanFault
 over_work most ports = if nat_lt most (total_work ports) then Some (TooManyCells (total_work ports)) else None
 

@@ -10,7 +10,7 @@ use Rattle.reassembly.specs.declared.limits.TheConstants.{FLOWS_PER_INPUT}
 use Rattle.card_core.specs.declared.plan.Planned.{Planned}
 use Rattle.card_core.specs.Plans.{kind_of, queue_of}
 
--- ---- the limits for a switch of so many ports
+-- ---- the limits by the number of ports
 -- the most arrival slots of a port, and the most cells of all packets, counted for each output: half as many over 32 ports
 abbrev pub most_for : ℕ → ℕ
 most_for ports = if nat_lt 32 ports then 65536 else 131072

@@ -86,7 +86,7 @@ least_in least packets = fold earlier least (map time_of packets)
 abbrev pub least_time : List CaptureFile → Option ℕ
 least_time captures = fold (λ least capture. least_in least capture.packets) None captures
 
--- a slot lasts so many microseconds, and slot 0 begins at that time; or packets come one after the other
+-- a slot lasts `slot` microseconds, and slot 0 begins at the least time; or packets come one after the other
 abbrev pub pace_from : Option ℕ → Option ℕ → Pace
 pace_from None least = Line
 pace_from (Some slot) None = Micros slot 0
@@ -119,7 +119,7 @@ abbrev pub port_traffic : List RouteLine → Link → Pace → List Packet → L
 port_traffic table link pace packets =
     map (λ pair. planned table link pair.0 pair.1) (zip packets (arrival_slots pace (map stamp_of packets)))
 
--- Where the captured bytes of packets stand in their file, of which the first stand there: the others each behind the
+-- Where the captured bytes of packets stand in their file, of which the first stand there: the others each after the
 -- record before and the 16 bytes of its own record's header. In a file the first stand at byte 40.
 abbrev pub places_from : ℕ → List Packet → List ℕ
 places_from at [] = []

@@ -39,7 +39,7 @@ pub(crate) fn cards_of(
     Ok(cards)
 }
 
-// The card of a port of so many, but for what comes to its output.
+// The card of a port of a switch of `ports` ports, but for what comes to its output.
 fn card_of(
     alloc: Global,
     table: &Table,

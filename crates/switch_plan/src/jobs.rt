@@ -60,7 +60,7 @@ pub fn plan<R: Threads + Sync>(
     plan_of(alloc, settings, &table, captures)
 }
 
-// The table of a text, for a switch of so many ports.
+// The table of a text, for a switch of `ports` ports.
 fn table_of(alloc: Global, text: &[u8], ports: u32) -> Result<Table, PlanFault>
     requires some { 0 < ports }
     requires few { ports ≤ MAX_PORTS }

@@ -11,7 +11,7 @@ pub const MAX_CELLS: u64 = 131_072;
 pub const MAX_CELLS_OF_MANY: u64 = 65_536;
 
 /// The limit on a port's arrival slots, and on the cells of all packets counted for each output, for a
-/// switch of so many ports: 131,072, or 65,536 over 32 ports.
+/// switch of `ports` ports: 131,072, or 65,536 over 32 ports.
 pub(crate) fn most_for(ports: usize) -> u64
     ensures { result ≡ most_for ports }
 {

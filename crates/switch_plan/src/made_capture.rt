@@ -104,7 +104,7 @@ fn made_group(number: u32) -> u8
     if number / 4 % 8 == 0 { 1 } else { 0 }
 }
 
-// Adds so many zeros.
+// Adds `count` zeros.
 fn push_zeros(file: &mut Vec<u8>, count: u32) -> Result<(), AllocError>
     ensures { OnOk result (file.new.items ≡ file.old.items ++ replicate count 0) }
 {

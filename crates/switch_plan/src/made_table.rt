@@ -8,7 +8,7 @@ use std::alloc::{AllocError, Global};
 // Groups of routes at each level: to one port, and to two.
 const GROUPS: u32 = 2;
 
-/// The table that `gen` makes for a switch of so many ports, 1 to 64.
+/// The table that `gen` makes for a switch of `ports` ports, 1 to 64.
 pub(crate) fn made_table(alloc: Global, ports: u32) -> Result<Vec<u8>, OutOfMemory>
     requires { ports ≤ MAX_PORTS }
     ensures { IfOk result (λ text. text.items ≡ made_table ports) }

@@ -10,7 +10,7 @@ use line_pace::{MAX_ARRIVAL_SLOTS, MAX_CAPTURE_PACKETS, Pace, PaceFault, arrival
 use pcap_records::Capture;
 use std::alloc::Global;
 
-/// The arrival slots of a port's packets, or its refusal where they are more than so many.
+/// The arrival slots of a port's packets, or its refusal where they are more than `most`.
 pub(crate) fn slots_of(
     alloc: Global,
     pace: Pace,
@@ -36,7 +36,7 @@ pub(crate) fn slots_of(
     }
 }
 
-// The arrival slots, if they are no more than so many.
+// The arrival slots, if they are at most `most`.
 fn within(arrivals: Vec<u32>, most: u64, port: u32) -> Result<Vec<u32>, PlanFault>
     ensures same { IfOk result (λ slots. slots.items ≡ arrivals.items) }
     ensures within { OnOk result (slots_taken arrivals.items ≤ most) }

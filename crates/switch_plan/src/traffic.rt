@@ -52,7 +52,7 @@ fn least_time(captures: &[Capture]) -> Option<u64>
     least
 }
 
-/// The pace of all ports: slots of so many microseconds from the least time of all packets on, or line
+/// The pace of all ports: slots of `pace_us` microseconds from the least time of all packets on, or line
 /// pace.
 pub(crate) fn pace_of(pace_us: Option<u32>, captures: &[Capture]) -> Pace
     ensures { result ≡ pace_of pace_us (map file_of captures.now) }

@@ -25,7 +25,7 @@ pub(crate) struct Packet {
     pub(crate) to: [u8; 4],
 }
 
-/// Appends a record of these times with so many captured bytes: those of `first`, and then `fill` over and over.
+/// Appends a record of these times with `len` captured bytes: those of `first`, and then `fill` over and over.
 pub(crate) fn add_record(
     capture: &mut Vec<u8>,
     times: (u32, u32),

@@ -4,7 +4,7 @@ use card_worker::OpenGate;
 use outside::{Call, Fail};
 use std::test;
 
-// At most so many bytes a call: a capture without packets is written in two calls.
+// The most bytes that a call takes: a capture without packets is written in two calls.
 const PIECE: u32 = 12;
 
 const WORDS: [&str; 5] = ["run", "t", "out", "none", "none"];

@@ -10,7 +10,7 @@ use std::thread::Threads;
 // The names of the captures of the ports.
 const INPUTS: [&str; 3] = ["a", "b", "c"];
 
-// What a job is told and prints: its words, its table, the summary, and what the report has behind that.
+// What a job is told and prints: its words, its table, the summary, and what the report has after that.
 #[derive(Clone, Copy)]
 struct Texts<'a> {
     words: &'a [&'a str],

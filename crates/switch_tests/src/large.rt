@@ -6,7 +6,7 @@ use std::alloc::{AllocError, Global};
 use std::process::Abort;
 use std::test::Fail;
 
-// At most so many bytes a call.
+// The most bytes that a call takes or gives.
 const PIECE: u32 = 65_536;
 
 // So many zeros. Its length is no literal, so that the prover does not unfold the list.
@@ -91,7 +91,7 @@ fn longest_packets(alloc: Global, packets: u32) -> Result<Vec<u8>, AllocError> {
     Ok(capture)
 }
 
-// The names of so many more inputs.
+// The names of `count` more inputs.
 fn add_inputs<'a>(words: &mut Vec<&'a str>, input: &'a str, count: u32) -> Result<(), AllocError> {
     for _ in 0..count {
         words.push(input)?;
@@ -99,7 +99,7 @@ fn add_inputs<'a>(words: &mut Vec<&'a str>, input: &'a str, count: u32) -> Resul
     Ok(())
 }
 
-// A table whose one line goes to the first so many ports.
+// A table whose one line goes to the first `ports` ports.
 fn to_all_ports(alloc: Global, ports: u32) -> Result<Vec<u8>, AllocError> {
     let mut line = String::from_str(alloc, "* 0")?;
     for port in 1..ports {

@@ -28,7 +28,7 @@ impl Meeting {
         }
     }
 
-    // Holds the worker until the other has begun so many tries.
+    // Holds the worker until the other has begun `least` tries.
     fn hold_until(&self, tries: &AtomicU32, least: u32) {
         for _ in 0..LOOKS {
             if tries.load(Ordering::SeqCst) >= least {

@@ -18,7 +18,7 @@ struct Refusal<'a> {
     line: &'a str,
 }
 
-// At most so many bytes a call.
+// The most bytes that a call takes or gives.
 const PIECE: u32 = 12;
 
 const USAGE: &str =

@@ -47,7 +47,7 @@ const UNTAGGED: &[u8] = b"\x08\0\x45\0\x05\xdc\0\0\0\0\x40\xfd\0\0\x0a\0\0\x09\x
 
 const ARP: &[u8] = b"\x08\x06";
 
-// Appends a frame of so many bytes that begins with the addresses and these parts.
+// Appends a frame of `len` bytes that begins with the addresses and these parts.
 fn add_frame(
     alloc: Global,
     capture: &mut Vec<u8>,
@@ -102,7 +102,7 @@ fn given_files(alloc: Global) -> Result<Given, AllocError> {
     Ok(given)
 }
 
-// Runs the command with so many workers, and answers its files.
+// Runs the command with `workers` workers, and answers its files.
 fn files_after<R: Threads + Sync + Abort>(
     rt: &R,
     alloc: Global,
@@ -175,7 +175,7 @@ fn are_short(captures: &[Vec<u8>]) -> bool
         .all(|capture| capture.len() <= MAX_FILE_BYTES)
 }
 
-// The outcome of the job by so many workers of this patience, and how many tries they made.
+// The outcome of the job by `workers` workers of this patience, and how many tries they made.
 fn outcome_of<R: Threads + Sync + Abort>(
     rt: &R,
     alloc: Global,

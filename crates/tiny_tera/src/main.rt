@@ -10,7 +10,7 @@ use switch_run::switch_main;
 /// The status where the runtime does not give the words.
 const NO_WORDS: u8 = 1;
 
-// The words behind the program's name.
+// The words after the program's name.
 fn words<R: env::Env + AllocGlobal>(rt: &R) -> io::Result<Vec<String>> {
     Ok(env::args(rt)?.skip(1).collect(rt.alloc())?)
 }

@@ -38,7 +38,7 @@ module _ {E : Type 0} where
   IsJoined-number m (x ∷ xs) (inl e) = inl (ap (λ y. y.number) e)
   IsJoined-number m (x ∷ xs) (inr a) = inr (IsJoined-number m xs a)
 
-  -- what a seat with this number, which has seen this, with so many finds since its last turn, knows of the history at the end
+  -- what a seat with this number, which has seen this, with `since` finds after its last turn, knows of the history at the end
   abbrev Knows : List (TurnOf E) → ℕ → List (TurnOf E) → ℕ → Type 0
   Knows h n seen since = HasSeen h n seen × IsOvertaken h ⊥ seen since
 
@@ -61,15 +61,15 @@ module _ {X : Type 0} where
   take_seam [] ys = refl
   take_seam (x ∷ xs) ys = ap (λ zs. x ∷ zs) (take_seam xs ys)
 
-  -- what was popped stood behind what is left
+  -- what was popped stood after what is left
   popped : (all old new : List X) (x : X) → old ≡ take (length old) all → old ≡ new ++ x ∷ [] → (slice_get all (length new) ≡ Some x) × (new ≡ take (length new) all)
   popped all old new x front e =
       let whole : all ≡ new ++ x ∷ drop (length old) all = sym (take-append-drop (length old) all) ∙ ap (λ zs. zs ++ drop (length old) all) (sym front ∙ e) ∙ append_assoc new (x ∷ []) (drop (length old) all) in
       (ap (λ zs. slice_get zs (length new)) whole ∙ at_seam new (drop (length old) all) x, sym (ap (λ zs. take (length new) zs) whole ∙ take_seam new (x ∷ drop (length old) all)))
 
-  behind_first : (all : List X) (i : ℕ) → slice_get (drop 1 all) i ≡ slice_get all (suc i)
-  behind_first [] i = refl
-  behind_first (x ∷ xs) i = refl
+  after_first : (all : List X) (i : ℕ) → slice_get (drop 1 all) i ≡ slice_get all (suc i)
+  after_first [] i = refl
+  after_first (x ∷ xs) i = refl
 
   there_is : (all : List X) (i : ℕ) → i < length all → (x : X) × (slice_get all i ≡ Some x)
   there_is [] i l = absurd (omega arith)
@@ -89,7 +89,7 @@ module _ {X : Type 0} where
   get_within (y ∷ xs) (suc i) x e = let l = get_within xs i x e in omega arith
 
 module _ {E : Type 0} (turn : TurnValue E) (all : List (SeatValue E)) where
-  -- The view is of the first seat, and knows what each seat behind those that are left had seen.
+  -- The view is of the first seat, and knows what each seat after those that are left had seen.
   pub record IsCollected (rest : List (SeatValue E)) (table : TableId) (v : View E) : Type 0 where
     pub same_table : table ≡ turn.table
     pub number : v.number ≡ 0
@@ -103,7 +103,7 @@ module _ {E : Type 0} (turn : TurnValue E) (all : List (SeatValue E)) where
   module _ (seats : AreSeats turn all) where
     -- before any seat is joined
     pub collected_first : (first : SeatValue E) (table : TableId) (v : View E) (rest : List (SeatValue E)) → slice_get all 0 ≡ Some first → seat_value table v ≡ first → (v.number ≡ 0 → v.given ≡ v.opening.seats) → v.spent ≡ false → v.phase ≡ Idle → rest ≡ drop 1 all → IsCollected rest table v
-    collected_first first table v rest at view dealer live idle behind =
+    collected_first first table v rest at view dealer live idle rest_is =
         let zero_is : v.number ≡ 0 = ap (λ s. s.number) view ∙ seats.numbers 0 first at in
         record {
           same_table = ap (λ s. s.turn.table) view ∙ ap (λ t. t.table) (seats.turns 0 first at);
@@ -112,13 +112,13 @@ module _ {E : Type 0} (turn : TurnValue E) (all : List (SeatValue E)) where
           live = live;
           phase = idle;
           seen = λ s e. let is : first ≡ s = same_there first s (slice_get all 0) at e in (ap (λ y. y.seen) view ∙ ap (λ y. y.seen) is, ap (λ y. y.since) view ∙ ap (λ y. y.since) is);
-          left = sym (take_whole rest) ∙ ap (λ xs. take (length rest) xs) behind;
-          done = λ i s e l. let w = get_within (drop 1 all) i s (behind_first all i ∙ e) in let n : length rest ≡ length (drop 1 all) = ap length behind in absurd (omega arith);
+          left = sym (take_whole rest) ∙ ap (λ xs. take (length rest) xs) rest_is;
+          done = λ i s e l. let w = get_within (drop 1 all) i s (after_first all i ∙ e) in let n : length rest ≡ length (drop 1 all) = ap length rest_is in absurd (omega arith);
         }
 
     -- where the seat that was popped stood
     pub popped_at : (rest new : List (SeatValue E)) (s : SeatValue E) (table : TableId) (v : View E) → IsCollected rest table v → rest ≡ new ++ s ∷ [] → slice_get all (suc (length new)) ≡ Some s
-    popped_at rest new s table v c e = sym (behind_first all (length new)) ∙ (popped (drop 1 all) rest new s c.left e).0
+    popped_at rest new s table v c e = sym (after_first all (length new)) ∙ (popped (drop 1 all) rest new s c.left e).0
 
     -- after one more was joined
     pub collected_more : (rest new : List (SeatValue E)) (s : SeatValue E) (table after : TableId) (v w : View E) → IsCollected rest table v → rest ≡ new ++ s ∷ [] → after ≡ table → w ≡ with_joined v (joined_seat s) → IsCollected new after w

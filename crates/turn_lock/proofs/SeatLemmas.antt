@@ -1,4 +1,4 @@
--- What a call's contract says of a seat: its own turns are one more, and all that others did stands between. At the close a refused seat was overtaken by another.
+-- What a call's contract says of a seat: its own turns are one more, and all that others did stands between. At the close a seat that was busy was overtaken by another.
 use Rattle.std.proofs.Common.{◌≡◌, ◌≢◌, ◌+◌, ◌^◌, ◌<◌, ◌≤◌, ◌⊎◌, inl, inr, ⊎_elim, ℕ, List, [], ◌∷◌, ◌++◌, length, Some, sym, ap, ◌∙◌, subst, arith, length-append}
 use Rattle.std.specs.Prelude.{slice_get}
 use Rattle.std.proofs.lemmas.List.{append-nil, append_assoc}
@@ -45,7 +45,7 @@ module _ {E : Type 0} (may : ℕ → List E → Type 0) (adds : List ℕ → Lis
   HasTurn-between = (IsAllowed-append may old.seen has.between (IsAllowed-append may (old.seen ++ has.between) (its_turn ∷ []) (subst (λ ts. IsAllowed may ts) HasTurn-seen has.allowed)).0).1
 
 module _ {V E : Type 0} (entries : V → List E) (numbers : V → List ℕ) (may : ℕ → List E → Type 0) (turn : TurnValue E) (seats : List (SeatValue E)) (value : V) (whole : IsWhole entries numbers may turn seats value) (i : ℕ) (s : SeatValue E) (at : slice_get seats i ≡ Some s) where
-  -- the history goes on behind what the seat has seen by another seat's turn
+  -- the history goes on after what the seat has seen by another seat's turn
   abbrev pub GoesOnByAnother : Type 0
   GoesOnByAnother = (t : TurnOf E) × (more : List (TurnOf E)) × (whole.history ≡ s.seen ++ t ∷ more) × (t.seat ≢ i)
 
@@ -53,9 +53,9 @@ module _ {V E : Type 0} (entries : V → List E) (numbers : V → List ℕ) (may
   goes_on [] e none l = let n = ap length (e ∙ append-nil s.seen) in absurd (omega arith)
   goes_on (t ∷ more) e none l = (t, more, e, (turns_of-nil i t more none).0)
 
-  -- a seat that was refused since its last turn: another seat's turn is the next behind what it has seen, or the history is at its last length
+  -- a seat that was busy since its last turn: another seat's turn is the next after what it has seen, or the history is at its last length
   pub IsWhole-overtaken : 0 < s.since → GoesOnByAnother ⊎ (2 ^ 64 ≤ length whole.history + 1)
-  IsWhole-overtaken refused =
+  IsWhole-overtaken busy =
       let p = whole.seen i s at in
       let none : turns_of i p.0 ≡ [] = append_same-nil (turns_of i s.seen) (turns_of i p.0) (sym (turns_of-append i s.seen p.0) ∙ ap (λ ts. turns_of i ts) (sym p.1) ∙ whole.own i s at) in
-      ⊎_elim (λ (l : length s.seen < length whole.history). inl (goes_on p.0 p.1 none l)) (λ (m : 2 ^ 64 ≤ length whole.history + 1). inr m) (whole.overtaken i s at refused)
+      ⊎_elim (λ (l : length s.seen < length whole.history). inl (goes_on p.0 p.1 none l)) (λ (m : 2 ^ 64 ≤ length whole.history + 1). inr m) (whole.overtaken i s at busy)

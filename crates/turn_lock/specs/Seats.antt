@@ -31,8 +31,8 @@ module _ {E : Type 0} where
   new_seat turn i = record { turn = turn; number = i; seen = []; finds = 0; since = 0 }
 
   -- a seat after Busy: one more find, also since its last turn, and all else as before
-  abbrev pub refused : SeatValue E → SeatValue E
-  refused s = record s { finds = s.finds + 1; since = s.since + 1 }
+  abbrev pub busy : SeatValue E → SeatValue E
+  busy s = record s { finds = s.finds + 1; since = s.since + 1 }
 
   -- the entries at a seat's turn, of the first value and of all turns before
   abbrev pub entries_before : SeatValue E → List (TurnOf E) → List E
@@ -72,5 +72,5 @@ module _ {E : Type 0} where
     pub in_range : IsBelow turn.seats history
     pub seen : (i : ℕ) (s : SeatValue E) → slice_get seats i ≡ Some s → IsPrefixOf s.seen history
     pub own : (i : ℕ) (s : SeatValue E) → slice_get seats i ≡ Some s → turns_of i history ≡ turns_of i s.seen
-    -- a seat that was refused since its last turn was overtaken: the history goes on beyond what it had seen, or is at its last length
+    -- a seat that was busy since its last turn was overtaken: the history goes on beyond what it had seen, or is at its last length
     pub overtaken : (i : ℕ) (s : SeatValue E) → slice_get seats i ≡ Some s → 0 < s.since → (length s.seen < length history) ⊎ (2 ^ 64 ≤ length history + 1)

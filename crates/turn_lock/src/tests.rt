@@ -199,7 +199,7 @@ fn crosses_threads<K: Kept + Send>(turn: &Turn<K>, seat: &TurnSeat<K>) {
 const TRIES: u32 = 1_000;
 
 #[test]
-fn one_seat_is_never_refused(rt: HostRuntime) -> Result<(), Fail> {
+fn one_seat_is_never_busy(rt: HostRuntime) -> Result<(), Fail> {
     let (turn, seat) = with_one_seat(rt.alloc(), 1_000)?;
     let (seat, marks) = marked(&turn, seat, 0, TRIES);
     assert_eq!(rt; marks, 1_000);
@@ -220,19 +220,19 @@ fn each_act_is_applied_once_to_what_close_hands_out(rt: HostRuntime) -> Result<(
 }
 
 #[test]
-fn a_turn_within_a_turn_is_refused(rt: HostRuntime) -> Result<(), Fail> {
+fn a_turn_within_a_turn_is_busy(rt: HostRuntime) -> Result<(), Fail> {
     let (turn, mut outer, inner) = with_two_seats(rt.alloc(), 8)?;
     let within = Within {
         turn: &turn,
         seat: inner,
     };
     let Ok((inner, answer)) = turn.try_turn(&mut outer, within) else {
-        return Err("the outer turn was refused".into());
+        return Err("the outer turn was busy".into());
     };
-    let refused: Result<bool, Busy<Mark>> = Err(Busy {
+    let busy: Result<bool, Busy<Mark>> = Err(Busy {
         act: Mark { seat: 1 },
     });
-    assert_eq!(rt; answer, refused);
+    assert_eq!(rt; answer, busy);
     assert_eq!(rt; inner.front(), 0);
     assert_eq!(rt; outer.front(), 1);
     Ok(())

@@ -1,6 +1,6 @@
 ghost use Rattle.std.specs.Prelude.{◌≡◌, ◌<◌, ◌≤◌, ◌^◌, ◌+◌, ◌++◌, ℕ, List, [], false, length, IfOk, IfErr};
 ghost use Rattle.turn_lock.specs.declared.view.Phase.TheVariants.{Idle};
-ghost use Rattle.turn_lock.specs.Seats.{refused, HasTurn};
+ghost use Rattle.turn_lock.specs.Seats.{busy, HasTurn};
 ghost use Rattle.turn_lock.specs.Views.{found_held, HasWholeTurn};
 
 use crate::kept::{Act, Kept};
@@ -48,7 +48,7 @@ impl<K: Kept> Turn<K> {
         requires seat { seat.old.turn ≡ self.now }
         requires allowed { (entries : List K.Entry) → K.may_add seat.old.number (A.adds act self.now.numbers entries) }
         ensures turn { IfOk result (λ out. HasTurn K.may_add (A.adds act) (λ numbers entries. A.answers act numbers entries out) seat.old seat.new) }
-        ensures busy { IfErr result (λ b. (b.act ≡ act) × (seat.new ≡ refused seat.old)) }
+        ensures busy { IfErr result (λ back. (back.act ≡ act) × (seat.new ≡ busy seat.old)) }
         ensures alone { IfErr result (λ _. self.now.seats ≡ 1 → 2 ^ 64 ≤ length seat.old.seen + 1) }
     {
         match turn_with(&self.table.shared, &mut seat.seat, act) {
@@ -82,7 +82,7 @@ fn turn_with<K: Kept, A: Act<K>>(
     requires allowed { (entries : List K.Entry) → K.may_add seat.old.me.0.number (A.adds act seat.old.me.0.opening.numbers entries) }
     ensures table { (seat.new.table_id ≡ seat.old.table_id) × (seat.new.id ≡ seat.old.id) }
     ensures turn { IfOk result (λ granted. HasWholeTurn K.may_add (A.adds act) (λ numbers entries. A.answers act numbers entries granted.out) seat.old.me.0 seat.new.me granted.turns) }
-    ensures busy { IfErr result (λ b. (b.act ≡ act) × (seat.new.me ≡ (found_held seat.old.me.0, []))) }
+    ensures busy { IfErr result (λ back. (back.act ≡ act) × (seat.new.me ≡ (found_held seat.old.me.0, []))) }
     ensures alone { IfErr result (λ _. seat.old.me.0.given ≡ 1 → 2 ^ 64 ≤ length seat.old.me.0.seen + 1) }
 {
     if !take(words, seat) {

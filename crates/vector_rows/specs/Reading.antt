@@ -37,7 +37,7 @@ pub record AreRowsOf {R : Type 0} (reads : R → List ℕ → Option Row → R �
   pub last : R
   pub steps : FoldsTo (ReadsLine reads) (record { reader = reader; count = 0; rows = [] }) lines (record { reader = last; count = length lines; rows = rows })
 
--- so many rows of the lines are wrong
+-- `wrong` is the number of wrong rows of the lines
 pub record IsWrongCount {R : Type 0} (reads : R → List ℕ → Option Row → R → Type 0) (reader : R) (lines : List (List ℕ)) (wrong : ℕ) : Type 0 where
   pub rows : List Row
   pub read : AreRowsOf reads reader lines rows

@@ -14,7 +14,7 @@ pub trait RowReader: Drop {
     /// The reader of the file of this name.
     fn at(alloc: Global, name: &str) -> Self;
 
-    /// The row that a line is; None where it sets up something for the rows behind it.
+    /// The row that a line is; None where it sets up something for the rows after it.
     fn row(&mut self, alloc: Global, line: &str) -> Result<Option<Row>, AllocError>
         ensures { IfOk result (λ row. reads self.old line.now row self.new) };
 }

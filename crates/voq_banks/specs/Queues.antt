@@ -3,7 +3,7 @@ use Rattle.std.specs.Prelude.{◌≡◌, ℕ, ◌+◌, ◌*◌, ◌<◌, List, [
 use Rattle.rotating_pick.specs.declared.limits.TheConstants.{LEVELS}
 use Rattle.cell_cutter.specs.declared.cell.CellName.{CellName}
 
--- the queues of an input of a switch of so many ports: the most cells that each may have, the cells
+-- the queues of an input: the ports of its switch, the most cells that each queue may have, the cells
 -- that wait in each, and how many packets may still enter each
 pub record Queues : Type 0 where
   pub ports : ℕ

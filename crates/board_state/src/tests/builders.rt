@@ -90,7 +90,7 @@ pub(crate) const fn posts(event: Event) -> Step {
     }
 }
 
-// How one round is used that matches so many outputs.
+// How one round is used that matches this number of outputs.
 pub(crate) const fn one_round(matched: u32) -> RoundsUsed {
     RoundsUsed {
         used: if matched == 0 { 0 } else { 1 },
@@ -99,7 +99,7 @@ pub(crate) const fn one_round(matched: u32) -> RoundsUsed {
     }
 }
 
-// A decision of a slot in one round that matches so many outputs.
+// A decision of a slot in one round that matches this number of outputs.
 pub(crate) const fn decides(matched: u32) -> Step {
     Step {
         event: Event::Decide,

@@ -8,7 +8,7 @@ use std::alloc::Global;
 use std::process::Abort;
 use std::test::Fail;
 
-// Whether an event may come after so many of a board's events.
+// Whether an event may come after the first `after` of a board's events.
 #[derive(Clone, Copy)]
 struct Case {
     after: usize,
@@ -32,7 +32,7 @@ const fn refuses(after: usize, next: Event) -> Case {
     }
 }
 
-// Makes the first of the events on a board of two ports and so many slots, and asks for one more.
+// Makes the first of the events on a board of two ports and `max_slots` slots, and asks for one more.
 fn check(
     rt: &impl Abort,
     alloc: Global,

@@ -75,7 +75,7 @@ const fn takes(slot: u32, outputs: Ports, cell: Option<Cell>) -> Taken {
     }
 }
 
-// One round that matched so many outputs, or added none.
+// One round that matched this number of outputs, or added none.
 const fn matched(first: u32) -> RoundsUsed {
     RoundsUsed {
         used: if first == 0 { 0 } else { 1 },

@@ -45,7 +45,7 @@ fn drive_all<R: Threads + Sync>(rt: &R, board: &Board, seats: &mut [CardSeat])
     thread::for_each_mut(rt, seats, 2, &|_, seat| drive(board, seat, TRIES));
 }
 
-// The cards try one after the other, so many times.
+// The cards try one after the other, `times` times.
 fn drive_in_turn(board: &Board, seats: &mut Seats, times: u32)
     requires { AreSeats board.now seats.old.items }
     ensures { AreSeats board.now seats.new.items }

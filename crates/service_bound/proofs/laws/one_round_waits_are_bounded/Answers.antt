@@ -1,4 +1,4 @@
-use Rattle.service_bound.proofs.OneRoundWaits.{one_longest_wait-bound}
+use Rattle.service_bound.proofs.OneRoundServed.{one_longest_wait-bound}
 use Rattle.service_bound.proofs.laws.one_round_waits_are_bounded.Goals as goal
 
 pub returns : goal.returns
