@@ -21,5 +21,6 @@ pub mod Granting
 pub mod Accepting
 pub mod Placing
 pub mod Settling
+pub mod Scheduling
 pub mod OneLevelRounds
 pub mod OneLevelSlots

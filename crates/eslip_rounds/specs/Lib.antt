@@ -1,6 +1,7 @@
 pub mod Rounds
 pub mod Slots
 pub mod Schedules
+pub mod Schedulers
 pub mod Ranks
 pub mod Steps
 pub mod Decisions

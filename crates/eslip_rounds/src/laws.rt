@@ -8,7 +8,8 @@ ghost use Rattle.slot_match.specs.Rows.{Names, row_of, AreWithin};
 ghost use Rattle.slot_match.specs.Matches.{Serves, IsMatch};
 ghost use Rattle.pointer_state.specs.Places.{Places, AreAtPorts, ArePointing};
 ghost use Rattle.islip_rounds.specs.Slots.{IsSlot as IsIslipSlot};
-ghost use Rattle.eslip_rounds.specs.Slots.{Decision, IsSlot};
+ghost use Rattle.eslip_rounds.specs.Slots.{Decision, AreMoved, IsSlot};
+ghost use Rattle.eslip_rounds.specs.Schedulers.{IsSchedulerBy, IsScheduler};
 ghost use Rattle.eslip_rounds.specs.Decisions.{decision_of};
 ghost use Rattle.eslip_rounds.specs.OneLevel.{AreUnicastOf, unicast_of, pointers_of, inputs_of};
 
@@ -21,6 +22,12 @@ pub fn one_decision()
 pub fn decision_is_of_the_slot()
     ensures slot { (n rounds t : ℕ) (rows : List Row) (before : Places) → AreWithin n rows → AreAtPorts before → before.ports ≡ n → IsSlot n rounds t rows before (decision_of n rounds t rows before) }
     ensures at_ports { (n rounds t : ℕ) (rows : List Row) (before : Places) → AreWithin n rows → AreAtPorts before → before.ports ≡ n → AreAtPorts (decision_of n rounds t rows before).places }
+{}
+
+/// That function is a scheduler, and its pointers move as those of a slot do.
+pub fn decisions_are_scheduled()
+    ensures scheduler { IsScheduler decision_of }
+    ensures moves { IsSchedulerBy AreMoved decision_of }
 {}
 
 /// The match of a slot is a match: no output is matched twice, and no input but with the outputs of one

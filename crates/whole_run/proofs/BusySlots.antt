@@ -9,18 +9,19 @@ use Rattle.rotating_pick.specs.declared.kinds.Kind.{Kind}
 use Rattle.slot_match.specs.declared.matching.Fed.{Fed}
 use Rattle.slot_match.specs.Rows.{Names}
 use Rattle.slot_match.specs.Matches.{fed_of, Serves}
-use Rattle.eslip_rounds.proofs.Progress.{some_pair}
+use Rattle.eslip_rounds.proofs.Progress.{some_pair_by}
 use Rattle.crossbar.specs.declared.cards.Post.{Post as CardPost}
-use Rattle.slot_histories.specs.Slots.{slot_rows, places_at, decision_at, is_done_at}
+use Rattle.eslip_rounds.specs.Schedulers.{Scheduler, StayAtPorts, IsScheduler}
+use Rattle.slot_histories.specs.Slots.{slot_rows, places_under, decision_under, is_done_at}
 use Rattle.slot_histories.specs.Tests.{is_empty}
 use Rattle.slot_histories.proofs.PostedRows.{row_of-slot_rows}
 use Rattle.slot_histories.proofs.SetTests.{Decides-is_empty}
-use Rattle.slot_histories.proofs.SoundDecisions.{places_at-at_ports}
+use Rattle.slot_histories.proofs.SoundDecisions.{places_under-at_ports}
 use Rattle.card_core.specs.declared.plan.Planned.{Planned}
 use Rattle.card_core.specs.Plans.{AreRising}
 use Rattle.switch_plan.specs.Totals.{slots_of, greatest_slots}
 use Rattle.switch_plan.specs.GoodPlans.{SwitchPlan, IsGood, packets_in}
-use Rattle.whole_run.specs.Runs.{ports_of, setup_for, card_at, no_plan, posts_in}
+use Rattle.whole_run.specs.Runs.{ports_of, setup_for, card_at, no_plan, posts_under}
 use Rattle.whole_run.proofs.Base.{good-card, within, is-slot}
 
 -- ---- a pair of a match
@@ -73,21 +74,21 @@ greatest-of most [] i below = absurd (omega arith)
 greatest-of most (packets ∷ ports) zero below = let rest = greatest-from (max most (slots_of packets)) ports in omega arith
 greatest-of most (packets ∷ ports) (suc i) below = greatest-of (max most (slots_of packets)) ports i (omega arith)
 
-module _ (plan : SwitchPlan) (good : IsGood plan) where
+module _ (scheduler : Scheduler) (scheduling : IsScheduler scheduler) (plan : SwitchPlan) (good : IsGood plan) where
   -- where none were matched no row would name an output
-  pub busy_matches : (i t : ℕ) → i < ports_of plan → is_empty (posts_in plan i t).row ≡ false
-      → (input output level : ℕ) × (kind : Kind) × Serves (decision_at (setup_for plan) (posts_in plan) t).matched input output level kind
+  pub busy_matches : (i t : ℕ) → i < ports_of plan → is_empty (posts_under scheduler plan i t).row ≡ false
+      → (input output level : ℕ) × (kind : Kind) × Serves (decision_under scheduler (setup_for plan) (posts_under scheduler plan) t).matched input output level kind
   busy_matches i t inside busy =
       let n = ports_of plan in
-      let posts = posts_in plan in
+      let posts = posts_under scheduler plan in
       let s = setup_for plan in
-      let decision = decision_at s posts t in
-      let places = places_at-at_ports s posts t good.size.some good.size.most (λ u below. within plan good u) t (omega arith) in
+      let decision = decision_under scheduler s posts t in
+      let places = places_under-at_ports scheduler scheduling s posts t good.size.some good.size.most (λ u below. within scheduler scheduling plan good u) t (omega arith) in
       elim (fed_or_none decision.matched) [
         | inl found ↦ let fed = found.1 in (fed.input, found.0, fed.level, fed.kind, found.2)
         | inr none ↦
             absurd (both_ways (is_empty (posts i t).row) busy ((Decides-is_empty (posts i t).row).1 (λ level j kind named.
-            let pair = some_pair n t (slot_rows n posts t) (places_at s posts t) (within plan good t) places.0 places.1 plan.rounds decision good.rounds.some (is-slot plan good t) i j level kind inside
+            let pair = some_pair_by n t (slot_rows n posts t) (places_under scheduler s posts t) (within scheduler scheduling plan good t) places.0 places.1 StayAtPorts plan.rounds decision good.rounds.some (is-slot scheduler scheduling plan good t) i j level kind inside
             (subst (λ row. Names row level kind j) (sym (row_of-slot_rows n posts t i inside)) named) in
             none-some _ (sym (none pair.1) ∙ pair.4))))
       ]
@@ -102,13 +103,13 @@ module _ (plan : SwitchPlan) (good : IsGood plan) where
       omega arith
 
   -- from then on a slot that is not done matches a pair
-  pub going_matches : (t : ℕ) → greatest_slots (packets_in plan) ≤ t → is_done_at (ports_of plan) (posts_in plan) t ≡ false
-      → (input output level : ℕ) × (kind : Kind) × Serves (decision_at (setup_for plan) (posts_in plan) t).matched input output level kind
+  pub going_matches : (t : ℕ) → greatest_slots (packets_in plan) ≤ t → is_done_at (ports_of plan) (posts_under scheduler plan) t ≡ false
+      → (input output level : ℕ) × (kind : Kind) × Serves (decision_under scheduler (setup_for plan) (posts_under scheduler plan) t).matched input output level kind
   going_matches t late going =
-      let more = more_there (λ i. posts_in plan i t) 0 (ports_of plan) going in
+      let more = more_there (λ i. posts_under scheduler plan i t) 0 (ports_of plan) going in
       let i = more.0 in
       let inside : i < ports_of plan = omega arith in
-      let row = (posts_in plan i t).row in
+      let row = (posts_under scheduler plan i t).row in
       let packets = (card_at plan i).packets in
       let over = none_later t packets (λ k p at. let early = all_early i inside k p at in omega arith) in
       elim (or_cases (list_any (λ packet. nat_lt t packet.arrival) packets) (not (is_empty row)) more.2) [

@@ -12,6 +12,7 @@ use Rattle.rotating_pick.specs.declared.kinds.Kind.{Kind}
 use Rattle.rotating_pick.specs.declared.kinds.Kind.TheVariants.{Uni, Multi}
 use Rattle.rotating_pick.specs.declared.limits.TheConstants.{LEVELS}
 use Rattle.slot_match.specs.declared.matching.Served.{Served}
+use Rattle.eslip_rounds.specs.Schedulers.{Scheduler, IsScheduler}
 use Rattle.slot_histories.specs.Tests.{has}
 use Rattle.reassembly.specs.Cutting.{messages_of}
 use Rattle.card_core.specs.declared.plan.Planned.{Planned}
@@ -22,8 +23,8 @@ use Rattle.card_core.specs.Deliveries.{flow_cells, messages_from, delivered}
 use Rattle.card_core.proofs.Delivering.{flow_is_cut}
 use Rattle.switch_plan.specs.Totals.{message_length, body_room_for, packet_room_for}
 use Rattle.switch_plan.specs.GoodPlans.{SwitchPlan, IsGood, packets_in}
-use Rattle.whole_run.specs.Runs.{ports_of, card_at, served_by}
-use Rattle.whole_run.specs.Crossings.{cells_to, queue_to}
+use Rattle.whole_run.specs.Runs.{ports_of, card_at, parts_under}
+use Rattle.whole_run.specs.Crossings.{cells_under, queue_to}
 use Rattle.whole_run.proofs.Base.{good-card}
 use Rattle.whole_run.proofs.Rooms.{packets-at, message-long}
 use Rattle.whole_run.proofs.OfFlows.{all_of_flows}
@@ -109,7 +110,7 @@ module _ (j : ℕ) (v : Planned → ℕ) where
       omega (arith, split, level_add parts more, sum_by-cons output_part p ps, here, rest)
 
 -- ---- what is delivered
-module _ (plan : SwitchPlan) (good : IsGood plan) where
+module _ (scheduler : Scheduler) (scheduling : IsScheduler scheduler) (plan : SwitchPlan) (good : IsGood plan) where
   -- the packets of all ports, by port
   all_packets : packets_in plan ≡ map (λ i. (card_at plan i).packets) (range_with_len 0 (ports_of plan))
   all_packets = fill_by_all (λ i. (card_at plan i).packets) (packets_in plan) (ports_of plan) [] (length-map plan.cards (λ (card : Plan). card.packets)) (λ i inside. packets-at plan good i inside)
@@ -119,9 +120,9 @@ module _ (plan : SwitchPlan) (good : IsGood plan) where
       sym (fold-map (λ a packets. a + f packets) (λ i. (card_at plan i).packets) 0 (range_with_len 0 (ports_of plan)))
       ∙ ap (sum_by f) (sym all_packets)
 
-  module _ (j t : ℕ) (within : All (λ cell. (cell.input < ports_of plan) × (cell.level < LEVELS)) (cells_to plan j t))
+  module _ (j t : ℕ) (within : All (λ cell. (cell.input < ports_of plan) × (cell.level < LEVELS)) (cells_under scheduler plan j t))
       (first : (i level : ℕ) (kind : Kind) → i < ports_of plan → level < LEVELS → (m u : ℕ)
-      × (messages_of (flow_cells i level kind (cells_to plan j t)) ≡ take m (map (message_of (card_at plan i)) (packets_to (card_at plan i) (queue_to j level kind) j (served_by plan i u) u)))) where
+      × (messages_of (flow_cells i level kind (cells_under scheduler plan j t)) ≡ take m (map (message_of (card_at plan i)) (packets_to (card_at plan i) (queue_to j level kind) j (parts_under scheduler plan i u) u)))) where
     -- of packets whose messages have this weight
     module _ (w : List ℕ → ℕ) (v : Planned → ℕ) (same : (i k : ℕ) (p : Planned) → i < ports_of plan → slice_get (card_at plan i).packets k ≡ Some p → w (message_of (card_at plan i) p) ≡ v p) where
       weights : (i : ℕ) → i < ports_of plan → All (λ p. w (message_of (card_at plan i) p) ≡ v p) (card_at plan i).packets
@@ -130,41 +131,41 @@ module _ (plan : SwitchPlan) (good : IsGood plan) where
           (λ k below. same i k (slice_index_or (card_at plan i).packets k no_packet) inside (slice_get-get_or (card_at plan i).packets k no_packet below))
 
       flow_weight : (i level : ℕ) (kind : Kind) → i < ports_of plan → level < LEVELS
-          → sum_by w (messages_from i level kind [] (cells_to plan j t)) ≤ sum_by (queue_part j v (queue_to j level kind)) (card_at plan i).packets
+          → sum_by w (messages_from i level kind [] (cells_under scheduler plan j t)) ≤ sum_by (queue_part j v (queue_to j level kind)) (card_at plan i).packets
       flow_weight i level kind inside small =
           let card : Plan = card_at plan i in
           let (m, u, is) = first i level kind inside small in
-          let packets : List Planned = packets_to card (queue_to j level kind) j (served_by plan i u) u in
-          let cut : sum_by w (messages_from i level kind [] (cells_to plan j t)) ≡ sum_by w (take m (map (message_of card) packets)) = ap (sum_by w) (flow_is_cut i level kind (cells_to plan j t) ∙ is) in
+          let packets : List Planned = packets_to card (queue_to j level kind) j (parts_under scheduler plan i u) u in
+          let cut : sum_by w (messages_from i level kind [] (cells_under scheduler plan j t)) ≡ sum_by w (take m (map (message_of card) packets)) = ap (sum_by w) (flow_is_cut i level kind (cells_under scheduler plan j t) ∙ is) in
           let fewer = sum_by-take-le w (map (message_of card) packets) m in
           let made = map_sum w v (message_of card) packets
-          (All-filter (λ p. nat_lt p.arrival u && enters card (queue_to j level kind) (served_by plan i u) p && has p.fan j) (λ p. w (message_of card p) ≡ v p) card.packets (weights i inside)) in
-          let some = queue_sum j v card (queue_to j level kind) (served_by plan i u) u in
+          (All-filter (λ p. nat_lt p.arrival u && enters card (queue_to j level kind) (parts_under scheduler plan i u) p && has p.fan j) (λ p. w (message_of card p) ≡ v p) card.packets (weights i inside)) in
+          let some = queue_sum j v card (queue_to j level kind) (parts_under scheduler plan i u) u in
           omega (arith, cut, fewer, made, some)
 
-      input_weight : (i : ℕ) → i < ports_of plan → level_sum (λ l k. sum_by w (messages_from i l k [] (cells_to plan j t))) ≤ sum_by (output_part j v) (card_at plan i).packets
+      input_weight : (i : ℕ) → i < ports_of plan → level_sum (λ l k. sum_by w (messages_from i l k [] (cells_under scheduler plan j t))) ≤ sum_by (output_part j v) (card_at plan i).packets
       input_weight i inside =
-          let flows = sum_range-le (λ l. sum_by w (messages_from i l Uni [] (cells_to plan j t)) + sum_by w (messages_from i l Multi [] (cells_to plan j t)))
+          let flows = sum_range-le (λ l. sum_by w (messages_from i l Uni [] (cells_under scheduler plan j t)) + sum_by w (messages_from i l Multi [] (cells_under scheduler plan j t)))
           (λ l. sum_by (queue_part j v (queue_to j l Uni)) (card_at plan i).packets + sum_by (queue_part j v (queue_to j l Multi)) (card_at plan i).packets) 0 LEVELS
           (λ l from below. omega (arith, flow_weight i l Uni inside (omega arith), flow_weight i l Multi inside (omega arith))) in
           omega (arith, flows, queues_sum j v (card_at plan i).packets)
 
-      delivered_weight : sum_by w (delivered (cells_to plan j t)) ≤ sum_by (sum_by (output_part j v)) (packets_in plan)
+      delivered_weight : sum_by w (delivered (cells_under scheduler plan j t)) ≤ sum_by (sum_by (output_part j v)) (packets_in plan)
       delivered_weight =
-          let all = delivered-sum w (ports_of plan) (cells_to plan j t) within in
-          let inputs = sum_range-le (λ i. level_sum (λ l k. sum_by w (messages_from i l k [] (cells_to plan j t)))) (λ i. sum_by (output_part j v) (card_at plan i).packets) 0 (ports_of plan) (λ i from below. input_weight i (omega arith)) in
+          let all = delivered-sum w (ports_of plan) (cells_under scheduler plan j t) within in
+          let inputs = sum_range-le (λ i. level_sum (λ l k. sum_by w (messages_from i l k [] (cells_under scheduler plan j t)))) (λ i. sum_by (output_part j v) (card_at plan i).packets) 0 (ports_of plan) (λ i from below. input_weight i (omega arith)) in
           omega (arith, all, inputs, inputs_sum (sum_by (output_part j v)))
 
-    delivered_fits : j < ports_of plan → (sum_by length (delivered (cells_to plan j t)) ≤ (card_at plan j).body_room) × (length (delivered (cells_to plan j t)) ≤ (card_at plan j).packet_room)
+    delivered_fits : j < ports_of plan → (sum_by length (delivered (cells_under scheduler plan j t)) ≤ (card_at plan j).body_room) × (length (delivered (cells_under scheduler plan j t)) ≤ (card_at plan j).packet_room)
     delivered_fits to =
         let mine = good-card plan good j to in
-        let bytes : sum_by length (delivered (cells_to plan j t)) ≤ body_room_for j (packets_in plan) = delivered_weight length message_length (λ i k p inside there. message-long plan good i k p inside there) in
-        let count : sum_by (λ m. 1) (delivered (cells_to plan j t)) ≤ packet_room_for j (packets_in plan) = delivered_weight (λ m. 1) (λ p. 1) (λ i k p inside there. refl) in
-        (omega (arith, bytes, mine.body), omega (arith, count, mine.messages, ones (delivered (cells_to plan j t)))) where
+        let bytes : sum_by length (delivered (cells_under scheduler plan j t)) ≤ body_room_for j (packets_in plan) = delivered_weight length message_length (λ i k p inside there. message-long plan good i k p inside there) in
+        let count : sum_by (λ m. 1) (delivered (cells_under scheduler plan j t)) ≤ packet_room_for j (packets_in plan) = delivered_weight (λ m. 1) (λ p. 1) (λ i k p inside there. refl) in
+        (omega (arith, bytes, mine.body), omega (arith, count, mine.messages, ones (delivered (cells_under scheduler plan j t)))) where
           ones : (xs : List (List ℕ)) → sum_by (λ m. 1) xs ≡ length xs
           ones [] = refl
           ones (x ∷ xs) = let rest = ones xs in omega (arith, sum_by-cons (λ (m : List ℕ). 1) x xs, rest)
 
   -- the messages of the cells that cross to an output have room there
-  pub delivered-fit : (j t : ℕ) → j < ports_of plan → (sum_by length (delivered (cells_to plan j t)) ≤ (card_at plan j).body_room) × (length (delivered (cells_to plan j t)) ≤ (card_at plan j).packet_room)
-  delivered-fit j t to = delivered_fits j t (all_of_flows plan good j t) (λ i level kind inside small. flow-messages plan good i j level kind inside t) to
+  pub delivered-fit : (j t : ℕ) → j < ports_of plan → (sum_by length (delivered (cells_under scheduler plan j t)) ≤ (card_at plan j).body_room) × (length (delivered (cells_under scheduler plan j t)) ≤ (card_at plan j).packet_room)
+  delivered-fit j t to = delivered_fits j t (all_of_flows scheduler scheduling plan good j t) (λ i level kind inside small. flow-messages scheduler scheduling plan good i j level kind inside t) to

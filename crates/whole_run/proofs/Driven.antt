@@ -4,6 +4,7 @@ use Rattle.std.specs.List.{range_with_len}
 use Rattle.std.proofs.lemmas.Bool.{cases_lt}
 use Rattle.std.proofs.lemmas.List.FromFn.{get_or-map-range_with_len}
 use Rattle.std.proofs.lemmas.Simd.{map-map}
+use Rattle.eslip_rounds.specs.Decisions.{decision_of}
 use Rattle.crossbar.specs.declared.cards.Taken.{Taken}
 use Rattle.slot_histories.specs.declared.events.Event.{Event}
 use Rattle.slot_histories.specs.Events.{posts_of, takes_of, decides, posted}
@@ -49,7 +50,7 @@ module _ (plan : SwitchPlan) (events : List Event) (legal : IsLegal (setup_for p
       ap (λ list. slice_index_or list u None) (served_in-is i inside)
       ∙ (get_or-map-range_with_len (served_at (setup_for plan) (posted events) i) 0 (takes_of i events) u u None (omega arith) (omega arith)
       ∙ (served_at-same (setup_for plan) (posted events) (posts_in plan) t agree i u before
-      ∙ sym (served-at plan i u t before))) in
+      ∙ sym (served-at decision_of plan i u t before))) in
       driven i inside t below ∙ post_at-alike (card_at plan i) parts (served_by plan i t) t same t (omega arith)
 
   posted-below : (k i t : ℕ) → t < k → i < ports_of plan → t < length (posts_of i events) → posted events i t ≡ posts_in plan i t

@@ -15,6 +15,7 @@ use Rattle.slot_match.specs.Rows.{IsEmptyRow}
 use Rattle.slot_match.proofs.Sets.{Has-set_of}
 use Rattle.multicast_queue.specs.FanQueues.{FanCell, first_fan}
 use Rattle.crossbar.specs.declared.cards.Post.{Post as CardPost}
+use Rattle.eslip_rounds.specs.Schedulers.{Scheduler, IsScheduler}
 use Rattle.slot_histories.specs.Events.{no_post}
 use Rattle.slot_histories.specs.Slots.{slot_posts, is_done_at}
 use Rattle.slot_histories.specs.Tests.{is_empty}
@@ -33,9 +34,9 @@ use Rattle.card_core.proofs.Granting.{all_granted}
 use Rattle.card_core.proofs.Messaging.{messages-are}
 use Rattle.card_core.proofs.Delivering.{flow_is_cut}
 use Rattle.switch_plan.specs.GoodPlans.{SwitchPlan, IsGood}
-use Rattle.whole_run.specs.Runs.{ports_of, card_at, served_by, posts_in}
-use Rattle.whole_run.specs.Ends.{IsLength}
-use Rattle.whole_run.specs.Crossings.{cells_to, queue_to, admitted_to}
+use Rattle.whole_run.specs.Runs.{ports_of, card_at, parts_under, posts_under}
+use Rattle.whole_run.specs.Ends.{IsLengthUnder}
+use Rattle.whole_run.specs.Crossings.{cells_under, queue_to, admitted_under}
 use Rattle.whole_run.proofs.Base.{good-card, servable, row_at-same, granted_to-same}
 use Rattle.whole_run.proofs.PacketCells.{named}
 use Rattle.whole_run.proofs.FlowCells.{granted_cells}
@@ -91,46 +92,46 @@ empty_is : (b : Bool) → not b ≡ false → b ≡ true
 empty_is true is = refl
 empty_is false is = absurd (cc)
 
-module _ (plan : SwitchPlan) (good : IsGood plan) where
-  no_more : (i t : ℕ) → i < ports_of plan → is_done_at (ports_of plan) (posts_in plan) t ≡ true → (posts_in plan i t).more ≡ true → ⊥
+module _ (scheduler : Scheduler) (scheduling : IsScheduler scheduler) (plan : SwitchPlan) (good : IsGood plan) where
+  no_more : (i t : ℕ) → i < ports_of plan → is_done_at (ports_of plan) (posts_under scheduler plan) t ≡ true → (posts_under scheduler plan i t).more ≡ true → ⊥
   no_more i t inside done more =
-      let posts = slot_posts (ports_of plan) (posts_in plan) t in
+      let posts = slot_posts (ports_of plan) (posts_under scheduler plan) t in
       let goes : CardPost → Bool = λ post. not post.more in
-      let here : slice_index_or posts i no_post ≡ posts_in plan i t = get_or-map-range_with_len (λ k. posts_in plan k t) 0 (ports_of plan) i i no_post inside (omega arith) in
+      let here : slice_index_or posts i no_post ≡ posts_under scheduler plan i t = get_or-map-range_with_len (λ k. posts_under scheduler plan k t) 0 (ports_of plan) i i no_post inside (omega arith) in
       let fails : goes (slice_index_or posts i no_post) ≡ false = ap goes here ∙ ap not more in
-      let all : list_all goes posts ≡ false = list_all_at goes posts i no_post (omega (arith, length-slot_posts (ports_of plan) (posts_in plan) t)) fails in
+      let all : list_all goes posts ≡ false = list_all_at goes posts i no_post (omega (arith, length-slot_posts (ports_of plan) (posts_under scheduler plan) t)) fails in
       let both : true ≡ false = sym done ∙ all in
       absurd (cc)
 
-  last_more : (i t : ℕ) → i < ports_of plan → is_done_at (ports_of plan) (posts_in plan) t ≡ true → (posts_in plan i t).more ≡ false
-  last_more i t inside done = lacks (posts_in plan i t).more (no_more i t inside done)
+  last_more : (i t : ℕ) → i < ports_of plan → is_done_at (ports_of plan) (posts_under scheduler plan) t ≡ true → (posts_under scheduler plan i t).more ≡ false
+  last_more i t inside done = lacks (posts_under scheduler plan i t).more (no_more i t inside done)
 
-  last_row : (i t : ℕ) → i < ports_of plan → is_done_at (ports_of plan) (posts_in plan) t ≡ true → IsEmptyRow (row_at (card_at plan i) (served_by plan i (suc t)) t)
+  last_row : (i t : ℕ) → i < ports_of plan → is_done_at (ports_of plan) (posts_under scheduler plan) t ≡ true → IsEmptyRow (row_at (card_at plan i) (parts_under scheduler plan i (suc t)) t)
   last_row i t inside done =
       let card = card_at plan i in
-      let row = row_at card (served_by plan i t) t in
+      let row = row_at card (parts_under scheduler plan i t) t in
       let more = or_parts (list_any (λ packet. nat_lt t packet.arrival) card.packets) (not (is_empty row)) (last_more i t inside done) in
-      subst IsEmptyRow (sym (row_at-same plan i t (suc t) (omega arith))) ((Decides-is_empty row).0 (empty_is (is_empty row) more.1))
+      subst IsEmptyRow (sym (row_at-same scheduler plan i t (suc t) (omega arith))) ((Decides-is_empty row).0 (empty_is (is_empty row) more.1))
 
-  pub all_delivered : (i j level : ℕ) (kind : Kind) (t : ℕ) → i < ports_of plan → j < ports_of plan → level < LEVELS → is_done_at (ports_of plan) (posts_in plan) t ≡ true
-      → messages_from i level kind [] (cells_to plan j (suc t)) ≡ map (message_of (card_at plan i)) (admitted_to plan j i level kind (suc t))
+  pub all_delivered : (i j level : ℕ) (kind : Kind) (t : ℕ) → i < ports_of plan → j < ports_of plan → level < LEVELS → is_done_at (ports_of plan) (posts_under scheduler plan) t ≡ true
+      → messages_from i level kind [] (cells_under scheduler plan j (suc t)) ≡ map (message_of (card_at plan i)) (admitted_under scheduler plan j i level kind (suc t))
   all_delivered i j level kind t inside to below done =
       let card = card_at plan i in
       let mine = good-card plan good i inside in
       let q = queue_to j level kind in
-      let now = served_by plan i (suc t) in
+      let now = parts_under scheduler plan i (suc t) in
       let empty = none_waits card mine.good now t (last_row i t inside done) j level kind (omega (arith, mine.ports, to)) below in
-      flow_is_cut i level kind (cells_to plan j (suc t))
-      ∙ ap messages_of (granted_cells plan good i j level kind inside t)
+      flow_is_cut i level kind (cells_under scheduler plan j (suc t))
+      ∙ ap messages_of (granted_cells scheduler scheduling plan good i j level kind inside t)
       ∙ ap (λ cells. messages_of (named card cells))
-      (sym (granted_to-same plan i t (suc t) (omega arith) q j)
+      (sym (granted_to-same scheduler plan i t (suc t) (omega arith) q j)
       ∙ sym (nothing_granted card q j now t empty)
-      ∙ all_granted card mine.good now q j (suc t) (λ u early. servable plan good i u (suc t) inside early) (stays_empty card q j now t empty))
+      ∙ all_granted card mine.good now q j (suc t) (λ u early. servable scheduler scheduling plan good i u (suc t) inside early) (stays_empty card q j now t empty))
       ∙ messages-are card q j now (suc t) mine.good
 
-  pub packets_delivered : (i j level : ℕ) (kind : Kind) (slots : ℕ) → IsLength plan slots → i < ports_of plan → j < ports_of plan → level < LEVELS
-      → messages_from i level kind [] (cells_to plan j slots) ≡ map (message_of (card_at plan i)) (admitted_to plan j i level kind slots)
+  pub packets_delivered : (i j level : ℕ) (kind : Kind) (slots : ℕ) → IsLengthUnder scheduler plan slots → i < ports_of plan → j < ports_of plan → level < LEVELS
+      → messages_from i level kind [] (cells_under scheduler plan j slots) ≡ map (message_of (card_at plan i)) (admitted_under scheduler plan j i level kind slots)
   packets_delivered i j level kind slots end inside to below =
       let count : suc end.last ≡ slots = omega (arith, end.count) in
-      subst (λ n. messages_from i level kind [] (cells_to plan j n) ≡ map (message_of (card_at plan i)) (admitted_to plan j i level kind n)) count
+      subst (λ n. messages_from i level kind [] (cells_under scheduler plan j n) ≡ map (message_of (card_at plan i)) (admitted_under scheduler plan j i level kind n)) count
       (all_delivered i j level kind end.last inside to below end.done)

@@ -1,6 +1,8 @@
 -- Where no card can act any more, the board has decided the slots of the run.
 use Rattle.std.proofs.Common.{◌≡◌, ◌∙◌, ◌⊎◌, ℕ, zero, suc, ◌<◌, ◌≤◌, Bool, true, false, ◌||◌, List, refl, sym, arith, inl, inr}
 use Rattle.std.proofs.lemmas.Bool.{both_ways}
+use Rattle.eslip_rounds.specs.Decisions.{decision_of}
+use Rattle.eslip_rounds.proofs.Scheduling.{IsScheduler-decision_of}
 use Rattle.crossbar.specs.declared.cards.Post.{Post as CardPost}
 use Rattle.slot_histories.specs.declared.events.Event.{Event}
 use Rattle.slot_histories.specs.Events.{takes_of, decides, posted}
@@ -60,7 +62,7 @@ module _ (plan : SwitchPlan) (events : List Event) (good : IsGood plan) (legal :
         let found = one_done (ports_of plan) (posted events) (takes_of 0 events) done in
         length-from found.0 (omega (arith, found.1, taken-all 0 good.size.some)) found.2
     by_end (inr used) =
-        let run = run_ends plan good in
+        let run = run_ends decision_of IsScheduler-decision_of plan good in
         let length_is = run.1 in
         let few : length_is.last < decides events = omega (arith, taken-all 0 good.size.some, run.2, length_is.count) in
         length-from length_is.last few (is_done_at-same (setup_for plan) (posted events) (posts_in plan) (decides events) (decided-run plan events legal driven) length_is.last few ∙ length_is.done)

@@ -2,10 +2,11 @@
 use Rattle.std.proofs.Common.{◌≡◌, ◌∙◌, ℕ, zero, suc, ◌+◌, ◌<◌, true, false, refl, sym, ap, arith, inl, inr}
 use Rattle.std.proofs.lemmas.Bool.{cases_eq, cases_order, cases_Bool, both_ways, or_cases, or_parts}
 use Rattle.crossbar.specs.declared.cards.Post.{Post as CardPost}
+use Rattle.eslip_rounds.specs.Schedulers.{Scheduler}
 use Rattle.slot_histories.specs.Slots.{is_done_at, is_done_before}
 use Rattle.switch_plan.specs.GoodPlans.{SwitchPlan}
-use Rattle.whole_run.specs.Runs.{ports_of, posts_in}
-use Rattle.whole_run.specs.Ends.{IsLength}
+use Rattle.whole_run.specs.Runs.{ports_of, posts_under}
+use Rattle.whole_run.specs.Ends.{IsLengthUnder}
 
 module _ (n : ℕ) (posts : ℕ → ℕ → CardPost) where
   -- where none of the first slots is done, this one is not
@@ -31,13 +32,13 @@ module _ (n : ℕ) (posts : ℕ → ℕ → CardPost) where
       ]
 
 -- the first done slot is one
-pub one_length : (plan : SwitchPlan) (a b : ℕ) → IsLength plan a → IsLength plan b → a ≡ b
-one_length plan a b ends also =
+pub one_length : (plan : SwitchPlan) (a b : ℕ) → IsLengthUnder scheduler plan a → IsLengthUnder scheduler plan b → a ≡ b
+one_length scheduler plan a b ends also =
     let n = ports_of plan in
     elim (cases_order ends.last also.last) [
       | inl same ↦ ends.count ∙ ap (λ k. k + 1) same ∙ sym also.count
       | inr other ↦ elim other [
-        | inl before ↦ absurd (both_ways (is_done_at n (posts_in plan) ends.last) (not_done n (posts_in plan) also.last ends.last before also.going) ends.done)
-        | inr after ↦ absurd (both_ways (is_done_at n (posts_in plan) also.last) (not_done n (posts_in plan) ends.last also.last after ends.going) also.done)
+        | inl before ↦ absurd (both_ways (is_done_at n (posts_under scheduler plan) ends.last) (not_done n (posts_under scheduler plan) also.last ends.last before also.going) ends.done)
+        | inr after ↦ absurd (both_ways (is_done_at n (posts_under scheduler plan) also.last) (not_done n (posts_under scheduler plan) ends.last also.last after ends.going) also.done)
       ]
     ]

@@ -14,7 +14,8 @@ use Rattle.rotating_pick.specs.declared.limits.TheConstants.{LEVELS}
 use Rattle.cell_cutter.specs.declared.cell.Cell.{Cell}
 use Rattle.cell_cutter.specs.Cells.{cell_of, part, used_bytes}
 use Rattle.cell_cutter.proofs.Payloads.{take-padded}
-use Rattle.slot_histories.specs.Slots.{crossed}
+use Rattle.eslip_rounds.specs.Schedulers.{Scheduler, IsScheduler}
+use Rattle.slot_histories.specs.Slots.{crossed_under}
 use Rattle.reassembly.specs.Flows.{Flow, Fits, fresh, place_of, flow_of, bytes_with}
 use Rattle.reassembly.specs.Cutting.{Stands, rest_after, joined}
 use Rattle.reassembly.specs.Filling.{begun_with}
@@ -24,8 +25,8 @@ use Rattle.card_core.specs.Deliveries.{is_of_flow, flow_cells, message_with, del
 use Rattle.card_core.specs.Cards.{Received, HasReceived, MayReceiveAny, flow_at}
 use Rattle.card_core.proofs.Delivering.{delivered-push}
 use Rattle.switch_plan.specs.GoodPlans.{SwitchPlan, IsGood}
-use Rattle.whole_run.specs.Runs.{ports_of, setup_for, card_at, served_by, posts_in}
-use Rattle.whole_run.specs.Crossings.{cells_to, queue_to}
+use Rattle.whole_run.specs.Runs.{ports_of, setup_for, card_at, parts_under, posts_under}
+use Rattle.whole_run.specs.Crossings.{cells_under, queue_to}
 use Rattle.whole_run.proofs.Base.{good-card, sound}
 use Rattle.whole_run.proofs.Rooms.{size-enough}
 use Rattle.whole_run.proofs.Delivered.{delivered-fit}
@@ -90,26 +91,26 @@ module _ (plan : Plan) (r : Received) (cells : List Cell) (had : HasReceived pla
       (omega (arith, body, bytes, own, sums, single, had.body_room), omega (arith, packets, lens, count, had.packet_room))
 
 -- ---- the cell that crosses
-module _ (plan : SwitchPlan) (good : IsGood plan) where
-  module _ (i j level : ℕ) (kind : Kind) (inside : i < ports_of plan) (to : j < ports_of plan) (below : level < LEVELS) (t : ℕ) (cell : Cell) (is : crossed (setup_for plan) (posts_in plan) j (suc t) ≡ Some cell) (from : IsFrom i level kind cell) where
+module _ (scheduler : Scheduler) (scheduling : IsScheduler scheduler) (plan : SwitchPlan) (good : IsGood plan) where
+  module _ (i j level : ℕ) (kind : Kind) (inside : i < ports_of plan) (to : j < ports_of plan) (below : level < LEVELS) (t : ℕ) (cell : Cell) (is : crossed_under scheduler (setup_for plan) (posts_under scheduler plan) j (suc t) ≡ Some cell) (from : IsFrom i level kind cell) where
     abbrev flow_before : List Cell
-    flow_before = flow_cells i level kind (cells_to plan j (suc t))
+    flow_before = flow_cells i level kind (cells_under scheduler plan j (suc t))
 
     -- the cell is the next of a message to the output
     next_cell : IsNextOf i level kind (IsMessageTo (card_at plan i) (queue_to j level kind) j) (rest_after [] flow_before) cell
     next_cell =
         let card = card_at plan i in
         let q = queue_to j level kind in
-        let (rest, first) = flow_first plan good i j level kind inside (suc t) in
-        let flow : flow_cells i level kind (cells_to plan j (suc (suc t))) ≡ flow_before ++ cell ∷ [] =
-        ap (flow_cells i level kind) (cells_to-push plan j (suc t) ∙ ap (λ o. cells_to plan j (suc t) ++ option_to_list o) is)
-        ∙ filter-append (is_of_flow i level kind) (cells_to plan j (suc t)) (cell ∷ [])
+        let (rest, first) = flow_first scheduler scheduling plan good i j level kind inside (suc t) in
+        let flow : flow_cells i level kind (cells_under scheduler plan j (suc (suc t))) ≡ flow_before ++ cell ∷ [] =
+        ap (flow_cells i level kind) (cells_to-push scheduler plan j (suc t) ∙ ap (λ o. cells_under scheduler plan j (suc t) ++ option_to_list o) is)
+        ∙ filter-append (is_of_flow i level kind) (cells_under scheduler plan j (suc t)) (cell ∷ [])
         ∙ ap (λ xs. flow_before ++ xs) (flow_one i level kind cell from) in
         next_is i level kind (IsMessageTo card q j) flow_before cell rest _
-        (packets_hold card (good-card plan good i inside).good q j (served_by plan i (suc t)) (suc t))
+        (packets_hold card (good-card plan good i inside).good q j (parts_under scheduler plan i (suc t)) (suc t))
         (sym (append_assoc flow_before (cell ∷ []) rest) ∙ ap (λ xs. xs ++ rest) (sym flow) ∙ sym first)
 
-    flow_fits : (r : Received) → HasReceived (card_at plan j) r (cells_to plan j (suc t)) → Fits r.flows cell
+    flow_fits : (r : Received) → HasReceived (card_at plan j) r (cells_under scheduler plan j (suc t)) → Fits r.flows cell
     flow_fits r had =
         let card : Plan = card_at plan i in
         let mine = good-card plan good i inside in
@@ -134,24 +135,24 @@ module _ (plan : SwitchPlan) (good : IsGood plan) where
         subst (Fits r.flows) (sym next.is)
         (Fits-next r.flows flow.size i level k kind m (omega (arith, ports, mine.good.size, mine.ports)) (omega (arith, ports)) below few room next.few begun)
 
-  fits_some : (j t : ℕ) (r : Received) (o : Option Cell) → j < ports_of plan → HasReceived (card_at plan j) r (cells_to plan j (suc t)) → crossed (setup_for plan) (posts_in plan) j (suc t) ≡ o → MayReceiveAny r o
+  fits_some : (j t : ℕ) (r : Received) (o : Option Cell) → j < ports_of plan → HasReceived (card_at plan j) r (cells_under scheduler plan j (suc t)) → crossed_under scheduler (setup_for plan) (posts_under scheduler plan) j (suc t) ≡ o → MayReceiveAny r o
   fits_some j t r None to had is = tt
   fits_some j t r (Some cell) to had is =
-      let (fed, serves) = feeds plan good j t cell is in
-      let matches = (sound plan good t).matches in
+      let (fed, serves) = feeds scheduler scheduling plan good j t cell is in
+      let matches = (sound scheduler scheduling plan good t).matches in
       let inside = matches.input_in fed.input j fed.level fed.kind serves in
       let below = matches.level_in fed.input j fed.level fed.kind serves in
-      let from = comes_from plan good fed.input j fed.level fed.kind t cell serves is in
+      let from = comes_from scheduler scheduling plan good fed.input j fed.level fed.kind t cell serves is in
       let other = good-card plan good j to in
-      let fit = delivered-fit plan good j (suc (suc t)) to in
-      let more : cells_to plan j (suc (suc t)) ≡ cells_to plan j (suc t) ++ cell ∷ [] = cells_to-push plan j (suc t) ∙ ap (λ c. cells_to plan j (suc t) ++ option_to_list c) is in
+      let fit = delivered-fit scheduler scheduling plan good j (suc (suc t)) to in
+      let more : cells_under scheduler plan j (suc (suc t)) ≡ cells_under scheduler plan j (suc t) ++ cell ∷ [] = cells_to-push scheduler plan j (suc t) ∙ ap (λ c. cells_under scheduler plan j (suc t) ++ option_to_list c) is in
       record {
         flow = flow_fits fed.input j fed.level fed.kind inside to below t cell is from r had;
-        room = has_room (card_at plan j) r (cells_to plan j (suc t)) had cell (omega (arith, from.0, inside, other.ports)) (omega (arith, from.1, below))
+        room = has_room (card_at plan j) r (cells_under scheduler plan j (suc t)) had cell (omega (arith, from.0, inside, other.ports)) (omega (arith, from.1, below))
             (subst (λ cells. sum_by length (delivered cells) ≤ (card_at plan j).body_room) more fit.0)
             (subst (λ cells. length (delivered cells) ≤ (card_at plan j).packet_room) more fit.1);
       }
 
-  pub cell_fits : (j slots : ℕ) (r : Received) → j < ports_of plan → HasReceived (card_at plan j) r (cells_to plan j slots) → MayReceiveAny r (crossed (setup_for plan) (posts_in plan) j slots)
+  pub cell_fits : (j slots : ℕ) (r : Received) → j < ports_of plan → HasReceived (card_at plan j) r (cells_under scheduler plan j slots) → MayReceiveAny r (crossed_under scheduler (setup_for plan) (posts_under scheduler plan) j slots)
   cell_fits j zero r to had = tt
-  cell_fits j (suc t) r to had = fits_some j t r (crossed (setup_for plan) (posts_in plan) j (suc t)) to had refl
+  cell_fits j (suc t) r to had = fits_some j t r (crossed_under scheduler (setup_for plan) (posts_under scheduler plan) j (suc t)) to had refl

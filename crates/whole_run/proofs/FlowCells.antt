@@ -21,8 +21,9 @@ use Rattle.slot_match.proofs.KeepingParts.{Gives-iff_serves}
 use Rattle.multicast_queue.specs.FanQueues.{FanCell, first_fan, first_name}
 use Rattle.crossbar.specs.Crossing.{deposit_of, deposit_by}
 use Rattle.crossbar.specs.declared.cards.Post.{Post as CardPost}
+use Rattle.eslip_rounds.specs.Schedulers.{Scheduler, IsScheduler}
 use Rattle.slot_histories.specs.Events.{no_post}
-use Rattle.slot_histories.specs.Slots.{slot_posts, decision_at, served_at, crossed}
+use Rattle.slot_histories.specs.Slots.{slot_posts, decision_under, served_under, crossed_under}
 use Rattle.slot_histories.specs.Tests.{has, gives}
 use Rattle.slot_histories.proofs.KeepingTests.{Decides-gives}
 use Rattle.slot_histories.proofs.PostedRows.{length-slot_posts}
@@ -39,8 +40,8 @@ use Rattle.card_core.proofs.Passing.{AreOf, AreOf-drop, kept-in}
 use Rattle.card_core.proofs.Granting.{granted_is, first_granted}
 use Rattle.card_core.proofs.Messaging.{messages-are}
 use Rattle.switch_plan.specs.GoodPlans.{SwitchPlan, IsGood}
-use Rattle.whole_run.specs.Runs.{ports_of, setup_for, card_at, served_by, posts_in}
-use Rattle.whole_run.specs.Crossings.{cells_to, queue_to}
+use Rattle.whole_run.specs.Runs.{ports_of, setup_for, card_at, parts_under, posts_under}
+use Rattle.whole_run.specs.Crossings.{cells_under, queue_to}
 use Rattle.whole_run.proofs.Base.{good-card, sound, served-at, servable, granted_to-same}
 use Rattle.whole_run.proofs.FirstParts.{messages_of-append}
 use Rattle.whole_run.proofs.PacketCells.{named, packets_cells}
@@ -116,49 +117,49 @@ flat_range f a (suc t) =
     ∙ sym (append_assoc (f a) (flat_map f (range_with_len (a + 1) t)) (f (a + 1 + t)))
     ∙ ap (λ k. (f a ++ flat_map f (range_with_len (a + 1) t)) ++ f k) (let e : a + 1 + t ≡ a + suc t = omega arith in e)
 
-pub cells_to-push : (plan : SwitchPlan) (j t : ℕ) → cells_to plan j (suc t) ≡ cells_to plan j t ++ option_to_list (crossed (setup_for plan) (posts_in plan) j t)
-cells_to-push plan j t =
-    let cell : ℕ → List Cell = λ u. option_to_list (crossed (setup_for plan) (posts_in plan) j u) in
-    flat_range cell 0 t ∙ ap (λ u. cells_to plan j t ++ cell u) (let e : 0 + t ≡ t = omega arith in e)
+pub cells_to-push : (plan : SwitchPlan) (j t : ℕ) → cells_under scheduler plan j (suc t) ≡ cells_under scheduler plan j t ++ option_to_list (crossed_under scheduler (setup_for plan) (posts_under scheduler plan) j t)
+cells_to-push scheduler plan j t =
+    let cell : ℕ → List Cell = λ u. option_to_list (crossed_under scheduler (setup_for plan) (posts_under scheduler plan) j u) in
+    flat_range cell 0 t ∙ ap (λ u. cells_under scheduler plan j t ++ cell u) (let e : 0 + t ≡ t = omega arith in e)
 
-module _ (plan : SwitchPlan) (good : IsGood plan) where
+module _ (scheduler : Scheduler) (scheduling : IsScheduler scheduler) (plan : SwitchPlan) (good : IsGood plan) where
   abbrev matched_at : ℕ → List (Option Fed)
-  matched_at t = (decision_at (setup_for plan) (posts_in plan) t).matched
+  matched_at t = (decision_under scheduler (setup_for plan) (posts_under scheduler plan) t).matched
 
   abbrev part_at : ℕ → ℕ → Option Served
-  part_at i t = served_at (setup_for plan) (posts_in plan) i t
+  part_at i t = served_under scheduler (setup_for plan) (posts_under scheduler plan) i t
 
   -- the cells of a queue that waited in slot t
   abbrev pub waits_at : ℕ → Queue → ℕ → List FanCell
-  waits_at i q t = waiting (queue_in (card_at plan i) q (served_by plan i (suc t)) t)
+  waits_at i q t = waiting (queue_in (card_at plan i) q (parts_under scheduler plan i (suc t)) t)
 
   served_to : (i j level : ℕ) (kind : Kind) (t : ℕ) → serves (queue_to j level kind) j (part_at i t) ≡ true → Serves (matched_at t) i j level kind
   served_to i j level kind t is =
-      (Gives-iff_serves (ports_of plan) (matched_at t) (sound plan good t).matches i j level kind).0
+      (Gives-iff_serves (ports_of plan) (matched_at t) (sound scheduler scheduling plan good t).matches i j level kind).0
       ((Decides-gives (part_at i t) j level kind).0 (sym (serves_gives j level kind (part_at i t)) ∙ is))
 
   serves_to : (i j level : ℕ) (kind : Kind) (t : ℕ) → Serves (matched_at t) i j level kind → serves (queue_to j level kind) j (part_at i t) ≡ true
   serves_to i j level kind t is =
       serves_gives j level kind (part_at i t)
-      ∙ (Decides-gives (part_at i t) j level kind).1 ((Gives-iff_serves (ports_of plan) (matched_at t) (sound plan good t).matches i j level kind).1 is)
+      ∙ (Decides-gives (part_at i t) j level kind).1 ((Gives-iff_serves (ports_of plan) (matched_at t) (sound scheduler scheduling plan good t).matches i j level kind).1 is)
 
-  posted_cell : (t i : ℕ) → i < ports_of plan → deposit_of (map (λ post. post.cell) (slot_posts (ports_of plan) (posts_in plan) t)) i ≡ (posts_in plan i t).cell
+  posted_cell : (t i : ℕ) → i < ports_of plan → deposit_of (map (λ post. post.cell) (slot_posts (ports_of plan) (posts_under scheduler plan) t)) i ≡ (posts_under scheduler plan i t).cell
   posted_cell t i inside =
       let cell : CardPost → Option Cell = λ post. post.cell in
-      get_or-map cell (slot_posts (ports_of plan) (posts_in plan) t) i no_post None (omega (arith, length-slot_posts (ports_of plan) (posts_in plan) t))
-      ∙ ap cell (get_or-map-range_with_len (λ k. posts_in plan k t) 0 (ports_of plan) i i no_post inside (omega arith))
+      get_or-map cell (slot_posts (ports_of plan) (posts_under scheduler plan) t) i no_post None (omega (arith, length-slot_posts (ports_of plan) (posts_under scheduler plan) t))
+      ∙ ap cell (get_or-map-range_with_len (λ k. posts_under scheduler plan k t) 0 (ports_of plan) i i no_post inside (omega arith))
 
   -- what crosses is the first cell of the queue that was served
   pub crossed_is : (i j level : ℕ) (kind : Kind) (t : ℕ) → Serves (matched_at t) i j level kind
-      → option_to_list (crossed (setup_for plan) (posts_in plan) j (suc t)) ≡ named (card_at plan i) (first_of (waits_at i (queue_to j level kind) t))
+      → option_to_list (crossed_under scheduler (setup_for plan) (posts_under scheduler plan) j (suc t)) ≡ named (card_at plan i) (first_of (waits_at i (queue_to j level kind) t))
   crossed_is i j level kind t feeds =
       let card = card_at plan i in
       let q = queue_to j level kind in
-      let inside = (sound plan good t).matches.input_in i j level kind feeds in
-      let deposits : List (Option Cell) = map (λ post. post.cell) (slot_posts (ports_of plan) (posts_in plan) (suc t)) in
-      let part = served-at plan i t (suc t) (omega arith) in
-      let first : granted_at card (served_by plan i (suc t)) (suc t) ≡ option_map (cell_named card) (first_name (waits_at i q t)) =
-      first_granted card (good-card plan good i inside).good (served_by plan i (suc t)) q j t (servable plan good i t (suc t) inside (omega arith)) (ap (serves q j) part ∙ serves_to i j level kind t feeds) in
+      let inside = (sound scheduler scheduling plan good t).matches.input_in i j level kind feeds in
+      let deposits : List (Option Cell) = map (λ post. post.cell) (slot_posts (ports_of plan) (posts_under scheduler plan) (suc t)) in
+      let part = served-at scheduler plan i t (suc t) (omega arith) in
+      let first : granted_at card (parts_under scheduler plan i (suc t)) (suc t) ≡ option_map (cell_named card) (first_name (waits_at i q t)) =
+      first_granted card (good-card plan good i inside).good (parts_under scheduler plan i (suc t)) q j t (servable scheduler scheduling plan good i t (suc t) inside (omega arith)) (ap (serves q j) part ∙ serves_to i j level kind t feeds) in
       ap (λ o. option_to_list (deposit_by deposits o)) feeds
       ∙ ap option_to_list (posted_cell (suc t) i inside ∙ first)
       ∙ first_list card (waits_at i q t)
@@ -167,23 +168,23 @@ module _ (plan : SwitchPlan) (good : IsGood plan) where
   crossed_from i j level kind t inside =
       let mine = good-card plan good i inside in
       let q = queue_to j level kind in
-      let s = queue_in (card_at plan i) q (served_by plan i (suc t)) t in
-      firsts_are i j level kind (card_at plan i) (waits_at i q t) mine.number (AreOf-drop (card_at plan i) q s.left s.entered (kept-in (card_at plan i) mine.good q (served_by plan i (suc t)) t).cells)
+      let s = queue_in (card_at plan i) q (parts_under scheduler plan i (suc t)) t in
+      firsts_are i j level kind (card_at plan i) (waits_at i q t) mine.number (AreOf-drop (card_at plan i) q s.left s.entered (kept-in (card_at plan i) mine.good q (parts_under scheduler plan i (suc t)) t).cells)
 
   module _ (i j level : ℕ) (kind : Kind) (inside : i < ports_of plan) where
-    by_fed : (t : ℕ) (o : Option Fed) → fed_of (matched_at t) j ≡ o → (Serves (matched_at t) i j level kind → ⊥) → flow_cells i level kind (option_to_list (crossed (setup_for plan) (posts_in plan) j (suc t))) ≡ []
+    by_fed : (t : ℕ) (o : Option Fed) → fed_of (matched_at t) j ≡ o → (Serves (matched_at t) i j level kind → ⊥) → flow_cells i level kind (option_to_list (crossed_under scheduler (setup_for plan) (posts_under scheduler plan) j (suc t))) ≡ []
     by_fed t None is other =
-        let deposits : List (Option Cell) = map (λ post. post.cell) (slot_posts (ports_of plan) (posts_in plan) (suc t)) in
+        let deposits : List (Option Cell) = map (λ post. post.cell) (slot_posts (ports_of plan) (posts_under scheduler plan) (suc t)) in
         ap (λ o. flow_cells i level kind (option_to_list (deposit_by deposits o))) is
     by_fed t (Some fed) is other =
         let feeds = Serves-from (matched_at t) j fed is in
-        let from = crossed_from fed.input j fed.level fed.kind t ((sound plan good t).matches.input_in fed.input j fed.level fed.kind feeds) in
+        let from = crossed_from fed.input j fed.level fed.kind t ((sound scheduler scheduling plan good t).matches.input_in fed.input j fed.level fed.kind feeds) in
         ap (flow_cells i level kind) (crossed_is fed.input j fed.level fed.kind t feeds)
         ∙ flow_others i level kind fed.input fed.level fed.kind (card_at plan fed.input) (waits_at fed.input (queue_to j fed.level fed.kind) t) from
         (λ a b c. other (subst (λ k. Serves (matched_at t) i j level k) c (subst (λ m. Serves (matched_at t) i j m fed.kind) b (subst (λ x. Serves (matched_at t) x j fed.level fed.kind) a feeds))))
 
     by_part : (t : ℕ) (b : Bool) → serves (queue_to j level kind) j (part_at i t) ≡ b
-        → flow_cells i level kind (option_to_list (crossed (setup_for plan) (posts_in plan) j (suc t))) ≡ named (card_at plan i) (if b then first_of (waits_at i (queue_to j level kind) t) else [])
+        → flow_cells i level kind (option_to_list (crossed_under scheduler (setup_for plan) (posts_under scheduler plan) j (suc t))) ≡ named (card_at plan i) (if b then first_of (waits_at i (queue_to j level kind) t) else [])
     by_part t true is =
         let w = waits_at i (queue_to j level kind) t in
         ap (flow_cells i level kind) (crossed_is i j level kind t (served_to i j level kind t is))
@@ -191,19 +192,19 @@ module _ (plan : SwitchPlan) (good : IsGood plan) where
     by_part t false is = by_fed t (fed_of (matched_at t) j) refl (λ feeds. let e = serves_to i j level kind t feeds in absurd (cc))
 
     -- the cells of the flow are those that were granted
-    pub granted_cells : (t : ℕ) → flow_cells i level kind (cells_to plan j (suc t)) ≡ named (card_at plan i) (granted_to (card_at plan i) (queue_to j level kind) j (served_by plan i t) t)
+    pub granted_cells : (t : ℕ) → flow_cells i level kind (cells_under scheduler plan j (suc t)) ≡ named (card_at plan i) (granted_to (card_at plan i) (queue_to j level kind) j (parts_under scheduler plan i t) t)
     granted_cells zero = refl
     granted_cells (suc t) =
         let card = card_at plan i in
         let q = queue_to j level kind in
-        let now = served_by plan i (suc t) in
-        let cell = option_to_list (crossed (setup_for plan) (posts_in plan) j (suc t)) in
+        let now = parts_under scheduler plan i (suc t) in
+        let cell = option_to_list (crossed_under scheduler (setup_for plan) (posts_under scheduler plan) j (suc t)) in
         let first : Bool → List FanCell = λ b. if b then first_of (waits_at i q t) else [] in
-        ap (flow_cells i level kind) (cells_to-push plan j (suc t))
-        ∙ filter-append (is_of_flow i level kind) (cells_to plan j (suc t)) cell
-        ∙ ap (λ xs. xs ++ flow_cells i level kind cell) (granted_cells t ∙ ap (named card) (sym (granted_to-same plan i t (suc t) (omega arith) q j)))
+        ap (flow_cells i level kind) (cells_to-push scheduler plan j (suc t))
+        ∙ filter-append (is_of_flow i level kind) (cells_under scheduler plan j (suc t)) cell
+        ∙ ap (λ xs. xs ++ flow_cells i level kind cell) (granted_cells t ∙ ap (named card) (sym (granted_to-same scheduler plan i t (suc t) (omega arith) q j)))
         ∙ ap (λ xs. named card (granted_to card q j now t) ++ xs)
-        (by_part t (serves q j (part_at i t)) refl ∙ ap (λ part. named card (first (serves q j part))) (sym (served-at plan i t (suc t) (omega arith))))
+        (by_part t (serves q j (part_at i t)) refl ∙ ap (λ part. named card (first (serves q j part))) (sym (served-at scheduler plan i t (suc t) (omega arith))))
         ∙ sym (map-append (λ (c : FanCell). cell_named card c.name) (granted_to card q j now t) (first (serves q j (slice_index_or now t None))))
 
     -- ---- those that were granted are the first of all that entered and go to the output
@@ -219,12 +220,12 @@ module _ (plan : SwitchPlan) (good : IsGood plan) where
       go false l is = (to_output j (c ∷ w), refl)
 
     granted_first : (t : ℕ) → (rest : List FanCell)
-        × (to_output j (queue_before (card_at plan i) (queue_to j level kind) (served_by plan i t) t).entered ≡ granted_to (card_at plan i) (queue_to j level kind) j (served_by plan i t) t ++ rest)
+        × (to_output j (queue_before (card_at plan i) (queue_to j level kind) (parts_under scheduler plan i t) t).entered ≡ granted_to (card_at plan i) (queue_to j level kind) j (parts_under scheduler plan i t) t ++ rest)
     granted_first t =
         let q = queue_to j level kind in
-        let s = queue_before (card_at plan i) q (served_by plan i t) t in
+        let s = queue_before (card_at plan i) q (parts_under scheduler plan i t) t in
         let (rest, first) = begun_first (waiting s) (not (has (rest_of q s) j)) in
-        let granted = granted_is (card_at plan i) (good-card plan good i inside).good (served_by plan i t) q j t (λ u below. servable plan good i u t inside below) in
+        let granted = granted_is (card_at plan i) (good-card plan good i inside).good (parts_under scheduler plan i t) q j t (λ u below. servable scheduler scheduling plan good i u t inside below) in
         let gone = to_output j (take s.left s.entered) in (
           rest,
           ap (to_output j) (sym (take-append-drop s.left s.entered))
@@ -236,47 +237,47 @@ module _ (plan : SwitchPlan) (good : IsGood plan) where
 
     -- the packets that go to the output and were admitted before slot t
     abbrev pub packets_at : ℕ → List Planned
-    packets_at t = packets_to (card_at plan i) (queue_to j level kind) j (served_by plan i t) t
+    packets_at t = packets_to (card_at plan i) (queue_to j level kind) j (parts_under scheduler plan i t) t
 
     -- the cells of the flow are the first of all cells of these packets' messages
     pub flow_first : (t : ℕ) → (rest : List Cell)
-        × (flat_map (cells_of_message i level kind) (map (message_of (card_at plan i)) (packets_at t)) ≡ flow_cells i level kind (cells_to plan j (suc t)) ++ rest)
+        × (flat_map (cells_of_message i level kind) (map (message_of (card_at plan i)) (packets_at t)) ≡ flow_cells i level kind (cells_under scheduler plan j (suc t)) ++ rest)
     flow_first t =
         let card = card_at plan i in
         let mine = good-card plan good i inside in
         let q = queue_to j level kind in
         let (rest, first) = granted_first t in
         let messages = map (message_of card) (packets_at t) in
-        let granted = granted_to card q j (served_by plan i t) t in (
+        let granted = granted_to card q j (parts_under scheduler plan i t) t in (
           named card rest,
           ap (λ x. flat_map (cells_of_message x level kind) messages) (sym mine.number)
               ∙ ap (λ x. flat_map (cells_of_message card.card x kind) messages) (sym (level_to j level kind))
               ∙ ap (λ x. flat_map (cells_of_message card.card (level_of q) x) messages) (sym (kind_to j level kind))
-              ∙ sym (packets_cells card mine.good q j (served_by plan i t) t)
+              ∙ sym (packets_cells card mine.good q j (parts_under scheduler plan i t) t)
               ∙ ap (named card) first
               ∙ map-append (λ (c : FanCell). cell_named card c.name) granted rest
               ∙ ap (λ xs. xs ++ named card rest) (sym (granted_cells t)),
         )
 
     -- so the messages of the flow are the first of these packets' messages
-    pub messages_first : (t : ℕ) → (more : List (List ℕ)) × (map (message_of (card_at plan i)) (packets_at t) ≡ messages_of (flow_cells i level kind (cells_to plan j (suc t))) ++ more)
+    pub messages_first : (t : ℕ) → (more : List (List ℕ)) × (map (message_of (card_at plan i)) (packets_at t) ≡ messages_of (flow_cells i level kind (cells_under scheduler plan j (suc t))) ++ more)
     messages_first t =
         let card = card_at plan i in
         let q = queue_to j level kind in
         let (rest, first) = granted_first t in
-        let granted = granted_to card q j (served_by plan i t) t in
-        let flow = flow_cells i level kind (cells_to plan j (suc t)) in
+        let granted = granted_to card q j (parts_under scheduler plan i t) t in
+        let flow = flow_cells i level kind (cells_under scheduler plan j (suc t)) in
         let more = map joined (pieces_after (rest_after [] flow) (named card rest)) in (
           more,
-          sym (messages-are card q j (served_by plan i t) t (good-card plan good i inside).good)
+          sym (messages-are card q j (parts_under scheduler plan i t) t (good-card plan good i inside).good)
               ∙ ap (λ cells. messages_of (named card cells)) first
               ∙ ap messages_of (map-append (λ (c : FanCell). cell_named card c.name) granted rest ∙ ap (λ xs. xs ++ named card rest) (sym (granted_cells t)))
               ∙ messages_of-append flow (named card rest),
         )
 
-    pub flow-messages : (t : ℕ) → (m u : ℕ) × (messages_of (flow_cells i level kind (cells_to plan j t)) ≡ take m (map (message_of (card_at plan i)) (packets_at u)))
+    pub flow-messages : (t : ℕ) → (m u : ℕ) × (messages_of (flow_cells i level kind (cells_under scheduler plan j t)) ≡ take m (map (message_of (card_at plan i)) (packets_at u)))
     flow-messages zero = (0, 0, refl)
     flow-messages (suc t) =
         let (more, first) = messages_first t in
-        let own = messages_of (flow_cells i level kind (cells_to plan j (suc t))) in
+        let own = messages_of (flow_cells i level kind (cells_under scheduler plan j (suc t))) in
         (length own, t, sym (ap (take (length own)) first ∙ take-append_seam own more))

@@ -4,6 +4,8 @@ use Rattle.std.specs.List.{range_with_len}
 use Rattle.std.specs.Option.{option_to_list}
 use Rattle.std.proofs.lemmas.List.Folds.{flat_map-map}
 use Rattle.std.proofs.lemmas.List.FromFn.{map-range_with_len_more}
+use Rattle.eslip_rounds.specs.Decisions.{decision_of}
+use Rattle.eslip_rounds.proofs.Scheduling.{IsScheduler-decision_of}
 use Rattle.crossbar.specs.declared.cards.Taken.{Taken}
 use Rattle.slot_histories.specs.Slots.{taken_at}
 use Rattle.card_core.specs.Deliveries.{cells_taken}
@@ -23,7 +25,7 @@ module _ (plan : SwitchPlan) (j : ℕ) where
     one-given : (t : ℕ) (one : Taken) → IsGiven (card_at plan j) (run_takings plan j t) (taken_at (setup_for plan) (posts_in plan) j t) one → one ≡ taken_at (setup_for plan) (posts_in plan) j t
     one-given t one given =
         let received : HasReceived (card_at plan j) given.card.receives (cells_to plan j t) = subst (HasReceived (card_at plan j) given.card.receives) (cells_taken-run t) (subst (λ card. HasReceived card given.card.receives (cells_taken (run_takings plan j t))) given.plan_is given.after.received) in
-        let may = cell_fits plan good j t given.card.receives inside received in
+        let may = cell_fits decision_of IsScheduler-decision_of plan good j t given.card.receives inside received in
         elim given.fitted [
           | inl whole ↦ whole.1
           | inr without ↦ absurd (without.0 may)

@@ -10,12 +10,13 @@ use Rattle.slot_match.specs.Matches.{fed_of, Serves}
 use Rattle.slot_match.proofs.Pairs.{Serves-from}
 use Rattle.multicast_queue.specs.FanQueues.{FanCell}
 use Rattle.crossbar.specs.Crossing.{deposit_by}
-use Rattle.slot_histories.specs.Slots.{slot_posts, decision_at, crossed}
+use Rattle.eslip_rounds.specs.Schedulers.{Scheduler, IsScheduler}
+use Rattle.slot_histories.specs.Slots.{slot_posts, decision_under, crossed_under}
 use Rattle.card_core.specs.Plans.{Plan}
 use Rattle.card_core.specs.Grants.{first_of}
 use Rattle.switch_plan.specs.GoodPlans.{SwitchPlan, IsGood}
-use Rattle.whole_run.specs.Runs.{ports_of, setup_for, card_at, posts_in}
-use Rattle.whole_run.specs.Crossings.{cells_to, queue_to}
+use Rattle.whole_run.specs.Runs.{ports_of, setup_for, card_at, posts_under}
+use Rattle.whole_run.specs.Crossings.{cells_under, queue_to}
 use Rattle.whole_run.proofs.Base.{sound}
 use Rattle.whole_run.proofs.PacketCells.{named}
 use Rattle.whole_run.proofs.FlowCells.{IsFrom, FirstsAre, cells_to-push, waits_at, crossed_is, crossed_from}
@@ -27,17 +28,17 @@ one_from i level kind card cell (c ∷ w) is are = subst (IsFrom i level kind) (
   head_is : (c d : Cell) → c ∷ [] ≡ d ∷ [] → c ≡ d
   head_is c d e = cc
 
-module _ (plan : SwitchPlan) (good : IsGood plan) where
+module _ (scheduler : Scheduler) (scheduling : IsScheduler scheduler) (plan : SwitchPlan) (good : IsGood plan) where
   abbrev matched_at : ℕ → List (Option Fed)
-  matched_at t = (decision_at (setup_for plan) (posts_in plan) t).matched
+  matched_at t = (decision_under scheduler (setup_for plan) (posts_under scheduler plan) t).matched
 
   abbrev cell_at : ℕ → ℕ → Option Cell
-  cell_at j t = crossed (setup_for plan) (posts_in plan) j t
+  cell_at j t = crossed_under scheduler (setup_for plan) (posts_under scheduler plan) j t
 
   -- an input feeds the output to which a cell crosses
   feeds_by : (j t : ℕ) (cell : Cell) (o : Option Fed) → fed_of (matched_at t) j ≡ o → cell_at j (suc t) ≡ Some cell → (fed : Fed) × Serves (matched_at t) fed.input j fed.level fed.kind
   feeds_by j t cell None none is =
-      let deposits : List (Option Cell) = map (λ post. post.cell) (slot_posts (ports_of plan) (posts_in plan) (suc t)) in
+      let deposits : List (Option Cell) = map (λ post. post.cell) (slot_posts (ports_of plan) (posts_under scheduler plan) (suc t)) in
       let nothing : None ≡ Some cell = sym (ap (deposit_by deposits) none) ∙ is in
       absurd (cc)
   feeds_by j t cell (Some fed) some is = (fed, Serves-from (matched_at t) j fed some)
@@ -47,24 +48,24 @@ module _ (plan : SwitchPlan) (good : IsGood plan) where
 
   pub comes_from : (i j level : ℕ) (kind : Kind) (t : ℕ) (cell : Cell) → Serves (matched_at t) i j level kind → cell_at j (suc t) ≡ Some cell → IsFrom i level kind cell
   comes_from i j level kind t cell serves is =
-      let inside = (sound plan good t).matches.input_in i j level kind serves in
-      one_from i level kind (card_at plan i) cell (waits_at plan good i (queue_to j level kind) t) (sym (ap option_to_list is) ∙ crossed_is plan good i j level kind t serves) (crossed_from plan good i j level kind t inside)
+      let inside = (sound scheduler scheduling plan good t).matches.input_in i j level kind serves in
+      one_from i level kind (card_at plan i) cell (waits_at scheduler scheduling plan good i (queue_to j level kind) t) (sym (ap option_to_list is) ∙ crossed_is scheduler scheduling plan good i j level kind t serves) (crossed_from scheduler scheduling plan good i j level kind t inside)
 
   -- ---- each cell that crosses is of a flow
   one_of : (j t : ℕ) (o : Option Cell) → cell_at j (suc t) ≡ o → All (λ cell. (cell.input < ports_of plan) × (cell.level < LEVELS)) (option_to_list o)
   one_of j t None is = λ k d short. absurd (omega arith)
   one_of j t (Some cell) is =
       let (fed, serves) = feeds j t cell is in
-      let matches = (sound plan good t).matches in
+      let matches = (sound scheduler scheduling plan good t).matches in
       let inside = matches.input_in fed.input j fed.level fed.kind serves in
       let below = matches.level_in fed.input j fed.level fed.kind serves in
       let from = comes_from fed.input j fed.level fed.kind t cell serves is in
       let P : Cell → Type 0 = λ cell. (cell.input < ports_of plan) × (cell.level < LEVELS) in
       All-cons P cell [] (omega (arith, from.0, inside), omega (arith, from.1, below)) (All-nil P)
 
-  pub all_of_flows : (j slots : ℕ) → All (λ cell. (cell.input < ports_of plan) × (cell.level < LEVELS)) (cells_to plan j slots)
+  pub all_of_flows : (j slots : ℕ) → All (λ cell. (cell.input < ports_of plan) × (cell.level < LEVELS)) (cells_under scheduler plan j slots)
   all_of_flows j zero = λ k d short. absurd (omega arith)
   all_of_flows j (suc zero) = λ k d short. absurd (omega arith)
   all_of_flows j (suc (suc t)) =
       let P : Cell → Type 0 = λ cell. (cell.input < ports_of plan) × (cell.level < LEVELS) in
-      subst (All P) (sym (cells_to-push plan j (suc t))) (All-append P (cells_to plan j (suc t)) (option_to_list (cell_at j (suc t))) (all_of_flows j (suc t)) (one_of j t (cell_at j (suc t)) refl))
+      subst (All P) (sym (cells_to-push scheduler plan j (suc t))) (All-append P (cells_under scheduler plan j (suc t)) (option_to_list (cell_at j (suc t))) (all_of_flows j (suc t)) (one_of j t (cell_at j (suc t)) refl))

@@ -9,15 +9,20 @@ use Rattle.rotating_pick.specs.declared.kinds.Kind.{Kind}
 use Rattle.rotating_pick.specs.declared.kinds.Kind.TheVariants.{Uni, Multi}
 use Rattle.rotating_pick.specs.declared.limits.TheConstants.{LEVELS}
 use Rattle.slot_match.specs.declared.rows.Row.{Row}
+use Rattle.slot_match.specs.declared.matching.Fed.{Fed}
 use Rattle.slot_match.specs.Rows.{Names, row_of}
 use Rattle.slot_match.specs.Matches.{Serves}
 use Rattle.pointer_state.specs.Places.{Places, ArePointing, places_at_first}
 use Rattle.pointer_state.proofs.Moves.{AreAtPorts-at_first}
+use Rattle.eslip_rounds.specs.Slots.{AreMoved}
 use Rattle.eslip_rounds.specs.Schedules.{DecidedSlot}
+use Rattle.eslip_rounds.specs.Schedulers.{Scheduler, IsSchedulerBy, IsScheduler}
+use Rattle.eslip_rounds.specs.Decisions.{decision_of}
+use Rattle.eslip_rounds.proofs.Scheduling.{IsSchedulerBy-decision_of, IsScheduler-decision_of}
 use Rattle.slot_histories.specs.Slots.{slot_rows}
 use Rattle.slot_histories.proofs.PostedRows.{row_of-slot_rows}
-use Rattle.slot_board.specs.Schedules.{decided_slot}
-use Rattle.service_bound.specs.Windows.{IsWindow, IsClean, IsWithoutMulticast, InFirst, places_after}
+use Rattle.slot_board.specs.Schedules.{decided_under, decided_slot}
+use Rattle.service_bound.specs.Windows.{IsWindowBy, IsWindow, IsClean, IsWithoutMulticast, InFirst, places_after}
 use Rattle.service_bound.specs.Waits.{noted_of, longest_wait, longest_service_by}
 use Rattle.service_bound.proofs.PartsOfSchedules.{part_is_window}
 use Rattle.service_bound.proofs.ServedInTime.{served_in_time}
@@ -26,9 +31,9 @@ use Rattle.service_bound.proofs.WaitsByRounds.{longest_wait-below_service}
 use Rattle.card_core.specs.Plans.{level_of, kind_of, queue_of}
 use Rattle.card_core.proofs.After.{level-queue}
 use Rattle.switch_plan.specs.GoodPlans.{SwitchPlan, IsGood}
-use Rattle.whole_run.specs.Runs.{ports_of, setup_for, card_at, served_by, posts_in}
+use Rattle.whole_run.specs.Runs.{ports_of, setup_for, card_at, parts_under, posts_under, posts_in}
 use Rattle.whole_run.specs.Crossings.{queue_to}
-use Rattle.whole_run.specs.Sums.{run_schedule, IsBestLevel}
+use Rattle.whole_run.specs.Sums.{schedule_under, run_schedule, IsBestUnder, IsBestLevel}
 use Rattle.whole_run.proofs.Base.{good-card}
 use Rattle.whole_run.proofs.FlowCells.{level_to, kind_to}
 use Rattle.whole_run.proofs.RunSchedule.{run-schedule, run-within, run-kept}
@@ -61,13 +66,13 @@ served_by_rounds n rounds t level i j places slots some inside window alone firs
       | inr more ↦ served_in_time n rounds t level i j places slots some inside window alone first (rw more.0 at long)
     ]
 
+begins : (plan : SwitchPlan) → IsGood plan → (level : ℕ) → level < LEVELS → ArePointing (ports_of plan) level (places_at_first (ports_of plan))
+unfolding places_at_first
+begins plan good level below = (AreAtPorts-at_first (ports_of plan) good.size.some good.size.most).pointing level below
+
 module _ (plan : SwitchPlan) (good : IsGood plan) where
   abbrev slot_at : ℕ → DecidedSlot
   slot_at = decided_slot (setup_for plan) (posts_in plan)
-
-  begins : (level : ℕ) → level < LEVELS → ArePointing (ports_of plan) level (places_at_first (ports_of plan))
-  unfolding places_at_first
-  begins level below = (AreAtPorts-at_first (ports_of plan) good.size.some good.size.most).pointing level below
 
   pub served-in-window : (slots first level i j : ℕ) → level < LEVELS → i < ports_of plan → first + longest_service_by (ports_of plan) plan.rounds ≤ slots
       → All (λ slot. IsClean (ports_of plan) level slot.rows × IsWithoutMulticast (ports_of plan) level slot.rows) (take (longest_service_by (ports_of plan) plan.rounds) (drop first (run_schedule plan slots)))
@@ -79,48 +84,56 @@ module _ (plan : SwitchPlan) (good : IsGood plan) where
       let part = take count (drop first (run_schedule plan slots)) in
       let is : part ≡ map slot_at (range_with_len first count) = middle slot_at first count slots few in
       let window : IsWindow n plan.rounds (0 + first) level (places_after (places_at_first n) (take first (run_schedule plan slots))) part =
-      part_is_window n plan.rounds 0 level first count (places_at_first n) (run_schedule plan slots) good.size.some (begins level below) (run-schedule plan good slots) (run-within plan good slots) (run-kept plan good slots)
+      part_is_window n plan.rounds 0 level first count (places_at_first n) (run_schedule plan slots) good.size.some (begins plan good level below) (run-schedule decision_of IsScheduler-decision_of plan good AreMoved IsSchedulerBy-decision_of slots) (run-within decision_of IsScheduler-decision_of plan good slots) (run-kept decision_of IsScheduler-decision_of plan good slots)
       (λ k d short. (quiet k d short).0) in
       let there : Names (row_of (slot_at first).rows i) level Uni j = subst (λ row. Names row level Uni j) (sym (row_of-slot_rows n (posts_in plan) first i inside)) named in
       let long : length part ≡ count = ap length is ∙ length-map-range_with_len slot_at first count in
       served_by_rounds n plan.rounds (0 + first) level i j (places_after (places_at_first n) (take first (run_schedule plan slots))) part good.rounds.some inside window (λ k d short. (quiet k d short).1)
       (subst (InFirst (λ rows. Names (row_of rows i) level Uni j)) (sym is) (in_first (λ rows. Names (row_of rows i) level Uni j) slot_at first count there)) (omega arith)
 
-  -- ---- where no packet of a better level is admitted, and no multicast packet of the level
-  module _ (slots level : ℕ) (best : IsBestLevel plan slots level) where
-    -- what a row names is of an admitted packet of the level and the kind
-    named_at : (u i there j : ℕ) (kind : Kind) → u < slots → i < ports_of plan → there < LEVELS → Names (row_of (slot_rows (ports_of plan) (posts_in plan) u) i) there kind j
-        → (level ≤ there) × (there ≡ level → kind ≡ Uni)
-    named_at u i there j kind early inside below named =
-        let row : Names (posts_in plan i u).row there kind j = subst (λ row. Names row there kind j) (row_of-slot_rows (ports_of plan) (posts_in plan) u i inside) named in
-        let waits = named-waits (card_at plan i) (good-card plan good i inside).good (served_by plan i u) u j there kind below row in
-        let (p, admitted, is) = waiting-admitted plan good slots i u inside early (queue_to j there kind) waits in
-        let levels : p.level ≡ there = sym (level-queue p) ∙ ap level_of (sym is) ∙ level_to j there kind in
-        let kinds : kind ≡ kind_of (queue_of p) = sym (kind_to j there kind) ∙ ap kind_of is in
-        let least = best.best i p inside admitted in
-        (omega arith, λ same. kinds ∙ best.unicast i p inside admitted (levels ∙ same))
+-- ---- where no packet of a better level is admitted, and no multicast packet of the level
+module _ (scheduler : Scheduler) (scheduling : IsScheduler scheduler) (plan : SwitchPlan) (good : IsGood plan) (slots level : ℕ) (best : IsBestUnder scheduler plan slots level) where
+  abbrev slot_under : ℕ → DecidedSlot
+  slot_under = decided_under scheduler (setup_for plan) (posts_under scheduler plan)
 
-    clean_at : (u : ℕ) → u < slots → IsClean (ports_of plan) level (slot_rows (ports_of plan) (posts_in plan) u)
-    clean_at u early i better j kind inside less named = let least = (named_at u i better j kind early inside (omega (arith, best.level_in)) named).0 in omega arith
+  -- what a row names is of an admitted packet of the level and the kind
+  named_at : (u i there j : ℕ) (kind : Kind) → u < slots → i < ports_of plan → there < LEVELS → Names (row_of (slot_rows (ports_of plan) (posts_under scheduler plan) u) i) there kind j
+      → (level ≤ there) × (there ≡ level → kind ≡ Uni)
+  named_at u i there j kind early inside below named =
+      let row : Names (posts_under scheduler plan i u).row there kind j = subst (λ row. Names row there kind j) (row_of-slot_rows (ports_of plan) (posts_under scheduler plan) u i inside) named in
+      let waits = named-waits (card_at plan i) (good-card plan good i inside).good (parts_under scheduler plan i u) u j there kind below row in
+      let (p, admitted, is) = waiting-admitted scheduler scheduling plan good slots i u inside early (queue_to j there kind) waits in
+      let levels : p.level ≡ there = sym (level-queue p) ∙ ap level_of (sym is) ∙ level_to j there kind in
+      let kinds : kind ≡ kind_of (queue_of p) = sym (kind_to j there kind) ∙ ap kind_of is in
+      let least = best.best i p inside admitted in
+      (omega arith, λ same. kinds ∙ best.unicast i p inside admitted (levels ∙ same))
 
-    alone_at : (u : ℕ) → u < slots → IsWithoutMulticast (ports_of plan) level (slot_rows (ports_of plan) (posts_in plan) u)
-    alone_at u early i j inside named = let kind : Multi ≡ Uni = (named_at u i level j Multi early inside best.level_in named).1 refl in cc
+  clean_at : (u : ℕ) → u < slots → IsClean (ports_of plan) level (slot_rows (ports_of plan) (posts_under scheduler plan) u)
+  clean_at u early i better j kind inside less named = let least = (named_at u i better j kind early inside (omega (arith, best.level_in)) named).0 in omega arith
 
-    all_slots : (P : List Row → Type 0) → ((u : ℕ) → u < slots → P (slot_rows (ports_of plan) (posts_in plan) u)) → All (λ slot. P slot.rows) (run_schedule plan slots)
-    all_slots P each k d short =
-        let long = length-map-range_with_len slot_at 0 slots in
-        let here : slice_index_or (run_schedule plan slots) k d ≡ slot_at k = get_or-map-range_with_len slot_at 0 slots k k d (omega arith) (omega arith) in
-        subst (λ (slot : DecidedSlot). P slot.rows) (sym here) (each k (omega arith))
+  alone_at : (u : ℕ) → u < slots → IsWithoutMulticast (ports_of plan) level (slot_rows (ports_of plan) (posts_under scheduler plan) u)
+  alone_at u early i j inside named = let kind : Multi ≡ Uni = (named_at u i level j Multi early inside best.level_in named).1 refl in cc
 
-    pub waits-short : longest_wait (ports_of plan) level (map noted_of (run_schedule plan slots)) < longest_service_by (ports_of plan) plan.rounds
-    waits-short =
-        let n = ports_of plan in
-        let window : IsWindow n plan.rounds 0 level (places_at_first n) (run_schedule plan slots) =
-        record {
-          pointing = begins level best.level_in;
-          schedule = run-schedule plan good slots;
-          within = run-within plan good slots;
-          kept = run-kept plan good slots;
-          clean = all_slots (IsClean n level) clean_at;
-        } in
-        longest_wait-below_service n plan.rounds 0 level (places_at_first n) (run_schedule plan slots) good.size.some good.rounds.some window (all_slots (IsWithoutMulticast n level) alone_at)
+  all_slots : (P : List Row → Type 0) → ((u : ℕ) → u < slots → P (slot_rows (ports_of plan) (posts_under scheduler plan) u)) → All (λ slot. P slot.rows) (schedule_under scheduler plan slots)
+  all_slots P each k d short =
+      let long = length-map-range_with_len slot_under 0 slots in
+      let here : slice_index_or (schedule_under scheduler plan slots) k d ≡ slot_under k = get_or-map-range_with_len slot_under 0 slots k k d (omega arith) (omega arith) in
+      subst (λ (slot : DecidedSlot). P slot.rows) (sym here) (each k (omega arith))
+
+  -- the slots are a window, in which nothing of the level is multicast
+  pub best-window : (Moves : ℕ → ℕ → List Row → List (Option Fed) → List (Option Fed) → Places → Places → Type 0) → IsSchedulerBy Moves scheduler → IsWindowBy Moves (ports_of plan) plan.rounds 0 level (places_at_first (ports_of plan)) (schedule_under scheduler plan slots)
+  best-window Moves moving = record {
+    pointing = begins plan good level best.level_in;
+    schedule = run-schedule scheduler scheduling plan good Moves moving slots;
+    within = run-within scheduler scheduling plan good slots;
+    kept = run-kept scheduler scheduling plan good slots;
+    clean = all_slots (IsClean (ports_of plan) level) clean_at;
+  }
+
+  pub best-alone : All (λ slot. IsWithoutMulticast (ports_of plan) level slot.rows) (schedule_under scheduler plan slots)
+  best-alone = all_slots (IsWithoutMulticast (ports_of plan) level) alone_at
+
+pub waits-short : (plan : SwitchPlan) → IsGood plan → (slots level : ℕ) → IsBestLevel plan slots level → longest_wait (ports_of plan) level (map noted_of (run_schedule plan slots)) < longest_service_by (ports_of plan) plan.rounds
+waits-short plan good slots level best =
+    longest_wait-below_service (ports_of plan) plan.rounds 0 level (places_at_first (ports_of plan)) (run_schedule plan slots) good.size.some good.rounds.some
+    (best-window decision_of IsScheduler-decision_of plan good slots level best AreMoved IsSchedulerBy-decision_of) (best-alone decision_of IsScheduler-decision_of plan good slots level best)

@@ -12,6 +12,7 @@ use Rattle.slot_match.specs.Rows.{Names}
 use Rattle.slot_match.proofs.Sets.{Has-set_of}
 use Rattle.multicast_queue.specs.FanQueues.{FanCell}
 use Rattle.cell_rings.specs.CellQueues.{cells_with_fan}
+use Rattle.eslip_rounds.specs.Schedulers.{Scheduler, IsScheduler}
 use Rattle.card_core.specs.declared.plan.Planned.{Planned}
 use Rattle.card_core.specs.Plans.{Plan, Queue, OfOutput, OfLevel, IsGoodPlan, is_queue, queue_of, size_of}
 use Rattle.card_core.specs.Queues.{Passed, waiting, rest_of, with_since, head_gone, after_part_of, is_routed, fits, queue_in, is_admitted, enters, cells_admitted}
@@ -19,9 +20,9 @@ use Rattle.card_core.specs.Posts.{has_cells, unis_at, rest_at, row_at}
 use Rattle.card_core.proofs.Admitting.{entered-is}
 use Rattle.card_core.proofs.Passing.{is_queue-same, some_waiting}
 use Rattle.switch_plan.specs.GoodPlans.{SwitchPlan, IsGood}
-use Rattle.whole_run.specs.Runs.{ports_of, card_at, served_by}
+use Rattle.whole_run.specs.Runs.{ports_of, card_at, parts_under}
 use Rattle.whole_run.specs.Crossings.{queue_to}
-use Rattle.whole_run.specs.Sums.{IsAdmitted}
+use Rattle.whole_run.specs.Sums.{IsAdmittedUnder}
 use Rattle.whole_run.proofs.Base.{good-card, before-same}
 
 -- ---- what a slot serves takes no cell from those that entered
@@ -79,16 +80,16 @@ tests_of true true false d is = absurd (cc)
 tests_of true false s d is = absurd (cc)
 tests_of false r s d is = absurd (cc)
 
-module _ (plan : SwitchPlan) (good : IsGood plan) (slots i u : ℕ) (inside : i < ports_of plan) (below : u < slots) where
+module _ (scheduler : Scheduler) (scheduling : IsScheduler scheduler) (plan : SwitchPlan) (good : IsGood plan) (slots i u : ℕ) (inside : i < ports_of plan) (below : u < slots) where
   -- whether a packet is admitted depends on the slots before its own alone
-  admitted_there : (p : Planned) → p.arrival ≤ u → is_admitted (card_at plan i) (served_by plan i slots) p.arrival p ≡ is_admitted (card_at plan i) (served_by plan i u) p.arrival p
+  admitted_there : (p : Planned) → p.arrival ≤ u → is_admitted (card_at plan i) (parts_under scheduler plan i slots) p.arrival p ≡ is_admitted (card_at plan i) (parts_under scheduler plan i u) p.arrival p
   admitted_there p early =
-      ap (λ s. fits (card_at plan i) s p) (before-same plan i p.arrival slots (omega arith) (queue_of p) ∙ sym (before-same plan i p.arrival u early (queue_of p)))
+      ap (λ s. fits (card_at plan i) s p) (before-same scheduler plan i p.arrival slots (omega arith) (queue_of p) ∙ sym (before-same scheduler plan i p.arrival u early (queue_of p)))
 
-  pub waiting-admitted : (q : Queue) → has_cells (waiting (queue_in (card_at plan i) q (served_by plan i u) u)) ≡ true → (p : Planned) × IsAdmitted plan slots i p × (q ≡ queue_of p)
+  pub waiting-admitted : (q : Queue) → has_cells (waiting (queue_in (card_at plan i) q (parts_under scheduler plan i u) u)) ≡ true → (p : Planned) × IsAdmittedUnder scheduler plan slots i p × (q ≡ queue_of p)
   waiting-admitted q some =
       let card = card_at plan i in
-      let served = served_by plan i u in
+      let served = parts_under scheduler plan i u in
       let s = queue_in card q served u in
       let all : s.entered ≡ cells_admitted card q served (suc u) 0 card.packets =
       sym (entered-after q s (slice_index_or served u None) (waiting s)) ∙ entered-is card q served (good-card plan good i inside).good (suc u) in

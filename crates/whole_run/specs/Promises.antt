@@ -1,4 +1,5 @@
--- What is promised of a run of so many slots: what it delivers, how long a queue waits, and how many slots it has.
+-- What is promised of a run of so many slots: what it delivers, how long a queue waits, and how many slots it has. What
+-- ends in `Under` is promised of any scheduler.
 use Rattle.std.specs.Prelude.{◌≡◌, ℕ, ◌+◌, ◌<◌, ◌≤◌, [], All, Any, map, take, drop, false}
 use Rattle.rotating_pick.specs.declared.kinds.Kind.{Kind}
 use Rattle.rotating_pick.specs.declared.kinds.Kind.TheVariants.{Uni}
@@ -7,25 +8,33 @@ use Rattle.slot_match.specs.Rows.{Names}
 use Rattle.slot_match.specs.Matches.{Serves}
 use Rattle.service_bound.specs.Windows.{IsClean, IsWithoutMulticast}
 use Rattle.service_bound.specs.Waits.{noted_of, longest_wait, longest_service_by}
-use Rattle.slot_histories.specs.Slots.{decision_at}
+use Rattle.eslip_rounds.specs.Schedulers.{Scheduler}
+use Rattle.eslip_rounds.specs.Decisions.{decision_of}
+use Rattle.slot_histories.specs.Slots.{decision_under}
 use Rattle.slot_histories.specs.Tests.{is_empty}
 use Rattle.card_core.specs.Plans.{message_of}
 use Rattle.card_core.specs.Deliveries.{messages_from}
 use Rattle.switch_plan.specs.Totals.{greatest_slots}
 use Rattle.switch_plan.specs.GoodPlans.{SwitchPlan, packets_in}
-use Rattle.whole_run.specs.Runs.{ports_of, setup_for, card_at, posts_in}
-use Rattle.whole_run.specs.Crossings.{cells_to, admitted_to}
-use Rattle.whole_run.specs.Sums.{total_admitted, run_schedule, IsBestLevel}
+use Rattle.whole_run.specs.Runs.{ports_of, setup_for, card_at, posts_under, posts_in}
+use Rattle.whole_run.specs.Crossings.{cells_under, admitted_under}
+use Rattle.whole_run.specs.Sums.{total_under, schedule_under, run_schedule, IsBestUnder}
 
 -- At each output the messages of each flow are those of the admitted packets of that input, level and kind with the
 -- output in their fan-out, in order of arrival.
+abbrev pub DeliversUnder : Scheduler → SwitchPlan → ℕ → Type 0
+DeliversUnder scheduler plan slots = (i j level : ℕ) (kind : Kind) → i < ports_of plan → j < ports_of plan → level < LEVELS
+    → messages_from i level kind [] (cells_under scheduler plan j slots) ≡ map (message_of (card_at plan i)) (admitted_under scheduler plan j i level kind slots)
+
 abbrev pub DeliversAdmitted : SwitchPlan → ℕ → Type 0
-DeliversAdmitted plan slots = (i j level : ℕ) (kind : Kind) → i < ports_of plan → j < ports_of plan → level < LEVELS
-    → messages_from i level kind [] (cells_to plan j slots) ≡ map (message_of (card_at plan i)) (admitted_to plan j i level kind slots)
+DeliversAdmitted = DeliversUnder decision_of
 
 -- And there are no others: each cell that crosses is of an input and a level of the switch.
+abbrev pub DeliversNoOthersUnder : Scheduler → SwitchPlan → ℕ → Type 0
+DeliversNoOthersUnder scheduler plan slots = (j : ℕ) → All (λ cell. (cell.input < ports_of plan) × (cell.level < LEVELS)) (cells_under scheduler plan j slots)
+
 abbrev pub DeliversNoOthers : SwitchPlan → ℕ → Type 0
-DeliversNoOthers plan slots = (j : ℕ) → All (λ cell. (cell.input < ports_of plan) × (cell.level < LEVELS)) (cells_to plan j slots)
+DeliversNoOthers = DeliversNoOthersUnder decision_of
 
 -- in how many slots a unicast request is served at the latest, where nothing better is posted
 abbrev pub bound_of : SwitchPlan → ℕ
@@ -39,17 +48,26 @@ ServesWaiting plan slots = (first level i j : ℕ) → level < LEVELS → i < po
     → Names (posts_in plan i first).row level Uni j
     → Any (λ slot. Serves slot.decision.matched i j level Uni) (take (bound_of plan) (drop first (run_schedule plan slots)))
 
--- The longest wait of the best level of all admitted packets is below that number of slots, where none of that level is
--- multicast.
+-- The longest wait of the best level of all admitted packets is below the bound, where none of that level is multicast.
+abbrev pub WaitsUnder : Scheduler → SwitchPlan → ℕ → ℕ → Type 0
+WaitsUnder scheduler plan slots bound = (level : ℕ) → IsBestUnder scheduler plan slots level → longest_wait (ports_of plan) level (map noted_of (schedule_under scheduler plan slots)) < bound
+
+-- And the bound is that number of slots.
 abbrev pub WaitsAreShort : SwitchPlan → ℕ → Type 0
-WaitsAreShort plan slots = (level : ℕ) → IsBestLevel plan slots level → longest_wait (ports_of plan) level (map noted_of (run_schedule plan slots)) < bound_of plan
+WaitsAreShort plan slots = WaitsUnder decision_of plan slots (bound_of plan)
 
 -- There are at most as many slots as the greatest number of arrival slots, the cells of the admitted packets counted for
 -- each output, and one.
+abbrev pub HasFewSlotsUnder : Scheduler → SwitchPlan → ℕ → Type 0
+HasFewSlotsUnder scheduler plan slots = slots ≤ greatest_slots (packets_in plan) + total_under scheduler plan slots + 1
+
 abbrev pub HasFewSlots : SwitchPlan → ℕ → Type 0
-HasFewSlots plan slots = slots ≤ greatest_slots (packets_in plan) + total_admitted plan slots + 1
+HasFewSlots = HasFewSlotsUnder decision_of
 
 -- A slot in which some port posts a row that is not empty matches a pair.
+abbrev pub BusySlotsMatchUnder : Scheduler → SwitchPlan → Type 0
+BusySlotsMatchUnder scheduler plan = (i t : ℕ) → i < ports_of plan → is_empty (posts_under scheduler plan i t).row ≡ false
+    → (input output level : ℕ) × (kind : Kind) × Serves (decision_under scheduler (setup_for plan) (posts_under scheduler plan) t).matched input output level kind
+
 abbrev pub BusySlotsMatch : SwitchPlan → Type 0
-BusySlotsMatch plan = (i t : ℕ) → i < ports_of plan → is_empty (posts_in plan i t).row ≡ false
-    → (input output level : ℕ) × (kind : Kind) × Serves (decision_at (setup_for plan) (posts_in plan) t).matched input output level kind
+BusySlotsMatch = BusySlotsMatchUnder decision_of

@@ -1,4 +1,5 @@
 -- The run of a switch over its plan, slot by slot: what each card posts, what each slot decides, and its journal.
+-- What ends in `under` is of any scheduler; the other names are of the scheduler of the board.
 use Rattle.std.specs.Prelude.{ℕ, zero, suc, List, [], ◌∷◌, ◌++◌, map, length, Option, slice_index_or}
 use Rattle.std.specs.List.{range_with_len}
 use Rattle.slot_match.specs.declared.rows.Row.{Row}
@@ -6,11 +7,12 @@ use Rattle.slot_match.specs.declared.matching.Served.{Served}
 use Rattle.slot_match.specs.Parts.{served_of}
 use Rattle.pointer_state.specs.Places.{Places, places_at_first}
 use Rattle.eslip_rounds.specs.Slots.{Decision}
+use Rattle.eslip_rounds.specs.Schedulers.{Scheduler}
 use Rattle.eslip_rounds.specs.Decisions.{decision_of}
 use Rattle.crossbar.specs.declared.cards.Post.{Post}
 use Rattle.crossbar.specs.declared.cards.Taken.{Taken}
 use Rattle.slot_histories.specs.Events.{Setup}
-use Rattle.slot_histories.specs.Slots.{taken_at}
+use Rattle.slot_histories.specs.Slots.{taken_under}
 use Rattle.slot_histories.specs.Answers.{JournalSlot, journal_slot}
 use Rattle.card_core.specs.Plans.{Plan}
 use Rattle.card_core.specs.Posts.{row_at, post_at}
@@ -42,25 +44,31 @@ abbrev pub rows_in : SwitchPlan → Before → ℕ → List Row
 rows_in plan b t = map (λ i. row_at (card_at plan i) (b.served i) t) (range_with_len 0 (ports_of plan))
 
 -- what slot t decides
-abbrev pub decision_in : SwitchPlan → Before → ℕ → Decision
-decision_in plan b t = decision_of (ports_of plan) plan.rounds t (rows_in plan b t) b.places
+abbrev pub decision_in : Scheduler → SwitchPlan → Before → ℕ → Decision
+decision_in scheduler plan b t = scheduler (ports_of plan) plan.rounds t (rows_in plan b t) b.places
 
 -- what the slot after it begins with
 abbrev pub after_slot : Before → Decision → Before
 after_slot b decision = record { places = decision.places; served = λ i. b.served i ++ served_of decision.matched i ∷ [] }
 
 -- Slot 0 begins with all pointers at port 0 and nothing served, each further slot with what the one before left.
-unfoldable pub before : SwitchPlan → ℕ → Before
-before plan zero = record { places = places_at_first (ports_of plan); served = λ i. [] }
-before plan (suc t) = after_slot (before plan t) (decision_in plan (before plan t) t)
+unfoldable pub before_under : Scheduler → SwitchPlan → ℕ → Before
+before_under scheduler plan zero = record { places = places_at_first (ports_of plan); served = λ i. [] }
+before_under scheduler plan (suc t) = after_slot (before_under scheduler plan t) (decision_in scheduler plan (before_under scheduler plan t) t)
 
 -- what port i was served in the slots before slot t
+abbrev pub parts_under : Scheduler → SwitchPlan → ℕ → ℕ → List (Option Served)
+parts_under scheduler plan i t = (before_under scheduler plan t).served i
+
 abbrev pub served_by : SwitchPlan → ℕ → ℕ → List (Option Served)
-served_by plan i t = (before plan t).served i
+served_by = parts_under decision_of
 
 -- what port i posts in slot t
+abbrev pub posts_under : Scheduler → SwitchPlan → ℕ → ℕ → Post
+posts_under scheduler plan i t = post_at (card_at plan i) (parts_under scheduler plan i t) t
+
 abbrev pub posts_in : SwitchPlan → ℕ → ℕ → Post
-posts_in plan i t = post_at (card_at plan i) (served_by plan i t) t
+posts_in = posts_under decision_of
 
 -- slot t with its posts, its match and its numbers
 abbrev pub run_slot : SwitchPlan → ℕ → JournalSlot
@@ -71,5 +79,8 @@ abbrev pub run_journal : SwitchPlan → ℕ → List JournalSlot
 run_journal plan slots = map (run_slot plan) (range_with_len 0 slots)
 
 -- what port i takes of the first slots: its part of each slot, and the cell that crosses to it
+abbrev pub takings_under : Scheduler → SwitchPlan → ℕ → ℕ → List Taken
+takings_under scheduler plan i slots = map (taken_under scheduler (setup_for plan) (posts_under scheduler plan) i) (range_with_len 0 slots)
+
 abbrev pub run_takings : SwitchPlan → ℕ → ℕ → List Taken
-run_takings plan i slots = map (taken_at (setup_for plan) (posts_in plan) i) (range_with_len 0 slots)
+run_takings = takings_under decision_of
