@@ -23,6 +23,8 @@ use Rattle.card_core.specs.Grants.{packets_to}
 use Rattle.card_core.specs.Deliveries.{ended_by, is_of_flow, messages_after, messages_from}
 use Rattle.slot_histories.specs.Tests.{has}
 use Rattle.switch_plan.specs.GoodPlans.{SwitchPlan, IsGood}
+use Rattle.eslip_rounds.specs.Decisions.{decision_of}
+use Rattle.eslip_rounds.proofs.Scheduling.{IsScheduler-decision_of}
 use Rattle.whole_run.specs.Runs.{card_at, no_plan, ports_of, served_by}
 use Rattle.whole_run.specs.Ends.{IsLength}
 use Rattle.whole_run.specs.Crossings.{admitted_to, cells_to, queue_to}
@@ -111,9 +113,9 @@ good_card plan i good i_in = (good.cards i (card_at plan i) (slice_get-get_or pl
 
 messages_size : (plan : SwitchPlan) (slots j : ℕ) → IsGood plan → IsLength plan slots → j < ports_of plan → All IsOfSize (messages_to plan j slots)
 messages_size plan slots j good ends j_in =
-    all_flows IsOfSize (ports_of plan) 4 [] (cells_to plan j slots) (all_of_flows plan good j slots)
+    all_flows IsOfSize (ports_of plan) 4 [] (cells_to plan j slots) (all_of_flows decision_of IsScheduler-decision_of plan good j slots)
     (λ i level kind i_in level_in. All-same IsOfSize (messages_from i level kind [] (cells_to plan j slots)) (map (message_of (card_at plan i)) (admitted_to plan j i level kind slots))
-    (packets_delivered plan good i j level kind slots ends i_in j_in level_in) (packets_size (card_at plan i) (queue_to j level kind) j (served_by plan i slots) slots (good_card plan i good i_in)))
+    (packets_delivered decision_of IsScheduler-decision_of plan good i j level kind slots ends i_in j_in level_in) (packets_size (card_at plan i) (queue_to j level kind) j (served_by plan i slots) slots (good_card plan i good i_in)))
 
 by_lengths : (ms : List (List ℕ)) → sum_by length ms ≡ length (concat ms)
 by_lengths [] = refl

@@ -5,7 +5,7 @@ use Rattle.std.proofs.lemmas.List.FromFn.{map-range_with_len_more}
 use Rattle.std.proofs.lemmas.Option.{slice_get_read}
 use Rattle.pcap_records.specs.Output.{capture_text}
 use Rattle.switch_run.proofs.InputFiles.{bytes_pushed}
-use Rattle.switch_run.proofs.making.output_captures.Goals as goal
+use Rattle.switch_run.proofs.texts.output_captures.Goals as goal
 
 pub loop-output-preserved : goal.loop-output-preserved
 loop-output-preserved c messages have =
