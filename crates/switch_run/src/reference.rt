@@ -1,4 +1,4 @@
-ghost use Rattle.std.specs.Prelude.{◌≡◌, ℕ, ◌≤◌, ◌×◌, List, [], length, map, take, option_map, string_bytes, IfOk, IfSome};
+ghost use Rattle.std.specs.Prelude.{◌≡◌, ℕ, ◌≤◌, Bool, List, [], length, map, take, option_map, string_bytes, IfOk, IfSome};
 ghost use Rattle.std.specs.List.{range_with_len};
 ghost use Rattle.slot_report.specs.Lines.{lines_text};
 ghost use Rattle.switch_plan.specs.GoodPlans.{SwitchPlan, IsGood, switch_plan_of};
@@ -42,8 +42,8 @@ pub(crate) fn reference_lines(
     reference: Option<Reference>,
     journal: &Journal,
 ) -> Result<Option<String>, OutOfMemory>
-    requires { (plan : SwitchPlan) × (slots : ℕ) × (is_wanted : _) × IsJournalOf plan slots journal.now × IsReferenceFor plan is_wanted reference }
-    ensures { (plan : SwitchPlan) (slots : ℕ) (is_wanted : _) → IsJournalOf plan slots journal.now → IsReferenceFor plan is_wanted reference → IfOk result (λ lines. option_map string_bytes lines ≡ reference_wanted is_wanted plan slots) }
+    requires { (plan : SwitchPlan) × (slots : ℕ) × (is_wanted : Bool) × IsJournalOf plan slots journal.now × IsReferenceFor plan is_wanted reference }
+    ensures { (plan : SwitchPlan) (slots : ℕ) (is_wanted : Bool) → IsJournalOf plan slots journal.now → IsReferenceFor plan is_wanted reference → IfOk result (λ lines. option_map string_bytes lines ≡ reference_wanted is_wanted plan slots) }
 {
     match reference {
         Some(reference) => Ok(Some(noted_lines(alloc, reference, journal)?)),
