@@ -1,0 +1,8 @@
+//! The job of `check`: a journal file is read and checked, and a lawful one is told of on standard output.
+#![tactic(auto)]
+
+mod checking;
+mod ending;
+
+pub use checking::check_file;
+pub use ending::CheckEnding;

@@ -1,0 +1,7 @@
+//! The run of a plan under the second scheduler, on one thread. Its summary is compared with that of the run
+//! at the board.
+#![tactic(auto)]
+
+mod running;
+
+pub use running::run_firm;

@@ -1,0 +1,177 @@
+ghost use Rattle.std.specs.Prelude.{◌≡◌, ◌*◌, ◌≤◌, ◌<◌, ◌++◌, length, map, IfOk, OnOk};
+ghost use Rattle.std.specs.List.{flat_map};
+ghost use Rattle.journal_check.specs.Texts.{sets_there, set_text, file_post, file_of, post_text, output_text, header_text, file_text, IsFileOutput};
+
+use crate::fields::{MAGIC, NO_INPUT};
+use crate::header::HEADER_BYTES;
+use crate::limits::MAX_JOURNAL_BYTES;
+use board_state::Journal;
+use crossbar::Post;
+use rotating_pick::{Kind, LEVEL_COUNT, LEVELS, OutOfMemory, Ports, is_empty, with};
+use slot_match::{Fed, Match, Row};
+use std::alloc::Global;
+
+// How many bytes a post has beside its sets: which sets there are, and `more`.
+const POST_BYTES: u64 = 2;
+
+// How many bytes a set of outputs has.
+const SET_BYTES: u64 = 8;
+
+// How many bytes an output has.
+const OUTPUT_BYTES: u64 = 2;
+
+/// How many bytes the file of a journal has. It takes no memory.
+pub fn journal_len(journal: &Journal) -> u64
+    ensures { result ≡ length (file_text (file_of journal.now)) }
+{
+    journal.legal();
+    let mut len = HEADER_BYTES as u64;
+    for slot in 0..journal.slots() {
+        len += posts_len(journal.posts(slot)) + OUTPUT_BYTES * u64::from(journal.ports());
+    }
+    len
+}
+
+// How many bytes the posts of a slot have.
+fn posts_len(posts: &[Post]) -> u64
+    requires { length posts.now ≤ 64 }
+    ensures value { result ≡ length (flat_map post_text (map file_post posts.now)) }
+    ensures few { result ≤ 66 * length posts.now }
+{
+    let mut len = 0;
+    for post in posts {
+        len += POST_BYTES + sets_len(&post.row.uni) + sets_len(&post.row.multi);
+    }
+    len
+}
+
+// How many bytes four sets have.
+fn sets_len(sets: &[Ports; LEVEL_COUNT]) -> u64
+    ensures value { result ≡ length (flat_map set_text sets.now) }
+    ensures few { result ≤ 32 }
+{
+    let mut len = 0;
+    for set in sets {
+        if !is_empty(*set) {
+            len += SET_BYTES;
+        }
+    }
+    len
+}
+
+/// The file of a journal of at least one slot, whose bytes are at most 134,217,728: its ports, rounds
+/// and slots, of each slot the rows and `more` of all cards, and the match. The cells are not kept.
+///
+/// The only error is want of memory. It is taken once, for all bytes.
+pub fn journal_bytes(alloc: Global, journal: &Journal) -> Result<Vec<u8>, OutOfMemory>
+    requires some { 0 < length journal.now.slots }
+    requires size { length (file_text (file_of journal.now)) ≤ MAX_JOURNAL_BYTES }
+    ensures { IfOk result (λ bytes. bytes.items ≡ file_text (file_of journal.now)) }
+{
+    let mut text = Vec::with_capacity(alloc, journal_len(journal) as usize)?;
+    put_header(
+        &mut text,
+        journal.ports(),
+        journal.rounds(),
+        journal.slots(),
+    )?;
+    for slot in 0..journal.slots() {
+        put_posts(&mut text, journal.posts(slot))?;
+        put_outputs(&mut text, journal.decided(slot))?;
+    }
+    Ok(text)
+}
+
+// Appends the header of a file.
+fn put_header(text: &mut Vec<u8>, ports: u32, rounds: u32, slots: u32) -> Result<(), OutOfMemory>
+    requires ports { ports < 256 }
+    requires rounds { rounds < 256 }
+    ensures { OnOk result (text.new.items ≡ text.old.items ++ header_text ports rounds slots) }
+{
+    text.extend_from_slice(&(MAGIC as u32).to_be_bytes())?;
+    text.push(ports as u8)?;
+    text.push(rounds as u8)?;
+    text.extend_from_slice(&0u16.to_be_bytes())?;
+    text.extend_from_slice(&slots.to_be_bytes())?;
+    Ok(())
+}
+
+// Appends the posts of a slot.
+fn put_posts(text: &mut Vec<u8>, posts: &[Post]) -> Result<(), OutOfMemory>
+    ensures { OnOk result (text.new.items ≡ text.old.items ++ flat_map post_text (map file_post posts.now)) }
+{
+    for post in posts {
+        put_post(text, &post.row, post.more)?;
+    }
+    Ok(())
+}
+
+// Appends a post of this row.
+fn put_post(text: &mut Vec<u8>, row: &Row, more: bool) -> Result<(), OutOfMemory>
+    ensures { OnOk result (text.new.items ≡ text.old.items ++ post_text (record { row = row.now; more = more })) }
+{
+    text.push(sets_there(row))?;
+    text.push(u8::from(more))?;
+    put_sets(text, &row.uni)?;
+    put_sets(text, &row.multi)
+}
+
+// Which sets of the row are not empty.
+fn sets_there(row: &Row) -> u8
+    ensures { result ≡ sets_there row.now }
+{
+    let mut there = 0;
+    for level in 0..LEVELS {
+        if !is_empty(row.uni[level as usize]) {
+            there = with(there, level);
+        }
+        if !is_empty(row.multi[level as usize]) {
+            there = with(there, LEVELS + level);
+        }
+    }
+    there as u8
+}
+
+// Appends the sets that are not empty.
+fn put_sets(text: &mut Vec<u8>, sets: &[Ports; LEVEL_COUNT]) -> Result<(), OutOfMemory>
+    ensures { OnOk result (text.new.items ≡ text.old.items ++ flat_map set_text sets.now) }
+{
+    for set in sets {
+        if !is_empty(*set) {
+            text.extend_from_slice(&set.to_be_bytes())?;
+        }
+    }
+    Ok(())
+}
+
+// Appends what feeds each output.
+fn put_outputs(text: &mut Vec<u8>, matched: &Match) -> Result<(), OutOfMemory>
+    ensures { OnOk result (text.new.items ≡ text.old.items ++ flat_map output_text matched.now) }
+{
+    for output in 0..matched.ports() {
+        put_output(text, matched.fed(output))?;
+    }
+    Ok(())
+}
+
+// Appends what feeds an output.
+fn put_output(text: &mut Vec<u8>, fed: Option<Fed>) -> Result<(), OutOfMemory>
+    requires { IsFileOutput 64 fed }
+    ensures { OnOk result (text.new.items ≡ text.old.items ++ output_text fed) }
+{
+    match fed {
+        Some(fed) => {
+            let odd = match fed.kind {
+                Kind::Uni => 0,
+                Kind::Multi => 1,
+            };
+            text.push(fed.input as u8)?;
+            text.push(2 * fed.level + odd)?;
+        }
+        None => {
+            text.push(NO_INPUT as u8)?;
+            text.push(0)?;
+        }
+    }
+    Ok(())
+}
