@@ -1,0 +1,116 @@
+"""The viewer's page in a headless browser, for its test."""
+
+import pathlib
+import shutil
+import time
+
+PAGE = (pathlib.Path(__file__).resolve().parent.parent / "viewer/index.html").as_uri()
+
+
+class Failed(Exception):
+    """A test's expectation that does not hold."""
+
+
+def expect(holds, what):
+    if not holds:
+        raise Failed(what)
+
+
+def find_browser():
+    """What is missing for the test, or None; and the parts of selenium."""
+    try:
+        from selenium import webdriver
+    except ImportError:
+        return "python3-selenium", None
+    for program, package in (("chromium", "chromium"), ("chromedriver", "chromium-driver")):
+        if shutil.which(program) is None:
+            return package, None
+    return None, webdriver
+
+
+class Viewer:
+    """The viewer's page in a headless browser."""
+
+    def __init__(self, webdriver, folder, shots):
+        options = webdriver.ChromeOptions()
+        for word in ("--headless=new", "--no-sandbox", "--disable-gpu", "--hide-scrollbars", f"--user-data-dir={folder}/profile"):
+            options.add_argument(word)
+        options.binary_location = shutil.which("chromium")
+        options.set_capability("goog:loggingPrefs", {"browser": "ALL"})
+        service = webdriver.chrome.service.Service(shutil.which("chromedriver"))
+        self.driver = webdriver.Chrome(service=service, options=options)
+        self.actions = webdriver.ActionChains
+        self.folder = pathlib.Path(folder)
+        self.shots = shots
+        self.load()
+
+    def load(self, fragment="", width=1400, height=900):
+        self.driver.set_window_rect(0, 0, width, height)
+        self.driver.get("about:blank")
+        self.driver.get(PAGE + fragment)
+
+    def run(self, script, *values):
+        return self.driver.execute_script(script, *values)
+
+    def text(self, name):
+        return self.run("return document.getElementById(arguments[0]).innerText", name)
+
+    def is_shown(self, name):
+        return self.run("return document.getElementById(arguments[0]).checkVisibility()", name)
+
+    def open(self, file):
+        self.run("SlotViewer.page.showNotice('')")
+        self.driver.find_element("id", "file").send_keys(str(file))
+        self.wait("document.getElementById('notice').hidden || document.getElementById('notice').innerText.includes('no slot lines')", file)
+
+    def open_bytes(self, name, data):
+        file = self.folder / name
+        file.write_bytes(data)
+        self.open(file)
+
+    def wait(self, condition, what, seconds=240):
+        end = time.monotonic() + seconds
+        while not self.run(f"return Boolean({condition})"):
+            expect(time.monotonic() < end, f"{what}: {condition} did not come in {seconds} seconds")
+            time.sleep(0.05)
+        # Two frames on, all is drawn.
+        self.driver.execute_async_script("const done = arguments[0]; requestAnimationFrame(() => requestAnimationFrame(() => done()))")
+
+    def press(self, name, key):
+        """Presses a key with the focus on an element; "" is the page."""
+        self.run("document.activeElement.blur(); if (arguments[0]) document.getElementById(arguments[0]).focus()", name)
+        self.actions(self.driver).send_keys(key).perform()
+        self.wait("true", "a frame")
+
+    def click(self, name, x):
+        """Clicks on an element, so far from its left edge, half way down."""
+        element = self.driver.find_element("id", name)
+        offset = round(x - element.size["width"] / 2)
+        self.actions(self.driver).move_to_element_with_offset(element, offset, 0).click().perform()
+        self.wait("true", "a frame")
+
+    def slot(self):
+        return self.run("return SlotViewer.page.slot")
+
+    def drawing_ms(self, slot):
+        """How long the page's thread computes to go to a slot and draw all of it and the time line."""
+        before = self.computed_ms()
+        self.run("const { page } = SlotViewer; page.go(arguments[0]); page.dirty.timeline = true; page.frame()", slot)
+        return self.computed_ms() - before
+
+    def computed_ms(self):
+        """The processor time of the page's thread so far."""
+        self.driver.execute_cdp_cmd("Performance.enable", {"timeDomain": "threadTicks"})
+        metrics = self.driver.execute_cdp_cmd("Performance.getMetrics", {})["metrics"]
+        return 1000 * next(metric["value"] for metric in metrics if metric["name"] == "TaskDuration")
+
+    def table(self, name):
+        """The rows of a table of the page, as lists of texts."""
+        return self.run("""return Array.from(document.querySelectorAll(`[aria-label="${arguments[0]}"] tbody tr`),
+            (row) => Array.from(row.cells, (cell) => cell.innerText))""", name)
+
+    def shoot(self, name):
+        self.driver.save_screenshot(str(self.shots / f"{name}.png"))
+
+    def complaints(self):
+        return [entry["message"] for entry in self.driver.get_log("browser") if entry["level"] in ("SEVERE", "WARNING")]

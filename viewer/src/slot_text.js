@@ -1,0 +1,191 @@
+// A slot in words and tables.
+(function (viewer) {
+    "use strict";
+
+    const { KIND_NAMES, UNICAST, MULTICAST, LEVELS } = viewer;
+
+    const MOST_LINES = 100;
+
+    function plural(count, noun) {
+        return `${count} ${noun}${count === 1 ? "" : "s"}`;
+    }
+
+    function pairText({ input, output, level, kind }) {
+        return `input ${input} feeds output ${output}, level ${level}, ${KIND_NAMES[kind]}`;
+    }
+
+    function waitText(wait) {
+        return wait === null ? "its wait is not computed yet" : wait === 0 ? "served in this slot" : `waits ${plural(wait, "slot")}`;
+    }
+
+    /** One sentence on a slot, for a screen reader that steps through them. */
+    function briefly(view) {
+        const queues = view.walker === null ? [] : view.waiting();
+        const waits = view.walker === null ? "" : queues.length === 0
+            ? " No queue waits." : ` ${plural(queues.length, "queue")} wait, the longest ${plural(queues[0].wait, "slot")}.`;
+        const rules = view.differing.length === 0 ? "" : " The match is not that of the rules.";
+        const pairs = view.pairs.length > 8 ? "" : view.pairs.map((pair) => ` ${pairText(pair)};`).join("").slice(0, -1);
+        return `Slot ${view.slot}: ${plural(view.pairs.length, "pair")}${pairs === "" ? "" : ":"}${pairs}.${waits}${rules}`;
+    }
+
+    /** A crosspoint in words. */
+    function describeCrosspoint(view, { input, output }) {
+        const parts = view.pairs.filter((pair) => pair.input === input && pair.output === output)
+            .map((pair) => `matched at level ${pair.level}, ${KIND_NAMES[pair.kind]}`);
+        if (view.rows !== null) {
+            for (const { level, kind, wait } of view.postedAt(input, output)) {
+                parts.push(`posted at level ${level}, ${KIND_NAMES[kind]}, ${waitText(wait)}`);
+            }
+        }
+        if (view.pointers !== null) {
+            const { grant, accept } = view.pointers;
+            const levels = d3.range(LEVELS);
+            const grants = levels.filter((level) => grant[level * view.ports + output] === input);
+            const accepts = levels.filter((level) => accept[level * view.ports + input] === output);
+            if (grants.length > 0) {
+                parts.push(`grant pointer of the output here at level ${grants.join(", ")}`);
+            }
+            if (accepts.length > 0) {
+                parts.push(`accept pointer of the input here at level ${accepts.join(", ")}`);
+            }
+        }
+        return `Input ${input}, output ${output}: ${parts.length === 0 ? "nothing" : parts.join("; ")}.`;
+    }
+
+    function sentences(view) {
+        const { run, slot, pairs, ports } = view;
+        const preferred = KIND_NAMES[viewer.preferredKind(slot)];
+        const found = [`${pairs.length} of ${plural(ports, "output")} are fed. The slot prefers ${preferred}.`];
+        if (view.used !== null) {
+            const by = run.form === "journal" ? "By the rules " : "";
+            const rounds = view.used === 0
+                ? `none of ${plural(run.rounds, "round")} added a pair.`
+                : `${view.used} of ${plural(run.rounds, "round")} added pairs, and the first of them matched ${plural(view.first, "output")}.`;
+            found.push(by === "" ? rounds[0].toUpperCase() + rounds.slice(1) : by + rounds);
+        }
+        if (!view.isComplete) {
+            found.push("Pointers and waits of this slot are not computed yet.");
+        }
+        return found;
+    }
+
+    function appendList(root, lines, className) {
+        root.append("ul").attr("class", className || null).selectAll("li").data(lines.slice(0, MOST_LINES)).join("li").text((line) => line);
+        appendRest(root, lines.length);
+    }
+
+    function appendRest(root, count) {
+        if (count > MOST_LINES) {
+            root.append("p").text(`and ${count - MOST_LINES} more`);
+        }
+    }
+
+    /** A table in a part of the page that scrolls, also by keyboard. Texts are aligned left, numbers right. */
+    function appendTable(root, name, headings, rows) {
+        const frame = root.append("div").attr("class", "scroll").attr("tabindex", 0).attr("role", "region").attr("aria-label", name);
+        const table = frame.append("table");
+        table.append("thead").append("tr").selectAll("th").data(headings).join("th").attr("scope", "col")
+            .classed("text", (_, column) => rows.length > 0 && typeof rows[0][column] === "string").text((heading) => heading);
+        table.append("tbody").selectAll("tr").data(rows.slice(0, MOST_LINES)).join("tr")
+            .selectAll("td").data((row) => row).join("td").classed("text", (cell) => typeof cell === "string").text((cell) => cell);
+        appendRest(frame, rows.length);
+    }
+
+    function appendMatch(root, view) {
+        root.append("h3").text(`Matched pairs: ${view.pairs.length}`);
+        const rows = view.pairs.map((pair) => [pair.input, pair.output, pair.level, KIND_NAMES[pair.kind]]);
+        if (rows.length > 0) {
+            appendTable(root, "Matched pairs", ["input", "output", "level", "kind"], rows);
+        }
+    }
+
+    function appendDifferences(root, view) {
+        const sideText = (pair) => (pair === null ? "none" : `input ${pair.input}, level ${pair.level}, ${KIND_NAMES[pair.kind]}`);
+        const lines = view.differing.map((output) => {
+            const pair = view.pairs.find((candidate) => candidate.output === output) || null;
+            return `output ${output}: the journal has ${sideText(pair)}; by the rules it is ${sideText(view.pairByRules(output))}`;
+        });
+        root.append("h3").attr("class", "alarm").text("The match is not that of the rules");
+        appendList(root, lines, "alarm");
+    }
+
+    function appendWaiting(root, view) {
+        const queues = view.waiting();
+        root.append("h3").text(`Queues that wait: ${queues.length}`);
+        const rows = queues.map(({ input, outputs, level, kind, wait }) => [wait, input, outputs.join(", "), level, KIND_NAMES[kind]]);
+        if (rows.length > 0) {
+            appendTable(root, "Queues that wait", ["slots", "input", "outputs", "level", "kind"], rows);
+        }
+    }
+
+    function rowText(view, input) {
+        const parts = [];
+        for (let level = 0; level < LEVELS; level += 1) {
+            for (const kind of [UNICAST, MULTICAST]) {
+                const outputs = view.posted(input, kind, level);
+                if (outputs.length > 0) {
+                    parts.push(`level ${level} ${KIND_NAMES[kind]} to ${outputs.join(", ")}`);
+                }
+            }
+        }
+        return parts.length === 0 ? null : `input ${input}: ${parts.join("; ")}`;
+    }
+
+    /** A part that folds; it is filled when it is opened first. */
+    function appendFolded(root, title, isOpen, fill) {
+        const part = root.append("details");
+        part.append("summary").text(title);
+        const body = part.append("div");
+        const fillOnce = () => {
+            if (part.node().open && body.selectAll("*").empty()) {
+                fill(body);
+            }
+        };
+        part.node().open = isOpen;
+        part.on("toggle", fillOnce);
+        fillOnce();
+    }
+
+    function fillRows(root, view) {
+        const lines = d3.range(view.ports).map((input) => rowText(view, input)).filter((line) => line !== null);
+        const more = d3.range(view.ports).filter((input) => view.rows.more[input]);
+        appendList(root, lines);
+        root.append("p").text(more.length === 0 ? "No input has more to come." : `More is to come at ${plural(more.length, "input")}: ${more.join(", ")}.`);
+    }
+
+    function fillPointers(root, view, level) {
+        const { grant, accept, shared } = view.pointers;
+        root.append("p").text(`Shared multicast pointers of levels 0 to 3: inputs ${Array.from(shared).join(", ")}.`);
+        const rows = d3.range(view.ports).map((port) => [port, grant[level * view.ports + port], accept[level * view.ports + port]]);
+        appendTable(root, `Pointers of level ${level}`, ["port", "grant pointer of the output, at input", "accept pointer of the input, at output"], rows);
+    }
+
+    /** Fills the element with a slot in words; what is folded stays as it was. */
+    function drawSlotText(element, view, pointerLevel) {
+        const root = d3.select(element);
+        const [isRowsOpen, isPointersOpen] = root.selectAll("details").nodes().map((part) => part.open);
+        root.selectAll("*").remove();
+        root.append("h2").attr("id", "slot-title").text(`Slot ${view.slot} of 0 to ${view.run.slots - 1}`);
+        sentences(view).forEach((sentence) => root.append("p").text(sentence));
+        if (view.differing.length > 0) {
+            appendDifferences(root, view);
+        }
+        appendMatch(root, view);
+        if (view.walker !== null) {
+            appendWaiting(root, view);
+        }
+        if (view.rows !== null) {
+            appendFolded(root, "Posted rows", isRowsOpen || false, (body) => fillRows(body, view));
+        }
+        if (view.pointers !== null && pointerLevel !== "none") {
+            const level = Number(pointerLevel);
+            appendFolded(root, `Pointers before the slot, level ${level}`, isPointersOpen || false, (body) => fillPointers(body, view, level));
+        }
+    }
+
+    viewer.plural = plural;
+    viewer.briefly = briefly;
+    viewer.describeCrosspoint = describeCrosspoint;
+    viewer.appendTable = appendTable;
+    viewer.drawSlotText = drawSlotText;
+})(globalThis.SlotViewer = globalThis.SlotViewer || {});

@@ -1,0 +1,70 @@
+// The numbers of a whole run.
+(function (viewer) {
+    "use strict";
+
+    const { plural } = viewer;
+
+    const MOST_SLOTS_NAMED = 20;
+
+    function reportRows({ summary }) {
+        const rows = Object.entries(summary).filter(([name]) => name !== "longest");
+        return rows.concat(summary.longest.map((wait, level) => [`longest wait of level ${level}`, wait]));
+    }
+
+    function journalRows(run, analysis) {
+        const rows = [["ports", run.ports], ["rounds", run.rounds], ["slots", run.slots]];
+        if (analysis.longest === null) {
+            return rows;
+        }
+        rows.push(["cells", analysis.fed.greatest()]);
+        return rows.concat(analysis.longest.map((wait, level) => [`longest wait of level ${level}`, wait]));
+    }
+
+    /** What the pass over a journal found so far, in sentences. */
+    function verdict(run, analysis) {
+        const { differing, failure, done } = analysis;
+        const found = [];
+        if (done < run.slots) {
+            found.push(`${done} of ${plural(run.slots, "slot")} are checked.`);
+        }
+        if (differing.length > 0) {
+            const named = differing.slice(0, MOST_SLOTS_NAMED).join(", ");
+            const rest = differing.length > MOST_SLOTS_NAMED ? " and more" : "";
+            found.push(`In ${plural(differing.length, "slot")} the match is not that of the rules: ${named}${rest}.`);
+        } else if (done === run.slots) {
+            found.push("Each match is that of the rules, with all pointers at port 0 before slot 0.");
+        }
+        if (failure !== null) {
+            found.push(`The journal is not lawful; the first failure, as tiny_tera check tells it, is: slot ${failure.slot} ${failure.reason}.`);
+        } else if (done === run.slots) {
+            found.push("The journal is lawful: requests stay until they are served, and the run ends with the first slot in which no input has more to come.");
+        }
+        return found;
+    }
+
+    function drawReport(root, run) {
+        const tables = root.append("div").attr("class", "tables");
+        viewer.appendTable(tables.append("div"), "Summary", ["what", "number"], reportRows(run));
+        const outputs = run.outputs.map(({ packets, cells }, output) => [output, packets, cells]);
+        viewer.appendTable(tables.append("div"), "Outputs", ["output", "packets", "cells"], outputs);
+        if (run.reference.length > 0) {
+            const lines = run.reference.map(({ ends, runs, lead, extra }, output) => [output, ends, runs, lead, extra]);
+            viewer.appendTable(tables.append("div"), "Output-queued reference", ["reference", "ends", "runs", "lead", "extra"], lines);
+        }
+    }
+
+    /** Fills the element with the numbers of a run; `analysis` is null where there are no slots to see. */
+    function drawSummary(element, run, analysis) {
+        const root = d3.select(element);
+        root.selectAll("*").remove();
+        root.append("h2").attr("id", "summary-title").text("The run");
+        if (run.form === "report") {
+            drawReport(root, run);
+            return;
+        }
+        verdict(run, analysis).forEach((sentence) => root.append("p").text(sentence));
+        viewer.appendTable(root, "Summary", ["what", "number"], journalRows(run, analysis));
+    }
+
+    viewer.drawSummary = drawSummary;
+})(globalThis.SlotViewer = globalThis.SlotViewer || {});
