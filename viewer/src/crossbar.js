@@ -231,10 +231,12 @@
             for (let port = 0; port < ports; port += 1) {
                 const grantX = this.x(port) - edge;
                 const grantY = this.y(pointers.grant[level * ports + port]);
-                this.triangle([[grantX, grantY], [grantX + size * 1.3, grantY - size], [grantX + size * 1.3, grantY + size]]);
+                const base = grantX + size * 1.3;
+                this.triangle([[grantX, grantY], [base, grantY - size], [base, grantY + size]]);
                 const acceptX = this.x(pointers.accept[level * ports + port]);
                 const acceptY = this.y(port) + edge;
-                this.triangle([[acceptX, acceptY], [acceptX - size, acceptY - size * 1.3], [acceptX + size, acceptY - size * 1.3]]);
+                const top = acceptY - size * 1.3;
+                this.triangle([[acceptX, acceptY], [acceptX - size, top], [acceptX + size, top]]);
             }
             const sharedY = this.y(pointers.shared[level]);
             const sharedX = MARGIN.left - 9;
@@ -273,7 +275,9 @@
                 const { input, output } = this.selected;
                 this.context.strokeStyle = this.palette.accent;
                 this.context.lineWidth = 2;
-                this.context.strokeRect(this.x(output) - this.cell / 2, this.y(input) - this.cell / 2, this.cell, this.cell);
+                const left = this.x(output) - this.cell / 2;
+                const top = this.y(input) - this.cell / 2;
+                this.context.strokeRect(left, top, this.cell, this.cell);
             }
         }
     }

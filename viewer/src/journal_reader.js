@@ -111,7 +111,8 @@
         for (output = 0; output < matches.ports; output += 1) {
             cursor.need(1, where);
             const isFree = cursor.bytes[cursor.at] === FREE;
-            const input = isFree ? cursor.byte(FREE, FREE, "", where) : cursor.byte(0, matches.ports - 1, "the input", where);
+            const [least, most] = isFree ? [FREE, FREE] : [0, matches.ports - 1];
+            const input = cursor.byte(least, most, "the input", where);
             const queue = cursor.byte(0, isFree ? 0 : SETS_OF_A_POST - 1, "the level and kind", where);
             matches.set(slot, output, input, queue);
         }

@@ -1,19 +1,14 @@
-// The page: which run and slot it shows, and what the user does.
+// The page: which run and slot it shows.
 (function (viewer) {
     "use strict";
 
-    const { plural } = viewer;
+    const { element, plural } = viewer;
 
-    const LONG_STEP = 10;
-    const PAGE_STEP = 100;
     /** While slots are played, the texts follow this often. */
     const TEXT_MS = 120;
     /** Browsers refuse changes of the address that come too often. */
     const ADDRESS_MS = 400;
     const PROGRESS_MS = 300;
-    const FIELDS = "input, select, textarea";
-
-    const element = (id) => document.getElementById(id);
 
     class Page {
         constructor() {
@@ -26,18 +21,19 @@
             /** Rises with each file, so that the reading of an older one ends. */
             this.opened = 0;
             this.palette = viewer.readPalette();
-            this.dirty = { slot: false, text: false, timeline: false, layout: false };
+            this.dirty = { slot: false, timeline: false, layout: false };
             this.isFramePending = false;
-            this.crossbar = new viewer.Crossbar(element("crossbar"), element("crossbar-frame"), (input, output) => this.select(input, output));
+            const onSelect = (input, output) => this.select(input, output);
+            this.crossbar = new viewer.Crossbar(element("crossbar"), element("crossbar-frame"), onSelect);
             this.timeline = new viewer.Timeline(element("timeline"), (slot) => this.goByUser(slot));
             this.timeline.onChange = () => this.ask("timeline");
             this.player = new viewer.Player((steps) => this.advance(steps), () => this.onPlayerChange());
             this.texts = throttled(TEXT_MS, () => this.drawTexts());
             this.address = throttled(ADDRESS_MS, () => viewer.putSlotIntoAddress(this.slot));
             viewer.watchFiles(element("file"), (file) => this.open(file));
-            this.watchControls();
-            this.watchKeys();
-            this.watchWindow();
+            viewer.watchControls(this);
+            viewer.watchKeys(this);
+            viewer.watchWindow(this);
         }
 
         // Files.
@@ -50,13 +46,17 @@
             this.showFault(null);
             this.showNotice(`Reading ${file.name}.`);
             try {
-                const run = await viewer.readFile(file, (part) => this.showNotice(`Reading ${file.name}: ${percent(part)}.`), isCancelled);
+                const onProgress = (part) => this.showNotice(`Reading ${file.name}: ${percent(part)}.`);
+                const run = await viewer.readFile(file, onProgress, isCancelled);
                 if (!isCancelled()) {
                     this.player.stop();
                     this.show(run, file.name);
                     await this.analyse(this.analysis);
                 }
             } catch (fault) {
+                if (isCancelled()) {
+                    return;
+                }
                 this.showNotice(null);
                 this.showFault(`${file.name} cannot be shown: ${fault.message}.`);
                 if (!(fault instanceof viewer.FileFault)) {
@@ -85,7 +85,9 @@
             });
             element("next-difference").hidden = true;
             viewer.drawSummary(element("summary"), run, this.analysis);
-            const notice = hasSlots ? "Going through all slots." : `${name} has no slot lines, so there is no slot to see: write them with tiny_tera run --slots.`;
+            const notice = hasSlots
+                ? "Going through all slots."
+                : `${name} has no slot lines, so there is no slot to see: write them with tiny_tera run --slots.`;
             this.showNotice(notice);
             this.say(hasSlots ? title : `${title} ${notice}`);
             if (hasSlots) {
@@ -198,6 +200,12 @@
             this.ask("slot");
         }
 
+        /** Sets which rows or pointers the crossbar shows. */
+        set(setting, value) {
+            this.crossbar.settings[setting] = value;
+            this.ask("slot");
+        }
+
         // Drawing, once a frame at most.
 
         ask(part) {
@@ -211,7 +219,7 @@
         frame() {
             this.isFramePending = false;
             const { dirty } = this;
-            this.dirty = { slot: false, text: false, timeline: false, layout: false };
+            this.dirty = { slot: false, timeline: false, layout: false };
             if (!this.hasSlots) {
                 return;
             }
@@ -266,105 +274,11 @@
             const data = this.timeline.laneData();
             const [from, to] = this.timeline.seen();
             const range = `Slots ${Math.floor(from)} to ${Math.ceil(to) - 1} are seen.`;
-            const tone = data.isShare ? "The strongest tone is a port that is matched in every slot."
-                : `The strongest tone is a unicast queue of the port that has waited ${plural(data.most, "slot")}${data.most === data.outputs.most ? " or more" : ""}.`;
+            const orMore = data.most === data.outputs.most ? " or more" : "";
+            const tone = data.isShare
+                ? "The strongest tone is a port that is matched in every slot."
+                : `The strongest tone is a unicast queue of the port that has waited ${plural(data.most, "slot")}${orMore}.`;
             element("timeline-scale").textContent = `${range} ${tone}`;
-        }
-
-        // What the user does.
-
-        watchControls() {
-            const onClick = (id, act) => element(id).addEventListener("click", act);
-            onClick("first", () => this.goByUser(0));
-            onClick("back", () => this.goByUser(this.slot - 1));
-            onClick("play", () => this.togglePlay());
-            onClick("forward", () => this.goByUser(this.slot + 1));
-            onClick("last", () => this.goByUser(this.run.slots - 1));
-            onClick("next-difference", () => this.goToNextDifference());
-            onClick("zoom-in", () => this.timeline.zoomIn());
-            onClick("zoom-out", () => this.timeline.zoomOut());
-            onClick("zoom-all", () => this.timeline.zoomAll());
-            const onChange = (id, act) => element(id).addEventListener("change", () => act(element(id).value));
-            onChange("slot", (value) => /^\d{1,9}$/.test(value) && this.goByUser(Number(value)));
-            onChange("speed", (value) => {
-                this.player.speed = Number(value);
-            });
-            onChange("row-level", (value) => this.set("rowLevel", value));
-            onChange("pointer-level", (value) => this.set("pointerLevel", value));
-            onChange("lanes", (value) => {
-                this.timeline.lanes = value;
-                this.ask("timeline");
-            });
-            onChange("theme", (value) => {
-                document.documentElement.dataset.theme = value;
-                this.onTheme();
-            });
-            element("slot").addEventListener("blur", () => this.hasSlots && this.ask("slot"));
-        }
-
-        set(setting, value) {
-            this.crossbar.settings[setting] = value;
-            this.ask("slot");
-        }
-
-        watchKeys() {
-            document.addEventListener("keydown", (event) => {
-                if (event.ctrlKey || event.metaKey || event.altKey || !this.hasSlots) {
-                    return;
-                }
-                const isDone = event.target === element("crossbar") ? this.onCrossbarKey(event) : false;
-                if (isDone || this.onSlotKey(event)) {
-                    event.preventDefault();
-                }
-            });
-        }
-
-        /** The arrow keys in the crossbar move the chosen crosspoint. */
-        onCrossbarKey({ key }) {
-            const moves = { ArrowLeft: [0, -1], ArrowRight: [0, 1], ArrowUp: [-1, 0], ArrowDown: [1, 0] };
-            const move = moves[key];
-            if (move === undefined) {
-                return false;
-            }
-            const { ports } = this.run;
-            const place = (value) => Math.max(0, Math.min(ports - 1, value));
-            const { input, output } = this.crossbar.selected || { input: 0, output: 0 };
-            const isFirst = this.crossbar.selected === null;
-            this.select(place(input + (isFirst ? 0 : move[0])), place(output + (isFirst ? 0 : move[1])));
-            return true;
-        }
-
-        /** Keys that go from slot to slot. Those that scroll a page do so only on the time line. */
-        onSlotKey({ key, shiftKey, target }) {
-            if (target.matches(FIELDS)) {
-                return false;
-            }
-            const step = shiftKey ? LONG_STEP : 1;
-            const moves = { ArrowLeft: -step, ArrowRight: step };
-            if (target === element("timeline")) {
-                const last = this.run.slots;
-                Object.assign(moves, { ArrowDown: -step, ArrowUp: step, PageUp: PAGE_STEP, PageDown: -PAGE_STEP, Home: -last, End: last });
-            }
-            if (moves[key] !== undefined) {
-                this.goByUser(this.slot + moves[key]);
-                return true;
-            }
-            if (key === " " && !target.matches("button, summary, .scroll")) {
-                this.togglePlay();
-                return true;
-            }
-            return false;
-        }
-
-        watchWindow() {
-            new ResizeObserver(() => this.ask("layout")).observe(element("crossbar-frame"));
-            window.matchMedia("(prefers-color-scheme: dark)").addEventListener("change", () => this.onTheme());
-            window.addEventListener("hashchange", () => {
-                const slot = viewer.slotOfAddress();
-                if (slot !== null) {
-                    this.goByUser(slot);
-                }
-            });
         }
 
         onTheme() {

@@ -3,12 +3,15 @@
     "use strict";
 
     const HEAT_STEPS = 256;
+    /** The least number over 0 is seen. */
+    const LEAST_HEAT = 0.12;
 
     /** Reads the colours from the style sheet, as they are now. */
     function readPalette() {
         const style = getComputedStyle(document.documentElement);
         const colour = (name) => style.getPropertyValue(`--${name}`).trim();
         const heat = d3.piecewise(d3.interpolateRgb, [colour("paper"), colour("heat-middle"), colour("heat")]);
+        const tone = (step) => (step === 0 ? 0 : LEAST_HEAT + (1 - LEAST_HEAT) * step / (HEAT_STEPS - 1));
         return {
             paper: colour("paper"),
             panel: colour("panel"),
@@ -19,7 +22,7 @@
             alarm: colour("alarm"),
             levels: [0, 1, 2, 3].map((level) => colour(`level-${level}`)),
             /** Red, green and blue of HEAT_STEPS colours, from none to most. */
-            heat: d3.range(HEAT_STEPS).map((step) => d3.rgb(heat(step === 0 ? 0 : 0.12 + 0.88 * step / (HEAT_STEPS - 1)))),
+            heat: d3.range(HEAT_STEPS).map((step) => d3.rgb(heat(tone(step)))),
         };
     }
 

@@ -180,7 +180,8 @@
                 const high = columns[column + 1] & eligible[2 * queue + 1];
                 if ((low | high) !== 0) {
                     const level = queue >> 1;
-                    const from = (queue & 1) === UNICAST ? pointers.grant[level * this.ports + output] : pointers.shared[level];
+                    const isUnicast = (queue & 1) === UNICAST;
+                    const from = isUnicast ? pointers.grant[level * this.ports + output] : pointers.shared[level];
                     const input = portSets.firstFrom(low, high, from);
                     this.grants.add(queue * this.ports + input, output);
                     this.granted.add(0, input);

@@ -5,6 +5,7 @@
     const { KIND_NAMES, UNICAST, MULTICAST, LEVELS } = viewer;
 
     const MOST_LINES = 100;
+    const MOST_PAIRS_TOLD = 8;
 
     function plural(count, noun) {
         return `${count} ${noun}${count === 1 ? "" : "s"}`;
@@ -15,17 +16,32 @@
     }
 
     function waitText(wait) {
-        return wait === null ? "its wait is not computed yet" : wait === 0 ? "served in this slot" : `waits ${plural(wait, "slot")}`;
+        if (wait === null) {
+            return "its wait is not computed yet";
+        }
+        return wait === 0 ? "served in this slot" : `waits ${plural(wait, "slot")}`;
     }
 
-    /** One sentence on a slot, for a screen reader that steps through them. */
+    function waitingText(queues) {
+        if (queues.length === 0) {
+            return "No queue waits.";
+        }
+        const longest = plural(queues[0].wait, "slot");
+        return `${plural(queues.length, "queue")} wait${queues.length === 1 ? "s" : ""}, the longest ${longest}.`;
+    }
+
+    /** A slot in few words, for a screen reader that steps through them. */
     function briefly(view) {
-        const queues = view.walker === null ? [] : view.waiting();
-        const waits = view.walker === null ? "" : queues.length === 0
-            ? " No queue waits." : ` ${plural(queues.length, "queue")} wait, the longest ${plural(queues[0].wait, "slot")}.`;
-        const rules = view.differing.length === 0 ? "" : " The match is not that of the rules.";
-        const pairs = view.pairs.length > 8 ? "" : view.pairs.map((pair) => ` ${pairText(pair)};`).join("").slice(0, -1);
-        return `Slot ${view.slot}: ${plural(view.pairs.length, "pair")}${pairs === "" ? "" : ":"}${pairs}.${waits}${rules}`;
+        const pairs = view.pairs.length <= MOST_PAIRS_TOLD ? view.pairs.map(pairText) : [];
+        const count = `Slot ${view.slot}: ${plural(view.pairs.length, "pair")}`;
+        const parts = [pairs.length === 0 ? `${count}.` : `${count}: ${pairs.join("; ")}.`];
+        if (view.walker !== null) {
+            parts.push(waitingText(view.waiting()));
+        }
+        if (view.differing.length > 0) {
+            parts.push("The match is not that of the rules.");
+        }
+        return parts.join(" ");
     }
 
     /** A crosspoint in words. */
@@ -60,7 +76,8 @@
             const by = run.form === "journal" ? "By the rules " : "";
             const rounds = view.used === 0
                 ? `none of ${plural(run.rounds, "round")} added a pair.`
-                : `${view.used} of ${plural(run.rounds, "round")} added pairs, and the first of them matched ${plural(view.first, "output")}.`;
+                : `${view.used} of ${plural(run.rounds, "round")} added pairs, `
+                    + `and the first of them matched ${plural(view.first, "output")}.`;
             found.push(by === "" ? rounds[0].toUpperCase() + rounds.slice(1) : by + rounds);
         }
         if (!view.isComplete) {
@@ -70,7 +87,8 @@
     }
 
     function appendList(root, lines, className) {
-        root.append("ul").attr("class", className || null).selectAll("li").data(lines.slice(0, MOST_LINES)).join("li").text((line) => line);
+        const list = root.append("ul").attr("class", className || null);
+        list.selectAll("li").data(lines.slice(0, MOST_LINES)).join("li").text((line) => line);
         appendRest(root, lines.length);
     }
 
@@ -82,12 +100,14 @@
 
     /** A table in a part of the page that scrolls, also by keyboard. Texts are aligned left, numbers right. */
     function appendTable(root, name, headings, rows) {
-        const frame = root.append("div").attr("class", "scroll").attr("tabindex", 0).attr("role", "region").attr("aria-label", name);
+        const isText = (cell) => typeof cell === "string";
+        const frame = root.append("div").attr("class", "scroll").attr("tabindex", 0)
+            .attr("role", "region").attr("aria-label", name);
         const table = frame.append("table");
         table.append("thead").append("tr").selectAll("th").data(headings).join("th").attr("scope", "col")
-            .classed("text", (_, column) => rows.length > 0 && typeof rows[0][column] === "string").text((heading) => heading);
+            .classed("text", (_, column) => rows.length > 0 && isText(rows[0][column])).text((heading) => heading);
         table.append("tbody").selectAll("tr").data(rows.slice(0, MOST_LINES)).join("tr")
-            .selectAll("td").data((row) => row).join("td").classed("text", (cell) => typeof cell === "string").text((cell) => cell);
+            .selectAll("td").data((row) => row).join("td").classed("text", isText).text((cell) => cell);
         appendRest(frame, rows.length);
     }
 
@@ -100,10 +120,12 @@
     }
 
     function appendDifferences(root, view) {
-        const sideText = (pair) => (pair === null ? "none" : `input ${pair.input}, level ${pair.level}, ${KIND_NAMES[pair.kind]}`);
+        const sourceText = (pair) => `input ${pair.input}, level ${pair.level}, ${KIND_NAMES[pair.kind]}`;
+        const sideText = (pair) => (pair === null ? "none" : sourceText(pair));
         const lines = view.differing.map((output) => {
-            const pair = view.pairs.find((candidate) => candidate.output === output) || null;
-            return `output ${output}: the journal has ${sideText(pair)}; by the rules it is ${sideText(view.pairByRules(output))}`;
+            const found = view.pairs.find((pair) => pair.output === output) || null;
+            const wanted = view.pairByRules(output);
+            return `output ${output}: the journal has ${sideText(found)}; by the rules it is ${sideText(wanted)}`;
         });
         root.append("h3").attr("class", "alarm").text("The match is not that of the rules");
         appendList(root, lines, "alarm");
@@ -112,7 +134,9 @@
     function appendWaiting(root, view) {
         const queues = view.waiting();
         root.append("h3").text(`Queues that wait: ${queues.length}`);
-        const rows = queues.map(({ input, outputs, level, kind, wait }) => [wait, input, outputs.join(", "), level, KIND_NAMES[kind]]);
+        const rows = queues.map(({ input, outputs, level, kind, wait }) => {
+            return [wait, input, outputs.join(", "), level, KIND_NAMES[kind]];
+        });
         if (rows.length > 0) {
             appendTable(root, "Queues that wait", ["slots", "input", "outputs", "level", "kind"], rows);
         }
@@ -150,14 +174,18 @@
         const lines = d3.range(view.ports).map((input) => rowText(view, input)).filter((line) => line !== null);
         const more = d3.range(view.ports).filter((input) => view.rows.more[input]);
         appendList(root, lines);
-        root.append("p").text(more.length === 0 ? "No input has more to come." : `More is to come at ${plural(more.length, "input")}: ${more.join(", ")}.`);
+        root.append("p").text(more.length === 0
+            ? "No input has more to come."
+            : `More is to come at ${plural(more.length, "input")}: ${more.join(", ")}.`);
     }
 
     function fillPointers(root, view, level) {
         const { grant, accept, shared } = view.pointers;
         root.append("p").text(`Shared multicast pointers of levels 0 to 3: inputs ${Array.from(shared).join(", ")}.`);
-        const rows = d3.range(view.ports).map((port) => [port, grant[level * view.ports + port], accept[level * view.ports + port]]);
-        appendTable(root, `Pointers of level ${level}`, ["port", "grant pointer of the output, at input", "accept pointer of the input, at output"], rows);
+        const start = level * view.ports;
+        const rows = d3.range(view.ports).map((port) => [port, grant[start + port], accept[start + port]]);
+        const headings = ["port", "grant pointer of the output, at input", "accept pointer of the input, at output"];
+        appendTable(root, `Pointers of level ${level}`, headings, rows);
     }
 
     /** Fills the element with a slot in words; what is folded stays as it was. */
@@ -179,7 +207,8 @@
         }
         if (view.pointers !== null && pointerLevel !== "none") {
             const level = Number(pointerLevel);
-            appendFolded(root, `Pointers before the slot, level ${level}`, isPointersOpen || false, (body) => fillPointers(body, view, level));
+            const title = `Pointers before the slot, level ${level}`;
+            appendFolded(root, title, isPointersOpen || false, (body) => fillPointers(body, view, level));
         }
     }
 

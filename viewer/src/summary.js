@@ -35,9 +35,11 @@
             found.push("Each match is that of the rules, with all pointers at port 0 before slot 0.");
         }
         if (failure !== null) {
-            found.push(`The journal is not lawful; the first failure, as tiny_tera check tells it, is: slot ${failure.slot} ${failure.reason}.`);
+            const first = `slot ${failure.slot} ${failure.reason}`;
+            found.push(`The journal is not lawful; the first failure, as tiny_tera check tells it, is: ${first}.`);
         } else if (done === run.slots) {
-            found.push("The journal is lawful: requests stay until they are served, and the run ends with the first slot in which no input has more to come.");
+            found.push("The journal is lawful: requests stay until they are served, and the run ends with the first "
+                + "slot in which no input has more to come.");
         }
         return found;
     }
@@ -49,7 +51,8 @@
         viewer.appendTable(tables.append("div"), "Outputs", ["output", "packets", "cells"], outputs);
         if (run.reference.length > 0) {
             const lines = run.reference.map(({ ends, runs, lead, extra }, output) => [output, ends, runs, lead, extra]);
-            viewer.appendTable(tables.append("div"), "Output-queued reference", ["reference", "ends", "runs", "lead", "extra"], lines);
+            const headings = ["reference", "ends", "runs", "lead", "extra"];
+            viewer.appendTable(tables.append("div"), "Output-queued reference", headings, lines);
         }
     }
 
