@@ -87,6 +87,15 @@ pub record IsFile (file : JournalFile) : Type 0 where
   pub slots_few : length file.slots ≤ most_slots file.ports
   pub slots : All (IsFileSlot file.ports) file.slots
 
+-- the row has a set for each of the four levels of each kind
+pub record HasLevels (row : Row) : Type 0 where
+  pub uni : length row.uni ≡ LEVELS
+  pub multi : length row.multi ≡ LEVELS
+
+-- so has each row of the file
+abbrev pub HaveLevels : JournalFile → Type 0
+HaveLevels file = All (λ slot. All (λ post. HasLevels post.row) slot.posts) file.slots
+
 -- what is written of a post, without its cell
 abbrev pub file_post : CardPost → FilePost
 file_post post = record { row = post.row; more = post.more }

@@ -1,4 +1,4 @@
-ghost use Rattle.std.specs.Prelude.{◌≡◌, ◌*◌, ◌≤◌, ◌<◌, ◌++◌, length, map, IfOk, OnOk};
+ghost use Rattle.std.specs.Prelude.{◌≡◌, ◌*◌, ◌≤◌, ◌<◌, ◌++◌, Bool, length, IfOk, OnOk};
 ghost use Rattle.std.specs.List.{flat_map};
 ghost use Rattle.journal_check.specs.Texts.{sets_there, set_text, file_post, file_of, post_text, output_text, header_text, file_text, IsFileOutput};
 
@@ -35,14 +35,22 @@ pub fn journal_len(journal: &Journal) -> u64
 // How many bytes the posts of a slot have.
 fn posts_len(posts: &[Post]) -> u64
     requires { length posts.now ≤ 64 }
-    ensures value { result ≡ length (flat_map post_text (map file_post posts.now)) }
+    ensures value { result ≡ length (flat_map (λ post. post_text (file_post post)) posts.now) }
     ensures few { result ≤ 66 * length posts.now }
 {
     let mut len = 0;
     for post in posts {
-        len += POST_BYTES + sets_len(&post.row.uni) + sets_len(&post.row.multi);
+        len += post_len(&post.row);
     }
     len
+}
+
+// How many bytes a post of this row has.
+fn post_len(row: &Row) -> u64
+    ensures value { (more : Bool) → result ≡ length (post_text (record { row = row.now; more = more })) }
+    ensures few { result ≤ 66 }
+{
+    POST_BYTES + sets_len(&row.uni) + sets_len(&row.multi)
 }
 
 // How many bytes four sets have.
@@ -52,11 +60,17 @@ fn sets_len(sets: &[Ports; LEVEL_COUNT]) -> u64
 {
     let mut len = 0;
     for set in sets {
-        if !is_empty(*set) {
-            len += SET_BYTES;
-        }
+        len += set_len(*set);
     }
     len
+}
+
+// How many bytes a set has.
+fn set_len(set: Ports) -> u64
+    ensures value { result ≡ length (set_text set) }
+    ensures few { result ≤ 8 }
+{
+    if is_empty(set) { 0 } else { SET_BYTES }
 }
 
 /// The file of a journal of at least one slot, whose bytes are at most 134,217,728: its ports, rounds
@@ -98,7 +112,7 @@ fn put_header(text: &mut Vec<u8>, ports: u32, rounds: u32, slots: u32) -> Result
 
 // Appends the posts of a slot.
 fn put_posts(text: &mut Vec<u8>, posts: &[Post]) -> Result<(), OutOfMemory>
-    ensures { OnOk result (text.new.items ≡ text.old.items ++ flat_map post_text (map file_post posts.now)) }
+    ensures { OnOk result (text.new.items ≡ text.old.items ++ flat_map (λ post. post_text (file_post post)) posts.now) }
 {
     for post in posts {
         put_post(text, &post.row, post.more)?;
@@ -137,9 +151,17 @@ fn put_sets(text: &mut Vec<u8>, sets: &[Ports; LEVEL_COUNT]) -> Result<(), OutOf
     ensures { OnOk result (text.new.items ≡ text.old.items ++ flat_map set_text sets.now) }
 {
     for set in sets {
-        if !is_empty(*set) {
-            text.extend_from_slice(&set.to_be_bytes())?;
-        }
+        put_set(text, *set)?;
+    }
+    Ok(())
+}
+
+// Appends the set, if it is not empty.
+fn put_set(text: &mut Vec<u8>, set: Ports) -> Result<(), OutOfMemory>
+    ensures { OnOk result (text.new.items ≡ text.old.items ++ set_text set) }
+{
+    if !is_empty(set) {
+        text.extend_from_slice(&set.to_be_bytes())?;
     }
     Ok(())
 }

@@ -1,0 +1,8 @@
+use Rattle.journal_check.proofs.FilesAgain.{journal_again}
+use Rattle.journal_check.proofs.laws.files_are_their_texts.Goals as goal
+
+pub returns-clause-read : goal.returns-clause-read
+returns-clause-read c = journal_again
+
+pub returns-clause-spelled : goal.returns-clause-spelled
+returns-clause-spelled c = ?

@@ -1,0 +1,11 @@
+use Rattle.journal_check.proofs.JournalsLawful.{journal_lawful, journal_is_file}
+use Rattle.journal_check.proofs.laws.journals_are_lawful.Goals as goal
+
+pub returns-clause-file : goal.returns-clause-file
+returns-clause-file c s events setup legal finished four = journal_is_file s events setup.ports_some legal setup finished four
+
+pub returns-clause-lawful : goal.returns-clause-lawful
+returns-clause-lawful c s events setup legal finished = journal_lawful s events setup.ports_some legal finished
+
+pub returns-clause-answer : goal.returns-clause-answer
+returns-clause-answer c = ?
