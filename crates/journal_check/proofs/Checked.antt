@@ -65,18 +65,20 @@ module _ (bytes : List ℕ) where
       let place : place_in bytes (drop bad bytes) ≡ bad = omega (arith, length-drop bad bytes) in
       ap (λ (r : Reading JournalFile). answer_by (told_by bytes r)) e ∙ ap (λ (at : ℕ). let a : Result Verdict JournalFault = Err (Bad at) in a) place
 
+  header_fails : (bad : ℕ) → header_in bytes ≡ Err (drop bad bytes) → file_in bytes ≡ Err (drop bad bytes)
+  unfolding file_in
+  header_fails bad e = rw e refl
+
   pub header_bad : (bad : ℕ) → IsBadAt header_in bytes 0 bad → answer_to bytes ≡ Err (Bad bad)
-  header_bad bad here = bad_answer bad here.within (fails bad here.fails) where
-    fails : (bad : ℕ) → header_in bytes ≡ Err (drop bad bytes) → file_in bytes ≡ Err (drop bad bytes)
-    unfolding file_in
-    fails bad e = rw e refl
+  header_bad bad here = bad_answer bad here.within (header_fails bad here.fails)
 
   module _ (header : Header) (read : IsRead header_in bytes 0 header 12) where
+    slots_fails : (bad : ℕ) → each_in (λ t. slot_in header.ports) (range_with_len 0 header.slots) (drop 12 bytes) ≡ Err (drop bad bytes) → file_in bytes ≡ Err (drop bad bytes)
+    unfolding file_in
+    slots_fails bad e = rw read.reads (rw e refl)
+
     pub slots_bad : (bad : ℕ) → IsBadAt (each_in (λ t. slot_in header.ports) (range_with_len 0 header.slots)) bytes 12 bad → answer_to bytes ≡ Err (Bad bad)
-    slots_bad bad here = bad_answer bad here.within fails where
-      fails : file_in bytes ≡ Err (drop bad bytes)
-      unfolding file_in
-      fails = rw read.reads (rw here.fails refl)
+    slots_bad bad here = bad_answer bad here.within (slots_fails bad here.fails)
 
     module _ (slots : List FileSlot) (end : ℕ) (all : IsRead (each_in (λ t. slot_in header.ports) (range_with_len 0 header.slots)) bytes 12 slots end) where
       some_left : (xs : List ℕ) → 0 < length xs → end_in xs ≡ Err xs
@@ -87,11 +89,12 @@ module _ (bytes : List ℕ) where
       none_left [] none = refl
       none_left (x ∷ xs) none = absurd (omega arith)
 
+      end_fails : end < length bytes → file_in bytes ≡ Err (drop end bytes)
+      unfolding file_in
+      end_fails below = rw read.reads (rw all.reads (rw (some_left (drop end bytes) (omega (arith, length-drop end bytes))) refl))
+
       pub end_bad : end < length bytes → answer_to bytes ≡ Err (Bad end)
-      end_bad below = bad_answer end (omega arith) fails where
-        fails : file_in bytes ≡ Err (drop end bytes)
-        unfolding file_in
-        fails = rw read.reads (rw all.reads (rw (some_left (drop end bytes) (omega (arith, length-drop end bytes))) refl))
+      end_bad below = bad_answer end (omega arith) (end_fails below)
 
       abbrev pub whole_file : JournalFile
       whole_file = record { ports = header.ports; rounds = header.rounds; slots = slots }

@@ -91,12 +91,10 @@ unfolding header_in
 header_again ports rounds slots rest p_low p_high r_low r_high s_low s_high =
     let few = most_few ports in
     let from_slots = big_bytes 4 slots ++ rest in
-    let from_zeros = big_bytes 2 0 ++ from_slots in
-    let from_rounds = big_bytes 1 rounds ++ from_zeros in
-    let from_ports = big_bytes 1 ports ++ from_rounds in
-    rw (number_again Magic 0x54544a31 from_ports (omega arith) refl)
-    (rw (number_again Ports ports from_rounds (omega arith) (from_to 1 64 ports p_low p_high))
-    (rw (number_again Rounds rounds from_zeros (omega arith) (from_to 1 64 rounds r_low r_high))
+    let from_zeros = 0 ∷ 0 ∷ from_slots in
+    rw (number_again Magic 0x54544a31 (ports ∷ rounds ∷ from_zeros) (omega arith) refl)
+    (rw (byte_again Ports refl ports (rounds ∷ from_zeros) (omega arith) (from_to 1 64 ports p_low p_high))
+    (rw (byte_again Rounds refl rounds from_zeros (omega arith) (from_to 1 64 rounds r_low r_high))
     (rw (number_again Zeros 0 from_slots (omega arith) refl)
     (rw (number_again (Slots ports) slots rest (omega arith) (from_to 1 (most_slots ports) slots s_low s_high)) refl))))
 

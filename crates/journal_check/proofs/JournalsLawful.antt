@@ -46,8 +46,7 @@ any_more (post ∷ posts) = two post.more (list_any (λ (more : Bool). more) (ma
   two false any all e = e
 
 right_true : (x y : Bool) → x ≡ false → (x || y) ≡ true → y ≡ true
-right_true true y no e = absurd (cc)
-right_true false y no e = e
+right_true x y gone e = sym (ap (λ (b : Bool). b || y) gone) ∙ e
 
 -- one of the slots is done, where one of them is
 done_some : (n : ℕ) (posts : ℕ → ℕ → CardPost) (k : ℕ) → is_done_before n posts k ≡ true → (t : ℕ) × (t < k) × (is_done_at n posts t ≡ true)

@@ -2,22 +2,23 @@
 use Rattle.std.proofs.Common.{◌≡◌, ℕ, suc, ◌+◌, ◌<◌, ◌≤◌, ◌∙◌, List, [], ◌∷◌, ◌++◌, length, take, map, replicate, Bool, true, Option, None, Some, Ok, Err, refl, sym, ap, subst, arith, append_assoc, inl, inr}
 use Rattle.std.specs.List.{range_with_len}
 use Rattle.std.specs.Option.{option_or}
-use Rattle.std.proofs.lemmas.List.{map-append, length_push, take-replicate, get_or-replicate, length-replicate}
+use Rattle.std.proofs.lemmas.List.{map-append, append-nil, length_push, take-replicate, get_or-replicate, length-replicate}
 use Rattle.slot_match.specs.Rows.{empty_row, no_row, IsWithin, IsOfLevels, AreWithin}
 use Rattle.slot_match.specs.Matches.{unmatched}
 use Rattle.pointer_state.specs.Places.{Places, places_at_first}
 use Rattle.slot_histories.proofs.EventTests.{IsEmptyRow-empty}
 use Rattle.slot_match.specs.declared.matching.Fed.{Fed}
 use Rattle.slot_match.specs.declared.rows.Row.{Row}
-use Rattle.service_bound.specs.Waits.{NotedSlot}
+use Rattle.service_bound.specs.Waits.{NotedSlot, longest_wait}
 use Rattle.service_bound.specs.Meters.{Meter, HasNoted}
 use Rattle.journal_check.specs.declared.slots.SlotRead.{SlotRead}
 use Rattle.journal_check.specs.declared.verdict.Failure.{Failure}
 use Rattle.journal_check.specs.declared.verdict.Reason.{Reason}
 use Rattle.journal_check.specs.declared.judging.Judge.{Judge}
-use Rattle.journal_check.specs.Files.{FileSlot, rows_of}
-use Rattle.journal_check.specs.Lawful.{Before, at_first, after_slot, failure_in, failure_or, failure_from}
-use Rattle.journal_check.specs.Verdicts.{noted_of}
+use Rattle.journal_check.specs.Files.{FileSlot, JournalFile, rows_of}
+use Rattle.journal_check.specs.Lawful.{Before, at_first, after_slot, failure_in, failure_or, failure_from, first_failure}
+use Rattle.journal_check.specs.Verdicts.{noted_of, longest_waits, verdict_by, verdict_on}
+use Rattle.journal_check.specs.declared.verdict.Verdict.TheVariants.{Yes, No}
 use Rattle.journal_check.specs.Steps.{IsSlotRead, before_of, failure_with, IsJudged}
 
 module _ (n rounds : ℕ) (slots : List FileSlot) (value : FileSlot) (old new : Judge) (judged : IsJudged n rounds slots old) where
@@ -93,3 +94,34 @@ first_rows_within n few =
       ports = λ i below. subst (IsWithin n) (sym (get_or-replicate n i empty_row no_row below)) (λ level j kind has. absurd (IsEmptyRow-empty level j kind has));
       levels = λ i below. subst IsOfLevels (sym (get_or-replicate n i empty_row no_row below)) (λ level j kind has. absurd (IsEmptyRow-empty level j kind has));
     })
+
+-- the first failure of a file of which all slots are judged
+pub whole_failure : (file : JournalFile) (judge : Judge) → IsJudged file.ports file.rounds file.slots judge → first_failure file ≡ failure_with file.ports file.rounds (length file.slots) judge judge.failure []
+unfolding first_failure
+whole_failure file judge judged = ap (failure_from file.ports file.rounds 0 (at_first file.ports)) (sym (append-nil file.slots)) ∙ judged.found []
+
+pub no_failure_so_far : (n rounds t : ℕ) (judge : Judge) (f : Option Failure) → None ≡ failure_with n rounds t judge f [] → f ≡ None
+no_failure_so_far n rounds t judge None e = refl
+no_failure_so_far n rounds t judge (Some failure) e = absurd (cc)
+
+pub no_verdict : (file : JournalFile) (judge : Judge) (failure : Failure) (slots : ℕ) → slots ≡ length file.slots → IsJudged file.ports file.rounds file.slots judge → Some failure ≡ failure_with file.ports file.rounds slots judge judge.failure [] → No failure.slot failure.reason ≡ verdict_on file
+no_verdict file judge failure slots count judged e =
+    ap (verdict_by file) (e ∙ ap (λ (k : ℕ). failure_with file.ports file.rounds k judge judge.failure []) count ∙ sym (whole_failure file judge judged))
+
+pub yes_verdict : (file : JournalFile) (judge : Judge) (slots a b c d : ℕ) → slots ≡ length file.slots → judge.meter.ports ≡ file.ports → IsJudged file.ports file.rounds file.slots judge → None ≡ failure_with file.ports file.rounds slots judge judge.failure []
+    → ((noted : List NotedSlot) → HasNoted judge.meter noted → a ≡ longest_wait judge.meter.ports 0 noted) → ((noted : List NotedSlot) → HasNoted judge.meter noted → b ≡ longest_wait judge.meter.ports 1 noted)
+    → ((noted : List NotedSlot) → HasNoted judge.meter noted → c ≡ longest_wait judge.meter.ports 2 noted) → ((noted : List NotedSlot) → HasNoted judge.meter noted → d ≡ longest_wait judge.meter.ports 3 noted) → Yes slots (a ∷ b ∷ c ∷ d ∷ []) ≡ verdict_on file
+unfolding longest_waits
+yes_verdict file judge slots a b c d count ports judged e wa wb wc wd =
+    let slots_are = map noted_of file.slots in
+    let none : judge.failure ≡ None = no_failure_so_far file.ports file.rounds slots judge judge.failure e in
+    let noted = judged.noted none in
+    let first : None ≡ first_failure file = e ∙ ap (λ (k : ℕ). failure_with file.ports file.rounds k judge judge.failure []) count ∙ sym (whole_failure file judge judged) in
+    let wait : ℕ → ℕ → Type 0 = λ x level. x ≡ longest_wait file.ports level slots_are in
+    let at : (x level : ℕ) → x ≡ longest_wait judge.meter.ports level slots_are → wait x level = λ x level h. h ∙ ap (λ (n : ℕ). longest_wait n level slots_are) ports in
+    ap (λ (k : ℕ). Yes k (a ∷ b ∷ c ∷ d ∷ [])) count
+    ∙ ap (λ (x : ℕ). Yes (length file.slots) (x ∷ b ∷ c ∷ d ∷ [])) (at a 0 (wa slots_are noted))
+    ∙ ap (λ (x : ℕ). Yes (length file.slots) (longest_wait file.ports 0 slots_are ∷ x ∷ c ∷ d ∷ [])) (at b 1 (wb slots_are noted))
+    ∙ ap (λ (x : ℕ). Yes (length file.slots) (longest_wait file.ports 0 slots_are ∷ longest_wait file.ports 1 slots_are ∷ x ∷ d ∷ [])) (at c 2 (wc slots_are noted))
+    ∙ ap (λ (x : ℕ). Yes (length file.slots) (longest_wait file.ports 0 slots_are ∷ longest_wait file.ports 1 slots_are ∷ longest_wait file.ports 2 slots_are ∷ x ∷ [])) (at d 3 (wd slots_are noted))
+    ∙ ap (verdict_by file) first

@@ -21,9 +21,9 @@ use Rattle.journal_check.specs.declared.verdict.Reason.{Reason}
 use Rattle.journal_check.specs.declared.verdict.Reason.TheVariants.{AfterEnd, More, Keeps, Output, NoEnd}
 use Rattle.journal_check.specs.declared.verdict.Failure.{Failure}
 use Rattle.journal_check.specs.Files.{FileSlot, JournalFile, rows_of, mores_of}
-use Rattle.journal_check.specs.Lawful.{Before, at_first, decided_in, after_slot, first_of, lacks_more, breaks, is_alike, differs, first_reason, post_failure, output_failure, failure_in, failure_or, failure_from, MayFollow, MayFollowAll}
-use Rattle.journal_check.proofs.Goods.{AreRows, IsGood, sound_slot, good_after}
-use Rattle.journal_check.specs.Texts.{IsFileSlot}
+use Rattle.journal_check.specs.Lawful.{Before, at_first, decided_in, after_slot, first_of, lacks_more, breaks, is_alike, differs, first_reason, post_failure, output_failure, failure_in, failure_or, failure_from, MayFollow, MayFollowAll, first_failure, IsLawful}
+use Rattle.journal_check.proofs.Goods.{AreRows, IsGood, sound_slot, good_after, good_at_first}
+use Rattle.journal_check.specs.Texts.{IsFileSlot, IsFile}
 
 -- no number below n is found exactly where none has the test
 none_from : (test : ℕ → Bool) (a n : ℕ) → (find test (range_with_len a n) ≡ None) ↔ ((k : ℕ) → a ≤ k → k < a + n → test k ≡ false)
@@ -102,7 +102,7 @@ same_lists (x ∷ xs) (y ∷ ys) len each =
     ap (λ (z : Option Fed). z ∷ xs) head ∙ ap (λ (zs : List (Option Fed)). y ∷ zs) tail
 
 module _ (n : ℕ) where
-  no_output_failure : (matched decided : List (Option Fed)) → length matched ≡ n → length decided ≡ n → (output_failure n matched decided ≡ None) ↔ (matched ≡ decided)
+  pub no_output_failure : (matched decided : List (Option Fed)) → length matched ≡ n → length decided ≡ n → (output_failure n matched decided ≡ None) ↔ (matched ≡ decided)
   unfolding output_failure
   no_output_failure matched decided long also =
       let none = none_of n (differs matched decided) in
@@ -197,3 +197,7 @@ module _ (n rounds : ℕ) where
         λ e. let p = both.0 e in let follows = here.0 p.0 in (follows, (next follows).0 p.1),
         λ h. both.1 (here.1 h.0, (next h.0).1 h.1),
       )
+
+pub file_failure : (file : JournalFile) → IsFile file → (first_failure file ≡ None) ↔ IsLawful file
+unfolding first_failure IsLawful
+file_failure file good = no_failure_from file.ports file.rounds 0 (at_first file.ports) file.slots (good_at_first file.ports good.ports_some good.ports_few) good.slots

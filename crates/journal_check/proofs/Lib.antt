@@ -14,3 +14,4 @@ pub mod Judged
 pub mod SlotFails
 pub mod Checked
 pub mod Written
+pub mod Flags

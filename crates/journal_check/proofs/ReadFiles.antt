@@ -11,11 +11,12 @@ use Rattle.rotating_pick.specs.declared.kinds.Kind.TheVariants.{Uni, Multi}
 use Rattle.slot_match.specs.declared.rows.Row.{Row}
 use Rattle.slot_match.specs.declared.matching.Fed.{Fed}
 use Rattle.journal_check.specs.declared.fields.Field.{Field}
-use Rattle.journal_check.specs.declared.fields.Field.TheVariants.{Sets, More, Set, Input, Rank}
+use Rattle.journal_check.specs.declared.fields.Field.TheVariants.{Magic, Ports, Rounds, Zeros, Slots, Sets, More, Set, Input, Rank}
+use Rattle.journal_check.specs.declared.header.Header.{Header}
 use Rattle.journal_check.specs.declared.posts.FilePost.{FilePost}
-use Rattle.journal_check.specs.Fields.{len_of, allows, is_from, no_input, Reading, number_in, read_on, each_in}
-use Rattle.journal_check.specs.Files.{FileSlot, set_in, row_in, post_in, fed_by, output_in, slot_in}
-use Rattle.journal_check.specs.Texts.{IsFileRow, IsFileOutput, IsFileSlot}
+use Rattle.journal_check.specs.Fields.{len_of, allows, most_slots, is_from, no_input, Reading, number_in, read_on, each_in}
+use Rattle.journal_check.specs.Files.{FileSlot, set_in, row_in, post_in, fed_by, output_in, slot_in, JournalFile, header_in, end_in, file_in, told_by, journal_in}
+use Rattle.journal_check.specs.Texts.{IsFileRow, IsFileOutput, IsFileSlot, IsFile}
 use Rattle.journal_check.specs.Steps.{IsRead}
 use Rattle.journal_check.proofs.NumberReads.{good, not_good, is_good, good_in, from_bounds}
 
@@ -116,3 +117,55 @@ module _ (n : ℕ) where
   -- a slot that is read is one that a file can have
   pub read_is_slot : (bytes : List ℕ) (at : ℕ) (slot : FileSlot) (next : ℕ) → IsRead (slot_in n) bytes at slot next → IsFileSlot n slot
   read_is_slot bytes at slot next read = given (IsFileSlot n) (slot_in n (drop at bytes)) slot (drop next bytes) read.reads (slot_fits (drop at bytes))
+
+-- the limits of a header
+record IsLimited (header : Header) : Type 0 where
+  ports_some : 1 ≤ header.ports
+  ports_few : header.ports ≤ 64
+  rounds_some : 1 ≤ header.rounds
+  rounds_few : header.rounds ≤ 64
+  slots_some : 1 ≤ header.slots
+  slots_few : header.slots ≤ most_slots header.ports
+
+allowed_number : (field : Field) (bytes : List ℕ) → Gives (λ x. allows field x ≡ true) (number_in field bytes)
+allowed_number field bytes = allowed_in field bytes (λ x. allows field x ≡ true) (λ x e. e)
+
+header_fits : (bytes : List ℕ) → Gives IsLimited (header_in bytes)
+unfolding header_in
+header_fits bytes =
+    gives_on (λ (x : ℕ). Unit {0}) IsLimited (number_in Magic bytes) _ (gives_any (number_in Magic bytes)) (λ magic after_magic any.
+    gives_on (λ x. allows Ports x ≡ true) IsLimited (number_in Ports after_magic) _ (allowed_number Ports after_magic) (λ ports after_ports in_ports.
+    gives_on (λ x. allows Rounds x ≡ true) IsLimited (number_in Rounds after_ports) _ (allowed_number Rounds after_ports) (λ rounds after_rounds in_rounds.
+    gives_on (λ (x : ℕ). Unit {0}) IsLimited (number_in Zeros after_rounds) _ (gives_any (number_in Zeros after_rounds)) (λ zeros after_zeros also.
+    gives_on (λ x. allows (Slots ports) x ≡ true) IsLimited (number_in (Slots ports) after_zeros) _ (allowed_number (Slots ports) after_zeros) (λ slots rest in_slots.
+    let p = from_bounds 1 64 ports in_ports in
+    let r = from_bounds 1 64 rounds in_rounds in
+    let s = from_bounds 1 (most_slots ports) slots in_slots in
+    record { ports_some = p.0; ports_few = p.1; rounds_some = r.0; rounds_few = r.1; slots_some = s.0; slots_few = s.1 })))))
+
+file_fits : (bytes : List ℕ) → Gives IsFile (file_in bytes)
+unfolding file_in
+file_fits bytes =
+    gives_on IsLimited IsFile (header_in bytes) _ (header_fits bytes) (λ header after_header limits.
+    gives_on (λ (slots : List FileSlot). (length slots ≡ length (range_with_len 0 header.slots)) × All (IsFileSlot header.ports) slots) IsFile (each_in (λ t. slot_in header.ports) (range_with_len 0 header.slots) after_header) _
+    (gives_each (IsFileSlot header.ports) (λ t. slot_in header.ports) (λ t. slot_fits header.ports) (range_with_len 0 header.slots) after_header) (λ slots after_slots all.
+    let count : length slots ≡ header.slots = all.0 ∙ length-range_with_len 0 header.slots in
+    gives_on (λ (x : List ℕ). Unit {0}) IsFile (end_in after_slots) _ (gives_any (end_in after_slots)) (λ nothing rest any.
+    record {
+      ports_some = limits.ports_some;
+      ports_few = limits.ports_few;
+      rounds_some = limits.rounds_some;
+      rounds_few = limits.rounds_few;
+      slots_some = let some = limits.slots_some in omega arith;
+      slots_few = let few = limits.slots_few in omega arith;
+      slots = all.1;
+    })))
+
+told_fits : (bytes : List ℕ) (file : JournalFile) (r : Reading JournalFile) → told_by bytes r ≡ Ok file → Gives IsFile r → IsFile file
+told_fits bytes file (Ok read) e good = let same : read.0 ≡ file = cc in subst IsFile same good
+told_fits bytes file (Err bad) e good = absurd (cc)
+
+-- what the bytes of a file tell is what a file can tell
+pub told_is_file : (bytes : List ℕ) (file : JournalFile) → journal_in bytes ≡ Ok file → IsFile file
+unfolding journal_in
+told_is_file bytes file e = told_fits bytes file (file_in bytes) e (file_fits bytes)

@@ -1,5 +1,5 @@
 -- Why a slot that was read fails, or what it leaves.
-use Rattle.std.proofs.Common.{◌≡◌, ℕ, ◌+◌, ◌<◌, ◌≤◌, ◌∙◌, Bool, List, length, take, map, Option, None, Some, refl, sym, ap, arith}
+use Rattle.std.proofs.Common.{◌≡◌, ℕ, ◌+◌, ◌<◌, ◌≤◌, ◌∙◌, Bool, List, length, take, map, Option, None, Some, is_some, false, refl, sym, ap, arith}
 use Rattle.std.specs.List.{list_any}
 use Rattle.std.specs.Option.{option_or}
 use Rattle.slot_match.specs.declared.rows.Row.{Row}
@@ -43,3 +43,21 @@ module _ (n rounds t : ℕ) (before : Before) (read : SlotRead) (value : FileSlo
       ∙ ap (λ (m : List (Option Fed)). made (rows_of value) m new.going new.pointers) (sym matched ∙ is.outputs)
       ∙ ap (λ (g : Bool). made (rows_of value) value.matched g new.pointers) (going ∙ ap (list_any (λ (more : Bool). more)) is.more)
       ∙ ap (made (rows_of value) value.matched (list_any (λ (more : Bool). more) (mores_of value))) (places ∙ ap (λ (r : List Row). (decision_of n rounds t r before.places).places) is.rows)
+
+-- the same of slices that are as long and have the same elements
+pub post_again : (n m : ℕ) (judge : Judge) (r : Option Reason) (rows others : List Row) (more also : List Bool) → m ≡ n → others ≡ rows → also ≡ more → r ≡ post_failure m (before_of m judge) others also → r ≡ post_failure n (before_of n judge) rows more
+post_again n m judge r rows others more also len same_rows same_more e =
+    e ∙ ap (λ (k : ℕ). post_failure k (before_of k judge) others also) len ∙ ap (λ (xs : List Row). post_failure n (before_of n judge) xs also) same_rows ∙ ap (post_failure n (before_of n judge) rows) same_more
+
+pub output_again : (n m rounds t : ℕ) (places : Places) (r : Option Reason) (rows others : List Row) (fed also decided : List (Option Fed)) → m ≡ n → others ≡ rows → also ≡ fed → r ≡ output_failure m also decided → decided ≡ (decision_of m rounds t others places).matched
+    → r ≡ output_failure n fed (decision_of n rounds t rows places).matched
+output_again n m rounds t places r rows others fed also decided len same_rows same_fed e is =
+    e ∙ ap (λ (k : ℕ). output_failure k also decided) len ∙ ap (λ (xs : List (Option Fed)). output_failure n xs decided) same_fed
+    ∙ ap (output_failure n fed) (is ∙ ap (λ (k : ℕ). (decision_of k rounds t others places).matched) len ∙ ap (λ (xs : List Row). (decision_of n rounds t xs places).matched) same_rows)
+
+pub places_again : (n m rounds t : ℕ) (places after : Places) (rows others : List Row) → m ≡ n → others ≡ rows → after ≡ (decision_of m rounds t others places).places → after ≡ (decision_of n rounds t rows places).places
+places_again n m rounds t places after rows others len same_rows is = is ∙ ap (λ (k : ℕ). (decision_of k rounds t others places).places) len ∙ ap (λ (xs : List Row). (decision_of n rounds t xs places).places) same_rows
+
+pub is_none : {X : Type 0} (o : Option X) → is_some o ≡ false → o ≡ None
+is_none None e = refl
+is_none (Some x) e = absurd (cc)

@@ -1,6 +1,6 @@
 -- What the steps of a check answer: what stands at a place in the bytes or where the first bad field is, and what
 -- is known of the slots so far.
-use Rattle.std.specs.Prelude.{◌≡◌, ℕ, ◌<◌, ◌≤◌, ◌++◌, List, Option, None, Some, Ok, Err, length, drop, take, map}
+use Rattle.std.specs.Prelude.{◌≡◌, ◌≢◌, ℕ, ◌+◌, ◌-◌, ◌<◌, ◌≤◌, ◌++◌, slice_index, List, Option, None, Some, Ok, Err, length, drop, take, map}
 use Rattle.slot_match.specs.Rows.{AreWithin}
 use Rattle.pointer_state.specs.Places.{Places}
 use Rattle.service_bound.specs.Meters.{HasNoted}
@@ -65,3 +65,9 @@ pub record IsFor (n rounds t : ℕ) (judge : Judge) : Type 0 where
 pub record IsJudged (n rounds : ℕ) (slots : List FileSlot) (judge : Judge) : Type 0 where
   pub found : (more : List FileSlot) → failure_from n rounds 0 (at_first n) (slots ++ more) ≡ failure_with n rounds (length slots) judge judge.failure more
   pub noted : judge.failure ≡ None → HasNoted judge.meter (map noted_of slots)
+
+-- bit k is that of one of the first `count` sets, from bit `first` on, and the set is not empty
+pub record IsFlag (sets : List ℕ) (first count k : ℕ) : Type 0 where
+  pub from : first ≤ k
+  pub below : k < first + count
+  pub some : slice_index sets (k - first) ≢ 0

@@ -52,7 +52,7 @@ slot_text slot = flat_map post_text slot.posts ++ flat_map output_text slot.matc
 
 -- the 12 bytes of the header: the magic, the ports, the rounds, two zeros and the number of slots
 abbrev pub header_text : ℕ → ℕ → ℕ → List ℕ
-header_text ports rounds slots = big_bytes 4 0x54544a31 ++ big_bytes 1 ports ++ big_bytes 1 rounds ++ big_bytes 2 0 ++ big_bytes 4 slots
+header_text ports rounds slots = big_bytes 4 0x54544a31 ++ ports ∷ rounds ∷ 0 ∷ 0 ∷ big_bytes 4 slots
 
 -- the bytes of a file
 unfoldable pub file_text : JournalFile → List ℕ

@@ -102,6 +102,26 @@ impl Judge {
         Some(Reason::Output { output })
     }
 
+    // Decides slot `t`, and says why an output fails, if one does. Else the next slot is judged by it.
+    fn decide_slot(&mut self, t: u32, ports: u32, slot: &SlotRead) -> Option<Reason>
+        requires ready { IsFor ports self.old.rounds t self.old }
+        requires within { AreWithin ports (take ports slot.now.rows) }
+        ensures failure { result ≡ output_failure ports (take ports slot.now.fed) (decision_of ports self.old.rounds t (take ports slot.now.rows) self.old.pointers).matched }
+        ensures next { (value : FileSlot) → IsSlotRead ports slot.now value → IfNone result (before_of ports self.new ≡ after_slot ports self.old.rounds t (before_of ports self.old) value) }
+        ensures stays { (self.new.rounds ≡ self.old.rounds) × (self.new.meter ≡ self.old.meter) × (self.new.failure ≡ self.old.failure) }
+        ensures ready { IsFor ports self.new.rounds t self.new }
+    {
+        let count = ports as usize;
+        match self.output_failure(t, &slot.rows[..count], &slot.fed[..count]) {
+            Some(reason) => Some(reason),
+            None => {
+                self.rows = slot.rows;
+                self.going = is_going(&slot.more[..count]);
+                None
+            }
+        }
+    }
+
     // Why slot `t` fails, if it does. Else the next slot is judged by it.
     fn slot_failure(&mut self, t: u32, ports: u32, slot: &SlotRead) -> Option<Reason>
         requires ready { IsFor ports self.old.rounds t self.old }
@@ -112,17 +132,10 @@ impl Judge {
         ensures ready { IsFor ports self.new.rounds t self.new }
     {
         let count = ports as usize;
-        let rows = &slot.rows[..count];
-        let more = &slot.more[..count];
-        if let Some(reason) = self.post_failure(rows, more) {
-            return Some(reason);
+        match self.post_failure(&slot.rows[..count], &slot.more[..count]) {
+            Some(reason) => Some(reason),
+            None => self.decide_slot(t, ports, slot),
         }
-        if let Some(reason) = self.output_failure(t, rows, &slot.fed[..count]) {
-            return Some(reason);
-        }
-        self.rows = slot.rows;
-        self.going = is_going(more);
-        None
     }
 
     // Judges slot `t` of a file, which stands at the first places.

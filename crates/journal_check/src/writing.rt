@@ -1,6 +1,8 @@
-ghost use Rattle.std.specs.Prelude.{◌≡◌, ◌*◌, ◌≤◌, ◌<◌, ◌++◌, Bool, length, IfOk, OnOk};
+ghost use Rattle.std.specs.Prelude.{◌≡◌, ◌*◌, ◌≤◌, ◌<◌, ◌++◌, ◌↔◌, ◌⊎◌, ℕ, length, IfOk, OnOk};
 ghost use Rattle.std.specs.List.{flat_map};
-ghost use Rattle.journal_check.specs.Texts.{sets_there, set_text, file_post, file_of, post_text, output_text, header_text, file_text, IsFileOutput};
+ghost use Rattle.rotating_pick.specs.PortSets.{Has};
+ghost use Rattle.journal_check.specs.Steps.{IsFlag};
+ghost use Rattle.journal_check.specs.Texts.{number_of, sets_there, set_text, file_post, file_of, post_text, output_text, header_text, file_text, IsFileOutput};
 
 use crate::fields::{MAGIC, NO_INPUT};
 use crate::header::HEADER_BYTES;
@@ -27,9 +29,17 @@ pub fn journal_len(journal: &Journal) -> u64
     journal.legal();
     let mut len = HEADER_BYTES as u64;
     for slot in 0..journal.slots() {
-        len += posts_len(journal.posts(slot)) + OUTPUT_BYTES * u64::from(journal.ports());
+        len += posts_len(journal.posts(slot)) + outputs_len(journal.decided(slot));
     }
     len
+}
+
+// How many bytes the outputs of a slot have.
+fn outputs_len(matched: &Match) -> u64
+    ensures value { result ≡ length (flat_map output_text matched.now) }
+    ensures few { result ≤ 128 }
+{
+    OUTPUT_BYTES * u64::from(matched.ports())
 }
 
 // How many bytes the posts of a slot have.
@@ -40,17 +50,17 @@ fn posts_len(posts: &[Post]) -> u64
 {
     let mut len = 0;
     for post in posts {
-        len += post_len(&post.row);
+        len += post_len(post);
     }
     len
 }
 
-// How many bytes a post of this row has.
-fn post_len(row: &Row) -> u64
-    ensures value { (more : Bool) → result ≡ length (post_text (record { row = row.now; more = more })) }
+// How many bytes a post has.
+fn post_len(post: &Post) -> u64
+    ensures value { result ≡ length (post_text (file_post post.now)) }
     ensures few { result ≤ 66 }
 {
-    POST_BYTES + sets_len(&row.uni) + sets_len(&row.multi)
+    POST_BYTES + sets_len(&post.row.uni) + sets_len(&post.row.multi)
 }
 
 // How many bytes four sets have.
@@ -82,6 +92,7 @@ pub fn journal_bytes(alloc: Global, journal: &Journal) -> Result<Vec<u8>, OutOfM
     requires size { length (file_text (file_of journal.now)) ≤ MAX_JOURNAL_BYTES }
     ensures { IfOk result (λ bytes. bytes.items ≡ file_text (file_of journal.now)) }
 {
+    journal.legal();
     let mut text = Vec::with_capacity(alloc, journal_len(journal) as usize)?;
     put_header(
         &mut text,
@@ -125,25 +136,40 @@ fn put_post(text: &mut Vec<u8>, row: &Row, more: bool) -> Result<(), OutOfMemory
     ensures { OnOk result (text.new.items ≡ text.old.items ++ post_text (record { row = row.now; more = more })) }
 {
     text.push(sets_there(row))?;
-    text.push(u8::from(more))?;
+    text.push(flag(more))?;
     put_sets(text, &row.uni)?;
-    put_sets(text, &row.multi)
+    put_sets(text, &row.multi)?;
+    Ok(())
+}
+
+// The number of a flag.
+fn flag(set: bool) -> u8
+    ensures { result ≡ number_of set }
+{
+    if set { 1 } else { 0 }
 }
 
 // Which sets of the row are not empty.
 fn sets_there(row: &Row) -> u8
     ensures { result ≡ sets_there row.now }
 {
-    let mut there = 0;
+    let unicast = add_flags(0, &row.uni, 0);
+    add_flags(unicast, &row.multi, LEVELS) as u8
+}
+
+// Adds to the bits, from bit `first` on, which of the four sets are not empty.
+fn add_flags(bits: Ports, sets: &[Ports; LEVEL_COUNT], first: u32) -> Ports
+    requires { first ≤ LEVELS }
+    ensures flags { (k : ℕ) → Has result k ↔ (Has bits k ⊎ IsFlag sets.now first LEVELS k) }
+    ensures long { length sets.now ≡ LEVELS }
+{
+    let mut flags = bits;
     for level in 0..LEVELS {
-        if !is_empty(row.uni[level as usize]) {
-            there = with(there, level);
-        }
-        if !is_empty(row.multi[level as usize]) {
-            there = with(there, LEVELS + level);
+        if !is_empty(sets[level as usize]) {
+            flags = with(flags, first + level);
         }
     }
-    there as u8
+    flags
 }
 
 // Appends the sets that are not empty.

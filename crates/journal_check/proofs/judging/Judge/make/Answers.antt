@@ -1,5 +1,4 @@
-use Rattle.std.proofs.Common.{refl, subst, sym, ap, take}
-use Rattle.slot_match.specs.Rows.{AreWithin}
+use Rattle.std.proofs.Common.{refl, arith}
 use Rattle.journal_check.proofs.Judged.{begin_judged, first_rows_within}
 use Rattle.journal_check.proofs.judging.Judge.make.Goals as goal
 
@@ -17,5 +16,5 @@ returns-clause-ready c = record {
   matched = c.new.ensures.whole.count;
   pointers = c.new-2.ensures.ports;
   meter = c.in_ok-make.ensures.0;
-  count = ?;
+  count = omega (arith, c.in_ok-make.ensures.1.count);
 }
