@@ -59,7 +59,6 @@ from_not_zero : (x : ℕ) → not (x == 0) ≡ true → x ≢ 0
 from_not_zero x e none = absurd (let zero : (x == 0) ≡ true = (Decides-eqb x 0).1 none in let same : false ≡ true = sym (ap not zero) ∙ e in cc)
 
 module _ (row : Row) (unicast bits : ℕ) (uni_long : length row.uni ≡ 4) (first : (k : ℕ) → Has unicast k ↔ (Has 0 k ⊎ IsFlag row.uni 0 4 k)) (second : (k : ℕ) → Has bits k ↔ (Has unicast k ⊎ IsFlag row.multi 4 4 k)) where
-
   low : (k : ℕ) → k < 4 → slice_index (all_sets row) k ≡ slice_index row.uni k
   low k below = get_or_append_left row.uni row.multi 0 k (omega arith)
 

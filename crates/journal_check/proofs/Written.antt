@@ -1,9 +1,9 @@
 -- What is appended, one after another.
-use Rattle.std.proofs.Common.{◌≡◌, ℕ, zero, suc, ◌+◌, ◌*◌, ◌<◌, ◌≤◌, ◌==◌, ◌∙◌, not, Bool, true, false, List, [], ◌∷◌, ◌++◌, length, take, get_or, slice_index, slice_index_or, map, Option, None, Some, refl, sym, ap, arith, append_assoc, inl, inr}
+use Rattle.std.proofs.Common.{◌≡◌, ℕ, zero, suc, ◌+◌, ◌*◌, ◌<◌, ◌≤◌, ◌==◌, ◌∙◌, not, Bool, true, false, List, [], ◌∷◌, ◌++◌, length, take, get_or, slice_index, slice_index_or, map, Option, None, Some, All, refl, sym, ap, subst, arith, append_assoc, inl, inr}
 use Rattle.std.specs.List.{flat_map}
 use Rattle.std.proofs.lemmas.Grind.{flat_map-append}
-use Rattle.std.proofs.lemmas.List.{length-append, append-nil, take_more, take_all, length-map, get_or_default}
-use Rattle.std.proofs.lemmas.Bool.{cases_Bool, cond-true, cond-false, eq-eqb}
+use Rattle.std.proofs.lemmas.List.{length-append, append-nil, take_more, take_all, length-map, get_or_default, get_or-map}
+use Rattle.std.proofs.lemmas.Bool.{cases_eq, cases_Bool, cond-true, cond-false, eq-eqb}
 use Rattle.std.proofs.lemmas.Bool.Decides.{Decides-eqb}
 use Rattle.byteorder.specs.Endian.{big_bytes}
 use Rattle.slot_match.specs.declared.rows.Row.{Row}
@@ -12,7 +12,9 @@ use Rattle.journal_check.specs.declared.posts.FilePost.{FilePost}
 use Rattle.crossbar.specs.declared.cards.Post.{Post as CardPost}
 use Rattle.slot_histories.specs.Answers.{JournalSlot}
 use Rattle.board_state.specs.Boards.{JournalValue, no_slot}
-use Rattle.journal_check.specs.Texts.{all_sets, sets_there, number_of, set_text, post_text, output_text, slot_text, header_text, file_text, file_post, file_slot, file_of}
+use Rattle.slot_histories.specs.Events.{no_post}
+use Rattle.journal_check.specs.Files.{FileSlot}
+use Rattle.journal_check.specs.Texts.{all_sets, sets_there, number_of, HasLevels, HaveLevels, set_text, post_text, output_text, slot_text, header_text, file_text, file_post, file_slot, file_of}
 
 module _ {X : Type 0} (f : X → List ℕ) where
   flat_more : (xs : List X) (i : ℕ) (d : X) → i < length xs → flat_map f (take (i + 1) xs) ≡ flat_map f (take i xs) ++ f (get_or xs i d)
@@ -114,3 +116,37 @@ post_spelled row more old a b c d sets flag first second third fourth sets_are f
     fourth ∙ ap (λ (t : List ℕ). t ++ multi) (third ∙ ap (λ (t : List ℕ). t ++ uni) (second ∙ ap (λ (t : List ℕ). t ++ flag ∷ []) first)) ∙ regroup
     ∙ ap (λ (t : List ℕ). old ++ (sets ∷ flag ∷ t)) (sym (flat_map-append set_text row.uni row.multi))
     ∙ ap (λ (x : ℕ). old ++ (x ∷ flag ∷ flat_map set_text (all_sets row))) sets_are ∙ ap (λ (x : ℕ). old ++ (sets_there row ∷ x ∷ flat_map set_text (all_sets row))) flag_is
+
+-- one more of the posts has its sets
+pub levels_more : (posts : List CardPost) (i : ℕ) (x e : CardPost) → i < length posts → x ≡ get_or posts i e → HasLevels x.row → ((k : ℕ) (d : CardPost) → k < i → HasLevels (get_or posts k d).row) → (k : ℕ) (d : CardPost) → k < i + 1 → HasLevels (get_or posts k d).row
+levels_more posts i x e below is here so_far k d within =
+    elim (cases_eq k i) [
+      | inl same ↦
+          let at : get_or posts i e ≡ get_or posts k d = get_or_default posts i e d below ∙ ap (λ (j : ℕ). get_or posts j d) (sym same) in
+          subst (λ (post : CardPost). HasLevels post.row) (is ∙ at) here
+      | inr apart ↦ so_far k d (omega arith)
+    ]
+
+-- so have the posts of one slot more
+pub slots_levels_more : (slots : List JournalSlot) (i : ℕ) (posts : List CardPost) → i < length slots → posts ≡ (slice_index_or slots i no_slot).posts → All (λ (post : CardPost). HasLevels post.row) posts → ((k : ℕ) (d : JournalSlot) → k < i → All (λ (post : CardPost). HasLevels post.row) (get_or slots k d).posts)
+    → (k : ℕ) (d : JournalSlot) → k < i + 1 → All (λ (post : CardPost). HasLevels post.row) (get_or slots k d).posts
+slots_levels_more slots i posts below posts_are here so_far k d within =
+    elim (cases_eq k i) [
+      | inl same ↦
+          let at : get_or slots i no_slot ≡ get_or slots k d = get_or_default slots i no_slot d below ∙ ap (λ (j : ℕ). get_or slots j d) (sym same) in
+          subst (λ (ps : List CardPost). All (λ (post : CardPost). HasLevels post.row) ps) (posts_are ∙ ap (λ (slot : JournalSlot). slot.posts) at) here
+      | inr apart ↦ so_far k d (omega arith)
+    ]
+
+-- all posts of a journal have their sets
+pub levels_of : (journal : JournalValue) (t : ℕ) → t ≡ length journal.slots → ((k : ℕ) (d : JournalSlot) → k < t → All (λ (post : CardPost). HasLevels post.row) (get_or journal.slots k d).posts) → HaveLevels (file_of journal)
+levels_of journal t all each k d within i e inside =
+    let slots = journal.slots in
+    let in_slots : k < length slots = omega (arith, length-map slots file_slot) in
+    let slot_is : get_or (map file_slot slots) k d ≡ file_slot (get_or slots k no_slot) = get_or-map file_slot slots k no_slot d in_slots in
+    let posts = (get_or slots k no_slot).posts in
+    let at_most : i < length (map file_post posts) = subst (λ (slot : FileSlot). i < length slot.posts) slot_is inside in
+    let in_posts : i < length posts = omega (arith, length-map posts file_post) in
+    let post_is : get_or (map file_post posts) i e ≡ file_post (get_or posts i no_post) = get_or-map file_post posts i no_post e in_posts in
+    subst (λ (slot : FileSlot). HasLevels (get_or slot.posts i e).row) (sym slot_is)
+    (subst (λ (post : FilePost). HasLevels post.row) (sym post_is) (each k no_slot (omega arith) i no_post in_posts))

@@ -18,8 +18,7 @@ ghost use Rattle.journal_check.specs.Texts.{IsFile, HaveLevels, file_of, file_te
 ghost use Rattle.journal_check.specs.Lawful.{first_failure, decided_slots, IsLawful};
 ghost use Rattle.journal_check.specs.Verdicts.{yes_on, answer_to};
 
-/// Bytes are those of a journal file exactly where they spell one: what is spelled is read again, and
-/// what is read was spelled so.
+/// What is spelled of a file is read again: just that file. And what is read is what a file can tell.
 pub fn files_are_their_texts()
     ensures read { (file : JournalFile) → IsFile file → journal_in (file_text file) ≡ Ok file }
     ensures good { (bytes : List ℕ) (file : JournalFile) → journal_in bytes ≡ Ok file → IsFile file }

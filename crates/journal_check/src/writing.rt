@@ -1,8 +1,8 @@
-ghost use Rattle.std.specs.Prelude.{◌≡◌, ◌*◌, ◌≤◌, ◌<◌, ◌++◌, ◌↔◌, ◌⊎◌, ℕ, length, IfOk, OnOk};
+ghost use Rattle.std.specs.Prelude.{◌≡◌, ◌*◌, ◌≤◌, All, ◌<◌, ◌++◌, ◌↔◌, ◌⊎◌, ℕ, length, IfOk, OnOk};
 ghost use Rattle.std.specs.List.{flat_map};
 ghost use Rattle.rotating_pick.specs.PortSets.{Has};
 ghost use Rattle.journal_check.specs.Steps.{IsFlag};
-ghost use Rattle.journal_check.specs.Texts.{number_of, sets_there, set_text, file_post, file_of, post_text, output_text, header_text, file_text, IsFileOutput};
+ghost use Rattle.journal_check.specs.Texts.{HasLevels, HaveLevels, number_of, sets_there, set_text, file_post, file_of, post_text, output_text, header_text, file_text, IsFileOutput};
 
 use crate::fields::{MAGIC, NO_INPUT};
 use crate::header::HEADER_BYTES;
@@ -24,7 +24,10 @@ const OUTPUT_BYTES: u64 = 2;
 
 /// How many bytes the file of a journal has. It takes no memory.
 pub fn journal_len(journal: &Journal) -> u64
-    ensures { result ≡ length (file_text (file_of journal.now)) }
+    ensures value { result ≡ length (file_text (file_of journal.now)) }
+
+    // Each row of a journal has a set for each level of each kind.
+    ensures levels { HaveLevels (file_of journal.now) }
 {
     journal.legal();
     let mut len = HEADER_BYTES as u64;
@@ -47,6 +50,7 @@ fn posts_len(posts: &[Post]) -> u64
     requires { length posts.now ≤ 64 }
     ensures value { result ≡ length (flat_map (λ post. post_text (file_post post)) posts.now) }
     ensures few { result ≤ 66 * length posts.now }
+    ensures levels { All (λ post. HasLevels post.row) posts.now }
 {
     let mut len = 0;
     for post in posts {
@@ -59,6 +63,7 @@ fn posts_len(posts: &[Post]) -> u64
 fn post_len(post: &Post) -> u64
     ensures value { result ≡ length (post_text (file_post post.now)) }
     ensures few { result ≤ 66 }
+    ensures levels { HasLevels post.now.row }
 {
     POST_BYTES + sets_len(&post.row.uni) + sets_len(&post.row.multi)
 }
@@ -67,6 +72,7 @@ fn post_len(post: &Post) -> u64
 fn sets_len(sets: &[Ports; LEVEL_COUNT]) -> u64
     ensures value { result ≡ length (flat_map set_text sets.now) }
     ensures few { result ≤ 32 }
+    ensures long { length sets.now ≡ LEVELS }
 {
     let mut len = 0;
     for set in sets {

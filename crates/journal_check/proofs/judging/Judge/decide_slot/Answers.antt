@@ -1,5 +1,7 @@
 use Rattle.std.proofs.Common.{◌≡◌, ◌-◌, ◌∙◌, ℕ, None, Some, length, take, refl, ap, arith}
-use Rattle.std.proofs.lemmas.List.{length-take-le}
+use Rattle.std.proofs.lemmas.List.{length-take}
+use Rattle.std.proofs.lemmas.Grind.{common_steps}
+use Rattle.journal_check.specs.Lawful.{output_failure}
 use Rattle.journal_check.specs.Steps.{before_of}
 use Rattle.journal_check.proofs.SlotFails.{output_again, places_again, left}
 use Rattle.journal_check.proofs.judging.Judge.decide_slot.Goals as goal
@@ -33,8 +35,9 @@ returns-in-None-clause-next c value is =
     let rows = c.args.slot.now.rows in
     let fed = c.args.slot.now.fed in
     let mid = c.output_failure.new.self in
+    let long : length (take n fed) ≡ n = first_of (grind (arith, common_steps), omega (arith, length-take n fed)) in
     let ready = c.in-None.ensures.ready in
     let count = c.requires.within.count in
     let few = c.requires.ready.ports_few in
     let places = places_again n (length (take n rows)) judge.rounds c.args.t judge.pointers mid.pointers (take n rows) (take n rows) count refl c.in-None.ensures.places in
-    left n judge.rounds c.args.t (before_of n judge) c.args.slot.now value is (record mid { rows = rows; going = c.is_going-self.result }) refl c.is_going-self.ensures places ? (ready.matched ∙ count) ?
+    left n judge.rounds c.args.t (before_of n judge) c.args.slot.now value is (record mid { rows = rows; going = c.is_going-self.result }) refl c.is_going-self.ensures places long (ready.matched ∙ count) (c.in-None.ensures.failure ∙ ap (λ (k : ℕ). output_failure k (take n fed) mid.matched) count)

@@ -22,5 +22,5 @@ returns-in-None-clause-judged c slots value count is judged =
     let next_at : before_of n mid ≡ after_slot n old.rounds (length slots) (before_of n old) value = subst (λ (t : ℕ). before_of n mid ≡ after_slot n old.rounds t (before_of n old) value) count next in
     passed n old.rounds slots value old (record mid { meter = c.note.new.self }) judged was (stays.2 ∙ was) (sym why) next_at
     (λ noted h.
-        subst (λ (slot : NotedSlot). HasNoted c.note.new.self (noted ++ slot ∷ [])) (noted_same n old.rounds c.args.t c.args.slot.now value (before_of n old) mid (take n rows) mid.matched is same_rows refl next)
-        (c.note.ensures.noted noted (subst (λ m. HasNoted m noted) (sym stays.1) h)))
+    subst (λ (slot : NotedSlot). HasNoted c.note.new.self (noted ++ slot ∷ [])) (noted_same n old.rounds c.args.t c.args.slot.now value (before_of n old) mid (take n rows) mid.matched is same_rows refl next)
+    (c.note.ensures.noted noted (subst (λ m. HasNoted m noted) (sym stays.1) h)))
