@@ -1,13 +1,12 @@
 -- Lawful files: what a scheduler may have decided, from its first slot to its last.
-use Rattle.std.specs.Prelude.{◌≡◌, ℕ, zero, suc, ◌+◌, ◌-◌, ◌<◌, ◌==◌, ◌&&◌, ◌⊎◌, not, Bool, true, false, if◌then◌else◌, List, [], ◌∷◌, length, map, replicate, find, Option, None, Some, option_map, slice_index_or, Any, All}
-use Rattle.std.specs.List.{range_with_len, list_any, list_all}
+use Rattle.std.specs.Prelude.{◌≡◌, ℕ, zero, suc, ◌+◌, ◌-◌, ◌<◌, ◌==◌, ◌&&◌, ◌⊎◌, not, Bool, true, false, if◌then◌else◌, List, [], ◌∷◌, length, map, replicate, find, Option, None, Some, option_map, slice_index_or}
+use Rattle.std.specs.List.{range_with_len, list_any}
 use Rattle.std.specs.Option.{option_or}
-use Rattle.rotating_pick.specs.declared.limits.TheConstants.{LEVELS}
 use Rattle.slot_match.specs.declared.rows.Row.{Row}
 use Rattle.slot_match.specs.declared.matching.Fed.{Fed}
 use Rattle.slot_match.specs.Rows.{row_of, empty_row, IsEmptyRow}
 use Rattle.slot_match.specs.Matches.{unmatched, fed_of}
-use Rattle.slot_match.specs.Keeping.{Keeps}
+use Rattle.slot_match.specs.Keeping.{KeepsRest, Gives}
 use Rattle.slot_match.specs.Parts.{served_of}
 use Rattle.pointer_state.specs.Places.{Places, places_at_first}
 use Rattle.eslip_rounds.specs.Slots.{Decision}
@@ -15,8 +14,7 @@ use Rattle.eslip_rounds.specs.Decisions.{decision_of, is_kind}
 use Rattle.slot_histories.specs.Tests.{is_empty, keeps_rest}
 use Rattle.eslip_rounds.specs.Schedules.{DecidedSlot}
 use Rattle.journal_check.specs.declared.verdict.Reason.{Reason}
-use Rattle.journal_check.specs.declared.verdict.Reason.TheVariants.{AfterEnd, More, Keeps as KeepsOf, Output, NoEnd}
-use Rattle.journal_check.specs.declared.posts.FilePost.{FilePost}
+use Rattle.journal_check.specs.declared.verdict.Reason.TheVariants.{AfterEnd, More, Keeps, Output, NoEnd}
 use Rattle.journal_check.specs.declared.verdict.Failure.{Failure}
 use Rattle.journal_check.specs.Files.{FileSlot, JournalFile, rows_of, mores_of}
 
@@ -79,7 +77,7 @@ unfoldable pub post_failure : ℕ → Before → List Row → List Bool → Opti
 post_failure n before rows more = first_reason (
     (if before.going then None else Some AfterEnd)
     ∷ option_map More (first_of n (lacks_more rows more))
-    ∷ option_map KeepsOf (first_of n (breaks n before.matched before.rows rows))
+    ∷ option_map Keeps (first_of n (breaks n before.matched before.rows rows))
     ∷ [])
 
 -- the least output that is not fed as is decided
@@ -117,28 +115,20 @@ decided_from n rounds t places (slot ∷ slots) =
 unfoldable pub decided_slots : JournalFile → List DecidedSlot
 decided_slots file = decided_from file.ports file.rounds 0 (places_at_first file.ports) file.slots
 
--- a slot of nothing
-abbrev pub no_slot : FileSlot
-no_slot = record { posts = []; matched = [] }
+-- The slot may follow what is before it: more was to come, each post that names an output has `more`, each card's
+-- row keeps its row of the slot before, of which its part of the match was served, and the match is what the
+-- scheduler decides.
+pub record MayFollow (n rounds t : ℕ) (before : Before) (slot : FileSlot) : Type 0 where
+  pub goes_on : before.going ≡ true
+  pub more : (i : ℕ) → i < n → IsEmptyRow (row_of (rows_of slot) i) ⊎ (slice_index_or (mores_of slot) i false ≡ true)
+  pub keeps : (i : ℕ) → i < n → KeepsRest (Gives (served_of before.matched i)) (row_of before.rows i) (row_of (rows_of slot) i)
+  pub decided : slot.matched ≡ (decided_in n rounds t before slot).matched
 
--- a post of nothing
-abbrev pub no_post : FilePost
-no_post = record { row = empty_row; more = false }
+-- each slot from slot t on may follow what is before it, and after the last one no more is to come
+abbrev pub MayFollowAll : ℕ → ℕ → ℕ → Before → List FileSlot → Type 0
+MayFollowAll n rounds t before [] = before.going ≡ false
+MayFollowAll n rounds t before (slot ∷ slots) = MayFollow n rounds t before slot × MayFollowAll n rounds (t + 1) (after_slot n rounds t before slot) slots
 
--- slot t of a file
-abbrev pub slot_at : JournalFile → ℕ → FileSlot
-slot_at file t = slice_index_or file.slots t no_slot
-
--- what card i posts for slot t
-abbrev pub post_at : JournalFile → ℕ → ℕ → FilePost
-post_at file t i = slice_index_or (slot_at file t).posts i no_post
-
--- Lawful: slots go on as long as some post has `more` and no longer, each post that names an output has it, each
--- card's row keeps its row of the slot before, of which the match served its part, and each match is what the
--- scheduler decides from the rows of all slots up to its own.
-pub record IsLawful (file : JournalFile) : Type 0 where
-  pub goes_on : (t : ℕ) → t + 1 < length file.slots → (i : ℕ) × (i < file.ports) × ((post_at file t i).more ≡ true)
-  pub more : (t i : ℕ) → t < length file.slots → i < file.ports → IsEmptyRow (post_at file t i).row ⊎ ((post_at file t i).more ≡ true)
-  pub keeps : (t i : ℕ) → t + 1 < length file.slots → i < file.ports → Keeps (slot_at file t).matched i (post_at file t i).row (post_at file (t + 1) i).row
-  pub matches : map (λ slot. slot.matched) file.slots ≡ map (λ slot. slot.decision.matched) (decided_slots file)
-  pub ends : (i : ℕ) → i < file.ports → (post_at file (length file.slots - 1) i).more ≡ false
+-- a lawful file: all of its slots may follow, one after another
+unfoldable pub IsLawful : JournalFile → Type 0
+IsLawful file = MayFollowAll file.ports file.rounds 0 (at_first file.ports) file.slots

@@ -1,6 +1,6 @@
 -- What the steps of a check answer: what stands at a place in the bytes or where the first bad field is, and what
 -- is known of the slots so far.
-use Rattle.std.specs.Prelude.{◌≡◌, ℕ, ◌<◌, ◌≤◌, ◌++◌, List, Option, None, Some, Ok, Err, length, drop, take, map}
+use Rattle.std.specs.Prelude.{◌≡◌, ◌≢◌, ℕ, ◌+◌, ◌-◌, ◌<◌, ◌≤◌, ◌++◌, slice_index, List, Option, None, Some, Ok, Err, length, drop, take, map}
 use Rattle.slot_match.specs.Rows.{AreWithin}
 use Rattle.pointer_state.specs.Places.{Places}
 use Rattle.service_bound.specs.Meters.{HasNoted}
@@ -43,17 +43,18 @@ abbrev pub before_of : ℕ → Judge → Before
 before_of n judge = record { rows = take n judge.rows; matched = judge.matched; going = judge.going; places = judge.pointers }
 
 -- the first failure of all slots, where this is the one of the slots so far and these slots follow slot t
-abbrev pub failure_with : ℕ → ℕ → Judge → Option Failure → List FileSlot → Option Failure
-failure_with n t judge None slots = failure_from n judge.rounds t (before_of n judge) slots
-failure_with n t judge (Some failure) slots = Some failure
+abbrev pub failure_with : ℕ → ℕ → ℕ → Judge → Option Failure → List FileSlot → Option Failure
+failure_with n rounds t judge None slots = failure_from n rounds t (before_of n judge) slots
+failure_with n rounds t judge (Some failure) slots = Some failure
 
--- what a judge keeps is for n ports and these rounds, and its meter has noted no more than t slots
+-- what a judge keeps is for n ports and these rounds, the rows of the slot before name none but the ports, and its meter has noted no more than t slots
 pub record IsFor (n rounds t : ℕ) (judge : Judge) : Type 0 where
   pub ports_some : 0 < n
   pub ports_few : n ≤ 64
   pub rounds_some : 0 < rounds
   pub rounds_few : rounds ≤ 64
   pub rounds_are : judge.rounds ≡ rounds
+  pub rows : AreWithin n (take n judge.rows)
   pub matched : length judge.matched ≡ n
   pub pointers : judge.pointers.ports ≡ n
   pub meter : judge.meter.ports ≡ n
@@ -62,5 +63,11 @@ pub record IsFor (n rounds t : ℕ) (judge : Judge) : Type 0 where
 -- the slots so far are judged: their first failure is known, whatever follows, and where they have none their waits
 -- are noted
 pub record IsJudged (n rounds : ℕ) (slots : List FileSlot) (judge : Judge) : Type 0 where
-  pub found : (more : List FileSlot) → failure_from n rounds 0 (at_first n) (slots ++ more) ≡ failure_with n (length slots) judge judge.failure more
+  pub found : (more : List FileSlot) → failure_from n rounds 0 (at_first n) (slots ++ more) ≡ failure_with n rounds (length slots) judge judge.failure more
   pub noted : judge.failure ≡ None → HasNoted judge.meter (map noted_of slots)
+
+-- bit k is that of one of the first `count` sets, from bit `first` on, and the set is not empty
+pub record IsFlag (sets : List ℕ) (first count k : ℕ) : Type 0 where
+  pub from : first ≤ k
+  pub below : k < first + count
+  pub some : slice_index sets (k - first) ≢ 0

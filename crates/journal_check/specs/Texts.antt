@@ -52,7 +52,7 @@ slot_text slot = flat_map post_text slot.posts ++ flat_map output_text slot.matc
 
 -- the 12 bytes of the header: the magic, the ports, the rounds, two zeros and the number of slots
 abbrev pub header_text : ℕ → ℕ → ℕ → List ℕ
-header_text ports rounds slots = big_bytes 4 0x54544a31 ++ big_bytes 1 ports ++ big_bytes 1 rounds ++ big_bytes 2 0 ++ big_bytes 4 slots
+header_text ports rounds slots = big_bytes 4 0x54544a31 ++ ports ∷ rounds ∷ 0 ∷ 0 ∷ big_bytes 4 slots
 
 -- the bytes of a file
 unfoldable pub file_text : JournalFile → List ℕ
@@ -86,6 +86,15 @@ pub record IsFile (file : JournalFile) : Type 0 where
   pub slots_some : 0 < length file.slots
   pub slots_few : length file.slots ≤ most_slots file.ports
   pub slots : All (IsFileSlot file.ports) file.slots
+
+-- the row has a set for each of the four levels of each kind
+pub record HasLevels (row : Row) : Type 0 where
+  pub uni : length row.uni ≡ LEVELS
+  pub multi : length row.multi ≡ LEVELS
+
+-- so has each row of the file
+abbrev pub HaveLevels : JournalFile → Type 0
+HaveLevels file = All (λ slot. All (λ post. HasLevels post.row) slot.posts) file.slots
 
 -- what is written of a post, without its cell
 abbrev pub file_post : CardPost → FilePost

@@ -1,6 +1,5 @@
-ghost use Rattle.std.specs.Prelude.{◌≡◌, ◌≤◌, ◌<◌, ◌+◌, ◌⊎◌, ℕ, Err, List, [], length, take, MatchResult};
+ghost use Rattle.std.specs.Prelude.{◌≡◌, ◌≤◌, ◌<◌, ◌+◌, ◌⊎◌, ℕ, Err, List, [], length, MatchResult};
 ghost use Rattle.std.specs.List.{range_with_len};
-ghost use Rattle.slot_match.specs.Rows.{AreWithin};
 ghost use Rattle.journal_check.specs.Fields.{each_in};
 ghost use Rattle.journal_check.specs.Files.{FileSlot, slot_in};
 ghost use Rattle.journal_check.specs.Verdicts.{answer_to};
@@ -42,7 +41,6 @@ fn judge_slots(bytes: &[u8], header: Header, judge: &mut Judge) -> Result<usize,
     requires place { 12 ≤ length bytes.now }
     requires header { IsHeader header }
     requires ready { IsFor header.ports header.rounds 0 judge.old }
-    requires before { AreWithin header.ports (take header.ports judge.old.rows) }
     requires judged { IsJudged header.ports header.rounds [] judge.old }
     ensures { MatchResult result
         (λ next. (slots : List FileSlot) × IsRead (each_in (λ t. slot_in header.ports) (range_with_len 0 header.slots)) bytes.now 12 slots next

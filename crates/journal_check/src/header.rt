@@ -27,6 +27,7 @@ pub(crate) struct Header {
 }
 
 // The header of a file; its slots begin at place 12.
+#[tactic(auto, unfolding(crate::specs::Files::header_in))]
 pub(crate) fn read_header(bytes: &[u8]) -> Result<Header, BadField>
     requires { length bytes.now ≤ MAX_JOURNAL_BYTES }
     ensures read { MatchResult result

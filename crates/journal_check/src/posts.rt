@@ -79,6 +79,7 @@ fn read_sets(
 }
 
 // The row of which these sets are there.
+#[tactic(auto, unfolding(crate::specs::Files::row_in))]
 fn read_row(bytes: &[u8], at: usize, ports: u32, sets: u64) -> Result<Found<Row>, BadField>
     requires size { length bytes.now ≤ MAX_JOURNAL_BYTES }
     requires place { at ≤ length bytes.now }
@@ -99,6 +100,7 @@ fn read_row(bytes: &[u8], at: usize, ports: u32, sets: u64) -> Result<Found<Row>
 }
 
 // The post that stands at the place.
+#[tactic(auto, unfolding(crate::specs::Files::post_in))]
 pub(crate) fn read_post(bytes: &[u8], at: usize, ports: u32) -> Result<Found<FilePost>, BadField>
     requires size { length bytes.now ≤ MAX_JOURNAL_BYTES }
     requires place { at ≤ length bytes.now }

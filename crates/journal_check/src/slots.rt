@@ -33,21 +33,27 @@ impl SlotRead {
 }
 
 // The posts that stand at the place, one for each port, and the place behind them.
-fn read_posts(bytes: &[u8], at: usize, ports: u32, slot: &mut SlotRead) -> Result<usize, BadField>
+fn read_posts(
+    bytes: &[u8],
+    at: usize,
+    ports: u32,
+    rows: &mut [Row; PORT_COUNT],
+    more: &mut [bool; PORT_COUNT],
+) -> Result<usize, BadField>
     requires size { length bytes.now ≤ MAX_JOURNAL_BYTES }
     requires place { at ≤ length bytes.now }
     requires some { 0 < ports }
     requires few { ports ≤ MAX_PORTS }
     ensures { MatchResult result
         (λ next. (posts : List FilePost) × IsRead (each_in (λ i. post_in ports) (range_with_len 0 ports)) bytes.now at posts next
-        × (take ports slot.new.rows ≡ map (λ post. post.row) posts) × (take ports slot.new.more ≡ map (λ post. post.more) posts))
+        × (take ports rows.new ≡ map (λ post. post.row) posts) × (take ports more.new ≡ map (λ post. post.more) posts))
         (λ bad. IsBadAt (each_in (λ i. post_in ports) (range_with_len 0 ports)) bytes.now at bad.at) }
 {
     let mut next = at;
     for i in 0..ports as usize {
         let post = read_post(bytes, next, ports)?;
-        slot.rows[i] = post.value.row;
-        slot.more[i] = post.value.more;
+        rows[i] = post.value.row;
+        more[i] = post.value.more;
         next = post.next;
     }
     Ok(next)
@@ -75,6 +81,7 @@ fn fed_by(input: u64, rank: u64) -> Option<Fed>
 }
 
 // What feeds the output that stands at the place; the next one is two bytes further.
+#[tactic(auto, unfolding(crate::specs::Files::output_in))]
 fn read_output(bytes: &[u8], at: usize, ports: u32) -> Result<Option<Fed>, BadField>
     requires size { length bytes.now ≤ MAX_JOURNAL_BYTES }
     requires place { at ≤ length bytes.now }
@@ -103,14 +110,15 @@ fn read_outputs(
         (λ bad. IsBadAt (each_in (λ j. output_in ports) (range_with_len 0 ports)) bytes.now at bad.at) }
 {
     let mut next = at;
-    for place in fed[..ports as usize].iter_mut() {
-        *place = read_output(bytes, next, ports)?;
+    for j in 0..ports as usize {
+        fed[j] = read_output(bytes, next, ports)?;
         next += 2;
     }
     Ok(next)
 }
 
 // Reads the slot that stands at the place, and answers the place behind it.
+#[tactic(auto, unfolding(crate::specs::Files::slot_in))]
 pub(crate) fn read_slot(
     bytes: &[u8],
     at: usize,
@@ -125,6 +133,6 @@ pub(crate) fn read_slot(
         (λ next. (value : FileSlot) × IsRead (slot_in ports) bytes.now at value next × IsSlotRead ports slot.new value)
         (λ bad. IsBadAt (slot_in ports) bytes.now at bad.at) }
 {
-    let outputs_at = read_posts(bytes, at, ports, slot)?;
+    let outputs_at = read_posts(bytes, at, ports, &mut slot.rows, &mut slot.more)?;
     read_outputs(bytes, outputs_at, ports, &mut slot.fed)
 }

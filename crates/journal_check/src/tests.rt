@@ -36,6 +36,23 @@ const HEADS: [u8; 160] = [
     0xff, 0, 0, 1, 0, 0, 0, 0, 0, 0, 0xff, 0, 0xff, 0, 0xff, 0,
 ];
 
+// The slot of the first file twice: after the first no more is to come.
+const AFTER_END: [u8; 28] = [
+    0x54, 0x54, 0x4a, 0x31, 2, 4, 0, 0, 0, 0, 0, 2, 0, 0, 0, 0, 0xff, 0, 0xff, 0, 0, 0, 0, 0, 0xff,
+    0, 0xff, 0,
+];
+
+// Of the seven slots, in slot 4 card 1 no longer asks an output that it was not served.
+const DROPPED_REQUEST: [u8; 176] = [
+    0x54, 0x54, 0x4a, 0x31, 3, 1, 0, 0, 0, 0, 0, 7, 0, 1, 1, 1, 0, 0, 0, 0, 0, 0, 0, 1, 0, 1, 1, 0,
+    0xff, 0, 0xff, 0, 0, 1, 1, 1, 0, 0, 0, 0, 0, 0, 0, 1, 1, 1, 0, 0, 0, 0, 0, 0, 0, 1, 2, 0, 0xff,
+    0, 0xff, 0, 0, 1, 1, 1, 0, 0, 0, 0, 0, 0, 0, 3, 1, 1, 0, 0, 0, 0, 0, 0, 0, 1, 0xff, 0, 1, 0,
+    0xff, 0, 1, 1, 0, 0, 0, 0, 0, 0, 0, 1, 1, 1, 0, 0, 0, 0, 0, 0, 0, 1, 1, 1, 0, 0, 0, 0, 0, 0, 0,
+    1, 0, 0, 0xff, 0, 0xff, 0, 0, 0, 0, 1, 1, 1, 0, 0, 0, 0, 0, 0, 0, 1, 1, 0, 0xff, 0, 0xff, 0, 0,
+    0, 0, 0, 1, 1, 0, 0, 0, 0, 0, 0, 0, 1, 2, 0, 0xff, 0, 0xff, 0, 0, 0, 0, 0, 0, 0, 0xff, 0, 0xff,
+    0, 0xff, 0,
+];
+
 // A file with one byte changed, and the answer to its first `len` bytes.
 #[derive(Clone, Copy)]
 struct Case<'a> {
@@ -94,8 +111,43 @@ fn files_are_answered(rt: HostRuntime) {
         case(seven, 146, 0xff, 184, no(4, Reason::Output { output: 0 })),
         case(seven, 11, 6, 172, no(5, Reason::NoEnd)),
         case(&HEADS, 0, 0x54, 160, yes(7, [2, 0, 0, 0])),
+        case(&AFTER_END, 0, 0x54, 28, no(1, Reason::AfterEnd)),
+        case(
+            &DROPPED_REQUEST,
+            0,
+            0x54,
+            176,
+            no(4, Reason::Keeps { card: 1 }),
+        ),
     ];
     for case in cases {
         assert_eq!(rt; check(&rt, rt.alloc(), case), case.answer);
     }
+}
+
+// The journal of a board of two ports on which nothing is posted.
+#[test]
+fn journal_is_written(rt: HostRuntime) -> Result<(), Fail> {
+    let mut board = BoardState::make(rt.alloc(), 2, 4, 1)?;
+    let post = Post {
+        row: Row::empty(),
+        cell: None,
+        more: false,
+    };
+    let events = [
+        Event::Post { card: 0, post },
+        Event::Post { card: 1, post },
+        Event::Decide,
+    ];
+    for event in events {
+        assert!(rt; board.may(&event));
+        let _answer = board.step(event);
+    }
+    let journal = board.journal();
+    assert!(rt; journal.slots() > 0);
+    let len = journal_len(&journal);
+    assert!(rt; len == 20);
+    let bytes = journal_bytes(rt.alloc(), &journal)?;
+    assert_eq!(rt; bytes.as_slice(), EMPTY_SLOT.as_slice());
+    Ok(())
 }
