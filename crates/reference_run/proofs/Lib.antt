@@ -1,0 +1,4 @@
+pub mod Alike
+pub mod Matches
+pub mod Ended
+pub mod Told
