@@ -1,7 +1,9 @@
 -- The packets of a slot, input by input.
-use Rattle.std.proofs.Common.{◌≡◌, ◌∙◌, ℕ, ◌+◌, ◌<◌, ◌≤◌, List, length, Option, None, Some, slice_index_or, slice_set, length-set, refl, sym, ap, subst, arith, inl, inr}
+use Rattle.std.proofs.Common.{◌≡◌, ◌∙◌, ◌↔◌, ◌⊎◌, ℕ, ◌+◌, ◌<◌, ◌≤◌, Bool, true, false, if◌then◌else◌, List, length, Option, None, Some, slice_index_or, slice_set, length-set, refl, sym, ap, subst, arith, inl, inr}
 use Rattle.std.proofs.lemmas.Bool.{cases_eq}
 use Rattle.rotating_pick.specs.PortSets.{Has}
+use Rattle.slot_histories.specs.Tests.{has}
+use Rattle.slot_histories.proofs.SetTests.{Decides-has}
 use Rattle.slot_match.specs.declared.matching.Served.{Served}
 use Rattle.output_queued.specs.declared.coming.Coming.{Coming}
 use Rattle.output_queued.specs.declared.tally.Tally.{Tally}
@@ -57,3 +59,45 @@ module _ (ports depth slot : ℕ) (served : ℕ → List (Option Served)) (old :
           cells j ∙ ap (λ x. with_cells x (cells_to admitted j)) (so_far.tallies j)
           ∙ twice-more (tally_at counted j) (cells_of_first ports depth old served j slot k) (cells_to admitted j) (cells_of_first ports depth old served j slot (k + 1)) (omega arith);
     }
+
+-- ---- the outputs to which a cell has come that the run has not served
+cells-if : (b : Bool) (x : ℕ) → b ≡ true → (if b then x else 0) ≡ x
+cells-if b x is = rw is refl
+
+cells-else : (b : Bool) (x : ℕ) → b ≡ false → (if b then x else 0) ≡ 0
+cells-else b x is = rw is refl
+
+pub cells-few : (c : Coming) (j : ℕ) → cells_to (Some c) j ≤ c.cells
+cells-few c j = few-if (has c.fan j) where
+  few-if : (b : Bool) → (if b then c.cells else 0) ≤ c.cells
+  few-if true = omega arith
+  few-if false = omega arith
+
+pub unserved-more : (old new : ℕ) (c : Coming) (was now : List Tally) → length now ≡ length was → 0 < c.cells → ((j : ℕ) → Has c.fan j → j < length was) → ((j : ℕ) → tally_at now j ≡ with_cells (tally_at was j) (cells_to (Some c) j))
+    → ((j : ℕ) → Has new j ↔ (Has old j ⊎ Has c.fan j)) → IsUnserved old was → IsUnserved new now
+unserved-more old new c was now long some inside cells members is = record { members = λ j. by j (has c.fan j) refl; behind = λ j. low j } where
+  came : (j : ℕ) → (tally_at now j).came ≡ (tally_at was j).came + cells_to (Some c) j
+  came j = ap (λ (t : Tally). t.came) (cells j)
+  ran' : (j : ℕ) → (tally_at now j).ran ≡ (tally_at was j).ran
+  ran' j = ap (λ (t : Tally). t.ran) (cells j)
+  low : (j : ℕ) → (tally_at now j).ran ≤ (tally_at now j).came
+  low j = let a = came j in let b = ran' j in let d = is.behind j in omega arith
+  by : (j : ℕ) (b : Bool) → has c.fan j ≡ b → Has new j ↔ ((j < length now) × ((tally_at now j).ran < (tally_at now j).came))
+  by j true goes =
+      let member = (Decides-has c.fan j).0 goes in
+      let a = came j in
+      let b = ran' j in
+      let d = is.behind j in
+      let e = cells-if (has c.fan j) c.cells goes in
+      let within = inside j member in
+      (λ _. (omega arith, omega arith), λ _. (members j).1 (inr member))
+  by j false lacks =
+      let a = came j in
+      let b = ran' j in
+      let e = cells-else (has c.fan j) c.cells lacks in (
+        λ m. elim ((members j).0 m) [
+          | inl old' ↦ let both = (is.members j).0 old' in (omega arith, omega arith)
+          | inr fan ↦ let yes' = (Decides-has c.fan j).1 fan in absurd (cc)
+        ],
+        λ both. let first = both.0 in let second = both.1 in (members j).1 (inl ((is.members j).1 (omega arith, omega arith))),
+      )

@@ -1,5 +1,5 @@
 -- A reference that has noted some slots: its rows, and what it keeps after one slot more.
-use Rattle.std.proofs.Common.{◌≡◌, ◌∙◌, ◌⊎◌, ℕ, zero, suc, ◌+◌, ◌*◌, ◌<◌, ◌≤◌, List, [], ◌∷◌, ◌++◌, map, length, Option, None, Some, slice_index_or, refl, sym, ap, subst, arith, inl, inr, if◌then◌else◌}
+use Rattle.std.proofs.Common.{◌≡◌, ◌∙◌, ◌⊎◌, ℕ, zero, suc, ◌+◌, ◌*◌, ◌<◌, ◌≤◌, List, [], ◌∷◌, ◌++◌, map, length, replicate, Option, None, Some, slice_index_or, refl, sym, ap, subst, arith, inl, inr, if◌then◌else◌}
 use Rattle.std.specs.Prelude.{is_some}
 use Rattle.std.specs.List.{range_with_len}
 use Rattle.std.proofs.lemmas.Bool.{cases_eq, cases_lt}
@@ -22,7 +22,7 @@ use Rattle.output_queued.specs.declared.coming.Coming.{Coming}
 use Rattle.output_queued.specs.declared.tally.Tally.{Tally}
 use Rattle.output_queued.specs.Ideal.{total}
 use Rattle.output_queued.specs.Switches.{Matched, match_at, served_in, card_of, no_card, card_for, cells_from, comes, feeds, rows_after, AreServed, AreCards, IsSwitch}
-use Rattle.output_queued.specs.Lines.{ideal, ran}
+use Rattle.output_queued.specs.Lines.{ideal, ran, line_of}
 use Rattle.output_queued.specs.Noting.{Source, State, no_source, source_at, no_tally, tally_at, cards_in, IsBefore, IsIn, IsTally, IsSmall, IsUnserved, HasNoted, MayFollow, MayNote}
 use Rattle.output_queued.specs.Steps.{Ticks, IsPart, MayTake, HasTaken, Stand, HaveEntered, cells_of_first, with_cells}
 use Rattle.output_queued.proofs.Totals.{total-same, total-more}
@@ -279,3 +279,77 @@ module _ (s : State) (matches : List Matched) (noted : HasNoted s matches) where
                 small = small-now;
                 unserved = unserved-is;
               }
+
+-- ---- the test of a slot
+pub note_from : (s : State) (matches : List Matched) → HasNoted s matches → (rows : List Row) (matched : Matched) → s.slots < 262145 → (n : ℕ) → n ≡ s.ports → IsMatch n matched → rows ≡ map (λ (source : Source). row_of source.banks source.fans) s.sources
+    → ((i j level : ℕ) (kind : Kind) → Serves matched i j level kind → Names (row_in rows i) level kind j) → MayNote s rows matched
+note_from s matches noted rows matched few n ports whole same named =
+    let slots = noted.slots in (
+      matches,
+      noted,
+      record {
+        few = omega arith;
+        rows_are = same ∙ rows-are s matches noted;
+        whole = subst (λ k. IsMatch k matched) (ports ∙ sym (cards-long s matches noted)) whole;
+        named = named;
+      },
+    )
+
+pub note_rows : (s : State) (rows : List Row) (matched : Matched) → MayNote s rows matched → rows ≡ map (λ (source : Source). row_of source.banks source.fans) s.sources
+note_rows s rows matched (matches, noted, may) = may.rows_are ∙ sym (rows-are s matches noted)
+
+pub note_ports : (s : State) (rows : List Row) (matched : Matched) → MayNote s rows matched → length matched ≡ s.ports
+note_ports s rows matched (matches, noted, may) = may.whole.count ∙ cards-long s matches noted
+
+-- ---- before any slot
+no_tallies : (n j : ℕ) → tally_at (replicate n no_tally) j ≡ no_tally
+no_tallies zero j = refl
+no_tallies (suc n) zero = refl
+no_tallies (suc n) (suc j) = no_tallies n j
+
+module _ (n depth : ℕ) (sources : List Source) (switch : IsSwitch n depth (coming_of sources)) (standing : (i : ℕ) → i < n → IsBefore (card_for n depth (source_at sources i).coming) (source_at sources i) []) where
+  first-long : length sources ≡ n
+  first-long = sym (length-map sources (λ (source : Source). source.coming)) ∙ switch.count
+
+  pub first-stand : Stand n depth 0 sources (λ i. [])
+  first-stand = record {
+    count = first-long;
+    parts = λ i inside. let long = first-long in subst (IsPart n depth) (coming-at n depth sources i (omega arith)) (part_of n depth (coming_of sources) switch i inside);
+    long = λ i inside. refl;
+    before = standing;
+  }
+
+  module _ (after : List Source) (counted : List Tally) (unserved : ℕ) (entered : HaveEntered n depth 0 n (λ i. []) sources after (replicate n no_tally) counted) (many : length counted ≡ n)
+      (small : (j : ℕ) → (tally_at counted j).came ≤ 131072) (unserved-is : IsUnserved unserved counted) where
+    first-same : coming_of after ≡ coming_of sources
+    first-same = coming-same sources after entered.count (λ i inside. entered.coming i)
+
+    first-cards : map (λ (source : Source). card_for n depth source.coming) after ≡ map (λ (source : Source). card_for n depth source.coming) sources
+    first-cards = cards-are n depth after ∙ ap (map (card_for n depth)) first-same ∙ sym (cards-are n depth sources)
+
+    first-tally : (j : ℕ) → tally_at counted j ≡ with_cells no_tally (cells_of_first n depth sources (λ i. []) j 0 n)
+    first-tally j = entered.tallies j ∙ ap (λ t. with_cells t (cells_of_first n depth sources (λ i. []) j 0 n)) (no_tallies n j)
+
+    first-is : (j : ℕ) → IsTally (map (λ (source : Source). card_for n depth source.coming) sources) [] 1 j (tally_at counted j)
+    unfolding line_of
+    first-is j =
+        let comes' = comes-are n depth sources [] j 0 n first-long in
+        rw (first-tally j) (record { came = omega arith; given = refl; ran = refl; line = refl })
+
+    first-small : (j : ℕ) → IsSmall 0 (tally_at counted j)
+    first-small j =
+        let within : (with_cells no_tally (cells_of_first n depth sources (λ i. []) j 0 n)).came ≤ 131072 = subst (λ (t : Tally). t.came ≤ 131072) (first-tally j) (small j) in
+        rw (first-tally j) (record { came = omega arith; behind = omega arith; given = omega arith; few = omega arith; lead = omega arith; ends = omega arith; runs = omega arith; extra = omega arith })
+
+    pub first-noted : HasNoted (record { ports = n; depth = depth; slots = 0; sources = after; tallies = counted; unserved = unserved }) []
+    first-noted = record {
+      switch = subst (IsSwitch n depth) (sym first-same) switch;
+      slots = refl;
+      within = omega arith;
+      served = record { whole = λ t below. absurd (omega arith); named = λ t i j level kind below pair. absurd (omega arith) };
+      sources = λ i inside. rw (entered.coming i) (entered.entered i inside);
+      count = many;
+      tallies = λ j inside. subst (λ cards. IsTally cards [] 1 j (tally_at counted j)) (sym first-cards) (first-is j);
+      small = λ j inside. first-small j;
+      unserved = unserved-is;
+    }
