@@ -302,7 +302,7 @@ pub note_ports : (s : State) (rows : List Row) (matched : Matched) → MayNote s
 note_ports s rows matched (matches, noted, may) = may.whole.count ∙ cards-long s matches noted
 
 -- ---- before any slot
-no_tallies : (n j : ℕ) → tally_at (replicate n no_tally) j ≡ no_tally
+pub no_tallies : (n j : ℕ) → tally_at (replicate n no_tally) j ≡ no_tally
 no_tallies zero j = refl
 no_tallies (suc n) zero = refl
 no_tallies (suc n) (suc j) = no_tallies n j
@@ -321,7 +321,7 @@ module _ (n depth : ℕ) (sources : List Source) (switch : IsSwitch n depth (com
 
   module _ (after : List Source) (counted : List Tally) (unserved : ℕ) (entered : HaveEntered n depth 0 n (λ i. []) sources after (replicate n no_tally) counted) (many : length counted ≡ n)
       (small : (j : ℕ) → (tally_at counted j).came ≤ 131072) (unserved-is : IsUnserved unserved counted) where
-    first-same : coming_of after ≡ coming_of sources
+    pub first-same : coming_of after ≡ coming_of sources
     first-same = coming-same sources after entered.count (λ i inside. entered.coming i)
 
     first-cards : map (λ (source : Source). card_for n depth source.coming) after ≡ map (λ (source : Source). card_for n depth source.coming) sources

@@ -2,3 +2,4 @@ pub mod Alike
 pub mod Matches
 pub mod Ended
 pub mod Told
+pub mod ToldInputs

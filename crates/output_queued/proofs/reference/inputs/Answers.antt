@@ -50,4 +50,14 @@ loop-packets-preserved c =
     let rest = into_iter_items at.packets-iterator in
     let steps : rest ≡ x ∷ into_iter_items c.next.new.self = c.in-Some.ensures.steps.0 in
     let coming = λ (source : Source). source.coming in
-    ?
+    let new = c.in_ok-make.field-0 in
+    let made = c.in_ok-make.ensures in
+    let pushed : c.push.new.self.items ≡ at.inputs.items ++ new ∷ [] = c.in_ok-push.ensures.items in
+    record {
+      rest = gone_more at.yielded rest (into_iter_items c.next.new.self) _ x at.invariant.rest steps;
+      left = let was = at.invariant.left in let gone = c.in-Some.ensures.steps.1 in let short = ap length steps in omega arith;
+      coming = ap (map coming) pushed ∙ map-append coming at.inputs.items (new ∷ []) ∙ ap (λ xs. xs ++ new.coming ∷ []) at.invariant.coming
+          ∙ ap (λ ys. map (λ list. list.items) at.yielded ++ ys ∷ []) made.coming ∙ sym (map-append (λ list. list.items) at.yielded (x ∷ []));
+      before = subst (λ (sources : List Source). (i : ℕ) → i < length sources → IsBefore (card_for c.args.n c.args.depth (source_at sources i).coming) (source_at sources i) []) (sym pushed)
+          (before_more c.args.n c.args.depth at.inputs.items new at.invariant.before (subst (λ (cs : List Coming). IsBefore (card_for c.args.n c.args.depth cs) new []) (sym made.coming) made.before));
+    }
