@@ -78,10 +78,13 @@ pub unserved-more : (old new : ℕ) (c : Coming) (was now : List Tally) → leng
 unserved-more old new c was now long some inside cells members is = record { members = λ j. by j (has c.fan j) refl; behind = λ j. low j } where
   came : (j : ℕ) → (tally_at now j).came ≡ (tally_at was j).came + cells_to (Some c) j
   came j = ap (λ (t : Tally). t.came) (cells j)
+
   ran' : (j : ℕ) → (tally_at now j).ran ≡ (tally_at was j).ran
   ran' j = ap (λ (t : Tally). t.ran) (cells j)
+
   low : (j : ℕ) → (tally_at now j).ran ≤ (tally_at now j).came
   low j = let a = came j in let b = ran' j in let d = is.behind j in omega arith
+
   by : (j : ℕ) (b : Bool) → has c.fan j ≡ b → Has new j ↔ ((j < length now) × ((tally_at now j).ran < (tally_at now j).came))
   by j true goes =
       let member = (Decides-has c.fan j).0 goes in

@@ -179,8 +179,10 @@ module _ (matches : List Matched) (matched : Matched) where
           (ticks.extra ∙ extra-by old.line.extra (total (ahead f g) t) new.given new.ran (f (suc t)) (g (suc t)) (ap (λ (l : RefLine). l.extra) line) given-new ran-new) where
             ends-by : (a b a' b' s s' e e' : ℕ) → a ≡ a' → b ≡ b' → s ≡ s' → e ≡ e' → (if nat_lt a b then s else e) ≡ (if nat_lt a' b' then s' else e')
             ends-by a b a' b' s s' e e' p q r x = rw (p, q, r, x) refl
+
             lead-by : (l l' a b a' b' : ℕ) → l ≡ l' → a ≡ a' → b ≡ b' → max l (a - b) ≡ max l' (a' - b')
             lead-by l l' a b a' b' p q r = rw (p, q, r) refl
+
             extra-by : (l l' a b a' b' : ℕ) → l ≡ l' → a ≡ a' → b ≡ b' → l + (a - b) ≡ l' + (a' - b')
             extra-by l l' a b a' b' p q r = rw (p, q, r) refl
 

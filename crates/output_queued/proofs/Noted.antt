@@ -144,7 +144,7 @@ module _ (s : State) (matches : List Matched) (noted : HasNoted s matches) where
                 let now : Serves matched i j level kind = subst (λ m. Serves m i j level kind) (ap (match_at (matches ++ matched ∷ [])) last ∙ match-last matches matched) pair in
                 let inside = may.whole.input_in i j level kind now in
                 let row : row_at (card_of (cards_in s) i) (served_in (matches ++ matched ∷ []) i) t ≡ row_in rows i =
-                    ap (row_at (card_of (cards_in s) i) (served_in (matches ++ matched ∷ []) i)) last ∙ row-before matches matched (card_of (cards_in s) i) i (length matches) (omega arith) ∙ sym (row-in i (omega arith)) in
+                ap (row_at (card_of (cards_in s) i) (served_in (matches ++ matched ∷ []) i)) last ∙ row-before matches matched (card_of (cards_in s) i) i (length matches) (omega arith) ∙ sym (row-in i (omega arith)) in
                 subst (λ r. Names r level kind j) (sym row) (may.named i j level kind now)
             | inr other ↦
                 let then' : Serves (match_at matches t) i j level kind = subst (λ m. Serves m i j level kind) (match-before matches matched t (omega arith)) pair in
@@ -193,7 +193,7 @@ module _ (s : State) (matches : List Matched) (noted : HasNoted s matches) where
             let last = feeds-last matches matched j in
             let next : length (matches ++ matched ∷ []) ≡ length matches + 1 = omega arith in
             let came : total (comes (cards_in s) (matches ++ matched ∷ []) j) (length (matches ++ matched ∷ [])) ≡ (tally_at s.tallies j).came =
-                ap (total (comes (cards_in s) (matches ++ matched ∷ []) j)) next ∙ came-before matches matched (cards_in s) j (length matches + 1) (omega arith) ∙ sym was.came in
+            ap (total (comes (cards_in s) (matches ++ matched ∷ []) j)) next ∙ came-before matches matched (cards_in s) j (length matches + 1) (omega arith) ∙ sym was.came in
             let ran' = was.ran in
             omega arith where
               ran-before' : ran (matches ++ matched ∷ []) j (length matches) ≡ ran matches j (length matches)

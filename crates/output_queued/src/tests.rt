@@ -75,12 +75,7 @@ fn note(
 }
 
 // The text of the lines of the first `n` outputs.
-fn text(
-    rt: &impl Abort,
-    alloc: Global,
-    reference: &Reference,
-    n: u32,
-) -> Result<String, Fail> {
+fn text(rt: &impl Abort, alloc: Global, reference: &Reference, n: u32) -> Result<String, Fail> {
     assert!(rt; n <= reference.ports());
     let mut lines = Vec::new(alloc);
     for output in 0..n {

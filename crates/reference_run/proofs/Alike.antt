@@ -35,29 +35,35 @@ pub data ArrivesAs : Option (ℕ × Planned) → Option (ℕ × Planned) → Typ
   nothing : ArrivesAs None None
   nowhere : (k : ℕ) (p : Planned) → is_routed p ≡ false → ArrivesAs (Some (k, p)) None
 
+none-step : (p : Planned) (ps : List Planned) (m t : ℕ) → (p.arrival ≡ t → ⊥) → arriving_from (m + 1) (told_of ps) t ≡ None → arriving_from m (told_of ps) t ≡ None → (b : Bool)
+    → arriving_from m (map planned_of (map coming_of (if b then p ∷ filter is_routed ps else filter is_routed ps))) t ≡ None
+none-step p ps m t other first second true = rw (ne_eqb p.arrival t other) first
+none-step p ps m t other first second false = second
+
 none-later : (ps : List Planned) (m t : ℕ) → ((i : ℕ) (r : Planned) → slice_get ps i ≡ Some r → t < r.arrival) → arriving_from m (told_of ps) t ≡ None
 none-later [] m t later = refl
-none-later (p ∷ ps) m t later = by (is_routed p) where
-  by : (b : Bool) → arriving_from m (map planned_of (map coming_of (if b then p ∷ filter is_routed ps else filter is_routed ps))) t ≡ None
-  by true = let up = later 0 p refl in rw (ne_eqb p.arrival t (λ e. omega arith)) (none-later ps (m + 1) t (λ i r at. later (suc i) r at))
-  by false = none-later ps m t (λ i r at. later (suc i) r at)
+none-later (p ∷ ps) m t later =
+    let up = later 0 p refl in
+    none-step p ps m t (λ e. omega arith) (none-later ps (m + 1) t (λ i r at. later (suc i) r at)) (none-later ps m t (λ i r at. later (suc i) r at)) (is_routed p)
+
+arrives-step : (p : Planned) (ps : List Planned) (k m t : ℕ) → ArrivesAs (arriving_from (k + 1) ps t) (arriving_from (m + 1) (told_of ps) t) → ArrivesAs (arriving_from (k + 1) ps t) (arriving_from m (told_of ps) t)
+    → (p.arrival ≡ t → arriving_from m (told_of ps) t ≡ None) → (b : Bool) → is_routed p ≡ b
+    → ArrivesAs (arriving_from k (p ∷ ps) t) (arriving_from m (map planned_of (map coming_of (if b then p ∷ filter is_routed ps else filter is_routed ps))) t)
+arrives-step p ps k m t first second none true routed = elim (cases_eq p.arrival t) [
+  | inl now ↦ rw (eq-eqb p.arrival t now) (both k m p routed)
+  | inr later ↦ rw (ne_eqb p.arrival t later) first
+]
+arrives-step p ps k m t first second none false routed = elim (cases_eq p.arrival t) [
+  | inl now ↦ subst (ArrivesAs (if p.arrival == t then Some (k, p) else arriving_from (k + 1) ps t)) (sym (none now)) (rw (eq-eqb p.arrival t now) (nowhere k p routed))
+  | inr later ↦ rw (ne_eqb p.arrival t later) second
+]
 
 pub arrives-as : (ps : List Planned) → AreRising ps → (k m t : ℕ) → ArrivesAs (arriving_from k ps t) (arriving_from m (told_of ps) t)
 arrives-as [] rising k m t = nothing
-arrives-as (p ∷ ps) rising k m t = by (is_routed p) refl where
-  tail : AreRising ps
-  tail a b q r x y less = rising (suc a) (suc b) q r x y (omega arith)
-  by : (b : Bool) → is_routed p ≡ b → ArrivesAs (arriving_from k (p ∷ ps) t) (arriving_from m (map planned_of (map coming_of (if b then p ∷ filter is_routed ps else filter is_routed ps))) t)
-  by true routed = elim (cases_eq p.arrival t) [
-    | inl now ↦ rw (eq-eqb p.arrival t now) (both k m p routed)
-    | inr later ↦ rw (ne_eqb p.arrival t later) (arrives-as ps tail (k + 1) (m + 1) t)
-  ]
-  by false routed = elim (cases_eq p.arrival t) [
-    | inl now ↦
-        let none = none-later ps m t (λ i r at. let up = rising 0 (suc i) p r refl at (omega arith) in omega arith) in
-        subst (ArrivesAs (if p.arrival == t then Some (k, p) else arriving_from (k + 1) ps t)) (sym none) (rw (eq-eqb p.arrival t now) (nowhere k p routed))
-    | inr later ↦ rw (ne_eqb p.arrival t later) (arrives-as ps tail (k + 1) m t)
-  ]
+arrives-as (p ∷ ps) rising k m t =
+    let tail : AreRising ps = λ a b q r x y less. rising (suc a) (suc b) q r x y (omega arith) in
+    arrives-step p ps k m t (arrives-as ps tail (k + 1) (m + 1) t) (arrives-as ps tail (k + 1) m t)
+    (λ now. none-later ps m t (λ i r at. let up = rising 0 (suc i) p r refl at (omega arith) in omega arith)) (is_routed p) refl
 
 -- ---- queues with the same fan-outs
 abbrev pub fans : List FanCell → List ℕ
@@ -125,6 +131,10 @@ module _ (q : Queue) (s told : Passed) (alike : Alike s told) (part : Option Ser
   pub part-alike : Alike (after_part q s part) (after_part q told part)
   part-alike = part-of (waiting s) (waiting told) (waiting-alike s told alike)
 
+-- the row of so many ports with these queues that are not empty, and these rests
+abbrev row-by : ℕ → (ℕ → ℕ → Bool) → (ℕ → ℕ) → Row
+row-by n f g = record { uni = map (λ l. set_of n (f l)) (range_with_len 0 LEVELS); multi = map g (range_with_len 0 LEVELS) }
+
 -- ---- a card, and what is told of it
 module _ (card : Plan) (good : IsGoodPlan card) where
   abbrev pub told_card : Plan
@@ -152,6 +162,7 @@ module _ (card : Plan) (good : IsGoodPlan card) where
       fans-if (is_routed p && is_queue q (queue_of p) && fits card s p) (is_routed p && is_queue q (queue_of p) && fits told_card told (planned_of (coming_of p))) k m (size_of p) (size_of (planned_of (coming_of p))) p.fan
       (ap (λ b. is_routed p && is_queue q (queue_of p) && b) fit) size
   coming-told q s told alike t None None is nothing = refl
+  coming-told q s told alike t None (Some b) is as' = elim as' [ ]
   coming-told q s told alike t (Some (k, p)) None is (nowhere k' p' unrouted) =
       sym (ap (λ b. fans (if b && is_queue q (queue_of p) && fits card s p then cells_with_fan k (size_of p) p.fan else [])) unrouted)
 
@@ -181,14 +192,12 @@ module _ (card : Plan) (good : IsGoodPlan card) where
   pub row-told : (served : List (Option Served)) (t : ℕ) → row_at told_card served t ≡ row_at card served t
   row-told served t =
       let waits : (λ (l j : ℕ). has_cells (waiting (queue_in told_card (OfOutput j l) served t))) ≡ (λ l j. has_cells (waiting (queue_in card (OfOutput j l) served t))) =
-          λ x l j. has-by (waiting (queue_in card (OfOutput j l) served t)) (waiting (queue_in told_card (OfOutput j l) served t)) (waiting-alike _ _ (in-alike (OfOutput j l) served t)) x in
+      λ x l j. has-by (waiting (queue_in card (OfOutput j l) served t)) (waiting (queue_in told_card (OfOutput j l) served t)) (waiting-alike _ _ (in-alike (OfOutput j l) served t)) x in
       let rests : (λ (l : ℕ). rest_of (OfLevel l) (queue_in told_card (OfLevel l) served t)) ≡ (λ l. rest_of (OfLevel l) (queue_in card (OfLevel l) served t)) =
-          λ x l. rest-alike (OfLevel l) (queue_in card (OfLevel l) served t) (queue_in told_card (OfLevel l) served t) (in-alike (OfLevel l) served t) x in
+      λ x l. rest-alike (OfLevel l) (queue_in card (OfLevel l) served t) (queue_in told_card (OfLevel l) served t) (in-alike (OfLevel l) served t) x in
       ap (λ (n : ℕ). row-by n (λ l j. has_cells (waiting (queue_in told_card (OfOutput j l) served t))) (λ l. rest_of (OfLevel l) (queue_in told_card (OfLevel l) served t))) (ports-are card.ports card.depth (coming_in card))
       ∙ ap (λ (f : ℕ → ℕ → Bool). row-by card.ports f (λ l. rest_of (OfLevel l) (queue_in told_card (OfLevel l) served t))) waits
-      ∙ ap (λ (g : ℕ → ℕ). row-by card.ports (λ l j. has_cells (waiting (queue_in card (OfOutput j l) served t))) g) rests where
-        abbrev row-by : ℕ → (ℕ → ℕ → Bool) → (ℕ → ℕ) → Row
-        row-by n f g = record { uni = map (λ l. set_of n (f l)) (range_with_len 0 LEVELS); multi = map g (range_with_len 0 LEVELS) }
+      ∙ ap (λ (g : ℕ → ℕ). row-by card.ports (λ l j. has_cells (waiting (queue_in card (OfOutput j l) served t))) g) rests
 
   -- the same cells
   lacks-if : (h r m : Bool) (x : ℕ) → (h ≡ true → r ≡ true) → r ≡ false → ◌≡◌ {A = ℕ} 0 (if h && m then x else 0)
@@ -202,6 +211,7 @@ module _ (card : Plan) (good : IsGoodPlan card) where
       let fit = fits-told (before card (queue_of p) served t) (before told_card (queue_of p) served t) (before-alike (queue_of p) served t) p (planned_of (coming_of p)) size in
       ap (λ b. if has p.fan j && b then size_of (planned_of (coming_of p)) else 0) fit ∙ ap (λ n. if has p.fan j && is_admitted card served t p then n else 0) size
   brought-told served j t None None is nothing = refl
+  brought-told served j t None (Some b) is as' = elim as' [ ]
   brought-told served j t (Some (k, p)) None is (nowhere k' p' unrouted) = lacks-if (has p.fan j) (is_routed p) (is_admitted card served t p) (size_of p) (routed-if j p) unrouted
 
   pub cells-told : (served : List (Option Served)) (j t : ℕ) → cells_from told_card served j t ≡ cells_from card served j t

@@ -73,7 +73,7 @@ module _ (plan : SwitchPlan) where
           whole = λ t below. subst (IsMatch (ports_of plan)) (sym (match-is slots t (omega arith))) (run-whole t);
           named = λ t i j level kind below pair.
               let row : row_at (card_at plan i) (served_in (run_matches plan slots) i) t ≡ (posts_in plan i t).row =
-                  ap (λ served. row_at (card_at plan i) served t) (served-run slots i) ∙ row_at-same plan i t slots (omega arith) in
+              ap (λ served. row_at (card_at plan i) served t) (served-run slots i) ∙ row_at-same plan i t slots (omega arith) in
               subst (λ r. Names r level kind j) (sym row) (run-named t i j level kind (subst (λ m. Serves m i j level kind) (match-is slots t (omega arith)) pair));
         }
 

@@ -23,7 +23,8 @@ pub fn reference_of(alloc: Global, plan: &Plan) -> Result<Reference, OutOfMemory
     for card in &plan.cards {
         coming.push(coming_in(alloc, card)?)?;
     }
-    Reference::make(alloc, plan.cards.len() as u32, plan.depth, coming)
+    let n = plan.cards.len() as u32;
+    Reference::make(alloc, n, plan.depth, coming)
 }
 
 // The packets of the card that go anywhere.

@@ -14,7 +14,7 @@ returns-then-not-is_input c = (
       let long = length-map items (λ list. list.items) in
       let inside = c.loop-coming-test.true in
       let here : slice_index_or (map (λ list. list.items) items) i [] ≡ c.deref.result.now =
-          get_or-map (λ list. list.items) items i c.coming-item.result [] inside ∙ ap (λ list. list.items) (sym c.coming-item.is) ∙ sym c.deref.ensures.value in
+      get_or-map (λ list. list.items) items i c.coming-item.result [] inside ∙ ap (λ list. list.items) (sym c.coming-item.is) ∙ sym c.deref.ensures.value in
       let is = subst (IsInput c.args.n) here (all i (slice_index_or (map (λ list. list.items) items) i []) (some_get (map (λ list. list.items) items) i [] (omega arith))) in
       let yes_ = c.is_input.ensures.1 is in
       let f = c.if-not-is_input.true in
@@ -27,7 +27,7 @@ loop-coming-preserved c =
     let i = c.loop-coming.coming-index in
     let inside = c.loop-coming-test.true in
     let here : slice_index_or (map (λ list. list.items) items) i [] ≡ c.deref.result.now =
-        get_or-map (λ list. list.items) items i c.coming-item.result [] inside ∙ ap (λ list. list.items) (sym c.coming-item.is) ∙ sym c.deref.ensures.value in
+    get_or-map (λ list. list.items) items i c.coming-item.result [] inside ∙ ap (λ list. list.items) (sym c.coming-item.is) ∙ sym c.deref.ensures.value in
     each_more (IsInput c.args.n) (map (λ list. list.items) items) i [] c.loop-coming.invariant (subst (IsInput c.args.n) (sym here) (c.is_input.ensures.0 c.if-not-is_input.false))
 
 pub returns : goal.returns

@@ -47,7 +47,7 @@ loop-output-preserved c =
     let fed : c.is_some.result ≡ is_some (fed_of c.args.matched.now out) = c.is_some.ensures ∙ ap is_some c.fed.ensures.value in
     let ticks = c.tick.ensures.ticks in
     let made : Ticks c.args.slot (if is_some (fed_of c.args.matched.now out) then 1 else 0) (tally_at old out) new =
-        subst (λ b. Ticks c.args.slot (if b then 1 else 0) (tally_at old out) new) fed (subst (λ t. Ticks c.args.slot (if c.is_some.result then 1 else 0) t new) (found ∙ was) ticks) in
+    subst (λ b. Ticks c.args.slot (if b then 1 else 0) (tally_at old out) new) fed (subst (λ t. Ticks c.args.slot (if c.is_some.result then 1 else 0) t new) (found ∙ was) ticks) in
     let came = made.came in
     let ran = made.ran in
     let one = one_at_most (is_some (fed_of c.args.matched.now out)) in
