@@ -2,7 +2,7 @@
 -- waits. `comes t` is how many cells come to it in slot t.
 use Rattle.std.specs.Prelude.{ℕ, zero, suc, ◌+◌, ◌-◌, min}
 
--- the sum of f over the first t slots
+-- the sum of f over the first t numbers, from 0 on
 abbrev pub total : (ℕ → ℕ) → ℕ → ℕ
 total f zero = 0
 total f (suc t) = total f t + f t

@@ -33,7 +33,7 @@ pub record State : Type 0 where
   pub slots : ℕ
   pub sources : List Source
   pub tallies : List Tally
-  pub open_outputs : ℕ
+  pub unserved : ℕ
 
 -- the switch: what each input is to send
 abbrev pub cards_in : State → List Plan
@@ -95,6 +95,11 @@ pub record IsSmall (slots : ℕ) (tally : Tally) : Type 0 where
   pub runs : tally.line.runs ≤ slots
   pub extra : tally.line.extra ≤ MAX_SLOTS * slots
 
+-- These are the outputs to which a cell has come that the run has not served. None has been served more than have come.
+pub record IsUnserved (unserved : ℕ) (tallies : List Tally) : Type 0 where
+  pub members : (j : ℕ) → Has unserved j ↔ ((j < length tallies) × ((tally_at tallies j).ran < (tally_at tallies j).came))
+  pub behind : (j : ℕ) → (tally_at tallies j).ran ≤ (tally_at tallies j).came
+
 -- The reference has noted these slots, and the packets of the next one have come.
 pub record HasNoted (s : State) (matches : List Matched) : Type 0 where
   pub switch : IsSwitch s.ports s.depth (map (λ source. source.coming) s.sources)
@@ -105,7 +110,7 @@ pub record HasNoted (s : State) (matches : List Matched) : Type 0 where
   pub count : length s.tallies ≡ s.ports
   pub tallies : (j : ℕ) → j < s.ports → IsTally (cards_in s) matches (length matches + 1) j (tally_at s.tallies j)
   pub small : (j : ℕ) → j < s.ports → IsSmall s.slots (tally_at s.tallies j)
-  pub behind : (j : ℕ) → Has s.open_outputs j ↔ ((j < s.ports) × ((tally_at s.tallies j).ran < (tally_at s.tallies j).came))
+  pub unserved : IsUnserved s.unserved s.tallies
 
 -- there are slots that the reference has noted and that this slot may follow
 abbrev pub MayNote : State → List Row → Matched → Type 0

@@ -1,7 +1,5 @@
 -- What single steps of the calls do.
-use Rattle.std.specs.Prelude.{◌≡◌, ℕ, ◌+◌, ◌-◌, ◌<◌, ◌≤◌, ◌↔◌, min, max, nat_lt, if◌then◌else◌, List, map, Option, None, Some, length}
-use Rattle.std.specs.List.{sum_by, range_with_len}
-use Rattle.rotating_pick.specs.PortSets.{Has}
+use Rattle.std.specs.Prelude.{◌≡◌, ℕ, ◌+◌, ◌-◌, ◌<◌, ◌≤◌, min, max, nat_lt, if◌then◌else◌, List, map, Option, None, Some, length}
 use Rattle.rotating_pick.specs.declared.limits.TheConstants.{MAX_PORTS}
 use Rattle.cell_cutter.specs.declared.cell.CellName.{CellName}
 use Rattle.slot_match.specs.declared.matching.Served.{Served}
@@ -10,6 +8,7 @@ use Rattle.voq_banks.specs.declared.limits.TheConstants.{MAX_DEPTH}
 use Rattle.card_core.specs.States.{MayLeave, Leaves}
 use Rattle.output_queued.specs.declared.coming.Coming.{Coming}
 use Rattle.output_queued.specs.declared.tally.Tally.{Tally}
+use Rattle.output_queued.specs.Ideal.{total}
 use Rattle.output_queued.specs.Switches.{card_for, cells_from, IsComing, IsInput}
 use Rattle.output_queued.specs.Noting.{Source, State, source_at, tally_at, IsBefore, IsIn}
 
@@ -73,7 +72,7 @@ pub record Stand (ports depth slot : ℕ) (sources : List Source) (served : ℕ 
 
 -- the cells that the first k inputs bring to output j in slot `slot`
 abbrev pub cells_of_first : ℕ → ℕ → List Source → (ℕ → List (Option Served)) → ℕ → ℕ → ℕ → ℕ
-cells_of_first ports depth sources served j slot k = sum_by (λ i. cells_from (card_for ports depth (source_at sources i).coming) (served i) j slot) (range_with_len 0 k)
+cells_of_first ports depth sources served j slot k = total (λ i. cells_from (card_for ports depth (source_at sources i).coming) (served i) j slot) k
 
 -- the tally with so many cells more
 abbrev pub with_cells : Tally → ℕ → Tally
@@ -86,11 +85,6 @@ pub record HaveEntered (ports depth slot k : ℕ) (served : ℕ → List (Option
   pub entered : (i : ℕ) → i < k → IsIn (card_for ports depth (source_at old i).coming) (source_at new i) (served i)
   pub left : (i : ℕ) → k ≤ i → source_at new i ≡ source_at old i
   pub tallies : (j : ℕ) → tally_at now j ≡ with_cells (tally_at counted j) (cells_of_first ports depth old served j slot k)
-
--- these are the outputs to which a cell has come that the run has not served; none has been served more than have come
-pub record IsOpen (open_outputs : ℕ) (tallies : List Tally) : Type 0 where
-  pub members : (j : ℕ) → Has open_outputs j ↔ ((j < length tallies) × ((tally_at tallies j).ran < (tally_at tallies j).came))
-  pub behind : (j : ℕ) → (tally_at tallies j).ran ≤ (tally_at tallies j).came
 
 -- the switch is the same: its ports, the most cells of a queue, and the packets of each input
 pub record SameSwitch (old new : State) : Type 0 where

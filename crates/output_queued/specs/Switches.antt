@@ -21,6 +21,7 @@ use Rattle.card_core.specs.Plans.{Plan, OfOutput, OfLevel, IsGoodPlan, size_of, 
 use Rattle.card_core.specs.Queues.{waiting, before, is_admitted}
 use Rattle.card_core.specs.Posts.{row_at}
 use Rattle.output_queued.specs.declared.coming.Coming.{Coming}
+use Rattle.output_queued.specs.Ideal.{total}
 
 -- the match of a slot: what feeds each output
 abbrev pub Matched : Type 0
@@ -54,7 +55,7 @@ cells_from plan served j t = brought plan served j t (arriving plan t)
 
 -- how many cells come to output j in slot t, from all inputs
 unfoldable pub comes : List Plan → List Matched → ℕ → ℕ → ℕ
-comes cards matches j t = sum_by (λ i. cells_from (card_of cards i) (served_in matches i) j t) (range_with_len 0 (length cards))
+comes cards matches j t = total (λ i. cells_from (card_of cards i) (served_in matches i) j t) (length cards)
 
 -- how many cells slot t feeds to output j: one or none
 abbrev pub feeds : List Matched → ℕ → ℕ → ℕ

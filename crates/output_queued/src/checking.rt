@@ -30,10 +30,14 @@ fn is_input(n: u32, coming: &[Coming]) -> bool
 {
     let mut least: u64 = 0;
     for packet in coming {
-        if u64::from(packet.slot) < least || !is_coming(n, *packet) {
+        if !is_coming(n, *packet) {
             return false;
         }
-        least = u64::from(packet.slot) + 1;
+        let slot = u64::from(packet.slot);
+        if slot < least {
+            return false;
+        }
+        least = slot + 1;
     }
     true
 }

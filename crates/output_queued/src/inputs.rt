@@ -104,7 +104,7 @@ impl Input {
 // The packet that is next, where it arrives in the slot.
 fn arriving(coming: &[Coming], next: u32, slot: u32) -> Option<Coming>
     ensures next { option_map planned_of result ≡ next_in (map planned_of coming.now) next slot }
-    ensures there { IfSome result (λ c. slice_get coming.now next ≡ Some c) }
+    ensures there { IfSome result (λ c. (slice_get coming.now next ≡ Some c) × (c.slot ≡ slot)) }
 {
     let packet = coming.get(next as usize)?;
     if packet.slot == slot {

@@ -8,8 +8,8 @@ ghost use Rattle.slot_match.specs.Rows.{Names, row_of as row_in};
 ghost use Rattle.card_core.specs.States.{row_of};
 ghost use Rattle.output_queued.specs.Switches.{Matched, card_for, IsSwitch};
 ghost use Rattle.output_queued.specs.Lines.{ideal, ran, line_of};
-ghost use Rattle.output_queued.specs.Noting.{HasNoted, MayNote, cards_in, source_at, tally_at, no_tally, IsSmall, IsBefore};
-ghost use Rattle.output_queued.specs.Steps.{SameSwitch, Ticks, IsOpen};
+ghost use Rattle.output_queued.specs.Noting.{HasNoted, MayNote, cards_in, source_at, tally_at, no_tally, IsSmall, IsBefore, IsUnserved};
+ghost use Rattle.output_queued.specs.Steps.{SameSwitch, Ticks};
 
 use crate::checking::are_inputs;
 use crate::coming::Coming;
@@ -42,7 +42,7 @@ pub struct Reference {
     inputs: Vec<Input>,
     tallies: Vec<Tally>,
     // The outputs to which a cell has come that the run has not served.
-    open: Ports,
+    unserved: Ports,
 }
 
 impl Model for Reference {
@@ -52,9 +52,9 @@ impl Model for Reference {
 
     ghost Value = { State };
 
-    ghost view = { λ r. record { ports = r.ports; depth = r.depth; slots = r.slots; sources = r.inputs.items; tallies = r.tallies.items; open_outputs = r.open } };
+    ghost view = { λ r. record { ports = r.ports; depth = r.depth; slots = r.slots; sources = r.inputs.items; tallies = r.tallies.items; unserved = r.unserved } };
 
-    ghost invariant = { λ r. (matches : List Matched) × HasNoted (record { ports = r.ports; depth = r.depth; slots = r.slots; sources = r.inputs.items; tallies = r.tallies.items; open_outputs = r.open }) matches };
+    ghost invariant = { λ r. (matches : List Matched) × HasNoted (record { ports = r.ports; depth = r.depth; slots = r.slots; sources = r.inputs.items; tallies = r.tallies.items; unserved = r.unserved }) matches };
 }
 
 impl Reference {
@@ -89,14 +89,14 @@ impl Reference {
     {
         let mut inputs = inputs(alloc, n, depth, coming)?;
         let mut tallies = tallies(alloc, n)?;
-        let open = let_in(&mut inputs, &mut tallies, 0, 0);
+        let unserved = let_in(&mut inputs, &mut tallies, 0, 0);
         Ok(Reference {
             ports: n,
             depth,
             slots: 0,
             inputs,
             tallies,
-            open,
+            unserved,
         })
     }
 
@@ -127,10 +127,10 @@ impl Reference {
         ensures noted { (matches : List Matched) → HasNoted self.old matches → HasNoted self.new (matches ++ matched.now ∷ []) }
     {
         let _ = rows;
-        let open = count_slot(&mut self.tallies, self.open, self.slots, matched);
+        let unserved = count_slot(&mut self.tallies, self.unserved, self.slots, matched);
         take_served(&mut self.inputs, matched);
         self.slots += 1;
-        self.open = let_in(&mut self.inputs, &mut self.tallies, open, self.slots);
+        self.unserved = let_in(&mut self.inputs, &mut self.tallies, unserved, self.slots);
     }
 
     /// The numbers of the output, below the number of ports, over the slots noted. At the end of no slot has
@@ -153,27 +153,28 @@ impl Reference {
 
 // The outputs to which a cell has come that the run has not served are counted in slot `slot`. Answers of
 // which of them that still holds.
-fn count_slot(tallies: &mut Vec<Tally>, open: Ports, slot: u32, matched: &Match) -> Ports
+fn count_slot(tallies: &mut Vec<Tally>, unserved: Ports, slot: u32, matched: &Match) -> Ports
     requires few { slot < MAX_SLOTS }
+    requires size { length tallies.old.items ≤ MAX_PORTS }
     requires count { length tallies.old.items ≡ length matched.now }
-    requires open { IsOpen open tallies.old.items }
+    requires unserved { IsUnserved unserved tallies.old.items }
     requires small { (j : ℕ) → j < length tallies.old.items → IsSmall slot (tally_at tallies.old.items j) }
     ensures count { length tallies.new.items ≡ length tallies.old.items }
-    ensures ticks { (j : ℕ) → Has open j → Ticks slot (if is_some (fed_of matched.now j) then 1 else 0) (tally_at tallies.old.items j) (tally_at tallies.new.items j) }
-    ensures others { (j : ℕ) → (Has open j → ⊥) → tally_at tallies.new.items j ≡ tally_at tallies.old.items j }
-    ensures open { IsOpen result tallies.new.items }
+    ensures ticks { (j : ℕ) → Has unserved j → Ticks slot (if is_some (fed_of matched.now j) then 1 else 0) (tally_at tallies.old.items j) (tally_at tallies.new.items j) }
+    ensures others { (j : ℕ) → (Has unserved j → ⊥) → tally_at tallies.new.items j ≡ tally_at tallies.old.items j }
+    ensures unserved { IsUnserved result tallies.new.items }
 {
-    let mut open = open;
-    let mut left = open;
+    let mut unserved = unserved;
+    let mut left = unserved;
     while let Some(output) = lowest(left) {
         let tally = &mut tallies[output as usize];
         tally.tick(slot, matched.fed(output).is_some());
-        if !tally.is_open() {
-            open = without(open, output);
+        if !tally.is_behind() {
+            unserved = without(unserved, output);
         }
         left = without(left, output);
     }
-    open
+    unserved
 }
 
 // Whether the rows are those of the inputs' queues.

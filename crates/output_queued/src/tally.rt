@@ -37,7 +37,7 @@ impl Tally {
     }
 
     /// Whether a cell has come that the run has not served.
-    pub(crate) fn is_open(&self) -> bool
+    pub(crate) fn is_behind(&self) -> bool
         ensures { IsTrue result ↔ (self.now.ran < self.now.came) }
     {
         u64::from(self.ran) < self.came

@@ -1,6 +1,7 @@
 ghost use Rattle.std.specs.Prelude.{◌≡◌, ℕ, ◌<◌, ◌≤◌, List, [], map, filter, length, IfOk};
+ghost use Rattle.cell_cutter.specs.declared.sizes.TheConstants.{MAX_CAPTURED_BYTES};
 ghost use Rattle.card_core.specs.declared.plan.Planned.{Planned as APlanned};
-ghost use Rattle.card_core.specs.Plans.{plan_of};
+ghost use Rattle.card_core.specs.Plans.{IsGoodPlan, plan_of};
 ghost use Rattle.card_core.specs.Queues.{is_routed};
 ghost use Rattle.switch_plan.specs.GoodPlans.{IsGood, switch_plan_of};
 ghost use Rattle.reference_run.specs.Meeting.{IsReferenceOf, coming_of, coming_in};
@@ -22,11 +23,13 @@ pub fn reference_of(alloc: Global, plan: &Plan) -> Result<Reference, OutOfMemory
     for card in &plan.cards {
         coming.push(coming_in(alloc, card)?)?;
     }
-    Reference::make(alloc, plan.cards.len() as u32, plan.depth, coming)
+    let n = plan.cards.len() as u32;
+    Reference::make(alloc, n, plan.depth, coming)
 }
 
 // The packets of the card that go anywhere.
 fn coming_in(alloc: Global, card: &CardPlan) -> Result<Vec<Coming>, AllocError>
+    requires { IsGoodPlan (plan_of card.now) }
     ensures { IfOk result (λ coming. coming.items ≡ coming_in (plan_of card.now)) }
 {
     let mut coming = Vec::new(alloc);
@@ -40,6 +43,7 @@ fn coming_in(alloc: Global, card: &CardPlan) -> Result<Vec<Coming>, AllocError>
 
 // The packet by its cells.
 fn coming_of(packet: Planned) -> Coming
+    requires { packet.len ≤ MAX_CAPTURED_BYTES }
     ensures { result ≡ coming_of packet }
 {
     Coming {
