@@ -1,6 +1,4 @@
-use crate::{
-    JournalFault, MAX_JOURNAL_BYTES, Reason, Verdict, check_journal, journal_bytes, journal_len,
-};
+use crate::{JournalFault, Reason, Verdict, check_journal, journal_bytes, journal_len};
 use board_state::BoardState;
 use crossbar::Post;
 use rotating_pick::LEVEL_COUNT;
