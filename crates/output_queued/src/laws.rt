@@ -7,8 +7,8 @@ ghost use Rattle.output_queued.specs.declared.coming.Coming.{Coming};
 ghost use Rattle.output_queued.specs.Switches.{Matched, comes, card_for, IsSwitch, AreCards, AreServed, AreEmptied};
 ghost use Rattle.output_queued.specs.Lines.{ideal, ran, rises, line_of};
 
-/// An output of the ideal switch has given out, with slot t, one cell more than before where so many came,
-/// else all that came: never more than came, and no fewer than one queue could.
+/// With each slot an output of the ideal switch has given out one cell more than before, or all that came,
+/// whichever is less.
 pub fn ideal_is_the_recurrence()
     ensures { (comes : ℕ → ℕ) (t : ℕ) → given comes (suc t) ≡ min (total comes (suc t)) (given comes t + 1) }
 {}
