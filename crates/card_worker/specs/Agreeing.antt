@@ -15,7 +15,7 @@ use Rattle.card_worker.specs.declared.hands.Hand.{Hand}
 abbrev pub without_cell : Taken → Taken
 without_cell taken = record { slot = taken.slot; served = taken.served; cell = None; done = taken.done }
 
--- What a card that has received so much is given of a taking: all of it, or all but a cell that may not be put.
+-- What a card with these receipts is given of a taking: all of it, or all but a cell that may not be put.
 abbrev pub IsFitted : Received → Taken → Taken → Type 0
 IsFitted received taken given = (MayReceiveAny received taken.cell × (given ≡ taken)) ⊎ ((MayReceiveAny received taken.cell → ⊥) × (given ≡ without_cell taken))
 

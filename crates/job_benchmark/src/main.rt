@@ -1,9 +1,10 @@
-//! How long a slot of a whole run is, where each line card always has cells, and how long the reading of
-//! captures is beside adding up their bytes.
+//! How long a slot of a whole run is, where each line card always has cells, and how long the plan of
+//! captures takes beside a reading of their bytes, and beside adding them up.
 //!
 //! The times go to standard error, which no stored run is compared with.
 #![tactic(auto)]
 
+mod copying;
 mod input;
 mod planning;
 mod reading;

@@ -1,3 +1,4 @@
+use crate::copying::Copies;
 use crate::input::{Load, captures_of, table_of};
 use crate::planning::planned;
 use std::io;
@@ -12,7 +13,7 @@ const LOAD: Load = Load {
 };
 
 /// How often the reading is timed. The least times count, since they were disturbed least.
-const READINGS: u32 = 3;
+const READINGS: u32 = 7;
 
 /// Workers of the plan.
 const WORKERS: u32 = 1;
@@ -22,6 +23,8 @@ const WORKERS: u32 = 1;
 struct Reading {
     // To plan the captures.
     plan: u128,
+    // To read their bytes from files in memory into buffers, on one thread.
+    copy: u128,
     // To add up their bytes on one thread.
     sum: u128,
 }
@@ -53,6 +56,15 @@ fn time_sum<R: Clock + Eprint>(rt: &R, files: &[Vec<u8>]) -> io::Result<u128> {
     Ok(end.duration_since(begin).as_nanos())
 }
 
+// Times the reading of the files' bytes, and tells how many were read.
+fn time_copy<R: Clock + Eprint>(rt: &R, copies: &mut Copies) -> io::Result<u128> {
+    let begin = Instant::now(rt)?;
+    let count = copies.read();
+    let end = Instant::now(rt)?;
+    eprintln!(rt; "the captures have {count} bytes")?;
+    Ok(end.duration_since(begin).as_nanos())
+}
+
 // Times a plan of the files, and tells what it answers.
 fn time_plan<R: Threads + Sync + Clock + Eprint + AllocGlobal>(
     rt: &R,
@@ -81,24 +93,38 @@ fn time_one<R: Threads + Sync + Clock + Eprint + AllocGlobal>(
         return Ok(None);
     };
     let sum = time_sum(rt, &files)?;
-    let plan = time_plan(rt, table, files)?;
-    Ok(Some(Reading { plan, sum }))
+    let Some(mut copies) = Copies::new(rt.alloc(), files) else {
+        return Ok(None);
+    };
+    let copy = time_copy(rt, &mut copies)?;
+    let plan = time_plan(rt, table, copies.into_buffers())?;
+    Ok(Some(Reading { plan, copy, sum }))
 }
 
-/// Tells the time to plan 16 captures of some 7,000,000 bytes, and that to add up their bytes.
+// What of a time another is, in percent.
+fn percent(part: u128, whole: u128) -> u128 {
+    part.saturating_mul(100) / whole.max(1)
+}
+
+/// Tells the time to plan 16 captures of some 7,000,000 bytes, that to read their bytes from files in memory,
+/// and that to add them up.
 pub(crate) fn time_reading<R: Threads + Sync + Clock + Eprint + AllocGlobal>(
     rt: &R,
 ) -> io::Result<()> {
     let mut plan = u128::MAX;
+    let mut copy = u128::MAX;
     let mut sum = u128::MAX;
     for _ in 0..READINGS {
         let Some(reading) = time_one(rt)? else {
             return eprintln!(rt; "no memory for captures");
         };
         plan = plan.min(reading.plan);
+        copy = copy.min(reading.copy);
         sum = sum.min(reading.sum);
     }
-    let percent = plan.saturating_mul(100) / sum.max(1);
-    let (plan, sum) = (plan / 1_000, sum / 1_000);
-    eprintln!(rt; "a plan takes {plan} us, adding up the bytes {sum} us: {percent} percent of it")
+    let (of_copy, of_sum) = (percent(plan, copy), percent(plan, sum));
+    let (plan, copy, sum) = (plan / 1_000, copy / 1_000, sum / 1_000);
+    eprintln!(rt; "a plan takes {plan} us")?;
+    eprintln!(rt; "reading the bytes takes {copy} us: the plan {of_copy} percent of it")?;
+    eprintln!(rt; "adding up the bytes takes {sum} us: the plan {of_sum} percent of it")
 }

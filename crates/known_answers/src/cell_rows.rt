@@ -1,14 +1,14 @@
 //! Rows of cells: `cells_of LEN CELLS`, `cut INPUT LEVEL KIND SECONDS NANOS ORIGINAL K PACKET -> CELL`,
 //! `cut_long INPUT LEVEL KIND SECONDS NANOS ORIGINAL K -> CELL` and
 //! `form CELL -> INPUT LEVEL KIND LAST USED NUMBER`, or `-> none`.
-use crate::fields::{byte, bytes, kind};
+use crate::fields::{bytes, kind};
 use crate::texts::kind_letter;
 use cell_cutter::{
     CELL_BYTES, Cell, MAX_CAPTURED_BYTES, MAX_FORWARDED_BYTES, Packet, cells_of, cut,
 };
 use rotating_pick::{LEVELS, MAX_PORTS};
 use std::alloc::{AllocError, Global};
-use vector_rows::{NoAnswer, Row, number, words};
+use vector_rows::{NoAnswer, Row, byte, number, words};
 
 /// The row that a line is.
 pub fn row(alloc: Global, line: &str) -> Result<Row, AllocError> {

@@ -15,14 +15,6 @@ pub fn long_number(text: &str) -> Result<u64, NoAnswer> {
     }
 }
 
-/// A decimal number of a byte.
-pub fn byte(text: &str) -> Result<u8, NoAnswer> {
-    match text.parse::<u8>() {
-        Ok(number) => Ok(number),
-        Err(_) => Err(NoAnswer),
-    }
-}
-
 /// Numbers that are parted by commas.
 pub fn numbers(alloc: Global, text: &str) -> Result<Vec<u32>, NoAnswer> {
     let mut numbers = Vec::new(alloc);

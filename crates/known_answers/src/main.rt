@@ -23,7 +23,6 @@ mod schedule_rows;
 mod slot_fields;
 mod table_rows;
 mod texts;
-mod unescaping;
 mod vector_file;
 mod wait_rows;
 

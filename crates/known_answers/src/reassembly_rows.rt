@@ -2,13 +2,13 @@
 //! of an output; then `put CELL -> INPUT LEVEL KIND MESSAGE` or `-> -`, `fit CELL` and `no_fit CELL`.
 
 use crate::cell_rows::cell_bytes;
-use crate::fields::{byte, kind};
+use crate::fields::kind;
 use crate::texts::kind_letter;
 use cell_cutter::{Cell, MAX_MESSAGE_BYTES};
 use reassembly::{FLOWS_PER_INPUT, Reassembly};
 use rotating_pick::Kind;
 use std::alloc::{AllocError, Global};
-use vector_rows::{NoAnswer, Row, number, port_count, set_up_row, words};
+use vector_rows::{NoAnswer, Row, byte, number, port_count, set_up_row, words};
 
 /// The block that is being read.
 #[derive(Drop)]

@@ -2,14 +2,14 @@
 ghost use Rattle.std.specs.Prelude.{◌≡◌, ◌<◌, ◌≤◌, IfOk};
 ghost use Rattle.slot_match.specs.Rows.{AreWithin};
 
-use crate::fields::{byte, port_table};
+use crate::fields::port_table;
 use crate::texts::{add_item, kind_letter, numbers_text};
 use islip_rounds::RoundsUsed;
 use pointer_state::Pointers;
 use rotating_pick::{Kind, LEVEL_COUNT, LEVELS, MAX_PORTS, PORT_COUNT, with};
 use slot_match::{Fed, Match, Row, are_within};
 use std::alloc::{AllocError, Global};
-use vector_rows::{NoAnswer, number, port_set};
+use vector_rows::{NoAnswer, byte, number, port_set};
 
 /// Pointers of four levels, as a row states them.
 #[derive(Clone, Copy)]

@@ -1,12 +1,15 @@
+ghost use Rattle.std.specs.Prelude.{◌≤◌};
+ghost use Rattle.switch_words.specs.Limits.{IsUpTo};
+
 mod planning;
 
 use crate::{Made, Plan, made_input};
 use card_core::{CardPlan, Planned};
 use pcap_records::Link;
-use rotating_pick::OutOfMemory;
+use rotating_pick::{MAX_PORTS, OutOfMemory};
 use std::alloc::Global;
 use std::test::Fail;
-use switch_words::{GenJob, Settings};
+use switch_words::{GenJob, MAX_COUNT, Settings};
 
 const SETTINGS: Settings = Settings {
     rounds: 4,
@@ -25,26 +28,31 @@ const TWO_PORTS: &[u8] = b"10.0.0.0/32 0 0\n10.0.0.1/32 1 0\n10.0.1.0/32 0,1 0\n
 const ONE_PORT: &[u8] = b"10.0.0.0/32 0 0\n10.0.1.0/32 0 0\n10.1.0.0/32 0 1\n10.1.1.0/32 0 1\n\
 10.2.0.0/32 0 2\n10.2.1.0/32 0 2\n10.3.0.0/32 0 3\n10.3.1.0/32 0 3\n";
 
-// The header of each capture, and of the record of 209 bytes.
+// The header of each capture, and the first record of port 0 where the number is 1: its header, and of its 209
+// bytes those that are not 0.
 const FIRST_BYTES: &[u8] = b"\xd4\xc3\xb2\xa1\x02\0\x04\0\0\0\0\0\0\0\0\0\0\0\x04\0\x01\0\0\0\
 \0\0\0\0\0\0\0\0\xd1\0\0\0\xd1\0\0\0\
 \0\0\0\0\0\0\0\0\0\0\0\0\x08\0\x45\0\0\0\0\0\0\0\0\0\0\0\0\0\0\0\x0a\x01\0\0\0";
 
-fn two_ports(alloc: Global) -> Result<Made, OutOfMemory> {
+// What is made from the number 1.
+fn made_from_1(alloc: Global, count: u32, ports: u32) -> Result<Made, OutOfMemory>
+    requires count { count ≤ MAX_COUNT }
+    requires ports { IsUpTo MAX_PORTS ports }
+{
     made_input(
         alloc,
         &GenJob {
             settings: SETTINGS,
             seed: 1,
-            count: 2,
-            ports: 2,
+            count,
+            ports,
         },
     )
 }
 
 #[test]
 fn makes_two_packets_for_each_of_two_ports(rt: HostRuntime) -> Result<(), Fail> {
-    let made = two_ports(rt.alloc())?;
+    let made = made_from_1(rt.alloc(), 2, 2)?;
     assert_eq!(rt; made.table.as_slice(), TWO_PORTS);
     assert_eq!(rt; made.captures.len(), 2);
     let first = made.captures[0].as_slice();
@@ -55,16 +63,13 @@ fn makes_two_packets_for_each_of_two_ports(rt: HostRuntime) -> Result<(), Fail> 
 }
 
 #[test]
-fn makes_the_routes_of_one_port(rt: HostRuntime) -> Result<(), Fail> {
-    let job = GenJob {
-        settings: SETTINGS,
-        seed: 1,
-        count: 1,
-        ports: 1,
-    };
-    let made = made_input(rt.alloc(), &job)?;
+fn makes_one_packet_for_one_port(rt: HostRuntime) -> Result<(), Fail> {
+    let made = made_from_1(rt.alloc(), 1, 1)?;
     assert_eq!(rt; made.table.as_slice(), ONE_PORT);
     assert_eq!(rt; made.captures.len(), 1);
+    let only = made.captures[0].as_slice();
+    assert_eq!(rt; only.len(), 24 + 16 + 209);
+    assert!(rt; only.starts_with(FIRST_BYTES));
     Ok(())
 }
 

@@ -35,6 +35,32 @@ struct BytesJob<'a> {
     outputs: &'a [&'a [u8]],
 }
 
+// A job over an input that is made: its words, and the summary.
+#[derive(Clone, Copy)]
+struct MadeJob<'a> {
+    words: &'a [&'a str],
+    summary: &'a str,
+}
+
+const MADE_JOBS: [MadeJob<'_>; 3] = [
+    MadeJob {
+        words: &["gen", "1", "1", "1"],
+        summary: "ports 1\nrounds 4\ndepth 131072\nslots 10\npackets 1\noversize 0\nunrouted 0\n\
+            dropped 0\nforwarded 1\ncopies 1\ncells 5\nlongest 0 0 0 0\n",
+    },
+    MadeJob {
+        words: &["gen", "1", "2", "2"],
+        summary: "ports 2\nrounds 4\ndepth 131072\nslots 47\npackets 4\noversize 0\nunrouted 0\n\
+            dropped 0\nforwarded 4\ncopies 4\ncells 41\nlongest 0 0 0 19\n",
+    },
+    MadeJob {
+        words: &["gen", "7", "73", "32"],
+        summary: "ports 32\nrounds 4\ndepth 131072\nslots 1744\npackets 2336\noversize 0\n\
+            unrouted 0\ndropped 0\nforwarded 2336\ncopies 2624\ncells 38390\n\
+            longest 5 96 518 1219\n",
+    },
+];
+
 const TWO_ROUTES: &str = "10.0.0.0/24 0\n10.0.1.0/24 1\n";
 
 // Packets by how their routes are named below, each of one cell.
@@ -344,13 +370,13 @@ fn captures_keep_their_bytes_and_times(rt: HostRuntime) -> Result<(), Fail> {
 
 #[test]
 fn made_packets_cross(rt: HostRuntime) -> Result<(), Fail> {
-    let words = ["gen", "1", "2", "2"];
-    let mut files = files_of(&rt, rt.alloc(), Vec::new(rt.alloc()), PIECE, &[])?;
-    assert_eq!(rt; command(&rt, rt.alloc(), &words, &mut files, &OpenGate)?, 0);
-    let summary = "ports 2\nrounds 4\ndepth 131072\nslots 47\npackets 4\noversize 0\nunrouted 0\n\
-        dropped 0\nforwarded 4\ncopies 4\ncells 41\nlongest 0 0 0 19\n";
-    compare_text(&rt, files.out_text(), summary, &words);
-    compare_text(&rt, files.err_text(), "", &words);
+    for job in MADE_JOBS {
+        let mut files = files_of(&rt, rt.alloc(), Vec::new(rt.alloc()), PIECE, &[])?;
+        let status = command(&rt, rt.alloc(), job.words, &mut files, &OpenGate)?;
+        assert_eq!(rt; status, 0, "{:?}", job.words);
+        compare_text(&rt, files.out_text(), job.summary, job.words);
+        compare_text(&rt, files.err_text(), "", job.words);
+    }
     Ok(())
 }
 

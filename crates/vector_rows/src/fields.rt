@@ -1,4 +1,4 @@
-//! The fields of a row, read: words, numbers and sets of ports.
+//! The fields of a row, read: words, numbers, sets of ports and addresses.
 ghost use Rattle.std.specs.Prelude.{◌<◌, ◌≤◌, IfOk};
 
 use crate::row::NoAnswer;
@@ -16,6 +16,27 @@ pub fn number(text: &str) -> Result<u32, NoAnswer> {
         Ok(number) => Ok(number),
         Err(_) => Err(NoAnswer),
     }
+}
+
+/// A decimal number of a byte.
+pub fn byte(text: &str) -> Result<u8, NoAnswer> {
+    match text.parse::<u8>() {
+        Ok(number) => Ok(number),
+        Err(_) => Err(NoAnswer),
+    }
+}
+
+/// An IPv4 address as `10.0.0.1`, or `-` for none.
+pub fn address(alloc: Global, text: &str) -> Result<Option<u32>, NoAnswer> {
+    if text == "-" {
+        return Ok(None);
+    }
+    let octets: Vec<&str> = text.split('.').collect(alloc)?;
+    let [first, second, third, fourth] = octets.as_slice() else {
+        return Err(NoAnswer);
+    };
+    let octets = [byte(first)?, byte(second)?, byte(third)?, byte(fourth)?];
+    Ok(Some(u32::from_be_bytes(octets)))
 }
 
 /// How many ports a switch has: 1 to 64.

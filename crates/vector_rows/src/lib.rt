@@ -7,10 +7,13 @@ mod checking;
 mod fields;
 mod reading;
 mod row;
+mod table_text;
 #[cfg(test)]
 mod tests;
+mod unescaping;
 
 pub use checking::{check_named_files, check_text};
-pub use fields::{number, port_count, port_set, words};
-pub use reading::{RowReader, rows_of};
+pub use fields::{address, byte, number, port_count, port_set, words};
+pub use reading::{RowReader, is_comment, rows_of};
 pub use row::{NoAnswer, Row, set_up_row, wrong_count};
+pub use table_text::TableText;

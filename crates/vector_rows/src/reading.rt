@@ -69,8 +69,8 @@ fn lines_of(alloc: Global, text: &str) -> Result<Vec<&str>, AllocError>
     text.lines().collect(alloc)
 }
 
-// Whether the line says nothing.
-fn is_comment(line: &str) -> bool
+/// Whether the line says nothing: an empty line, or one that begins with `#`.
+pub fn is_comment(line: &str) -> bool
     ensures { result ≡ is_comment line.now }
 {
     line.is_empty() || line.starts_with('#')

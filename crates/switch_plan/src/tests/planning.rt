@@ -1,5 +1,5 @@
 // Plans of made inputs, and what is refused.
-use super::{SETTINGS, two_ports};
+use super::{SETTINGS, made_from_1};
 use crate::jobs::plan;
 use crate::{Plan, PlanFault};
 use forward_table::TableFault;
@@ -37,7 +37,7 @@ fn refusal<R: Threads + Sync>(
 
 #[test]
 fn plans_a_made_job(rt: HostRuntime) -> Result<(), Fail> {
-    let made = two_ports(rt.alloc())?;
+    let made = made_from_1(rt.alloc(), 2, 2)?;
     let Some(answer) = planned(&rt, rt.alloc(), made.table, made.captures) else {
         return Err(Fail::new("the made input does not fit"));
     };
@@ -71,7 +71,7 @@ fn refuses_the_table_before_a_capture(rt: HostRuntime) -> Result<(), Fail> {
 
 #[test]
 fn refuses_the_first_faulty_capture(rt: HostRuntime) -> Result<(), Fail> {
-    let mut made = two_ports(rt.alloc())?;
+    let mut made = made_from_1(rt.alloc(), 2, 2)?;
     made.captures.push(Vec::new(rt.alloc()))?;
     let fault = PlanFault::Capture {
         port: 2,

@@ -1,6 +1,6 @@
 //! Text in quotes, with `\n`, `\r`, `\t`, `\"`, `\\` and `\xNN` as in Rust.
+use crate::row::NoAnswer;
 use std::alloc::Global;
-use vector_rows::NoAnswer;
 
 // What was read of an escape.
 #[derive(Clone, Copy)]
