@@ -15,7 +15,8 @@ use Rattle.pointer_state.specs.Places.{Places, AreAtPorts, places_at_first}
 use Rattle.pointer_state.proofs.Moves.{AreAtPorts-at_first}
 use Rattle.eslip_rounds.specs.Decisions.{decision_of}
 use Rattle.slot_histories.proofs.EventTests.{IsEmptyRow-empty}
-use Rattle.slot_histories.proofs.SoundDecisions.{IsSoundDecision, sound_decision}
+use Rattle.eslip_rounds.proofs.Scheduling.{IsScheduler-decision_of}
+use Rattle.slot_histories.proofs.SoundDecisions.{IsSoundDecision, IsSoundDecision-slot}
 use Rattle.journal_check.specs.declared.posts.FilePost.{FilePost}
 use Rattle.journal_check.specs.Files.{FileSlot, rows_of}
 use Rattle.journal_check.specs.Texts.{IsFileRow, IsFileSlot}
@@ -92,7 +93,8 @@ good_at_first n some few = record {
 }
 
 pub sound_slot : (n rounds t : ℕ) (before : Before) (slot : FileSlot) → IsGood n before → IsFileSlot n slot → IsSoundDecision n (decided_in n rounds t before slot)
-sound_slot n rounds t before slot good file = sound_decision n rounds t (rows_of slot) before.places (file_within n slot file) good.at_ports good.ports
+sound_slot n rounds t before slot good file =
+    IsSoundDecision-slot n rounds t (rows_of slot) before.places (decision_of n rounds t (rows_of slot) before.places) good.at_ports good.ports (IsScheduler-decision_of n rounds t (rows_of slot) before.places (file_within n slot file) good.at_ports good.ports)
 
 pub good_after : (n rounds t : ℕ) (before : Before) (slot : FileSlot) → IsGood n before → IsFileSlot n slot → slot.matched ≡ (decided_in n rounds t before slot).matched → IsGood n (after_slot n rounds t before slot)
 unfolding after_slot

@@ -34,7 +34,7 @@ use Rattle.journal_check.specs.Files.{FileSlot, JournalFile, rows_of, mores_of}
 use Rattle.journal_check.specs.Texts.{file_post, file_slot, file_of, HasLevels, HaveLevels, IsFileRow, IsFileOutput, IsFileSlot, IsFile}
 use Rattle.journal_check.specs.Fields.{most_slots}
 use Rattle.board_state.specs.Boards.{no_slot}
-use Rattle.slot_histories.proofs.SoundDecisions.{decision_at-sound}
+use Rattle.slot_histories.proofs.SoundDecisions.{decision_at-legal}
 use Rattle.journal_check.specs.Lawful.{Before, at_first, decided_in, after_slot, MayFollow, MayFollowAll, IsLawful}
 
 -- some post says that more is to come exactly where the slot is not done
@@ -198,7 +198,7 @@ module _ (s : Setup) (events : List Event) (some : 0 < s.ports) (legal : IsLegal
   slot_is : (t : ℕ) → t < decides events → s.ports ≤ MAX_PORTS → All (λ (post : FilePost). HasLevels post.row) (slot t).posts → IsFileSlot s.ports (slot t)
   slot_is t below few four =
       let posts = slot_posts s.ports (posted events) t in
-      let sound = decision_at-sound s (posted events) (decides events) some few (λ u u_below. rows_within s events u legal u_below) t below in
+      let sound = decision_at-legal s events some few legal t below in
       let long = length-slot_posts s.ports (posted events) t in
       let all = length-map posts file_post in
       let at : (i : ℕ) (d : FilePost) → i < s.ports → get_or (slot t).posts i d ≡ file_post (posted events i t) = λ i d inside.

@@ -19,7 +19,7 @@ use Rattle.switch_run.specs.Endings.{Command, IsCheck, IsFirstTooLong, IsJournal
 use Rattle.switch_run.specs.Inputs.{AreFilesRead, AreInputs, CapturesRead, EarlierFit}
 use Rattle.switch_run.specs.Jobs.{ReadWords, reads_of, pace_in, IsInput, RunsSwitch, input_name, wanted_by}
 use Rattle.switch_run.specs.OutputFiles.{files_from, journal_files, journal_name, nameless, output_name, report_name, run_files}
-use Rattle.switch_run.specs.Switched.{Texts, AreTexts, IsLongJournal, IsSwitched}
+use Rattle.switch_run.specs.Switched.{Texts, AreTexts, IsLongJournal, IsSwitched, journal_text}
 use Rattle.check_job.specs.declared.ending.CheckEnding.{CheckEnding}
 use Rattle.check_job.specs.declared.ending.CheckEnding.TheVariants as check_ending
 use Rattle.switch_run.specs.declared.ending.Written.{Written}
@@ -361,7 +361,7 @@ journal_at r texts (Some bytes) within =
 journal_was_wanted : (r : RunWords) (table : List ℕ) (captures : List (List ℕ)) (texts : Texts) → IsSwitched r.settings (wanted_by r) table captures texts → (texts.journal ≡ None → ⊥) → r.journal ≡ true
 journal_was_wanted r table captures texts is there = elim (tells r.journal) [
   | inl yes ↦ yes
-  | inr no ↦ absurd (there (ap (λ (t : Texts). t.journal) is.are ∙ ap (λ b. if b then Some _ else None) no))
+  | inr no ↦ absurd (there (ap (λ (t : Texts). t.journal) is.are ∙ ap (λ (b : Bool). if b then Some (journal_text is.plan is.slots) else None) no))
 ]
 
 -- nothing stops at a file of a name of which no call was refused

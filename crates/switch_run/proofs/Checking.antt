@@ -4,6 +4,7 @@ use Rattle.std.specs.Prelude.{◌⊎◌, Ok, Err, Result}
 use Rattle.outside.specs.Contents.{Contents}
 use Rattle.outside.specs.Faults.{ToOut, Rose}
 use Rattle.journal_check.specs.declared.limits.TheConstants.{MAX_JOURNAL_BYTES}
+use Rattle.journal_check.specs.Verdicts.{answer_to}
 use Rattle.journal_check.specs.declared.verdict.Verdict.{Verdict}
 use Rattle.journal_check.specs.declared.verdict.Verdict.TheVariants as verdict
 use Rattle.journal_check.specs.declared.verdict.JournalFault.{JournalFault}
@@ -24,7 +25,7 @@ use Rattle.switch_run.proofs.Answering.{no_inputs, no_job, no_reads, run_is_no_c
 -- ---- the file has one answer
 
 answers_once : (name : List ℕ) (c : Contents) (a b : Result Verdict JournalFault) → HasAnswer name a c → HasAnswer name b c → a ≡ b
-answers_once name c a b p q = let there = p.1 in let other = q.1 in let same : p.0 ≡ q.0 = cc in sym p.3 ∙ ap _ same ∙ q.3
+answers_once name c a b p q = let there = p.1 in let other = q.1 in let same : p.0 ≡ q.0 = cc in sym p.3 ∙ ap answer_to same ∙ q.3
 
 long_has_none : (name : List ℕ) (c : Contents) (a : Result Verdict JournalFault) → HasAnswer name a c → IsTooLong c name → ⊥
 long_has_none name c a p q = let there = p.1 in let other = q.1 in let same : p.0 ≡ q.0 = cc in let n = ap length same in omega (arith, n, p.2, q.2)

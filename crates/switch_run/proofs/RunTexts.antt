@@ -18,11 +18,12 @@ use Rattle.switch_words.specs.declared.job.Settings.{Settings}
 use Rattle.switch_words.specs.declared.job.GenJob.{GenJob}
 use Rattle.switch_words.specs.Reading.{FirmWords, RunWords, run, gen, firm}
 use Rattle.slot_report.specs.Texts.{summary_lines}
+use Rattle.board_state.specs.Boards.{JournalValue as CoreJournal}
 use Rattle.slot_board.specs.States.{JournalValue as BoardJournal}
 use Rattle.slot_histories.specs.Events.{Setup}
 use Rattle.journal_check.specs.declared.limits.TheConstants.{MAX_JOURNAL_BYTES}
 use Rattle.journal_check.specs.Files.{JournalFile}
-use Rattle.journal_check.specs.Texts.{file_slot, file_text}
+use Rattle.journal_check.specs.Texts.{file_of, file_slot, file_text}
 use Rattle.switch_plan.specs.GoodPlans.{SwitchPlan}
 use Rattle.whole_run.specs.Runs.{ports_of, run_journal, setup_for}
 use Rattle.switch_jobs.specs.declared.outcome.Outcome.{Outcome}
@@ -107,6 +108,13 @@ module _ (plan : SwitchPlan) (outcome : Outcome) (left : IsOutcome plan outcome)
   -- the journal, where it is wanted
   pub journal_is : (is_wanted : Bool) (bytes : Option (List ℕ)) → IsJournalFor is_wanted outcome.journal bytes → bytes ≡ (if is_wanted then Some (journal_text plan left.slots) else None)
   journal_is is_wanted bytes j = j.is ∙ ap (λ (file : JournalFile). if is_wanted then Some (file_text file) else None) file_is
+
+-- what the core's journal tells is what the board's tells
+pub core_file : (core : CoreJournal) (journal : BoardJournal) → core.setup ≡ journal.setup → core.slots ≡ journal.slots → file_of core ≡ file_of_board journal
+core_file core journal setup slots =
+    let file : Setup → List JournalSlot → JournalFile = λ s all. record { ports = s.ports; rounds = s.rounds; slots = map file_slot all } in
+    let same : file core.setup core.slots ≡ file journal.setup journal.slots = ap (λ s. file s core.slots) setup ∙ ap (file journal.setup) slots in
+    same
 
 -- ---- the texts of a job
 

@@ -129,7 +129,10 @@ module _ (job : JobWords) (old : Option Contents) (outputs : ℕ) (files : List 
   m = w.made
 
   few_outputs : length m.texts.outputs ≤ 64
-  few_outputs = let n = captures_made-le job (length w.captures) in omega (arith, n, m.count, w.few)
+  few_outputs =
+      let n = captures_made-le job (length w.captures) in
+      let few : length w.captures ≤ 64 = w.few in
+      omega (arith, n, m.count, few)
 
   -- the texts that were made of the inputs
   made : IsMade job old m.texts

@@ -1,4 +1,4 @@
-ghost use Rattle.std.specs.Prelude.{◌≡◌, ◌≤◌, ◌<◌, Some, length, IfErr, IfOk, IfSome};
+ghost use Rattle.std.specs.Prelude.{◌≡◌, ◌≤◌, ◌<◌, Some, length, vec_len, IfErr, IfOk, IfSome};
 ghost use Rattle.outside.specs.Faults.{NeverFall};
 ghost use Rattle.outside.specs.WholeFiles.{Fits};
 ghost use Rattle.switch_words.specs.Limits.{IsGenWithinLimits};
@@ -44,7 +44,8 @@ pub(crate) struct Reads<'a> {
 
 /// The files of a `run` job.
 pub(crate) fn reads_of_run(job: &RunJob) -> Reads<'_>
-    ensures { reads_words result ≡ run_reads (run_words job.now) }
+    ensures names { reads_words result ≡ run_reads (run_words job.now) }
+    ensures count { length result.inputs.now ≡ vec_len job.now.inputs }
 {
     Reads {
         table: job.table.as_str(),
@@ -54,7 +55,8 @@ pub(crate) fn reads_of_run(job: &RunJob) -> Reads<'_>
 
 /// The files of a `firm` job.
 pub(crate) fn reads_of_firm(job: &FirmJob) -> Reads<'_>
-    ensures { reads_words result ≡ firm_reads (firm_words job.now) }
+    ensures names { reads_words result ≡ firm_reads (firm_words job.now) }
+    ensures count { length result.inputs.now ≡ vec_len job.now.inputs }
 {
     Reads {
         table: job.table.as_str(),
