@@ -1,4 +1,5 @@
-ghost use Rattle.std.specs.Prelude.{◌≡◌, ◌≤◌, [], length};
+ghost use Rattle.std.specs.Prelude.{◌≡◌, ◌^◌, ◌<◌, ◌≤◌, [], length};
+ghost use Rattle.std.specs.List.{sum_by};
 ghost use Rattle.service_bound.specs.Meters.{HasNoted};
 ghost use Rattle.switch_jobs.specs.Journals.{summary_with, summary_in, HaveSums};
 
@@ -31,12 +32,44 @@ pub fn sum_up(
         packets: terms.packets,
         oversize: terms.oversize,
         unrouted: terms.unrouted,
-        dropped: outputs.iter().map(|out| out.dropped).sum(),
-        forwarded: outputs.iter().map(|out| out.admitted).sum(),
-        copies: outputs.iter().map(|out| out.packets).sum(),
-        cells: outputs.iter().map(|out| out.cells).sum(),
+        dropped: dropped_in(outputs),
+        forwarded: admitted_in(outputs),
+        copies: packets_in(outputs),
+        cells: cells_in(outputs),
         longest,
     }
+}
+
+// How many packets were dropped.
+fn dropped_in(outputs: &[CardOut]) -> u32
+    requires { sum_by (λ out. out.dropped) outputs.now < 2 ^ 32 }
+    ensures { result ≡ sum_by (λ out. out.dropped) outputs.now }
+{
+    outputs.iter().map(|out| out.dropped).sum()
+}
+
+// How many packets were admitted.
+fn admitted_in(outputs: &[CardOut]) -> u32
+    requires { sum_by (λ out. out.admitted) outputs.now < 2 ^ 32 }
+    ensures { result ≡ sum_by (λ out. out.admitted) outputs.now }
+{
+    outputs.iter().map(|out| out.admitted).sum()
+}
+
+// How many packets left by an output.
+fn packets_in(outputs: &[CardOut]) -> u32
+    requires { sum_by (λ out. out.packets) outputs.now < 2 ^ 32 }
+    ensures { result ≡ sum_by (λ out. out.packets) outputs.now }
+{
+    outputs.iter().map(|out| out.packets).sum()
+}
+
+// How many cells came to an output.
+fn cells_in(outputs: &[CardOut]) -> u32
+    requires { sum_by (λ out. out.cells) outputs.now < 2 ^ 32 }
+    ensures { result ≡ sum_by (λ out. out.cells) outputs.now }
+{
+    outputs.iter().map(|out| out.cells).sum()
 }
 
 /// The numbers of a run with this journal, whose cards left these outputs. It takes no memory.
