@@ -40,3 +40,8 @@ MeansCheck name old new was now TooLong = IfSome old (λ c. IsTooLong c name) ×
 MeansCheck name old new was now ReadFault = Rose (was (ReadOf name)) (now (ReadOf name)) × (new ≡ old)
 MeansCheck name old new was now OutOfMemory = new ≡ old
 MeansCheck name old new was now OutFault = (text : List ℕ) × (given : ℕ) × IsYes name old text × Rose (was ToOut) (now ToOut) × (new ≡ option_map (append_out (take given text)) old)
+
+-- calls gave standard output all of the text; or one of them failed, and a first part of it was given
+abbrev pub GivesOut : {T E : Type 0} → Result T E → List ℕ → Option Contents → Option Contents → Type 0
+GivesOut (Ok done) text old new = new ≡ option_map (append_out text) old
+GivesOut (Err failure) text old new = (given : ℕ) × (new ≡ option_map (append_out (take given text)) old)

@@ -3,6 +3,8 @@
 
 mod checking;
 mod ending;
+mod reading;
+mod telling;
 
 pub use checking::check_file;
 pub use ending::CheckEnding;

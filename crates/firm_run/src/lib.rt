@@ -2,6 +2,12 @@
 //! at the board.
 #![tactic(auto)]
 
+mod leaving;
+mod posting;
 mod running;
+mod switch;
+mod taking;
+#[cfg(test)]
+mod tests;
 
 pub use running::run_firm;
