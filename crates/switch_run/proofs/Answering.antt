@@ -348,11 +348,12 @@ journal_at r texts (Some bytes) within =
     let outputs = files_from r.prefix 0 texts.outputs in
     let report : NamedBytes = record { name = report_name r.prefix; bytes = texts.report } in
     let last : NamedBytes = record { name = journal_name r.prefix; bytes = bytes } in
-    let n : length texts.outputs + 1 ≡ length (outputs ++ report ∷ []) = omega (arith, length-files_from r.prefix 0 texts.outputs, length-append outputs (report ∷ [])) in
-    (λ none. absurd (some_none bytes none),
-    ap (λ (files : List NamedBytes). (get_or files (length texts.outputs + 1) nameless).name) (sym (append_assoc outputs (report ∷ []) (last ∷ [])))
-    ∙ ap (λ (i : ℕ). (get_or ((outputs ++ report ∷ []) ++ last ∷ []) i nameless).name) n
-    ∙ ap (λ (f : NamedBytes). f.name) (get_or-append_seam (outputs ++ report ∷ []) last [] nameless))
+    let n : length texts.outputs + 1 ≡ length (outputs ++ report ∷ []) = omega (arith, length-files_from r.prefix 0 texts.outputs, length-append outputs (report ∷ [])) in (
+      λ none. absurd (some_none bytes none),
+      ap (λ (files : List NamedBytes). (get_or files (length texts.outputs + 1) nameless).name) (sym (append_assoc outputs (report ∷ []) (last ∷ [])))
+          ∙ ap (λ (i : ℕ). (get_or ((outputs ++ report ∷ []) ++ last ∷ []) i nameless).name) n
+          ∙ ap (λ (f : NamedBytes). f.name) (get_or-append_seam (outputs ++ report ∷ []) last [] nameless),
+    )
   where
     some_none : (bytes : List ℕ) → ◌≡◌ {A = Option (List ℕ)} (Some bytes) None → ⊥
     some_none bytes h = cc

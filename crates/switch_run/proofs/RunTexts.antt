@@ -169,17 +169,19 @@ module _ (r : RunWords) (table : List ℕ) (captures : List (List ℕ)) (nano : 
   run_stops (ReadFault input) stops = absurd stops
   run_stops (TooLong input) stops = absurd stops
   run_stops (Refused fault) stops = absurd stops
-  run_stops (JournalTooLong size) stops = (stops.0, record {
-    plan = plan;
-    slots = slots;
-    run = record { planned = ran.planned; ends = ran.ran.left.ends };
-    size_is = stops.1 ∙ ap (λ (file : JournalFile). length (file_text file)) (file_is plan outcome ran.ran.left);
-    longer = stops.2;
-  })
+  run_stops (JournalTooLong size) stops = (
+    stops.0,
+    record {
+      plan = plan;
+      slots = slots;
+      run = record { planned = ran.planned; ends = ran.ran.left.ends };
+      size_is = stops.1 ∙ ap (λ (file : JournalFile). length (file_text file)) (file_is plan outcome ran.ran.left);
+      longer = stops.2;
+    },
+  )
   run_stops OutOfMemory stops = tt
   run_stops (WriteFault written) stops = absurd stops
   run_stops (Checked ending) stops = absurd stops
-
 
 module _ (g : GenJob) (table : List ℕ) (captures : List (List ℕ)) (nano : Bool) (link : Link) (outcome : Outcome) (reference : Option (List ℕ)) (ran : IsRan g.settings false table captures nano link outcome reference) where
   -- the summary of a run, alone: the texts of the outputs and the report are those of the run, and are not written

@@ -32,11 +32,7 @@ pub(crate) struct JobTexts {
 }
 
 // The files of the outputs, in order: `PREFIX.j.pcap` is that of output `j`.
-fn named(
-    alloc: Global,
-    prefix: &str,
-    outputs: Vec<Vec<u8>>,
-) -> Result<Vec<OutputFile>, AllocError>
+fn named(alloc: Global, prefix: &str, outputs: Vec<Vec<u8>>) -> Result<Vec<OutputFile>, AllocError>
     ensures { IfOk result (λ v. map shown v.items ≡ files_from prefix.now 0 (bytes_of_files outputs)) }
 {
     let mut files = Vec::new(alloc);
@@ -49,11 +45,7 @@ fn named(
 }
 
 // The file of the report, `PREFIX.report`.
-fn report_file(
-    alloc: Global,
-    prefix: &str,
-    report: String,
-) -> Result<OutputFile, AllocError>
+fn report_file(alloc: Global, prefix: &str, report: String) -> Result<OutputFile, AllocError>
     ensures { IfOk result (λ file. shown file ≡ record { name = report_name prefix.now; bytes = string_bytes report }) }
 {
     let name = format!(in alloc; "{prefix}.report")?;
@@ -64,11 +56,7 @@ fn report_file(
 }
 
 // The file of the journal, `PREFIX.journal`.
-fn journal_file(
-    alloc: Global,
-    prefix: &str,
-    bytes: Vec<u8>,
-) -> Result<OutputFile, AllocError>
+fn journal_file(alloc: Global, prefix: &str, bytes: Vec<u8>) -> Result<OutputFile, AllocError>
     ensures { IfOk result (λ file. shown file ≡ record { name = journal_name prefix.now; bytes = bytes.items }) }
 {
     let name = format!(in alloc; "{prefix}.journal")?;

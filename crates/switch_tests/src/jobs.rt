@@ -214,7 +214,16 @@ const RAW_JOBS: [RawJob<'static>; 8] = [
     RawJob {
         texts: Texts {
             words: &[
-                "run", "--rounds", "1", "--slots", "--reference", "t", "out", "a", "b", "c",
+                "run",
+                "--rounds",
+                "1",
+                "--slots",
+                "--reference",
+                "t",
+                "out",
+                "a",
+                "b",
+                "c",
             ],
             table: TWO_ROUTES,
             summary: "ports 3\nrounds 1\ndepth 131072\nslots 7\npackets 10\noversize 0\n\

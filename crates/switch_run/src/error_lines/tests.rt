@@ -214,7 +214,11 @@ fn unlawful_journals_print_their_lines(rt: HostRuntime) -> Result<(), test::Fail
     let rows = [
         (7, Reason::AfterEnd, "no: slot 7 after end\n"),
         (4, Reason::More { card: 1 }, "no: slot 4 more of card 1\n"),
-        (4, Reason::Keeps { card: 63 }, "no: slot 4 keeps of card 63\n"),
+        (
+            4,
+            Reason::Keeps { card: 63 },
+            "no: slot 4 keeps of card 63\n",
+        ),
         (0, Reason::Output { output: 0 }, "no: slot 0 output 0\n"),
         (5, Reason::NoEnd, "no: slot 5 no end\n"),
     ];
