@@ -4,11 +4,14 @@
 use card_worker::OpenGate;
 use outside::DiskFiles;
 use std::process::ExitCode;
-use std::{env, io};
+use std::{env, fs, io};
 use switch_run::switch_main;
 
 /// The status where the runtime does not give the words.
 const NO_WORDS: u8 = 1;
+
+// A folder that is always there. It is open for reading alone, so nothing can be written to it.
+const HELD: &str = "/";
 
 // The words after the program's name.
 fn words<R: env::Env + AllocGlobal>(rt: &R) -> io::Result<Vec<String>> {
@@ -16,6 +19,13 @@ fn words<R: env::Env + AllocGlobal>(rt: &R) -> io::Result<Vec<String>> {
 }
 
 fn main(rt: HostRuntime) -> ExitCode {
+    // The next file to be opened takes the number of a standard stream that is closed, and would be given what
+    // the stream is given. So these numbers are taken first, and a call on a closed stream is refused.
+    let _held = [
+        fs::open(&rt, HELD).ok(),
+        fs::open(&rt, HELD).ok(),
+        fs::open(&rt, HELD).ok(),
+    ];
     let Ok(words) = words(&rt) else {
         return ExitCode::from(NO_WORDS);
     };
