@@ -1,23 +1,27 @@
 //! Jobs as the rows state them.
 use std::alloc::{AllocError, Global};
-use switch_words::{GenJob, Job, RunJob, Settings};
+use switch_words::{CheckJob, FirmJob, GenJob, Job, RunJob, Settings};
 
 /// A command with its settings.
 pub fn job_text(alloc: Global, job: &Job) -> Result<String, AllocError> {
     match job {
         Job::Run(job) => run_text(alloc, job),
         Job::Gen(job) => gen_text(alloc, job),
+        Job::Check(job) => check_text(alloc, job),
+        Job::Firm(job) => firm_text(alloc, job),
     }
 }
 
 fn run_text(alloc: Global, job: &RunJob) -> Result<String, AllocError> {
     let settings = settings_text(alloc, job.settings)?;
     let slots = u32::from(job.slots);
+    let journal = u32::from(job.journal);
+    let reference = u32::from(job.reference);
     let table = job.table.as_str();
     let prefix = job.prefix.as_str();
     let inputs = list_text(alloc, job.inputs.as_slice())?;
     format!(in alloc;
-        "run {settings} slots={slots} journal=0 reference=0 table={table:?} prefix={prefix:?} inputs={inputs}"
+        "run {settings} slots={slots} journal={journal} reference={reference} table={table:?} prefix={prefix:?} inputs={inputs}"
     )
 }
 
@@ -27,6 +31,18 @@ fn gen_text(alloc: Global, job: &GenJob) -> Result<String, AllocError> {
     let count = job.count;
     let ports = job.ports;
     format!(in alloc; "gen {settings} seed={seed} count={count} ports={ports}")
+}
+
+fn check_text(alloc: Global, job: &CheckJob) -> Result<String, AllocError> {
+    let file = job.file.as_str();
+    format!(in alloc; "check file={file:?}")
+}
+
+fn firm_text(alloc: Global, job: &FirmJob) -> Result<String, AllocError> {
+    let settings = settings_text(alloc, job.settings)?;
+    let table = job.table.as_str();
+    let inputs = list_text(alloc, job.inputs.as_slice())?;
+    format!(in alloc; "firm {settings} table={table:?} inputs={inputs}")
 }
 
 fn settings_text(alloc: Global, settings: Settings) -> Result<String, AllocError> {

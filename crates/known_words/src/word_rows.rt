@@ -7,8 +7,9 @@ use vector_rows::{NoAnswer, Row};
 
 const USAGE: &str = "usage";
 
-// Begins a line of which the words are a job only with commands and flags that are not built yet.
-const NOT_BUILT: &str = "? ";
+// Begins a line of which the words are a job only with the commands `check` and `firm` and with the
+// flags `--journal` and `--reference`.
+const LATER: &str = "? ";
 
 // Where a letter of a list of words stands.
 #[derive(Clone, Copy)]
@@ -20,15 +21,9 @@ enum Place {
 
 /// The row that a line is.
 pub fn row(alloc: Global, line: &str) -> Result<Row, AllocError> {
-    let (line, is_built) = match line.strip_prefix(NOT_BUILT) {
-        Some(rest) => (rest, false),
-        None => (line, true),
-    };
+    let line = line.strip_prefix(LATER).unwrap_or(line);
     match line.split_once("=> ") {
-        Some((words, stated)) => {
-            let stated = if is_built { stated } else { USAGE };
-            Row::new(alloc, stated, answer(alloc, words))
-        }
+        Some((words, stated)) => Row::new(alloc, stated, answer(alloc, words)),
         None => Row::unread(alloc, line),
     }
 }

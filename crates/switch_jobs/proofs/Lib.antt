@@ -1,10 +1,10 @@
 mod Records
-mod Members
+pub mod Members
 mod Planning
-mod Adding
-mod Disbanded
-mod Serving
-mod Leaving
+pub mod Adding
+pub mod Disbanded
+pub mod Serving
+pub mod Leaving
 mod Made
-mod Limits
-mod Finishing
+pub mod Limits
+pub mod Finishing

@@ -4,12 +4,12 @@ use Rattle.std.specs.Prelude.{All, IfSome, option_map, codes, decimal}
 use Rattle.std.proofs.lemmas.Fmt.{decimal_injective}
 use Rattle.std.proofs.lemmas.List.{append_cancel_left, append_cancel_right}
 use Rattle.std.proofs.lemmas.List.Elements.{All-head, All-tail}
-use Rattle.outside.specs.Contents.{Contents, begin_file}
+use Rattle.outside.specs.Contents.{Contents, append_out, begin_file}
 use Rattle.outside.specs.WholeFiles.{NamedBytes, put_file}
 use Rattle.outside.proofs.Effects.{file-append_file-begin_file, file-append_file-other, file-begin_file-other}
-use Rattle.switch_words.specs.Reading.{JobWords, run, gen, RunWords}
+use Rattle.switch_words.specs.Reading.{JobWords, run, gen, check, firm, RunWords}
 use Rattle.switch_run.specs.Switched.{Texts}
-use Rattle.switch_run.specs.OutputFiles.{HoldsTexts, files_from, output_name, report_name, put_files, put_texts, run_files}
+use Rattle.switch_run.specs.OutputFiles.{HoldsTexts, files_from, files_of, journal_files, journal_name, output_name, report_name, put_files, put_texts, run_files}
 
 -- ---- names
 
@@ -31,15 +31,33 @@ output_is_no_report prefix j same =
     let dotted : codes "." ++ (decimal j ++ codes ".pcap") ≡ codes "." ++ codes "report" = append_cancel_left prefix _ _ same in
     ends_otherwise (decimal j) (append_cancel_left (codes ".") _ _ dotted)
 
+report_is_no_journal : (prefix : List ℕ) → report_name prefix ≢ journal_name prefix
+report_is_no_journal prefix same =
+    let names : codes ".report" ≡ codes ".journal" = append_cancel_left prefix _ _ same in
+    let second = ap (λ xs. get_or xs 1 0) names in
+    omega (arith, second)
+
+ends_no_journal : (digits : List ℕ) → digits ++ codes ".pcap" ≡ codes "journal" → ⊥
+ends_no_journal [] same = let first = ap (λ xs. get_or xs 0 0) same in absurd (omega (arith, first))
+ends_no_journal (x ∷ []) same = let second = ap (λ xs. get_or xs 1 0) same in absurd (omega (arith, second))
+ends_no_journal (x ∷ y ∷ []) same = let third = ap (λ xs. get_or xs 2 0) same in absurd (omega (arith, third))
+ends_no_journal (x ∷ y ∷ z ∷ rest) same = let long = ap length same in absurd (omega (arith, long, length-append rest (codes ".pcap")))
+
+-- no output has the name of the journal
+output_is_no_journal : (prefix : List ℕ) (j : ℕ) → output_name prefix j ≢ journal_name prefix
+output_is_no_journal prefix j same =
+    let dotted : codes "." ++ (decimal j ++ codes ".pcap") ≡ codes "." ++ codes "journal" = append_cancel_left prefix _ _ same in
+    ends_no_journal (decimal j) (append_cancel_left (codes ".") _ _ dotted)
+
 -- ---- files that are put
 
 pub length-files_from : (prefix : List ℕ) (j : ℕ) (outputs : List (List ℕ)) → length (files_from prefix j outputs) ≡ length outputs
 length-files_from prefix j [] = refl
 length-files_from prefix j (bytes ∷ more) = ap suc (length-files_from prefix (j + 1) more)
 
-put_push : (files : List NamedBytes) (f : NamedBytes) (c : Contents) → put_files (files ++ f ∷ []) c ≡ put_file (put_files files c) f
-put_push [] f c = refl
-put_push (first ∷ more) f c = put_push more f (put_file c first)
+put_append : (files more : List NamedBytes) (c : Contents) → put_files (files ++ more) c ≡ put_files more (put_files files c)
+put_append [] more c = refl
+put_append (first ∷ rest) more c = put_append rest more (put_file c first)
 
 -- a name that is none of theirs finds what it found
 others_put : (files : List NamedBytes) (c : Contents) (name : List ℕ) → All (λ file. file.name ≢ name) files → (put_files files c).file name ≡ c.file name
@@ -86,8 +104,19 @@ each_from prefix j (bytes ∷ more) c (suc i) within fits =
 abbrev report_of : RunWords → Texts → NamedBytes
 report_of r texts = record { name = report_name r.prefix; bytes = texts.report }
 
-file_after : (r : RunWords) (texts : Texts) (c : Contents) (name : List ℕ) → (put_texts (run r) texts c).file name ≡ (put_file (put_files (files_from r.prefix 0 texts.outputs) c) (report_of r texts)).file name
-file_after r texts c name = ap (λ (d : Contents). d.file name) (put_push (files_from r.prefix 0 texts.outputs) (report_of r texts) c)
+-- what stands after the outputs and the report
+abbrev after_report : RunWords → Texts → Contents → Contents
+after_report r texts c = put_file (put_files (files_from r.prefix 0 texts.outputs) c) (report_of r texts)
+
+file_after : (r : RunWords) (texts : Texts) (c : Contents) (name : List ℕ) → (put_texts (run r) texts c).file name ≡ (put_files (journal_files r.prefix texts.journal) (after_report r texts c)).file name
+file_after r texts c name = ap (λ (d : Contents). d.file name) (put_append (files_from r.prefix 0 texts.outputs) (report_of r texts ∷ journal_files r.prefix texts.journal) c)
+
+-- the journal's file leaves the others
+journal_leaves : (prefix : List ℕ) (journal : Option (List ℕ)) (c : Contents) (name : List ℕ) → name ≢ journal_name prefix → (put_files (journal_files prefix journal) c).file name ≡ c.file name
+journal_leaves prefix None c name other = refl
+journal_leaves prefix (Some bytes) c name other =
+    file-append_file-other (journal_name prefix) bytes name (begin_file (journal_name prefix) c) other
+    ∙ file-begin_file-other (journal_name prefix) name c other
 
 output_held : (r : RunWords) (texts : Texts) (c : Contents) (j : ℕ) → length texts.outputs ≤ 2 ^ 64 → j < length texts.outputs → (put_texts (run r) texts c).file (output_name r.prefix j) ≡ Some (get_or texts.outputs j [])
 output_held r texts c j fits within =
@@ -95,34 +124,58 @@ output_held r texts c j fits within =
     let files = put_files (files_from r.prefix 0 texts.outputs) c in
     let other = output_is_no_report r.prefix j in
     file_after r texts c (output_name r.prefix j)
+    ∙ journal_leaves r.prefix texts.journal (after_report r texts c) (output_name r.prefix j) (output_is_no_journal r.prefix j)
     ∙ file-append_file-other (report_name r.prefix) texts.report (output_name r.prefix j) (begin_file (report_name r.prefix) files) other
     ∙ file-begin_file-other (report_name r.prefix) (output_name r.prefix j) files other
     ∙ (rw n at (each_from r.prefix 0 texts.outputs c j within (omega arith)))
 
 report_held : (r : RunWords) (texts : Texts) (c : Contents) → (put_texts (run r) texts c).file (report_name r.prefix) ≡ Some texts.report
-report_held r texts c = file_after r texts c (report_name r.prefix) ∙ file-append_file-begin_file (report_name r.prefix) texts.report (put_files (files_from r.prefix 0 texts.outputs) c)
+report_held r texts c =
+    file_after r texts c (report_name r.prefix)
+    ∙ journal_leaves r.prefix texts.journal (after_report r texts c) (report_name r.prefix) (report_is_no_journal r.prefix)
+    ∙ file-append_file-begin_file (report_name r.prefix) texts.report (put_files (files_from r.prefix 0 texts.outputs) c)
+
+journal_held : (r : RunWords) (texts : Texts) (c : Contents) (bytes : List ℕ) → texts.journal ≡ Some bytes → (put_texts (run r) texts c).file (journal_name r.prefix) ≡ Some bytes
+journal_held r texts c bytes is =
+    file_after r texts c (journal_name r.prefix)
+    ∙ ap (λ (journal : Option (List ℕ)). (put_files (journal_files r.prefix journal) (after_report r texts c)).file (journal_name r.prefix)) is
+    ∙ file-append_file-begin_file (journal_name r.prefix) bytes (after_report r texts c)
 
 same_run : (r s : RunWords) → run r ≡ run s → s ≡ r
 same_run r s same = cc
 
-run_is_no_gen : (r : RunWords) (job : JobWords) → job ≡ run r → (g : _) → job ≡ gen g → ⊥
-run_is_no_gen r job is g other = absurd (cc)
+-- a job that writes no files leaves them all
+holds_alone : (job : JobWords) (texts : Texts) (c : Contents) → ((r : RunWords) → job ≡ run r → ⊥) → HoldsTexts job texts c (append_out texts.summary c)
+holds_alone job texts c other = record {
+  outputs = λ s j is within. absurd (other s is);
+  report = λ s is. absurd (other s is);
+  journal = λ s bytes is found. absurd (other s is);
+  others = λ name none. refl;
+  out = refl;
+  err = refl;
+}
+
+pub gen_is_no_run : (g : _) (r : RunWords) → gen g ≡ run r → ⊥
+gen_is_no_run g r is = absurd (cc)
+
+pub check_is_no_run : (file : List ℕ) (r : RunWords) → check file ≡ run r → ⊥
+check_is_no_run file r is = absurd (cc)
+
+pub firm_is_no_run : (f : _) (r : RunWords) → firm f ≡ run r → ⊥
+firm_is_no_run f r is = absurd (cc)
 
 pub holds : (job : JobWords) (texts : Texts) (c : Contents) → length texts.outputs ≤ 2 ^ 64 → HoldsTexts job texts c (put_texts job texts c)
 holds (run r) texts c fits = record {
   outputs = λ s j is within. rw (same_run r s is) (output_held r texts c j fits within);
   report = λ s is. rw (same_run r s is) (report_held r texts c);
+  journal = λ s bytes is found. rw (same_run r s is) (journal_held r texts c bytes found);
   others = λ name other. others_put (run_files r.prefix texts) c name other;
   out = ap (λ out. out ++ texts.summary) (out_put (run_files r.prefix texts) c);
   err = err_put (run_files r.prefix texts) c;
 }
-holds (gen g) texts c fits = record {
-  outputs = λ s j is within. absurd (run_is_no_gen s (gen g) is g refl);
-  report = λ s is. absurd (run_is_no_gen s (gen g) is g refl);
-  others = λ name other. refl;
-  out = refl;
-  err = refl;
-}
+holds (gen g) texts c fits = holds_alone (gen g) texts c (gen_is_no_run g)
+holds (check file) texts c fits = holds_alone (check file) texts c (check_is_no_run file)
+holds (firm f) texts c fits = holds_alone (firm f) texts c (firm_is_no_run f)
 
 pub holds_told : (job : JobWords) (texts : Texts) (old new : Option Contents) → length texts.outputs ≤ 2 ^ 64 → new ≡ option_map (put_texts job texts) old → IfSome old (λ c. IfSome new (HoldsTexts job texts c))
 holds_told job texts None new fits written = tt

@@ -9,3 +9,5 @@ pub mod Cutting
 pub mod MadeSizes
 pub mod RunTexts
 pub mod OnePlan
+pub mod Checking
+pub mod Noting

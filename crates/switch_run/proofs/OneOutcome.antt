@@ -17,7 +17,10 @@ use Rattle.switch_plan.specs.declared.fault.PlanFault.{PlanFault}
 use Rattle.switch_plan.specs.declared.fault.PlanFault.TheVariants.{Table, Capture, MixedLink, TooManySlots, TooManyCells, OutOfMemory}
 use Rattle.switch_plan.specs.Traffic.{CaptureFile, IsFile, AreFiles}
 use Rattle.switch_plan.specs.Refusals.{AreRead, IsFirstFault, IsRefusal, IsRefusedWhenRead, refusal_of}
-use Rattle.switch_run.specs.Switched.{Texts, IsSwitched}
+use Rattle.switch_words.specs.Reading.{JobWords, run, gen, check, firm}
+use Rattle.switch_plan.specs.GoodPlans.{SwitchPlan}
+use Rattle.switch_run.specs.Jobs.{pace_in}
+use Rattle.switch_run.specs.Switched.{Texts, AreTexts, IsLongJournal, IsPlanned}
 
 -- a capture of no packets, to read a list of captures
 no_capture : CaptureFile
@@ -154,6 +157,17 @@ module _ (pace_us : Option ℕ) (text : List ℕ) (files : List (List ℕ)) wher
   refused_or_allowed (TooManyCells cells) p q = read_or_allowed (TooManyCells cells) p q
   refused_or_allowed OutOfMemory p q = p
 
+-- a plan of a table and captures is made only where nothing refuses them
+not_planned : (settings : Settings) (text : List ℕ) (files : List (List ℕ)) (a : PlanFault) (plan : SwitchPlan) → IsRefusal settings.pace_us text files a → IsPlanned settings text files plan → ⊥
+not_planned settings text files a plan p q = refused_or_allowed settings.pace_us text files a p (record { lines = q.lines; captures = q.captures; read = q.read; allowed = q.allowed })
+
+-- the journal of a job that is refused is not too long
+pub not_long : (settings : Settings) (text : List ℕ) (files : List (List ℕ)) (a : PlanFault) (size : ℕ) → IsRefusal settings.pace_us text files a → IsLongJournal settings text files size → ⊥
+not_long settings text files a size p q = not_planned settings text files a q.plan p q.run.planned
+
 -- a job that is refused makes no texts
-pub not_made : (settings : Settings) (wanted : Bool) (text : List ℕ) (files : List (List ℕ)) (a : PlanFault) (texts : Texts) → IsRefusal settings.pace_us text files a → IsSwitched settings wanted text files texts → ⊥
-not_made settings wanted text files a texts p q = refused_or_allowed settings.pace_us text files a p (record { lines = q.run.lines; captures = q.run.captures; read = q.run.read; allowed = q.run.allowed })
+pub not_made : (job : JobWords) (text : List ℕ) (files : List (List ℕ)) (a : PlanFault) (texts : Texts) → IsRefusal (pace_in job) text files a → AreTexts job text files texts → ⊥
+not_made (run r) text files a texts p q = not_planned r.settings text files a q.plan p q.run.planned
+not_made (gen g) text files a texts p q = not_planned g.settings text files a q.plan p q.run.planned
+not_made (check file) text files a texts p q = q
+not_made (firm f) text files a texts p q = not_planned f.settings text files a q.plan p q.planned

@@ -1,6 +1,6 @@
 -- A job has one plan, a plan has one length of its run, and so a job makes one list of texts.
-use Rattle.std.proofs.Common.{◌≡◌, ◌<◌, ◌∙◌, ℕ, zero, suc, Bool, true, false, List, [], ◌∷◌, map, length, get_or, refl, sym, ap, subst, inl, inr, arith}
-use Rattle.std.specs.Prelude.{◌||◌}
+use Rattle.std.proofs.Common.{◌≡◌, ◌<◌, ◌≤◌, ◌∙◌, ℕ, zero, suc, Bool, true, false, List, [], ◌∷◌, map, length, get_or, Option, Some, None, refl, sym, ap, subst, inl, inr, arith}
+use Rattle.std.specs.Prelude.{◌||◌, IfSome, if◌then◌else◌}
 use Rattle.std.proofs.lemmas.Bool.{cases_eq, cases_lt}
 use Rattle.std.proofs.lemmas.List.{get_or-map, get_or_default, length-map, same_lists}
 use Rattle.std.proofs.lemmas.Option.{slice_get-get_or}
@@ -14,9 +14,18 @@ use Rattle.switch_words.specs.declared.job.Settings.{Settings}
 use Rattle.switch_plan.specs.Traffic.{CaptureFile, unplaced}
 use Rattle.switch_plan.specs.Totals.{body_room_for, max_slots_of, packet_room_for, sizes_for}
 use Rattle.switch_plan.specs.GoodPlans.{SwitchPlan, IsCardOf, IsGood, IsPlanOf, packets_in}
-use Rattle.whole_run.specs.Runs.{no_plan, ports_of, posts_in}
-use Rattle.whole_run.specs.Ends.{IsLength}
-use Rattle.switch_run.specs.Switched.{Texts, IsRunOf, IsSwitched, texts_of}
+use Rattle.eslip_rounds.specs.Schedulers.{Scheduler}
+use Rattle.eslip_rounds.specs.Decisions.{decision_of}
+use Rattle.firm_rounds.specs.Decisions.{firm_decision}
+use Rattle.slot_report.specs.declared.summary.Summary.{Summary}
+use Rattle.journal_check.specs.declared.limits.TheConstants.{MAX_JOURNAL_BYTES}
+use Rattle.switch_words.specs.Reading.{JobWords, run, gen, check, firm, RunWords}
+use Rattle.whole_run.specs.Runs.{no_plan, ports_of, posts_under}
+use Rattle.whole_run.specs.Ends.{IsLength, IsLengthUnder}
+use Rattle.switch_jobs.specs.Outcomes.{summary_under}
+use Rattle.firm_run.specs.FirmRuns.{IsFirmRun}
+use Rattle.switch_run.specs.Jobs.{Wanted, wanted_by, nothing_wanted}
+use Rattle.switch_run.specs.Switched.{Texts, AreTexts, IsLongJournal, IsPlanned, IsRunOf, IsSwitched, IsSwitchedByFirm, firm_texts, journal_text, texts_of}
 use Rattle.switch_run.proofs.OneOutcome.{same_captures, same_table}
 
 -- ---- the length of a run
@@ -38,14 +47,15 @@ module _ (n : ℕ) (posts : ℕ → ℕ → Post) where
     | inr other ↦ stays_done (is_done_before n posts m) (is_done_at n posts m) (done_earlier k m (omega arith) is)
   ]
 
-first_done : (plan : SwitchPlan) (a b : ℕ) → (p : IsLength plan a) → (q : IsLength plan b) → p.last < q.last → ⊥
-first_done plan a b p q less = let before = done_earlier (ports_of plan) (posts_in plan) p.last q.last less p.done in let going = q.going in absurd (cc)
+module _ (scheduler : Scheduler) (plan : SwitchPlan) where
+  first_done : (a b : ℕ) → (p : IsLengthUnder scheduler plan a) → (q : IsLengthUnder scheduler plan b) → p.last < q.last → ⊥
+  first_done a b p q less = let before = done_earlier (ports_of plan) (posts_under scheduler plan) p.last q.last less p.done in let going = q.going in absurd (cc)
 
-lengths_once : (plan : SwitchPlan) (a b : ℕ) → IsLength plan a → IsLength plan b → a ≡ b
-lengths_once plan a b p q = elim (cases_lt p.last q.last) [
-  | inl less ↦ absurd (first_done plan a b p q less)
-  | inr not_less ↦ elim (cases_lt q.last p.last) [ inl more ↦ absurd (first_done plan b a q p more) | inr not_more ↦ omega (arith, not_less, not_more, p.count, q.count) ]
-]
+  lengths_once : (a b : ℕ) → IsLengthUnder scheduler plan a → IsLengthUnder scheduler plan b → a ≡ b
+  lengths_once a b p q = elim (cases_lt p.last q.last) [
+    | inl less ↦ absurd (first_done a b p q less)
+    | inr not_less ↦ elim (cases_lt q.last p.last) [ inl more ↦ absurd (first_done b a q p more) | inr not_more ↦ omega (arith, not_less, not_more, p.count, q.count) ]
+  ]
 
 -- ---- the packets of a plan
 
@@ -158,17 +168,53 @@ module _ (settings : Settings) (files : List (List ℕ)) (table : List RouteLine
 
 -- ---- texts
 
--- the run of a job is one
-same_plan : (settings : Settings) (table : List ℕ) (files : List (List ℕ)) (p q : SwitchPlan) (s t : ℕ) → IsRunOf settings table files p s → IsRunOf settings table files q t → p ≡ q
-same_plan settings table files p q s t a b =
+-- the plan of a job is one
+same_plan : (settings : Settings) (table : List ℕ) (files : List (List ℕ)) (p q : SwitchPlan) → IsPlanned settings table files p → IsPlanned settings table files q → p ≡ q
+same_plan settings table files p q a b =
     let lines = same_table table files a.lines b.lines a.captures b.captures a.read b.read in
     let captures = same_captures table files a.lines b.lines a.captures b.captures a.read b.read in
     let planned = subst (λ (read : List CaptureFile). IsPlanOf settings files b.lines read q) (sym captures) b.planned in
     plans_once settings files a.lines a.captures p q a.planned (subst (λ (read : List RouteLine). IsPlanOf settings files read a.captures q) (sym lines) planned) a.good b.good
 
+-- the run of a job is one
+same_run : (settings : Settings) (table : List ℕ) (files : List (List ℕ)) (p q : SwitchPlan) (s t : ℕ) → IsRunOf settings table files p s → IsRunOf settings table files q t → (p ≡ q) × (s ≡ t)
+same_run settings table files p q s t a b =
+    let plan = same_plan settings table files p q a.planned b.planned in
+    (plan, lengths_once decision_of q s t (subst (λ (plan : SwitchPlan). IsLength plan s) plan a.ends) b.ends)
+
+switched_once : (settings : Settings) (wanted : Wanted) (table : List ℕ) (files : List (List ℕ)) (a b : Texts) → IsSwitched settings wanted table files a → IsSwitched settings wanted table files b → a ≡ b
+switched_once settings wanted table files a b p q =
+    let same = same_run settings table files p.plan q.plan p.slots q.slots p.run q.run in
+    p.are ∙ ap (λ (plan : SwitchPlan). texts_of wanted plan p.slots) same.0 ∙ ap (texts_of wanted q.plan) same.1 ∙ sym q.are
+
+-- the numbers of a run under the second scheduler are one
+firm_runs_once : (plan : SwitchPlan) (a b : Summary) → IsFirmRun plan a → IsFirmRun plan b → a ≡ b
+firm_runs_once plan a b p q = p.numbers ∙ ap (summary_under firm_decision plan) (lengths_once firm_decision plan a.slots b.slots p.ends q.ends) ∙ sym q.numbers
+
+firm_once : (settings : Settings) (table : List ℕ) (files : List (List ℕ)) (a b : Texts) → IsSwitchedByFirm settings table files a → IsSwitchedByFirm settings table files b → a ≡ b
+firm_once settings table files a b p q =
+    let plan = same_plan settings table files p.plan q.plan p.planned q.planned in
+    let numbers = firm_runs_once q.plan p.summary q.summary (subst (λ (plan : SwitchPlan). IsFirmRun plan p.summary) plan p.run) q.run in
+    p.are ∙ ap firm_texts numbers ∙ sym q.are
+
 -- a job makes one list of texts
-pub texts_once : (settings : Settings) (wanted : Bool) (table : List ℕ) (files : List (List ℕ)) (a b : Texts) → IsSwitched settings wanted table files a → IsSwitched settings wanted table files b → a ≡ b
-texts_once settings wanted table files a b p q =
-    let plan = same_plan settings table files p.plan q.plan p.slots q.slots p.run q.run in
-    let slots = lengths_once q.plan p.slots q.slots (subst (λ (plan : SwitchPlan). IsLength plan p.slots) plan p.run.ends) q.run.ends in
-    p.are ∙ ap (λ (plan : SwitchPlan). texts_of wanted plan p.slots) plan ∙ ap (texts_of wanted q.plan) slots ∙ sym q.are
+pub texts_once : (job : JobWords) (table : List ℕ) (files : List (List ℕ)) (a b : Texts) → AreTexts job table files a → AreTexts job table files b → a ≡ b
+texts_once (run r) table files a b p q = switched_once r.settings (wanted_by r) table files a b p q
+texts_once (gen g) table files a b p q = switched_once g.settings nothing_wanted table files a b p q
+texts_once (check file) table files a b p q = absurd p
+texts_once (firm f) table files a b p q = firm_once f.settings table files a b p q
+
+-- a journal that is too long has one size
+pub long_once : (settings : Settings) (table : List ℕ) (files : List (List ℕ)) (a b : ℕ) → IsLongJournal settings table files a → IsLongJournal settings table files b → a ≡ b
+long_once settings table files a b p q =
+    let same = same_run settings table files p.plan q.plan p.slots q.slots p.run q.run in
+    p.size_is ∙ ap (λ (plan : SwitchPlan). length (journal_text plan p.slots)) same.0 ∙ ap (λ (slots : ℕ). length (journal_text q.plan slots)) same.1 ∙ sym q.size_is
+
+-- and where texts were made of it, it was not wanted
+pub long_not_made : (r : RunWords) (table : List ℕ) (files : List (List ℕ)) (texts : Texts) (size : ℕ) → r.journal ≡ true → IsSwitched r.settings (wanted_by r) table files texts → IsLongJournal r.settings table files size → ⊥
+long_not_made r table files texts size wanted p q =
+    let same = same_run r.settings table files q.plan p.plan q.slots p.slots q.run p.run in
+    let size_is : size ≡ length (journal_text p.plan p.slots) = q.size_is ∙ ap (λ (plan : SwitchPlan). length (journal_text plan q.slots)) same.0 ∙ ap (λ (slots : ℕ). length (journal_text p.plan slots)) same.1 in
+    let there : texts.journal ≡ Some (journal_text p.plan p.slots) = ap (λ (t : Texts). t.journal) p.are ∙ ap (λ (b : Bool). if b then Some (journal_text p.plan p.slots) else None) wanted in
+    let small = subst (λ (o : Option (List ℕ)). IfSome o (λ bytes. length bytes ≤ MAX_JOURNAL_BYTES)) there p.small in
+    omega (arith, small, size_is, q.longer)

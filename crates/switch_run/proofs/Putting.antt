@@ -2,7 +2,7 @@
 use Rattle.std.proofs.Common.{◌≡◌, ◌<◌, ◌+◌, ℕ, suc, List, [], ◌∷◌, ◌++◌, map, take, length, get_or, Option, Some, None, inl, inr, refl, sym, ◌∙◌, ap, subst, arith}
 use Rattle.std.specs.Prelude.{Result, Ok, Err, is_err, is_ok, true, false, if◌then◌else◌, option_map, string_bytes}
 use Rattle.std.proofs.lemmas.List.{get_or-map, length-map, map_push}
-use Rattle.std.proofs.lemmas.Bool.Decides.{eqb_tells}
+use Rattle.std.proofs.lemmas.Bool.Decides.{eqb_tells, ltb_tells}
 use Rattle.std.proofs.lemmas.List.Sums.{fold_more}
 use Rattle.outside.specs.Contents.{Contents}
 use Rattle.outside.specs.Faults.{Place, NeverFall}
@@ -11,7 +11,7 @@ use Rattle.outside.proofs.Counting.{NeverFall-refl}
 use Rattle.outside.proofs.Putting.{StopsAt-wider}
 use Rattle.outside.proofs.Effects.{option_map-option_map}
 use Rattle.switch_run.specs.OutputFiles.{files_from, nameless, output_name, put_files, shown}
-use Rattle.switch_run.specs.Making.{StopsPutting, written_at}
+use Rattle.switch_run.specs.Making.{StopsAtPlace, StopsPutting, written_at}
 use Rattle.switch_run.specs.declared.output_files.OutputFile.{OutputFile}
 use Rattle.switch_run.proofs.Holding.{length-files_from}
 
@@ -71,10 +71,13 @@ puts_of r f name bytes a d o new name_is bytes_is puts =
     subst (λ (n : List ℕ). Puts r (record { name = n; bytes = f.bytes }) a d o new) name_is
     (subst (λ (bs : List ℕ). Puts r (record { name = name; bytes = bs }) a d o new) bytes_is puts)
 
--- a call on the file at a place, of which the report's is the last, was refused
-pub stops_at_place : (files : List NamedBytes) (text : List ℕ) (place n : ℕ) (old told : Option Contents) (was now : Place → ℕ) → n ≡ length files → place < length files
-    → StopsAt (get_or files place nameless) was now (option_map (put_files (take place files)) old) told → StopsPutting files text (written_at place n) old was now told
-stops_at_place files text place n old told was now count within stops = elim (eqb_tells (place + 1) n) [
-  | inl last ↦ rw last.0 (place, sym (last.1 ∙ count), record { within = within; stops = stops })
-  | inr other ↦ let differs = other.1 in rw other.0 (omega (arith, differs), record { within = within; stops = stops })
+-- a call on the file at a place, after so many outputs, was refused
+pub stops_at_place : (outputs : ℕ) (files : List NamedBytes) (text : List ℕ) (place : ℕ) (old told : Option Contents) (was now : Place → ℕ) → place < length files
+    → StopsAt (get_or files place nameless) was now (option_map (put_files (take place files)) old) told → StopsPutting outputs files text (written_at place outputs) old was now told
+stops_at_place outputs files text place old told was now within stops = elim (ltb_tells place outputs) [
+  | inl before ↦ rw before.0 (before.1, record { within = within; stops = stops })
+  | inr after ↦ elim (eqb_tells place outputs) [
+    | inl same ↦ rw (after.0, same.0) (subst (λ (n : ℕ). StopsAtPlace files n old was now told) same.1 (record { within = within; stops = stops }))
+    | inr other ↦ let over = after.1 in let differs = other.1 in rw (after.0, other.0) (place, omega (arith, over, differs), record { within = within; stops = stops })
+  ]
 ]

@@ -1,6 +1,6 @@
 -- The texts of a run, from what its cards left.
-use Rattle.std.proofs.Common.{◌≡◌, ◌<◌, ◌+◌, ℕ, Bool, false, List, [], ◌∷◌, ◌++◌, map, length, Some, inl, inr, refl, sym, ◌∙◌, ap, subst, arith, append_assoc}
-use Rattle.std.specs.Prelude.{slice_get, string_bytes, Result, Ok, Err, IfOk}
+use Rattle.std.proofs.Common.{◌≡◌, ◌<◌, ◌≤◌, ◌+◌, ℕ, Bool, true, false, List, [], ◌∷◌, ◌++◌, map, length, Option, Some, None, inl, inr, refl, sym, ◌∙◌, ap, subst, arith, append_assoc}
+use Rattle.std.specs.Prelude.{slice_get, string_bytes, Result, Ok, Err, IfErr, IfOk, IfSome, if◌then◌else◌}
 use Rattle.std.specs.List.{range_with_len}
 use Rattle.std.proofs.lemmas.List.{get_or-map, length-map, map_push, same_lists}
 use Rattle.std.proofs.lemmas.List.FromFn.{get_or-map-range_with_len, length-map-range_with_len}
@@ -15,19 +15,28 @@ use Rattle.slot_report.specs.declared.summary.Summary.{Summary}
 use Rattle.slot_report.specs.Lines.{lines_text}
 use Rattle.slot_report.specs.Texts.{report_lines}
 use Rattle.switch_words.specs.declared.job.Settings.{Settings}
-use Rattle.switch_words.specs.declared.job.RunJob.{RunJob}
 use Rattle.switch_words.specs.declared.job.GenJob.{GenJob}
-use Rattle.switch_words.specs.Reading.{JobWords, run, gen, run_words}
+use Rattle.switch_words.specs.Reading.{FirmWords, RunWords, run, gen, firm}
+use Rattle.slot_report.specs.Texts.{summary_lines}
+use Rattle.board_state.specs.Boards.{JournalValue as CoreJournal}
+use Rattle.slot_board.specs.States.{JournalValue as BoardJournal}
+use Rattle.slot_histories.specs.Events.{Setup}
+use Rattle.journal_check.specs.declared.limits.TheConstants.{MAX_JOURNAL_BYTES}
+use Rattle.journal_check.specs.Files.{JournalFile}
+use Rattle.journal_check.specs.Texts.{file_of, file_slot, file_text}
 use Rattle.switch_plan.specs.GoodPlans.{SwitchPlan}
-use Rattle.whole_run.specs.Runs.{ports_of}
+use Rattle.whole_run.specs.Runs.{ports_of, run_journal, setup_for}
 use Rattle.switch_jobs.specs.declared.outcome.Outcome.{Outcome}
 use Rattle.switch_jobs.specs.Outcomes.{IsOutcome, messages_to, summary_of}
-use Rattle.switch_run.specs.Making.{AreMade, AreTextsOf, HaveMessages, IsRan, line_of_card, slots_told}
-use Rattle.switch_run.specs.Jobs.{settings_in, wants_slots}
-use Rattle.switch_run.specs.OutputFiles.{files_from, report_name, run_files, shown}
-use Rattle.switch_run.specs.Switched.{out_line, texts_of}
-use Rattle.switch_run.specs.declared.output_files.OutputFile.{OutputFile}
-use Rattle.switch_run.specs.declared.output_files.JobTexts.{JobTexts}
+use Rattle.reference_run.specs.RunLines.{run_lines}
+use Rattle.switch_run.specs.Endings.{captures_made}
+use Rattle.switch_run.specs.Making.{AreMade, HaveMessages, IsFirmRan, IsJournalFor, IsRan, StopsJournal, StopsTexts, file_of_board, line_of_card, reference_wanted, slots_told, text_or_none}
+use Rattle.switch_run.specs.Jobs.{Wanted, wanted_by, nothing_wanted}
+use Rattle.switch_run.specs.OutputFiles.{files_from, files_of, journal_files, report_name, run_files}
+use Rattle.switch_run.specs.Switched.{Texts, firm_texts, journal_text, out_line, report_of, run_file, texts_of}
+use Rattle.switch_run.proofs.Holding.{gen_is_no_run, firm_is_no_run}
+use Rattle.switch_run.specs.declared.ending.Ending.{Ending}
+use Rattle.switch_run.specs.declared.ending.Ending.TheVariants.{Done, Usage, ReadFault, TooLong, Refused, JournalTooLong, OutOfMemory, WriteFault, Checked}
 
 -- the line of what is written to the file of an output
 pub output_line : (what prefix digits : List ℕ) (end : List ℕ) → what ++ (prefix ++ (46 ∷ (digits ++ (46 ∷ 112 ∷ 99 ∷ 97 ∷ 112 ∷ end)))) ≡ what ++ ((prefix ++ (46 ∷ (digits ++ (46 ∷ 112 ∷ 99 ∷ 97 ∷ 112 ∷ [])))) ++ end)
@@ -48,6 +57,10 @@ mapped f g xs n count each =
       | inr past ↦ absurd (omega (arith, within, past.0))
     ])
 
+wanted_text : (is_wanted : Bool) (text : List ℕ) → text_or_none (if is_wanted then Some text else None) ≡ (if is_wanted then text else [])
+wanted_text true text = refl
+wanted_text false text = refl
+
 module _ (plan : SwitchPlan) (outcome : Outcome) (left : IsOutcome plan outcome) where
   -- the outputs got the messages of the run
   pub have_messages : HaveMessages (λ j. messages_to plan j left.slots) outcome.outputs.items
@@ -65,63 +78,138 @@ module _ (plan : SwitchPlan) (outcome : Outcome) (left : IsOutcome plan outcome)
   lines_are = mapped line_of_card (out_line plan left.slots) outcome.outputs.items (ports_of plan) left.ports line_at
 
   -- the captures of the outputs are those of the run
-  pub outputs_are : (wanted nano : Bool) (link : Link) (captures : List (List ℕ)) → captures ≡ map (λ j. capture_text nano link (messages_to plan j left.slots)) (range_with_len 0 (length outcome.outputs.items))
-      → nano ≡ plan.nano → link ≡ plan.link → captures ≡ (texts_of wanted plan left.slots).outputs
-  outputs_are wanted nano link captures made nano_is link_is =
+  pub outputs_are : (nano : Bool) (link : Link) (captures : List (List ℕ)) → captures ≡ map (λ j. capture_text nano link (messages_to plan j left.slots)) (range_with_len 0 (length outcome.outputs.items))
+      → nano ≡ plan.nano → link ≡ plan.link → captures ≡ map (λ j. capture_text plan.nano plan.link (messages_to plan j left.slots)) (range_with_len 0 (ports_of plan))
+  outputs_are nano link captures made nano_is link_is =
       made
       ∙ ap (λ (b : Bool). map (λ j. capture_text b link (messages_to plan j left.slots)) (range_with_len 0 (length outcome.outputs.items))) nano_is
       ∙ ap (λ (l : Link). map (λ j. capture_text plan.nano l (messages_to plan j left.slots)) (range_with_len 0 (length outcome.outputs.items))) link_is
       ∙ ap (λ (n : ℕ). map (λ j. capture_text plan.nano plan.link (messages_to plan j left.slots)) (range_with_len 0 n)) left.ports
 
   -- and so is the report
-  pub report_is : (wanted : Bool) (text : List ℕ) → text ≡ lines_text (report_lines outcome.summary (map line_of_card outcome.outputs.items) (slots_told wanted outcome.journal.slots)) → text ≡ (texts_of wanted plan left.slots).report
-  report_is wanted text made =
+  pub report_is : (wanted : Wanted) (text : List ℕ) (reference : Option (List ℕ))
+      → text ≡ lines_text (report_lines outcome.summary (map line_of_card outcome.outputs.items) (slots_told wanted.slots outcome.journal.slots)) ++ text_or_none reference
+      → reference ≡ reference_wanted wanted.reference plan left.slots → text ≡ report_of wanted plan left.slots
+  report_is wanted text reference made reference_is =
       made
-      ∙ ap (λ (s : Summary). lines_text (report_lines s (map line_of_card outcome.outputs.items) (slots_told wanted outcome.journal.slots))) left.summary
-      ∙ ap (λ (lines : List OutLine). lines_text (report_lines (summary_of plan left.slots) lines (slots_told wanted outcome.journal.slots))) lines_are
-      ∙ ap (λ (slots : List JournalSlot). lines_text (report_lines (summary_of plan left.slots) (map (out_line plan left.slots) (range_with_len 0 (ports_of plan))) (slots_told wanted slots))) left.journal
+      ∙ ap (λ (s : Summary). lines_text (report_lines s (map line_of_card outcome.outputs.items) (slots_told wanted.slots outcome.journal.slots)) ++ text_or_none reference) left.summary
+      ∙ ap (λ (lines : List OutLine). lines_text (report_lines (summary_of plan left.slots) lines (slots_told wanted.slots outcome.journal.slots)) ++ text_or_none reference) lines_are
+      ∙ ap (λ (slots : List JournalSlot). lines_text (report_lines (summary_of plan left.slots) (map (out_line plan left.slots) (range_with_len 0 (ports_of plan))) (slots_told wanted.slots slots)) ++ text_or_none reference) left.journal
+      ∙ ap (λ (more : List ℕ). lines_text (report_lines (summary_of plan left.slots) (map (out_line plan left.slots) (range_with_len 0 (ports_of plan))) (slots_told wanted.slots (run_journal plan left.slots))) ++ more)
+      (ap text_or_none reference_is ∙ wanted_text wanted.reference (lines_text (run_lines plan left.slots)))
 
--- the files of the outputs and that of the report
-pub files_made : (prefix : List ℕ) (files : List OutputFile) (f : OutputFile) (new : List OutputFile) (captures outputs : List (List ℕ)) (report text : List ℕ) → new ≡ files ++ f ∷ [] → map shown files ≡ files_from prefix 0 captures
-    → shown f ≡ record { name = report_name prefix; bytes = report } → captures ≡ outputs → report ≡ text → map shown new ≡ files_from prefix 0 outputs ++ record { name = report_name prefix; bytes = text } ∷ []
-files_made prefix files f new captures outputs report text pushed named last outputs_is text_is =
-    ap (map shown) pushed ∙ map_push shown files f
-    ∙ ap (λ (xs : List NamedBytes). xs ++ shown f ∷ []) (named ∙ ap (files_from prefix 0) outputs_is)
-    ∙ ap (λ (one : NamedBytes). files_from prefix 0 outputs ++ one ∷ []) last
-    ∙ ap (λ (bytes : List ℕ). files_from prefix 0 outputs ++ record { name = report_name prefix; bytes = bytes } ∷ []) text_is
+  -- what the board's journal tells is what that of the run tells
+  pub file_is : file_of_board outcome.journal ≡ run_file plan left.slots
+  file_is =
+      let file : Setup → List JournalSlot → JournalFile = λ setup slots. record { ports = setup.ports; rounds = setup.rounds; slots = map file_slot slots } in
+      let same : file outcome.journal.setup outcome.journal.slots ≡ file (setup_for plan) (run_journal plan left.slots) = ap (λ setup. file setup outcome.journal.slots) left.setup ∙ ap (file (setup_for plan)) left.journal in
+      same
+
+  -- the journal, where it is wanted
+  pub journal_is : (is_wanted : Bool) (bytes : Option (List ℕ)) → IsJournalFor is_wanted outcome.journal bytes → bytes ≡ (if is_wanted then Some (journal_text plan left.slots) else None)
+  journal_is is_wanted bytes j = j.is ∙ ap (λ (file : JournalFile). if is_wanted then Some (file_text file) else None) file_is
+
+-- what the core's journal tells is what the board's tells
+pub core_file : (core : CoreJournal) (journal : BoardJournal) → core.setup ≡ journal.setup → core.slots ≡ journal.slots → file_of core ≡ file_of_board journal
+core_file core journal setup slots =
+    let file : Setup → List JournalSlot → JournalFile = λ s all. record { ports = s.ports; rounds = s.rounds; slots = map file_slot all } in
+    let same : file core.setup core.slots ≡ file journal.setup journal.slots = ap (λ s. file s core.slots) setup ∙ ap (file journal.setup) slots in
+    same
 
 -- ---- the texts of a job
 
-pub run_made : {E : Type 0} (r : Result JobTexts E) (job : RunJob) (plan : SwitchPlan) (slots : ℕ) → IfOk r (λ t. map shown t.files.items ≡ run_files (string_bytes job.prefix) (texts_of job.slots plan slots))
-    → IfOk r (λ t. string_bytes t.summary ≡ (texts_of job.slots plan slots).summary) → IfOk r (λ t. AreTextsOf (run (run_words job)) plan slots (map shown t.files.items) (string_bytes t.summary))
-run_made (Ok t) job plan slots files summary = record { files_are = files; summary_is = summary }
-run_made (Err e) job plan slots files summary = tt
+module _ (r : RunWords) (table : List ℕ) (captures : List (List ℕ)) (nano : Bool) (link : Link) (outcome : Outcome) (reference : Option (List ℕ)) (ran : IsRan r.settings r.reference table captures nano link outcome reference) where
+  abbrev plan : SwitchPlan
+  plan = ran.plan
 
-pub gen_made : {E : Type 0} (r : Result JobTexts E) (job : GenJob) (plan : SwitchPlan) (slots : ℕ) → IfOk r (λ t. t.files.items ≡ [])
-    → IfOk r (λ t. string_bytes t.summary ≡ (texts_of false plan slots).summary) → IfOk r (λ t. AreTextsOf (gen job) plan slots (map shown t.files.items) (string_bytes t.summary))
-gen_made (Ok t) job plan slots files summary = record { files_are = ap (map shown) files; summary_is = summary }
-gen_made (Err e) job plan slots files summary = tt
+  abbrev slots : ℕ
+  slots = ran.ran.left.slots
 
--- a job whose run came to its end
-pub texts_made : (job : JobWords) (settings : Settings) (table : List ℕ) (captures : List (List ℕ)) (nano : Bool) (link : Link) (outcome : Outcome) (files : List NamedBytes) (summary : List ℕ) → settings ≡ settings_in job
-    → IsRan settings table captures nano link outcome → ((plan : SwitchPlan) (left : IsOutcome plan outcome) → nano ≡ plan.nano → link ≡ plan.link → AreTextsOf job plan left.slots files summary)
-    → AreMade job table captures files summary
-texts_made job settings table captures nano link outcome files summary same ended made =
-    let ran = subst (λ (s : Settings). IsRan s table captures nano link outcome) same ended in
-    let plan = ran.plan in
-    let planned = ran.planned in
-    let left = ran.ran.left in
-    let texts = made plan left ran.ran.nano_is ran.ran.link_is in
-    let cards = ap length planned.planned.kept in
+  abbrev texts : Texts
+  texts = texts_of (wanted_by r) plan slots
+
+  length-outputs : length texts.outputs ≡ length captures
+  length-outputs =
+      length-map-range_with_len (λ j. capture_text plan.nano plan.link (messages_to plan j slots)) 0 (ports_of plan)
+      ∙ sym (length-map plan.cards (λ card. card.bytes)) ∙ ap length ran.planned.planned.kept
+
+  pub run_made : (made : List (List ℕ)) (report : List ℕ) (journal : Option (List ℕ)) (outputs : ℕ) (files : List NamedBytes) (summary : List ℕ)
+      → made ≡ map (λ j. capture_text nano link (messages_to plan j slots)) (range_with_len 0 (length outcome.outputs.items))
+      → report ≡ lines_text (report_lines outcome.summary (map line_of_card outcome.outputs.items) (slots_told r.slots outcome.journal.slots)) ++ text_or_none reference
+      → IsJournalFor r.journal outcome.journal journal → outputs ≡ length made
+      → files ≡ files_from r.prefix 0 made ++ record { name = report_name r.prefix; bytes = report } ∷ journal_files r.prefix journal
+      → summary ≡ lines_text (summary_lines outcome.summary) → AreMade (run r) table captures outputs files summary
+  run_made made report journal outputs files summary made_is report_made journal_made outputs_is files_is summary_is =
+      let left = ran.ran.left in
+      let captures_are : made ≡ texts.outputs = outputs_are plan outcome left nano link made made_is ran.ran.nano_is ran.ran.link_is in
+      let report_same : report ≡ texts.report = report_is plan outcome left (wanted_by r) report reference report_made ran.ran.reference_is in
+      let journal_same : journal ≡ texts.journal = journal_is plan outcome left r.journal journal journal_made in
+      record {
+        texts = texts;
+        outcome = record {
+          plan = plan;
+          slots = slots;
+          run = record { planned = ran.planned; ends = left.ends };
+          are = refl;
+          small = subst (λ (o : Option (List ℕ)). IfSome o (λ bytes. length bytes ≤ MAX_JOURNAL_BYTES)) journal_same journal_made.small;
+        };
+        count = length-outputs;
+        outputs_are = λ words is. outputs_is ∙ ap length captures_are;
+        files_are = files_is
+            ∙ ap (λ (xs : List (List ℕ)). files_from r.prefix 0 xs ++ record { name = report_name r.prefix; bytes = report } ∷ journal_files r.prefix journal) captures_are
+            ∙ ap (λ (bytes : List ℕ). files_from r.prefix 0 texts.outputs ++ record { name = report_name r.prefix; bytes = bytes } ∷ journal_files r.prefix journal) report_same
+            ∙ ap (λ (o : Option (List ℕ)). files_from r.prefix 0 texts.outputs ++ record { name = report_name r.prefix; bytes = texts.report } ∷ journal_files r.prefix o) journal_same;
+        summary_is = summary_is ∙ ap (λ (s : Summary). lines_text (summary_lines s)) left.summary;
+      }
+
+  -- the texts of the run are not made
+  pub run_stops : (ending : Ending) → StopsJournal r.journal outcome.journal ending → StopsTexts r table captures ending
+  run_stops Done stops = stops
+  run_stops Usage stops = absurd stops
+  run_stops (ReadFault input) stops = absurd stops
+  run_stops (TooLong input) stops = absurd stops
+  run_stops (Refused fault) stops = absurd stops
+  run_stops (JournalTooLong size) stops = (
+    stops.0,
     record {
-      texts = texts_of (wants_slots job) plan left.slots;
-      outcome = record {
-        plan = plan;
-        slots = left.slots;
-        run = record { lines = planned.lines; captures = planned.captures; read = planned.read; allowed = planned.allowed; good = planned.good; planned = planned.planned; ends = left.ends };
-        are = refl;
-      };
-      count = length-map-range_with_len (λ j. capture_text plan.nano plan.link (messages_to plan j left.slots)) 0 (ports_of plan) ∙ sym (length-map plan.cards (λ card. card.bytes)) ∙ cards;
-      files_are = texts.files_are;
-      summary_is = texts.summary_is;
-    }
+      plan = plan;
+      slots = slots;
+      run = record { planned = ran.planned; ends = ran.ran.left.ends };
+      size_is = stops.1 ∙ ap (λ (file : JournalFile). length (file_text file)) (file_is plan outcome ran.ran.left);
+      longer = stops.2;
+    },
+  )
+  run_stops OutOfMemory stops = tt
+  run_stops (WriteFault written) stops = absurd stops
+  run_stops (Checked ending) stops = absurd stops
+
+module _ (g : GenJob) (table : List ℕ) (captures : List (List ℕ)) (nano : Bool) (link : Link) (outcome : Outcome) (reference : Option (List ℕ)) (ran : IsRan g.settings false table captures nano link outcome reference) where
+  -- the summary of a run, alone: the texts of the outputs and the report are those of the run, and are not written
+  pub gen_made : (outputs : ℕ) (files : List NamedBytes) (summary : List ℕ) → files ≡ [] → summary ≡ lines_text (summary_lines outcome.summary) → AreMade (gen g) table captures outputs files summary
+  gen_made outputs files summary files_is summary_is = record {
+    texts = texts_of nothing_wanted ran.plan ran.ran.left.slots;
+    outcome = record {
+      plan = ran.plan;
+      slots = ran.ran.left.slots;
+      run = record { planned = ran.planned; ends = ran.ran.left.ends };
+      are = refl;
+      small = tt;
+    };
+    count = length-map-range_with_len (λ j. capture_text ran.plan.nano ran.plan.link (messages_to ran.plan j ran.ran.left.slots)) 0 (ports_of ran.plan)
+        ∙ sym (length-map ran.plan.cards (λ card. card.bytes)) ∙ ap length ran.planned.planned.kept;
+    outputs_are = λ words is. absurd (gen_is_no_run g words is);
+    files_are = files_is;
+    summary_is = summary_is ∙ ap (λ (s : Summary). lines_text (summary_lines s)) ran.ran.left.summary;
+  }
+
+-- the summary of a run under the second scheduler
+pub firm_made : (f : FirmWords) (table : List ℕ) (captures : List (List ℕ)) (numbers : Summary) (outputs : ℕ) (files : List NamedBytes) (summary : List ℕ) → IsFirmRan f.settings table captures numbers → files ≡ []
+    → summary ≡ lines_text (summary_lines numbers) → AreMade (firm f) table captures outputs files summary
+firm_made f table captures numbers outputs files summary ran files_is summary_is = record {
+  texts = firm_texts numbers;
+  outcome = record { plan = ran.plan; summary = numbers; planned = ran.planned; run = ran.run; waits = ran.waits; are = refl };
+  count = refl;
+  outputs_are = λ words is. absurd (firm_is_no_run f words is);
+  files_are = files_is;
+  summary_is = summary_is;
+}

@@ -1,24 +1,27 @@
 -- Why a job stops, said of a longer span of calls.
-use Rattle.std.proofs.Common.{◌≡◌, ◌≤◌, ◌+◌, ℕ, List, [], ◌∷◌, ◌++◌, length, Option, inl, inr, ◌∙◌, ap, subst, arith, length-append}
+use Rattle.std.proofs.Common.{◌≡◌, ◌<◌, ◌≤◌, ◌+◌, ℕ, List, [], ◌∷◌, ◌++◌, length, Option, Some, None, inl, inr, refl, ◌∙◌, ap, subst, arith, length-append}
 use Rattle.std.specs.Prelude.{option_map}
 use Rattle.outside.specs.Contents.{Contents, append_out}
 use Rattle.outside.specs.Faults.{Place, ReadOf, ToOut, NeverFall}
 use Rattle.outside.specs.WholeFiles.{NamedBytes}
 use Rattle.outside.proofs.Counting.{NeverFall-refl, Rose-wider, le-Rose}
 use Rattle.outside.proofs.Putting.{StopsAt-wider}
-use Rattle.switch_words.specs.Reading.{JobWords, run, gen}
-use Rattle.switch_run.specs.Jobs.{input_name}
+use Rattle.check_job.specs.Checks.{MeansCheck}
+use Rattle.check_job.specs.declared.ending.CheckEnding.{CheckEnding}
+use Rattle.check_job.specs.declared.ending.CheckEnding.TheVariants as check_ending
+use Rattle.switch_words.specs.Reading.{JobWords, run, gen, check, firm, RunWords}
+use Rattle.switch_run.specs.Jobs.{ReadWords, reads_of, pace_in, input_name}
 use Rattle.switch_run.specs.Switched.{Texts}
 use Rattle.switch_run.specs.Inputs.{AreInputs}
 use Rattle.switch_run.specs.LineParts.{GivesLine}
-use Rattle.switch_run.specs.OutputFiles.{files_from, files_of, put_files, put_texts, report_name}
+use Rattle.switch_run.specs.OutputFiles.{files_from, files_of, journal_files, put_files, put_texts, report_name, run_files}
 use Rattle.switch_run.specs.RefusalLines.{memory_line}
-use Rattle.switch_run.specs.Endings.{Command, IsDone, IsMade, IsStopped, IsWriteFault, Means, Stops, StopsAtFile, StopsWriting}
-use Rattle.switch_run.specs.Making.{AreMade, StopsJob, StopsPutting}
+use Rattle.switch_run.specs.Endings.{Command, IsDone, IsMade, IsStopped, IsWriteFault, Means, Stops, StopsAtFile, StopsWriting, captures_made}
+use Rattle.switch_run.specs.Making.{AreMade, AreToWrite, StopsAtPlace, StopsPlan, StopsPutting, StopsReading, StopsTexts}
 use Rattle.switch_run.specs.declared.ending.Written.{Written}
-use Rattle.switch_run.specs.declared.ending.Written.TheVariants.{Output, Report, StandardOutput}
+use Rattle.switch_run.specs.declared.ending.Written.TheVariants.{Output, Report, Journal, StandardOutput}
 use Rattle.switch_run.specs.declared.ending.Ending.{Ending}
-use Rattle.switch_run.specs.declared.ending.Ending.TheVariants.{Done, Usage, ReadFault, TooLong, Refused, OutOfMemory, WriteFault}
+use Rattle.switch_run.specs.declared.ending.Ending.TheVariants.{Done, Usage, ReadFault, TooLong, Refused, JournalTooLong, OutOfMemory, WriteFault, Checked}
 use Rattle.switch_run.proofs.Holding.{holds_told, length-files_from}
 
 module _ (job : JobWords) (texts : Texts) (a b c d : Place → ℕ) (old told : Option Contents) (start : NeverFall a b) (end : NeverFall c d) where
@@ -28,88 +31,186 @@ module _ (job : JobWords) (texts : Texts) (a b c d : Place → ℕ) (old told : 
   StopsWriting-wider : (written : Written) → StopsWriting job texts written old b c told → StopsWriting job texts written old a d told
   StopsWriting-wider (Output port) s = (s.0, StopsAtFile-wider port s.1)
   StopsWriting-wider Report s = StopsAtFile-wider (length texts.outputs) s
+  StopsWriting-wider Journal s = StopsAtFile-wider (length texts.outputs + 1) s
   StopsWriting-wider StandardOutput s = record { rose = Rose-wider a b c d ToOut start end s.rose; given = s.given; told_is = s.told_is }
+
+MeansCheck-wider : (name : List ℕ) (old new : Option Contents) (a b c d : Place → ℕ) (ending : CheckEnding) → NeverFall a b → NeverFall c d → MeansCheck name old new b c ending → MeansCheck name old new a d ending
+MeansCheck-wider name old new a b c d check_ending.Yes start end m = m
+MeansCheck-wider name old new a b c d (check_ending.No slot reason) start end m = m
+MeansCheck-wider name old new a b c d (check_ending.Bad at) start end m = m
+MeansCheck-wider name old new a b c d check_ending.TooLong start end m = m
+MeansCheck-wider name old new a b c d check_ending.ReadFault start end m = (Rose-wider a b c d (ReadOf name) start end m.0, m.1)
+MeansCheck-wider name old new a b c d check_ending.OutOfMemory start end m = m
+MeansCheck-wider name old new a b c d check_ending.OutFault start end m = (m.0, m.1, m.2, Rose-wider a b c d ToOut start end m.3, m.4)
 
 pub Stops-wider : (job : JobWords) (old : Option Contents) (a b c d : Place → ℕ) (told : Option Contents) (ending : Ending) → NeverFall a b → NeverFall c d → Stops job old b c told ending → Stops job old a d told ending
 Stops-wider job old a b c d told Done start end stops = stops
 Stops-wider job old a b c d told Usage start end stops = stops
 Stops-wider job old a b c d told (ReadFault input) start end stops =
-    (record { words = stops.0.words; is_run = stops.0.is_run; known = stops.0.known; earlier = stops.0.earlier; rose = Rose-wider a b c d (ReadOf (input_name stops.0.words input)) start end stops.0.rose }, stops.1)
+    (record { words = stops.0.words; reads = stops.0.reads; known = stops.0.known; earlier = stops.0.earlier; rose = Rose-wider a b c d (ReadOf (input_name stops.0.words input)) start end stops.0.rose }, stops.1)
 Stops-wider job old a b c d told (TooLong input) start end stops = stops
 Stops-wider job old a b c d told (Refused fault) start end stops = stops
+Stops-wider job old a b c d told (JournalTooLong size) start end stops = stops
 Stops-wider job old a b c d told OutOfMemory start end stops = stops
 Stops-wider job old a b c d told (WriteFault written) start end stops =
     record { texts = stops.texts; made = stops.made; stops = StopsWriting-wider job stops.texts a b c d old told start end written stops.stops }
+Stops-wider job old a b c d told (Checked ending) start end stops =
+    record { file = stops.file; is_check = stops.is_check; means = MeansCheck-wider stops.file old told a b c d ending start end stops.means }
+
+-- ---- reading
+
+StopsReading-wider : (r : ReadWords) (old : Option Contents) (a b c d : Place → ℕ) (ending : Ending) → NeverFall a b → NeverFall c d → StopsReading r old b c ending → StopsReading r old a d ending
+StopsReading-wider r old a b c d Done start end stops = stops
+StopsReading-wider r old a b c d Usage start end stops = stops
+StopsReading-wider r old a b c d (ReadFault input) start end stops = (stops.0, stops.1, Rose-wider a b c d (ReadOf (input_name r input)) start end stops.2)
+StopsReading-wider r old a b c d (TooLong input) start end stops = stops
+StopsReading-wider r old a b c d (Refused fault) start end stops = stops
+StopsReading-wider r old a b c d (JournalTooLong size) start end stops = stops
+StopsReading-wider r old a b c d OutOfMemory start end stops = stops
+StopsReading-wider r old a b c d (WriteFault written) start end stops = stops
+StopsReading-wider r old a b c d (Checked ending) start end stops = stops
 
 -- after calls that left the contents
-pub Stops-since : (job : JobWords) (old mid : Option Contents) (was b now : Place → ℕ) (told : Option Contents) (ending : Ending) → mid ≡ old → NeverFall was b → Stops job mid b now told ending → Stops job old was now told ending
-Stops-since job old mid was b now told ending same kept stops =
-    Stops-wider job old was b now now told ending kept (NeverFall-refl now) (subst (λ (o : Option Contents). Stops job o b now told ending) same stops)
+pub StopsReading-since : (r : ReadWords) (old mid : Option Contents) (was b now : Place → ℕ) (ending : Ending) → mid ≡ old → NeverFall was b → StopsReading r mid b now ending → StopsReading r old was now ending
+StopsReading-since r old mid was b now ending same kept stops =
+    StopsReading-wider r old was b now now ending kept (NeverFall-refl now) (subst (λ (o : Option Contents). StopsReading r o b now ending) same stops)
+
+-- a job whose files were not read
+pub reading_stops : (job : JobWords) (r : ReadWords) (old told : Option Contents) (was now : Place → ℕ) (ending : Ending) → reads_of job ≡ Some r → told ≡ old → StopsReading r old was now ending → Stops job old was now told ending
+reading_stops job r old told was now Done reads same stops = stops
+reading_stops job r old told was now Usage reads same stops = absurd stops
+reading_stops job r old told was now (ReadFault input) reads same stops = (record { words = r; reads = reads; known = stops.0; earlier = stops.1; rose = stops.2 }, same)
+reading_stops job r old told was now (TooLong input) reads same stops = (record { words = r; reads = reads; known = stops.0; earlier = stops.1; longer = stops.2 }, same)
+reading_stops job r old told was now (Refused fault) reads same stops = absurd stops
+reading_stops job r old told was now (JournalTooLong size) reads same stops = absurd stops
+reading_stops job r old told was now OutOfMemory reads same stops = same
+reading_stops job r old told was now (WriteFault written) reads same stops = absurd stops
+reading_stops job r old told was now (Checked ending) reads same stops = absurd stops
+
+-- ---- plans and texts
+
+-- the inputs were refused, or memory ran out
+pub plan_stops : (job : JobWords) (old told : Option Contents) (was now : Place → ℕ) (table : List ℕ) (captures : List (List ℕ)) (ending : Ending) → told ≡ old → AreInputs job old table captures
+    → StopsPlan (pace_in job) table captures ending → Stops job old was now told ending
+plan_stops job old told was now table captures Done same inputs stops = stops
+plan_stops job old told was now table captures Usage same inputs stops = stops
+plan_stops job old told was now table captures (ReadFault input) same inputs stops = absurd stops
+plan_stops job old told was now table captures (TooLong input) same inputs stops = absurd stops
+plan_stops job old told was now table captures (Refused fault) same inputs stops = (record { table = table; captures = captures; inputs = inputs; outcome = stops }, same)
+plan_stops job old told was now table captures (JournalTooLong size) same inputs stops = absurd stops
+plan_stops job old told was now table captures OutOfMemory same inputs stops = same
+plan_stops job old told was now table captures (WriteFault written) same inputs stops = absurd stops
+plan_stops job old told was now table captures (Checked ending) same inputs stops = absurd stops
+
+-- the texts of a `run` job were not made
+pub texts_stop : (r : RunWords) (old told : Option Contents) (was now : Place → ℕ) (table : List ℕ) (captures : List (List ℕ)) (ending : Ending) → told ≡ old → AreInputs (run r) old table captures
+    → StopsTexts r table captures ending → Stops (run r) old was now told ending
+texts_stop r old told was now table captures Done same inputs stops = stops
+texts_stop r old told was now table captures Usage same inputs stops = stops
+texts_stop r old told was now table captures (ReadFault input) same inputs stops = absurd stops
+texts_stop r old told was now table captures (TooLong input) same inputs stops = absurd stops
+texts_stop r old told was now table captures (Refused fault) same inputs stops = plan_stops (run r) old told was now table captures (Refused fault) same inputs stops
+texts_stop r old told was now table captures (JournalTooLong size) same inputs stops =
+    (record { words = r; is_run = refl; wanted = stops.0; table = table; captures = captures; inputs = inputs; longer = stops.1 }, same)
+texts_stop r old told was now table captures OutOfMemory same inputs stops = same
+texts_stop r old told was now table captures (WriteFault written) same inputs stops = absurd stops
+texts_stop r old told was now table captures (Checked ending) same inputs stops = absurd stops
 
 -- What a command makes of its job and of its texts
 
--- the inputs were refused, or memory ran out
-pub Stops-job : (job : JobWords) (old told : Option Contents) (was now : Place → ℕ) (table : List ℕ) (captures : List (List ℕ)) (ending : Ending) → told ≡ old → AreInputs job old table captures
-    → StopsJob job table captures ending → Stops job old was now told ending
-Stops-job job old told was now table captures Done same inputs stops = stops
-Stops-job job old told was now table captures Usage same inputs stops = stops
-Stops-job job old told was now table captures (ReadFault input) same inputs stops = absurd stops
-Stops-job job old told was now table captures (TooLong input) same inputs stops = absurd stops
-Stops-job job old told was now table captures (Refused fault) same inputs stops = (record { table = table; captures = captures; inputs = inputs; outcome = stops }, same)
-Stops-job job old told was now table captures OutOfMemory same inputs stops = same
-Stops-job job old told was now table captures (WriteFault written) same inputs stops = absurd stops
+captures_made-le : (job : JobWords) (n : ℕ) → captures_made job n ≤ n
+captures_made-le (run r) n = omega arith
+captures_made-le (gen g) n = omega arith
+captures_made-le (check file) n = omega arith
+captures_made-le (firm f) n = omega arith
 
-module _ (job : JobWords) (table : List ℕ) (captures : List (List ℕ)) (files : List NamedBytes) (summary : List ℕ) (m : AreMade job table captures files summary) where
+module _ (job : JobWords) (old : Option Contents) (outputs : ℕ) (files : List NamedBytes) (summary : List ℕ) (w : AreToWrite job old outputs files summary) where
+  abbrev m : AreMade job w.table w.captures outputs files summary
+  m = w.made
+
+  few_outputs : length m.texts.outputs ≤ 64
+  few_outputs =
+      let n = captures_made-le job (length w.captures) in
+      let few : length w.captures ≤ 64 = w.few in
+      omega (arith, n, m.count, few)
+
   -- the texts that were made of the inputs
-  made : (told : Option Contents) → AreInputs job told table captures → IsMade job told m.texts
-  made told inputs = record { table = table; captures = captures; inputs = inputs; outcome = m.outcome; count = m.count }
+  made : IsMade job old m.texts
+  made = record { table = w.table; captures = w.captures; inputs = w.inputs; outcome = m.outcome; count = m.count }
 
   -- all was written
-  pub done : (old mid new : Option Contents) → AreInputs job old table captures → length captures ≤ 64 → mid ≡ old
-      → new ≡ option_map (λ c. append_out summary (put_files files c)) mid → IsDone job old new
-  done old mid new inputs few same put =
+  pub done : (mid new : Option Contents) → mid ≡ old → new ≡ option_map (λ c. append_out summary (put_files files c)) mid → IsDone job old new
+  done mid new same put =
       let written : new ≡ option_map (put_texts job m.texts) old =
       put ∙ ap (λ text. option_map (λ c. append_out text (put_files files c)) mid) m.summary_is
       ∙ ap (λ fs. option_map (λ c. append_out m.texts.summary (put_files fs c)) mid) m.files_are
       ∙ ap (option_map (put_texts job m.texts)) same in
-      record { texts = m.texts; made = made old inputs; written = written; holds = holds_told job m.texts old new (omega (arith, m.count, few)) written }
+      let few = few_outputs in
+      record { texts = m.texts; made = made; written = written; holds = holds_told job m.texts old new (omega (arith, few)) written }
 
-length-run_files : (prefix : List ℕ) (outputs : List (List ℕ)) (f : NamedBytes) → length (files_from prefix 0 outputs ++ f ∷ []) ≡ length outputs + 1
-length-run_files prefix outputs f = let n = length-files_from prefix 0 outputs in omega (arith, n, length-append (files_from prefix 0 outputs) (f ∷ []))
+length-journal_files : (prefix : List ℕ) (journal : Option (List ℕ)) → length (journal_files prefix journal) ≤ 1
+length-journal_files prefix None = omega arith
+length-journal_files prefix (Some bytes) = omega arith
 
--- a job writes no more than a file for each capture, and the report
-length-files_of : (job : JobWords) (texts : Texts) → length (files_of job texts) ≤ length texts.outputs + 1
-length-files_of (run r) texts = let n = length-run_files r.prefix texts.outputs (record { name = report_name r.prefix; bytes = texts.report }) in omega (arith, n)
+length-run_files : (prefix : List ℕ) (texts : Texts) → length (run_files prefix texts) ≤ length texts.outputs + 2
+length-run_files prefix texts =
+    let n = length-files_from prefix 0 texts.outputs in
+    let k = length-journal_files prefix texts.journal in
+    omega (arith, n, k, length-append (files_from prefix 0 texts.outputs) (record { name = report_name prefix; bytes = texts.report } ∷ journal_files prefix texts.journal))
+
+-- a job writes no more than a file for each capture, the report and the journal
+length-files_of : (job : JobWords) (texts : Texts) → length (files_of job texts) ≤ length texts.outputs + 2
+length-files_of (run r) texts = length-run_files r.prefix texts
 length-files_of (gen g) texts = omega arith
+length-files_of (check file) texts = omega arith
+length-files_of (firm f) texts = omega arith
 
-pub few_files : (job : JobWords) (table : List ℕ) (captures : List (List ℕ)) (files : List NamedBytes) (summary : List ℕ) → AreMade job table captures files summary → length captures ≤ 64 → length files ≤ 65
-few_files job table captures files summary m few = let n = length-files_of job m.texts in omega (arith, n, few, m.count, ap length m.files_are)
+pub few_files : (job : JobWords) (old : Option Contents) (outputs : ℕ) (files : List NamedBytes) (summary : List ℕ) → AreToWrite job old outputs files summary → length files ≤ 66
+few_files job old outputs files summary w =
+    let n = length-files_of job w.made.texts in
+    let k = few_outputs job old outputs files summary w in
+    omega (arith, n, k, ap length w.made.files_are)
+
+-- a job that has no files stopped after them
+stops_without_files : (job : JobWords) (outputs : ℕ) (texts : Texts) (written : Written) (old told : Option Contents) (was now : Place → ℕ) → files_of job texts ≡ [] → StopsPutting outputs (files_of job texts) texts.summary written old was now told
+    → StopsWriting job texts written old was now told
+stops_without_files job outputs texts (Output port) old told was now none s = let n = ap length none in absurd (omega (arith, s.1.within, n))
+stops_without_files job outputs texts Report old told was now none s = let n = ap length none in absurd (omega (arith, s.within, n))
+stops_without_files job outputs texts Journal old told was now none s = let n = ap length none in absurd (omega (arith, s.2.within, n))
+stops_without_files job outputs texts StandardOutput old told was now none s = record { rose = s.rose; given = s.given; told_is = s.told_is }
+
+run_stops_writing : (r : RunWords) (texts : Texts) (written : Written) (old told : Option Contents) (was now : Place → ℕ) → StopsPutting (length texts.outputs) (run_files r.prefix texts) texts.summary written old was now told
+    → StopsWriting (run r) texts written old was now told
+run_stops_writing r texts (Output port) old told was now s = (s.0, record { within = s.1.within; stops = s.1.stops })
+run_stops_writing r texts Report old told was now s = record { within = s.within; stops = s.stops }
+run_stops_writing r texts Journal old told was now s =
+    let n = length-run_files r.prefix texts in
+    let within = s.2.within in
+    let same : s.0 ≡ length texts.outputs + 1 = omega (arith, s.1, within, n) in
+    subst (λ (place : ℕ). StopsAtFile (run r) texts place old was now told) same (record { within = s.2.within; stops = s.2.stops })
+run_stops_writing r texts StandardOutput old told was now s = record { rose = s.rose; given = s.given; told_is = s.told_is }
 
 -- a job that stopped at one of its files, or after them
-stops_writing : (job : JobWords) (texts : Texts) (written : Written) (old told : Option Contents) (was now : Place → ℕ) → StopsPutting (files_of job texts) texts.summary written old was now told → StopsWriting job texts written old was now told
-stops_writing (run r) texts (Output port) old told was now s =
-    let n = length-run_files r.prefix texts.outputs (record { name = report_name r.prefix; bytes = texts.report }) in
-    (omega (arith, s.0, n), record { within = s.1.within; stops = s.1.stops })
-stops_writing (run r) texts Report old told was now s =
-    let n = length-run_files r.prefix texts.outputs (record { name = report_name r.prefix; bytes = texts.report }) in
-    let same : s.0 ≡ length texts.outputs = omega (arith, s.1, n) in
-    subst (λ (place : ℕ). StopsAtFile (run r) texts place old was now told) same (record { within = s.2.within; stops = s.2.stops })
-stops_writing (run r) texts StandardOutput old told was now s = record { rose = s.rose; given = s.given; told_is = s.told_is }
-stops_writing (gen g) texts (Output port) old told was now s = absurd (omega (arith, s.0))
-stops_writing (gen g) texts Report old told was now s = absurd (omega (arith, s.1))
-stops_writing (gen g) texts StandardOutput old told was now s = record { rose = s.rose; given = s.given; told_is = s.told_is }
+stops_writing : (job : JobWords) (outputs : ℕ) (texts : Texts) (written : Written) (old told : Option Contents) (was now : Place → ℕ) → ((r : RunWords) → job ≡ run r → outputs ≡ length texts.outputs)
+    → StopsPutting outputs (files_of job texts) texts.summary written old was now told → StopsWriting job texts written old was now told
+stops_writing (run r) outputs texts written old told was now count s =
+    run_stops_writing r texts written old told was now (subst (λ (n : ℕ). StopsPutting n (run_files r.prefix texts) texts.summary written old was now told) (count r refl) s)
+stops_writing (gen g) outputs texts written old told was now count s = stops_without_files (gen g) outputs texts written old told was now refl s
+stops_writing (check file) outputs texts written old told was now count s = stops_without_files (check file) outputs texts written old told was now refl s
+stops_writing (firm f) outputs texts written old told was now count s = stops_without_files (firm f) outputs texts written old told was now refl s
 
 -- a call on what is written was refused
-pub write_fault : (job : JobWords) (table : List ℕ) (captures : List (List ℕ)) (files : List NamedBytes) (summary : List ℕ) (m : AreMade job table captures files summary) (old mid new : Option Contents) (was b now : Place → ℕ) (written : Written)
-    → AreInputs job old table captures → mid ≡ old → NeverFall was b → StopsPutting files summary written mid b now new → IsWriteFault job old was now new written
-write_fault job table captures files summary m old mid new was b now written inputs same kept stops =
-    let by_files = subst (λ (fs : List NamedBytes). StopsPutting fs summary written mid b now new) m.files_are stops in
-    let by_texts = subst (λ (text : List ℕ). StopsPutting (files_of job m.texts) text written mid b now new) m.summary_is by_files in
-    let from_old = subst (λ (o : Option Contents). StopsPutting (files_of job m.texts) m.texts.summary written o b now new) same by_texts in
+pub write_fault : (job : JobWords) (old mid new : Option Contents) (outputs : ℕ) (files : List NamedBytes) (summary : List ℕ) (w : AreToWrite job old outputs files summary) (was b now : Place → ℕ) (written : Written)
+    → mid ≡ old → NeverFall was b → StopsPutting outputs files summary written mid b now new → IsWriteFault job old was now new written
+write_fault job old mid new outputs files summary w was b now written same kept stops =
+    let texts = w.made.texts in
+    let by_files = subst (λ (fs : List NamedBytes). StopsPutting outputs fs summary written mid b now new) w.made.files_are stops in
+    let by_texts = subst (λ (text : List ℕ). StopsPutting outputs (files_of job texts) text written mid b now new) w.made.summary_is by_files in
+    let from_old = subst (λ (o : Option Contents). StopsPutting outputs (files_of job texts) texts.summary written o b now new) same by_texts in
     record {
-      texts = m.texts;
-      made = made job table captures files summary m old inputs;
-      stops = StopsWriting-wider job m.texts was b now now old new kept (NeverFall-refl now) written (stops_writing job m.texts written old new b now from_old);
+      texts = texts;
+      made = made job old outputs files summary w;
+      stops = StopsWriting-wider job texts was b now now old new kept (NeverFall-refl now) written (stops_writing job outputs texts written old new b now w.made.outputs_are from_old);
     }
 
 -- a job that stopped, and whose line was printed
@@ -119,8 +220,10 @@ stopped c Usage s = absurd s.stops
 stopped c (ReadFault input) s = s
 stopped c (TooLong input) s = s
 stopped c (Refused fault) s = s
+stopped c (JournalTooLong size) s = s
 stopped c OutOfMemory s = subst (λ (o : Option Contents). GivesLine memory_line o c.new _ _) s.stops s.line
 stopped c (WriteFault written) s = s
+stopped c (Checked ending) s = s
 
 -- a line that was given after calls that made no count fall
 pub GivesLine-since : (text : List ℕ) (old new : Option Contents) (was mid now : ℕ) → was ≤ mid → GivesLine text old new mid now → GivesLine text old new was now

@@ -1,30 +1,42 @@
 -- When each answer comes, that one comes where nothing stands against it, and what holds of the run of a command.
-use Rattle.std.specs.Prelude.{◌≡◌, ◌<◌, ◌⊎◌, ℕ, List, length, Some, None}
+use Rattle.std.specs.Prelude.{◌≡◌, ◌<◌, ◌≤◌, ◌⊎◌, ℕ, true, List, length, Option, Some, None, Result, Ok, Err}
 use Rattle.outside.specs.Contents.{Contents}
 use Rattle.outside.specs.Faults.{ReadOf, BeginOf, WriteOf, ToOut, Rose}
 use Rattle.outside.specs.WholeFiles.{IsTooLong}
-use Rattle.switch_words.specs.Reading.{JobWords, run, RunWords}
+use Rattle.journal_check.specs.declared.verdict.Verdict.TheVariants as verdict
+use Rattle.journal_check.specs.declared.verdict.JournalFault.TheVariants as journal_fault
+use Rattle.journal_check.specs.declared.verdict.Reason.{Reason}
+use Rattle.check_job.specs.Checks.{HasAnswer, IsTooLong as IsTooLongToCheck}
+use Rattle.check_job.specs.declared.ending.CheckEnding.TheVariants as check_ending
+use Rattle.switch_words.specs.Reading.{JobWords, run, gen, check, firm, RunWords}
 use Rattle.switch_plan.specs.declared.fault.PlanFault.{PlanFault}
 use Rattle.switch_plan.specs.Refusals.{IsRefusal}
 use Rattle.switch_plan.specs.GoodPlans.{SwitchPlan}
-use Rattle.switch_run.specs.Jobs.{settings_in, input_name, IsInput}
-use Rattle.switch_run.specs.Switched.{IsRunOf}
+use Rattle.whole_run.specs.Runs.{ports_of}
+use Rattle.output_queued.specs.Lines.{ideal, ran}
+use Rattle.reference_run.specs.RunLines.{run_matches}
+use Rattle.switch_run.specs.Jobs.{ReadWords, reads_of, pace_in, input_name, IsInput, RunsSwitch}
+use Rattle.switch_run.specs.Switched.{IsLongJournal, IsRunOf}
 use Rattle.switch_run.specs.Inputs.{EarlierFit, AreInputs}
-use Rattle.switch_run.specs.OutputFiles.{output_name, report_name}
+use Rattle.switch_run.specs.OutputFiles.{output_name, report_name, journal_name}
 use Rattle.switch_run.specs.Endings.{Command, Means, status_of}
 use Rattle.switch_run.specs.declared.inputs.InputFile.{InputFile}
 use Rattle.switch_run.specs.declared.ending.Ending.{Ending}
-use Rattle.switch_run.specs.declared.ending.Ending.TheVariants.{TooLong, Refused, OutOfMemory}
+use Rattle.switch_run.specs.declared.ending.Ending.TheVariants.{TooLong, Refused, JournalTooLong, OutOfMemory, Checked}
 
 -- the status is that of this ending, with all that it means
 abbrev pub Answers : Command → ℕ → Ending → Type 0
 Answers c status ending = (status ≡ status_of ending) × Means c ending
 
+-- the command ends so, or memory ran out
+abbrev pub AnswersUnlessOut : Command → ℕ → Ending → Type 0
+AnswersUnlessOut c status ending = Answers c status ending ⊎ Answers c status OutOfMemory
+
 -- the words mean this job, the contents are told, and no count of refused reads of a file that it names rose
 pub record IsReadable (c : Command) (job : JobWords) (contents : Contents) : Type 0 where
   pub words : c.job ≡ Some job
   pub told : c.old ≡ Some contents
-  pub reads : (r : RunWords) (input : InputFile) → job ≡ run r → IsInput r input → Rose (c.was (ReadOf (input_name r input))) (c.now (ReadOf (input_name r input))) → ⊥
+  pub reads : (r : ReadWords) (input : InputFile) → reads_of job ≡ Some r → IsInput r input → Rose (c.was (ReadOf (input_name r input))) (c.now (ReadOf (input_name r input))) → ⊥
 
 -- no count of refused begins or writes of this name rose
 pub record IsWritable (c : Command) (name : List ℕ) : Type 0 where
@@ -35,7 +47,14 @@ pub record IsWritable (c : Command) (name : List ℕ) : Type 0 where
 pub record AreWritable (c : Command) (job : JobWords) : Type 0 where
   pub outputs : (r : RunWords) (j : ℕ) → job ≡ run r → j < length r.inputs → IsWritable c (output_name r.prefix j)
   pub report : (r : RunWords) → job ≡ run r → IsWritable c (report_name r.prefix)
+  pub journal : (r : RunWords) → job ≡ run r → r.journal ≡ true → IsWritable c (journal_name r.prefix)
   pub out : Rose (c.was ToOut) (c.now ToOut) → ⊥
+
+-- the words mean the check of this file, the contents are told, and no count of refused reads of it rose
+pub record IsCheckable (c : Command) (file : List ℕ) (contents : Contents) : Type 0 where
+  pub words : c.job ≡ Some (check file)
+  pub told : c.old ≡ Some contents
+  pub reads : Rose (c.was (ReadOf file)) (c.now (ReadOf file)) → ⊥
 
 -- Status 2 comes exactly where the words mean no job, want of memory aside.
 pub record UsageIsExact (c : Command) (status : ℕ) : Type 0 where
@@ -44,20 +63,43 @@ pub record UsageIsExact (c : Command) (status : ℕ) : Type 0 where
 
 -- where a file is too long and those before it are not, the answer says so, or memory ran out
 abbrev pub TooLongIsExact : Command → ℕ → Type 0
-TooLongIsExact c status = (r : RunWords) (contents : Contents) (input : InputFile) → IsReadable c (run r) contents → IsInput r input → EarlierFit r input contents → IsTooLong contents (input_name r input)
-    → Answers c status (TooLong input) ⊎ Answers c status OutOfMemory
+TooLongIsExact c status = (job : JobWords) (r : ReadWords) (contents : Contents) (input : InputFile) → IsReadable c job contents → reads_of job ≡ Some r → IsInput r input
+    → EarlierFit r input contents → IsTooLong contents (input_name r input) → AnswersUnlessOut c status (TooLong input)
 
 -- where the bytes of the table and the captures are refused, the answer says so, or memory ran out
 abbrev pub RefusalIsExact : Command → ℕ → Type 0
 RefusalIsExact c status = (job : JobWords) (contents : Contents) (table : List ℕ) (captures : List (List ℕ)) (fault : PlanFault) → IsReadable c job contents → AreInputs job (Some contents) table captures
-    → IsRefusal (settings_in job).pace_us table captures fault → Answers c status (Refused fault) ⊎ Answers c status OutOfMemory
+    → IsRefusal (pace_in job) table captures fault → AnswersUnlessOut c status (Refused fault)
 
--- where no call was refused, no file is too long and nothing is refused, all is written, or memory ran out
+-- where a journal is wanted that would be too long, the answer says so, or memory ran out
+abbrev pub JournalTooLongIsExact : Command → ℕ → Type 0
+JournalTooLongIsExact c status = (r : RunWords) (contents : Contents) (table : List ℕ) (captures : List (List ℕ)) (size : ℕ) → IsReadable c (run r) contents → r.journal ≡ true
+    → AreInputs (run r) (Some contents) table captures → IsLongJournal r.settings table captures size → AnswersUnlessOut c status (JournalTooLong size)
+
+-- What a check comes to, unless memory runs out: where its file is too long, is no journal file, is not lawful, and is
+-- lawful.
+pub record CheckIsExact (c : Command) (status : ℕ) : Type 0 where
+  pub too_long : (file : List ℕ) (contents : Contents) → IsCheckable c file contents → IsTooLongToCheck contents file → AnswersUnlessOut c status (Checked check_ending.TooLong)
+  pub bad : (file : List ℕ) (contents : Contents) (at : ℕ) → IsCheckable c file contents → HasAnswer file (Err (journal_fault.Bad at)) contents → AnswersUnlessOut c status (Checked (check_ending.Bad at))
+  pub no : (file : List ℕ) (contents : Contents) (slot : ℕ) (reason : Reason) → IsCheckable c file contents → HasAnswer file (Ok (verdict.No slot reason)) contents → AnswersUnlessOut c status (Checked (check_ending.No slot reason))
+  pub yes : (file : List ℕ) (contents : Contents) (slots : ℕ) (longest : List ℕ) → IsCheckable c file contents → HasAnswer file (Ok (verdict.Yes slots longest)) contents
+      → (Rose (c.was ToOut) (c.now ToOut) → ⊥) → AnswersUnlessOut c status (Checked check_ending.Yes)
+
+-- Where no call was refused, no file is too long and nothing is refused, and a journal that is wanted is not too long, all
+-- is written, or memory ran out.
 abbrev pub IsComplete : Command → ℕ → Type 0
-IsComplete c status = (job : JobWords) (contents : Contents) → IsReadable c job contents → AreWritable c job
-    → ((r : RunWords) (input : InputFile) → job ≡ run r → IsInput r input → IsTooLong contents (input_name r input) → ⊥)
-    → ((table : List ℕ) (captures : List (List ℕ)) (fault : PlanFault) → AreInputs job (Some contents) table captures → IsRefusal (settings_in job).pace_us table captures fault → ⊥)
+IsComplete c status = (job : JobWords) (contents : Contents) → RunsSwitch job → IsReadable c job contents → AreWritable c job
+    → ((r : ReadWords) (input : InputFile) → reads_of job ≡ Some r → IsInput r input → IsTooLong contents (input_name r input) → ⊥)
+    → ((table : List ℕ) (captures : List (List ℕ)) (fault : PlanFault) → AreInputs job (Some contents) table captures → IsRefusal (pace_in job) table captures fault → ⊥)
+    → ((r : RunWords) (table : List ℕ) (captures : List (List ℕ)) (size : ℕ) → job ≡ run r → r.journal ≡ true → AreInputs job (Some contents) table captures → IsLongJournal r.settings table captures size → ⊥)
     → (status ≡ 0) ⊎ (status ≡ 5)
+
+-- the run of a job on a board: `firm` and `check` have none
+abbrev pub IsRunFor : JobWords → List ℕ → List (List ℕ) → SwitchPlan → ℕ → Type 0
+IsRunFor (run r) table captures plan slots = IsRunOf r.settings table captures plan slots
+IsRunFor (gen g) table captures plan slots = IsRunOf g.settings table captures plan slots
+IsRunFor (check file) table captures plan slots = ⊥
+IsRunFor (firm f) table captures plan slots = ⊥
 
 -- the run of the job that the words mean
 pub record IsRunBy (c : Command) (plan : SwitchPlan) (slots : ℕ) : Type 0 where
@@ -66,4 +108,12 @@ pub record IsRunBy (c : Command) (plan : SwitchPlan) (slots : ℕ) : Type 0 wher
   pub captures : List (List ℕ)
   pub words : c.job ≡ Some job
   pub inputs : AreInputs job c.old table captures
-  pub run : IsRunOf (settings_in job) table captures plan slots
+  pub run : IsRunFor job table captures plan slots
+
+-- At the end of no slot has the run fed more cells to an output than the ideal switch has given out.
+abbrev pub IsNeverAhead : SwitchPlan → ℕ → Type 0
+IsNeverAhead plan slots = (j t : ℕ) → t ≤ slots → ran (run_matches plan slots) j t ≤ ideal plan.cards (run_matches plan slots) j t
+
+-- Over the whole run both serve as many cells at each output.
+abbrev pub ServesAsMany : SwitchPlan → ℕ → Type 0
+ServesAsMany plan slots = (j : ℕ) → j < ports_of plan → ran (run_matches plan slots) j slots ≡ ideal plan.cards (run_matches plan slots) j slots

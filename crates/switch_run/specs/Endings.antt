@@ -1,12 +1,15 @@
 -- How a command ends, and what each ending means.
-use Rattle.std.specs.Prelude.{◌≡◌, ◌<◌, ℕ, List, take, length, Option, Some, None, Ok, Err, option_map, IfSome, slice_index_or}
+use Rattle.std.specs.Prelude.{◌≡◌, ◌<◌, ◌+◌, ℕ, true, List, take, length, Option, Some, None, Ok, Err, option_map, IfSome, slice_index_or}
 use Rattle.outside.specs.Contents.{Contents, append_out}
 use Rattle.outside.specs.Faults.{Place, ReadOf, ToOut, ToErr, Rose}
 use Rattle.outside.specs.WholeFiles.{IsTooLong, StopsAt}
-use Rattle.switch_words.specs.Reading.{JobWords, run, RunWords, reading_of}
+use Rattle.check_job.specs.Checks.{MeansCheck}
+use Rattle.check_job.specs.declared.ending.CheckEnding.{CheckEnding}
+use Rattle.check_job.specs.declared.ending.CheckEnding.TheVariants as check_ending
+use Rattle.switch_words.specs.Reading.{JobWords, run, gen, check, firm, RunWords, reading_of}
 use Rattle.switch_plan.specs.declared.fault.PlanFault.{PlanFault}
-use Rattle.switch_run.specs.Jobs.{settings_in, wants_slots, input_name, IsInput}
-use Rattle.switch_run.specs.Switched.{Texts, IsJobOutcome}
+use Rattle.switch_run.specs.Jobs.{ReadWords, reads_of, input_name, IsInput}
+use Rattle.switch_run.specs.Switched.{Texts, IsJobOutcome, IsLongJournal}
 use Rattle.switch_run.specs.Inputs.{EarlierFit, AreInputs}
 use Rattle.switch_run.specs.OutputFiles.{nameless, files_of, put_files, put_texts, HoldsTexts}
 use Rattle.switch_run.specs.LineParts.{GivesLine}
@@ -14,9 +17,19 @@ use Rattle.switch_run.specs.RefusalLines.{memory_line}
 use Rattle.switch_run.specs.ErrorLines.{line_of, usage_line}
 use Rattle.switch_run.specs.declared.inputs.InputFile.{InputFile}
 use Rattle.switch_run.specs.declared.ending.Written.{Written}
-use Rattle.switch_run.specs.declared.ending.Written.TheVariants.{Output, Report, StandardOutput}
+use Rattle.switch_run.specs.declared.ending.Written.TheVariants.{Output, Report, Journal, StandardOutput}
 use Rattle.switch_run.specs.declared.ending.Ending.{Ending}
-use Rattle.switch_run.specs.declared.ending.Ending.TheVariants.{Done, Usage, ReadFault, TooLong, Refused, OutOfMemory, WriteFault}
+use Rattle.switch_run.specs.declared.ending.Ending.TheVariants.{Done, Usage, ReadFault, TooLong, Refused, JournalTooLong, OutOfMemory, WriteFault, Checked}
+
+-- the exit status of each ending of a check
+abbrev pub check_status : CheckEnding → ℕ
+check_status check_ending.Yes = 0
+check_status (check_ending.No slot reason) = 7
+check_status (check_ending.Bad at) = 4
+check_status check_ending.TooLong = 4
+check_status check_ending.ReadFault = 3
+check_status check_ending.OutOfMemory = 5
+check_status check_ending.OutFault = 6
 
 -- the exit status of each ending
 abbrev pub status_of : Ending → ℕ
@@ -25,8 +38,10 @@ status_of Usage = 2
 status_of (ReadFault input) = 3
 status_of (TooLong input) = 4
 status_of (Refused fault) = 4
+status_of (JournalTooLong size) = 4
 status_of OutOfMemory = 5
 status_of (WriteFault written) = 6
+status_of (Checked ending) = check_status ending
 
 -- What a command found and left: the job that its words mean, and the contents and the counts of faults before and after.
 pub record Command : Type 0 where
@@ -42,16 +57,16 @@ command_of words old new was now = record { job = reading_of words; old = old; n
 
 -- A read of this file was refused. The files before it are there, and not too long.
 pub record IsReadFault (job : JobWords) (told : Option Contents) (was now : Place → ℕ) (input : InputFile) : Type 0 where
-  pub words : RunWords
-  pub is_run : job ≡ run words
+  pub words : ReadWords
+  pub reads : reads_of job ≡ Some words
   pub known : IsInput words input
   pub earlier : IfSome told (EarlierFit words input)
   pub rose : Rose (was (ReadOf (input_name words input))) (now (ReadOf (input_name words input)))
 
 -- This file is too long. The files before it are there, and not too long.
 pub record IsFirstTooLong (job : JobWords) (told : Option Contents) (input : InputFile) : Type 0 where
-  pub words : RunWords
-  pub is_run : job ≡ run words
+  pub words : ReadWords
+  pub reads : reads_of job ≡ Some words
   pub known : IsInput words input
   pub earlier : IfSome told (EarlierFit words input)
   pub longer : IfSome told (λ c. IsTooLong c (input_name words input))
@@ -61,15 +76,32 @@ pub record IsRefused (job : JobWords) (told : Option Contents) (fault : PlanFaul
   pub table : List ℕ
   pub captures : List (List ℕ)
   pub inputs : AreInputs job told table captures
-  pub outcome : IsJobOutcome (settings_in job) (wants_slots job) table captures (Err fault)
+  pub outcome : IsJobOutcome job table captures (Err fault)
+
+-- The journal of the run has more bytes than a journal file may have.
+pub record IsJournalTooLong (job : JobWords) (told : Option Contents) (size : ℕ) : Type 0 where
+  pub words : RunWords
+  pub is_run : job ≡ run words
+  pub wanted : words.journal ≡ true
+  pub table : List ℕ
+  pub captures : List (List ℕ)
+  pub inputs : AreInputs job told table captures
+  pub longer : IsLongJournal words.settings table captures size
+
+-- how many captures a job makes of those of its ports
+abbrev pub captures_made : JobWords → ℕ → ℕ
+captures_made (run r) ports = ports
+captures_made (gen g) ports = ports
+captures_made (check file) ports = 0
+captures_made (firm f) ports = 0
 
 -- The job makes these texts of the bytes of the table and the captures.
 pub record IsMade (job : JobWords) (told : Option Contents) (texts : Texts) : Type 0 where
   pub table : List ℕ
   pub captures : List (List ℕ)
   pub inputs : AreInputs job told table captures
-  pub outcome : IsJobOutcome (settings_in job) (wants_slots job) table captures (Ok texts)
-  pub count : length texts.outputs ≡ length captures
+  pub outcome : IsJobOutcome job table captures (Ok texts)
+  pub count : length texts.outputs ≡ captures_made job (length captures)
 
 -- All texts were made and written, in order, and nothing else changed.
 pub record IsDone (job : JobWords) (old new : Option Contents) : Type 0 where
@@ -93,6 +125,7 @@ pub record StopsAtOut (job : JobWords) (texts : Texts) (old : Option Contents) (
 abbrev pub StopsWriting : JobWords → Texts → Written → Option Contents → (Place → ℕ) → (Place → ℕ) → Option Contents → Type 0
 StopsWriting job texts (Output port) old was now told = (port < length texts.outputs) × StopsAtFile job texts port old was now told
 StopsWriting job texts Report old was now told = StopsAtFile job texts (length texts.outputs) old was now told
+StopsWriting job texts Journal old was now told = StopsAtFile job texts (length texts.outputs + 1) old was now told
 StopsWriting job texts StandardOutput old was now told = StopsAtOut job texts old was now told
 
 -- The texts were made, and a call that wrote them was refused.
@@ -101,17 +134,25 @@ pub record IsWriteFault (job : JobWords) (old : Option Contents) (was now : Plac
   pub made : IsMade job old texts
   pub stops : StopsWriting job texts written old was now told
 
--- why a command stops before its end, and what it has made of the contents by then
+-- The words name a file to check, and its check ends so.
+pub record IsCheck (job : JobWords) (old : Option Contents) (was now : Place → ℕ) (told : Option Contents) (ending : CheckEnding) : Type 0 where
+  pub file : List ℕ
+  pub is_check : job ≡ check file
+  pub means : MeansCheck file old told was now ending
+
+-- why a command stops before its end, and what it has made of the contents by then; or how a check ends
 abbrev pub Stops : JobWords → Option Contents → (Place → ℕ) → (Place → ℕ) → Option Contents → Ending → Type 0
 Stops job old was now told Done = ⊥
 Stops job old was now told Usage = ⊥
 Stops job old was now told (ReadFault input) = IsReadFault job old was now input × (told ≡ old)
 Stops job old was now told (TooLong input) = IsFirstTooLong job old input × (told ≡ old)
 Stops job old was now told (Refused fault) = IsRefused job old fault × (told ≡ old)
+Stops job old was now told (JournalTooLong size) = IsJournalTooLong job old size × (told ≡ old)
 Stops job old was now told OutOfMemory = told ≡ old
 Stops job old was now told (WriteFault written) = IsWriteFault job old was now told written
+Stops job old was now told (Checked ending) = IsCheck job old was now told ending
 
--- A job stopped, and then its line was given to standard error.
+-- A job stopped, or a check ended, and then its line was given to standard error. Yes has no line.
 pub record IsStopped (c : Command) (ending : Ending) : Type 0 where
   pub job : JobWords
   pub told : Option Contents
@@ -126,5 +167,7 @@ Means c Usage = (c.job ≡ None) × GivesLine usage_line c.old c.new (c.was ToEr
 Means c (ReadFault input) = IsStopped c (ReadFault input)
 Means c (TooLong input) = IsStopped c (TooLong input)
 Means c (Refused fault) = IsStopped c (Refused fault)
+Means c (JournalTooLong size) = IsStopped c (JournalTooLong size)
 Means c OutOfMemory = GivesLine memory_line c.old c.new (c.was ToErr) (c.now ToErr)
 Means c (WriteFault written) = IsStopped c (WriteFault written)
+Means c (Checked ending) = IsStopped c (Checked ending)

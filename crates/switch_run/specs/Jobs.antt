@@ -1,31 +1,60 @@
 -- What the words of a job say, whichever its command is.
-use Rattle.std.specs.Prelude.{ℕ, ◌<◌, Bool, false, List, [], length, slice_index_or}
-use Rattle.switch_words.specs.declared.job.Settings.{Settings}
-use Rattle.switch_words.specs.Reading.{JobWords, run, gen, RunWords}
+use Rattle.std.specs.Prelude.{ℕ, ◌<◌, Bool, false, List, [], length, slice_index_or, Option, Some, None}
+use Rattle.switch_words.specs.Reading.{JobWords, run, gen, check, firm, RunWords, FirmWords}
 use Rattle.switch_run.specs.declared.inputs.InputFile.{InputFile}
 use Rattle.switch_run.specs.declared.inputs.InputFile.TheVariants.{Table, Capture}
 
--- how the job runs
-abbrev pub settings_in : JobWords → Settings
-settings_in (run r) = r.settings
-settings_in (gen g) = g.settings
+-- how many microseconds a slot of the job has, if not those of line pace
+abbrev pub pace_in : JobWords → Option ℕ
+pace_in (run r) = r.settings.pace_us
+pace_in (gen g) = g.settings.pace_us
+pace_in (check file) = None
+pace_in (firm f) = f.settings.pace_us
 
--- whether the report has a line for each slot
-abbrev pub wants_slots : JobWords → Bool
-wants_slots (run r) = r.slots
-wants_slots (gen g) = false
+-- what a run is to tell beside its captures, the report's numbers and the summary: a line for each slot, the journal, and
+-- the lines of the output-queued reference
+pub record Wanted : Type 0 where
+  pub slots : Bool
+  pub journal : Bool
+  pub reference : Bool
 
--- how many ports the switch has
-abbrev pub ports_in : JobWords → ℕ
-ports_in (run r) = length r.inputs
-ports_in (gen g) = g.ports
+abbrev pub wanted_by : RunWords → Wanted
+wanted_by r = record { slots = r.slots; journal = r.journal; reference = r.reference }
 
--- the name of a file that a run reads: the table's, or that of the capture of a port
-abbrev pub input_name : RunWords → InputFile → List ℕ
+abbrev pub nothing_wanted : Wanted
+nothing_wanted = record { slots = false; journal = false; reference = false }
+
+-- the names of the files that a job reads: the table, and the capture of each port
+pub record ReadWords : Type 0 where
+  pub table : List ℕ
+  pub inputs : List (List ℕ)
+
+abbrev pub run_reads : RunWords → ReadWords
+run_reads r = record { table = r.table; inputs = r.inputs }
+
+abbrev pub firm_reads : FirmWords → ReadWords
+firm_reads f = record { table = f.table; inputs = f.inputs }
+
+-- the table and the captures that a job reads: `gen` makes them, and `check` has none
+abbrev pub reads_of : JobWords → Option ReadWords
+reads_of (run r) = Some (run_reads r)
+reads_of (gen g) = None
+reads_of (check file) = None
+reads_of (firm f) = Some (firm_reads f)
+
+-- the name of a file that a job reads: the table's, or that of the capture of a port
+abbrev pub input_name : ReadWords → InputFile → List ℕ
 input_name r Table = r.table
 input_name r (Capture port) = slice_index_or r.inputs port []
 
 -- there is a port of this number
-abbrev pub IsInput : RunWords → InputFile → Type 0
+abbrev pub IsInput : ReadWords → InputFile → Type 0
 IsInput r Table = Unit {0}
 IsInput r (Capture port) = port < length r.inputs
+
+-- a job that runs a switch: each but `check`
+abbrev pub RunsSwitch : JobWords → Type 0
+RunsSwitch (run r) = Unit {0}
+RunsSwitch (gen g) = Unit {0}
+RunsSwitch (check file) = ⊥
+RunsSwitch (firm f) = Unit {0}

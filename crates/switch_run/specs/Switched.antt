@@ -1,12 +1,17 @@
 -- What a job makes of the bytes of its table and its captures.
-use Rattle.std.specs.Prelude.{◌≡◌, ℕ, Bool, if◌then◌else◌, List, [], map, length, None, Result, Ok, Err}
+use Rattle.std.specs.Prelude.{◌≡◌, ◌<◌, ◌≤◌, ℕ, if◌then◌else◌, List, [], ◌++◌, map, length, Option, None, Some, Result, Ok, Err, IfSome}
 use Rattle.std.specs.List.{range_with_len}
 use Rattle.pcap_records.specs.Output.{capture_text}
 use Rattle.forward_table.specs.declared.route_lines.RouteLine.{RouteLine}
 use Rattle.slot_report.specs.declared.summary.OutLine.{OutLine}
+use Rattle.slot_report.specs.declared.summary.Summary.{Summary}
 use Rattle.slot_report.specs.Lines.{lines_text}
 use Rattle.slot_report.specs.Texts.{summary_lines, report_lines}
+use Rattle.journal_check.specs.declared.limits.TheConstants.{MAX_JOURNAL_BYTES}
+use Rattle.journal_check.specs.Files.{JournalFile}
+use Rattle.journal_check.specs.Texts.{file_slot, file_text}
 use Rattle.switch_words.specs.declared.job.Settings.{Settings}
+use Rattle.switch_words.specs.Reading.{JobWords, run, gen, check, firm}
 use Rattle.switch_plan.specs.declared.fault.PlanFault.{PlanFault}
 use Rattle.switch_plan.specs.Traffic.{CaptureFile}
 use Rattle.switch_plan.specs.Refusals.{AreRead, refusal_of, IsRefusal}
@@ -15,44 +20,98 @@ use Rattle.whole_run.specs.Runs.{ports_of, run_journal}
 use Rattle.whole_run.specs.Ends.{IsLength}
 use Rattle.whole_run.specs.Crossings.{cells_to}
 use Rattle.switch_jobs.specs.Outcomes.{messages_to, summary_of}
+use Rattle.reference_run.specs.RunLines.{run_lines}
+use Rattle.firm_run.specs.FirmRuns.{IsFirmRun, HasShortWaits}
+use Rattle.switch_run.specs.Jobs.{Wanted, wanted_by, nothing_wanted, pace_in}
 
--- The texts of a run: the capture of each output, the report, and the summary.
+-- The texts of a run: the capture of each output, the report, the journal where it is wanted, and the summary.
 pub record Texts : Type 0 where
   pub outputs : List (List ℕ)
   pub report : List ℕ
+  pub journal : Option (List ℕ)
   pub summary : List ℕ
 
 -- the number of packets and of cells that come to output j in the first slots
 abbrev pub out_line : SwitchPlan → ℕ → ℕ → OutLine
 out_line plan slots j = record { packets = length (messages_to plan j slots); cells = length (cells_to plan j slots) }
 
--- the texts of a run of so many slots; where they are wanted, the report has a line for each slot
-abbrev pub texts_of : Bool → SwitchPlan → ℕ → Texts
+-- what the journal file of a run of so many slots tells
+abbrev pub run_file : SwitchPlan → ℕ → JournalFile
+run_file plan slots = record { ports = ports_of plan; rounds = plan.rounds; slots = map file_slot (run_journal plan slots) }
+
+abbrev pub journal_text : SwitchPlan → ℕ → List ℕ
+journal_text plan slots = file_text (run_file plan slots)
+
+-- the report of a run of so many slots: the lines of the report, with one for each slot where these are wanted, and then
+-- the lines of the reference where these are wanted
+abbrev pub report_of : Wanted → SwitchPlan → ℕ → List ℕ
+report_of wanted plan slots =
+    lines_text (report_lines (summary_of plan slots) (map (out_line plan slots) (range_with_len 0 (ports_of plan))) (if wanted.slots then run_journal plan slots else []))
+    ++ (if wanted.reference then lines_text (run_lines plan slots) else [])
+
+-- the texts of a run of so many slots
+abbrev pub texts_of : Wanted → SwitchPlan → ℕ → Texts
 texts_of wanted plan slots = record {
   outputs = map (λ j. capture_text plan.nano plan.link (messages_to plan j slots)) (range_with_len 0 (ports_of plan));
-  report = lines_text (report_lines (summary_of plan slots) (map (out_line plan slots) (range_with_len 0 (ports_of plan))) (if wanted then run_journal plan slots else []));
+  report = report_of wanted plan slots;
+  journal = if wanted.journal then Some (journal_text plan slots) else None;
   summary = lines_text (summary_lines (summary_of plan slots));
 }
 
--- The run of a job: its table and captures are those that the bytes are, none of the limits refuses them, the plan is
--- theirs, and its run has so many slots.
-pub record IsRunOf (settings : Settings) (table : List ℕ) (files : List (List ℕ)) (plan : SwitchPlan) (slots : ℕ) : Type 0 where
+-- The plan of a job: its table and captures are those that the bytes are, none of the limits refuses them, and the plan
+-- is theirs.
+pub record IsPlanned (settings : Settings) (table : List ℕ) (files : List (List ℕ)) (plan : SwitchPlan) : Type 0 where
   pub lines : List RouteLine
   pub captures : List CaptureFile
   pub read : AreRead table files lines captures
   pub allowed : refusal_of settings.pace_us lines captures ≡ None
   pub good : IsGood plan
   pub planned : IsPlanOf settings files lines captures plan
+
+-- The run of a job: its plan, and how many slots the plan's run has.
+pub record IsRunOf (settings : Settings) (table : List ℕ) (files : List (List ℕ)) (plan : SwitchPlan) (slots : ℕ) : Type 0 where
+  pub planned : IsPlanned settings table files plan
   pub ends : IsLength plan slots
 
--- The switch theorem for one job: the texts are those of the run of its table and captures.
-pub record IsSwitched (settings : Settings) (wanted : Bool) (table : List ℕ) (files : List (List ℕ)) (texts : Texts) : Type 0 where
+-- The switch theorem for one job: the texts are those of the run of its table and captures. A journal has at most
+-- 134,217,728 bytes.
+pub record IsSwitched (settings : Settings) (wanted : Wanted) (table : List ℕ) (files : List (List ℕ)) (texts : Texts) : Type 0 where
   pub plan : SwitchPlan
   pub slots : ℕ
   pub run : IsRunOf settings table files plan slots
   pub are : texts ≡ texts_of wanted plan slots
+  pub small : IfSome texts.journal (λ bytes. length bytes ≤ MAX_JOURNAL_BYTES)
+
+-- the texts of a run under the second scheduler: its summary alone
+abbrev pub firm_texts : Summary → Texts
+firm_texts summary = record { outputs = []; report = []; journal = None; summary = lines_text (summary_lines summary) }
+
+-- The same under the second scheduler: the summary is that of the run of the job's table and captures. Where no admitted
+-- packet of the best level of all is multicast, that level's longest wait is below N * N slots.
+pub record IsSwitchedByFirm (settings : Settings) (table : List ℕ) (files : List (List ℕ)) (texts : Texts) : Type 0 where
+  pub plan : SwitchPlan
+  pub summary : Summary
+  pub planned : IsPlanned settings table files plan
+  pub run : IsFirmRun plan summary
+  pub waits : HasShortWaits plan summary
+  pub are : texts ≡ firm_texts summary
+
+-- the texts that a job makes of a table and captures
+abbrev pub AreTexts : JobWords → List ℕ → List (List ℕ) → Texts → Type 0
+AreTexts (run r) table files texts = IsSwitched r.settings (wanted_by r) table files texts
+AreTexts (gen g) table files texts = IsSwitched g.settings nothing_wanted table files texts
+AreTexts (check file) table files texts = ⊥
+AreTexts (firm f) table files texts = IsSwitchedByFirm f.settings table files texts
 
 -- what a job comes to: texts, or the first cause for which it is refused
-abbrev pub IsJobOutcome : Settings → Bool → List ℕ → List (List ℕ) → Result Texts PlanFault → Type 0
-IsJobOutcome settings wanted table files (Ok texts) = IsSwitched settings wanted table files texts
-IsJobOutcome settings wanted table files (Err fault) = IsRefusal settings.pace_us table files fault
+abbrev pub IsJobOutcome : JobWords → List ℕ → List (List ℕ) → Result Texts PlanFault → Type 0
+IsJobOutcome job table files (Ok texts) = AreTexts job table files texts
+IsJobOutcome job table files (Err fault) = IsRefusal (pace_in job) table files fault
+
+-- The journal of the job's run would have this many bytes, which are more than a journal file may have.
+pub record IsLongJournal (settings : Settings) (table : List ℕ) (files : List (List ℕ)) (size : ℕ) : Type 0 where
+  pub plan : SwitchPlan
+  pub slots : ℕ
+  pub run : IsRunOf settings table files plan slots
+  pub size_is : size ≡ length (journal_text plan slots)
+  pub longer : MAX_JOURNAL_BYTES < size

@@ -2,7 +2,7 @@ ghost use Rattle.std.specs.Prelude.{◌≡◌, ℕ, Some, map, string_bytes, IfE
 ghost use Rattle.outside.specs.Faults.{NeverFall};
 ghost use Rattle.switch_words.specs.Limits.{IsWithinLimits};
 ghost use Rattle.switch_words.specs.Reading.{job_words};
-ghost use Rattle.switch_run.specs.Causes.{Answers, IsComplete, IsRunBy, RefusalIsExact, TooLongIsExact, UsageIsExact};
+ghost use Rattle.switch_run.specs.Causes.{Answers, CheckIsExact, IsComplete, IsNeverAhead, IsRunBy, JournalTooLongIsExact, RefusalIsExact, ServesAsMany, TooLongIsExact, UsageIsExact};
 ghost use Rattle.switch_plan.specs.GoodPlans.{SwitchPlan};
 ghost use Rattle.whole_run.specs.Promises.{BusySlotsMatch, DeliversAdmitted, DeliversNoOthers, HasFewSlots, ServesWaiting, WaitsAreShort};
 ghost use Rattle.switch_run.specs.Endings.{IsDone, Means, Stops, command_of};
@@ -10,11 +10,11 @@ ghost use Rattle.switch_run.specs.declared.ending.Ending.{Ending};
 
 use crate::ending::Ending;
 use crate::error_lines::{print_line, print_memory, print_usage};
-use crate::inputs::inputs_of;
-use crate::making::make_texts;
+use crate::job_texts::job_texts;
 use crate::output_files::put_texts;
 use card_worker::Gate;
 use outside::Files;
+use reference_run::laws as references;
 use std::alloc::Global;
 use std::thread::Threads;
 use switch_words::{Job, WordsFault, read_words};
@@ -33,11 +33,7 @@ fn attempt<R: Threads + Sync, F: Files, G: Gate + Sync>(
     ensures stops { IfErr result (Stops (job_words job.now) (F.told files.old) (F.faults files.old) (F.faults files.new) (F.told files.new)) }
     ensures never_fall { NeverFall (F.faults files.old) (F.faults files.new) }
 {
-    let inputs = match inputs_of(alloc, job, files) {
-        Ok(inputs) => inputs,
-        Err(ending) => return Err(ending),
-    };
-    let texts = match make_texts(rt, alloc, job, inputs, gate) {
+    let texts = match job_texts(rt, alloc, job, files, gate) {
         Ok(texts) => texts,
         Err(ending) => return Err(ending),
     };
@@ -93,28 +89,33 @@ fn end_of<R: Threads + Sync, F: Files, G: Gate + Sync>(
 }
 
 /// Runs the command that the words give over the files, and answers its exit status. The line cards are shared
-/// among threads of `rt`; before each try of a post or a take the gate is asked.
+/// among threads of `rt`; before each try of a post or a take the gate is called.
 ///
-/// The words are those of a `run` or a `gen` job, as [`switch_words`] says. A `run` job reads its table and then
-/// each capture whole. Of these, or of the input that a `gen` job makes, the switch is planned and run to its end.
-/// A `run` job then writes the capture of output `j` to `PREFIX.j.pcap`, for each `j` in order, and the report to
-/// `PREFIX.report`. Last, the summary is given to standard output.
+/// The words are those of a `run`, a `gen`, a `check` or a `firm` job, as [`switch_words`] says. A `run` and a `firm`
+/// job read their table and then each capture whole. Of these, or of the input that a `gen` job makes, the switch is
+/// planned and run to its end, for `firm` under the second scheduler. A `run` job then writes the capture of output
+/// `j` to `PREFIX.j.pcap`, for each `j` in order, the report to `PREFIX.report` and, where it is wanted, the journal to
+/// `PREFIX.journal`. Last, the summary is given to standard output. A `check` job reads a journal file and tells
+/// whether it is lawful.
 ///
-/// - 0: all is written, and nothing else changed.
+/// - 0: all is written, and nothing else changed; or the journal file is lawful.
 /// - 2: the words are not those of a job.
-/// - 3: a read of the table or of a capture was refused.
-/// - 4: the table or a capture has more than 16,777,216 bytes, or what they hold is refused.
+/// - 3: a read of the table, of a capture or of the journal file was refused.
+/// - 4: the table or a capture has more than 16,777,216 bytes, or what they hold is refused; or a journal that is to be
+///   written or checked has more than 134,217,728 bytes; or what is to be checked is no journal file.
 /// - 5: memory ran out. No file was begun, and nothing was given to standard output.
 /// - 6: a call on a file that is written or on standard output was refused. What was to be written before is whole,
 ///   and what was to be written after is as before.
+/// - 7: the journal file is not lawful.
 ///
 /// At 0 all that is written is that of the run which the words and the bytes that were read have, slot by slot, in
 /// whatever order the threads made it. Of that run: at each output each flow has just its admitted packets, in order
 /// of arrival; a unicast queue that is posted is served within the bound of `longest_service()` of `service_bound`,
-/// where nothing better is posted and no multicast of its level; and it has no more slots than the greatest number of
-/// arrival slots, the cells of the admitted packets counted for each output, and one.
+/// where nothing better is posted and no multicast of its level; it has no more slots than the greatest number of
+/// arrival slots, the cells of the admitted packets counted for each output, and one; and an ideal switch whose queues
+/// stand at the outputs is never behind it, and serves as many cells in all.
 ///
-/// At 2 to 5 every file is as before. Each status but 0 gives one line to standard error; where a call
+/// At 2 to 5 and at 7 every file is as before. Each status but 0 gives one line to standard error; where a call
 /// of that is refused, the rest of the line is left out, and the status stays.
 pub fn switch_main<R: Threads + Sync, F: Files, G: Gate + Sync>(
     rt: &R,
@@ -128,6 +129,8 @@ pub fn switch_main<R: Threads + Sync, F: Files, G: Gate + Sync>(
     ensures usage { UsageIsExact (command_of (map string_bytes words.now) (F.told files.old) (F.told files.new) (F.faults files.old) (F.faults files.new)) result }
     ensures too_long { TooLongIsExact (command_of (map string_bytes words.now) (F.told files.old) (F.told files.new) (F.faults files.old) (F.faults files.new)) result }
     ensures refusal { RefusalIsExact (command_of (map string_bytes words.now) (F.told files.old) (F.told files.new) (F.faults files.old) (F.faults files.new)) result }
+    ensures journal_too_long { JournalTooLongIsExact (command_of (map string_bytes words.now) (F.told files.old) (F.told files.new) (F.faults files.old) (F.faults files.new)) result }
+    ensures checks { CheckIsExact (command_of (map string_bytes words.now) (F.told files.old) (F.told files.new) (F.faults files.old) (F.faults files.new)) result }
     ensures complete { IsComplete (command_of (map string_bytes words.now) (F.told files.old) (F.told files.new) (F.faults files.old) (F.faults files.new)) result }
     ensures delivers { (plan : SwitchPlan) (slots : ℕ) → IsRunBy (command_of (map string_bytes words.now) (F.told files.old) (F.told files.new) (F.faults files.old) (F.faults files.new)) plan slots → DeliversAdmitted plan slots }
     ensures no_others { (plan : SwitchPlan) (slots : ℕ) → IsRunBy (command_of (map string_bytes words.now) (F.told files.old) (F.told files.new) (F.faults files.old) (F.faults files.new)) plan slots → DeliversNoOthers plan slots }
@@ -135,12 +138,16 @@ pub fn switch_main<R: Threads + Sync, F: Files, G: Gate + Sync>(
     ensures waits { (plan : SwitchPlan) (slots : ℕ) → IsRunBy (command_of (map string_bytes words.now) (F.told files.old) (F.told files.new) (F.faults files.old) (F.faults files.new)) plan slots → WaitsAreShort plan slots }
     ensures few_slots { (plan : SwitchPlan) (slots : ℕ) → IsRunBy (command_of (map string_bytes words.now) (F.told files.old) (F.told files.new) (F.faults files.old) (F.faults files.new)) plan slots → HasFewSlots plan slots }
     ensures busy_slots { (plan : SwitchPlan) (slots : ℕ) → IsRunBy (command_of (map string_bytes words.now) (F.told files.old) (F.told files.new) (F.faults files.old) (F.faults files.new)) plan slots → BusySlotsMatch plan }
+    ensures never_ahead { (plan : SwitchPlan) (slots : ℕ) → IsRunBy (command_of (map string_bytes words.now) (F.told files.old) (F.told files.new) (F.faults files.old) (F.faults files.new)) plan slots → IsNeverAhead plan slots }
+    ensures serves_as_many { (plan : SwitchPlan) (slots : ℕ) → IsRunBy (command_of (map string_bytes words.now) (F.told files.old) (F.told files.new) (F.faults files.old) (F.faults files.new)) plan slots → ServesAsMany plan slots }
 {
     deliveries::admitted_packets_are_delivered();
     waits::waiting_queues_are_served();
     waits::best_level_waits_are_short();
     ends::runs_end();
     ends::busy_slots_match();
+    references::reference_is_never_behind();
+    references::whole_runs_serve_the_same();
     end_of(rt, alloc, words, files, gate).status()
 }
 

@@ -1,7 +1,8 @@
 ghost use Rattle.std.specs.Prelude.{◌≡◌};
-ghost use Rattle.switch_run.specs.Endings.{status_of};
+ghost use Rattle.switch_run.specs.Endings.{check_status, status_of};
 
 use crate::inputs::InputFile;
+use check_job::CheckEnding;
 use switch_plan::PlanFault;
 
 /// What a job writes.
@@ -11,6 +12,8 @@ pub(crate) enum Written {
     Output(u32),
     /// The report's file.
     Report,
+    /// The journal's file.
+    Journal,
     StandardOutput,
 }
 
@@ -27,9 +30,13 @@ pub(crate) enum Ending {
     TooLong(InputFile),
     /// What the files hold is refused.
     Refused(PlanFault),
+    /// The run's journal has this many bytes, more than a journal file may have.
+    JournalTooLong(u64),
     OutOfMemory,
     /// A call on what was being written was refused.
     WriteFault(Written),
+    /// The end of a check.
+    Checked(CheckEnding),
 }
 
 impl Ending {
@@ -41,9 +48,24 @@ impl Ending {
             Ending::Done => 0,
             Ending::Usage => 2,
             Ending::ReadFault(_) => 3,
-            Ending::TooLong(_) | Ending::Refused(_) => 4,
+            Ending::TooLong(_) | Ending::Refused(_) | Ending::JournalTooLong(_) => 4,
             Ending::OutOfMemory => 5,
             Ending::WriteFault(_) => 6,
+            Ending::Checked(ending) => check_status(ending),
         }
+    }
+}
+
+// The exit status of a check.
+fn check_status(ending: CheckEnding) -> u8
+    ensures { result ≡ check_status ending }
+{
+    match ending {
+        CheckEnding::Yes => 0,
+        CheckEnding::ReadFault => 3,
+        CheckEnding::TooLong | CheckEnding::Bad { .. } => 4,
+        CheckEnding::OutOfMemory => 5,
+        CheckEnding::OutFault => 6,
+        CheckEnding::No { .. } => 7,
     }
 }

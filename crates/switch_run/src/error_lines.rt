@@ -1,23 +1,25 @@
-ghost use Rattle.std.specs.Prelude.{◌≡◌, codes, map, OnErr};
+ghost use Rattle.std.specs.Prelude.{◌≡◌, [], ◌∷◌, ◌++◌, codes, decimal, map, OnErr};
 ghost use Rattle.std.specs.List.{concat};
 ghost use Rattle.outside.specs.Faults.{ToErr, NeverFall, Rose};
 ghost use Rattle.pcap_records.specs.Texts.{hex_text};
 ghost use Rattle.switch_words.specs.Reading.{job_words};
-ghost use Rattle.switch_run.specs.ErrorLines.{line_of, name_read, name_written, named_line, usage_line};
+ghost use Rattle.switch_run.specs.ErrorLines.{check_line, checked_line, line_of, name_read, name_written, named_line, reason_parts, usage_line};
 ghost use Rattle.switch_run.specs.LineParts.{Gives, GivesLine, part_text};
 ghost use Rattle.switch_run.specs.RefusalLines.{capture_line, memory_line, refusal_line, table_line};
 
 use crate::ending::{Ending, Written};
-use crate::inputs::{InputFile, input_name};
+use crate::inputs::{InputFile, input_name, reads_of_firm, reads_of_run};
+use check_job::CheckEnding;
 use forward_table::TableFault;
 use itoa::Buffer;
+use journal_check::Reason;
 use outside::{Failed, Files};
 use pcap_records::PcapFault;
 use switch_plan::PlanFault;
 use switch_words::Job;
 
 const USAGE: &str =
-    "usage: tiny_tera run [options] TABLE PREFIX INPUT.. or tiny_tera gen [options] SEED COUNT PORTS\n";
+    "usage: tiny_tera run [options] TABLE PREFIX INPUT.. or tiny_tera gen [options] SEED COUNT PORTS or tiny_tera check FILE or tiny_tera firm [options] TABLE INPUT..\n";
 
 const MEMORY: &str = "out of memory\n";
 
@@ -247,17 +249,18 @@ pub(crate) fn print_memory<F: Files>(files: &mut F)
     give_parts(files, &[Text(MEMORY)]);
 }
 
-// The name of a file that the job reads; a `gen` job reads none.
+// The name of a table or of a capture that the job reads; `gen` and `check` read none.
 fn name_read(job: &Job, input: InputFile) -> &str
     ensures { result.now ≡ name_read (job_words job.now) input }
 {
     match job {
-        Job::Run(job) => input_name(job, input),
-        Job::Gen(_) => "",
+        Job::Run(job) => input_name(&reads_of_run(job), input),
+        Job::Firm(job) => input_name(&reads_of_firm(job), input),
+        Job::Gen(_) | Job::Check(_) => "",
     }
 }
 
-// Prints the line for what the job was writing; a `gen` job writes no file.
+// Prints the line for what the job was writing; only a `run` job writes files.
 fn print_write_fault<F: Files>(files: &mut F, job: &Job, written: Written)
     ensures line { GivesLine (named_line (codes "write fault: ") (name_written (job_words job.now) written)) (F.told files.old) (F.told files.new) (F.faults files.old ToErr) (F.faults files.new ToErr) }
     ensures never_fall { NeverFall (F.faults files.old) (F.faults files.new) }
@@ -275,8 +278,71 @@ fn print_write_fault<F: Files>(files: &mut F, job: &Job, written: Written)
             let prefix = Text(job.prefix.as_str());
             give_parts(files, &[what, prefix, Text(".report"), end]);
         }
+        (Job::Run(job), Written::Journal) => {
+            let prefix = Text(job.prefix.as_str());
+            give_parts(files, &[what, prefix, Text(".journal"), end]);
+        }
         (_, Written::StandardOutput) => give_parts(files, &[what, Text("standard output"), end]),
-        (Job::Gen(_), _) => give_parts(files, &[what, end]),
+        (Job::Gen(_) | Job::Check(_) | Job::Firm(_), _) => give_parts(files, &[what, end]),
+    }
+}
+
+// Prints the line for a journal that is not lawful.
+fn print_no<F: Files>(files: &mut F, slot: u32, reason: Reason)
+    ensures line { GivesLine (concat (codes "no: slot " ∷ decimal slot ∷ (reason_parts reason ++ codes "\n" ∷ []))) (F.told files.old) (F.told files.new) (F.faults files.old ToErr) (F.faults files.new ToErr) }
+    ensures never_fall { NeverFall (F.faults files.old) (F.faults files.new) }
+{
+    let (no, slot, end) = (Text("no: slot "), Number(u64::from(slot)), Text("\n"));
+    match reason {
+        Reason::AfterEnd => give_parts(files, &[no, slot, Text(" after end"), end]),
+        Reason::More { card } => {
+            let (what, card) = (Text(" more of card "), Number(u64::from(card)));
+            give_parts(files, &[no, slot, what, card, end]);
+        }
+        Reason::Keeps { card } => {
+            let (what, card) = (Text(" keeps of card "), Number(u64::from(card)));
+            give_parts(files, &[no, slot, what, card, end]);
+        }
+        Reason::Output { output } => {
+            let (what, output) = (Text(" output "), Number(u64::from(output)));
+            give_parts(files, &[no, slot, what, output, end]);
+        }
+        Reason::NoEnd => give_parts(files, &[no, slot, Text(" no end"), end]),
+    }
+}
+
+// Prints the line of the end of a check of this file. Yes has none.
+fn print_check<F: Files>(files: &mut F, file: &str, ending: CheckEnding)
+    ensures line { GivesLine (check_line file.now ending) (F.told files.old) (F.told files.new) (F.faults files.old ToErr) (F.faults files.new ToErr) }
+    ensures never_fall { NeverFall (F.faults files.old) (F.faults files.new) }
+{
+    let end = Text("\n");
+    match ending {
+        CheckEnding::Yes => {}
+        CheckEnding::No { slot, reason } => print_no(files, slot, reason),
+        CheckEnding::Bad { at } => {
+            let at = Number(u64::from(at));
+            give_parts(files, &[Text("journal: bad at "), at, end]);
+        }
+        CheckEnding::TooLong => give_parts(files, &[Text("too long: "), Text(file), end]),
+        CheckEnding::ReadFault => give_parts(files, &[Text("read fault: "), Text(file), end]),
+        CheckEnding::OutOfMemory => print_memory(files),
+        CheckEnding::OutFault => {
+            give_parts(
+                files,
+                &[Text("write fault: "), Text("standard output"), end],
+            );
+        }
+    }
+}
+
+// The same for a job that is a check; no other has such an end.
+fn print_checked<F: Files>(files: &mut F, job: &Job, ending: CheckEnding)
+    ensures line { GivesLine (checked_line (job_words job.now) ending) (F.told files.old) (F.told files.new) (F.faults files.old ToErr) (F.faults files.new ToErr) }
+    ensures never_fall { NeverFall (F.faults files.old) (F.faults files.new) }
+{
+    if let Job::Check(job) = job {
+        print_check(files, job.file.as_str(), ending);
     }
 }
 
@@ -297,8 +363,13 @@ pub(crate) fn print_line<F: Files>(files: &mut F, job: &Job, ending: Ending)
             give_parts(files, &[Text("too long: "), name, Text("\n")]);
         }
         Ending::Refused(fault) => print_refusal(files, fault),
+        Ending::JournalTooLong(size) => {
+            let size = Number(size);
+            give_parts(files, &[Text("journal too long: "), size, Text("\n")]);
+        }
         Ending::OutOfMemory => print_memory(files),
         Ending::WriteFault(written) => print_write_fault(files, job, written),
+        Ending::Checked(ending) => print_checked(files, job, ending),
     }
 }
 

@@ -1,21 +1,20 @@
 ghost use Rattle.std.specs.Prelude.{◌≡◌, ◌≤◌, ◌<◌, Some, length, vec_len, IfErr, IfOk, IfSome};
 ghost use Rattle.outside.specs.Faults.{NeverFall};
 ghost use Rattle.outside.specs.WholeFiles.{Fits};
-ghost use Rattle.switch_words.specs.Limits.{IsRunWithinLimits, IsGenWithinLimits, IsWithinLimits};
-ghost use Rattle.switch_words.specs.Reading.{run, run_words, job_words};
+ghost use Rattle.switch_words.specs.Limits.{IsGenWithinLimits};
+ghost use Rattle.switch_words.specs.Reading.{run_words, firm_words};
 ghost use Rattle.switch_plan.specs.Made.{made_table, made_captures};
 ghost use Rattle.switch_plan.specs.Reading.{bytes_of_files};
-ghost use Rattle.switch_run.specs.Endings.{Stops};
-ghost use Rattle.switch_run.specs.Inputs.{AreFilesRead, AreInputs, CapturesRead, EarlierFit};
-ghost use Rattle.switch_run.specs.Jobs.{IsInput, input_name};
-ghost use Rattle.switch_run.specs.Making.{AreOfSize};
+ghost use Rattle.switch_run.specs.Inputs.{AreFilesRead, CapturesRead, EarlierFit};
+ghost use Rattle.switch_run.specs.Jobs.{IsInput, input_name, run_reads, firm_reads};
+ghost use Rattle.switch_run.specs.Making.{AreOfSize, StopsReading, reads_words};
 
 use crate::ending::Ending;
 use outside::{Files, ReadFailure, read_whole};
 use rotating_pick::{MAX_FILE_BYTES, MAX_PORTS, OutOfMemory};
 use std::alloc::{AllocError, Global};
 use switch_plan::made_input;
-use switch_words::{GenJob, Job, RunJob};
+use switch_words::{FirmJob, GenJob, RunJob};
 
 /// The most bytes that are asked for at once.
 const PIECE: usize = 65_536;
@@ -35,13 +34,43 @@ pub(crate) struct Inputs {
     pub(crate) captures: Vec<Vec<u8>>,
 }
 
+/// The names of the files that a job reads.
+#[derive(Clone, Copy)]
+pub(crate) struct Reads<'a> {
+    pub(crate) table: &'a str,
+    /// That of the capture of each port, from port 0 on.
+    pub(crate) inputs: &'a [String],
+}
+
+/// The files of a `run` job.
+pub(crate) fn reads_of_run(job: &RunJob) -> Reads<'_>
+    ensures names { reads_words result ≡ run_reads (run_words job.now) }
+    ensures count { length result.inputs.now ≡ vec_len job.now.inputs }
+{
+    Reads {
+        table: job.table.as_str(),
+        inputs: job.inputs.as_slice(),
+    }
+}
+
+/// The files of a `firm` job.
+pub(crate) fn reads_of_firm(job: &FirmJob) -> Reads<'_>
+    ensures names { reads_words result ≡ firm_reads (firm_words job.now) }
+    ensures count { length result.inputs.now ≡ vec_len job.now.inputs }
+{
+    Reads {
+        table: job.table.as_str(),
+        inputs: job.inputs.as_slice(),
+    }
+}
+
 /// The name of the table, or of the capture of a port: empty where there is no such port.
-pub(crate) fn input_name(job: &RunJob, input: InputFile) -> &str
-    ensures { result.now ≡ input_name (run_words job.now) input }
+pub(crate) fn input_name<'a>(reads: &Reads<'a>, input: InputFile) -> &'a str
+    ensures { result.now ≡ input_name (reads_words reads.now) input }
 {
     match input {
-        InputFile::Table => job.table.as_str(),
-        InputFile::Capture(port) => match job.inputs.get(port as usize) {
+        InputFile::Table => reads.table,
+        InputFile::Capture(port) => match reads.inputs.get(port as usize) {
             Some(name) => name.as_str(),
             None => "",
         },
@@ -58,21 +87,21 @@ fn blank(alloc: Global, len: usize) -> Result<Vec<u8>, AllocError>
 // All bytes of the table, or of the capture of a port.
 fn read_input<F: Files>(
     alloc: Global,
-    job: &RunJob,
+    reads: &Reads<'_>,
     files: &mut F,
     input: InputFile,
     buf: &mut [u8],
 ) -> Result<Vec<u8>, Ending>
     requires room { 0 < length buf.old }
-    requires known { IsInput (run_words job.now) input }
-    requires earlier { IfSome (F.told files.old) (EarlierFit (run_words job.now) input) }
+    requires known { IsInput (reads_words reads.now) input }
+    requires earlier { IfSome (F.told files.old) (EarlierFit (reads_words reads.now) input) }
     ensures told { F.told files.new ≡ F.told files.old }
     ensures never_fall { NeverFall (F.faults files.old) (F.faults files.new) }
-    ensures bytes { IfOk result (λ v. IfSome (F.told files.old) (λ c. c.file (input_name (run_words job.now) input) ≡ Some v.items)) }
+    ensures bytes { IfOk result (λ v. IfSome (F.told files.old) (λ c. c.file (input_name (reads_words reads.now) input) ≡ Some v.items)) }
     ensures fits { IfOk result (λ v. length v.items ≤ MAX_FILE_BYTES) }
-    ensures stops { IfErr result (Stops (run (run_words job.now)) (F.told files.old) (F.faults files.old) (F.faults files.new) (F.told files.new)) }
+    ensures stops { IfErr result (StopsReading (reads_words reads.now) (F.told files.old) (F.faults files.old) (F.faults files.new)) }
 {
-    match read_whole(alloc, files, input_name(job, input), buf) {
+    match read_whole(alloc, files, input_name(reads, input), buf) {
         Ok(bytes) => Ok(bytes),
         Err(ReadFailure::Fault) => Err(Ending::ReadFault(input)),
         Err(ReadFailure::TooLong) => Err(Ending::TooLong(input)),
@@ -83,21 +112,21 @@ fn read_input<F: Files>(
 // All bytes of each capture, in order.
 fn read_captures<F: Files>(
     alloc: Global,
-    job: &RunJob,
+    reads: &Reads<'_>,
     files: &mut F,
     buf: &mut [u8],
 ) -> Result<Vec<Vec<u8>>, Ending>
     requires room { 0 < length buf.old }
-    requires ports { vec_len job.now.inputs ≤ MAX_PORTS }
-    requires table { IfSome (F.told files.old) (λ c. Fits c (run_words job.now).table) }
+    requires ports { length reads.now.inputs.now ≤ MAX_PORTS }
+    requires table { IfSome (F.told files.old) (λ c. Fits c (reads_words reads.now).table) }
     ensures told { F.told files.new ≡ F.told files.old }
     ensures never_fall { NeverFall (F.faults files.old) (F.faults files.new) }
-    ensures read { IfOk result (λ v. CapturesRead (run_words job.now).inputs (F.told files.old) (bytes_of_files v)) }
-    ensures stops { IfErr result (Stops (run (run_words job.now)) (F.told files.old) (F.faults files.old) (F.faults files.new) (F.told files.new)) }
+    ensures read { IfOk result (λ v. CapturesRead (reads_words reads.now).inputs (F.told files.old) (bytes_of_files v)) }
+    ensures stops { IfErr result (StopsReading (reads_words reads.now) (F.told files.old) (F.faults files.old) (F.faults files.new)) }
 {
     let mut captures = Vec::new(alloc);
-    for port in 0..job.inputs.len() as u32 {
-        let capture = match read_input(alloc, job, files, InputFile::Capture(port), buf) {
+    for port in 0..reads.inputs.len() as u32 {
+        let capture = match read_input(alloc, reads, files, InputFile::Capture(port), buf) {
             Ok(capture) => capture,
             Err(ending) => return Err(ending),
         };
@@ -108,30 +137,34 @@ fn read_captures<F: Files>(
     Ok(captures)
 }
 
-// All bytes of the files of a run: of the table and of each capture, in this order.
-fn read_inputs<F: Files>(alloc: Global, job: &RunJob, files: &mut F) -> Result<Inputs, Ending>
-    requires { IsRunWithinLimits job.now }
+/// All bytes of the files of these names: of the table and of each capture, in this order.
+pub(crate) fn read_inputs<F: Files>(
+    alloc: Global,
+    reads: &Reads<'_>,
+    files: &mut F,
+) -> Result<Inputs, Ending>
+    requires { length reads.now.inputs.now ≤ MAX_PORTS }
     ensures told { F.told files.new ≡ F.told files.old }
     ensures never_fall { NeverFall (F.faults files.old) (F.faults files.new) }
-    ensures read { IfOk result (λ i. AreFilesRead (run_words job.now) (F.told files.old) i.table.items (bytes_of_files i.captures)) }
-    ensures stops { IfErr result (Stops (run (run_words job.now)) (F.told files.old) (F.faults files.old) (F.faults files.new) (F.told files.new)) }
+    ensures read { IfOk result (λ i. AreFilesRead (reads_words reads.now) (F.told files.old) i.table.items (bytes_of_files i.captures)) }
+    ensures stops { IfErr result (StopsReading (reads_words reads.now) (F.told files.old) (F.faults files.old) (F.faults files.new)) }
 {
     let Ok(mut piece) = blank(alloc, PIECE) else {
         return Err(Ending::OutOfMemory);
     };
     let buf = piece.as_mut_slice();
-    let table = match read_input(alloc, job, files, InputFile::Table, buf) {
+    let table = match read_input(alloc, reads, files, InputFile::Table, buf) {
         Ok(table) => table,
         Err(ending) => return Err(ending),
     };
-    match read_captures(alloc, job, files, buf) {
+    match read_captures(alloc, reads, files, buf) {
         Ok(captures) => Ok(Inputs { table, captures }),
         Err(ending) => Err(ending),
     }
 }
 
-// The input that a `gen` job makes.
-fn made_inputs(alloc: Global, job: &GenJob) -> Result<Inputs, OutOfMemory>
+/// The input that a `gen` job makes.
+pub(crate) fn made_inputs(alloc: Global, job: &GenJob) -> Result<Inputs, OutOfMemory>
     requires { IsGenWithinLimits job.now }
     ensures table { IfOk result (λ i. i.table.items ≡ made_table job.now.ports) }
     ensures captures { IfOk result (λ i. bytes_of_files i.captures ≡ made_captures job.now) }
@@ -142,22 +175,4 @@ fn made_inputs(alloc: Global, job: &GenJob) -> Result<Inputs, OutOfMemory>
         table: made.table,
         captures: made.captures,
     })
-}
-
-/// The bytes of the job's table and of the capture of each port, read or made.
-pub(crate) fn inputs_of<F: Files>(alloc: Global, job: &Job, files: &mut F) -> Result<Inputs, Ending>
-    requires { IsWithinLimits job.now }
-    ensures told { F.told files.new ≡ F.told files.old }
-    ensures never_fall { NeverFall (F.faults files.old) (F.faults files.new) }
-    ensures inputs { IfOk result (λ i. AreInputs (job_words job.now) (F.told files.old) i.table.items (bytes_of_files i.captures)) }
-    ensures size { IfOk result (λ i. AreOfSize i.table.items (bytes_of_files i.captures)) }
-    ensures stops { IfErr result (Stops (job_words job.now) (F.told files.old) (F.faults files.old) (F.faults files.new) (F.told files.new)) }
-{
-    match job {
-        Job::Run(job) => read_inputs(alloc, job, files),
-        Job::Gen(job) => match made_inputs(alloc, job) {
-            Ok(inputs) => Ok(inputs),
-            Err(_) => Err(Ending::OutOfMemory),
-        },
-    }
 }

@@ -5,9 +5,12 @@ mod command;
 mod ending;
 mod error_lines;
 mod inputs;
+mod job_texts;
 pub mod laws;
 mod making;
 mod output_files;
+mod reference;
+mod texts;
 
 pub use command::switch_main;
 pub use switch_jobs::{Outcome, Ready, output_bytes, run_job, run_ready, run_ready_with};

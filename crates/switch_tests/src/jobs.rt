@@ -110,6 +110,13 @@ const TWO_CELLS: Packet = Packet {
     to: [10, 0, 0, 1],
 };
 
+// What comes to three ports, of which the new request of port 0 takes the grant that port 1 had.
+const THREE_PORTS: [&[Packet]; 3] = [
+    &[UNROUTED, UNROUTED, UNROUTED, A],
+    &[A, A, B],
+    &[UNROUTED, A, A],
+];
+
 const RAW_JOBS: [RawJob<'static>; 8] = [
     RawJob {
         texts: Texts {
@@ -178,11 +185,13 @@ const RAW_JOBS: [RawJob<'static>; 8] = [
     // Two cells come where two wait, in a queue with room for four.
     RawJob {
         texts: Texts {
-            words: &["run", "--depth", "4", "t", "out", "a", "b"],
+            words: &["run", "--depth", "4", "--reference", "t", "out", "a", "b"],
             table: "* 0",
             summary: "ports 2\nrounds 4\ndepth 4\nslots 11\npackets 3\noversize 0\nunrouted 0\n\
                 dropped 0\nforwarded 3\ncopies 3\ncells 8\nlongest 1 0 0 0\n",
-            more: "output 0 packets 3 cells 8\noutput 1 packets 0 cells 0\n",
+            more: "output 0 packets 3 cells 8\noutput 1 packets 0 cells 0\n\
+                reference 0 ends 10 runs 10 lead 0 extra 0\n\
+                reference 1 ends 0 runs 0 lead 0 extra 0\n",
         },
         inputs: &[&[LONG_A, TWO_CELLS], &[LONG_A]],
         outputs: &[&[LONG_A, LONG_A, TWO_CELLS], &[]],
@@ -190,11 +199,13 @@ const RAW_JOBS: [RawJob<'static>; 8] = [
     // The same with room for three: the packet is dropped.
     RawJob {
         texts: Texts {
-            words: &["run", "--depth", "3", "t", "out", "a", "b"],
+            words: &["run", "--depth", "3", "--reference", "t", "out", "a", "b"],
             table: "* 0",
             summary: "ports 2\nrounds 4\ndepth 3\nslots 9\npackets 3\noversize 0\nunrouted 0\n\
                 dropped 1\nforwarded 2\ncopies 2\ncells 6\nlongest 1 0 0 0\n",
-            more: "output 0 packets 2 cells 6\noutput 1 packets 0 cells 0\n",
+            more: "output 0 packets 2 cells 6\noutput 1 packets 0 cells 0\n\
+                reference 0 ends 8 runs 8 lead 0 extra 0\n\
+                reference 1 ends 0 runs 0 lead 0 extra 0\n",
         },
         inputs: &[&[LONG_A, TWO_CELLS], &[LONG_A]],
         outputs: &[&[LONG_A, LONG_A], &[]],
@@ -202,7 +213,18 @@ const RAW_JOBS: [RawJob<'static>; 8] = [
     // The new request of port 0 takes the grant that port 1 had.
     RawJob {
         texts: Texts {
-            words: &["run", "--rounds", "1", "--slots", "t", "out", "a", "b", "c"],
+            words: &[
+                "run",
+                "--rounds",
+                "1",
+                "--slots",
+                "--reference",
+                "t",
+                "out",
+                "a",
+                "b",
+                "c",
+            ],
             table: TWO_ROUTES,
             summary: "ports 3\nrounds 1\ndepth 131072\nslots 7\npackets 10\noversize 0\n\
                 unrouted 4\ndropped 0\nforwarded 6\ncopies 6\ncells 6\nlongest 3 0 0 0\n",
@@ -210,13 +232,12 @@ const RAW_JOBS: [RawJob<'static>; 8] = [
                 output 2 packets 0 cells 0\nslot 0 used 1 first 1 1>0:0u\n\
                 slot 1 used 1 first 1 2>0:0u\nslot 2 used 1 first 1 1>1:0u\n\
                 slot 3 used 1 first 1 0>0:0u\nslot 4 used 1 first 1 1>0:0u\n\
-                slot 5 used 1 first 1 2>0:0u\nslot 6 used 0 first 0\n",
+                slot 5 used 1 first 1 2>0:0u\nslot 6 used 0 first 0\n\
+                reference 0 ends 5 runs 6 lead 1 extra 3\n\
+                reference 1 ends 3 runs 3 lead 0 extra 0\n\
+                reference 2 ends 0 runs 0 lead 0 extra 0\n",
         },
-        inputs: &[
-            &[UNROUTED, UNROUTED, UNROUTED, A],
-            &[A, A, B],
-            &[UNROUTED, A, A],
-        ],
+        inputs: &THREE_PORTS,
         outputs: &[&[A, A, A, A, A], &[B], &[]],
     },
 ];
@@ -365,5 +386,20 @@ fn made_packets_cross(rt: HostRuntime) -> Result<(), Fail> {
         compare_text(&rt, files.out_text(), job.summary, job.words);
         compare_text(&rt, files.err_text(), "", job.words);
     }
+    Ok(())
+}
+
+#[test]
+fn packets_cross_under_the_second_scheduler(rt: HostRuntime) -> Result<(), Fail> {
+    let words = ["firm", "--rounds", "1", "t", "a", "b", "c"];
+    let inputs = captures_of(rt.alloc(), &THREE_PORTS)?;
+    let given = given_files(rt.alloc(), TWO_ROUTES, inputs)?;
+    let mut files = files_of(&rt, rt.alloc(), given, PIECE, &[])?;
+    assert_eq!(rt; command(&rt, rt.alloc(), &words, &mut files, &OpenGate)?, 0);
+    let summary = "ports 3\nrounds 1\ndepth 131072\nslots 7\npackets 10\noversize 0\nunrouted 4\n\
+        dropped 0\nforwarded 6\ncopies 6\ncells 6\nlongest 2 0 0 0\n";
+    compare_text(&rt, files.out_text(), summary, &words);
+    compare_text(&rt, files.err_text(), "", &words);
+    compare_file(&rt, &files, "out.report", None, &words);
     Ok(())
 }

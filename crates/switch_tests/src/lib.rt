@@ -10,6 +10,8 @@ mod faults;
 #[cfg(test)]
 mod jobs;
 #[cfg(test)]
+mod journals;
+#[cfg(test)]
 mod large;
 #[cfg(test)]
 mod meeting;

@@ -1,6 +1,6 @@
 -- What a whole parse by clap gives.
 use Rattle.std.proofs.Common.{◌≡◌, ◌⊎◌, ◌∙◌, ap, ap₂, subst, sym, true, false, List, [], ◌∷◌, Option, None, Some, refl, inl, inr, drop, codes, map, string_bytes, String}
-use Rattle.std.specs.Prelude.{fold}
+use Rattle.std.specs.Prelude.{◌++◌, fold, unwrap_or}
 use Rattle.std.proofs.lemmas.Str.{IsUtf8-string_bytes}
 use Rattle.clap.specs.Walk.{Held, Row, Rule, Text, finished, has_row, idle, nothing_held, rows_after, rows_of, settled, walk, walk_from, with_default}
 use Rattle.clap.specs.Simple.{App, HasMatchesOf, built, matches_of}
@@ -18,26 +18,30 @@ use Rattle.clap.specs.declared.parser.matches.ValueSource.TheVariants.{DefaultVa
 use Rattle.clap.proofs.FaultLemmas.{leaf_fault}
 use Rattle.clap.proofs.OnLiterals.{clap_on_literals}
 use Rattle.switch_words.specs.declared.options.Command.{Command}
-use Rattle.switch_words.specs.declared.options.Command.TheVariants.{Run, Gen}
+use Rattle.switch_words.specs.declared.options.Command.TheVariants.{Run, Gen, Check, Firm}
+use Rattle.switch_words.specs.Options.{Flag, slots, journal, reference}
 use Rattle.switch_words.specs.Lines.{line_for, lookup_in, parts_in, parts_of}
 use Rattle.switch_words.specs.Parts.{no_parts, parts_from}
-use Rattle.switch_words.proofs.Rows.{has_row-lookup, lookup-with, tells}
-use Rattle.switch_words.proofs.Rules.{HasRules, IsSound, absent, flag_rule, has_rules, rules_for, shape_with, unless, unless-or_else}
+use Rattle.switch_words.proofs.Rows.{has_row-lookup, lookup-with, put, tells}
+use Rattle.switch_words.proofs.Rules.{HasRules, IsSound, absent, flag_id, flag_rule, has_rules, parts_in-put_default, rules_for, shape_with, unless, unless-or_else}
 use Rattle.switch_words.proofs.Turns.{idle_open, or_once}
 use Rattle.switch_words.proofs.Readings.{AreTexts, reads}
 
--- an argument has no default, or is the flag
+-- an argument has no default, or is a flag
+abbrev pub IsUsual : Rule → Type 0
+IsUsual a = (a.defaults ≡ []) ⊎ ((f : Flag) × (a ≡ flag_rule (flag_id f)))
+
 abbrev pub AreUsual : List Rule → Type 0
 AreUsual [] = Unit {0}
-AreUsual (a ∷ rest) = ((a.defaults ≡ []) ⊎ (a ≡ flag_rule)) × AreUsual rest
+AreUsual (a ∷ rest) = IsUsual a × AreUsual rest
 
-no_default_fault : (rows : List Row) (a : Rule) (rest : List Rule) → (a.defaults ≡ []) ⊎ (a ≡ flag_rule) → defaults_fault (with_default rows a) rest ≡ [] → defaults_fault rows (a ∷ rest) ≡ []
+no_default_fault : (rows : List Row) (a : Rule) (rest : List Rule) → IsUsual a → defaults_fault (with_default rows a) rest ≡ [] → defaults_fault rows (a ∷ rest) ≡ []
 unfolding defaults_fault
 no_default_fault rows a rest (inl none) h = elim (tells (has_row a.id rows)) [
   | inl there ↦ rw there (rw there at h)
   | inr there ↦ rw (there, none) (rw (there, none) at h)
 ]
-no_default_fault rows a rest (inr is) h = elim (tells (has_row (codes "slots") rows)) [
+no_default_fault rows a rest (inr (f, is)) h = elim (tells (has_row (flag_id f) rows)) [
   | inl there ↦ rw (is, there) (rw (is, there) at h)
   | inr there ↦ rw (is, there) (rw (is, there) at h)
 ]
@@ -47,17 +51,19 @@ unfolding defaults_fault
 no_faults [] usual rows = refl
 no_faults (a ∷ rest) usual rows = no_default_fault rows a rest usual.0 (no_faults rest usual.1 (with_default rows a))
 
--- the default of the flag says what no flag says
-same_default : (rows : List Row) (a : Rule) → (a.defaults ≡ []) ⊎ (a ≡ flag_rule) → parts_in (lookup_in (with_default rows a)) ≡ parts_in (lookup_in rows)
+-- a default says nothing
+same_default : (rows : List Row) (a : Rule) → IsUsual a → parts_in (lookup_in (with_default rows a)) ≡ parts_in (lookup_in rows)
 same_default rows a (inl none) = elim (tells (has_row a.id rows)) [
   | inl there ↦ rw there refl
   | inr there ↦ rw (there, none) refl
 ]
-same_default rows a (inr is) = elim (tells (has_row (codes "slots") rows)) [
+same_default rows a (inr (f, is)) = elim (tells (has_row (flag_id f) rows)) [
   | inl there ↦ rw (is, there) refl
   | inr there ↦
-      let none : lookup_in rows (codes "slots") ≡ None = absent _ (sym (has_row-lookup (codes "slots") rows) ∙ there) in
-      rw (is, there) (ap parts_in (λ i other. lookup-with (codes "slots") AsWritten DefaultValue (codes "false" ∷ []) rows other i) ∙ rw none refl)
+      let none : lookup_in rows (flag_id f) ≡ None = absent _ (sym (has_row-lookup (flag_id f) rows) ∙ there) in
+      rw (is, there) (ap parts_in (λ i other. lookup-with (flag_id f) AsWritten DefaultValue (codes "false" ∷ []) rows other i)
+      ∙ (ap (λ (o : Option (List Text)). parts_in (put (flag_id f) (unwrap_or o [] ++ codes "false" ∷ []) (lookup_in rows))) none
+      ∙ parts_in-put_default f (lookup_in rows) none))
 ]
 
 same_defaults : (c : List Rule) → AreUsual c → (rows : List Row) → parts_in (lookup_in (fold with_default rows c)) ≡ parts_in (lookup_in rows)
@@ -65,7 +71,7 @@ same_defaults [] usual rows = refl
 same_defaults (a ∷ rest) usual rows = same_defaults rest usual.1 (with_default rows a) ∙ same_default rows a usual.0
 
 nothing_sound : IsSound (lookup_in [])
-nothing_sound = record { texts = λ id. refl; flag = refl }
+nothing_sound = record { texts = λ id. refl; flag = λ f. refl }
 
 no_more : {A : Type 0} (a b d e : Kinds) (o : Option A) → d ≡ [] → e ≡ [] → unless (or_else a (or_else [] (or_else b (or_else d e)))) o ≡ unless a (unless b o)
 no_more a b d e o no_d no_e = rw (no_d, no_e) (unless-or_else a (or_else b []) o ∙ ap (unless a) (or_once b o))
@@ -86,15 +92,37 @@ pub simple_and_free : (command : Command) → is_simple_and_free (line_for comma
 unfolding clap_on_literals
 simple_and_free Run = refl
 simple_and_free Gen = refl
+simple_and_free Check = refl
+simple_and_free Firm = refl
+
+-- the arguments of each command
+usual : (command : Command) → AreUsual (rules_for command)
+usual Run = (inl refl, (inl refl, (inl refl, (inl refl, (inr (slots, refl), (inr (journal, refl), (inr (reference, refl), (inl refl, tt))))))))
+usual Gen = (inl refl, (inl refl, (inl refl, (inl refl, tt))))
+usual Check = (inl refl, tt)
+usual Firm = (inl refl, (inl refl, (inl refl, (inl refl, tt))))
+
+-- a command has no subcommand: one level is all
+one_level : (command : Command) (words : List Text) → fault_of (line_for command) words ≡ level_fault (shape_with (codes "tiny_tera") (rules_for command)) [] nothing_held (drop 1 words) false []
+one_level Run words = leaf_fault (built (line_for Run)) nothing_held (drop 1 words) refl
+one_level Gen words = leaf_fault (built (line_for Gen)) nothing_held (drop 1 words) refl
+one_level Check words = leaf_fault (built (line_for Check)) nothing_held (drop 1 words) refl
+one_level Firm words = leaf_fault (built (line_for Firm)) nothing_held (drop 1 words) refl
 
 pub parse_reads : (command : Command) (words : List Text) → AreTexts (drop 1 words)
     → unless (fault_of (line_for command) words) (Some (parts_in (lookup_in (matches_of (line_for command) words)))) ≡ parts_from command None no_parts (drop 1 words)
 parse_reads Run words texts =
-    ap (λ (k : Kinds). unless k (Some (parts_in (lookup_in (matches_of (line_for Run) words))))) (leaf_fault (built (line_for Run)) nothing_held (drop 1 words) refl)
-    ∙ level (codes "tiny_tera") Run (rules_for Run) (drop 1 words) (has_rules Run) (inl refl, (inl refl, (inl refl, (inl refl, (inr refl, (inl refl, tt)))))) texts (λ rows. refl)
+    ap (λ (k : Kinds). unless k (Some (parts_in (lookup_in (matches_of (line_for Run) words))))) (one_level Run words)
+    ∙ level (codes "tiny_tera") Run (rules_for Run) (drop 1 words) (has_rules Run) (usual Run) texts (λ rows. refl)
 parse_reads Gen words texts =
-    ap (λ (k : Kinds). unless k (Some (parts_in (lookup_in (matches_of (line_for Gen) words))))) (leaf_fault (built (line_for Gen)) nothing_held (drop 1 words) refl)
-    ∙ level (codes "tiny_tera") Gen (rules_for Gen) (drop 1 words) (has_rules Gen) (inl refl, (inl refl, (inl refl, (inl refl, tt)))) texts (λ rows. refl)
+    ap (λ (k : Kinds). unless k (Some (parts_in (lookup_in (matches_of (line_for Gen) words))))) (one_level Gen words)
+    ∙ level (codes "tiny_tera") Gen (rules_for Gen) (drop 1 words) (has_rules Gen) (usual Gen) texts (λ rows. refl)
+parse_reads Check words texts =
+    ap (λ (k : Kinds). unless k (Some (parts_in (lookup_in (matches_of (line_for Check) words))))) (one_level Check words)
+    ∙ level (codes "tiny_tera") Check (rules_for Check) (drop 1 words) (has_rules Check) (usual Check) texts (λ rows. refl)
+parse_reads Firm words texts =
+    ap (λ (k : Kinds). unless k (Some (parts_in (lookup_in (matches_of (line_for Firm) words))))) (one_level Firm words)
+    ∙ level (codes "tiny_tera") Firm (rules_for Firm) (drop 1 words) (has_rules Firm) (usual Firm) texts (λ rows. refl)
 
 -- where no kind of error comes, the matches say the parts
 pub parse_ok : (command : Command) (words : List Text) (line : App) (m : ArgMatches) → line ≡ line_for command → AreTexts (drop 1 words)

@@ -7,10 +7,10 @@ use Rattle.clap.specs.Lexer.{long_of}
 use Rattle.clap.specs.Walk.{Row, Rule, Text, Waiting, idle, option as awaits, positional, arg_by_id, used}
 use Rattle.clap.specs.Faults.{use_fault}
 use Rattle.switch_words.specs.declared.options.Command.{Command}
-use Rattle.switch_words.specs.Options.{Setting, Switch, value, slots, option_of}
+use Rattle.switch_words.specs.Options.{Setting, Switch, value, flag, option_of}
 use Rattle.switch_words.specs.Lines.{lookup_in, parts_in}
 use Rattle.switch_words.specs.Parts.{Parts, closing, name, option, parts_from, refused, with_names, word_of}
-use Rattle.switch_words.proofs.Rules.{HasRules, IsMet, IsSound, flag_rule, id_of, names_rule, option_rule, parts_name, set_flag, set_value, sound_name, sound_use, under, unless, unless-then}
+use Rattle.switch_words.proofs.Rules.{HasRules, IsMet, IsSound, flag_id, flag_is_set, flag_rule, id_of, names_rule, option_rule, parts_name, set_value, sound_name, sound_use, under, unless, unless-then}
 use Rattle.switch_words.proofs.Lexing.{Lexed, char_after_dash, closes, lexed, longs, plains, shorts}
 use Rattle.switch_words.proofs.Turns.{IsOpen, Pending, after, ended, held_at, idle_open, out-closing, out-flag, out-flag_value, out-given, out-plain, out-short, out-trailing, out-unknown, out-value, out-wait, outcome, outcome-end, positional_open, settles, walk_at}
 
@@ -99,14 +99,14 @@ long_goes n command c word rest has reads text None e long is (Some (value s)) k
     ∙ (under (settles c rows pending) _ (parts_from command None (parts_in (lookup_in (after c rows pending))) (word ∷ rest))
     (λ none. reads.awaiting (after c rows pending) s met.1 (sound none) ∙ rw (is, known) refl)
     ∙ sym (unless-then (settles c rows pending) (λ p. parts_from command None p (word ∷ rest)) (Some (parts_in (lookup_in (after c rows pending))))))
-long_goes n command c word rest has reads text (Some t) e long is (Some slots) known met rows pending waiting sound =
-    out-flag_value n c rows pending waiting word rest text t e long met
+long_goes n command c word rest has reads text (Some t) e long is (Some (flag f)) known met rows pending waiting sound =
+    out-flag_value n c rows pending waiting word rest text t (flag_id f) e long met
     ∙ then_none (ended c (held_at rows pending)) _ (λ p. rw (is, known) refl)
-long_goes n command c word rest has reads text None e long is (Some slots) known met rows pending waiting sound =
-    out-flag n c rows pending waiting word rest text e long met
+long_goes n command c word rest has reads text None e long is (Some (flag f)) known met rows pending waiting sound =
+    out-flag n c rows pending waiting word rest text (flag_id f) e long met
     ∙ (under (settles c rows pending) _ (parts_from command None (parts_in (lookup_in (after c rows pending))) (word ∷ rest))
-    (λ none. set_flag (after c rows pending) (sound none) (λ p. parts_from command None p rest) _
-    (λ sound2. reads.anywhere (used flag_rule [] (after c rows pending)) None idle idle_open (λ _. sound2))
+    (λ none. flag_is_set f (after c rows pending) (sound none) (λ p. parts_from command None p rest) _
+    (λ sound2. reads.anywhere (used (flag_rule (flag_id f)) [] (after c rows pending)) None idle idle_open (λ _. sound2))
     ∙ rw (is, known) refl)
     ∙ sym (unless-then (settles c rows pending) (λ p. parts_from command None p (word ∷ rest)) (Some (parts_in (lookup_in (after c rows pending))))))
 

@@ -1,6 +1,7 @@
 -- The rules that clap has for the options and the names of a command, and what is read of their rows.
 use Rattle.std.proofs.Common.{◌≡◌, ◌∙◌, ◌++◌, ap, sym, subst, true, false, List, [], ◌∷◌, Option, None, Some, is_some, refl, inl, inr, ℕ, codes}
-use Rattle.std.specs.Prelude.{unwrap_or, option_and_then}
+use Rattle.std.specs.Prelude.{map, unwrap_or, option_and_then}
+use Rattle.std.proofs.lemmas.Slice.Eq.{bytes_eq-Decides}
 use Rattle.std.specs.Str.{bytes_eq}
 use Rattle.clap.specs.Walk.{Row, Rule, Text, arg_by_id, arg_by_index, arg_by_long, arg_by_short, has_row, used}
 use Rattle.clap.specs.Simple.{Shape, filled, new_shape, with_index}
@@ -9,10 +10,11 @@ use Rattle.clap.specs.Faults.{use_fault}
 use Rattle.clap.specs.declared.builder.value_parser.Reading.TheVariants.{AsWritten}
 use Rattle.clap.specs.declared.parser.matches.ValueSource.TheVariants.{CommandLine}
 use Rattle.switch_words.specs.declared.options.Command.{Command}
-use Rattle.switch_words.specs.declared.options.Command.TheVariants.{Run, Gen}
-use Rattle.switch_words.specs.Options.{Setting, rounds, depth, workers, pace_us, Switch, value, slots, option_of}
-use Rattle.switch_words.specs.Lines.{Lookup, first_text, flag_arg, is_true_text, lookup_in, names_arg, option_arg, parts_in}
-use Rattle.switch_words.specs.Parts.{Parts, set_text, text_in, with_names, with_slots, with_text}
+use Rattle.switch_words.specs.declared.options.Command.TheVariants.{Run, Gen, Check, Firm}
+use Rattle.switch_words.specs.declared.options.Flags.{Flags}
+use Rattle.switch_words.specs.Options.{Setting, rounds, depth, workers, pace_us, Flag, slots, journal, reference, Switch, value, flag, option_of}
+use Rattle.switch_words.specs.Lines.{Lookup, first_text, flag_arg, flags_for, is_true_text, lookup_in, names_arg, option_arg, options_for, parts_in}
+use Rattle.switch_words.specs.Parts.{Parts, is_given, set_flag, set_text, text_in, with_flag, with_names, with_text}
 use Rattle.switch_words.proofs.Rows.{has_row-lookup, lookup-with, put, tells, without-none}
 
 -- ---- the rules, as they are written and as they are built
@@ -23,18 +25,22 @@ id_of depth = codes "depth"
 id_of workers = codes "workers"
 id_of pace_us = codes "pace-us"
 
+abbrev pub flag_id : Flag → Text
+flag_id slots = codes "slots"
+flag_id journal = codes "journal"
+flag_id reference = codes "reference"
+
 abbrev pub option_rule : Text → Rule
 option_rule id = filled (option_arg id)
 
-abbrev pub flag_rule : Rule
-flag_rule = filled flag_arg
+abbrev pub flag_rule : Text → Rule
+flag_rule id = filled (flag_arg id)
 
 abbrev pub names_rule : Rule
 names_rule = with_index 1 (filled names_arg)
 
 abbrev pub rules_for : Command → List Rule
-rules_for Run = option_rule (codes "rounds") ∷ option_rule (codes "depth") ∷ option_rule (codes "workers") ∷ option_rule (codes "pace-us") ∷ flag_rule ∷ names_rule ∷ []
-rules_for Gen = option_rule (codes "rounds") ∷ option_rule (codes "depth") ∷ option_rule (codes "workers") ∷ names_rule ∷ []
+rules_for command = map option_rule (options_for command) ++ (map flag_rule (flags_for command) ++ names_rule ∷ [])
 
 -- the command of these rules, once it is built
 abbrev pub shape_with : Text → List Rule → Shape
@@ -49,7 +55,7 @@ shape_with name rules = record (new_shape name) {
 abbrev pub IsMet : List Rule → Text → Option Switch → Type 0
 IsMet c name None = arg_by_long c name ≡ None
 IsMet c name (Some (value s)) = (arg_by_long c name ≡ Some (option_rule (id_of s))) × (arg_by_id c (id_of s) ≡ Some (option_rule (id_of s)))
-IsMet c name (Some slots) = arg_by_long c name ≡ Some flag_rule
+IsMet c name (Some (flag f)) = arg_by_long c name ≡ Some (flag_rule (flag_id f))
 
 pub record HasRules (command : Command) (c : List Rule) : Type 0 where
   pub short : (x : ℕ) → arg_by_short c x ≡ None
@@ -57,52 +63,99 @@ pub record HasRules (command : Command) (c : List Rule) : Type 0 where
   pub by_id : arg_by_id c (codes "names") ≡ Some names_rule
   pub long : (name : Text) → IsMet c name (option_of command name)
 
-run_long : (name : Text) → IsMet (rules_for Run) name (option_of Run name)
-run_long name = elim (tells (bytes_eq (codes "rounds") name)) [
-  | inl a ↦ rw a (rw a refl, refl)
+-- the rule of each option, at each command
+met_value : (command : Command) (s : Setting) → IsMet (rules_for command) (id_of s) (option_of command (id_of s))
+met_value Run rounds = (refl, refl)
+met_value Run depth = (refl, refl)
+met_value Run workers = (refl, refl)
+met_value Run pace_us = (refl, refl)
+met_value Gen rounds = (refl, refl)
+met_value Gen depth = (refl, refl)
+met_value Gen workers = (refl, refl)
+met_value Gen pace_us = refl
+met_value Check rounds = refl
+met_value Check depth = refl
+met_value Check workers = refl
+met_value Check pace_us = refl
+met_value Firm rounds = (refl, refl)
+met_value Firm depth = (refl, refl)
+met_value Firm workers = refl
+met_value Firm pace_us = (refl, refl)
+
+met_flag : (command : Command) (f : Flag) → IsMet (rules_for command) (flag_id f) (option_of command (flag_id f))
+met_flag Run slots = refl
+met_flag Run journal = refl
+met_flag Run reference = refl
+met_flag Gen slots = refl
+met_flag Gen journal = refl
+met_flag Gen reference = refl
+met_flag Check slots = refl
+met_flag Check journal = refl
+met_flag Check reference = refl
+met_flag Firm slots = refl
+met_flag Firm journal = refl
+met_flag Firm reference = refl
+
+-- a name is that of an option, or of none
+data Named (name : Text) : Type 0 where
+  setting : (s : Setting) → id_of s ≡ name → Named name
+  switch : (f : Flag) → flag_id f ≡ name → Named name
+  unknown : bytes_eq (codes "rounds") name ≡ false → bytes_eq (codes "depth") name ≡ false → bytes_eq (codes "workers") name ≡ false → bytes_eq (codes "pace-us") name ≡ false
+      → bytes_eq (codes "slots") name ≡ false → bytes_eq (codes "journal") name ≡ false → bytes_eq (codes "reference") name ≡ false → Named name
+
+is_text : (a b : Text) → bytes_eq a b ≡ true → a ≡ b
+is_text a b h = (bytes_eq-Decides a b).0 h
+
+named : (name : Text) → Named name
+named name = elim (tells (bytes_eq (codes "rounds") name)) [
+  | inl h ↦ setting rounds (is_text _ _ h)
   | inr a ↦ elim (tells (bytes_eq (codes "depth") name)) [
-    | inl b ↦ rw (a, b) (rw (a, b) refl, refl)
+    | inl h ↦ setting depth (is_text _ _ h)
     | inr b ↦ elim (tells (bytes_eq (codes "workers") name)) [
-      | inl d ↦ rw (a, b, d) (rw (a, b, d) refl, refl)
+      | inl h ↦ setting workers (is_text _ _ h)
       | inr d ↦ elim (tells (bytes_eq (codes "pace-us") name)) [
-        | inl e ↦ rw (a, b, d, e) (rw (a, b, d, e) refl, refl)
+        | inl h ↦ setting pace_us (is_text _ _ h)
         | inr e ↦ elim (tells (bytes_eq (codes "slots") name)) [
-          | inl f ↦ rw (a, b, d, e, f) (rw (a, b, d, e, f) refl)
-          | inr f ↦ rw (a, b, d, e, f) (rw (a, b, d, e, f) refl)
+          | inl h ↦ switch slots (is_text _ _ h)
+          | inr f ↦ elim (tells (bytes_eq (codes "journal") name)) [
+            | inl h ↦ switch journal (is_text _ _ h)
+            | inr g ↦ elim (tells (bytes_eq (codes "reference") name)) [
+              | inl h ↦ switch reference (is_text _ _ h)
+              | inr k ↦ unknown a b d e f g k
+            ]
+          ]
         ]
       ]
     ]
   ]
 ]
 
-gen_long : (name : Text) → IsMet (rules_for Gen) name (option_of Gen name)
-gen_long name = elim (tells (bytes_eq (codes "rounds") name)) [
-  | inl a ↦ rw a (rw a refl, refl)
-  | inr a ↦ elim (tells (bytes_eq (codes "depth") name)) [
-    | inl b ↦ rw (a, b) (rw (a, b) refl, refl)
-    | inr b ↦ elim (tells (bytes_eq (codes "workers") name)) [
-      | inl d ↦ rw (a, b, d) (rw (a, b, d) refl, refl)
-      | inr d ↦ elim (tells (bytes_eq (codes "pace-us") name)) [
-        | inl e ↦ rw (a, b, d, e) (rw (a, b, d) refl)
-        | inr e ↦ elim (tells (bytes_eq (codes "slots") name)) [
-          | inl f ↦ rw (a, b, d, e, f) (rw (a, b, d) refl)
-          | inr f ↦ rw (a, b, d, e, f) (rw (a, b, d) refl)
-        ]
-      ]
-    ]
-  ]
-]
+-- no command has an option of another name
+none_met : (command : Command) (name : Text) → bytes_eq (codes "rounds") name ≡ false → bytes_eq (codes "depth") name ≡ false → bytes_eq (codes "workers") name ≡ false
+    → bytes_eq (codes "pace-us") name ≡ false → bytes_eq (codes "slots") name ≡ false → bytes_eq (codes "journal") name ≡ false → bytes_eq (codes "reference") name ≡ false
+    → IsMet (rules_for command) name (option_of command name)
+none_met Run name a b d e f g k = rw (a, b, d, e, f, g, k) (rw (a, b, d, e, f, g, k) refl)
+none_met Gen name a b d e f g k = rw (a, b, d, e, f, g, k) (rw (a, b, d) refl)
+none_met Check name a b d e f g k = rw (a, b, d, e, f, g, k) refl
+none_met Firm name a b d e f g k = rw (a, b, d, e, f, g, k) (rw (a, b, e) refl)
+
+long_met : (command : Command) (name : Text) → Named name → IsMet (rules_for command) name (option_of command name)
+long_met command name (setting s is) = subst (λ (n : Text). IsMet (rules_for command) n (option_of command n)) is (met_value command s)
+long_met command name (switch f is) = subst (λ (n : Text). IsMet (rules_for command) n (option_of command n)) is (met_flag command f)
+long_met command name (unknown a b d e f g k) = none_met command name a b d e f g k
 
 pub has_rules : (command : Command) → HasRules command (rules_for command)
-has_rules Run = record { short = λ x. refl; place = refl; by_id = refl; long = run_long }
-has_rules Gen = record { short = λ x. refl; place = refl; by_id = refl; long = gen_long }
+has_rules Run = record { short = λ x. refl; place = refl; by_id = refl; long = λ name. long_met Run name (named name) }
+has_rules Gen = record { short = λ x. refl; place = refl; by_id = refl; long = λ name. long_met Gen name (named name) }
+has_rules Check = record { short = λ x. refl; place = refl; by_id = refl; long = λ name. long_met Check name (named name) }
+has_rules Firm = record { short = λ x. refl; place = refl; by_id = refl; long = λ name. long_met Firm name (named name) }
 
 -- ---- the parts that the rows have
 
 -- no row is without a text, and a flag is true
 pub record IsSound (lookup : Lookup) : Type 0 where
   pub texts : (id : Text) → is_some (first_text (lookup id)) ≡ is_some (lookup id)
-  pub flag : is_true_text (first_text (lookup (codes "slots"))) ≡ is_some (lookup (codes "slots"))
+  pub flag : (f : Flag) → is_true_text (first_text (lookup (flag_id f))) ≡ is_some (lookup (flag_id f))
 
 put_texts : (id : Text) (v : Text) (vs : List Text) (lookup : Lookup) → IsSound lookup → (other : Text)
     → is_some (first_text (put id (v ∷ vs) lookup other)) ≡ is_some (put id (v ∷ vs) lookup other)
@@ -111,30 +164,75 @@ put_texts id v vs lookup sound other = elim (tells (bytes_eq id other)) [
   | inr h ↦ rw h (sound.texts other)
 ]
 
-put_flag : (s : Setting) (vs : List Text) (lookup : Lookup) → is_true_text (first_text (put (id_of s) vs lookup (codes "slots"))) ≡ is_true_text (first_text (lookup (codes "slots")))
-put_flag rounds vs lookup = refl
-put_flag depth vs lookup = refl
-put_flag workers vs lookup = refl
-put_flag pace_us vs lookup = refl
+-- another id keeps its values
+put-other : (id : Text) (vs : List Text) (lookup : Lookup) (other : Text) → bytes_eq id other ≡ false → put id vs lookup other ≡ lookup other
+put-other id vs lookup other apart = rw apart refl
 
-put_flag_there : (s : Setting) (vs : List Text) (lookup : Lookup) → is_some (put (id_of s) vs lookup (codes "slots")) ≡ is_some (lookup (codes "slots"))
-put_flag_there rounds vs lookup = refl
-put_flag_there depth vs lookup = refl
-put_flag_there workers vs lookup = refl
-put_flag_there pace_us vs lookup = refl
+-- no option, and no name, has the id of a flag
+value_apart : (s : Setting) (f : Flag) → bytes_eq (id_of s) (flag_id f) ≡ false
+value_apart rounds slots = refl
+value_apart rounds journal = refl
+value_apart rounds reference = refl
+value_apart depth slots = refl
+value_apart depth journal = refl
+value_apart depth reference = refl
+value_apart workers slots = refl
+value_apart workers journal = refl
+value_apart workers reference = refl
+value_apart pace_us slots = refl
+value_apart pace_us journal = refl
+value_apart pace_us reference = refl
+
+names_apart : (f : Flag) → bytes_eq (codes "names") (flag_id f) ≡ false
+names_apart slots = refl
+names_apart journal = refl
+names_apart reference = refl
+
+-- what is put at another id leaves a flag as it is
+flag_stays : (id : Text) (vs : List Text) (lookup : Lookup) (f : Flag) → IsSound lookup → bytes_eq id (flag_id f) ≡ false
+    → is_true_text (first_text (put id vs lookup (flag_id f))) ≡ is_some (put id vs lookup (flag_id f))
+flag_stays id vs lookup f sound apart = rw apart (sound.flag f)
 
 pub sound_value : (s : Setting) (v : Text) (lookup : Lookup) → IsSound lookup → IsSound (put (id_of s) (v ∷ []) lookup)
 sound_value s v lookup sound = record {
   texts = put_texts (id_of s) v [] lookup sound;
-  flag = put_flag s (v ∷ []) lookup ∙ (sound.flag ∙ sym (put_flag_there s (v ∷ []) lookup));
+  flag = λ f. flag_stays (id_of s) (v ∷ []) lookup f sound (value_apart s f);
 }
 
-pub sound_flag : (lookup : Lookup) → IsSound lookup → IsSound (put (codes "slots") (codes "true" ∷ []) lookup)
-sound_flag lookup sound = record { texts = put_texts (codes "slots") (codes "true") [] lookup sound; flag = refl }
+pub sound_flag : (f : Flag) (lookup : Lookup) → IsSound lookup → IsSound (put (flag_id f) (codes "true" ∷ []) lookup)
+sound_flag f lookup sound = record {
+  texts = put_texts (flag_id f) (codes "true") [] lookup sound;
+  flag = λ g. elim (tells (bytes_eq (flag_id f) (flag_id g))) [
+    | inl h ↦ rw h refl
+    | inr h ↦ rw h (sound.flag g)
+  ];
+}
 
 more_names : (lookup : Lookup) (old : List Text) (x : Text) → IsSound lookup → IsSound (put (codes "names") (old ++ x ∷ []) lookup)
-more_names lookup [] x sound = record { texts = put_texts (codes "names") x [] lookup sound; flag = sound.flag }
-more_names lookup (y ∷ ys) x sound = record { texts = put_texts (codes "names") y (ys ++ x ∷ []) lookup sound; flag = sound.flag }
+more_names lookup [] x sound = record {
+  texts = put_texts (codes "names") x [] lookup sound;
+  flag = λ f. flag_stays (codes "names") (x ∷ []) lookup f sound (names_apart f);
+}
+more_names lookup (y ∷ ys) x sound = record {
+  texts = put_texts (codes "names") y (ys ++ x ∷ []) lookup sound;
+  flag = λ f. flag_stays (codes "names") (y ∷ (ys ++ x ∷ [])) lookup f sound (names_apart f);
+}
+
+is_given-parts_in : (f : Flag) (lookup : Lookup) → is_given (parts_in lookup).flags f ≡ is_true_text (first_text (lookup (flag_id f)))
+is_given-parts_in slots lookup = refl
+is_given-parts_in journal lookup = refl
+is_given-parts_in reference lookup = refl
+
+parts_in-put_flag : (f : Flag) (lookup : Lookup) → parts_in (put (flag_id f) (codes "true" ∷ []) lookup) ≡ record (parts_in lookup) { flags = set_flag (parts_in lookup).flags f }
+parts_in-put_flag slots lookup = refl
+parts_in-put_flag journal lookup = refl
+parts_in-put_flag reference lookup = refl
+
+-- the default of a flag says what no flag says
+pub parts_in-put_default : (f : Flag) (lookup : Lookup) → lookup (flag_id f) ≡ None → parts_in (put (flag_id f) (codes "false" ∷ []) lookup) ≡ parts_in lookup
+parts_in-put_default slots lookup none = rw none refl
+parts_in-put_default journal lookup none = rw none refl
+parts_in-put_default reference lookup none = rw none refl
 
 text_in-parts_in : (s : Setting) (lookup : Lookup) → text_in (parts_in lookup) s ≡ first_text (lookup (id_of s))
 text_in-parts_in rounds lookup = refl
@@ -204,20 +302,20 @@ set_value s v rows sound k x next =
           rw (there, h) (goes ∙ ap k (ap parts_in is ∙ parts_in-put s v (lookup_in rows)))
     ]
 
-pub set_flag : (rows : List Row) → IsSound (lookup_in rows) → (k : Parts → Option Parts) (x : Option Parts)
-    → (IsSound (lookup_in (used flag_rule [] rows)) → x ≡ k (parts_in (lookup_in (used flag_rule [] rows))))
-    → unless (use_fault false flag_rule [] rows) x ≡ option_and_then k (with_slots (parts_in (lookup_in rows)))
-set_flag rows sound k x next =
-    let there : (parts_in (lookup_in rows)).slots ≡ has_row (codes "slots") rows = sound.flag ∙ sym (has_row-lookup (codes "slots") rows) in
-    elim (tells (has_row (codes "slots") rows)) [
+pub flag_is_set : (f : Flag) (rows : List Row) → IsSound (lookup_in rows) → (k : Parts → Option Parts) (x : Option Parts)
+    → (IsSound (lookup_in (used (flag_rule (flag_id f)) [] rows)) → x ≡ k (parts_in (lookup_in (used (flag_rule (flag_id f)) [] rows))))
+    → unless (use_fault false (flag_rule (flag_id f)) [] rows) x ≡ option_and_then k (with_flag (parts_in (lookup_in rows)) f)
+flag_is_set f rows sound k x next =
+    let there : is_given (parts_in (lookup_in rows)).flags f ≡ has_row (flag_id f) rows = is_given-parts_in f (lookup_in rows) ∙ (sound.flag f ∙ sym (has_row-lookup (flag_id f) rows)) in
+    elim (tells (has_row (flag_id f) rows)) [
       | inl h ↦ rw (there, h) refl
       | inr h ↦
-          let none : lookup_in rows (codes "slots") ≡ None = absent _ (sym (has_row-lookup (codes "slots") rows) ∙ h) in
-          let each : (other : Text) → lookup_in (used flag_rule [] rows) other ≡ put (codes "slots") (codes "true" ∷ []) (lookup_in rows) other =
-          λ other. rw (without-none (codes "slots") rows none) (lookup-with (codes "slots") AsWritten CommandLine (codes "true" ∷ []) rows other ∙ ap (λ (o : Option (List Text)). put (codes "slots") (unwrap_or o [] ++ codes "true" ∷ []) (lookup_in rows) other) none) in
-          let is : lookup_in (used flag_rule [] rows) ≡ put (codes "slots") (codes "true" ∷ []) (lookup_in rows) = λ i other. each other i in
-          let goes = next (subst IsSound (sym is) (sound_flag (lookup_in rows) sound)) in
-          rw (there, h) (goes ∙ ap k (ap parts_in is))
+          let none : lookup_in rows (flag_id f) ≡ None = absent _ (sym (has_row-lookup (flag_id f) rows) ∙ h) in
+          let each : (other : Text) → lookup_in (used (flag_rule (flag_id f)) [] rows) other ≡ put (flag_id f) (codes "true" ∷ []) (lookup_in rows) other =
+          λ other. rw (without-none (flag_id f) rows none) (lookup-with (flag_id f) AsWritten CommandLine (codes "true" ∷ []) rows other ∙ ap (λ (o : Option (List Text)). put (flag_id f) (unwrap_or o [] ++ codes "true" ∷ []) (lookup_in rows) other) none) in
+          let is : lookup_in (used (flag_rule (flag_id f)) [] rows) ≡ put (flag_id f) (codes "true" ∷ []) (lookup_in rows) = λ i other. each other i in
+          let goes = next (subst IsSound (sym is) (sound_flag f (lookup_in rows) sound)) in
+          rw (there, h) (goes ∙ ap k (ap parts_in is ∙ parts_in-put_flag f (lookup_in rows)))
     ]
 
 -- a name is added to the names

@@ -143,22 +143,22 @@ out-wait n c rows pending waiting word rest name id e long found =
     (rw (no_sub waiting word, e, long, found) refl) (rw (no_sub waiting word, e, long, found) refl)
     ∙ or_once (settles c rows pending) _
 
-pub out-flag : (n : Text) (c : List Rule) (rows : List Row) (pending : Pending) (waiting : Waiting) (word : Text) (rest : List Text) (name : Text)
-    → bytes_eq word (45 ∷ 45 ∷ []) ≡ false → long_of word ≡ Some (name, None) → arg_by_long c name ≡ Some flag_rule
+pub out-flag : (n : Text) (c : List Rule) (rows : List Row) (pending : Pending) (waiting : Waiting) (word : Text) (rest : List Text) (name id : Text)
+    → bytes_eq word (45 ∷ 45 ∷ []) ≡ false → long_of word ≡ Some (name, None) → arg_by_long c name ≡ Some (flag_rule id)
     → outcome n c (walk_at rows pending waiting false) (word ∷ rest)
-    ≡ unless (settles c rows pending) (unless (use_fault false flag_rule [] (after c rows pending))
-    (outcome n c (walk_at (used flag_rule [] (after c rows pending)) None idle false) rest))
+    ≡ unless (settles c rows pending) (unless (use_fault false (flag_rule id) [] (after c rows pending))
+    (outcome n c (walk_at (used (flag_rule id) [] (after c rows pending)) None idle false) rest))
 unfolding walked
-out-flag n c rows pending waiting word rest name e long found =
-    step-by n c (walk_at rows pending waiting false) (walk_at (used flag_rule [] (after c rows pending)) None idle false) word rest
-    (or_else (or_else (settles c rows pending) (use_fault false flag_rule [] (after c rows pending))) [])
+out-flag n c rows pending waiting word rest name id e long found =
+    step-by n c (walk_at rows pending waiting false) (walk_at (used (flag_rule id) [] (after c rows pending)) None idle false) word rest
+    (or_else (or_else (settles c rows pending) (use_fault false (flag_rule id) [] (after c rows pending))) [])
     (rw (no_sub waiting word, e, long, found) refl) (rw (no_sub waiting word, e, long, found) refl)
-    ∙ or_twice (settles c rows pending) (use_fault false flag_rule [] (after c rows pending)) _
+    ∙ or_twice (settles c rows pending) (use_fault false (flag_rule id) [] (after c rows pending)) _
 
-pub out-flag_value : (n : Text) (c : List Rule) (rows : List Row) (pending : Pending) (waiting : Waiting) (word : Text) (rest : List Text) (name v : Text)
-    → bytes_eq word (45 ∷ 45 ∷ []) ≡ false → long_of word ≡ Some (name, Some v) → arg_by_long c name ≡ Some flag_rule
+pub out-flag_value : (n : Text) (c : List Rule) (rows : List Row) (pending : Pending) (waiting : Waiting) (word : Text) (rest : List Text) (name v id : Text)
+    → bytes_eq word (45 ∷ 45 ∷ []) ≡ false → long_of word ≡ Some (name, Some v) → arg_by_long c name ≡ Some (flag_rule id)
     → outcome n c (walk_at rows pending waiting false) (word ∷ rest) ≡ None
-out-flag_value n c rows pending waiting word rest name v e long found =
+out-flag_value n c rows pending waiting word rest name v id e long found =
     step-by n c (walk_at rows pending waiting false) (walked c [] (walk_at rows pending waiting false) word) word rest (TooManyValues ∷ [])
     (rw (no_sub waiting word, e, long, found) refl) refl
 

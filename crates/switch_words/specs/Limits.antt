@@ -7,8 +7,9 @@ use Rattle.switch_words.specs.declared.limits.TheConstants.{MAX_WORKERS, MAX_SEE
 use Rattle.switch_words.specs.declared.job.Settings.{Settings}
 use Rattle.switch_words.specs.declared.job.RunJob.{RunJob}
 use Rattle.switch_words.specs.declared.job.GenJob.{GenJob}
+use Rattle.switch_words.specs.declared.job.FirmJob.{FirmJob}
 use Rattle.switch_words.specs.declared.job.Job.{Job}
-use Rattle.switch_words.specs.declared.job.Job.TheVariants.{Run, Gen}
+use Rattle.switch_words.specs.declared.job.Job.TheVariants.{Run, Gen, Check, Firm}
 
 -- a number of 1 to so many
 pub record IsUpTo (greatest n : ℕ) : Type 0 where
@@ -31,6 +32,13 @@ pub record IsGenWithinLimits (job : GenJob) : Type 0 where
   pub count : job.count ≤ MAX_COUNT
   pub ports : IsUpTo MAX_PORTS job.ports
 
+pub record IsFirmWithinLimits (job : FirmJob) : Type 0 where
+  pub settings : AreWithinLimits job.settings
+  pub inputs : IsUpTo MAX_PORTS (vec_len job.inputs)
+
+-- of `check` there is no limit
 abbrev pub IsWithinLimits : Job → Type 0
 IsWithinLimits (Run job) = IsRunWithinLimits job
 IsWithinLimits (Gen job) = IsGenWithinLimits job
+IsWithinLimits (Check job) = Unit {0}
+IsWithinLimits (Firm job) = IsFirmWithinLimits job

@@ -1,5 +1,5 @@
 -- What clap knows of a command line, and what its matches say of the words. Only contracts inside the crate speak of it.
-use Rattle.std.specs.Prelude.{Bool, true, false, List, [], ◌∷◌, Option, None, Some, unwrap_or, codes}
+use Rattle.std.specs.Prelude.{Bool, true, false, List, [], ◌∷◌, ◌++◌, map, Option, None, Some, unwrap_or, codes}
 use Rattle.std.specs.Str.{bytes_eq}
 use Rattle.clap.specs.Walk.{Row, Rule, Text, all_of, rows_of}
 use Rattle.clap.specs.Matches.{found_of}
@@ -7,29 +7,44 @@ use Rattle.clap.specs.Simple.{App, new_rule, new_shape}
 use Rattle.clap.specs.declared.builder.action.ArgAction.TheVariants.{Set, Append, SetTrue}
 use Rattle.clap.specs.declared.parser.matches.ArgMatches.{ArgMatches}
 use Rattle.switch_words.specs.declared.options.Command.{Command}
-use Rattle.switch_words.specs.declared.options.Command.TheVariants.{Run, Gen}
+use Rattle.switch_words.specs.declared.options.Command.TheVariants.{Run, Gen, Check, Firm}
 use Rattle.switch_words.specs.Parts.{Parts}
 
--- an option with a value, the flag, and the names
+-- an option with a value, a flag, and the names
 abbrev pub option_arg : Text → Rule
 option_arg id = record (new_rule id) { long = Some id; action = Some Set }
 
-abbrev pub flag_arg : Rule
-flag_arg = record (new_rule (codes "slots")) { long = Some (codes "slots"); action = Some SetTrue }
+abbrev pub flag_arg : Text → Rule
+flag_arg id = record (new_rule id) { long = Some id; action = Some SetTrue }
 
 abbrev pub names_arg : Rule
 names_arg = record (new_rule (codes "names")) { action = Some Append }
 
-abbrev pub args_for : Command → List Rule
-args_for Run = option_arg (codes "rounds") ∷ option_arg (codes "depth") ∷ option_arg (codes "workers") ∷ option_arg (codes "pace-us") ∷ flag_arg ∷ names_arg ∷ []
-args_for Gen = option_arg (codes "rounds") ∷ option_arg (codes "depth") ∷ option_arg (codes "workers") ∷ names_arg ∷ []
+-- the names of a command's options with a value, and of its flags
+abbrev pub options_for : Command → List Text
+options_for Run = codes "rounds" ∷ codes "depth" ∷ codes "workers" ∷ codes "pace-us" ∷ []
+options_for Gen = codes "rounds" ∷ codes "depth" ∷ codes "workers" ∷ []
+options_for Check = []
+options_for Firm = codes "rounds" ∷ codes "depth" ∷ codes "pace-us" ∷ []
 
--- a line that takes no word, without help, and the line of a command
+abbrev pub flags_for : Command → List Text
+flags_for Run = codes "slots" ∷ codes "journal" ∷ codes "reference" ∷ []
+flags_for Gen = []
+flags_for Check = []
+flags_for Firm = []
+
+abbrev pub args_for : Command → List Rule
+args_for command = map option_arg (options_for command) ++ (map flag_arg (flags_for command) ++ names_arg ∷ [])
+
+-- a line that takes no word, without help; a line with further arguments; and the line of a command
 abbrev pub bare_line : App
 bare_line = record { top = record (new_shape (codes "tiny_tera")) { disable_help_flag = true }; subs = [] }
 
+abbrev pub with_rules : App → List Rule → App
+with_rules line rules = record line { top = record line.top { rules = line.top.rules ++ rules } }
+
 abbrev pub line_for : Command → App
-line_for command = record bare_line { top = record bare_line.top { rules = args_for command } }
+line_for command = with_rules bare_line (args_for command)
 
 -- the texts that matches have for an id
 abbrev pub Lookup : Type 0
@@ -54,7 +69,11 @@ parts_in lookup = record {
   depth = first_text (lookup (codes "depth"));
   workers = first_text (lookup (codes "workers"));
   pace_us = first_text (lookup (codes "pace-us"));
-  slots = is_true_text (first_text (lookup (codes "slots")));
+  flags = record {
+    slots = is_true_text (first_text (lookup (codes "slots")));
+    journal = is_true_text (first_text (lookup (codes "journal")));
+    reference = is_true_text (first_text (lookup (codes "reference")));
+  };
   names = unwrap_or (lookup (codes "names")) [];
 }
 

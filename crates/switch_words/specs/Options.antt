@@ -1,23 +1,28 @@
 -- The commands and their options.
 use Rattle.std.specs.Prelude.{ℕ, Bool, true, false, if◌then◌else◌, List, Option, None, Some, option_and_then, bytes_eq, codes}
 use Rattle.switch_words.specs.declared.options.Command.{Command}
-use Rattle.switch_words.specs.declared.options.Command.TheVariants.{Run, Gen}
+use Rattle.switch_words.specs.declared.options.Command.TheVariants.{Run, Gen, Check, Firm}
 
 -- an option with a number as its value
 pub data Setting : Type 0 where
   rounds depth workers pace_us : Setting
 
--- an option with a value, or a bare flag
+-- an option without a value
+pub data Flag : Type 0 where
+  slots journal reference : Flag
+
 pub data Switch : Type 0 where
   value : Setting → Switch
-  slots : Switch
+  flag : Flag → Switch
 
 -- the command of a name
 abbrev pub command_named : List ℕ → Option Command
 command_named word =
     if bytes_eq word (codes "run") then Some Run
     else (if bytes_eq word (codes "gen") then Some Gen
-    else None)
+    else (if bytes_eq word (codes "check") then Some Check
+    else (if bytes_eq word (codes "firm") then Some Firm
+    else None)))
 
 -- the option of a name
 abbrev pub option_named : List ℕ → Option Switch
@@ -26,8 +31,10 @@ option_named name =
     else (if bytes_eq (codes "depth") name then Some (value depth)
     else (if bytes_eq (codes "workers") name then Some (value workers)
     else (if bytes_eq (codes "pace-us") name then Some (value pace_us)
-    else (if bytes_eq (codes "slots") name then Some slots
-    else None))))
+    else (if bytes_eq (codes "slots") name then Some (flag slots)
+    else (if bytes_eq (codes "journal") name then Some (flag journal)
+    else (if bytes_eq (codes "reference") name then Some (flag reference)
+    else None))))))
 
 -- whether a command has an option
 abbrev pub is_option_of : Command → Switch → Bool
@@ -36,7 +43,13 @@ is_option_of Gen (value rounds) = true
 is_option_of Gen (value depth) = true
 is_option_of Gen (value workers) = true
 is_option_of Gen (value pace_us) = false
-is_option_of Gen slots = false
+is_option_of Gen (flag f) = false
+is_option_of Check switch = false
+is_option_of Firm (value rounds) = true
+is_option_of Firm (value depth) = true
+is_option_of Firm (value workers) = false
+is_option_of Firm (value pace_us) = true
+is_option_of Firm (flag f) = false
 
 -- the option of a name that a command has
 abbrev pub option_of : Command → List ℕ → Option Switch

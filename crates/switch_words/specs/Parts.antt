@@ -2,20 +2,28 @@
 use Rattle.std.specs.Prelude.{ℕ, Bool, true, false, is_some, ◌==◌, ◌++◌, if◌then◌else◌, List, [], ◌∷◌, Option, None, Some, option_and_then}
 use Rattle.std.specs.List.{list_any, before_first, after_first}
 use Rattle.switch_words.specs.declared.options.Command.{Command}
-use Rattle.switch_words.specs.Options.{Setting, rounds, depth, workers, pace_us, Switch, value, slots, option_of}
+use Rattle.switch_words.specs.declared.options.Flags.{Flags}
+use Rattle.switch_words.specs.Options.{Setting, rounds, depth, workers, pace_us, Flag, slots, journal, reference, Switch, value, flag, option_of}
 
--- the texts that the options have, and the names
+-- the texts that the options have, which flags were given, and the names
 pub record Parts : Type 0 where
   pub rounds : Option (List ℕ)
   pub depth : Option (List ℕ)
   pub workers : Option (List ℕ)
   pub pace_us : Option (List ℕ)
-  pub slots : Bool
+  pub flags : Flags
   pub names : List (List ℕ)
 
 -- before the first word
 abbrev pub no_parts : Parts
-no_parts = record { rounds = None; depth = None; workers = None; pace_us = None; slots = false; names = [] }
+no_parts = record {
+  rounds = None;
+  depth = None;
+  workers = None;
+  pace_us = None;
+  flags = record { slots = false; journal = false; reference = false };
+  names = [];
+}
 
 -- the text of an option, where it was given
 abbrev pub text_in : Parts → Setting → Option (List ℕ)
@@ -35,9 +43,21 @@ set_text parts pace_us text = record parts { pace_us = Some text }
 abbrev pub with_text : Parts → Setting → List ℕ → Option Parts
 with_text parts setting text = if is_some (text_in parts setting) then None else Some (set_text parts setting text)
 
--- with the flag that was not given before
-abbrev pub with_slots : Parts → Option Parts
-with_slots parts = if parts.slots then None else Some (record parts { slots = true })
+-- whether a flag was given
+abbrev pub is_given : Flags → Flag → Bool
+is_given flags slots = flags.slots
+is_given flags journal = flags.journal
+is_given flags reference = flags.reference
+
+-- with this flag
+abbrev pub set_flag : Flags → Flag → Flags
+set_flag flags slots = record flags { slots = true }
+set_flag flags journal = record flags { journal = true }
+set_flag flags reference = record flags { reference = true }
+
+-- with a flag that was not given before
+abbrev pub with_flag : Parts → Flag → Option Parts
+with_flag parts f = if is_given parts.flags f then None else Some (record parts { flags = set_flag parts.flags f })
 
 -- with more names
 abbrev pub with_names : List (List ℕ) → Parts → Parts
@@ -80,8 +100,8 @@ word_of (first ∷ second ∷ rest) =
 abbrev pub after_option : Parts → Option (List ℕ) → Switch → (Option Setting → Parts → Option Parts) → Option Parts
 after_option parts (Some text) (value setting) read_on = option_and_then (read_on None) (with_text parts setting text)
 after_option parts None (value setting) read_on = read_on (Some setting) parts
-after_option parts (Some text) slots read_on = None
-after_option parts None slots read_on = option_and_then (read_on None) (with_slots parts)
+after_option parts (Some text) (flag f) read_on = None
+after_option parts None (flag f) read_on = option_and_then (read_on None) (with_flag parts f)
 
 -- After a word where options may stand. Behind `--` each word is a name.
 abbrev pub after_word : Command → Parts → List ℕ → List (List ℕ) → Word → (Option Setting → Parts → Option Parts) → Option Parts

@@ -1,5 +1,5 @@
 -- The reading of a list of words: the job that it means.
-use Rattle.std.specs.Prelude.{ℕ, Bool, nat_le, if◌then◌else◌, List, [], ◌∷◌, length, map, Option, None, Some, option_and_then, option_map, string_bytes, unwrap_or}
+use Rattle.std.specs.Prelude.{ℕ, Bool, ◌&&◌, nat_le, if◌then◌else◌, List, [], ◌∷◌, length, map, Option, None, Some, option_and_then, option_map, string_bytes, unwrap_or}
 use Rattle.rotating_pick.specs.declared.limits.TheConstants.{MAX_PORTS, MAX_ROUNDS}
 use Rattle.line_pace.specs.declared.pace.TheConstants.{MAX_SLOT_MICROS}
 use Rattle.voq_banks.specs.declared.limits.TheConstants.{MAX_DEPTH}
@@ -7,10 +7,12 @@ use Rattle.switch_words.specs.declared.limits.TheConstants.{DEFAULT_ROUNDS, DEFA
 use Rattle.switch_words.specs.declared.job.Settings.{Settings}
 use Rattle.switch_words.specs.declared.job.RunJob.{RunJob}
 use Rattle.switch_words.specs.declared.job.GenJob.{GenJob}
+use Rattle.switch_words.specs.declared.job.FirmJob.{FirmJob}
 use Rattle.switch_words.specs.declared.job.Job.{Job}
 use Rattle.switch_words.specs.declared.job.Job.TheVariants as job
 use Rattle.switch_words.specs.declared.options.Command.{Command}
-use Rattle.switch_words.specs.declared.options.Command.TheVariants.{Run, Gen}
+use Rattle.switch_words.specs.declared.options.Command.TheVariants.{Run, Gen, Check, Firm}
+use Rattle.switch_words.specs.declared.options.Flags.{Flags}
 use Rattle.switch_words.specs.Numbers.{number_within}
 use Rattle.switch_words.specs.Options.{command_named}
 use Rattle.switch_words.specs.Parts.{Parts, no_parts, parts_from}
@@ -35,21 +37,46 @@ settings_of parts =
 pub record RunWords : Type 0 where
   pub settings : Settings
   pub slots : Bool
+  pub journal : Bool
+  pub reference : Bool
   pub table : List ℕ
   pub prefix : List ℕ
   pub inputs : List (List ℕ)
 
--- the names of `run`: a table, a prefix and 1 to 64 inputs
-abbrev pub run_with : Settings → Bool → List (List ℕ) → Option RunWords
-run_with settings slots (table ∷ prefix ∷ input ∷ more) =
-    if nat_le (length (input ∷ more)) MAX_PORTS then Some (record {
+-- a job of `firm`, with the bytes of its names
+pub record FirmWords : Type 0 where
+  pub settings : Settings
+  pub table : List ℕ
+  pub inputs : List (List ℕ)
+
+-- the names of captures: 1 to 64
+abbrev pub inputs_in : List (List ℕ) → Option (List (List ℕ))
+inputs_in names = if nat_le 1 (length names) && nat_le (length names) MAX_PORTS then Some names else None
+
+-- the names of `run`: a table, a prefix and the captures
+abbrev pub run_with : Settings → Flags → List (List ℕ) → Option RunWords
+run_with settings flags (table ∷ prefix ∷ names) =
+    option_map (λ inputs. record {
       settings = settings;
-      slots = slots;
+      slots = flags.slots;
+      journal = flags.journal;
+      reference = flags.reference;
       table = table;
       prefix = prefix;
-      inputs = input ∷ more;
-    }) else None
-run_with settings slots _ = None
+      inputs = inputs;
+    }) (inputs_in names)
+run_with settings flags _ = None
+
+-- the names of `firm`: a table and the captures
+abbrev pub firm_with : Settings → List (List ℕ) → Option FirmWords
+firm_with settings (table ∷ names) =
+    option_map (λ inputs. record { settings = settings; table = table; inputs = inputs }) (inputs_in names)
+firm_with settings _ = None
+
+-- the names of `check`: one file
+abbrev pub check_with : List (List ℕ) → Option (List ℕ)
+check_with (file ∷ []) = Some file
+check_with _ = None
 
 -- the names of `gen`: a seed, a count and a number of ports
 abbrev pub gen_with : Settings → List (List ℕ) → Option GenJob
@@ -62,15 +89,19 @@ gen_with settings (seed ∷ count ∷ ports ∷ []) =
     }) (number_within 1 MAX_PORTS ports)) (number_within 0 MAX_COUNT count)) (number_within 0 MAX_SEED seed)
 gen_with settings _ = None
 
--- what a list of words asks for
+-- what a list of words asks for; of `check` the name of its file
 pub data JobWords : Type 0 where
   run : RunWords → JobWords
   gen : GenJob → JobWords
+  check : List ℕ → JobWords
+  firm : FirmWords → JobWords
 
 unfoldable pub job_with : Command → Parts → Option JobWords
 job_with Run parts =
-    option_and_then (λ settings. option_map run (run_with settings parts.slots parts.names)) (settings_of parts)
+    option_and_then (λ settings. option_map run (run_with settings parts.flags parts.names)) (settings_of parts)
 job_with Gen parts = option_and_then (λ settings. option_map gen (gen_with settings parts.names)) (settings_of parts)
+job_with Check parts = option_map check (check_with parts.names)
+job_with Firm parts = option_and_then (λ settings. option_map firm (firm_with settings parts.names)) (settings_of parts)
 
 -- The job that a list of words means; None where they mean none.
 unfoldable pub reading_of : List (List ℕ) → Option JobWords
@@ -83,11 +114,22 @@ abbrev pub run_words : RunJob → RunWords
 run_words r = record {
   settings = r.settings;
   slots = r.slots;
+  journal = r.journal;
+  reference = r.reference;
   table = string_bytes r.table;
   prefix = string_bytes r.prefix;
   inputs = map string_bytes r.inputs.items;
 }
 
+abbrev pub firm_words : FirmJob → FirmWords
+firm_words f = record {
+  settings = f.settings;
+  table = string_bytes f.table;
+  inputs = map string_bytes f.inputs.items;
+}
+
 abbrev pub job_words : Job → JobWords
 job_words (job.Run r) = run (run_words r)
 job_words (job.Gen g) = gen g
+job_words (job.Check c) = check (string_bytes c.file)
+job_words (job.Firm f) = firm (firm_words f)

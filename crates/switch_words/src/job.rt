@@ -18,6 +18,10 @@ pub struct RunJob {
     pub settings: Settings,
     /// Whether the report names each slot.
     pub slots: bool,
+    /// Whether the journal is written.
+    pub journal: bool,
+    /// Whether the report compares each output with the output-queued reference.
+    pub reference: bool,
     /// The name of the table's file.
     pub table: String,
     /// What the names of all files that are written begin with.
@@ -39,6 +43,24 @@ pub struct GenJob {
     pub ports: u32,
 }
 
+/// Check the journal of a run.
+#[derive(Debug, Drop)]
+pub struct CheckJob {
+    /// The name of the journal's file.
+    pub file: String,
+}
+
+/// Switch the packets of captures by the second scheduler, and tell only the summary.
+#[derive(Debug, Drop)]
+pub struct FirmJob {
+    /// How the job runs. No option says the workers, so they are 4.
+    pub settings: Settings,
+    /// The name of the table's file.
+    pub table: String,
+    /// The name of the capture of each port, from port 0 on: 1 to 64.
+    pub inputs: Vec<String>,
+}
+
 /// What the words of a command line ask for.
 #[derive(Debug, Drop)]
 pub enum Job {
@@ -46,4 +68,8 @@ pub enum Job {
     Run(RunJob),
     /// `gen SEED COUNT PORTS`
     Gen(GenJob),
+    /// `check FILE`
+    Check(CheckJob),
+    /// `firm TABLE INPUT..`
+    Firm(FirmJob),
 }

@@ -3,12 +3,16 @@
 //! ```text
 //! run TABLE PREFIX INPUT..      1 to 64 inputs
 //! gen SEED COUNT PORTS
+//! check FILE
+//! firm TABLE INPUT..            1 to 64 inputs
 //!
-//! --rounds R    rounds in a slot, 1 to 64       run, gen
-//! --depth D     cells of a queue, 1 to 131,072  run, gen
+//! --rounds R    rounds in a slot, 1 to 64       run, gen, firm
+//! --depth D     cells of a queue, 1 to 131,072  run, gen, firm
 //! --workers W   1 to 32                         run, gen
-//! --pace-us K   microseconds of a slot, 1 to 1,000,000   run
+//! --pace-us K   microseconds of a slot, 1 to 1,000,000   run, firm
 //! --slots       report each slot                run
+//! --journal     write the journal               run
+//! --reference   compare each output with the output-queued reference   run
 //! ```
 #![tactic(auto)]
 
@@ -22,6 +26,6 @@ mod reading;
 mod tests;
 
 pub use fault::WordsFault;
-pub use job::{GenJob, Job, RunJob, Settings};
+pub use job::{CheckJob, FirmJob, GenJob, Job, RunJob, Settings};
 pub use limits::{MAX_COUNT, MAX_SEED, MAX_WORKERS};
 pub use reading::read_words;

@@ -1,7 +1,7 @@
-ghost use Rattle.std.specs.Prelude.{◌≡◌, IfOk, false};
+ghost use Rattle.std.specs.Prelude.{◌≡◌, IfOk, false, map};
 ghost use Rattle.clap.specs.Words.{app_of, rule_of};
 ghost use Rattle.switch_words.specs.Options.{command_named};
-ghost use Rattle.switch_words.specs.Lines.{bare_line, flag_arg, line_for, names_arg, option_arg};
+ghost use Rattle.switch_words.specs.Lines.{bare_line, flag_arg, flags_for, line_for, names_arg, option_arg, options_for, with_rules};
 
 use clap::{Arg, ArgAction};
 use std::alloc::{AllocError, Global};
@@ -11,6 +11,16 @@ use std::alloc::{AllocError, Global};
 pub(crate) enum Command {
     Run,
     Gen,
+    Check,
+    Firm,
+}
+
+/// Which flags were given.
+#[derive(Clone, Copy)]
+pub(crate) struct Flags {
+    pub(crate) slots: bool,
+    pub(crate) journal: bool,
+    pub(crate) reference: bool,
 }
 
 impl Command {
@@ -18,12 +28,12 @@ impl Command {
     pub(crate) fn named(word: &str) -> Option<Command>
         ensures { result ≡ command_named word.now }
     {
-        if word == "run" {
-            Some(Command::Run)
-        } else if word == "gen" {
-            Some(Command::Gen)
-        } else {
-            None
+        match word {
+            "run" => Some(Command::Run),
+            "gen" => Some(Command::Gen),
+            "check" => Some(Command::Check),
+            "firm" => Some(Command::Firm),
+            _ => None,
         }
     }
 
@@ -32,18 +42,62 @@ impl Command {
     pub(crate) fn line<'a>(self, alloc: Global) -> Result<clap::Command<'a>, AllocError>
         ensures { IfOk result (λ line. app_of line ≡ line_for self) }
     {
-        let line = bare_line(alloc)
-            .arg(option(alloc, "rounds"))?
-            .arg(option(alloc, "depth"))?
-            .arg(option(alloc, "workers"))?;
+        let line = with_options(alloc, bare_line(alloc), self.options())?;
+        let line = with_flags(alloc, line, self.flags())?;
+        line.arg(names(alloc))
+    }
+
+    // The names of the options with a value.
+    fn options(self) -> &'static [&'static str]
+        ensures { map (λ id. id.now) result.now ≡ options_for self }
+    {
         match self {
-            Command::Run => line
-                .arg(option(alloc, "pace-us"))?
-                .arg(flag(alloc))?
-                .arg(names(alloc)),
-            Command::Gen => line.arg(names(alloc)),
+            Command::Run => &["rounds", "depth", "workers", "pace-us"],
+            Command::Gen => &["rounds", "depth", "workers"],
+            Command::Check => &[],
+            Command::Firm => &["rounds", "depth", "pace-us"],
         }
     }
+
+    // The names of the flags.
+    fn flags(self) -> &'static [&'static str]
+        ensures { map (λ id. id.now) result.now ≡ flags_for self }
+    {
+        match self {
+            Command::Run => &["slots", "journal", "reference"],
+            Command::Gen | Command::Check | Command::Firm => &[],
+        }
+    }
+}
+
+// The line with an option for each name.
+fn with_options<'a>(
+    alloc: Global,
+    line: clap::Command<'a>,
+    ids: &[&'a str],
+) -> Result<clap::Command<'a>, AllocError>
+    ensures { IfOk result (λ more. app_of more ≡ with_rules (app_of line.entry) (map option_arg (map (λ id. id.now) ids.now))) }
+{
+    let mut line = line;
+    for id in ids {
+        line = line.arg(option(alloc, id))?;
+    }
+    Ok(line)
+}
+
+// The line with a flag for each name.
+fn with_flags<'a>(
+    alloc: Global,
+    line: clap::Command<'a>,
+    ids: &[&'a str],
+) -> Result<clap::Command<'a>, AllocError>
+    ensures { IfOk result (λ more. app_of more ≡ with_rules (app_of line.entry) (map flag_arg (map (λ id. id.now) ids.now))) }
+{
+    let mut line = line;
+    for id in ids {
+        line = line.arg(flag(alloc, id))?;
+    }
+    Ok(line)
 }
 
 // No options and no names, and no help.
@@ -61,13 +115,12 @@ fn option<'a>(alloc: Global, id: &'a str) -> Arg<'a>
     Arg::new(alloc, id).long(id).action(ArgAction::Set)
 }
 
-fn flag<'a>(alloc: Global) -> Arg<'a>
-    ensures rule { rule_of result ≡ flag_arg }
+// An option without a value, which is given once at most.
+fn flag<'a>(alloc: Global, id: &'a str) -> Arg<'a>
+    ensures rule { rule_of result ≡ flag_arg id.now }
     ensures local { result.global ≡ false }
 {
-    Arg::new(alloc, "slots")
-        .long("slots")
-        .action(ArgAction::SetTrue)
+    Arg::new(alloc, id).long(id).action(ArgAction::SetTrue)
 }
 
 fn names<'a>(alloc: Global) -> Arg<'a>

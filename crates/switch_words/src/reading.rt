@@ -1,14 +1,14 @@
-ghost use Rattle.std.specs.Prelude.{◌≡◌, codes, Some, None, Err, drop, map, option_map, string_bytes, IfOk, IfSome};
+ghost use Rattle.std.specs.Prelude.{◌≡◌, codes, Some, None, Err, drop, map, ok_or, option_map, string_bytes, vec_len, IfOk, IfSome};
 ghost use Rattle.switch_words.specs.Parts.{no_parts, parts_from};
-ghost use Rattle.switch_words.specs.Reading.{number_given, settings_of, run_with, gen_with, run_words, job_words, reading_of};
-ghost use Rattle.switch_words.specs.Limits.{AreWithinLimits, IsUpTo, IsRunWithinLimits, IsGenWithinLimits, IsWithinLimits};
+ghost use Rattle.switch_words.specs.Reading.{number_given, settings_of, inputs_in, run_with, firm_with, check_with, gen_with, run_words, firm_words, job_words, reading_of};
+ghost use Rattle.switch_words.specs.Limits.{AreWithinLimits, IsUpTo, IsRunWithinLimits, IsGenWithinLimits, IsFirmWithinLimits, IsWithinLimits};
 ghost use Rattle.switch_words.specs.Lines.{first_text, is_true_text, lookup_of, parts_of};
 
 use crate::fault::WordsFault;
-use crate::job::{GenJob, Job, RunJob, Settings};
+use crate::job::{CheckJob, FirmJob, GenJob, Job, RunJob, Settings};
 use crate::limits::{DEFAULT_ROUNDS, DEFAULT_WORKERS, MAX_COUNT, MAX_SEED, MAX_WORKERS};
 use crate::numbers::number_within;
-use crate::options::Command;
+use crate::options::{Command, Flags};
 use clap::ArgMatches;
 use line_pace::MAX_SLOT_MICROS;
 use rotating_pick::{MAX_PORTS, MAX_ROUNDS};
@@ -37,11 +37,12 @@ pub fn read_words(alloc: Global, words: &[String]) -> Result<Job, WordsFault>
     };
     let command = Command::named(first.as_str()).ok_or(WordsFault::Usage)?;
     let matches = parsed(alloc, command, words)?;
-    let settings = settings(&matches).ok_or(WordsFault::Usage)?;
     let names = names(&matches).ok_or(WordsFault::Usage)?;
     match command {
-        Command::Run => Ok(Job::Run(run_job(alloc, settings, has_slots(&matches), names)?)),
-        Command::Gen => Ok(Job::Gen(gen_job(settings, names).ok_or(WordsFault::Usage)?)),
+        Command::Run => Ok(Job::Run(run_job(alloc, settings(&matches)?, flags(&matches), names)?)),
+        Command::Gen => Ok(Job::Gen(gen_job(settings(&matches)?, names)?)),
+        Command::Check => Ok(Job::Check(check_job(alloc, names)?)),
+        Command::Firm => Ok(Job::Firm(firm_job(alloc, settings(&matches)?, names)?)),
     }
 }
 
@@ -60,8 +61,16 @@ fn parsed<'a>(
 }
 
 // The settings. An option that the command lacks has no text.
+fn settings(matches: &ArgMatches<'_>) -> Result<Settings, WordsFault>
+    ensures settings { result ≡ ok_or (settings_of (parts_of matches.now)) WordsFault.Usage }
+    ensures limits { IfOk result AreWithinLimits }
+{
+    given_settings(matches).ok_or(WordsFault::Usage)
+}
+
+// The settings, where each option's text is a number within its limits.
 #[tactic(auto, unfolding(crate::specs::Reading::settings_of))]
-fn settings(matches: &ArgMatches<'_>) -> Option<Settings>
+fn given_settings(matches: &ArgMatches<'_>) -> Option<Settings>
     ensures settings { result ≡ settings_of (parts_of matches.now) }
     ensures limits { IfSome result AreWithinLimits }
 {
@@ -84,11 +93,22 @@ fn number(matches: &ArgMatches<'_>, id: &str, most: u32) -> Option<Option<u32>>
     }
 }
 
-// Whether each slot is to be reported. A flag that is given has the text `true`.
-fn has_slots(matches: &ArgMatches<'_>) -> bool
-    ensures { result ≡ is_true_text (first_text (lookup_of matches.now (codes "slots"))) }
+// The flags that were given. One that the command lacks is not.
+fn flags(matches: &ArgMatches<'_>) -> Flags
+    ensures { result ≡ (parts_of matches.now).flags }
 {
-    match text(matches, "slots") {
+    Flags {
+        slots: has_flag(matches, "slots"),
+        journal: has_flag(matches, "journal"),
+        reference: has_flag(matches, "reference"),
+    }
+}
+
+// Whether the flag was given: it then has the text `true`.
+fn has_flag(matches: &ArgMatches<'_>, id: &str) -> bool
+    ensures { result ≡ is_true_text (first_text (lookup_of matches.now id.now)) }
+{
+    match text(matches, id) {
         Some(text) => text == "true",
         None => false,
     }
@@ -108,30 +128,70 @@ fn names<'m, 'a>(matches: &'m ArgMatches<'a>) -> Option<&'m [&'a str]>
     matches.get_strs("names")
 }
 
-// The job of `run` with these names: a table, a prefix and 1 to 64 inputs.
+// The job of `run` with these names: a table, a prefix and the captures.
 fn run_job(
     alloc: Global,
     settings: Settings,
-    slots: bool,
+    flags: Flags,
     names: &[&str],
 ) -> Result<RunJob, WordsFault>
-    ensures job { IfOk result (λ job. run_with settings slots (map (λ name. name.now) names.now) ≡ Some (run_words job)) }
-    ensures usage { result ≡ Err WordsFault.Usage → run_with settings slots (map (λ name. name.now) names.now) ≡ None }
+    ensures job { IfOk result (λ job. run_with settings flags (map (λ name. name.now) names.now) ≡ Some (run_words job)) }
+    ensures usage { result ≡ Err WordsFault.Usage → run_with settings flags (map (λ name. name.now) names.now) ≡ None }
     ensures limits { AreWithinLimits settings → IfOk result IsRunWithinLimits }
 {
-    let [table, prefix, inputs @ ..] = names else {
+    let [table, prefix, names @ ..] = names else {
         return Err(WordsFault::Usage);
     };
-    if inputs.is_empty() || inputs.len() > MAX_PORTS as usize {
-        return Err(WordsFault::Usage);
-    }
     Ok(RunJob {
         settings,
-        slots,
+        slots: flags.slots,
+        journal: flags.journal,
+        reference: flags.reference,
+        inputs: inputs(alloc, names)?,
         table: String::from_str(alloc, table)?,
         prefix: String::from_str(alloc, prefix)?,
-        inputs: copied(alloc, inputs)?,
     })
+}
+
+// The job of `firm` with these names: a table and the captures.
+fn firm_job(alloc: Global, settings: Settings, names: &[&str]) -> Result<FirmJob, WordsFault>
+    ensures job { IfOk result (λ job. firm_with settings (map (λ name. name.now) names.now) ≡ Some (firm_words job)) }
+    ensures usage { result ≡ Err WordsFault.Usage → firm_with settings (map (λ name. name.now) names.now) ≡ None }
+    ensures limits { AreWithinLimits settings → IfOk result IsFirmWithinLimits }
+{
+    let [table, names @ ..] = names else {
+        return Err(WordsFault::Usage);
+    };
+    Ok(FirmJob {
+        settings,
+        inputs: inputs(alloc, names)?,
+        table: String::from_str(alloc, table)?,
+    })
+}
+
+// The job of `check` with these names: one file.
+fn check_job(alloc: Global, names: &[&str]) -> Result<CheckJob, WordsFault>
+    ensures job { IfOk result (λ job. check_with (map (λ name. name.now) names.now) ≡ Some (string_bytes job.file)) }
+    ensures usage { result ≡ Err WordsFault.Usage → check_with (map (λ name. name.now) names.now) ≡ None }
+{
+    let [file] = names else {
+        return Err(WordsFault::Usage);
+    };
+    Ok(CheckJob {
+        file: String::from_str(alloc, file)?,
+    })
+}
+
+// The names of captures: 1 to 64.
+fn inputs(alloc: Global, names: &[&str]) -> Result<Vec<String>, WordsFault>
+    ensures inputs { IfOk result (λ inputs. inputs_in (map (λ name. name.now) names.now) ≡ Some (map string_bytes inputs.items)) }
+    ensures usage { result ≡ Err WordsFault.Usage → inputs_in (map (λ name. name.now) names.now) ≡ None }
+    ensures limits { IfOk result (λ inputs. IsUpTo MAX_PORTS (vec_len inputs)) }
+{
+    if names.is_empty() || names.len() > MAX_PORTS as usize {
+        return Err(WordsFault::Usage);
+    }
+    Ok(copied(alloc, names)?)
 }
 
 fn copied(alloc: Global, names: &[&str]) -> Result<Vec<String>, AllocError>
@@ -145,7 +205,15 @@ fn copied(alloc: Global, names: &[&str]) -> Result<Vec<String>, AllocError>
 }
 
 // The job of `gen` with these names: a seed, a count and a number of ports.
-fn gen_job(settings: Settings, names: &[&str]) -> Option<GenJob>
+fn gen_job(settings: Settings, names: &[&str]) -> Result<GenJob, WordsFault>
+    ensures job { result ≡ ok_or (gen_with settings (map (λ name. name.now) names.now)) WordsFault.Usage }
+    ensures limits { AreWithinLimits settings → IfOk result IsGenWithinLimits }
+{
+    made_job(settings, names).ok_or(WordsFault::Usage)
+}
+
+// A seed, a count and a number of ports, where each name is a number within its limits.
+fn made_job(settings: Settings, names: &[&str]) -> Option<GenJob>
     ensures job { result ≡ gen_with settings (map (λ name. name.now) names.now) }
     ensures limits { AreWithinLimits settings → IfSome result IsGenWithinLimits }
 {

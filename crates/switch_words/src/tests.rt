@@ -14,7 +14,7 @@ fn job(alloc: Global, line: &str) -> Result<Job, WordsFault> {
 fn run_job(alloc: Global, line: &str) -> Result<RunJob, WordsFault> {
     match job(alloc, line)? {
         Job::Run(run) => Ok(run),
-        Job::Gen(_) => Err(WordsFault::Usage),
+        Job::Gen(_) | Job::Check(_) | Job::Firm(_) => Err(WordsFault::Usage),
     }
 }
 
@@ -47,7 +47,43 @@ fn words_of_a_run(rt: HostRuntime) -> Result<(), Fail> {
 fn words_of_a_made_input(rt: HostRuntime) -> Result<(), Fail> {
     match job(rt.alloc(), "gen 1 2 2")? {
         Job::Gen(made) => assert_eq!(rt; (made.seed, made.count, made.ports), (1, 2, 2)),
-        Job::Run(_) => assert!(rt; false),
+        Job::Run(_) | Job::Check(_) | Job::Firm(_) => assert!(rt; false),
+    }
+    Ok(())
+}
+
+#[test]
+fn words_with_flags(rt: HostRuntime) -> Result<(), Fail> {
+    let rows = [
+        ("run --journal t out a", (false, true, false)),
+        ("run t out a --reference --slots", (true, false, true)),
+    ];
+    for (line, flags) in rows {
+        let run = run_job(rt.alloc(), line)?;
+        assert_eq!(rt; (run.slots, run.journal, run.reference), flags);
+    }
+    Ok(())
+}
+
+#[test]
+fn words_of_a_check(rt: HostRuntime) -> Result<(), Fail> {
+    match job(rt.alloc(), "check -- -f")? {
+        Job::Check(check) => assert_eq!(rt; check.file.as_str(), "-f"),
+        Job::Run(_) | Job::Gen(_) | Job::Firm(_) => assert!(rt; false),
+    }
+    Ok(())
+}
+
+#[test]
+fn words_of_the_second_scheduler(rt: HostRuntime) -> Result<(), Fail> {
+    match job(rt.alloc(), "firm --rounds 1 t --pace-us=3 a b")? {
+        Job::Firm(firm) => {
+            assert_eq!(rt; (firm.settings.rounds, firm.settings.workers), (1, 4));
+            assert_eq!(rt; firm.settings.pace_us, Some(3));
+            assert_eq!(rt; firm.table.as_str(), "t");
+            assert_eq!(rt; firm.inputs.len(), 2);
+        }
+        Job::Run(_) | Job::Gen(_) | Job::Check(_) => assert!(rt; false),
     }
     Ok(())
 }
@@ -64,6 +100,13 @@ fn other_words(rt: HostRuntime) -> Result<(), Fail> {
         "run --rounds +2 t out a",
         "run --workers 33 t out a",
         "gen 1 2 65",
+        "gen --journal 1 2 2",
+        "run --journal --journal t out a",
+        "check f g",
+        "check --rounds 2 f",
+        "firm t",
+        "firm --workers 2 t a",
+        "firm --slots t a",
     ];
     for line in lines {
         assert_eq!(rt; job(rt.alloc(), line).err(), Some(WordsFault::Usage));

@@ -6,7 +6,7 @@ use std::process::Abort;
 use std::test;
 
 const USAGE: &str =
-    "usage: tiny_tera run [options] TABLE PREFIX INPUT.. or tiny_tera gen [options] SEED COUNT PORTS\n";
+    "usage: tiny_tera run [options] TABLE PREFIX INPUT.. or tiny_tera gen [options] SEED COUNT PORTS or tiny_tera check FILE or tiny_tera firm [options] TABLE INPUT..\n";
 
 const TABLE: &str = "10.0.0.0/24 0\n10.0.1.0/24 1\n";
 

@@ -1,14 +1,16 @@
 use crate::ending::{Ending, Written};
 use crate::error_lines::print_line;
 use crate::inputs::InputFile;
+use check_job::CheckEnding;
 use forward_table::TableFault;
+use journal_check::Reason;
 use outside::MemFiles;
 use pcap_records::PcapFault;
 use std::alloc::{AllocError, Global};
 use std::process::Abort;
 use std::test;
 use switch_plan::PlanFault;
-use switch_words::{Job, RunJob, Settings};
+use switch_words::{CheckJob, Job, RunJob, Settings};
 
 fn input_names(alloc: Global) -> Result<Vec<String>, AllocError> {
     let mut names = Vec::new(alloc);
@@ -27,6 +29,8 @@ fn job(alloc: Global) -> Result<Job, AllocError> {
             pace_us: None,
         },
         slots: false,
+        journal: true,
+        reference: false,
         table: String::from_str(alloc, "the table")?,
         prefix: String::from_str(alloc, "to")?,
         inputs: input_names(alloc)?,
@@ -40,9 +44,19 @@ fn no_files(alloc: Global) -> Result<MemFiles, test::Fail> {
 
 // The line of the ending is this one.
 fn prints(rt: &impl Abort, alloc: Global, ending: Ending, line: &str) -> Result<(), test::Fail> {
-    let job = job(alloc)?;
+    prints_of(rt, alloc, &job(alloc)?, ending, line)
+}
+
+// The line of the ending of the job is this one.
+fn prints_of(
+    rt: &impl Abort,
+    alloc: Global,
+    job: &Job,
+    ending: Ending,
+    line: &str,
+) -> Result<(), test::Fail> {
     let mut files = no_files(alloc)?;
-    print_line(&mut files, &job, ending);
+    print_line(&mut files, job, ending);
     assert_eq!(rt; files.err_text(), line.as_bytes());
     Ok(())
 }
@@ -70,8 +84,16 @@ fn endings_print_their_lines(rt: HostRuntime) -> Result<(), test::Fail> {
             "write fault: to.report\n",
         ),
         (
+            Ending::WriteFault(Written::Journal),
+            "write fault: to.journal\n",
+        ),
+        (
             Ending::WriteFault(Written::StandardOutput),
             "write fault: standard output\n",
+        ),
+        (
+            Ending::JournalTooLong(134_217_729),
+            "journal too long: 134217729\n",
         ),
         (
             Ending::Refused(PlanFault::MixedLink {
@@ -165,6 +187,47 @@ fn captures_print_their_lines(rt: HostRuntime) -> Result<(), test::Fail> {
     for (fault, line) in rows {
         let refusal = PlanFault::Capture { port: 5, fault };
         prints(&rt, rt.alloc(), Ending::Refused(refusal), line)?;
+    }
+    Ok(())
+}
+
+#[test]
+fn checks_print_their_lines(rt: HostRuntime) -> Result<(), test::Fail> {
+    let rows = [
+        (CheckEnding::Yes, ""),
+        (CheckEnding::TooLong, "too long: f\n"),
+        (CheckEnding::ReadFault, "read fault: f\n"),
+        (CheckEnding::Bad { at: 19 }, "journal: bad at 19\n"),
+        (CheckEnding::OutFault, "write fault: standard output\n"),
+    ];
+    for (ending, line) in rows {
+        let job = Job::Check(CheckJob {
+            file: String::from_str(rt.alloc(), "f")?,
+        });
+        prints_of(&rt, rt.alloc(), &job, Ending::Checked(ending), line)?;
+    }
+    Ok(())
+}
+
+#[test]
+fn unlawful_journals_print_their_lines(rt: HostRuntime) -> Result<(), test::Fail> {
+    let rows = [
+        (7, Reason::AfterEnd, "no: slot 7 after end\n"),
+        (4, Reason::More { card: 1 }, "no: slot 4 more of card 1\n"),
+        (
+            4,
+            Reason::Keeps { card: 63 },
+            "no: slot 4 keeps of card 63\n",
+        ),
+        (0, Reason::Output { output: 0 }, "no: slot 0 output 0\n"),
+        (5, Reason::NoEnd, "no: slot 5 no end\n"),
+    ];
+    for (slot, reason, line) in rows {
+        let job = Job::Check(CheckJob {
+            file: String::from_str(rt.alloc(), "f")?,
+        });
+        let ending = Ending::Checked(CheckEnding::No { slot, reason });
+        prints_of(&rt, rt.alloc(), &job, ending, line)?;
     }
     Ok(())
 }

@@ -7,19 +7,17 @@ use Rattle.switch_run.proofs.command.attempt.Goals as goal
 
 pub put_texts-requires : goal.put_texts-requires
 put_texts-requires g c =
-    let items = c.in-Ok-make_texts.texts.files.items in
-    let few = few_files (job_words c.args.job.now) _ _ (map shown items) _ c.in-Ok-make_texts.ensures.made c.in-Ok.ensures.size.ports.most in
+    let items = c.in-Ok.texts.files.items in
+    let few = few_files (job_words c.args.job.now) _ _ (map shown items) _ c.in-Ok.ensures.made in
     omega (arith, few, length-map items shown)
 
 pub returns-in-Ok-put_texts-clause-done : goal.returns-in-Ok-put_texts-clause-done
 returns-in-Ok-put_texts-clause-done g c =
-    let contents = g.F.Files.told in
-    done (job_words c.args.job.now) _ _ (map shown c.in-Ok-make_texts.texts.files.items) (string_bytes c.in-Ok-make_texts.texts.summary) c.in-Ok-make_texts.ensures.made (contents c.args.files.now) (contents c.inputs_of.new.files) (contents c.put_texts.new.files)
-    c.in-Ok.ensures.inputs c.in-Ok.ensures.size.ports.most c.in-Ok.ensures.told c.in-Ok-put_texts.ensures.ok
+    done (job_words c.args.job.now) _ _ (map shown c.in-Ok.texts.files.items) (string_bytes c.in-Ok.texts.summary) c.in-Ok.ensures.made _ _ c.in-Ok.ensures.told c.in-Ok-put_texts.ensures.ok
 
 pub returns-clause-stops : goal.returns-clause-stops
 returns-clause-stops g c =
     let contents = g.F.Files.told in
     let counts = g.F.Files.faults in
-    write_fault (job_words c.args.job.now) _ _ (map shown c.in-Ok-make_texts.texts.files.items) (string_bytes c.in-Ok-make_texts.texts.summary) c.in-Ok-make_texts.ensures.made (contents c.args.files.now) (contents c.inputs_of.new.files) (contents c.put_texts.new.files)
-    (counts c.args.files.now) (counts c.inputs_of.new.files) (counts c.put_texts.new.files) c.in-Err-put_texts.written c.in-Ok.ensures.inputs c.in-Ok.ensures.told c.in-Ok.ensures.never_fall c.in-Err-put_texts.ensures.err
+    write_fault (job_words c.args.job.now) (contents c.args.files.now) (contents c.job_texts.new.files) (contents c.put_texts.new.files) _ (map shown c.in-Ok.texts.files.items) (string_bytes c.in-Ok.texts.summary) c.in-Ok.ensures.made
+    (counts c.args.files.now) (counts c.job_texts.new.files) (counts c.put_texts.new.files) c.in-Err-put_texts.written c.in-Ok.ensures.told c.job_texts.ensures.never_fall c.in-Err-put_texts.ensures.err

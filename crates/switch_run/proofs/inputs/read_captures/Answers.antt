@@ -1,17 +1,17 @@
 use Rattle.std.proofs.Common.{◌<◌, length, string_bytes, arith, ◌∙◌}
 use Rattle.std.proofs.lemmas.List.{length-map}
-use Rattle.switch_words.specs.Reading.{run, run_words}
+use Rattle.switch_run.specs.Making.{reads_words}
 use Rattle.switch_run.proofs.InputFiles.{bytes_pushed, captures_more, earlier_more}
-use Rattle.switch_run.proofs.Stopping.{Stops-since}
+use Rattle.switch_run.proofs.Stopping.{StopsReading-since}
 use Rattle.switch_run.proofs.inputs.read_captures.Goals as goal
 
 pub returns-in-Err-clause-stops : goal.returns-in-Err-clause-stops
-returns-in-Err-clause-stops g c = Stops-since (run (run_words c.args.job.now)) _ _ _ _ _ _ _ c.loop-port.invariant.told c.loop-port.invariant.never_fall c.in-Err.ensures.stops
+returns-in-Err-clause-stops g c = StopsReading-since (reads_words c.args.reads.now) _ _ _ _ _ _ c.loop-port.invariant.told c.loop-port.invariant.never_fall c.in-Err.ensures.stops
 
 pub loop-port-preserved : goal.loop-port-preserved
 loop-port-preserved g c =
-    let words = run_words c.args.job.now in
-    let within : c.loop-port.port < length words.inputs = omega (arith, length-map c.args.job.now.inputs.items string_bytes, c.loop-port-test.true) in
+    let words = reads_words c.args.reads.now in
+    let within : c.loop-port.port < length words.inputs = omega (arith, length-map c.args.reads.now.inputs.now string_bytes, c.loop-port-test.true) in
     let here = rw c.loop-port.invariant.told at c.in-Ok.ensures.bytes in
     let pushed = bytes_pushed c.push.result c.push.new.self c.loop-port.captures c.in-Ok.capture c.push.ensures.items c.if-is_err.ensures.negation in
     record {

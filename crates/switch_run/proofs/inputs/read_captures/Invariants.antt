@@ -2,8 +2,8 @@ use Rattle.std.proofs.Common.{◌≡◌, ◌<◌, length, take}
 use Rattle.std.specs.Prelude.{IfSome}
 use Rattle.outside.specs.Faults.{NeverFall}
 use Rattle.switch_run.specs.Inputs.{CapturesRead, EarlierFit}
+use Rattle.switch_run.specs.Making.{reads_words}
 use Rattle.switch_plan.specs.Reading.{bytes_of_files}
-use Rattle.switch_words.specs.Reading.{run_words}
 use Rattle.switch_run.specs.declared.inputs.InputFile.TheVariants.{Capture}
 use Rattle.switch_run.proofs.inputs.read_captures.Given as goal
 
@@ -15,6 +15,6 @@ invariant-loop-port g l =
       told : contents l.files ≡ contents l.fn.files;
       never_fall : NeverFall (counts l.fn.files) (counts l.files);
       room : 0 < length l.buf;
-      earlier : IfSome (contents l.fn.files) (EarlierFit (run_words l.job) (Capture l.port));
-      read : CapturesRead (take l.port (run_words l.job).inputs) (contents l.fn.files) (bytes_of_files l.captures);
+      earlier : IfSome (contents l.fn.files) (EarlierFit (reads_words l.reads) (Capture l.port));
+      read : CapturesRead (take l.port (reads_words l.reads).inputs) (contents l.fn.files) (bytes_of_files l.captures);
     }

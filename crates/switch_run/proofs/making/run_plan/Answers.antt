@@ -3,10 +3,16 @@ use Rattle.switch_plan.specs.GoodPlans.{switch_plan_of}
 use Rattle.switch_run.proofs.Cutting.{cut_outputs}
 use Rattle.switch_run.proofs.making.run_plan.Goals as goal
 
+pub reference_lines-requires : goal.reference_lines-requires
+reference_lines-requires g c =
+    let left = c.in_ok-outcome.ensures.run in
+    (switch_plan_of c.args.plan, left.slots, c.args.with_reference, record { good = c.requires; ends = left.ends; setup = left.setup; slots_are = left.journal }, c.in_ok-reference.ensures)
+
 pub returns : goal.returns
 returns g c =
     let left = c.in_ok-outcome.ensures.run in
     let few = c.requires.size.most in
+    let journal = record { good = c.requires; ends = left.ends; setup = left.setup; slots_are = left.journal } in
     record {
       ran = record {
         nano_is = refl;
@@ -14,5 +20,6 @@ returns g c =
         left = left;
         cut = cut_outputs (switch_plan_of c.args.plan) c.in_ok-outcome.outcome c.requires left;
         few = omega (arith, left.ports, few);
+        reference_is = c.in_ok-reference-2.ensures (switch_plan_of c.args.plan) left.slots c.args.with_reference journal c.in_ok-reference.ensures;
       };
     }

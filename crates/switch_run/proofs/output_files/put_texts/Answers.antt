@@ -1,4 +1,4 @@
-use Rattle.std.proofs.Common.{◌≡◌, ◌<◌, length, map, string_bytes, arith, ap}
+use Rattle.std.proofs.Common.{◌<◌, length, map, string_bytes, arith, ap}
 use Rattle.std.proofs.lemmas.List.{length-map}
 use Rattle.switch_run.specs.OutputFiles.{shown}
 use Rattle.switch_run.proofs.Putting.{stops_at_place}
@@ -9,7 +9,6 @@ returns-in-Err-clause-err g c =
     let items = c.args.texts.now.files.items in
     let same = c.as_slice.ensures.value in
     let files = map shown items in
-    let count : c.len.result ≡ length files = omega (arith, c.len.ensures, c.args.texts.now.files.ok.0, length-map items shown) in
     let stops = rw same at c.in-Err.ensures.err in
     let within : c.in-Err.place < length files = omega (arith, c.in-Err.ensures.place, ap length same, length-map items shown) in
-    rw c.written_at.ensures (stops_at_place files (string_bytes c.args.texts.now.summary) c.in-Err.place c.len.result (g.F.Files.told c.args.files.now) (g.F.Files.told c.put_all.new.files) (g.F.Files.faults c.args.files.now) (g.F.Files.faults c.put_all.new.files) count within stops)
+    rw c.written_at.ensures (stops_at_place c.args.texts.now.outputs files (string_bytes c.args.texts.now.summary) c.in-Err.place (g.F.Files.told c.args.files.now) (g.F.Files.told c.put_all.new.files) (g.F.Files.faults c.args.files.now) (g.F.Files.faults c.put_all.new.files) within stops)

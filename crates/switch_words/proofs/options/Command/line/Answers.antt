@@ -1,27 +1,10 @@
-use Rattle.std.proofs.Common.{◌≡◌, ◌∙◌, ap, ap₂, sym, codes}
+use Rattle.std.proofs.Common.{map}
 use Rattle.std.proofs.lemmas.Result.{IfOk-weaker}
-use Rattle.clap.specs.Simple.{app_of, with_rule}
-use Rattle.switch_words.specs.Lines.{bare_line, line_for, option_arg}
+use Rattle.clap.specs.Words.{app_of, rule_of}
+use Rattle.switch_words.proofs.RuleLists.{line_is}
 use Rattle.switch_words.proofs.options.Command.line.Goals as goal
 
-pub returns-in_ok-arg-in-Run-2 : goal.returns-in_ok-arg-in-Run-2
-returns-in_ok-arg-in-Run-2 c =
-    let rounds : app_of c.in_ok-arg.field-0 ≡ with_rule bare_line (option_arg (codes "rounds")) =
-    c.in_ok-arg.ensures.shape c.option.ensures.local ∙ ap₂ with_rule c.bare_line.ensures c.option.ensures.rule in
-    let depth : app_of c.in_ok-arg-2.field-0 ≡ with_rule (with_rule bare_line (option_arg (codes "rounds"))) (option_arg (codes "depth")) =
-    c.in_ok-arg-2.ensures.shape c.option-2.ensures.local ∙ ap₂ with_rule rounds c.option-2.ensures.rule in
-    let pace = c.in_ok-arg-in-Run.ensures.shape c.option-in-Run.ensures.local
-    ∙ ap₂ with_rule (c.in_ok-line.ensures.shape c.option-3.ensures.local ∙ ap₂ with_rule depth c.option-3.ensures.rule) c.option-in-Run.ensures.rule in
-    let slots = c.in_ok-arg-in-Run-2.ensures.shape c.flag.ensures.local ∙ ap₂ with_rule pace c.flag.ensures.rule in
-    IfOk-weaker c.arg-in-Run-3.result _ _ (λ line added.
-    added.shape c.names.ensures.local ∙ (ap₂ with_rule slots c.names.ensures.rule ∙ ap line_for (sym c.in-Run.is))) c.arg-in-Run-3.ensures
-
-pub returns-in-Gen : goal.returns-in-Gen
-returns-in-Gen c =
-    let rounds : app_of c.in_ok-arg.field-0 ≡ with_rule bare_line (option_arg (codes "rounds")) =
-    c.in_ok-arg.ensures.shape c.option.ensures.local ∙ ap₂ with_rule c.bare_line.ensures c.option.ensures.rule in
-    let depth : app_of c.in_ok-arg-2.field-0 ≡ with_rule (with_rule bare_line (option_arg (codes "rounds"))) (option_arg (codes "depth")) =
-    c.in_ok-arg-2.ensures.shape c.option-2.ensures.local ∙ ap₂ with_rule rounds c.option-2.ensures.rule in
-    let workers = c.in_ok-line.ensures.shape c.option-3.ensures.local ∙ ap₂ with_rule depth c.option-3.ensures.rule in
-    IfOk-weaker c.arg-in-Gen.result _ _ (λ line added.
-    added.shape c.names-in-Gen.ensures.local ∙ (ap₂ with_rule workers c.names-in-Gen.ensures.rule ∙ ap line_for (sym c.in-Gen.is))) c.arg-in-Gen.ensures
+pub returns : goal.returns
+returns c = IfOk-weaker c.arg.result _ _ (λ line added.
+    line_is c.args.self (app_of c.bare_line.result) (app_of c.in_ok-line.line) (app_of c.in_ok-line-2.line) (app_of line) _ _ (rule_of c.names.result)
+    c.bare_line.ensures c.options.ensures c.flags.ensures c.names.ensures.rule c.in_ok-line.ensures c.in_ok-line-2.ensures (added.shape c.names.ensures.local)) c.arg.ensures

@@ -1,0 +1,31 @@
+use Rattle.std.proofs.Common.{rules, ◌≡◌, ◌≤◌, ◌+◌, ◌-◌, ◌++◌, length, take, refl, ◌∙◌, arith, length-append}
+use Rattle.std.proofs.lemmas.List.{length-take-le}
+use Rattle.journal_check.specs.declared.limits.TheConstants.{MAX_JOURNAL_BYTES}
+use Rattle.outside.proofs.Fronts.{wholes, longers, piece_here, appended}
+use Rattle.check_job.proofs.reading.read_into.Goals as goal
+
+pub returns-then-count-eq0-clause-bytes : goal.returns-then-count-eq0-clause-bytes
+returns-then-count-eq0-clause-bytes g c =
+    let n : c.len.result ≡ length c.loop-count.bytes.items = search rules in
+    wholes _ _ c.loop-count.bytes.items c.read.new.buf (length c.loop-count.buf) c.loop-count.invariant.front
+    (piece_here _ _ _ _ _ _ _ _ _ c.loop-count.invariant.told n c.if-count-eq0.true c.in-Ok.ensures.piece)
+    (omega (arith, c.loop-count.auto.buf, c.requires.room))
+
+pub loop-count-preserved : goal.loop-count-preserved
+loop-count-preserved g c =
+    let n : c.len.result ≡ length c.loop-count.bytes.items = search rules in
+    let m : c.len-in-loop-count.result ≡ length c.loop-count.bytes.items = search rules in
+    let e = appended c.extend_from_slice.result c.extend_from_slice.new.self.items c.loop-count.bytes.items (take c.in-Ok.count c.read.new.buf) c.extend_from_slice.ensures.items c.if-is_err.ensures.negation in
+    let room : c.in-Ok.count ≤ length c.loop-count.buf = c.in-Ok.ensures.room in
+    let fit : c.in-Ok.count ≤ MAX_JOURNAL_BYTES - c.len-in-loop-count.result = c.if-count-len.false in
+    let most : length c.loop-count.bytes.items ≤ MAX_JOURNAL_BYTES = c.loop-count.invariant.most in
+    let same : length c.read.new.buf ≡ length c.loop-count.buf = c.read.auto.buf in
+    let k : length (take c.in-Ok.count c.read.new.buf) ≡ c.in-Ok.count = length-take-le c.in-Ok.count c.read.new.buf (omega arith) in
+    let sum : length (c.loop-count.bytes.items ++ take c.in-Ok.count c.read.new.buf) ≡ length c.loop-count.bytes.items + length (take c.in-Ok.count c.read.new.buf) = length-append c.loop-count.bytes.items (take c.in-Ok.count c.read.new.buf) in
+    record {
+      told = c.in-Ok.ensures.told ∙ c.loop-count.invariant.told;
+      never_fall = λ p. omega (arith, c.loop-count.invariant.never_fall p, c.in-Ok.ensures.never_fall p);
+      most = rw e (omega arith);
+      front = rw e (longers _ _ c.loop-count.bytes.items c.read.new.buf (length c.loop-count.buf) c.in-Ok.count c.loop-count.invariant.front
+          (piece_here _ _ _ _ _ _ _ _ _ c.loop-count.invariant.told n refl c.in-Ok.ensures.piece));
+    }

@@ -1,0 +1,20 @@
+use Rattle.std.proofs.Common.{◌≡◌, ◌≤◌, length, ◌-◌}
+use Rattle.std.specs.Prelude.{IfSome}
+use Rattle.outside.specs.Faults.{NeverFall}
+use Rattle.journal_check.specs.declared.limits.TheConstants.{MAX_JOURNAL_BYTES}
+use Rattle.outside.proofs.Fronts.{IsFrontOf}
+use Rattle.check_job.proofs.reading.read_into.Given as goal
+
+abbrev pub invariant-loop-count : goal.invariant-loop-count
+invariant-loop-count g l =
+    let contents = g.F.Files.told in
+    let counts = g.F.Files.faults in
+    record {
+      told : contents l.files ≡ contents l.fn.files;
+      never_fall : NeverFall (counts l.fn.files) (counts l.files);
+      most : length l.bytes.items ≤ MAX_JOURNAL_BYTES;
+      front : IfSome (contents l.fn.files) (λ c. IsFrontOf (c.file l.name) l.bytes.items);
+    }
+
+abbrev pub decreases-loop-count : goal.decreases-loop-count
+decreases-loop-count g l = MAX_JOURNAL_BYTES - length l.bytes.items

@@ -1,0 +1,19 @@
+-- The run of a plan under the second scheduler.
+use Rattle.std.specs.Prelude.{◌≡◌, ℕ, ◌*◌, ◌<◌, ◌≤◌, slice_index}
+use Rattle.firm_rounds.specs.Decisions.{firm_decision}
+use Rattle.slot_report.specs.declared.summary.Summary.{Summary}
+use Rattle.switch_plan.specs.GoodPlans.{SwitchPlan}
+use Rattle.whole_run.specs.Runs.{ports_of}
+use Rattle.whole_run.specs.Ends.{IsLengthUnder}
+use Rattle.whole_run.specs.Sums.{IsBestUnder}
+use Rattle.switch_jobs.specs.Outcomes.{summary_under}
+
+-- these are the numbers of the plan's run, to its end
+pub record IsFirmRun (plan : SwitchPlan) (summary : Summary) : Type 0 where
+  pub ends : IsLengthUnder firm_decision plan summary.slots
+  pub within : summary.slots ≤ plan.max_slots
+  pub numbers : summary ≡ summary_under firm_decision plan summary.slots
+
+-- Where none of the best level of all admitted packets is multicast, its longest wait is below N * N slots.
+abbrev pub HasShortWaits : SwitchPlan → Summary → Type 0
+HasShortWaits plan summary = (level : ℕ) → IsBestUnder firm_decision plan summary.slots level → slice_index summary.longest level < ports_of plan * ports_of plan

@@ -1,0 +1,3 @@
+pub mod FirmRuns
+pub mod Acting
+pub mod Standing

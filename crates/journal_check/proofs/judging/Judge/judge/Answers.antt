@@ -1,0 +1,26 @@
+use Rattle.std.proofs.Common.{◌≡◌, ◌-◌, ◌∙◌, ◌++◌, ◌∷◌, [], ℕ, List, None, length, take, refl, sym, ap, subst, arith}
+use Rattle.service_bound.specs.Waits.{NotedSlot}
+use Rattle.service_bound.specs.Meters.{HasNoted}
+use Rattle.journal_check.specs.Lawful.{after_slot, failure_in}
+use Rattle.journal_check.specs.Steps.{before_of}
+use Rattle.journal_check.specs.Verdicts.{noted_of}
+use Rattle.journal_check.proofs.Judged.{passed, noted_same}
+use Rattle.journal_check.proofs.SlotFails.{is_none}
+use Rattle.journal_check.proofs.judging.Judge.judge.Goals as goal
+
+pub returns-in-None-clause-judged : goal.returns-in-None-clause-judged
+returns-in-None-clause-judged c slots value count is judged =
+    let n = c.args.ports in
+    let old = c.args.self.now in
+    let mid = c.slot_failure.new.self in
+    let rows = c.args.slot.now.rows in
+    let same_rows : take n rows ≡ take n rows = refl in
+    let was : old.failure ≡ None = is_none old.failure (sym c.is_some.ensures ∙ c.if-is_some.false) in
+    let stays = c.in-None.ensures.stays in
+    let why : None ≡ failure_in n old.rounds (length slots) (before_of n old) value = subst (λ (t : ℕ). None ≡ failure_in n old.rounds t (before_of n old) value) count (c.in-None.ensures.failure value is) in
+    let next : before_of n mid ≡ after_slot n old.rounds c.args.t (before_of n old) value = c.in-None.ensures.next value is in
+    let next_at : before_of n mid ≡ after_slot n old.rounds (length slots) (before_of n old) value = subst (λ (t : ℕ). before_of n mid ≡ after_slot n old.rounds t (before_of n old) value) count next in
+    passed n old.rounds slots value old (record mid { meter = c.note.new.self }) judged was (stays.2 ∙ was) (sym why) next_at
+    (λ noted h.
+    subst (λ (slot : NotedSlot). HasNoted c.note.new.self (noted ++ slot ∷ [])) (noted_same n old.rounds c.args.t c.args.slot.now value (before_of n old) mid (take n rows) mid.matched is same_rows refl next)
+    (c.note.ensures.noted noted (subst (λ m. HasNoted m noted) (sym stays.1) h)))

@@ -1,0 +1,9 @@
+use Rattle.journal_check.proofs.FilesAgain.{journal_again}
+use Rattle.journal_check.proofs.ReadFiles.{told_is_file}
+use Rattle.journal_check.proofs.laws.files_are_their_texts.Goals as goal
+
+pub returns-clause-read : goal.returns-clause-read
+returns-clause-read c = journal_again
+
+pub returns-clause-good : goal.returns-clause-good
+returns-clause-good c = told_is_file

@@ -1,0 +1,6 @@
+pub mod Fields
+pub mod Files
+pub mod Texts
+pub mod Lawful
+pub mod Verdicts
+pub mod Steps

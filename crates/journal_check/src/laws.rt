@@ -1,0 +1,66 @@
+//! Laws of journal files, as the contracts of functions that do nothing.
+
+ghost use Rattle.std.specs.Prelude.{◌≡◌, ℕ, ◌+◌, ◌*◌, ◌<◌, ◌≤◌, ◌↔◌, Ok, None, List, All, Any, length, take, drop, map};
+ghost use Rattle.rotating_pick.specs.declared.kinds.Kind.TheVariants.{Uni};
+ghost use Rattle.rotating_pick.specs.declared.limits.TheConstants.{LEVELS};
+ghost use Rattle.slot_match.specs.Rows.{Names, row_of, HasHead, AreWithin};
+ghost use Rattle.slot_match.specs.Matches.{Serves, Completes};
+ghost use Rattle.pointer_state.specs.Places.{places_at_first};
+ghost use Rattle.eslip_rounds.specs.Schedules.{IsSchedule};
+ghost use Rattle.service_bound.specs.Windows.{InFirst, AreKept, IsClean, IsWithoutMulticast};
+ghost use Rattle.service_bound.specs.Waits.{longest_service_by};
+ghost use Rattle.slot_histories.specs.declared.events.Event.{Event};
+ghost use Rattle.slot_histories.specs.Events.{Setup};
+ghost use Rattle.slot_histories.specs.Legal.{IsLegal};
+ghost use Rattle.board_state.specs.Boards.{IsSetup, IsFinished, board_journal};
+ghost use Rattle.journal_check.specs.Files.{JournalFile, journal_in};
+ghost use Rattle.journal_check.specs.Texts.{IsFile, HaveLevels, file_of, file_text};
+ghost use Rattle.journal_check.specs.Lawful.{first_failure, decided_slots, IsLawful};
+ghost use Rattle.journal_check.specs.Verdicts.{yes_on, answer_to};
+
+/// What is spelled of a file is read again: just that file. And what is read is what a file can tell.
+pub fn files_are_their_texts()
+    ensures read { (file : JournalFile) → IsFile file → journal_in (file_text file) ≡ Ok file }
+    ensures good { (bytes : List ℕ) (file : JournalFile) → journal_in bytes ≡ Ok file → IsFile file }
+{}
+
+/// A file has no failure exactly where it is lawful.
+pub fn files_without_failure_are_lawful()
+    ensures { (file : JournalFile) → IsFile file → (first_failure file ≡ None) ↔ IsLawful file }
+{}
+
+/// The slots of a lawful file are a schedule from slot 0 and all pointers at port 0 on, of rows that name
+/// none but the ports and are kept until they are served.
+pub fn lawful_files_are_schedules()
+    ensures schedule { (file : JournalFile) → IsFile file → IsLawful file → IsSchedule file.ports file.rounds 0 (places_at_first file.ports) (decided_slots file) }
+    ensures within { (file : JournalFile) → IsFile file → IsLawful file → All (λ slot. AreWithin file.ports slot.rows) (decided_slots file) }
+    ensures kept { (file : JournalFile) → IsFile file → IsLawful file → AreKept file.ports (decided_slots file) }
+    ensures matches { (file : JournalFile) → IsLawful file → map (λ slot. slot.decision.matched) (decided_slots file) ≡ map (λ slot. slot.matched) file.slots }
+{}
+
+/// The bounds on waiting hold of a lawful file, in all its slots one after another that name nothing at a
+/// better level: a unicast queue that is posted in the first of them is served in one of the first
+/// `longest_service` slots, where there is no multicast of its level, and a multicast head that is
+/// posted in the first completes in one of the first `2 * n`.
+pub fn lawful_files_keep_the_bounds()
+    ensures unicast { (file : JournalFile) (level first count i j : ℕ) → IsFile file → IsLawful file → level < LEVELS → i < file.ports
+        → All (λ slot. IsClean file.ports level slot.rows) (take count (drop first (decided_slots file)))
+        → All (λ slot. IsWithoutMulticast file.ports level slot.rows) (take count (drop first (decided_slots file)))
+        → InFirst (λ rows. Names (row_of rows i) level Uni j) (take count (drop first (decided_slots file)))
+        → longest_service_by file.ports file.rounds ≤ length (take count (drop first (decided_slots file)))
+        → Any (λ slot. Serves slot.decision.matched i j level Uni) (take count (drop first (decided_slots file))) }
+    ensures multicast { (file : JournalFile) (level first count i : ℕ) → IsFile file → IsLawful file → level < LEVELS → i < file.ports
+        → All (λ slot. IsClean file.ports level slot.rows) (take count (drop first (decided_slots file)))
+        → InFirst (λ rows. HasHead rows level i) (take count (drop first (decided_slots file)))
+        → 2 * file.ports ≤ length (take count (drop first (decided_slots file)))
+        → Any (λ slot. HasHead slot.rows level i × Completes slot.rows slot.decision.matched level i) (take count (drop first (decided_slots file))) }
+{}
+
+/// The journal of a board on which every line card has taken the last slot is a lawful file: its bytes
+/// are answered yes, with the number of slots that were decided and their longest waits.
+pub fn journals_are_lawful()
+    ensures file { (s : Setup) (events : List Event) → IsSetup s → IsLegal s events → IsFinished (record { setup = s; events = events }) → HaveLevels (file_of (board_journal (record { setup = s; events = events }))) → IsFile (file_of (board_journal (record { setup = s; events = events }))) }
+    ensures lawful { (s : Setup) (events : List Event) → IsSetup s → IsLegal s events → IsFinished (record { setup = s; events = events }) → IsLawful (file_of (board_journal (record { setup = s; events = events }))) }
+    ensures answer { (s : Setup) (events : List Event) → IsSetup s → IsLegal s events → IsFinished (record { setup = s; events = events })
+        → HaveLevels (file_of (board_journal (record { setup = s; events = events }))) → answer_to (file_text (file_of (board_journal (record { setup = s; events = events })))) ≡ Ok (yes_on (file_of (board_journal (record { setup = s; events = events })))) }
+{}

@@ -1,0 +1,23 @@
+//! Journal files: what a switch's scheduler decided in each slot, as bytes, and a checker of such files.
+//!
+//! The checker trusts nothing of the file's maker. It decides each slot anew, from the rows that the
+//! file has, and compares.
+#![tactic(auto)]
+
+mod checking;
+mod fields;
+mod header;
+mod judging;
+pub mod laws;
+mod limits;
+mod posts;
+mod slots;
+#[cfg(test)]
+mod tests;
+mod verdict;
+mod writing;
+
+pub use checking::check_journal;
+pub use limits::MAX_JOURNAL_BYTES;
+pub use verdict::{JournalFault, Reason, Verdict};
+pub use writing::{journal_bytes, journal_len};

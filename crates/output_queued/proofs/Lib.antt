@@ -1,0 +1,13 @@
+pub mod Totals
+pub mod Ideals
+pub mod Shares
+pub mod Pairs
+pub mod Runs
+pub mod Sources
+pub mod LookedAt
+pub mod Switching
+pub mod Following
+pub mod Taken
+pub mod Noted
+pub mod Places
+pub mod Arrivals

@@ -1,0 +1,61 @@
+-- Packets of an input, as far as they were looked at.
+use Rattle.std.proofs.Common.{◌≡◌, ◌∙◌, ◌⊎◌, ℕ, zero, suc, ◌+◌, ◌<◌, ◌≤◌, List, [], ◌∷◌, map, length, Some, slice_get, slice_index_or, refl, sym, ap, subst, arith, inl, inr}
+use Rattle.std.proofs.lemmas.Bool.{cases_eq}
+use Rattle.std.proofs.lemmas.List.{get_or-map}
+use Rattle.std.proofs.lemmas.Option.{same_Some}
+use Rattle.card_core.specs.Plans.{AreRising}
+use Rattle.card_core.proofs.Ascending.{RisesTo, rises_more, rises_not}
+use Rattle.output_queued.specs.declared.coming.Coming.{Coming}
+use Rattle.output_queued.specs.Switches.{planned_of, IsComing, IsInput}
+use Rattle.output_queued.proofs.Sources.{planned-at, at-planned}
+
+abbrev pub no_coming : Coming
+no_coming = record { slot = 0; cells = 0; fan = 0; level = 0 }
+
+module _ {X : Type 0} where
+  pub get_some : (xs : List X) (k : ℕ) (x d : X) → slice_get xs k ≡ Some x → slice_index_or xs k d ≡ x
+  get_some [] k x d is = absurd (cc)
+  get_some (y ∷ xs) zero x d is = same_Some y x is
+  get_some (y ∷ xs) (suc k) x d is = get_some xs k x d is
+
+  pub some_get : (xs : List X) (k : ℕ) (d : X) → k < length xs → slice_get xs k ≡ Some (slice_index_or xs k d)
+  some_get [] k d inside = absurd (omega arith)
+  some_get (y ∷ xs) zero d inside = refl
+  some_get (y ∷ xs) (suc k) d inside = some_get xs k d (omega arith)
+
+  pub some_lt : (xs : List X) (k : ℕ) (x : X) → slice_get xs k ≡ Some x → k < length xs
+  some_lt [] k x is = absurd (cc)
+  some_lt (y ∷ xs) zero x is = omega arith
+  some_lt (y ∷ xs) (suc k) x is = omega (arith, some_lt xs k x is)
+
+  -- what holds of those before a place, and of the one there
+  pub each_more : (P : X → Type 0) (xs : List X) (i : ℕ) (d : X) → ((k : ℕ) (x : X) → k < i → slice_get xs k ≡ Some x → P x) → P (slice_index_or xs i d) → (k : ℕ) (x : X) → k < i + 1 → slice_get xs k ≡ Some x → P x
+  each_more P xs i d before here k x below is = elim (cases_eq k i) [
+    | inl same ↦ subst P (get_some xs i x d (ap (slice_get xs) (sym same) ∙ is)) here
+    | inr other ↦ before k x (omega arith) is
+  ]
+
+pub rising_of : (coming : List Coming) → AreRising (map planned_of coming) → (k m : ℕ) (c d : Coming) → slice_get coming k ≡ Some c → slice_get coming m ≡ Some d → k < m → c.slot < d.slot
+rising_of coming rising k m c d at there before = rising k m (planned_of c) (planned_of d) (at-planned coming k c at) (at-planned coming m d there) before
+
+pub rising_to : (n : ℕ) (coming : List Coming) → IsInput n coming → AreRising (map planned_of coming)
+rising_to n coming is k j p r a b before =
+    let (c, at, same) = planned-at coming k p a in
+    let (d, there, same') = planned-at coming j r b in
+    let less = is.rising k j c d at there before in
+    let first : c.slot ≡ p.arrival = ap (λ q. q.arrival) same in
+    let second : d.slot ≡ r.arrival = ap (λ q. q.arrival) same' in
+    omega arith
+
+slot_at : (coming : List Coming) (i : ℕ) (d : Coming) → i < length coming → slice_index_or (map planned_of coming) i (planned_of d) ≡ planned_of (slice_index_or coming i d)
+slot_at coming i d inside = get_or-map planned_of coming i d (planned_of d) inside
+
+pub rises_on : (coming : List Coming) (i least : ℕ) (d : Coming) → RisesTo (map planned_of coming) i least → i < length coming → least ≤ (slice_index_or coming i d).slot → RisesTo (map planned_of coming) (i + 1) ((slice_index_or coming i d).slot + 1)
+rises_on coming i least d so_far inside from =
+    let same = ap (λ p. p.arrival) (slot_at coming i d inside) in
+    subst (λ a. RisesTo (map planned_of coming) (i + 1) (a + 1)) same (rises_more (map planned_of coming) i least (planned_of d) so_far (omega arith))
+
+pub rises_no_more : (n : ℕ) (coming : List Coming) (i least : ℕ) (d : Coming) → RisesTo (map planned_of coming) i least → i < length coming → length (map planned_of coming) ≡ length coming → (slice_index_or coming i d).slot < least → IsInput n coming → ⊥
+rises_no_more n coming i least d so_far inside long less is =
+    let same = ap (λ p. p.arrival) (slot_at coming i d inside) in
+    rises_not (map planned_of coming) i least (planned_of d) so_far (omega arith) (omega arith) (rising_to n coming is)

@@ -1,0 +1,61 @@
+use Rattle.std.proofs.Common.{◌≡◌, ◌∙◌, Bool, true, false, map, ap, sym, subst, arith}
+use Rattle.std.proofs.lemmas.Bool.{eqb-true, eq-eqb, le-ltb}
+use Rattle.card_core.specs.States.{row_of}
+use Rattle.output_queued.specs.Noting.{Source, State, MayNote}
+use Rattle.output_queued.specs.contracts.reference.Reference.{the_view}
+use Rattle.output_queued.proofs.Noted.{note_from, note_rows, note_ports}
+use Rattle.output_queued.proofs.reference.Reference.may_note.Goals as goal
+use Rattle.output_queued.proofs.reference.Reference.may_note.Goals.{then-self-lt-MAX_SLOTS, else-self-lt-MAX_SLOTS, then-ports-self, else-ports-self}
+
+clash : (b : Bool) → b ≡ true → b ≡ false → ⊥
+clash true yes_ no_ = cc
+clash false yes_ no_ = cc
+
+pub returns-then-are_rows : goal.returns-then-are_rows
+returns-then-are_rows c =
+    let s0 = the_view c.self.inside in
+    let rows = c.args.rows.now in
+    let matched = c.args.matched.now in
+    let all = c.if-are_rows.true in (
+      λ named. elim c.if-ports-self.branch [
+        | then-ports-self w ↦ elim c.if-self-lt-MAX_SLOTS.branch [
+          | then-self-lt-MAX_SLOTS v ↦
+              let ports : v.ports.result ≡ c.self.inside.ports = eqb-true v.ports.result c.self.inside.ports (sym v.value-is ∙ w.if-ports-self.true) in
+              let are : w.are_rows.result ≡ true = sym w.value-is ∙ all in
+              let same : rows ≡ map (λ (source : Source). row_of source.banks source.fans) s0.sources = w.are_rows.ensures.0 are ∙ ap (map (λ (source : Source). row_of source.banks source.fans)) w.deref.ensures.value in
+              subst (λ (s : State). MayNote s rows matched) c.self.view_is
+              (note_from s0 c.self.invariant.0 c.self.invariant.1 rows matched v.if-self-lt-MAX_SLOTS.true v.ports.result ports v.ports.ensures.whole same (c.are_named.ensures.0 named))
+          | else-self-lt-MAX_SLOTS v ↦ absurd (clash c.if-self-lt-MAX_SLOTS.value w.if-ports-self.true (v.value-is ∙ le-ltb c.self.inside.slots 262145 v.if-self-lt-MAX_SLOTS.false))
+        ]
+        | else-ports-self w ↦ absurd (clash c.if-ports-self.value all (w.value-is ∙ w.if-ports-self.false))
+      ],
+      λ may. c.are_named.ensures.1 may.2.named,
+    )
+
+pub returns-else-are_rows : goal.returns-else-are_rows
+returns-else-are_rows c =
+    let s0 = the_view c.self.inside in
+    let rows = c.args.rows.now in
+    let matched = c.args.matched.now in
+    let none = c.if-are_rows.false in (
+      λ no_. absurd (cc),
+      λ may'.
+          let may = subst (λ (s : State). MayNote s rows matched) (sym c.self.view_is) may' in
+          elim c.if-ports-self.branch [
+            | then-ports-self w ↦
+                let same = note_rows s0 rows matched may ∙ sym (ap (map (λ (source : Source). row_of source.banks source.fans)) w.deref.ensures.value) in
+                let are : w.are_rows.result ≡ true = w.are_rows.ensures.1 same in
+                absurd (clash c.if-ports-self.value (w.value-is ∙ are) none)
+            | else-ports-self w ↦ elim c.if-self-lt-MAX_SLOTS.branch [
+              | then-self-lt-MAX_SLOTS v ↦
+                  let ports : v.ports.result ≡ c.self.inside.ports = v.ports.ensures.value ∙ note_ports s0 rows matched may in
+                  let test = eq-eqb v.ports.result c.self.inside.ports ports in
+                  absurd (clash c.if-self-lt-MAX_SLOTS.value (v.value-is ∙ test) w.if-ports-self.false)
+              | else-self-lt-MAX_SLOTS v ↦
+                  let slots = may.1.slots in
+                  let few = may.2.few in
+                  let past = v.if-self-lt-MAX_SLOTS.false in
+                  absurd (omega arith)
+            ]
+          ],
+    )

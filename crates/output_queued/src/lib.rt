@@ -1,0 +1,21 @@
+//! A run against the ideal switch, whose queues stand at the outputs: it takes in all cells of a slot, and
+//! gives one out at each output at which one waits.
+#![tactic(auto)]
+
+mod checking;
+mod coming;
+mod entering;
+mod inputs;
+pub mod laws;
+mod line;
+mod reference;
+mod rooms;
+mod tally;
+#[cfg(test)]
+mod tests;
+mod text;
+
+pub use coming::Coming;
+pub use line::RefLine;
+pub use reference::Reference;
+pub use text::reference_text;

@@ -1,0 +1,5 @@
+pub mod Alike
+pub mod Matches
+pub mod Ended
+pub mod Told
+pub mod ToldInputs

@@ -1,0 +1,98 @@
+-- The matches of a run, and the run as slots that serve what their rows name.
+use Rattle.std.proofs.Common.{◌≡◌, ◌∙◌, ℕ, zero, suc, ◌+◌, ◌<◌, ◌≤◌, Bool, true, false, List, [], ◌∷◌, ◌++◌, map, length, Option, None, slice_index_or, refl, sym, ap, subst, arith, if◌then◌else◌}
+use Rattle.std.specs.Prelude.{fold, max, nat_lt}
+use Rattle.std.specs.List.{range_with_len}
+use Rattle.std.proofs.lemmas.List.FromFn.{length-map-range_with_len, get_or-map-range_with_len, map-range_with_len_more}
+use Rattle.std.proofs.lemmas.Simd.{map-map}
+use Rattle.rotating_pick.specs.declared.kinds.Kind.{Kind}
+use Rattle.slot_match.specs.declared.rows.Row.{Row}
+use Rattle.slot_match.specs.declared.matching.Served.{Served}
+use Rattle.slot_match.specs.Rows.{Names, row_of as row_in, no_row}
+use Rattle.slot_match.specs.Matches.{Serves, IsMatch}
+use Rattle.slot_match.specs.Parts.{served_of}
+use Rattle.crossbar.specs.declared.cards.Post.{Post}
+use Rattle.slot_histories.specs.Slots.{decision_at}
+use Rattle.slot_histories.specs.Answers.{JournalSlot}
+use Rattle.card_core.specs.declared.plan.Planned.{Planned}
+use Rattle.card_core.specs.Plans.{Plan}
+use Rattle.card_core.specs.Posts.{row_at}
+use Rattle.switch_plan.specs.Totals.{most_for, slots_of, greatest_slots, total_work}
+use Rattle.switch_plan.specs.GoodPlans.{SwitchPlan, IsGood, packets_in}
+use Rattle.whole_run.specs.Runs.{ports_of, setup_for, card_at, served_by, posts_in, run_slot}
+use Rattle.whole_run.specs.Ends.{IsLength}
+use Rattle.whole_run.proofs.Base.{served-is, row_at-same, good-card, sound, is-slot, pair-named}
+use Rattle.whole_run.proofs.RunEnds.{run_bound}
+use Rattle.whole_run.proofs.RunWork.{total_admitted-le}
+use Rattle.output_queued.specs.Switches.{Matched, match_at, served_in, card_of, AreCards, AreServed}
+use Rattle.reference_run.specs.RunLines.{run_matches}
+use Rattle.reference_run.specs.Meeting.{run_rows}
+
+module _ (plan : SwitchPlan) where
+  -- the match of slot t
+  abbrev pub match_of : ℕ → Matched
+  match_of t = (decision_at (setup_for plan) (posts_in plan) t).matched
+
+  pub matches-are : (slots : ℕ) → run_matches plan slots ≡ map match_of (range_with_len 0 slots)
+  matches-are slots = map-map (λ (slot : JournalSlot). slot.matched) (run_slot plan) (range_with_len 0 slots)
+
+  pub matches-long : (slots : ℕ) → length (run_matches plan slots) ≡ slots
+  matches-long slots = ap length (matches-are slots) ∙ length-map-range_with_len match_of 0 slots
+
+  pub match-is : (slots t : ℕ) → t < slots → match_at (run_matches plan slots) t ≡ match_of t
+  match-is slots t below = ap (λ ms. slice_index_or ms t []) (matches-are slots) ∙ get_or-map-range_with_len match_of 0 slots t t [] below (omega arith)
+
+  pub served-run : (slots i : ℕ) → served_in (run_matches plan slots) i ≡ served_by plan i slots
+  served-run slots i =
+      let part = λ (m : Matched). served_of m i in
+      ap (map part) (matches-are slots) ∙ map-map part match_of (range_with_len 0 slots) ∙ sym (served-is plan i slots)
+
+  pub matches-more : (t : ℕ) → run_matches plan (t + 1) ≡ run_matches plan t ++ (run_slot plan t).matched ∷ []
+  matches-more t = matches-are (t + 1) ∙ map-range_with_len_more match_of 0 t t (omega arith) ∙ ap (λ ms. ms ++ match_of t ∷ []) (sym (matches-are t))
+
+  -- the rows of slot t
+  pub rows-run : (t : ℕ) → run_rows plan t ≡ map (λ i. row_at (card_at plan i) (served_by plan i t) t) (range_with_len 0 (ports_of plan))
+  rows-run t = map-map (λ (post : Post). post.row) (λ i. posts_in plan i t) (range_with_len 0 (ports_of plan))
+
+  pub row-run : (t i : ℕ) → i < ports_of plan → row_in (run_rows plan t) i ≡ (posts_in plan i t).row
+  row-run t i inside = ap (λ r. row_in r i) (rows-run t) ∙ get_or-map-range_with_len (λ k. row_at (card_at plan k) (served_by plan k t) t) 0 (ports_of plan) i i no_row inside (omega arith)
+
+  module _ (good : IsGood plan) where
+    pub run-cards : AreCards plan.cards
+    run-cards = record { good = λ i inside. (good-card plan good i inside).good; ports = λ i inside. (good-card plan good i inside).ports }
+
+    pub run-whole : (t : ℕ) → IsMatch (ports_of plan) (match_of t)
+    run-whole t = (sound plan good t).matches
+
+    pub run-named : (t i j level : ℕ) (kind : Kind) → Serves (match_of t) i j level kind → Names (posts_in plan i t).row level kind j
+    run-named t i j level kind pair = pair-named (setup_for plan) (posts_in plan) t (sound plan good t) (is-slot plan good t) i j level kind ((run-whole t).input_in i j level kind pair) pair
+
+    pub run-served : (slots : ℕ) → AreServed plan.cards (run_matches plan slots)
+    run-served slots =
+        let long = matches-long slots in
+        record {
+          whole = λ t below. subst (IsMatch (ports_of plan)) (sym (match-is slots t (omega arith))) (run-whole t);
+          named = λ t i j level kind below pair.
+              let row : row_at (card_at plan i) (served_in (run_matches plan slots) i) t ≡ (posts_in plan i t).row =
+              ap (λ served. row_at (card_at plan i) served t) (served-run slots i) ∙ row_at-same plan i t slots (omega arith) in
+              subst (λ r. Names r level kind j) (sym row) (run-named t i j level kind (subst (λ m. Serves m i j level kind) (match-is slots t (omega arith)) pair));
+        }
+
+    -- ---- a run has few slots
+    greatest-from : (ports : List (List Planned)) (a n : ℕ) → a ≤ n → ((k : ℕ) (d : List Planned) → k < length ports → slots_of (slice_index_or ports k d) ≤ n) → fold (λ most packets. max most (slots_of packets)) a ports ≤ n
+    greatest-from [] a n first few = first
+    greatest-from (packets ∷ ports) a n first few =
+        let here = few 0 [] (omega arith) in
+        greatest-from ports (max a (slots_of packets)) n (omega arith) (λ k d inside. few (suc k) d (omega arith))
+
+    few-if : (b : Bool) → (if b then 65536 else 131072) ≤ 131072
+    few-if true = omega arith
+    few-if false = omega arith
+
+    pub run-few : (slots : ℕ) → IsLength plan slots → slots ≤ 262145
+    run-few slots end =
+        let bound = run_bound plan good slots end in
+        let work = total_admitted-le plan slots in
+        let cells = good.cells in
+        let few : most_for (ports_of plan) ≤ 131072 = few-if (nat_lt 32 (ports_of plan)) in
+        let greatest : greatest_slots (packets_in plan) ≤ most_for (ports_of plan) = greatest-from (packets_in plan) 0 (most_for (ports_of plan)) (omega arith) good.slots in
+        omega arith

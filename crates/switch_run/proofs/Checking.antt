@@ -1,0 +1,141 @@
+-- When each end of a check comes.
+use Rattle.std.proofs.Common.{◌≡◌, ◌<◌, ◌≤◌, ℕ, List, length, Option, Some, None, inl, inr, refl, sym, ◌∙◌, ap, subst, arith}
+use Rattle.std.specs.Prelude.{◌⊎◌, Ok, Err, Result}
+use Rattle.outside.specs.Contents.{Contents}
+use Rattle.outside.specs.Faults.{ToOut, Rose}
+use Rattle.journal_check.specs.declared.limits.TheConstants.{MAX_JOURNAL_BYTES}
+use Rattle.journal_check.specs.Verdicts.{answer_to}
+use Rattle.journal_check.specs.declared.verdict.Verdict.{Verdict}
+use Rattle.journal_check.specs.declared.verdict.Verdict.TheVariants as verdict
+use Rattle.journal_check.specs.declared.verdict.JournalFault.{JournalFault}
+use Rattle.journal_check.specs.declared.verdict.JournalFault.TheVariants as journal_fault
+use Rattle.journal_check.specs.declared.verdict.Reason.{Reason}
+use Rattle.check_job.specs.Checks.{HasAnswer, IsTooLong, MeansCheck}
+use Rattle.check_job.specs.declared.ending.CheckEnding.{CheckEnding}
+use Rattle.check_job.specs.declared.ending.CheckEnding.TheVariants as check_ending
+use Rattle.switch_words.specs.Reading.{JobWords, run, check, RunWords}
+use Rattle.switch_run.specs.Causes.{Answers, AnswersUnlessOut, CheckIsExact, IsCheckable}
+use Rattle.switch_run.specs.Endings.{Command, IsMade, IsStopped, Stops}
+use Rattle.switch_run.specs.ErrorLines.{line_of}
+use Rattle.switch_run.specs.LineParts.{GivesLine}
+use Rattle.switch_run.specs.declared.ending.Ending.{Ending}
+use Rattle.switch_run.specs.declared.ending.Ending.TheVariants.{Done, Usage, ReadFault, TooLong, Refused, JournalTooLong, OutOfMemory, WriteFault, Checked}
+use Rattle.switch_run.proofs.Answering.{no_inputs, no_job, no_reads, run_is_no_check, same_job, stops_here}
+
+-- ---- the file has one answer
+
+answers_once : (name : List ℕ) (c : Contents) (a b : Result Verdict JournalFault) → HasAnswer name a c → HasAnswer name b c → a ≡ b
+answers_once name c a b p q = let there = p.1 in let other = q.1 in let same : p.0 ≡ q.0 = cc in sym p.3 ∙ ap answer_to same ∙ q.3
+
+long_has_none : (name : List ℕ) (c : Contents) (a : Result Verdict JournalFault) → HasAnswer name a c → IsTooLong c name → ⊥
+long_has_none name c a p q = let there = p.1 in let other = q.1 in let same : p.0 ≡ q.0 = cc in let n = ap length same in omega (arith, n, p.2, q.2)
+
+yes_is_no_bad : (slots at : ℕ) (longest : List ℕ) → ◌≡◌ {A = Result Verdict JournalFault} (Ok (verdict.Yes slots longest)) (Err (journal_fault.Bad at)) → ⊥
+yes_is_no_bad slots at longest h = cc
+
+no_is_no_bad : (slot at : ℕ) (reason : Reason) → ◌≡◌ {A = Result Verdict JournalFault} (Ok (verdict.No slot reason)) (Err (journal_fault.Bad at)) → ⊥
+no_is_no_bad slot at reason h = cc
+
+yes_is_no_no : (slots slot : ℕ) (longest : List ℕ) (reason : Reason) → ◌≡◌ {A = Result Verdict JournalFault} (Ok (verdict.Yes slots longest)) (Ok (verdict.No slot reason)) → ⊥
+yes_is_no_no slots slot longest reason h = cc
+
+bad_once : (a b : ℕ) → ◌≡◌ {A = Result Verdict JournalFault} (Err (journal_fault.Bad a)) (Err (journal_fault.Bad b)) → a ≡ b
+bad_once a b h = cc
+
+no_once : (a b : ℕ) (p q : Reason) → ◌≡◌ {A = Result Verdict JournalFault} (Ok (verdict.No a p)) (Ok (verdict.No b q)) → (a ≡ b) × (p ≡ q)
+no_once a b p q h = (cc, cc)
+
+-- ---- the command is a check
+
+module _ (c : Command) (file : List ℕ) (contents : Contents) (is : IsCheckable c file contents) where
+  same_file : (other : List ℕ) → check file ≡ check other → other ≡ file
+  same_file other same = cc
+
+  here : (ending : Ending) → (s : IsStopped c ending) → Stops (check file) (Some contents) c.was c.now s.told ending
+  here ending s = stops_here c (check file) contents ending is.words is.told s
+
+  -- how the check of this file ended
+  means : (e : CheckEnding) → (s : IsStopped c (Checked e)) → MeansCheck file (Some contents) s.told c.was c.now e
+  means e s = let stops = here (Checked e) s in subst (λ (name : List ℕ). MeansCheck name (Some contents) s.told c.was c.now e) (same_file stops.file stops.is_check) stops.means
+
+  -- memory ran out in the check
+  out : (status : ℕ) → Answers c status (Checked check_ending.OutOfMemory) → Answers c status OutOfMemory
+  out status a =
+      let s = a.1 in
+      let told : s.told ≡ c.old = means check_ending.OutOfMemory s ∙ sym is.told in
+      let line = subst (λ (job : JobWords). GivesLine (line_of job (Checked check_ending.OutOfMemory)) s.told c.new _ _) (same_job c (check file) s.job is.words s.words) s.line in
+      (a.0, subst (λ (o : Option Contents). GivesLine _ o c.new _ _) told line)
+
+  -- a check ends as one, or memory ran out
+  abbrev pub EndsAs : Ending → Type 0
+  EndsAs ending = ((e : CheckEnding) × (ending ≡ Checked e)) ⊎ (ending ≡ OutOfMemory)
+
+  ends : (status : ℕ) (ending : Ending) → Answers c status ending → EndsAs ending
+  ends status Done a =
+      let made = subst (λ (job : JobWords). IsMade job c.old a.1.2.texts) (same_job c (check file) a.1.0 is.words a.1.1) a.1.2.made in
+      absurd made.inputs
+  ends status Usage a = absurd (no_job c (check file) is.words a.1.0)
+  ends status (ReadFault input) a = let stops = here (ReadFault input) a.1 in absurd (no_reads (check file) file stops.0.words refl stops.0.reads)
+  ends status (TooLong input) a = let stops = here (TooLong input) a.1 in absurd (no_reads (check file) file stops.0.words refl stops.0.reads)
+  ends status (Refused fault) a = let stops = here (Refused fault) a.1 in absurd stops.0.inputs
+  ends status (JournalTooLong size) a = let stops = here (JournalTooLong size) a.1 in absurd stops.0.inputs
+  ends status OutOfMemory a = inr refl
+  ends status (WriteFault written) a = let stops = here (WriteFault written) a.1 in absurd stops.made.inputs
+  ends status (Checked e) a = inl (e, refl)
+
+  -- so what holds of each end of a check holds of the command
+  of_ends : (status : ℕ) (ending wanted : Ending) → Answers c status ending → ((e : CheckEnding) → Answers c status (Checked e) → AnswersUnlessOut c status wanted) → AnswersUnlessOut c status wanted
+  of_ends status ending wanted a each = elim (ends status ending a) [
+    | inl checked ↦ each checked.0 (subst (λ (n : Ending). Answers c status n) checked.1 a)
+    | inr memory ↦ inr (subst (λ (n : Ending). Answers c status n) memory a)
+  ]
+
+  too_long_end : (status : ℕ) → IsTooLong contents file → (e : CheckEnding) → Answers c status (Checked e) → AnswersUnlessOut c status (Checked check_ending.TooLong)
+  too_long_end status long check_ending.Yes a = let m = means check_ending.Yes a.1 in absurd (long_has_none file contents _ m.1.answer long)
+  too_long_end status long (check_ending.No slot reason) a = let m = means (check_ending.No slot reason) a.1 in absurd (long_has_none file contents _ m.0 long)
+  too_long_end status long (check_ending.Bad at) a = let m = means (check_ending.Bad at) a.1 in absurd (long_has_none file contents _ m.0 long)
+  too_long_end status long check_ending.TooLong a = inl a
+  too_long_end status long check_ending.ReadFault a = let m = means check_ending.ReadFault a.1 in absurd (is.reads m.0)
+  too_long_end status long check_ending.OutOfMemory a = inr (out status a)
+  too_long_end status long check_ending.OutFault a = let m = means check_ending.OutFault a.1 in absurd (long_has_none file contents _ m.2.answer long)
+
+  bad_end : (status at : ℕ) → HasAnswer file (Err (journal_fault.Bad at)) contents → (e : CheckEnding) → Answers c status (Checked e) → AnswersUnlessOut c status (Checked (check_ending.Bad at))
+  bad_end status at has check_ending.Yes a = let m = means check_ending.Yes a.1 in absurd (yes_is_no_bad _ _ _ (answers_once file contents _ _ m.1.answer has))
+  bad_end status at has (check_ending.No slot reason) a = let m = means (check_ending.No slot reason) a.1 in absurd (no_is_no_bad _ _ _ (answers_once file contents _ _ m.0 has))
+  bad_end status at has (check_ending.Bad found) a =
+      let m = means (check_ending.Bad found) a.1 in
+      inl (subst (λ (n : ℕ). Answers c status (Checked (check_ending.Bad n))) (bad_once found at (answers_once file contents _ _ m.0 has)) a)
+  bad_end status at has check_ending.TooLong a = let m = means check_ending.TooLong a.1 in absurd (long_has_none file contents _ has m.0)
+  bad_end status at has check_ending.ReadFault a = let m = means check_ending.ReadFault a.1 in absurd (is.reads m.0)
+  bad_end status at has check_ending.OutOfMemory a = inr (out status a)
+  bad_end status at has check_ending.OutFault a = let m = means check_ending.OutFault a.1 in absurd (yes_is_no_bad _ _ _ (answers_once file contents _ _ m.2.answer has))
+
+  no_end : (status slot : ℕ) (reason : Reason) → HasAnswer file (Ok (verdict.No slot reason)) contents → (e : CheckEnding) → Answers c status (Checked e) → AnswersUnlessOut c status (Checked (check_ending.No slot reason))
+  no_end status slot reason has check_ending.Yes a = let m = means check_ending.Yes a.1 in absurd (yes_is_no_no _ _ _ _ (answers_once file contents _ _ m.1.answer has))
+  no_end status slot reason has (check_ending.No other why) a =
+      let m = means (check_ending.No other why) a.1 in
+      let same = no_once other slot why reason (answers_once file contents _ _ m.0 has) in
+      inl (subst (λ (r : Reason). Answers c status (Checked (check_ending.No slot r))) same.1 (subst (λ (n : ℕ). Answers c status (Checked (check_ending.No n why))) same.0 a))
+  no_end status slot reason has (check_ending.Bad at) a = let m = means (check_ending.Bad at) a.1 in absurd (no_is_no_bad _ _ _ (answers_once file contents _ _ has m.0))
+  no_end status slot reason has check_ending.TooLong a = let m = means check_ending.TooLong a.1 in absurd (long_has_none file contents _ has m.0)
+  no_end status slot reason has check_ending.ReadFault a = let m = means check_ending.ReadFault a.1 in absurd (is.reads m.0)
+  no_end status slot reason has check_ending.OutOfMemory a = inr (out status a)
+  no_end status slot reason has check_ending.OutFault a = let m = means check_ending.OutFault a.1 in absurd (yes_is_no_no _ _ _ _ (answers_once file contents _ _ m.2.answer has))
+
+  yes_end : (status slots : ℕ) (longest : List ℕ) → HasAnswer file (Ok (verdict.Yes slots longest)) contents → (Rose (c.was ToOut) (c.now ToOut) → ⊥) → (e : CheckEnding) → Answers c status (Checked e)
+      → AnswersUnlessOut c status (Checked check_ending.Yes)
+  yes_end status slots longest has free check_ending.Yes a = inl a
+  yes_end status slots longest has free (check_ending.No slot reason) a = let m = means (check_ending.No slot reason) a.1 in absurd (yes_is_no_no _ _ _ _ (answers_once file contents _ _ has m.0))
+  yes_end status slots longest has free (check_ending.Bad at) a = let m = means (check_ending.Bad at) a.1 in absurd (yes_is_no_bad _ _ _ (answers_once file contents _ _ has m.0))
+  yes_end status slots longest has free check_ending.TooLong a = let m = means check_ending.TooLong a.1 in absurd (long_has_none file contents _ has m.0)
+  yes_end status slots longest has free check_ending.ReadFault a = let m = means check_ending.ReadFault a.1 in absurd (is.reads m.0)
+  yes_end status slots longest has free check_ending.OutOfMemory a = inr (out status a)
+  yes_end status slots longest has free check_ending.OutFault a = let m = means check_ending.OutFault a.1 in absurd (free m.3)
+
+pub check_exact : (c : Command) (status : ℕ) (ending : Ending) → Answers c status ending → CheckIsExact c status
+check_exact c status ending a = record {
+  too_long = λ file contents is long. of_ends c file contents is status ending (Checked check_ending.TooLong) a (too_long_end c file contents is status long);
+  bad = λ file contents at is has. of_ends c file contents is status ending (Checked (check_ending.Bad at)) a (bad_end c file contents is status at has);
+  no = λ file contents slot reason is has. of_ends c file contents is status ending (Checked (check_ending.No slot reason)) a (no_end c file contents is status slot reason has);
+  yes = λ file contents slots longest is has free. of_ends c file contents is status ending (Checked check_ending.Yes) a (yes_end c file contents is status slots longest has free);
+}

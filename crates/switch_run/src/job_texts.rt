@@ -1,0 +1,129 @@
+ghost use Rattle.std.specs.Prelude.{◌≡◌, ℕ, Option, map, string_bytes, IfErr, IfOk, OnOk};
+ghost use Rattle.outside.specs.Contents.{Contents};
+ghost use Rattle.outside.specs.Faults.{NeverFall, Place};
+ghost use Rattle.switch_words.specs.Limits.{IsFirmWithinLimits, IsGenWithinLimits, IsRunWithinLimits, IsWithinLimits};
+ghost use Rattle.switch_words.specs.Reading.{run, gen, check, firm, run_words, firm_words, job_words};
+ghost use Rattle.switch_run.specs.Endings.{Stops};
+ghost use Rattle.switch_run.specs.Making.{AreToWrite};
+ghost use Rattle.switch_run.specs.OutputFiles.{shown};
+
+use crate::ending::Ending;
+use crate::inputs::{made_inputs, read_inputs, reads_of_firm, reads_of_run};
+use crate::making::{plan_and_run, plan_and_run_firm};
+use crate::output_files::JobTexts;
+use crate::texts::{run_texts, summary_alone};
+use card_worker::Gate;
+use check_job::{CheckEnding, check_file};
+use outside::Files;
+use std::alloc::Global;
+use std::thread::Threads;
+use switch_words::{CheckJob, FirmJob, GenJob, Job, RunJob};
+
+// What a `run` job writes: its inputs are read, and run at a board.
+fn texts_of_run<R: Threads + Sync, F: Files, G: Gate + Sync>(
+    rt: &R,
+    alloc: Global,
+    job: &RunJob,
+    files: &mut F,
+    gate: &G,
+) -> Result<JobTexts, Ending>
+    requires { IsRunWithinLimits job.now }
+    ensures told { F.told files.new ≡ F.told files.old }
+    ensures never_fall { NeverFall (F.faults files.old) (F.faults files.new) }
+    ensures made { IfOk result (λ texts. AreToWrite (run (run_words job.now)) (F.told files.old) texts.outputs (map shown texts.files.items) (string_bytes texts.summary)) }
+    ensures stops { IfErr result (Stops (run (run_words job.now)) (F.told files.old) (F.faults files.old) (F.faults files.new) (F.told files.new)) }
+{
+    let inputs = match read_inputs(alloc, &reads_of_run(job), files) {
+        Ok(inputs) => inputs,
+        Err(ending) => return Err(ending),
+    };
+    let ran = match plan_and_run(rt, alloc, &job.settings, job.reference, inputs, gate) {
+        Ok(ran) => ran,
+        Err(ending) => return Err(ending),
+    };
+    run_texts(alloc, job, &ran)
+}
+
+// What a `gen` job writes: its inputs are made, and run at a board.
+fn texts_of_gen<R: Threads + Sync, G: Gate + Sync>(
+    rt: &R,
+    alloc: Global,
+    job: &GenJob,
+    gate: &G,
+) -> Result<JobTexts, Ending>
+    requires { IsGenWithinLimits job.now }
+    ensures made { IfOk result (λ texts. (told : Option Contents) → AreToWrite (gen job.now) told texts.outputs (map shown texts.files.items) (string_bytes texts.summary)) }
+    ensures stops { IfErr result (λ ending. (told : Option Contents) (was now : Place → ℕ) → Stops (gen job.now) told was now told ending) }
+{
+    let Ok(inputs) = made_inputs(alloc, job) else {
+        return Err(Ending::OutOfMemory);
+    };
+    let ran = match plan_and_run(rt, alloc, &job.settings, false, inputs, gate) {
+        Ok(ran) => ran,
+        Err(ending) => return Err(ending),
+    };
+    match summary_alone(alloc, &ran.outcome.summary) {
+        Ok(texts) => Ok(texts),
+        Err(_) => Err(Ending::OutOfMemory),
+    }
+}
+
+// What a `firm` job writes: its inputs are read, and run under the second scheduler.
+fn texts_of_firm<R: Threads + Sync, F: Files>(
+    rt: &R,
+    alloc: Global,
+    job: &FirmJob,
+    files: &mut F,
+) -> Result<JobTexts, Ending>
+    requires { IsFirmWithinLimits job.now }
+    ensures told { F.told files.new ≡ F.told files.old }
+    ensures never_fall { NeverFall (F.faults files.old) (F.faults files.new) }
+    ensures made { IfOk result (λ texts. AreToWrite (firm (firm_words job.now)) (F.told files.old) texts.outputs (map shown texts.files.items) (string_bytes texts.summary)) }
+    ensures stops { IfErr result (Stops (firm (firm_words job.now)) (F.told files.old) (F.faults files.old) (F.faults files.new) (F.told files.new)) }
+{
+    let inputs = match read_inputs(alloc, &reads_of_firm(job), files) {
+        Ok(inputs) => inputs,
+        Err(ending) => return Err(ending),
+    };
+    let summary = match plan_and_run_firm(rt, alloc, &job.settings, inputs) {
+        Ok(summary) => summary,
+        Err(ending) => return Err(ending),
+    };
+    match summary_alone(alloc, &summary) {
+        Ok(texts) => Ok(texts),
+        Err(_) => Err(Ending::OutOfMemory),
+    }
+}
+
+// How a check ends.
+fn end_of_check<F: Files>(alloc: Global, job: &CheckJob, files: &mut F) -> Ending
+    ensures stops { Stops (check (string_bytes job.now.file)) (F.told files.old) (F.faults files.old) (F.faults files.new) (F.told files.new) result }
+    ensures never_fall { NeverFall (F.faults files.old) (F.faults files.new) }
+{
+    match check_file(alloc, job.file.as_str(), files) {
+        CheckEnding::OutOfMemory => Ending::OutOfMemory,
+        ending => Ending::Checked(ending),
+    }
+}
+
+/// What the job writes, up to the first call that is refused. A `check` job writes no texts: its end is answered.
+pub(crate) fn job_texts<R: Threads + Sync, F: Files, G: Gate + Sync>(
+    rt: &R,
+    alloc: Global,
+    job: &Job,
+    files: &mut F,
+    gate: &G,
+) -> Result<JobTexts, Ending>
+    requires { IsWithinLimits job.now }
+    ensures told { OnOk result (F.told files.new ≡ F.told files.old) }
+    ensures never_fall { NeverFall (F.faults files.old) (F.faults files.new) }
+    ensures made { IfOk result (λ texts. AreToWrite (job_words job.now) (F.told files.old) texts.outputs (map shown texts.files.items) (string_bytes texts.summary)) }
+    ensures stops { IfErr result (Stops (job_words job.now) (F.told files.old) (F.faults files.old) (F.faults files.new) (F.told files.new)) }
+{
+    match job {
+        Job::Run(job) => texts_of_run(rt, alloc, job, files, gate),
+        Job::Gen(job) => texts_of_gen(rt, alloc, job, gate),
+        Job::Check(job) => Err(end_of_check(alloc, job, files)),
+        Job::Firm(job) => texts_of_firm(rt, alloc, job, files),
+    }
+}

@@ -1,0 +1,159 @@
+ghost use Rattle.std.specs.Prelude.{◌≡◌, ◌≤◌, ◌<◌, ℕ, ◌++◌, true, Bool, List, [], All, length, map, option_map, string_bytes, IfErr, IfOk};
+ghost use Rattle.std.specs.List.{range_with_len};
+ghost use Rattle.pcap_records.specs.Output.{capture_text};
+ghost use Rattle.slot_report.specs.Lines.{lines_text};
+ghost use Rattle.slot_report.specs.Texts.{report_lines, summary_lines};
+ghost use Rattle.switch_words.specs.Reading.{run, gen, firm, run_words, firm_words};
+ghost use Rattle.switch_plan.specs.Reading.{bytes_of_files};
+ghost use Rattle.switch_jobs.specs.Captures.{IsCut};
+ghost use Rattle.switch_run.specs.Making.{AreMade, HaveMessages, IsFirmRan, IsJournalFor, IsRan, StopsJournal, StopsTexts, line_of_card, slots_told, text_or_none};
+ghost use Rattle.switch_run.specs.OutputFiles.{shown};
+
+use crate::ending::Ending;
+use crate::making::EndedRun;
+use crate::output_files::{JobTexts, run_files};
+use card_core::CardOut;
+use journal_check::{MAX_JOURNAL_BYTES, journal_bytes, journal_len};
+use pcap_records::Link;
+use rotating_pick::{MAX_PORTS, OutOfMemory};
+use slot_board::Journal;
+use slot_report::{OutLine, Summary, report_text, summary_text};
+use std::alloc::{AllocError, Global};
+use switch_jobs::{Outcome, output_bytes};
+use switch_words::RunJob;
+
+// The capture of each output.
+fn output_captures(
+    alloc: Global,
+    nano: bool,
+    link: Link,
+    outputs: &[CardOut],
+) -> Result<Vec<Vec<u8>>, OutOfMemory>
+    requires { All IsCut outputs.now }
+    ensures { (messages : ℕ → List (List ℕ)) → HaveMessages messages outputs.now → IfOk result (λ v. bytes_of_files v ≡ map (λ j. capture_text nano link (messages j)) (range_with_len 0 (length outputs.now))) }
+{
+    let mut captures = Vec::new(alloc);
+    for output in outputs {
+        captures.push(output_bytes(alloc, output, nano, link)?)?;
+    }
+    Ok(captures)
+}
+
+// The report's numbers of each output.
+fn out_lines(alloc: Global, outputs: &[CardOut]) -> Result<Vec<OutLine>, AllocError>
+    ensures { IfOk result (λ v. v.items ≡ map line_of_card outputs.now) }
+{
+    let mut lines = Vec::new(alloc);
+    for output in outputs {
+        lines.push(OutLine {
+            packets: output.packets,
+            cells: output.cells,
+        })?;
+    }
+    Ok(lines)
+}
+
+// The report of a run, with a line for each slot where these are wanted, and then the lines of the reference.
+fn report(
+    alloc: Global,
+    slots: bool,
+    outcome: &Outcome,
+    reference: &Option<String>,
+) -> Result<String, OutOfMemory>
+    requires { length outcome.now.outputs.items ≤ MAX_PORTS }
+    ensures { IfOk result (λ text. string_bytes text ≡ lines_text (report_lines outcome.now.summary (map line_of_card outcome.now.outputs.items) (slots_told slots outcome.now.journal.slots)) ++ text_or_none (option_map string_bytes reference.now)) }
+{
+    let lines = out_lines(alloc, &outcome.outputs)?;
+    let journal = if slots {
+        Some(outcome.journal.core())
+    } else {
+        None
+    };
+    let mut text = report_text(alloc, &outcome.summary, &lines, journal)?;
+    if let Some(reference) = reference {
+        text.push_str(reference.as_str())?;
+    }
+    Ok(text)
+}
+
+// The bytes of the journal, where it is wanted.
+fn journal_wanted(
+    alloc: Global,
+    is_wanted: bool,
+    journal: &Journal,
+) -> Result<Option<Vec<u8>>, Ending>
+    requires { 0 < length journal.now.slots }
+    ensures bytes { IfOk result (λ bytes. IsJournalFor is_wanted journal.now (option_map (λ b. b.items) bytes)) }
+    ensures stops { IfErr result (StopsJournal is_wanted journal.now) }
+{
+    if !is_wanted {
+        return Ok(None);
+    }
+    let len = journal_len(journal.core());
+    if len > MAX_JOURNAL_BYTES as u64 {
+        return Err(Ending::JournalTooLong(len));
+    }
+    match journal_bytes(alloc, journal.core()) {
+        Ok(bytes) => Ok(Some(bytes)),
+        Err(_) => Err(Ending::OutOfMemory),
+    }
+}
+
+// The texts of a run with this journal.
+fn texts_with(
+    alloc: Global,
+    job: &RunJob,
+    ran: &EndedRun,
+    journal: Option<Vec<u8>>,
+) -> Result<JobTexts, OutOfMemory>
+    requires cut { All IsCut ran.now.outcome.outputs.items }
+    requires few { length ran.now.outcome.outputs.items ≤ MAX_PORTS }
+    ensures { (table : List ℕ) (captures : List (List ℕ)) → IsRan job.now.settings job.now.reference table captures ran.now.nano ran.now.link ran.now.outcome (option_map string_bytes ran.now.reference)
+        → IsJournalFor job.now.journal ran.now.outcome.journal (option_map (λ b. b.items) journal)
+        → IfOk result (λ texts. AreMade (run (run_words job.now)) table captures texts.outputs (map shown texts.files.items) (string_bytes texts.summary)) }
+{
+    let captures = output_captures(alloc, ran.nano, ran.link, &ran.outcome.outputs)?;
+    let report = report(alloc, job.slots, &ran.outcome, &ran.reference)?;
+    let summary = summary_text(alloc, &ran.outcome.summary)?;
+    let outputs = captures.len();
+    let files = run_files(alloc, job.prefix.as_str(), captures, report, journal)?;
+    Ok(JobTexts {
+        outputs,
+        files,
+        summary,
+    })
+}
+
+/// What a `run` job writes of its run. It takes all memory that the job needs from here on.
+pub(crate) fn run_texts(alloc: Global, job: &RunJob, ran: &EndedRun) -> Result<JobTexts, Ending>
+    requires cut { All IsCut ran.now.outcome.outputs.items }
+    requires few { length ran.now.outcome.outputs.items ≤ MAX_PORTS }
+    requires some { 0 < length ran.now.outcome.journal.slots }
+    ensures made { (table : List ℕ) (captures : List (List ℕ)) → IsRan job.now.settings job.now.reference table captures ran.now.nano ran.now.link ran.now.outcome (option_map string_bytes ran.now.reference)
+        → IfOk result (λ texts. AreMade (run (run_words job.now)) table captures texts.outputs (map shown texts.files.items) (string_bytes texts.summary)) }
+    ensures stops { (table : List ℕ) (captures : List (List ℕ)) → IsRan job.now.settings job.now.reference table captures ran.now.nano ran.now.link ran.now.outcome (option_map string_bytes ran.now.reference)
+        → IfErr result (StopsTexts (run_words job.now) table captures) }
+{
+    let journal = match journal_wanted(alloc, job.journal, &ran.outcome.journal) {
+        Ok(journal) => journal,
+        Err(ending) => return Err(ending),
+    };
+    match texts_with(alloc, job, ran, journal) {
+        Ok(texts) => Ok(texts),
+        Err(_) => Err(Ending::OutOfMemory),
+    }
+}
+
+/// The summary of a run, without files.
+pub(crate) fn summary_alone(alloc: Global, summary: &Summary) -> Result<JobTexts, OutOfMemory>
+    ensures outputs { IfOk result (λ texts. texts.outputs ≡ 0) }
+    ensures files { IfOk result (λ texts. texts.files.items ≡ []) }
+    ensures summary { IfOk result (λ texts. string_bytes texts.summary ≡ lines_text (summary_lines summary.now)) }
+{
+    let summary = summary_text(alloc, summary)?;
+    Ok(JobTexts {
+        outputs: 0,
+        files: Vec::new(alloc),
+        summary,
+    })
+}
