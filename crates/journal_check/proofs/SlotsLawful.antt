@@ -1,5 +1,5 @@
 -- Slots whose posts are accepted, of which the last alone is done, are a lawful file.
-use Rattle.std.proofs.Common.{◌≡◌, ℕ, zero, suc, ◌+◌, ◌^◌, ◌<◌, ◌≤◌, ◌⊎◌, ◌&&◌, ◌||◌, ◌∙◌, not, Bool, true, false, nat_lt, All, List, [], ◌∷◌, length, map, Option, None, Some, refl, sym, ap, subst, arith, inl, inr, get_or, slice_index_or, slice_index, add-one, ltb-true}
+use Rattle.std.proofs.Common.{◌≡◌, ℕ, zero, suc, ◌+◌, ◌^◌, ◌<◌, ◌≤◌, ◌&&◌, ◌||◌, ◌∙◌, not, Bool, true, false, nat_lt, All, List, [], ◌∷◌, length, map, Option, None, Some, refl, sym, ap, subst, arith, inl, inr, get_or, slice_index_or, slice_index, add-one, ltb-true}
 use Rattle.std.specs.List.{list_any, list_all, range_with_len}
 use Rattle.std.proofs.lemmas.Bool.{cases_Bool, cond-true, cond-false}
 use Rattle.std.proofs.lemmas.List.{get_or-map, get_or-replicate, length-map, get_or_default}
@@ -71,7 +71,7 @@ module _ (s : Setup) (posts : ℕ → ℕ → CardPost) where
   abbrev pub slot : ℕ → FileSlot
   slot t = file_slot (journal_slot s posts t)
 
-  rows-slot : (t : ℕ) → rows_of (slot t) ≡ slot_rows s.ports posts t
+  pub rows-slot : (t : ℕ) → rows_of (slot t) ≡ slot_rows s.ports posts t
   rows-slot t = map-map (λ (p : FilePost). p.row) file_post (slot_posts s.ports posts t)
 
   mores-slot : (t : ℕ) → mores_of (slot t) ≡ map (λ (post : CardPost). post.more) (slot_posts s.ports posts t)
