@@ -93,6 +93,11 @@ def two_inputs_report():
     return "".join(f"{line}\n" for line in lines).encode()
 
 
+def reference_lines():
+    """Lines of the output-queued reference for a report of two ports."""
+    return b"reference 0 ends 9 runs 10 lead 1 extra 3\nreference 1 ends 0 runs 0 lead 0 extra 0\n"
+
+
 def two_inputs_journal():
     """The same run as a journal: both ask output 0 from slot 2 on, and take turns."""
     pairs = {2: 0, 3: 1, 4: 0, 5: 1, 6: 0, 7: 1, 8: 0, 9: 0}

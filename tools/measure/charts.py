@@ -95,6 +95,15 @@ def matched_figure(title, matched, ports):
     return figure
 
 
+def reference_figure(title, later):
+    """For each output, by how many slots its cells leave later than from the ideal switch, in the mean."""
+    figure, axes = _one(title, "output", "slots behind an ideal switch, mean of a cell")
+    axes.bar(range(len(later)), later, color=COLOURS[0])
+    axes.xaxis.set_major_locator(MaxNLocator(integer=True))
+    axes.set_ylim(bottom=0)
+    return figure
+
+
 def load_figure(title, runs):
     """Mean and longest wait over load; a run is (rounds, load, mean wait or None, longest wait)."""
     figure, axes = _one(title, "carried load (cells per output and slot)", "wait of a unicast queue (slots)")

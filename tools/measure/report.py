@@ -1,4 +1,4 @@
-"""Reads the report of a run: its summary, its outputs and, where it has them, its slot lines."""
+"""Reads the report of a run: its summary, its outputs and, where it has them, the lines of slots and of the reference."""
 
 from typing import NamedTuple
 
@@ -30,13 +30,28 @@ class Slot(NamedTuple):
     pairs: list
 
 
+class Reference(NamedTuple):
+    """One output beside an ideal switch whose queues stand at the outputs.
+
+    `ends` is one more than the last slot in which the ideal switch gave out a cell for the output, and
+    `runs` the same of the run; `lead` is the most cells by which it was ahead at the end of a slot, and
+    `extra` the sum of these over all slots.
+    """
+
+    ends: int
+    runs: int
+    lead: int
+    extra: int
+
+
 class Report(NamedTuple):
-    """A report; `slots` is None where it has no slot lines."""
+    """A report; `slots` and `reference` are None where it has no such lines."""
 
     summary: dict
     longest: tuple
     outputs: list
     slots: list
+    reference: list
 
 
 def read_report(text):
@@ -49,11 +64,12 @@ def read_report(text):
     slots = None
     if reader.next_is("slot"):
         slots = [reader.slot(number) for number in range(summary["slots"])]
-    while reader.next_is("reference"):
-        reader.words()
+    reference = None
+    if reader.next_is("reference"):
+        reference = [reader.reference(number) for number in range(summary["ports"])]
     if reader.at < len(lines):
-        raise reader.fault("a line too many")
-    return Report(summary, longest, outputs, slots)
+        raise BadReport(f"line {reader.at + 1}: a line too many")
+    return Report(summary, longest, outputs, slots, reference)
 
 
 class _Lines:
@@ -98,6 +114,12 @@ class _Lines:
         if found != number:
             raise self.fault(f"expected output {number}")
         return packets, cells
+
+    def reference(self, number):
+        found, *numbers = self.named(self.words(), ("reference", *Reference._fields))
+        if found != number:
+            raise self.fault(f"expected reference {number}")
+        return Reference(*numbers)
 
     def slot(self, number):
         words = self.words()

@@ -8,7 +8,16 @@
 
     const element = (id) => document.getElementById(id);
 
+    /** Puts the levels into a list, before its last entry. */
+    function addLevels(list) {
+        const options = Array.from({ length: viewer.LEVELS }, (_, level) => new Option(`level ${level}`, level));
+        list.lastElementChild.before(...options);
+    }
+
     function watchControls(page) {
+        addLevels(element("row-level"));
+        addLevels(element("pointer-level"));
+        element("pointer-level").value = page.crossbar.settings.pointerLevel;
         const onClick = (id, act) => element(id).addEventListener("click", act);
         onClick("first", () => page.goByUser(0));
         onClick("back", () => page.goByUser(page.slot - 1));
@@ -29,10 +38,6 @@
         onChange("lanes", (value) => {
             page.timeline.lanes = value;
             page.ask("timeline");
-        });
-        onChange("theme", (value) => {
-            document.documentElement.dataset.theme = value;
-            page.onTheme();
         });
         element("slot").addEventListener("blur", () => page.hasSlots && page.ask("slot"));
     }
@@ -89,7 +94,7 @@
 
     function watchWindow(page) {
         new ResizeObserver(() => page.ask("layout")).observe(element("crossbar-frame"));
-        window.matchMedia("(prefers-color-scheme: dark)").addEventListener("change", () => page.onTheme());
+        viewer.watchTheme(element("theme"), () => page.onTheme());
         window.addEventListener("hashchange", () => {
             const slot = viewer.slotOfAddress();
             if (slot !== null) {

@@ -5,6 +5,9 @@
     const { plural } = viewer;
 
     const MOST_SLOTS_NAMED = 20;
+    const REFERENCE_TEXT = "Beside an ideal switch with queues at its outputs: one more than the last slot in which it gave out "
+        + "a cell for the output (ends), and in which the run fed the output (runs), 0 where there was none; the most cells by "
+        + "which it was ahead at the end of a slot (lead), and the sum of these over all slots (extra).";
 
     function reportRows({ summary }) {
         const rows = Object.entries(summary).filter(([name]) => name !== "longest");
@@ -51,8 +54,9 @@
         viewer.appendTable(tables.append("div"), "Outputs", ["output", "packets", "cells"], outputs);
         if (run.reference.length > 0) {
             const lines = run.reference.map(({ ends, runs, lead, extra }, output) => [output, ends, runs, lead, extra]);
-            const headings = ["reference", "ends", "runs", "lead", "extra"];
+            const headings = ["output", "ends", "runs", "lead", "extra"];
             viewer.appendTable(tables.append("div"), "Output-queued reference", headings, lines);
+            root.append("p").attr("class", "faint").text(REFERENCE_TEXT);
         }
     }
 
