@@ -1,4 +1,5 @@
-//! The switch as a command: `tiny_tera run [options] TABLE PREFIX INPUT..` or `tiny_tera gen [options] SEED COUNT PORTS`.
+//! The switch as a command: `tiny_tera run [options] TABLE PREFIX INPUT..`, `tiny_tera gen [options] SEED COUNT PORTS`,
+//! `tiny_tera check FILE` or `tiny_tera firm [options] TABLE INPUT..`. docs/USAGE.md has each of them.
 #![tactic(auto)]
 
 use card_worker::OpenGate;
