@@ -142,8 +142,7 @@ def longest_journal(place):
     with open(place.folder / "longest", "ab") as file:
         file.write(bytes(1))
     expect(place.run("check", "longest"), 4, b"too long: longest\n")
-    if place.state() != {"longest": longest + bytes(1)}:
-        raise AssertionError("the file was changed")
+    expect_state(place, {"longest": longest + bytes(1)})
 
 
 @case("check of a pipe with more bytes than a journal may have")
