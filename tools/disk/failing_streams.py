@@ -130,7 +130,7 @@ def can_be_loaded(place, limit):
 
 
 def run_with_little_memory(place, *words):
-    """Runs the program under limits on memory: it does all of its work, or tells that memory ran out and does nothing."""
+    """Runs the program under limits on memory: it does all of its work, or tells want of memory and does nothing."""
     before = place.state()
     whole = place.run(*words)
     expect(whole, 0, out=whole.out)
