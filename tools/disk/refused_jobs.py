@@ -56,7 +56,9 @@ def refuse_in(program, job, refusing):
     that memory ran out, or ends with 1 where there is none for its words, and then has done nothing."""
     whole, before, after = _end(program, job, refusing.environment(0))
     requests = refusing.requests()
-    if requests is None or whole.status < 0:
+    if requests == 0:
+        raise Wrong("no request for memory is seen: the program does not ask the C library that is loaded with it")
+    if whole.status < 0:
         raise Wrong(f"without a refusal: {whole}")
     ran_out = 0
     for number in range(1, requests + 1):

@@ -2,11 +2,13 @@
 
 import os
 import shutil
+import struct
 import subprocess
 from pathlib import Path
 
 SOURCE = Path(__file__).resolve().parent / "refuse.c"
 LIBRARY, COUNT = "refuse.so", "requests"
+COUNTER = struct.Struct("@l")
 
 
 def compiler():
@@ -27,11 +29,10 @@ class Refusing:
 
     def environment(self, number):
         """The variables of a run in which the request of this number is refused, none for 0."""
-        self.count.write_text("")
+        self.count.write_bytes(COUNTER.pack(0))
         given = {"LD_PRELOAD": str(self.library), "REFUSED_REQUEST": str(number), "REQUESTS_FILE": str(self.count)}
         return {**os.environ, **given}
 
     def requests(self):
-        """How many requests the last run made; None where it did not come to its end."""
-        told = self.count.read_text()
-        return int(told) if told else None
+        """How many requests the last run made."""
+        return COUNTER.unpack(self.count.read_bytes())[0]
