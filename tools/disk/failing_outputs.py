@@ -83,7 +83,7 @@ def report_full(place):
     expect_state(place, before, {"out.0.pcap": EMPTY, "out.1.pcap": ONE_FRAME})
 
 
-def _mounted(place, name, options):
+def mounted(place, name, options):
     """Mounts a small file system in the folder; answers how to take it away again."""
     if not IS_ROOT:
         raise Skipped("only root may mount")
@@ -96,7 +96,7 @@ def _mounted(place, name, options):
 
 @case("a disk that becomes full within an output", {**INPUTS, **LONG_INPUTS})
 def disk_becomes_full(place):
-    unmount = _mounted(place, "small", "size=32k")
+    unmount = mounted(place, "small", "size=32k")
     try:
         before = place.state()
         expect(place.run_job("table", "small/out", "a", "b"), 6, write_fault("small/out.1.pcap"))
@@ -108,7 +108,7 @@ def disk_becomes_full(place):
 
 @case("a disk without room for another file")
 def disk_has_no_more_files(place):
-    unmount = _mounted(place, "small", "size=1m,nr_inodes=3")
+    unmount = mounted(place, "small", "size=1m,nr_inodes=3")
     try:
         before = place.state()
         expect(place.run_job("table", "small/out", "a", "b"), 6, write_fault("small/out.report"))

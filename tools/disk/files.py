@@ -68,6 +68,22 @@ def outputs(prefix="out"):
     return {f"{prefix}.0.pcap": EMPTY, f"{prefix}.1.pcap": ONE_FRAME, f"{prefix}.report": REPORT}
 
 
+PORTS_OF_JOB = 2
+# Of slots 0 to 3 with two ports and four rounds: the first has nothing yet, in the next two input 0 asks output 1
+# and feeds it, and in the last one nothing is left.
+_ASKED = bytes.fromhex("0101 0000000000000002 0000 ff00 0000")
+_FIRST = bytes.fromhex("54544a31 02 04 0000 00000004 0001 0000 ff00 ff00")
+JOURNAL = _FIRST + 2 * _ASKED + bytes.fromhex("0000 0000 ff00 ff00")
+
+
+def lawful(slots, *longest):
+    """What `check` prints of a lawful journal, with the longest waits of the levels."""
+    return f"yes\nslots {slots}\nlongest {' '.join(map(str, longest))}\n".encode()
+
+
+YES = lawful(4, 0, 0, 0, 0)
+
+
 def usage():
     """The line of usage that docs/FORMATS.md has."""
     return re.search(r"`(usage: tiny_tera [^`]*)`", FORMATS.read_text()).group(1)

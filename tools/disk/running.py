@@ -118,7 +118,7 @@ class Place:
         return {str(path.relative_to(self.folder)): _state_of(path) for path in found}
 
     def start(self, words, **options):
-        """Starts a run: `out` and `err` say where it prints, `before` is called in the child."""
+        """Starts a run: `out` and `err` say where it prints, `before` is called in the child, `env` has its variables."""
         user_id, group_id = user()
         given = {"user": user_id, "group": group_id, "extra_groups": []} if IS_ROOT else {}
         return subprocess.Popen(
@@ -128,6 +128,7 @@ class Place:
             stdout=options.get("out", subprocess.PIPE),
             stderr=options.get("err", subprocess.PIPE),
             preexec_fn=options.get("before"),
+            env=options.get("env"),
             **given,
         )
 

@@ -15,13 +15,13 @@ def _address(source, number):
     return (10, 0, (3 * source + 5 * number) % PORTS, 1)
 
 
-def job_files():
-    """The table and the captures, by name."""
+def job_files(packets=PACKETS):
+    """The table and the captures, by name, with so many packets for each port."""
     lines = [f"10.0.{port}.0/24 {port} {port % 4}\n" for port in range(PORTS)]
     for group, ports in enumerate((range(0, PORTS, 2), range(1, PORTS, 2), range(PORTS))):
         lines.append(f"10.1.{group}.0/24 {','.join(map(str, ports))} {group + 1}\n")
     files = {"table": "".join(lines).encode()}
     for source in range(PORTS):
-        packets = (packet(LENGTHS[(source + number) % 4], _address(source, number)) for number in range(PACKETS))
-        files[f"in.{source}"] = header(RAW_IP) + b"".join(map(record, packets))
+        made = (packet(LENGTHS[(source + number) % 4], _address(source, number)) for number in range(packets))
+        files[f"in.{source}"] = header(RAW_IP) + b"".join(map(record, made))
     return files

@@ -1,4 +1,4 @@
-"""Reads the report of a run: its summary, its outputs and, where it has them, the lines of slots and of the reference."""
+"""Reads the report of a run: its summary, its outputs and, where it has them, its lines of slots and references."""
 
 from typing import NamedTuple
 
