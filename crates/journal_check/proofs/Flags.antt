@@ -52,7 +52,7 @@ rises bits flags new sets first level full added so_far k = (
   ],
 )
 
-not_zero : (x : ℕ) → x ≢ 0 → not (x == 0) ≡ true
+pub not_zero : (x : ℕ) → x ≢ 0 → not (x == 0) ≡ true
 not_zero x some = elim (cases_Bool (x == 0)) [ inl e ↦ absurd (some ((Decides-eqb x 0).0 e)) | inr e ↦ ap not e ]
 
 from_not_zero : (x : ℕ) → not (x == 0) ≡ true → x ≢ 0

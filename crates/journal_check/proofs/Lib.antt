@@ -16,3 +16,5 @@ pub mod SlotFails
 pub mod Checked
 pub mod Written
 pub mod Flags
+pub mod NumbersSpelled
+pub mod FilesSpelled

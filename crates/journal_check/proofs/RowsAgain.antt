@@ -20,7 +20,7 @@ use Rattle.journal_check.specs.declared.posts.FilePost.{FilePost}
 use Rattle.journal_check.specs.Fields.{len_of, allows, no_input, Reading, number_in, read_on, each_in}
 use Rattle.journal_check.specs.Files.{FileSlot, set_in, row_in, post_in, fed_by, output_in, slot_in}
 use Rattle.journal_check.specs.Texts.{all_sets, sets_there, set_text, number_of, post_text, rank_of, output_text, slot_text, IsFileRow, IsFileOutput, IsFileSlot}
-use Rattle.journal_check.proofs.Spelled.{number_again, each_again}
+use Rattle.journal_check.proofs.Spelled.{one_byte, number_again, each_again}
 
 -- each set is below the limit, and its bit tells whether it is not empty
 abbrev pub AreMarked : ℕ → ℕ → List ℕ → List ℕ → Type 0
@@ -89,11 +89,7 @@ pub byte_again : (field : Field) → len_of field ≡ 1 → (x : ℕ) (rest : Li
 byte_again field one x rest fits allowed =
     let spelled : big_bytes (len_of field) x ≡ x ∷ [] = ap (λ (n : ℕ). big_bytes n x) one ∙ one_byte x fits in
     let limit : 256 ^ len_of field ≡ 256 ^ 1 = ap (λ (n : ℕ). 256 ^ n) one in
-    ap (λ (b : List ℕ). number_in field (b ++ rest)) (sym spelled) ∙ number_again field x rest (omega arith) allowed where
-      one_byte : (x : ℕ) → x < 256 → big_bytes 1 x ≡ x ∷ []
-      one_byte x fits = ap (λ (y : ℕ). y ∷ []) (byte x fits) where
-        byte : (x : ℕ) → x < 256 → x % 256 ≡ x
-        byte x fits = omega arith
+    ap (λ (b : List ℕ). number_in field (b ++ rest)) (sym spelled) ∙ number_again field x rest (omega arith) allowed
 
 flag_again : (more : Bool) (rest : List ℕ) → number_in More (number_of more ∷ rest) ≡ Ok (number_of more, rest)
 flag_again true rest = byte_again More refl 1 rest (omega arith) refl

@@ -11,6 +11,10 @@ use Rattle.journal_check.specs.declared.fields.Field.TheVariants.{Magic, Ports, 
 use Rattle.journal_check.specs.Fields.{len_of, allows, Reading, number_in, read_on, each_in}
 use Rattle.journal_check.proofs.NumberReads.{is_good, good_in, good}
 
+-- a byte is spelled by itself
+pub one_byte : (x : ℕ) → x < 256 → big_bytes 1 x ≡ x ∷ []
+one_byte x fits = let same : x % 256 ≡ x = omega arith in ap (λ (y : ℕ). y ∷ []) same
+
 -- a field that has one of its numbers is read, whatever follows
 pub number_again : (field : Field) (x : ℕ) (rest : List ℕ) → x < 256 ^ len_of field → allows field x ≡ true → number_in field (big_bytes (len_of field) x ++ rest) ≡ Ok (x, rest)
 number_again field x rest fits allowed =

@@ -18,10 +18,12 @@ ghost use Rattle.journal_check.specs.Texts.{IsFile, HaveLevels, file_of, file_te
 ghost use Rattle.journal_check.specs.Lawful.{first_failure, decided_slots, IsLawful};
 ghost use Rattle.journal_check.specs.Verdicts.{yes_on, answer_to};
 
-/// What is spelled of a file is read again: just that file. And what is read is what a file can tell.
+/// What is spelled of a file is read again: just that file. What is read is what a file can tell, and bytes
+/// are read as no file but the one that they spell, so no file has a second spelling.
 pub fn files_are_their_texts()
     ensures read { (file : JournalFile) → IsFile file → journal_in (file_text file) ≡ Ok file }
     ensures good { (bytes : List ℕ) (file : JournalFile) → journal_in bytes ≡ Ok file → IsFile file }
+    ensures texts { (bytes : List ℕ) (file : JournalFile) → All (λ b. b < 256) bytes → journal_in bytes ≡ Ok file → bytes ≡ file_text file }
 {}
 
 /// A file has no failure exactly where it is lawful.
