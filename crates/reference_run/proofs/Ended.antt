@@ -14,6 +14,7 @@ use Rattle.slot_match.specs.declared.matching.Served.{Served}
 use Rattle.slot_match.specs.Rows.{IsEmptyRow}
 use Rattle.slot_match.proofs.Sets.{Has-set_of}
 use Rattle.multicast_queue.specs.FanQueues.{FanCell, first_fan}
+use Rattle.eslip_rounds.specs.Decisions.{decision_of}
 use Rattle.crossbar.specs.declared.cards.Post.{Post as CardPost}
 use Rattle.slot_histories.specs.Events.{no_post}
 use Rattle.slot_histories.specs.Slots.{slot_posts, is_done_at}
@@ -98,7 +99,7 @@ module _ (plan : SwitchPlan) (good : IsGood plan) where
       let card = card_at plan i in
       let row = row_at card (served_by plan i t) t in
       let more = or_parts (list_any (λ packet. nat_lt t packet.arrival) card.packets) (not (is_empty row)) (last_more i t inside done) in
-      subst IsEmptyRow (sym (row_at-same plan i t (suc t) (omega arith))) ((Decides-is_empty row).0 (empty_is (is_empty row) more.1))
+      subst IsEmptyRow (sym (row_at-same decision_of plan i t (suc t) (omega arith))) ((Decides-is_empty row).0 (empty_is (is_empty row) more.1))
 
   ended_at : (t : ℕ) → is_done_at (ports_of plan) (posts_in plan) t ≡ true → AreEmptied plan.cards (run_matches plan (suc t))
   ended_at t done = record {

@@ -10,6 +10,8 @@ use Rattle.slot_match.specs.declared.matching.Served.{Served}
 use Rattle.slot_match.specs.Rows.{Names, row_of as row_in, no_row}
 use Rattle.slot_match.specs.Matches.{Serves, IsMatch}
 use Rattle.slot_match.specs.Parts.{served_of}
+use Rattle.eslip_rounds.specs.Decisions.{decision_of}
+use Rattle.eslip_rounds.proofs.Scheduling.{IsScheduler-decision_of}
 use Rattle.crossbar.specs.declared.cards.Post.{Post}
 use Rattle.slot_histories.specs.Slots.{decision_at}
 use Rattle.slot_histories.specs.Answers.{JournalSlot}
@@ -44,7 +46,7 @@ module _ (plan : SwitchPlan) where
   pub served-run : (slots i : ℕ) → served_in (run_matches plan slots) i ≡ served_by plan i slots
   served-run slots i =
       let part = λ (m : Matched). served_of m i in
-      ap (map part) (matches-are slots) ∙ map-map part match_of (range_with_len 0 slots) ∙ sym (served-is plan i slots)
+      ap (map part) (matches-are slots) ∙ map-map part match_of (range_with_len 0 slots) ∙ sym (served-is decision_of plan i slots)
 
   pub matches-more : (t : ℕ) → run_matches plan (t + 1) ≡ run_matches plan t ++ (run_slot plan t).matched ∷ []
   matches-more t = matches-are (t + 1) ∙ map-range_with_len_more match_of 0 t t (omega arith) ∙ ap (λ ms. ms ++ match_of t ∷ []) (sym (matches-are t))
@@ -61,10 +63,10 @@ module _ (plan : SwitchPlan) where
     run-cards = record { good = λ i inside. (good-card plan good i inside).good; ports = λ i inside. (good-card plan good i inside).ports }
 
     pub run-whole : (t : ℕ) → IsMatch (ports_of plan) (match_of t)
-    run-whole t = (sound plan good t).matches
+    run-whole t = (sound decision_of IsScheduler-decision_of plan good t).matches
 
     pub run-named : (t i j level : ℕ) (kind : Kind) → Serves (match_of t) i j level kind → Names (posts_in plan i t).row level kind j
-    run-named t i j level kind pair = pair-named (setup_for plan) (posts_in plan) t (sound plan good t) (is-slot plan good t) i j level kind ((run-whole t).input_in i j level kind pair) pair
+    run-named t i j level kind pair = pair-named decision_of (setup_for plan) (posts_in plan) t (sound decision_of IsScheduler-decision_of plan good t) (is-slot decision_of IsScheduler-decision_of plan good t) i j level kind ((run-whole t).input_in i j level kind pair) pair
 
     pub run-served : (slots : ℕ) → AreServed plan.cards (run_matches plan slots)
     run-served slots =
@@ -73,7 +75,7 @@ module _ (plan : SwitchPlan) where
           whole = λ t below. subst (IsMatch (ports_of plan)) (sym (match-is slots t (omega arith))) (run-whole t);
           named = λ t i j level kind below pair.
               let row : row_at (card_at plan i) (served_in (run_matches plan slots) i) t ≡ (posts_in plan i t).row =
-              ap (λ served. row_at (card_at plan i) served t) (served-run slots i) ∙ row_at-same plan i t slots (omega arith) in
+              ap (λ served. row_at (card_at plan i) served t) (served-run slots i) ∙ row_at-same decision_of plan i t slots (omega arith) in
               subst (λ r. Names r level kind j) (sym row) (run-named t i j level kind (subst (λ m. Serves m i j level kind) (match-is slots t (omega arith)) pair));
         }
 
@@ -90,8 +92,8 @@ module _ (plan : SwitchPlan) where
 
     pub run-few : (slots : ℕ) → IsLength plan slots → slots ≤ 262145
     run-few slots end =
-        let bound = run_bound plan good slots end in
-        let work = total_admitted-le plan slots in
+        let bound = run_bound decision_of IsScheduler-decision_of plan good slots end in
+        let work = total_admitted-le decision_of plan slots in
         let cells = good.cells in
         let few : most_for (ports_of plan) ≤ 131072 = few-if (nat_lt 32 (ports_of plan)) in
         let greatest : greatest_slots (packets_in plan) ≤ most_for (ports_of plan) = greatest-from (packets_in plan) 0 (most_for (ports_of plan)) (omega arith) good.slots in
