@@ -18,4 +18,6 @@ mod meeting;
 #[cfg(test)]
 mod refusals;
 #[cfg(test)]
+mod rows;
+#[cfg(test)]
 mod ways;
