@@ -33,3 +33,9 @@ pub texts_not_made : {T : Type 0} (r : RunWords) (old told : Option Contents) (w
     → IfErr result (StopsTexts r table captures) → IfErr result (Stops (run r) old was now told)
 texts_not_made r old told was now (Ok texts) table captures same inputs stops = tt
 texts_not_made r old told was now (Err ending) table captures same inputs stops = texts_stop r old told was now table captures ending same inputs stops
+
+-- a job that stops whatever the contents are
+pub stops_anywhere : {T : Type 0} (job : JobWords) (old : Option Contents) (was now : Place → ℕ) (result : Result T Ending)
+    → IfErr result (λ ending. (told : Option Contents) (a b : Place → ℕ) → Stops job told a b told ending) → IfErr result (Stops job old was now old)
+stops_anywhere job old was now (Ok texts) stops = tt
+stops_anywhere job old was now (Err ending) stops = stops old was now

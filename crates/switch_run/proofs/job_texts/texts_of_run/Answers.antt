@@ -9,7 +9,7 @@ use Rattle.switch_run.proofs.ToWrite.{some_slots, texts_not_made, texts_to_write
 use Rattle.switch_run.proofs.job_texts.texts_of_run.Goals as goal
 
 pub plan_and_run-requires-clause-size : goal.plan_and_run-requires-clause-size
-plan_and_run-requires-clause-size g c =
+plan_and_run-requires-clause-size g c κs alive =
     let read = rw c.reads_of_run.ensures.names at c.in-Ok.ensures.read in
     let names = c.args.job.now.inputs.items in
     read_of_size (run_reads (run_words c.args.job.now)) (g.F.Files.told c.args.files.now) _ _ read

@@ -19,4 +19,4 @@ returns c table captures is journal =
     let made = rw same at (c.in_ok-captures.ensures (λ j. messages_to is.plan j left.slots) have) in
     let files = rw c.as_str.ensures.value at c.in_ok-files.ensures in
     run_made words table captures ran.nano ran.link ran.outcome (option_map string_bytes ran.reference) is (bytes_of_files c.in_ok-captures.captures) (string_bytes c.in_ok-report.report) (option_map (λ b. b.items) c.args.journal)
-    c.len.result (map shown c.in_ok-files.files.items) (string_bytes c.in_ok-summary.summary) made c.in_ok-report.ensures journal (sym (length-map c.in_ok-captures.captures.items (λ v. v.items))) files c.in_ok-summary.ensures
+    c.len-outputs.result (map shown c.in_ok-files.files.items) (string_bytes c.in_ok-summary.summary) made c.in_ok-report.ensures journal (sym (length-map c.in_ok-captures.captures.items (λ v. v.items))) files c.in_ok-summary.ensures
