@@ -1,7 +1,8 @@
 -- What checking a journal file comes to, and what it leaves.
-use Rattle.std.specs.Prelude.{◌≡◌, ◌<◌, ◌≤◌, ℕ, List, [], ◌∷◌, ◌++◌, take, length, map, Option, Some, Result, Ok, Err, IfSome, option_map, codes, decimal}
+use Rattle.std.specs.Prelude.{◌≡◌, ◌≤◌, ℕ, List, [], ◌∷◌, take, length, map, Option, Some, Result, Ok, Err, IfSome, option_map, codes, decimal}
 use Rattle.outside.specs.Contents.{Contents, append_out}
 use Rattle.outside.specs.Faults.{Place, ReadOf, ToOut, Rose}
+use Rattle.outside.specs.WholeFiles.{IsLongerThan}
 use Rattle.slot_report.specs.Lines.{lines_text}
 use Rattle.journal_check.specs.declared.limits.TheConstants.{MAX_JOURNAL_BYTES}
 use Rattle.journal_check.specs.declared.verdict.Verdict.{Verdict}
@@ -14,7 +15,7 @@ use Rattle.check_job.specs.declared.ending.CheckEnding.TheVariants.{Yes, No, Bad
 
 -- the file is there, and has more bytes than a journal file may have
 abbrev pub IsTooLong : Contents → List ℕ → Type 0
-IsTooLong c name = (bytes : List ℕ) × (c.file name ≡ Some bytes) × (MAX_JOURNAL_BYTES < length bytes)
+IsTooLong c name = IsLongerThan MAX_JOURNAL_BYTES c name
 
 -- the file is there, is not too long, and its bytes have this answer
 abbrev pub HasAnswer : List ℕ → Result Verdict JournalFault → Contents → Type 0
@@ -40,8 +41,3 @@ MeansCheck name old new was now TooLong = IfSome old (λ c. IsTooLong c name) ×
 MeansCheck name old new was now ReadFault = Rose (was (ReadOf name)) (now (ReadOf name)) × (new ≡ old)
 MeansCheck name old new was now OutOfMemory = new ≡ old
 MeansCheck name old new was now OutFault = (text : List ℕ) × (given : ℕ) × IsYes name old text × Rose (was ToOut) (now ToOut) × (new ≡ option_map (append_out (take given text)) old)
-
--- calls gave standard output all of the text; or one of them failed, and a first part of it was given
-abbrev pub GivesOut : {T E : Type 0} → Result T E → List ℕ → Option Contents → Option Contents → Type 0
-GivesOut (Ok done) text old new = new ≡ option_map (append_out text) old
-GivesOut (Err failure) text old new = (given : ℕ) × (new ≡ option_map (append_out (take given text)) old)

@@ -5,9 +5,9 @@ ghost use Rattle.check_job.specs.Checks.{HasAnswer, MeansCheck};
 
 use crate::ending::CheckEnding;
 use crate::reading::read_journal;
-use crate::telling::{put_out, yes_lines};
+use crate::telling::yes_lines;
 use journal_check::{JournalFault, Verdict, check_journal};
-use outside::Files;
+use outside::{Files, put_out};
 use rotating_pick::LEVEL_COUNT;
 use std::alloc::Global;
 

@@ -1,16 +1,20 @@
--- Whole files, read and written in as many calls as it takes.
+-- Whole files, read and written in as many calls as it takes, and whole texts given to standard output.
 use Rattle.std.specs.Prelude.{◌≡◌, ◌<◌, ◌≤◌, ℕ, List, take, length, Option, Some, Result, Ok, Err, option_map}
 use Rattle.rotating_pick.specs.declared.limits.TheConstants.{MAX_FILE_BYTES}
-use Rattle.outside.specs.Contents.{Contents, begin_file, append_file}
+use Rattle.outside.specs.Contents.{Contents, begin_file, append_file, append_out}
 use Rattle.outside.specs.Faults.{Place, BeginOf, WriteOf, Rose}
 
 -- the file is there, and not too long
 abbrev pub Fits : Contents → List ℕ → Type 0
 Fits c name = (bytes : List ℕ) × (c.file name ≡ Some bytes) × (length bytes ≤ MAX_FILE_BYTES)
 
+-- the file is there, and has more bytes than these
+abbrev pub IsLongerThan : ℕ → Contents → List ℕ → Type 0
+IsLongerThan limit c name = (bytes : List ℕ) × (c.file name ≡ Some bytes) × (limit < length bytes)
+
 -- the file is there, and has more bytes than a file may have
 abbrev pub IsTooLong : Contents → List ℕ → Type 0
-IsTooLong c name = (bytes : List ℕ) × (c.file name ≡ Some bytes) × (MAX_FILE_BYTES < length bytes)
+IsTooLong c name = IsLongerThan MAX_FILE_BYTES c name
 
 -- A name, and the bytes of the file of that name.
 pub record NamedBytes : Type 0 where
@@ -39,3 +43,8 @@ Puts (Err failure) f was now before after = StopsAt f was now before after
 abbrev pub Appends : {T E : Type 0} → Result T E → NamedBytes → (Place → ℕ) → (Place → ℕ) → Option Contents → Option Contents → Type 0
 Appends (Ok done) f was now before after = after ≡ option_map (append_file f.name f.bytes) before
 Appends (Err failure) f was now before after = Rose (was (WriteOf f.name)) (now (WriteOf f.name)) × ((n : ℕ) × (after ≡ option_map (append_file f.name (take n f.bytes)) before))
+
+-- the calls gave standard output all of the text; or one of them failed, and a first part of it was given
+abbrev pub GivesOut : {T E : Type 0} → Result T E → List ℕ → Option Contents → Option Contents → Type 0
+GivesOut (Ok done) text before after = after ≡ option_map (append_out text) before
+GivesOut (Err failure) text before after = (given : ℕ) × (after ≡ option_map (append_out (take given text)) before)

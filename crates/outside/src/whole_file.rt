@@ -1,9 +1,8 @@
-ghost use Rattle.std.specs.Prelude.{◌≡◌, ◌≤◌, ◌<◌, [], Some, true, length, IfOk, OnOk, IfSome, IsErrOf};
-ghost use Rattle.outside.specs.Faults.{ReadOf, NeverFall, Rose};
-ghost use Rattle.outside.specs.WholeFiles.{Appends, IsTooLong, Puts};
+ghost use Rattle.std.specs.Prelude.{◌≡◌, ◌≤◌, ◌<◌, [], Some, true, length, IfOk, OnOk, OnErr, IfSome, IsErrOf};
+ghost use Rattle.outside.specs.Faults.{ReadOf, ToOut, NeverFall, Rose};
+ghost use Rattle.outside.specs.WholeFiles.{Appends, GivesOut, IsLongerThan, Puts};
 
 use crate::files::{Failed, Files};
-use rotating_pick::MAX_FILE_BYTES;
 use std::alloc::Global;
 
 /// Why a file was not read.
@@ -11,16 +10,17 @@ use std::alloc::Global;
 pub enum ReadFailure {
     /// A call of `read` failed.
     Fault,
-    /// The file has more than 16,777,216 bytes.
+    /// The file has more bytes than the limit.
     TooLong,
     /// There was no memory for its bytes.
     OutOfMemory,
 }
 
-// Reads all bytes of the named file into an empty list, through a buffer.
+// Reads all bytes of the named file, up to the limit, into an empty list, through a buffer.
 fn read_into<F: Files>(
     files: &mut F,
     name: &str,
+    limit: usize,
     bytes: &mut Vec<u8>,
     buf: &mut [u8],
 ) -> Result<(), ReadFailure>
@@ -29,9 +29,9 @@ fn read_into<F: Files>(
     ensures told { F.told files.new ≡ F.told files.old }
     ensures never_fall { NeverFall (F.faults files.old) (F.faults files.new) }
     ensures bytes { OnOk result (IfSome (F.told files.old) (λ c. c.file name.now ≡ Some bytes.new.items)) }
-    ensures fits { OnOk result (length bytes.new.items ≤ MAX_FILE_BYTES) }
+    ensures fits { OnOk result (length bytes.new.items ≤ limit) }
     ensures fault { IsErrOf result ReadFailure.Fault → Rose (F.faults files.old (ReadOf name.now)) (F.faults files.new (ReadOf name.now)) }
-    ensures too_long { IsErrOf result ReadFailure.TooLong → IfSome (F.told files.old) (λ c. IsTooLong c name.now) }
+    ensures too_long { IsErrOf result ReadFailure.TooLong → IfSome (F.told files.old) (λ c. IsLongerThan limit c name.now) }
 {
     loop {
         let count = match files.read(name, bytes.len() as u64, buf) {
@@ -41,7 +41,7 @@ fn read_into<F: Files>(
         if count == 0 {
             return Ok(());
         }
-        if count > MAX_FILE_BYTES - bytes.len() {
+        if count > limit - bytes.len() {
             return Err(ReadFailure::TooLong);
         }
         if bytes.extend_from_slice(&buf[..count]).is_err() {
@@ -50,24 +50,25 @@ fn read_into<F: Files>(
     }
 }
 
-/// All bytes of the named file, read in pieces through `buf`, which must not be empty. Reads go on from
-/// where the one before ended, so a pipe is read like a file.
+/// All bytes of the named file, of which there may be as many as `limit`, read in pieces through `buf`,
+/// which must not be empty. Reads go on from where the one before ended, so a pipe is read like a file.
 pub fn read_whole<F: Files>(
     alloc: Global,
     files: &mut F,
     name: &str,
+    limit: usize,
     buf: &mut [u8],
 ) -> Result<Vec<u8>, ReadFailure>
     requires { 0 < length buf.old }
     ensures told { F.told files.new ≡ F.told files.old }
     ensures never_fall { NeverFall (F.faults files.old) (F.faults files.new) }
     ensures bytes { IfOk result (λ v. IfSome (F.told files.old) (λ c. c.file name.now ≡ Some v.items)) }
-    ensures fits { IfOk result (λ v. length v.items ≤ MAX_FILE_BYTES) }
+    ensures fits { IfOk result (λ v. length v.items ≤ limit) }
     ensures fault { IsErrOf result ReadFailure.Fault → Rose (F.faults files.old (ReadOf name.now)) (F.faults files.new (ReadOf name.now)) }
-    ensures too_long { IsErrOf result ReadFailure.TooLong → IfSome (F.told files.old) (λ c. IsTooLong c name.now) }
+    ensures too_long { IsErrOf result ReadFailure.TooLong → IfSome (F.told files.old) (λ c. IsLongerThan limit c name.now) }
 {
     let mut bytes = Vec::new(alloc);
-    match read_into(files, name, &mut bytes, buf) {
+    match read_into(files, name, limit, &mut bytes, buf) {
         Ok(()) => Ok(bytes),
         Err(failure) => Err(failure),
     }
@@ -99,4 +100,21 @@ pub fn put_whole<F: Files>(files: &mut F, name: &str, bytes: &[u8]) -> Result<()
         Ok(()) => append_all(files, name, bytes),
         Err(failed) => Err(failed),
     }
+}
+
+/// Gives all of the bytes to standard output, in as many calls as it takes. Where a call fails, standard
+/// output was given a first part of them.
+pub fn put_out<F: Files>(files: &mut F, bytes: &[u8]) -> Result<(), Failed>
+    ensures told { GivesOut result bytes.now (F.told files.old) (F.told files.new) }
+    ensures cause { OnErr result (Rose (F.faults files.old ToOut) (F.faults files.new ToOut)) }
+    ensures never_fall { NeverFall (F.faults files.old) (F.faults files.new) }
+{
+    let mut at = 0;
+    while at < bytes.len() {
+        match files.out(&bytes[at..]) {
+            Ok(count) => at += count,
+            Err(failed) => return Err(failed),
+        }
+    }
+    Ok(())
 }

@@ -1,5 +1,5 @@
 -- What is made of a job's inputs, and what stops that: the words of the calls inside.
-use Rattle.std.specs.Prelude.{◌≡◌, ◌<◌, ◌≤◌, ℕ, ◌==◌, nat_lt, true, if◌then◌else◌, Bool, List, [], take, length, map, All, Option, None, Some, Result, Ok, Err, IfSome, is_some, option_map, slice_get, slice_index_or, string_bytes}
+use Rattle.std.specs.Prelude.{◌≡◌, ◌<◌, ◌≤◌, ℕ, ◌==◌, nat_lt, true, if◌then◌else◌, Bool, List, [], take, length, map, All, Option, None, Some, Ok, IfSome, is_some, option_map, slice_get, slice_index_or, string_bytes}
 use Rattle.std.specs.List.{concat}
 use Rattle.rotating_pick.specs.declared.limits.TheConstants.{MAX_PORTS, MAX_FILE_BYTES}
 use Rattle.outside.specs.Contents.{Contents, append_out}
@@ -155,11 +155,6 @@ pub record AreToWrite (job : JobWords) (told : Option Contents) (outputs : ℕ) 
   pub inputs : AreInputs job told table captures
   pub few : length captures ≤ MAX_PORTS
   pub made : AreMade job table captures outputs files summary
-
--- calls gave standard output all of the text; or one of them failed, and a first part of it was given
-abbrev pub GivesOut : {T E : Type 0} → Result T E → List ℕ → Option Contents → Option Contents → Type 0
-GivesOut (Ok done) text old new = new ≡ option_map (append_out text) old
-GivesOut (Err failure) text old new = (given : ℕ) × (new ≡ option_map (append_out (take given text)) old)
 
 -- what is written at a place, after so many outputs
 abbrev pub written_at : ℕ → ℕ → Written

@@ -101,7 +101,7 @@ fn read_input<F: Files>(
     ensures fits { IfOk result (λ v. length v.items ≤ MAX_FILE_BYTES) }
     ensures stops { IfErr result (StopsReading (reads_words reads.now) (F.told files.old) (F.faults files.old) (F.faults files.new)) }
 {
-    match read_whole(alloc, files, input_name(reads, input), buf) {
+    match read_whole(alloc, files, input_name(reads, input), MAX_FILE_BYTES, buf) {
         Ok(bytes) => Ok(bytes),
         Err(ReadFailure::Fault) => Err(Ending::ReadFault(input)),
         Err(ReadFailure::TooLong) => Err(Ending::TooLong(input)),

@@ -1,14 +1,14 @@
-ghost use Rattle.std.specs.Prelude.{◌≡◌, ◌≤◌, ◌<◌, ◌+◌, ◌∷◌, ◌++◌, [], length, map, slice_index_or, string_bytes, take, IfErr, IfOk, OnOk, OnErr};
+ghost use Rattle.std.specs.Prelude.{◌≡◌, ◌≤◌, ◌<◌, ◌+◌, ◌∷◌, ◌++◌, [], length, map, slice_index_or, string_bytes, take, IfErr, IfOk, OnOk};
 ghost use Rattle.std.specs.Option.{option_map};
 ghost use Rattle.outside.specs.Contents.{append_out};
-ghost use Rattle.outside.specs.Faults.{NeverFall, Rose, ToOut};
+ghost use Rattle.outside.specs.Faults.{NeverFall};
 ghost use Rattle.outside.specs.WholeFiles.{Puts, StopsAt};
 ghost use Rattle.switch_plan.specs.Reading.{bytes_of_files};
-ghost use Rattle.switch_run.specs.Making.{GivesOut, StopsPutting, written_at};
+ghost use Rattle.switch_run.specs.Making.{StopsPutting, written_at};
 ghost use Rattle.switch_run.specs.OutputFiles.{files_from, journal_files, journal_name, nameless, put_files, report_name, shown};
 
 use crate::ending::Written;
-use outside::{Failed, Files, put_whole};
+use outside::{Failed, Files, put_out, put_whole};
 use rotating_pick::MAX_PORTS;
 use std::alloc::{AllocError, Global};
 
@@ -103,22 +103,6 @@ fn put_all<F: Files>(files: &mut F, output_files: &[OutputFile]) -> Result<(), u
     for (place, file) in output_files.iter().enumerate() {
         if put_file(files, file).is_err() {
             return Err(place as u32);
-        }
-    }
-    Ok(())
-}
-
-// Gives all of the bytes to standard output, in as many calls as it takes.
-fn put_out<F: Files>(files: &mut F, bytes: &[u8]) -> Result<(), Failed>
-    ensures told { GivesOut result bytes.now (F.told files.old) (F.told files.new) }
-    ensures cause { OnErr result (Rose (F.faults files.old ToOut) (F.faults files.new ToOut)) }
-    ensures never_fall { NeverFall (F.faults files.old) (F.faults files.new) }
-{
-    let mut at = 0;
-    while at < bytes.len() {
-        match files.out(&bytes[at..]) {
-            Ok(count) => at += count,
-            Err(failed) => return Err(failed),
         }
     }
     Ok(())

@@ -1,6 +1,5 @@
 use Rattle.std.proofs.Common.{rules, ◌≡◌, ◌≤◌, ◌+◌, ◌-◌, ◌++◌, length, take, refl, ◌∙◌, arith, length-append}
 use Rattle.std.proofs.lemmas.List.{length-take-le}
-use Rattle.rotating_pick.specs.declared.limits.TheConstants.{MAX_FILE_BYTES}
 use Rattle.outside.proofs.Fronts.{wholes, longers, piece_here, appended}
 use Rattle.outside.proofs.whole_file.read_into.Goals as goal
 
@@ -17,8 +16,8 @@ loop-count-preserved g c =
     let m : c.len-in-loop-count.result ≡ length c.loop-count.bytes.items = search rules in
     let e = appended c.extend_from_slice.result c.extend_from_slice.new.self.items c.loop-count.bytes.items (take c.in-Ok.count c.read.new.buf) c.extend_from_slice.ensures.items c.if-is_err.ensures.negation in
     let room : c.in-Ok.count ≤ length c.loop-count.buf = c.in-Ok.ensures.room in
-    let fit : c.in-Ok.count ≤ MAX_FILE_BYTES - c.len-in-loop-count.result = c.if-count-len.false in
-    let most : length c.loop-count.bytes.items ≤ MAX_FILE_BYTES = c.loop-count.invariant.most in
+    let fit : c.in-Ok.count ≤ c.args.limit - c.len-in-loop-count.result = c.if-count-limit.false in
+    let most : length c.loop-count.bytes.items ≤ c.args.limit = c.loop-count.invariant.most in
     let same : length c.read.new.buf ≡ length c.loop-count.buf = c.read.auto.buf in
     let k : length (take c.in-Ok.count c.read.new.buf) ≡ c.in-Ok.count = length-take-le c.in-Ok.count c.read.new.buf (omega arith) in
     let sum : length (c.loop-count.bytes.items ++ take c.in-Ok.count c.read.new.buf) ≡ length c.loop-count.bytes.items + length (take c.in-Ok.count c.read.new.buf) = length-append c.loop-count.bytes.items (take c.in-Ok.count c.read.new.buf) in

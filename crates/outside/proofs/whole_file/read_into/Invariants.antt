@@ -1,7 +1,6 @@
 use Rattle.std.proofs.Common.{◌≡◌, ◌≤◌, length, ◌-◌}
 use Rattle.std.specs.Prelude.{IfSome}
 use Rattle.outside.specs.Faults.{NeverFall}
-use Rattle.rotating_pick.specs.declared.limits.TheConstants.{MAX_FILE_BYTES}
 use Rattle.outside.proofs.Fronts.{IsFrontOf}
 use Rattle.outside.proofs.whole_file.read_into.Given as goal
 
@@ -12,9 +11,9 @@ invariant-loop-count g l =
     record {
       told : contents l.files ≡ contents l.fn.files;
       never_fall : NeverFall (counts l.fn.files) (counts l.files);
-      most : length l.bytes.items ≤ MAX_FILE_BYTES;
+      most : length l.bytes.items ≤ l.limit;
       front : IfSome (contents l.fn.files) (λ c. IsFrontOf (c.file l.name) l.bytes.items);
     }
 
 abbrev pub decreases-loop-count : goal.decreases-loop-count
-decreases-loop-count g l = MAX_FILE_BYTES - length l.bytes.items
+decreases-loop-count g l = l.limit - length l.bytes.items

@@ -2,7 +2,7 @@ use Rattle.std.proofs.Common.{◌≡◌, ◌≤◌, length, ◌-◌, take}
 use Rattle.std.specs.Prelude.{option_map}
 use Rattle.outside.specs.Contents.{append_out}
 use Rattle.outside.specs.Faults.{NeverFall}
-use Rattle.switch_run.proofs.output_files.put_out.Given as goal
+use Rattle.outside.proofs.whole_file.put_out.Given as goal
 
 abbrev pub invariant-loop-at : goal.invariant-loop-at
 invariant-loop-at g l =

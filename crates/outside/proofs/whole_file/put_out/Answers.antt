@@ -3,7 +3,7 @@ use Rattle.std.specs.Prelude.{option_map}
 use Rattle.std.proofs.lemmas.List.{length-drop, take_rest}
 use Rattle.outside.specs.Contents.{append_out}
 use Rattle.outside.proofs.Effects.{out_more}
-use Rattle.switch_run.proofs.output_files.put_out.Goals as goal
+use Rattle.outside.proofs.whole_file.put_out.Goals as goal
 
 pub returns-in-Err-clause-told : goal.returns-in-Err-clause-told
 returns-in-Err-clause-told g c = (c.loop-at.at, c.in-Err.ensures.told ∙ c.loop-at.invariant.told)
