@@ -9,6 +9,7 @@ pub mod ReadFiles
 pub mod Goods
 pub mod LawfulFiles
 pub mod Scheduling
+pub mod SlotsLawful
 pub mod JournalsLawful
 pub mod Judged
 pub mod SlotFails

@@ -18,6 +18,6 @@ mod verdict;
 mod writing;
 
 pub use checking::check_journal;
-pub use limits::MAX_JOURNAL_BYTES;
+pub use limits::{MAX_JOURNAL_BYTES, limits_are};
 pub use verdict::{JournalFault, Reason, Verdict};
 pub use writing::{journal_bytes, journal_len};

@@ -14,12 +14,13 @@ use Rattle.switch_plan.specs.declared.fault.PlanFault.{PlanFault}
 use Rattle.switch_plan.specs.Refusals.{IsRefusal}
 use Rattle.switch_plan.specs.GoodPlans.{SwitchPlan, IsGood}
 use Rattle.whole_run.specs.Ends.{IsLength}
+use Rattle.journal_run.specs.RunFiles.{journal_text}
 use Rattle.switch_run.specs.Causes.{Answers, AnswersUnlessOut, AreWritable, IsComplete, IsReadable, IsRunFor, IsWritable, JournalTooLongIsExact, RefusalIsExact, TooLongIsExact, UsageIsExact}
 use Rattle.switch_run.specs.Endings.{Command, IsCheck, IsFirstTooLong, IsJournalTooLong, IsMade, IsStopped, Stops, StopsWriting, captures_made, check_status}
 use Rattle.switch_run.specs.Inputs.{AreFilesRead, AreInputs, CapturesRead, EarlierFit}
 use Rattle.switch_run.specs.Jobs.{ReadWords, reads_of, pace_in, IsInput, RunsSwitch, input_name, wanted_by}
 use Rattle.switch_run.specs.OutputFiles.{files_from, journal_files, journal_name, nameless, output_name, report_name, run_files}
-use Rattle.switch_run.specs.Switched.{Texts, AreTexts, IsLongJournal, IsSwitched, journal_text}
+use Rattle.switch_run.specs.Switched.{Texts, AreTexts, IsLongJournal, IsSwitched}
 use Rattle.check_job.specs.declared.ending.CheckEnding.{CheckEnding}
 use Rattle.check_job.specs.declared.ending.CheckEnding.TheVariants as check_ending
 use Rattle.switch_run.specs.declared.ending.Written.{Written}

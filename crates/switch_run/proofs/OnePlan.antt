@@ -23,9 +23,10 @@ use Rattle.switch_words.specs.Reading.{JobWords, run, gen, check, firm, RunWords
 use Rattle.whole_run.specs.Runs.{no_plan, ports_of, posts_under}
 use Rattle.whole_run.specs.Ends.{IsLength, IsLengthUnder}
 use Rattle.switch_jobs.specs.Outcomes.{summary_under}
+use Rattle.journal_run.specs.RunFiles.{journal_text}
 use Rattle.firm_run.specs.FirmRuns.{IsFirmRun}
 use Rattle.switch_run.specs.Jobs.{Wanted, wanted_by, nothing_wanted}
-use Rattle.switch_run.specs.Switched.{Texts, AreTexts, IsLongJournal, IsPlanned, IsRunOf, IsSwitched, IsSwitchedByFirm, firm_texts, journal_text, texts_of}
+use Rattle.switch_run.specs.Switched.{Texts, AreTexts, IsLongJournal, IsPlanned, IsRunOf, IsSwitched, IsSwitchedByFirm, firm_texts, texts_of}
 use Rattle.switch_run.proofs.OneOutcome.{same_captures, same_table}
 
 -- ---- the length of a run

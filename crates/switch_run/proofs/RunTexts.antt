@@ -29,11 +29,12 @@ use Rattle.whole_run.specs.Runs.{ports_of, run_journal, setup_for}
 use Rattle.switch_jobs.specs.declared.outcome.Outcome.{Outcome}
 use Rattle.switch_jobs.specs.Outcomes.{IsOutcome, messages_to, summary_of}
 use Rattle.reference_run.specs.RunLines.{run_lines}
+use Rattle.journal_run.specs.RunFiles.{journal_text, run_file}
 use Rattle.switch_run.specs.Endings.{captures_made}
 use Rattle.switch_run.specs.Making.{AreMade, HaveMessages, IsFirmRan, IsJournalFor, IsRan, StopsJournal, StopsTexts, file_of_board, line_of_card, reference_wanted, slots_told, text_or_none}
 use Rattle.switch_run.specs.Jobs.{Wanted, wanted_by, nothing_wanted}
 use Rattle.switch_run.specs.OutputFiles.{files_from, files_of, journal_files, report_name, run_files}
-use Rattle.switch_run.specs.Switched.{Texts, firm_texts, journal_text, out_line, report_of, run_file, texts_of}
+use Rattle.switch_run.specs.Switched.{Texts, firm_texts, out_line, report_of, texts_of}
 use Rattle.switch_run.proofs.Holding.{gen_is_no_run, firm_is_no_run}
 use Rattle.switch_run.specs.declared.ending.Ending.{Ending}
 use Rattle.switch_run.specs.declared.ending.Ending.TheVariants.{Done, Usage, ReadFault, TooLong, Refused, JournalTooLong, OutOfMemory, WriteFault, Checked}

@@ -8,8 +8,6 @@ use Rattle.slot_report.specs.declared.summary.Summary.{Summary}
 use Rattle.slot_report.specs.Lines.{lines_text}
 use Rattle.slot_report.specs.Texts.{summary_lines, report_lines}
 use Rattle.journal_check.specs.declared.limits.TheConstants.{MAX_JOURNAL_BYTES}
-use Rattle.journal_check.specs.Files.{JournalFile}
-use Rattle.journal_check.specs.Texts.{file_slot, file_text}
 use Rattle.switch_words.specs.declared.job.Settings.{Settings}
 use Rattle.switch_words.specs.Reading.{JobWords, run, gen, check, firm}
 use Rattle.switch_plan.specs.declared.fault.PlanFault.{PlanFault}
@@ -20,6 +18,7 @@ use Rattle.whole_run.specs.Runs.{ports_of, run_journal}
 use Rattle.whole_run.specs.Ends.{IsLength}
 use Rattle.whole_run.specs.Crossings.{cells_to}
 use Rattle.switch_jobs.specs.Outcomes.{messages_to, summary_of}
+use Rattle.journal_run.specs.RunFiles.{journal_text}
 use Rattle.reference_run.specs.RunLines.{run_lines}
 use Rattle.firm_run.specs.FirmRuns.{IsFirmRun, HasShortWaits}
 use Rattle.switch_run.specs.Jobs.{Wanted, wanted_by, nothing_wanted, pace_in}
@@ -34,13 +33,6 @@ pub record Texts : Type 0 where
 -- the number of packets and of cells that come to output j in the first slots
 abbrev pub out_line : SwitchPlan → ℕ → ℕ → OutLine
 out_line plan slots j = record { packets = length (messages_to plan j slots); cells = length (cells_to plan j slots) }
-
--- what the journal file of a run of so many slots tells
-abbrev pub run_file : SwitchPlan → ℕ → JournalFile
-run_file plan slots = record { ports = ports_of plan; rounds = plan.rounds; slots = map file_slot (run_journal plan slots) }
-
-abbrev pub journal_text : SwitchPlan → ℕ → List ℕ
-journal_text plan slots = file_text (run_file plan slots)
 
 -- the report of a run of so many slots: the lines of the report, with one for each slot where these are wanted, and then
 -- the lines of the reference where these are wanted

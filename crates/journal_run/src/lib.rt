@@ -1,0 +1,4 @@
+//! The journal of a run: what its file tells, and a law that it is lawful.
+#![tactic(auto)]
+
+pub mod laws;
