@@ -253,8 +253,9 @@ refused_is_not_long r c t u xs ys fault size a b refused long =
 refused_or_long : (job : JobWords) (c : Contents) (table : List ℕ) (captures : List (List ℕ)) (fault : PlanFault) (size : ℕ) → AreInputs job (Some c) table captures → IsRefusal (pace_in job) table captures fault
     → IsJournalTooLong job (Some c) size → ⊥
 refused_or_long job c table captures fault size inputs refused j =
-    refused_is_not_long j.words c table j.table captures j.captures fault size (subst (λ (n : JobWords). AreInputs n (Some c) table captures) j.is_run inputs)
-    (long_in job c size j).inputs (subst (λ (n : JobWords). IsRefusal (pace_in n) table captures fault) j.is_run refused) j.longer
+    let long = long_in job c size j in
+    refused_is_not_long j.words c table long.table captures long.captures fault size (subst (λ (n : JobWords). AreInputs n (Some c) table captures) j.is_run inputs)
+    long.inputs (subst (λ (n : JobWords). IsRefusal (pace_in n) table captures fault) j.is_run refused) long.longer
 
 pub refusal_exact : (c : Command) (status : ℕ) (ending : Ending) → Answers c status ending → RefusalIsExact c status
 refusal_exact c status Done a job contents table captures fault read inputs refused =
@@ -362,8 +363,8 @@ journal_at r texts (Some bytes) within =
 -- a journal that was made was wanted
 journal_was_wanted : (r : RunWords) (table : List ℕ) (captures : List (List ℕ)) (texts : Texts) → IsSwitched r.settings (wanted_by r) table captures texts → (texts.journal ≡ None → ⊥) → r.journal ≡ true
 journal_was_wanted r table captures texts is there = elim (tells r.journal) [
-  | inl yes ↦ yes
-  | inr no ↦ absurd (there (ap (λ (t : Texts). t.journal) is.are ∙ ap (λ (b : Bool). if b then Some (journal_text is.plan is.slots) else None) no))
+  | inl wanted ↦ wanted
+  | inr unwanted ↦ absurd (there (ap (λ (t : Texts). t.journal) is.are ∙ ap (λ (b : Bool). if b then Some (journal_text is.plan is.slots) else None) unwanted))
 ]
 
 -- nothing stops at a file of a name of which no call was refused

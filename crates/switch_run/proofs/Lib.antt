@@ -3,6 +3,7 @@ pub mod InputFiles
 pub mod Putting
 pub mod Holding
 pub mod Stopping
+pub mod ToWrite
 pub mod OneOutcome
 pub mod Answering
 pub mod Cutting

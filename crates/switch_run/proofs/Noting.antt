@@ -1,18 +1,20 @@
 -- The reference of a run that notes its slots one after the other.
-use Rattle.std.proofs.Common.{◌≡◌, ◌<◌, ◌+◌, ◌++◌, ℕ, List, [], ◌∷◌, map, length, get_or, sym, ◌∙◌, ap, subst, arith}
+use Rattle.std.proofs.Common.{◌≡◌, ◌<◌, ◌+◌, ◌++◌, ℕ, List, [], ◌∷◌, map, length, get_or, ◌∙◌, ap, arith}
 use Rattle.std.specs.List.{range_with_len}
-use Rattle.std.proofs.lemmas.List.FromFn.{get_or-map-range_with_len}
-use Rattle.slot_match.specs.declared.rows.Row.{Row}
+use Rattle.std.proofs.lemmas.List.FromFn.{length-map-range_with_len, get_or-map-range_with_len}
 use Rattle.slot_histories.specs.Answers.{JournalSlot}
+use Rattle.slot_histories.proofs.Agreeing.{map_range-same}
 use Rattle.slot_board.specs.States.{JournalValue as BoardJournal}
 use Rattle.board_state.specs.Boards.{no_slot}
-use Rattle.switch_plan.specs.GoodPlans.{SwitchPlan}
-use Rattle.whole_run.specs.Runs.{run_journal, run_slot}
-use Rattle.output_queued.specs.Noting.{HasNoted, State}
+use Rattle.switch_plan.specs.GoodPlans.{SwitchPlan, IsGood}
+use Rattle.whole_run.specs.Runs.{run_slot}
+use Rattle.output_queued.specs.Lines.{line_of, lines_of}
+use Rattle.output_queued.specs.Noting.{HasNoted, State, cards_in}
 use Rattle.output_queued.specs.Steps.{SameSwitch}
 use Rattle.output_queued.specs.Switches.{Matched}
 use Rattle.reference_run.specs.Meeting.{IsReferenceOf}
 use Rattle.reference_run.specs.RunLines.{run_matches}
+use Rattle.reference_run.proofs.Told.{line-told}
 use Rattle.switch_run.specs.Making.{IsJournalOf}
 
 -- a slot of the journal is that of the run
@@ -29,3 +31,15 @@ noted_more plan old new matches matched is same noted = record {
   coming = same.coming ∙ is.coming;
   noted = noted;
 }
+
+-- the journal has as many slots as the run
+pub count_of_run : (plan : SwitchPlan) (slots : ℕ) (journal : BoardJournal) → IsJournalOf plan slots journal → length journal.slots ≡ slots
+count_of_run plan slots journal is = ap length is.slots_are ∙ length-map-range_with_len (run_slot plan) 0 slots
+
+-- the lines of the plan's reference are those of the run
+pub lines_of_run : (plan : SwitchPlan) (slots : ℕ) (reference : State) → IsGood plan → IsReferenceOf plan reference (run_matches plan slots)
+    → map (line_of (cards_in reference) (run_matches plan slots)) (range_with_len 0 reference.ports) ≡ lines_of plan.cards (run_matches plan slots)
+lines_of_run plan slots reference good is =
+    let matches = run_matches plan slots in
+    ap (λ (n : ℕ). map (line_of (cards_in reference) matches) (range_with_len 0 n)) is.ports
+    ∙ map_range-same (line_of (cards_in reference) matches) (line_of plan.cards matches) 0 (length plan.cards) (λ j below. line-told plan good reference matches is matches j)

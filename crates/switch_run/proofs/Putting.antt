@@ -2,7 +2,8 @@
 use Rattle.std.proofs.Common.{◌≡◌, ◌<◌, ◌+◌, ℕ, suc, List, [], ◌∷◌, ◌++◌, map, take, length, get_or, Option, Some, None, inl, inr, refl, sym, ◌∙◌, ap, subst, arith}
 use Rattle.std.specs.Prelude.{Result, Ok, Err, is_err, is_ok, true, false, if◌then◌else◌, option_map, string_bytes}
 use Rattle.std.proofs.lemmas.List.{get_or-map, length-map, map_push}
-use Rattle.std.proofs.lemmas.Bool.Decides.{eqb_tells, ltb_tells}
+use Rattle.std.proofs.lemmas.Bool.{cases_lt, le-ltb, lt-ltb}
+use Rattle.std.proofs.lemmas.Bool.Decides.{eqb_tells}
 use Rattle.std.proofs.lemmas.List.Sums.{fold_more}
 use Rattle.outside.specs.Contents.{Contents}
 use Rattle.outside.specs.Faults.{Place, NeverFall}
@@ -74,10 +75,10 @@ puts_of r f name bytes a d o new name_is bytes_is puts =
 -- a call on the file at a place, after so many outputs, was refused
 pub stops_at_place : (outputs : ℕ) (files : List NamedBytes) (text : List ℕ) (place : ℕ) (old told : Option Contents) (was now : Place → ℕ) → place < length files
     → StopsAt (get_or files place nameless) was now (option_map (put_files (take place files)) old) told → StopsPutting outputs files text (written_at place outputs) old was now told
-stops_at_place outputs files text place old told was now within stops = elim (ltb_tells place outputs) [
-  | inl before ↦ rw before.0 (before.1, record { within = within; stops = stops })
+stops_at_place outputs files text place old told was now within stops = elim (cases_lt place outputs) [
+  | inl before ↦ rw (lt-ltb place outputs before) (before, record { within = within; stops = stops })
   | inr after ↦ elim (eqb_tells place outputs) [
-    | inl same ↦ rw (after.0, same.0) (subst (λ (n : ℕ). StopsAtPlace files n old was now told) same.1 (record { within = within; stops = stops }))
-    | inr other ↦ let over = after.1 in let differs = other.1 in rw (after.0, other.0) (place, omega (arith, over, differs), record { within = within; stops = stops })
+    | inl same ↦ rw (le-ltb place outputs after, same.0) (subst (λ (n : ℕ). StopsAtPlace files n old was now told) same.1 (record { within = within; stops = stops }))
+    | inr other ↦ let differs = other.1 in rw (le-ltb place outputs after, other.0) (place, omega (arith, after, differs), record { within = within; stops = stops })
   ]
 ]

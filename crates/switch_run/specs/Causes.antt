@@ -6,6 +6,7 @@ use Rattle.outside.specs.WholeFiles.{IsTooLong}
 use Rattle.journal_check.specs.declared.verdict.Verdict.TheVariants as verdict
 use Rattle.journal_check.specs.declared.verdict.JournalFault.TheVariants as journal_fault
 use Rattle.journal_check.specs.declared.verdict.Reason.{Reason}
+use Rattle.journal_check.specs.Verdicts.{answer_to}
 use Rattle.check_job.specs.Checks.{HasAnswer, IsTooLong as IsTooLongToCheck}
 use Rattle.check_job.specs.declared.ending.CheckEnding.TheVariants as check_ending
 use Rattle.switch_words.specs.Reading.{JobWords, run, gen, check, firm, RunWords}
@@ -13,6 +14,8 @@ use Rattle.switch_plan.specs.declared.fault.PlanFault.{PlanFault}
 use Rattle.switch_plan.specs.Refusals.{IsRefusal}
 use Rattle.switch_plan.specs.GoodPlans.{SwitchPlan}
 use Rattle.whole_run.specs.Runs.{ports_of}
+use Rattle.switch_jobs.specs.Outcomes.{summary_of}
+use Rattle.journal_run.specs.RunFiles.{journal_text}
 use Rattle.output_queued.specs.Lines.{ideal, ran}
 use Rattle.reference_run.specs.RunLines.{run_matches}
 use Rattle.switch_run.specs.Jobs.{ReadWords, reads_of, pace_in, input_name, IsInput, RunsSwitch}
@@ -113,6 +116,10 @@ pub record IsRunBy (c : Command) (plan : SwitchPlan) (slots : ℕ) : Type 0 wher
 -- At the end of no slot has the run fed more cells to an output than the ideal switch has given out.
 abbrev pub IsNeverAhead : SwitchPlan → ℕ → Type 0
 IsNeverAhead plan slots = (j t : ℕ) → t ≤ slots → ran (run_matches plan slots) j t ≤ ideal plan.cards (run_matches plan slots) j t
+
+-- The journal of the run is lawful: its check tells the number of slots and the longest waits that the summary tells.
+abbrev pub JournalIsLawful : SwitchPlan → ℕ → Type 0
+JournalIsLawful plan slots = answer_to (journal_text plan slots) ≡ Ok (verdict.Yes slots (summary_of plan slots).longest)
 
 -- Over the whole run both serve as many cells at each output.
 abbrev pub ServesAsMany : SwitchPlan → ℕ → Type 0

@@ -2,7 +2,7 @@ ghost use Rattle.std.specs.Prelude.{◌≡◌, ℕ, Some, map, string_bytes, IfE
 ghost use Rattle.outside.specs.Faults.{NeverFall};
 ghost use Rattle.switch_words.specs.Limits.{IsWithinLimits};
 ghost use Rattle.switch_words.specs.Reading.{job_words};
-ghost use Rattle.switch_run.specs.Causes.{Answers, CheckIsExact, IsComplete, IsNeverAhead, IsRunBy, JournalTooLongIsExact, RefusalIsExact, ServesAsMany, TooLongIsExact, UsageIsExact};
+ghost use Rattle.switch_run.specs.Causes.{Answers, CheckIsExact, IsComplete, IsNeverAhead, IsRunBy, JournalIsLawful, JournalTooLongIsExact, RefusalIsExact, ServesAsMany, TooLongIsExact, UsageIsExact};
 ghost use Rattle.switch_plan.specs.GoodPlans.{SwitchPlan};
 ghost use Rattle.whole_run.specs.Promises.{BusySlotsMatch, DeliversAdmitted, DeliversNoOthers, HasFewSlots, ServesWaiting, WaitsAreShort};
 ghost use Rattle.switch_run.specs.Endings.{IsDone, Means, Stops, command_of};
@@ -13,6 +13,7 @@ use crate::error_lines::{print_line, print_memory, print_usage};
 use crate::job_texts::job_texts;
 use crate::output_files::put_texts;
 use card_worker::Gate;
+use journal_run::laws as journals;
 use outside::Files;
 use reference_run::laws as references;
 use std::alloc::Global;
@@ -113,7 +114,8 @@ fn end_of<R: Threads + Sync, F: Files, G: Gate + Sync>(
 /// of arrival; a unicast queue that is posted is served within the bound of `longest_service()` of `service_bound`,
 /// where nothing better is posted and no multicast of its level; it has no more slots than the greatest number of
 /// arrival slots, the cells of the admitted packets counted for each output, and one; and an ideal switch whose queues
-/// stand at the outputs is never behind it, and serves as many cells in all.
+/// stand at the outputs is never behind it, and serves as many cells in all. A journal that was written is one that a
+/// `check` job finds lawful, and of which it tells the slots and the longest waits that the summary tells.
 ///
 /// At 2 to 5 and at 7 every file is as before. Each status but 0 gives one line to standard error; where a call
 /// of that is refused, the rest of the line is left out, and the status stays.
@@ -140,6 +142,7 @@ pub fn switch_main<R: Threads + Sync, F: Files, G: Gate + Sync>(
     ensures busy_slots { (plan : SwitchPlan) (slots : ℕ) → IsRunBy (command_of (map string_bytes words.now) (F.told files.old) (F.told files.new) (F.faults files.old) (F.faults files.new)) plan slots → BusySlotsMatch plan }
     ensures never_ahead { (plan : SwitchPlan) (slots : ℕ) → IsRunBy (command_of (map string_bytes words.now) (F.told files.old) (F.told files.new) (F.faults files.old) (F.faults files.new)) plan slots → IsNeverAhead plan slots }
     ensures serves_as_many { (plan : SwitchPlan) (slots : ℕ) → IsRunBy (command_of (map string_bytes words.now) (F.told files.old) (F.told files.new) (F.faults files.old) (F.faults files.new)) plan slots → ServesAsMany plan slots }
+    ensures journals { (plan : SwitchPlan) (slots : ℕ) → IsRunBy (command_of (map string_bytes words.now) (F.told files.old) (F.told files.new) (F.faults files.old) (F.faults files.new)) plan slots → JournalIsLawful plan slots }
 {
     deliveries::admitted_packets_are_delivered();
     waits::waiting_queues_are_served();
@@ -148,6 +151,7 @@ pub fn switch_main<R: Threads + Sync, F: Files, G: Gate + Sync>(
     ends::busy_slots_match();
     references::reference_is_never_behind();
     references::whole_runs_serve_the_same();
+    journals::journals_of_runs_are_lawful();
     end_of(rt, alloc, words, files, gate).status()
 }
 

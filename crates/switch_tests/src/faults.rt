@@ -1,5 +1,6 @@
 use crate::captures::RAW;
 use crate::commands::{command, compare_file, compare_text, files_of, give};
+use crate::rows::NOTHING;
 use card_worker::OpenGate;
 use outside::{Call, Fail};
 use std::test;
@@ -7,7 +8,7 @@ use std::test;
 // The most bytes that a call takes: a capture without packets is written in two calls.
 const PIECE: u32 = 12;
 
-const WORDS: [&str; 5] = ["run", "t", "out", "none", "none"];
+const WORDS: [&str; 6] = ["run", "--journal", "t", "out", "none", "none"];
 
 // A call that is to fail, the line that comes of it, what each file holds then, where it is there, and what
 // standard output was given.
@@ -15,11 +16,11 @@ const WORDS: [&str; 5] = ["run", "t", "out", "none", "none"];
 struct Row<'a> {
     fail: Fail,
     line: &'a str,
-    files: [Option<&'a [u8]>; 3],
+    files: [Option<&'a [u8]>; 4],
     out: &'a str,
 }
 
-const NAMES: [&str; 3] = ["out.0.pcap", "out.1.pcap", "out.report"];
+const NAMES: [&str; 4] = ["out.0.pcap", "out.1.pcap", "out.report", "out.journal"];
 
 const FIRST_BYTES: &[u8] = b"\xd4\xc3\xb2\xa1\x02\0\x04\0\0\0\0\0";
 
@@ -28,14 +29,14 @@ const REPORT: &[u8] =
     forwarded 0\ncopies 0\ncells 0\nlongest 0 0 0 0\n\
     output 0 packets 0 cells 0\noutput 1 packets 0 cells 0\n";
 
-const ROWS: [Row<'static>; 7] = [
+const ROWS: [Row<'static>; 9] = [
     Row {
         fail: Fail {
             call: Call::Begin,
             number: 1,
         },
         line: "write fault: out.0.pcap\n",
-        files: [None, None, None],
+        files: [None, None, None, None],
         out: "",
     },
     Row {
@@ -44,7 +45,7 @@ const ROWS: [Row<'static>; 7] = [
             number: 2,
         },
         line: "write fault: out.1.pcap\n",
-        files: [Some(RAW), None, None],
+        files: [Some(RAW), None, None, None],
         out: "",
     },
     Row {
@@ -53,7 +54,7 @@ const ROWS: [Row<'static>; 7] = [
             number: 4,
         },
         line: "write fault: out.1.pcap\n",
-        files: [Some(RAW), Some(FIRST_BYTES), None],
+        files: [Some(RAW), Some(FIRST_BYTES), None, None],
         out: "",
     },
     Row {
@@ -62,7 +63,7 @@ const ROWS: [Row<'static>; 7] = [
             number: 3,
         },
         line: "write fault: out.report\n",
-        files: [Some(RAW), Some(RAW), None],
+        files: [Some(RAW), Some(RAW), None, None],
         out: "",
     },
     Row {
@@ -71,7 +72,31 @@ const ROWS: [Row<'static>; 7] = [
             number: 6,
         },
         line: "write fault: out.report\n",
-        files: [Some(RAW), Some(RAW), Some(b"ports 2\nroun")],
+        files: [Some(RAW), Some(RAW), Some(b"ports 2\nroun"), None],
+        out: "",
+    },
+    Row {
+        fail: Fail {
+            call: Call::Begin,
+            number: 4,
+        },
+        line: "write fault: out.journal\n",
+        files: [Some(RAW), Some(RAW), Some(REPORT), None],
+        out: "",
+    },
+    // The report is written in 15 calls.
+    Row {
+        fail: Fail {
+            call: Call::Write,
+            number: 21,
+        },
+        line: "write fault: out.journal\n",
+        files: [
+            Some(RAW),
+            Some(RAW),
+            Some(REPORT),
+            Some(b"TTJ1\x02\x04\0\0\0\0\0\x01"),
+        ],
         out: "",
     },
     Row {
@@ -80,7 +105,7 @@ const ROWS: [Row<'static>; 7] = [
             number: 1,
         },
         line: "write fault: standard output\n",
-        files: [Some(RAW), Some(RAW), Some(REPORT)],
+        files: [Some(RAW), Some(RAW), Some(REPORT), Some(NOTHING)],
         out: "",
     },
     Row {
@@ -89,7 +114,7 @@ const ROWS: [Row<'static>; 7] = [
             number: 2,
         },
         line: "write fault: standard output\n",
-        files: [Some(RAW), Some(RAW), Some(REPORT)],
+        files: [Some(RAW), Some(RAW), Some(REPORT), Some(NOTHING)],
         out: "ports 2\nroun",
     },
 ];

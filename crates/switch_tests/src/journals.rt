@@ -1,13 +1,10 @@
-use crate::captures::RAW;
 use crate::commands::{Given, PIECE, command, compare_file, compare_text, files_of, give};
+use crate::rows::{NOTHING, SEVEN_SLOTS};
 use card_worker::OpenGate;
 use std::alloc::Global;
 use std::process::Abort;
 use std::test::Fail;
 use std::thread::Threads;
-
-// The journal of two ports to which nothing comes.
-const NOTHING: &[u8] = b"TTJ1\x02\x04\0\0\0\0\0\x01\0\0\0\0\xff\0\xff\0";
 
 // A journal file, and the status and the line that come of its check.
 #[derive(Clone, Copy)]
@@ -17,7 +14,7 @@ struct Refusal<'a> {
     line: &'a str,
 }
 
-const REFUSALS: [Refusal<'static>; 4] = [
+const REFUSALS: [Refusal<'static>; 8] = [
     // The card of port 0 says that more is to come.
     Refusal {
         bytes: b"TTJ1\x02\x04\0\0\0\0\0\x01\0\x01\0\0\xff\0\xff\0",
@@ -41,6 +38,113 @@ const REFUSALS: [Refusal<'static>; 4] = [
         bytes: b"TTJ1\x02\x04\0\0\0\0\0\x01\0\0\0\0\xff\0\xff\0\0",
         status: 4,
         line: "journal: bad at 20\n",
+    },
+    // There is no byte.
+    Refusal {
+        bytes: b"",
+        status: 4,
+        line: "journal: bad at 0\n",
+    },
+    // The magic is another.
+    Refusal {
+        bytes: b"TTJ\0\x02\x04\0\0\0\0\0\x01\0\0\0\0\xff\0\xff\0",
+        status: 4,
+        line: "journal: bad at 0\n",
+    },
+    // There is no slot.
+    Refusal {
+        bytes: b"TTJ1\x02\x04\0\0\0\0\0\0\0\0\0\0\xff\0\xff\0",
+        status: 4,
+        line: "journal: bad at 8\n",
+    },
+    // In slot 4 the card of port 1 keeps no request.
+    Refusal {
+        bytes: b"TTJ1\x03\x01\0\0\0\0\0\x07\0\x01\x01\x01\0\0\0\0\0\0\0\x01\0\x01\x01\0\xff\0\xff\0\0\x01\
+            \x01\x01\0\0\0\0\0\0\0\x01\x01\x01\0\0\0\0\0\0\0\x01\x02\0\xff\0\xff\0\0\x01\x01\x01\0\0\
+            \0\0\0\0\0\x03\x01\x01\0\0\0\0\0\0\0\x01\xff\0\x01\0\xff\0\x01\x01\0\0\0\0\0\0\0\x01\x01\
+            \x01\0\0\0\0\0\0\0\x01\x01\x01\0\0\0\0\0\0\0\x01\0\0\xff\0\xff\0\0\0\0\x01\x01\x01\0\0\0\
+            \0\0\0\0\x01\x01\0\xff\0\xff\0\0\0\0\0\x01\x01\0\0\0\0\0\0\0\x01\x02\0\xff\0\xff\0\0\0\0\
+            \0\0\0\xff\0\xff\0\xff\0",
+        status: 7,
+        line: "no: slot 4 keeps of card 1\n",
+    },
+];
+
+// A change of the journal of seven slots: how many of its bytes stay, the byte at one of these places, and what
+// comes after; and the status and the line of its check.
+#[derive(Clone, Copy)]
+struct Change<'a> {
+    kept: usize,
+    at: usize,
+    byte: u8,
+    more: &'a [u8],
+    status: u8,
+    line: &'a str,
+}
+
+const CHANGES: [Change<'static>; 7] = [
+    // A slot comes after the end.
+    Change {
+        kept: 184,
+        at: 11,
+        byte: 8,
+        more: b"\0\0\0\0\0\0\xff\0\xff\0\xff\0",
+        status: 7,
+        line: "no: slot 7 after end\n",
+    },
+    // The last slot is missing.
+    Change {
+        kept: 172,
+        at: 11,
+        byte: 6,
+        more: b"",
+        status: 7,
+        line: "no: slot 5 no end\n",
+    },
+    // The card of port 1 has no more to come, though it asks.
+    Change {
+        kept: 184,
+        at: 15,
+        byte: 0,
+        more: b"",
+        status: 7,
+        line: "no: slot 0 more of card 1\n",
+    },
+    // Output 0 is not fed in slot 4.
+    Change {
+        kept: 184,
+        at: 146,
+        byte: 255,
+        more: b"",
+        status: 7,
+        line: "no: slot 4 output 0\n",
+    },
+    // A flag is neither 0 nor 1.
+    Change {
+        kept: 184,
+        at: 13,
+        byte: 2,
+        more: b"",
+        status: 4,
+        line: "journal: bad at 13\n",
+    },
+    // A set names port 3 of three.
+    Change {
+        kept: 184,
+        at: 23,
+        byte: 8,
+        more: b"",
+        status: 4,
+        line: "journal: bad at 16\n",
+    },
+    // There is no level 4.
+    Change {
+        kept: 184,
+        at: 27,
+        byte: 8,
+        more: b"",
+        status: 4,
+        line: "journal: bad at 27\n",
     },
 ];
 
@@ -68,30 +172,41 @@ fn check<R: Threads + Sync + Abort>(
     Ok(status)
 }
 
+// The journal of seven slots with a change.
+fn changed(alloc: Global, change: &Change<'_>) -> Result<Vec<u8>, Fail> {
+    let mut bytes = SEVEN_SLOTS.to_vec(alloc)?;
+    bytes.truncate(change.kept);
+    if let Some(byte) = bytes.get_mut(change.at) {
+        *byte = change.byte;
+    }
+    bytes.extend_from_slice(change.more)?;
+    Ok(bytes)
+}
+
 #[test]
-fn journal_is_written(rt: HostRuntime) -> Result<(), Fail> {
-    let words = ["run", "--journal", "t", "out", "a", "b"];
-    let mut given = given_file(rt.alloc(), "t", b"")?;
-    give(rt.alloc(), &mut given, "a", RAW.to_vec(rt.alloc())?)?;
-    give(rt.alloc(), &mut given, "b", RAW.to_vec(rt.alloc())?)?;
-    let mut files = files_of(&rt, rt.alloc(), given, PIECE, &[])?;
-    assert_eq!(rt; command(&rt, rt.alloc(), &words, &mut files, &OpenGate)?, 0);
-    compare_file(&rt, &files, "out.journal", Some(NOTHING), &words);
+fn lawful_journals_are_told_of(rt: HostRuntime) -> Result<(), Fail> {
+    let lines = "yes\nslots 1\nlongest 0 0 0 0\n";
+    assert_eq!(rt; check(&rt, rt.alloc(), NOTHING, lines, "")?, 0);
+    let lines = "yes\nslots 7\nlongest 3 0 0 0\n";
+    assert_eq!(rt; check(&rt, rt.alloc(), SEVEN_SLOTS, lines, "")?, 0);
     Ok(())
 }
 
 #[test]
-fn lawful_journal_is_told_of(rt: HostRuntime) -> Result<(), Fail> {
-    let lines = "yes\nslots 1\nlongest 0 0 0 0\n";
-    assert_eq!(rt; check(&rt, rt.alloc(), NOTHING, lines, "")?, 0);
+fn other_journals_are_refused(rt: HostRuntime) -> Result<(), Fail> {
+    for refusal in REFUSALS {
+        let status = check(&rt, rt.alloc(), refusal.bytes, "", refusal.line)?;
+        assert_eq!(rt; status, refusal.status, "{}", refusal.line);
+    }
     Ok(())
 }
 
 #[test]
 fn changed_journals_are_refused(rt: HostRuntime) -> Result<(), Fail> {
-    for refusal in REFUSALS {
-        let status = check(&rt, rt.alloc(), refusal.bytes, "", refusal.line)?;
-        assert_eq!(rt; status, refusal.status, "{}", refusal.line);
+    for change in CHANGES {
+        let bytes = changed(rt.alloc(), &change)?;
+        let status = check(&rt, rt.alloc(), &bytes, "", change.line)?;
+        assert_eq!(rt; status, change.status, "{}", change.line);
     }
     Ok(())
 }

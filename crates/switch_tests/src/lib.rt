@@ -4,7 +4,11 @@
 #[cfg(test)]
 mod captures;
 #[cfg(test)]
+mod coinciding_names;
+#[cfg(test)]
 mod commands;
+#[cfg(test)]
+mod failing_calls;
 #[cfg(test)]
 mod faults;
 #[cfg(test)]
@@ -16,6 +20,10 @@ mod large;
 #[cfg(test)]
 mod meeting;
 #[cfg(test)]
+mod one_packet;
+#[cfg(test)]
 mod refusals;
+#[cfg(test)]
+mod rows;
 #[cfg(test)]
 mod ways;

@@ -9,6 +9,8 @@ use std::process::Abort;
 use std::test;
 use std::thread::Threads;
 
+mod error_lines;
+
 // A command, the calls that are to fail, and the status and the line that come of them.
 #[derive(Clone, Copy)]
 struct Refusal<'a> {

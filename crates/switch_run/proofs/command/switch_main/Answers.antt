@@ -1,4 +1,5 @@
-use Rattle.std.proofs.Common.{map, string_bytes}
+use Rattle.std.proofs.Common.{ap, map, string_bytes, ◌∙◌}
+use Rattle.std.specs.Prelude.{Ok}
 use Rattle.eslip_rounds.specs.Decisions.{decision_of}
 use Rattle.eslip_rounds.proofs.Scheduling.{IsScheduler-decision_of}
 use Rattle.switch_run.specs.Endings.{command_of}
@@ -52,3 +53,8 @@ returns-clause-never_ahead g c plan slots is j t = c.reference_is_never_behind.e
 
 pub returns-clause-serves_as_many : goal.returns-clause-serves_as_many
 returns-clause-serves_as_many g c plan slots is j = c.whole_runs_serve_the_same.ensures.count plan slots j (run_good is.job _ _ plan slots is.run) (run_ends is.job _ _ plan slots is.run)
+
+pub returns-clause-journals : goal.returns-clause-journals
+returns-clause-journals g c plan slots is =
+    let law = c.journals_of_runs_are_lawful.ensures in
+    law.answer plan slots (run_good is.job _ _ plan slots is.run) (run_ends is.job _ _ plan slots is.run) ∙ ap Ok (law.numbers plan slots)

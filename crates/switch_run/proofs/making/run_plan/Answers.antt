@@ -1,5 +1,6 @@
 use Rattle.std.proofs.Common.{refl, arith}
 use Rattle.switch_plan.specs.GoodPlans.{switch_plan_of}
+use Rattle.switch_run.specs.Making.{IsJournalOf}
 use Rattle.switch_run.proofs.Cutting.{cut_outputs}
 use Rattle.switch_run.proofs.making.run_plan.Goals as goal
 
@@ -12,7 +13,7 @@ pub returns : goal.returns
 returns g c =
     let left = c.in_ok-outcome.ensures.run in
     let few = c.requires.size.most in
-    let journal = record { good = c.requires; ends = left.ends; setup = left.setup; slots_are = left.journal } in
+    let journal : IsJournalOf (switch_plan_of c.args.plan) left.slots c.in_ok-outcome.outcome.journal = record { good = c.requires; ends = left.ends; setup = left.setup; slots_are = left.journal } in
     record {
       ran = record {
         nano_is = refl;

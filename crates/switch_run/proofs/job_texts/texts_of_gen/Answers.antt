@@ -1,0 +1,24 @@
+use Rattle.std.proofs.Common.{ap, map, refl, string_bytes}
+use Rattle.switch_plan.specs.Reading.{bytes_of_files}
+use Rattle.switch_words.specs.Reading.{gen}
+use Rattle.switch_run.specs.OutputFiles.{shown}
+use Rattle.switch_run.proofs.RunTexts.{gen_made}
+use Rattle.switch_run.proofs.Stopping.{plan_stops}
+use Rattle.switch_run.proofs.job_texts.texts_of_gen.Goals as goal
+
+pub returns-in-Err-clause-stops : goal.returns-in-Err-clause-stops
+returns-in-Err-clause-stops g c told was now =
+    plan_stops (gen c.args.job.now) told told was now _ _ c.in-Err.ending refl (c.in-Ok.ensures.table, c.in-Ok.ensures.captures) c.in-Err.ensures.stops
+
+pub returns-in-Ok-summary_alone-clause-made : goal.returns-in-Ok-summary_alone-clause-made
+returns-in-Ok-summary_alone-clause-made g c told =
+    let inputs = c.in-Ok.inputs in
+    let texts = c.in-Ok-summary_alone.texts in
+    record {
+      table = inputs.table.items;
+      captures = bytes_of_files inputs.captures;
+      inputs = (c.in-Ok.ensures.table, c.in-Ok.ensures.captures);
+      few = c.in-Ok.ensures.size.ports.most;
+      made = gen_made c.args.job.now inputs.table.items (bytes_of_files inputs.captures) _ _ _ _ c.in-Ok-plan_and_run.ensures.ran texts.outputs (map shown texts.files.items) (string_bytes texts.summary)
+          (ap (map shown) c.in-Ok-summary_alone.ensures.files) c.in-Ok-summary_alone.ensures.summary;
+    }
