@@ -1,0 +1,150 @@
+use crate::{CheckEnding, check_file};
+use journal_check::Reason;
+use outside::{Call, Fail, MemFiles, names_differ};
+use std::alloc::Global;
+use std::process::Abort;
+use std::test;
+
+// The name of the file that is given.
+const FILE: &str = "journal";
+
+// The most bytes that a call takes or gives.
+const PIECE: u32 = 7;
+
+// The most bytes of a file of these tests.
+const MAX_BYTES: usize = 196;
+
+// Two ports and one slot, in which nothing is posted.
+const ONE_SLOT: [u8; 20] = [
+    0x54, 0x54, 0x4a, 0x31, 2, 4, 0, 0, 0, 0, 0, 1, 0, 0, 0, 0, 0xff, 0, 0xff, 0,
+];
+
+// Three ports and seven slots of one round, unicast alone.
+const SEVEN_SLOTS: [u8; 184] = [
+    0x54, 0x54, 0x4a, 0x31, 3, 1, 0, 0, 0, 0, 0, 7, 0, 1, 1, 1, 0, 0, 0, 0, 0, 0, 0, 1, 0, 1, 1, 0,
+    0xff, 0, 0xff, 0, 0, 1, 1, 1, 0, 0, 0, 0, 0, 0, 0, 1, 1, 1, 0, 0, 0, 0, 0, 0, 0, 1, 2, 0, 0xff,
+    0, 0xff, 0, 0, 1, 1, 1, 0, 0, 0, 0, 0, 0, 0, 3, 1, 1, 0, 0, 0, 0, 0, 0, 0, 1, 0xff, 0, 1, 0,
+    0xff, 0, 1, 1, 0, 0, 0, 0, 0, 0, 0, 1, 1, 1, 0, 0, 0, 0, 0, 0, 0, 1, 1, 1, 0, 0, 0, 0, 0, 0, 0,
+    1, 0, 0, 0xff, 0, 0xff, 0, 0, 0, 1, 1, 0, 0, 0, 0, 0, 0, 0, 1, 1, 1, 0, 0, 0, 0, 0, 0, 0, 1, 1,
+    0, 0xff, 0, 0xff, 0, 0, 0, 0, 0, 1, 1, 0, 0, 0, 0, 0, 0, 0, 1, 2, 0, 0xff, 0, 0xff, 0, 0, 0, 0,
+    0, 0, 0, 0xff, 0, 0xff, 0, 0xff, 0,
+];
+
+const YES_OF_ONE: &str = "yes\nslots 1\nlongest 0 0 0 0\n";
+
+const YES_OF_SEVEN: &str = "yes\nslots 7\nlongest 3 0 0 0\n";
+
+// The first `len` bytes of a file, of which one is changed, and the ending. All else is zeros.
+#[derive(Clone, Copy)]
+struct Case<'a> {
+    file: &'a [u8],
+    place: usize,
+    byte: u8,
+    len: usize,
+    ending: CheckEnding,
+}
+
+const fn no(slot: u32, reason: Reason) -> CheckEnding {
+    CheckEnding::No { slot, reason }
+}
+
+const fn bad(at: u32) -> CheckEnding {
+    CheckEnding::Bad { at }
+}
+
+// Files with the one that has these bytes.
+fn files_with(
+    rt: &impl Abort,
+    alloc: Global,
+    bytes: &[u8],
+    fails: &[Fail],
+) -> Result<MemFiles, test::Fail> {
+    let mut given = Vec::new(alloc);
+    given.push((String::from_str(alloc, FILE)?, bytes.to_vec(alloc)?))?;
+    assert!(rt; names_differ(given.as_slice()));
+    Ok(MemFiles::make(alloc, given, PIECE, fails.to_vec(alloc)?)?)
+}
+
+// How the check of a case's file ends, and that standard output was told this and no more.
+fn compare(rt: &impl Abort, alloc: Global, case: Case<'_>, out: &str) -> Result<(), test::Fail> {
+    let mut bytes = [0; MAX_BYTES];
+    assert!(rt; case.file.len() <= MAX_BYTES && case.place < MAX_BYTES && case.len <= MAX_BYTES);
+    bytes[..case.file.len()].copy_from_slice(case.file);
+    bytes[case.place] = case.byte;
+    let mut files = files_with(rt, alloc, &bytes[..case.len], &[])?;
+    assert_eq!(rt; check_file(alloc, FILE, &mut files), case.ending);
+    assert_eq!(rt; files.out_text(), out.as_bytes());
+    Ok(())
+}
+
+#[test]
+fn lawful_files_are_told(rt: HostRuntime) -> Result<(), test::Fail> {
+    let ending = CheckEnding::Yes;
+    let one = Case {
+        file: &ONE_SLOT,
+        place: 0,
+        byte: 0x54,
+        len: 20,
+        ending,
+    };
+    compare(&rt, rt.alloc(), one, YES_OF_ONE)?;
+    let seven = Case {
+        file: &SEVEN_SLOTS,
+        len: 184,
+        ..one
+    };
+    compare(&rt, rt.alloc(), seven, YES_OF_SEVEN)
+}
+
+#[test]
+fn other_files_are_not_told(rt: HostRuntime) -> Result<(), test::Fail> {
+    let case = |file, place, byte, len, ending| Case {
+        file,
+        place,
+        byte,
+        len,
+        ending,
+    };
+    let (one, seven) = (&ONE_SLOT, &SEVEN_SLOTS);
+    let cases = [
+        case(one, 3, 0, 20, bad(0)),
+        case(one, 11, 0, 20, bad(8)),
+        case(one, 0, 0x54, 0, bad(0)),
+        case(one, 0, 0x54, 19, bad(19)),
+        case(one, 0, 0x54, 21, bad(20)),
+        case(one, 13, 1, 20, no(0, Reason::NoEnd)),
+        case(one, 16, 0, 20, no(0, Reason::Output { output: 0 })),
+        case(seven, 13, 2, 184, bad(13)),
+        case(seven, 23, 8, 184, bad(16)),
+        case(seven, 27, 8, 184, bad(27)),
+        case(seven, 15, 0, 184, no(0, Reason::More { card: 1 })),
+        case(seven, 146, 0xff, 184, no(4, Reason::Output { output: 0 })),
+        case(seven, 11, 6, 172, no(5, Reason::NoEnd)),
+        case(seven, 11, 8, 196, no(7, Reason::AfterEnd)),
+    ];
+    for case in cases {
+        compare(&rt, rt.alloc(), case, "")?;
+    }
+    Ok(())
+}
+
+#[test]
+fn refused_calls_end_it(rt: HostRuntime) -> Result<(), test::Fail> {
+    let mut files = files_with(&rt, rt.alloc(), &ONE_SLOT, &[])?;
+    assert_eq!(rt;
+        check_file(rt.alloc(), "another", &mut files),
+        CheckEnding::ReadFault
+    );
+    assert_eq!(rt; files.out_text(), b"".as_slice());
+    let fails = [Fail {
+        call: Call::Out,
+        number: 2,
+    }];
+    let mut files = files_with(&rt, rt.alloc(), &ONE_SLOT, &fails)?;
+    assert_eq!(rt;
+        check_file(rt.alloc(), FILE, &mut files),
+        CheckEnding::OutFault
+    );
+    assert_eq!(rt; files.out_text(), b"yes\nslo".as_slice());
+    Ok(())
+}

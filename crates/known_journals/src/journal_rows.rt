@@ -1,0 +1,79 @@
+//! Rows of journal files: a line in hexadecimal is the bytes of a file, `-` for none, and each row
+//! `> ANSWER` states the answer to the file before it.
+ghost use Rattle.std.specs.Prelude.{◌≡◌, ◌++◌, ℕ, List, IsSomeAnd, codes, string_bytes};
+
+use journal_check::{JournalFault, MAX_JOURNAL_BYTES, Reason, Verdict, check_journal};
+use rotating_pick::LEVEL_COUNT;
+use std::alloc::{AllocError, Global};
+use vector_rows::{NoAnswer, Row, RowReader, set_up_row};
+
+/// The journal file that is asked about.
+#[derive(Drop)]
+pub struct Block {
+    bytes: Vec<u8>,
+}
+
+impl RowReader for Block {
+    // A line `> ANSWER` is a row that states ANSWER.
+    ghost reads = { λ _ line given _. (stated : List ℕ) → line ≡ codes "> " ++ stated → IsSomeAnd given (λ row. string_bytes row.stated ≡ stated) };
+
+    fn at(alloc: Global, _name: &str) -> Block {
+        Block {
+            bytes: Vec::new(alloc),
+        }
+    }
+
+    fn row(&mut self, alloc: Global, line: &str) -> Result<Option<Row>, AllocError> {
+        if let Some(stated) = line.strip_prefix("> ") {
+            let answer = answer(alloc, self.bytes.as_slice());
+            return Ok(Some(Row::new(alloc, stated, answer)?));
+        }
+        let set_up = self.set_bytes(alloc, line);
+        set_up_row(alloc, line, set_up)
+    }
+}
+
+impl Block {
+    fn set_bytes(&mut self, alloc: Global, line: &str) -> Result<(), NoAnswer> {
+        if line == "-" {
+            self.bytes = Vec::new(alloc);
+            return Ok(());
+        }
+        match hex::decode(alloc, line) {
+            Ok(bytes) => {
+                self.bytes = bytes;
+                Ok(())
+            }
+            Err(_) => Err(NoAnswer),
+        }
+    }
+}
+
+// The answer to a file.
+fn answer(alloc: Global, bytes: &[u8]) -> Result<String, NoAnswer> {
+    if bytes.len() > MAX_JOURNAL_BYTES {
+        return Err(NoAnswer);
+    }
+    let text = match check_journal(alloc, bytes) {
+        Ok(Verdict::Yes { slots, longest }) => yes_text(alloc, slots, longest),
+        Ok(Verdict::No { slot, reason }) => no_text(alloc, slot, reason),
+        Err(JournalFault::Bad { at }) => format!(in alloc; "bad at {at}"),
+        Err(JournalFault::OutOfMemory) => return Err(NoAnswer),
+    };
+    Ok(text?)
+}
+
+fn yes_text(alloc: Global, slots: u32, longest: [u32; LEVEL_COUNT]) -> Result<String, AllocError> {
+    let [a, b, c, d] = longest;
+    format!(in alloc; "yes, {slots} slots, longest {a} {b} {c} {d}")
+}
+
+fn no_text(alloc: Global, slot: u32, reason: Reason) -> Result<String, AllocError> {
+    match reason {
+        Reason::AfterEnd => format!(in alloc; "no: slot {slot} after end"),
+        Reason::More { card } => format!(in alloc; "no: slot {slot} more of card {card}"),
+        Reason::Keeps { card } => format!(in alloc; "no: slot {slot} keeps of card {card}"),
+        Reason::Output { output } => format!(in alloc; "no: slot {slot} output {output}"),
+        Reason::NoEnd => format!(in alloc; "no: slot {slot} no end"),
+    }
+}
