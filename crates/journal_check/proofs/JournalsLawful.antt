@@ -1,36 +1,34 @@
 -- The journal of a board on which every card has taken the last slot is a lawful file.
-use Rattle.std.proofs.Common.{◌≡◌, ℕ, zero, suc, ◌+◌, ◌-◌, ◌^◌, ◌<◌, ◌≤◌, ◌⊎◌, ◌&&◌, ◌||◌, ◌∙◌, not, Bool, true, false, nat_lt, All, List, [], ◌∷◌, length, map, replicate, Option, None, Some, refl, sym, ap, subst, arith, inl, inr, get_or, slice_index_or, slice_index, add-one, lt-ltb, ltb-true}
+use Rattle.std.proofs.Common.{◌≡◌, ℕ, zero, suc, ◌+◌, ◌^◌, ◌<◌, ◌≤◌, ◌&&◌, ◌||◌, ◌∙◌, not, Bool, true, false, nat_lt, All, List, [], ◌∷◌, length, map, Option, None, Some, refl, sym, ap, subst, arith, inl, inr, get_or, slice_index_or, slice_index, add-one, ltb-true}
 use Rattle.std.specs.List.{list_any, list_all, range_with_len}
-use Rattle.std.proofs.lemmas.Bool.{cases_Bool, cases_lt, cond-true, cond-false, or_parts}
+use Rattle.std.proofs.lemmas.Bool.{cases_Bool, cond-true, cond-false, or_parts}
 use Rattle.std.proofs.lemmas.List.{get_or-map, get_or-replicate, length-map, get_or_default}
-use Rattle.std.proofs.lemmas.List.FromFn.{get_or-map-range_with_len, length-map-range_with_len, length-range_with_len, get_or-range_with_len}
+use Rattle.std.proofs.lemmas.List.FromFn.{get_or-map-range_with_len, length-map-range_with_len}
 use Rattle.std.proofs.lemmas.Simd.{map-map}
-use Rattle.rotating_pick.specs.declared.limits.TheConstants.{MAX_PORTS, LEVELS}
-use Rattle.rotating_pick.specs.declared.kinds.Kind.{Kind}
+use Rattle.rotating_pick.specs.declared.limits.TheConstants.{MAX_PORTS}
 use Rattle.rotating_pick.specs.declared.kinds.Kind.TheVariants.{Uni, Multi}
 use Rattle.rotating_pick.proofs.Bits.{IsAmong-from_members}
 use Rattle.rotating_pick.proofs.Tables.{get_or-same}
 use Rattle.slot_match.specs.declared.rows.Row.{Row}
 use Rattle.slot_match.specs.declared.matching.Fed.{Fed}
 use Rattle.slot_match.specs.declared.matching.Served.{Served}
-use Rattle.slot_match.specs.Rows.{row_of, no_row, empty_row, IsEmptyRow, IsWithin, AreWithin}
+use Rattle.slot_match.specs.Rows.{row_of, no_row, empty_row, IsEmptyRow}
 use Rattle.slot_match.specs.Matches.{unmatched, fed_of, IsMatch}
 use Rattle.slot_match.specs.Keeping.{KeepsRest, Gives}
 use Rattle.slot_match.specs.Parts.{served_of}
 use Rattle.slot_match.proofs.ServedParts.{served_of-free}
-use Rattle.pointer_state.specs.Places.{Places, places_at_first}
 use Rattle.eslip_rounds.specs.Decisions.{decision_of}
 use Rattle.crossbar.specs.declared.cards.Post.{Post as CardPost}
 use Rattle.slot_histories.specs.declared.events.Event.{Event}
-use Rattle.slot_histories.specs.Events.{Setup, posts_of, takes_of, decides, posted, no_post}
-use Rattle.slot_histories.specs.Slots.{slot_posts, slot_rows, places_at, decision_at, served_at, is_done_at, is_done_before, row_before, served_before}
+use Rattle.slot_histories.specs.Events.{Setup, takes_of, decides, posted, no_post}
+use Rattle.slot_histories.specs.Slots.{slot_posts, slot_rows, places_at, decision_at, is_done_at, is_done_before, row_before, served_before}
 use Rattle.slot_histories.specs.Legal.{IsLegal}
-use Rattle.slot_histories.specs.Answers.{JournalSlot, journal_slot, journal_of}
+use Rattle.slot_histories.specs.Answers.{journal_slot, journal_of}
 use Rattle.slot_histories.proofs.LegalLists.{AreInStep-legal, AreAccepted-legal, done_is_last}
-use Rattle.slot_histories.proofs.PostedRows.{length-slot_posts, row_of-slot_rows, rows_within}
+use Rattle.slot_histories.proofs.PostedRows.{length-slot_posts, row_of-slot_rows}
 use Rattle.board_state.specs.Boards.{IsSetup, IsFinished, board_journal}
 use Rattle.journal_check.specs.declared.posts.FilePost.{FilePost}
-use Rattle.journal_check.specs.Files.{FileSlot, JournalFile, rows_of, mores_of}
+use Rattle.journal_check.specs.Files.{FileSlot, rows_of, mores_of}
 use Rattle.journal_check.specs.Texts.{file_post, file_slot, file_of, HasLevels, HaveLevels, IsFileRow, IsFileOutput, IsFileSlot, IsFile}
 use Rattle.journal_check.specs.Fields.{most_slots}
 use Rattle.board_state.specs.Boards.{no_slot}

@@ -1,18 +1,16 @@
 -- A file has no failure exactly where it is lawful.
-use Rattle.std.proofs.Common.{◌≡◌, ◌↔◌, ℕ, zero, suc, ◌+◌, ◌-◌, ◌<◌, ◌≤◌, ◌⊎◌, ◌==◌, ◌&&◌, ◌∙◌, not, Bool, true, false, List, [], ◌∷◌, length, map, Option, None, Some, All, refl, sym, ap, subst, inl, inr, arith, get_or, slice_index_or, if◌then◌else◌}
+use Rattle.std.proofs.Common.{◌≡◌, ◌↔◌, ℕ, zero, suc, ◌+◌, ◌-◌, ◌<◌, ◌≤◌, ◌⊎◌, ◌==◌, ◌&&◌, ◌∙◌, not, Bool, true, false, List, [], ◌∷◌, length, Option, None, Some, All, refl, sym, ap, inl, inr, arith, slice_index_or, if◌then◌else◌}
 use Rattle.std.specs.Bool.{Decides}
 use Rattle.std.specs.List.{find, range_with_len}
 use Rattle.std.specs.Option.{option_map, option_or}
 use Rattle.std.proofs.lemmas.Bool.{cases_Bool, cases_eq, cond-true, cond-false, and_from, and_parts}
 use Rattle.std.proofs.lemmas.Bool.Decides.{Decides-eqb}
-use Rattle.rotating_pick.specs.PortSets.{Has}
 use Rattle.slot_match.specs.declared.rows.Row.{Row}
 use Rattle.slot_match.specs.declared.matching.Fed.{Fed}
-use Rattle.slot_match.specs.Rows.{row_of, empty_row, IsEmptyRow, IsWithin, IsOfLevels}
+use Rattle.slot_match.specs.Rows.{row_of, IsEmptyRow}
 use Rattle.slot_match.specs.Matches.{fed_of}
-use Rattle.slot_match.specs.Keeping.{KeepsRest, Gives}
 use Rattle.slot_match.specs.Parts.{served_of}
-use Rattle.eslip_rounds.specs.Decisions.{is_kind, decision_of}
+use Rattle.eslip_rounds.specs.Decisions.{is_kind}
 use Rattle.eslip_rounds.proofs.Testing.{Decides-kind}
 use Rattle.slot_histories.specs.Tests.{is_empty, keeps_rest}
 use Rattle.slot_histories.proofs.SetTests.{Decides-is_empty}
@@ -21,7 +19,7 @@ use Rattle.journal_check.specs.declared.verdict.Reason.{Reason}
 use Rattle.journal_check.specs.declared.verdict.Reason.TheVariants.{AfterEnd, More, Keeps, Output, NoEnd}
 use Rattle.journal_check.specs.declared.verdict.Failure.{Failure}
 use Rattle.journal_check.specs.Files.{FileSlot, JournalFile, rows_of, mores_of}
-use Rattle.journal_check.specs.Lawful.{Before, at_first, decided_in, after_slot, first_of, lacks_more, breaks, is_alike, differs, first_reason, post_failure, output_failure, failure_in, failure_or, failure_from, MayFollow, MayFollowAll, first_failure, IsLawful}
+use Rattle.journal_check.specs.Lawful.{Before, at_first, decided_in, after_slot, first_of, lacks_more, breaks, is_alike, differs, post_failure, output_failure, failure_in, failure_or, failure_from, MayFollow, MayFollowAll, first_failure, IsLawful}
 use Rattle.journal_check.proofs.Goods.{AreRows, IsGood, sound_slot, good_after, good_at_first}
 use Rattle.journal_check.specs.Texts.{IsFileSlot, IsFile}
 

@@ -1,4 +1,4 @@
-use Rattle.std.proofs.Common.{◌≡◌, ◌∙◌, Option, Ok, Result, ap}
+use Rattle.std.proofs.Common.{◌∙◌, Option, Ok, Result, ap}
 use Rattle.board_state.specs.Boards.{board_journal}
 use Rattle.journal_check.specs.declared.verdict.Failure.{Failure}
 use Rattle.journal_check.specs.declared.verdict.JournalFault.{JournalFault}
