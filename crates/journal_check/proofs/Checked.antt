@@ -1,5 +1,5 @@
 -- All slots of a file, read and judged one after another, and the answer to the file.
-use Rattle.std.proofs.Common.{◌≡◌, ℕ, zero, suc, ◌+◌, ◌-◌, ◌<◌, ◌≤◌, ◌∙◌, List, [], ◌∷◌, ◌++◌, length, drop, Option, None, Some, Result, Ok, Err, refl, sym, ap, subst, arith}
+use Rattle.std.proofs.Common.{◌≡◌, ℕ, ◌+◌, ◌<◌, ◌≤◌, ◌∙◌, List, [], ◌∷◌, ◌++◌, length, drop, Result, Ok, Err, refl, sym, ap, subst, arith}
 use Rattle.std.specs.List.{range_with_len}
 use Rattle.std.proofs.lemmas.List.{length_push, length-drop}
 use Rattle.journal_check.specs.declared.header.Header.{Header}
@@ -8,7 +8,7 @@ use Rattle.journal_check.specs.declared.judging.Judge.{Judge}
 use Rattle.journal_check.specs.declared.verdict.Verdict.{Verdict}
 use Rattle.journal_check.specs.declared.verdict.JournalFault.{JournalFault}
 use Rattle.journal_check.specs.declared.verdict.JournalFault.TheVariants.{Bad}
-use Rattle.journal_check.specs.Fields.{Reading, read_on, each_in}
+use Rattle.journal_check.specs.Fields.{Reading, each_in}
 use Rattle.journal_check.specs.Files.{FileSlot, JournalFile, slot_in, header_in, end_in, file_in, place_in, told_by, journal_in}
 use Rattle.journal_check.specs.Verdicts.{verdict_on, answer_by, answer_to}
 use Rattle.journal_check.specs.Steps.{IsRead, IsBadAt, IsSlotRead, IsFor, IsJudged}

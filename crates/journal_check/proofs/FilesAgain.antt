@@ -1,18 +1,17 @@
 -- What is spelled of outputs, slots and whole files is read again.
-use Rattle.std.proofs.Common.{◌≡◌, ℕ, zero, suc, ◌+◌, ◌-◌, ◌*◌, ◌/◌, ◌%◌, ◌^◌, ◌<◌, ◌≤◌, ◌==◌, ◌||◌, ◌∙◌, Bool, true, false, nat_le, nat_lt, All, List, [], ◌∷◌, ◌++◌, length, drop, get_or, map, Option, None, Some, Ok, Err, refl, sym, ap, subst, arith, inl, inr, append_assoc, le-leb, lt-ltb, if◌then◌else◌}
+use Rattle.std.proofs.Common.{◌≡◌, ℕ, ◌+◌, ◌*◌, ◌/◌, ◌%◌, ◌<◌, ◌≤◌, ◌==◌, ◌||◌, ◌∙◌, Bool, true, false, nat_le, nat_lt, List, [], ◌∷◌, ◌++◌, length, Option, None, Some, Ok, refl, sym, ap, arith, inl, inr, append_assoc, le-leb, lt-ltb, if◌then◌else◌}
 use Rattle.std.specs.List.{flat_map, range_with_len}
 use Rattle.std.proofs.lemmas.Bool.{cond-true, cond-false, and_from, cases_Bool, eq-eqb}
 use Rattle.std.proofs.lemmas.Bool.Decides.{Decides-eqb}
 use Rattle.std.proofs.lemmas.List.{append-nil}
-use Rattle.byteorder.specs.Endian.{big_number, big_bytes}
+use Rattle.byteorder.specs.Endian.{big_bytes}
 use Rattle.rotating_pick.specs.declared.kinds.Kind.{Kind}
 use Rattle.rotating_pick.specs.declared.kinds.Kind.TheVariants.{Uni, Multi}
 use Rattle.slot_match.specs.declared.matching.Fed.{Fed}
 use Rattle.journal_check.specs.declared.fields.Field.TheVariants.{Magic, Ports, Rounds, Zeros, Slots, Input, Rank}
-use Rattle.journal_check.specs.declared.header.Header.{Header}
 use Rattle.journal_check.specs.declared.posts.FilePost.{FilePost}
-use Rattle.journal_check.specs.Fields.{allows, is_from, most_slots, no_input, Reading, number_in, read_on, each_in}
-use Rattle.journal_check.specs.Files.{FileSlot, JournalFile, post_in, fed_by, output_in, slot_in, header_in, end_in, file_in, told_by, journal_in}
+use Rattle.journal_check.specs.Fields.{allows, is_from, most_slots, no_input, Reading, each_in}
+use Rattle.journal_check.specs.Files.{FileSlot, JournalFile, post_in, fed_by, output_in, slot_in, header_in, file_in, told_by, journal_in}
 use Rattle.journal_check.specs.Texts.{post_text, rank_of, output_text, slot_text, header_text, file_text, IsFileRow, IsFileOutput, IsFileSlot, IsFile}
 use Rattle.journal_check.proofs.Spelled.{number_again, each_again}
 use Rattle.journal_check.proofs.RowsAgain.{byte_again, post_again}

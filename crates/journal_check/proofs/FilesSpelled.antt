@@ -1,5 +1,5 @@
 -- What is read of a file is spelled by its bytes: no other bytes are read as the same file.
-use Rattle.std.proofs.Common.{◌≡◌, ℕ, zero, suc, ◌+◌, ◌-◌, ◌*◌, ◌/◌, ◌%◌, ◌^◌, ◌<◌, ◌≤◌, ◌==◌, ◌||◌, ◌∙◌, not, Bool, true, false, nat_lt, ltb-true, List, [], ◌∷◌, ◌++◌, length, slice_index, Option, None, Some, Result, Ok, Err, refl, sym, ap, subst, inl, inr, arith, if◌then◌else◌, add-zero}
+use Rattle.std.proofs.Common.{◌≡◌, ℕ, zero, suc, ◌+◌, ◌-◌, ◌*◌, ◌/◌, ◌%◌, ◌^◌, ◌<◌, ◌≤◌, ◌==◌, ◌||◌, ◌∙◌, not, Bool, true, false, nat_lt, ltb-true, List, [], ◌∷◌, ◌++◌, length, slice_index, Option, None, Some, Ok, Err, refl, sym, ap, subst, inl, inr, arith, if◌then◌else◌, add-zero}
 use Rattle.std.specs.List.{flat_map, range_with_len}
 use Rattle.std.specs.Int.{bit_at}
 use Rattle.std.proofs.lemmas.Bool.{cases_Bool, cases_lt, cond-true, cond-false}
@@ -7,13 +7,11 @@ use Rattle.std.proofs.lemmas.Bool.Decides.{Decides-eqb}
 use Rattle.std.proofs.lemmas.Grind.{flat_map-append}
 use Rattle.std.proofs.lemmas.List.{append-nil, get_or_append_left, get_or-append_right}
 use Rattle.byteorder.specs.Endian.{big_bytes}
-use Rattle.rotating_pick.specs.PortSets.{Has}
 use Rattle.rotating_pick.specs.declared.kinds.Kind.TheVariants.{Uni, Multi}
 use Rattle.rotating_pick.proofs.Bits.{Has-lt}
 use Rattle.slot_match.specs.declared.rows.Row.{Row}
 use Rattle.slot_match.specs.declared.matching.Fed.{Fed}
 use Rattle.slot_match.proofs.Sets.{Has-same, Has-set_of}
-use Rattle.journal_check.specs.declared.fields.Field.{Field}
 use Rattle.journal_check.specs.declared.fields.Field.TheVariants.{Magic, Ports, Rounds, Zeros, Slots, Sets, More, Set, Input, Rank}
 use Rattle.journal_check.specs.declared.header.Header.{Header}
 use Rattle.journal_check.specs.declared.posts.FilePost.{FilePost}

@@ -1,8 +1,7 @@
 -- The least number with a test, found by going up.
-use Rattle.std.proofs.Common.{◌≡◌, ℕ, suc, ◌+◌, ◌-◌, ◌<◌, ◌≤◌, ◌∙◌, Bool, true, false, Option, None, Some, refl, sym, ap, arith}
+use Rattle.std.proofs.Common.{◌≡◌, ℕ, suc, ◌+◌, ◌-◌, ◌<◌, ◌∙◌, Bool, true, false, Option, None, Some, ap, arith}
 use Rattle.std.specs.List.{find, range_with_len}
 use Rattle.std.proofs.lemmas.Bool.{cond-true, cond-false}
-use Rattle.journal_check.specs.Lawful.{first_of}
 
 -- the least of the numbers from i below n with the test
 abbrev pub first_from : ℕ → ℕ → (ℕ → Bool) → Option ℕ

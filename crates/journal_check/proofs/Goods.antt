@@ -1,17 +1,15 @@
 -- Slots of files whose rows name none but the ports, and what they leave.
-use Rattle.std.proofs.Common.{◌≡◌, ℕ, zero, suc, ◌+◌, ◌^◌, ◌<◌, ◌≤◌, ◌∙◌, List, [], ◌∷◌, length, map, replicate, All, refl, sym, ap, subst, inl, inr, false, arith, get_or, slice_index, slice_index_or}
+use Rattle.std.proofs.Common.{◌≡◌, ℕ, ◌^◌, ◌<◌, ◌≤◌, ◌∙◌, List, length, map, All, refl, sym, subst, inl, inr, false, arith, get_or, slice_index}
 use Rattle.std.proofs.lemmas.Bool.{cases_lt}
 use Rattle.std.proofs.lemmas.List.{get_or-map, get_or-replicate, get_or_past, length-map}
 use Rattle.rotating_pick.specs.PortSets.{Has}
-use Rattle.rotating_pick.specs.declared.kinds.Kind.{Kind}
 use Rattle.rotating_pick.specs.declared.kinds.Kind.TheVariants.{Uni, Multi}
-use Rattle.rotating_pick.specs.declared.limits.TheConstants.{LEVELS}
 use Rattle.rotating_pick.proofs.Bits.{Has-lt, no_member-zero}
 use Rattle.slot_match.specs.declared.rows.Row.{Row}
-use Rattle.slot_match.specs.Rows.{sets_of, row_of, no_row, empty_row, IsEmptyRow, IsWithin, IsOfLevels, AreWithin}
-use Rattle.slot_match.specs.Matches.{unmatched, IsMatch}
+use Rattle.slot_match.specs.Rows.{row_of, no_row, empty_row, IsWithin, IsOfLevels, AreWithin}
+use Rattle.slot_match.specs.Matches.{IsMatch}
 use Rattle.slot_match.proofs.Kept.{IsMatch-unmatched}
-use Rattle.pointer_state.specs.Places.{Places, AreAtPorts, places_at_first}
+use Rattle.pointer_state.specs.Places.{AreAtPorts, places_at_first}
 use Rattle.pointer_state.proofs.Moves.{AreAtPorts-at_first}
 use Rattle.eslip_rounds.specs.Decisions.{decision_of}
 use Rattle.slot_histories.proofs.EventTests.{IsEmptyRow-empty}

@@ -1,7 +1,5 @@
 -- One slot more is judged.
-use Rattle.std.proofs.Common.{◌≡◌, ℕ, suc, ◌+◌, ◌<◌, ◌≤◌, ◌∙◌, List, [], ◌∷◌, ◌++◌, length, take, map, replicate, Bool, true, Option, None, Some, Ok, Err, refl, sym, ap, subst, arith, append_assoc, inl, inr}
-use Rattle.std.specs.List.{range_with_len}
-use Rattle.std.specs.Option.{option_or}
+use Rattle.std.proofs.Common.{◌≡◌, ℕ, ◌+◌, ◌≤◌, ◌∙◌, List, [], ◌∷◌, ◌++◌, length, take, map, replicate, Bool, true, Option, None, Some, refl, sym, ap, subst, append_assoc}
 use Rattle.std.proofs.lemmas.List.{map-append, append-nil, length_push, take-replicate, get_or-replicate, length-replicate}
 use Rattle.slot_match.specs.Rows.{empty_row, no_row, IsWithin, IsOfLevels, AreWithin}
 use Rattle.slot_match.specs.Matches.{unmatched}
@@ -10,7 +8,7 @@ use Rattle.slot_histories.proofs.EventTests.{IsEmptyRow-empty}
 use Rattle.slot_match.specs.declared.matching.Fed.{Fed}
 use Rattle.slot_match.specs.declared.rows.Row.{Row}
 use Rattle.service_bound.specs.Waits.{NotedSlot, longest_wait}
-use Rattle.service_bound.specs.Meters.{Meter, HasNoted}
+use Rattle.service_bound.specs.Meters.{HasNoted}
 use Rattle.journal_check.specs.declared.slots.SlotRead.{SlotRead}
 use Rattle.journal_check.specs.declared.verdict.Failure.{Failure}
 use Rattle.journal_check.specs.declared.verdict.Reason.{Reason}

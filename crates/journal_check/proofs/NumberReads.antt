@@ -1,5 +1,5 @@
 -- A number that stands at a place: whether it is read there.
-use Rattle.std.proofs.Common.{◌≡◌, ℕ, ◌+◌, ◌-◌, ◌<◌, ◌≤◌, ◌&&◌, ◌∙◌, ◌⊎◌, inl, inr, Bool, true, false, nat_le, nat_lt, ltb-true, ◌==◌, ◌||◌, List, length, take, drop, Ok, Err, refl, sym, ap, arith, leb-true, le-leb, cond}
+use Rattle.std.proofs.Common.{◌≡◌, ℕ, ◌+◌, ◌-◌, ◌<◌, ◌≤◌, ◌&&◌, ◌∙◌, ◌⊎◌, inl, inr, Bool, true, false, nat_le, nat_lt, ltb-true, ◌==◌, ◌||◌, List, length, take, drop, Ok, Err, refl, sym, ap, arith, leb-true, le-leb}
 use Rattle.std.proofs.lemmas.Bool.{cond-true, cond-false, and_from, cases_Bool, and_parts}
 use Rattle.std.proofs.lemmas.Bool.Decides.{Decides-eqb}
 use Rattle.std.proofs.lemmas.List.{drop-drop, length-drop, take_rest}

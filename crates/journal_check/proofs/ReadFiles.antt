@@ -1,5 +1,5 @@
 -- What is read of a file is what a file can tell.
-use Rattle.std.proofs.Common.{◌≡◌, ℕ, zero, suc, ◌+◌, ◌-◌, ◌/◌, ◌%◌, ◌^◌, ◌<◌, ◌≤◌, ◌==◌, ◌∙◌, Bool, true, false, nat_lt, nat_le, ltb-true, ◌||◌, All, List, [], ◌∷◌, length, drop, get_or, map, Option, None, Some, Ok, Err, Result, refl, sym, ap, subst, arith, inl, inr, if◌then◌else◌}
+use Rattle.std.proofs.Common.{◌≡◌, ℕ, suc, ◌-◌, ◌/◌, ◌%◌, ◌^◌, ◌<◌, ◌≤◌, ◌==◌, ◌∙◌, Bool, true, false, nat_lt, nat_le, ltb-true, ◌||◌, All, List, [], ◌∷◌, length, drop, Option, None, Some, Ok, Err, refl, sym, ap, subst, arith, inl, inr, if◌then◌else◌}
 use Rattle.std.specs.List.{range_with_len}
 use Rattle.std.specs.Int.{bit_at}
 use Rattle.std.proofs.lemmas.Bool.{cases_Bool, cond-true, cond-false, and_parts}
@@ -18,7 +18,7 @@ use Rattle.journal_check.specs.Fields.{len_of, allows, most_slots, is_from, no_i
 use Rattle.journal_check.specs.Files.{FileSlot, set_in, row_in, post_in, fed_by, output_in, slot_in, JournalFile, header_in, end_in, file_in, told_by, journal_in}
 use Rattle.journal_check.specs.Texts.{IsFileRow, IsFileOutput, IsFileSlot, IsFile}
 use Rattle.journal_check.specs.Steps.{IsRead}
-use Rattle.journal_check.proofs.NumberReads.{good, not_good, is_good, good_in, from_bounds}
+use Rattle.journal_check.proofs.NumberReads.{good, not_good, is_good, from_bounds}
 
 -- P holds of what the reading gives, if it gives something
 abbrev pub Gives : {X : Type 0} → (X → Type 0) → Reading X → Type 0

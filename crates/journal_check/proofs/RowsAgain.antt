@@ -1,26 +1,23 @@
 -- What is spelled of a row, a post, an output and a slot is read again.
-use Rattle.std.proofs.Common.{◌≡◌, ℕ, zero, suc, ◌+◌, ◌-◌, ◌*◌, ◌/◌, ◌%◌, ◌^◌, ◌<◌, ◌≤◌, ◌==◌, ◌&&◌, ◌||◌, ◌∙◌, not, Bool, true, false, nat_le, nat_lt, All, List, [], ◌∷◌, ◌++◌, length, drop, get_or, slice_index, map, Option, None, Some, Ok, Err, refl, sym, ap, subst, arith, inl, inr, append_assoc, le-leb, lt-ltb}
+use Rattle.std.proofs.Common.{◌≡◌, ℕ, ◌-◌, ◌^◌, ◌<◌, ◌≤◌, ◌==◌, ◌∙◌, not, Bool, true, false, nat_le, List, [], ◌∷◌, ◌++◌, length, get_or, slice_index, Ok, refl, sym, ap, subst, arith, inl, inr, append_assoc, le-leb}
 use Rattle.std.specs.Bool.{Decides, one_answer}
-use Rattle.std.specs.List.{flat_map, range_with_len}
+use Rattle.std.specs.List.{flat_map}
 use Rattle.std.specs.Int.{bit_at}
 use Rattle.std.proofs.lemmas.Bool.{cond-true, cond-false, and_from, cases_eq, cases_Bool, eq-eqb}
 use Rattle.std.proofs.lemmas.Bool.Decides.{Decides-eqb}
 use Rattle.std.proofs.lemmas.Grind.{flat_map-append}
 use Rattle.std.proofs.Math.Nat.{pow-le-pow_right}
-use Rattle.byteorder.specs.Endian.{big_number, big_bytes}
-use Rattle.rotating_pick.specs.declared.kinds.Kind.{Kind}
-use Rattle.rotating_pick.specs.declared.kinds.Kind.TheVariants.{Uni, Multi}
+use Rattle.byteorder.specs.Endian.{big_bytes}
 use Rattle.slot_match.specs.declared.rows.Row.{Row}
-use Rattle.slot_match.specs.declared.matching.Fed.{Fed}
 use Rattle.slot_match.specs.Parts.{set_of}
 use Rattle.slot_match.proofs.Sets.{Has-set_of, set_of-lt}
 use Rattle.journal_check.specs.declared.fields.Field.{Field}
-use Rattle.journal_check.specs.declared.fields.Field.TheVariants.{Magic, Ports, Rounds, Zeros, Slots, Sets, More, Set, Input, Rank}
+use Rattle.journal_check.specs.declared.fields.Field.TheVariants.{Sets, More, Set}
 use Rattle.journal_check.specs.declared.posts.FilePost.{FilePost}
-use Rattle.journal_check.specs.Fields.{len_of, allows, no_input, Reading, number_in, read_on, each_in}
-use Rattle.journal_check.specs.Files.{FileSlot, set_in, row_in, post_in, fed_by, output_in, slot_in}
-use Rattle.journal_check.specs.Texts.{all_sets, sets_there, set_text, number_of, post_text, rank_of, output_text, slot_text, IsFileRow, IsFileOutput, IsFileSlot}
-use Rattle.journal_check.proofs.Spelled.{one_byte, number_again, each_again}
+use Rattle.journal_check.specs.Fields.{len_of, allows, Reading, number_in, read_on, each_in}
+use Rattle.journal_check.specs.Files.{set_in, row_in, post_in}
+use Rattle.journal_check.specs.Texts.{all_sets, sets_there, set_text, number_of, post_text, IsFileRow}
+use Rattle.journal_check.proofs.Spelled.{one_byte, number_again}
 
 -- each set is below the limit, and its bit tells whether it is not empty
 abbrev pub AreMarked : ℕ → ℕ → List ℕ → List ℕ → Type 0

@@ -1,15 +1,14 @@
 -- The slots of lawful files are schedules of rows that are kept.
-use Rattle.std.proofs.Common.{◌≡◌, ℕ, zero, suc, ◌+◌, ◌*◌, ◌<◌, ◌≤◌, ◌⊎◌, ◌==◌, ◌∙◌, Bool, true, false, List, [], ◌∷◌, length, map, take, drop, All, Any, Option, refl, sym, ap, subst, inl, inr, arith, get_or}
+use Rattle.std.proofs.Common.{◌≡◌, ℕ, suc, ◌+◌, ◌*◌, ◌<◌, ◌≤◌, ◌==◌, ◌∙◌, false, List, [], ◌∷◌, length, map, take, drop, All, Any, Option, refl, sym, ap, subst, inl, inr, arith}
 use Rattle.std.proofs.lemmas.Bool.{cases_eq, cases_Bool, cond-true, cond-false, eq-eqb}
 use Rattle.std.proofs.lemmas.Bool.Decides.{Decides-eqb}
 use Rattle.std.proofs.lemmas.List.Elements.{All-cons}
 use Rattle.rotating_pick.specs.declared.kinds.Kind.TheVariants.{Uni}
 use Rattle.rotating_pick.specs.declared.limits.TheConstants.{LEVELS}
-use Rattle.slot_match.specs.declared.rows.Row.{Row}
 use Rattle.slot_match.specs.declared.matching.Fed.{Fed}
 use Rattle.slot_match.specs.Rows.{Names, row_of, HasHead, AreWithin}
-use Rattle.slot_match.specs.Matches.{Serves, Completes, IsMatch}
-use Rattle.slot_match.specs.Keeping.{KeepsRest, Keeps, Gives}
+use Rattle.slot_match.specs.Matches.{Serves, Completes}
+use Rattle.slot_match.specs.Keeping.{KeepsRest, Gives}
 use Rattle.slot_match.specs.Parts.{served_of}
 use Rattle.pointer_state.proofs.Moves.{AreAtPorts-at_first}
 use Rattle.slot_match.proofs.KeepingParts.{KeepsRest-iff_keeps}

@@ -1,5 +1,5 @@
 -- Why a slot that was read fails, or what it leaves.
-use Rattle.std.proofs.Common.{◌≡◌, ℕ, ◌+◌, ◌<◌, ◌≤◌, ◌∙◌, Bool, List, length, take, map, Option, None, Some, is_some, false, refl, sym, ap, arith}
+use Rattle.std.proofs.Common.{◌≡◌, ℕ, ◌∙◌, Bool, List, length, take, Option, None, Some, is_some, false, refl, sym, ap}
 use Rattle.std.specs.List.{list_any}
 use Rattle.std.specs.Option.{option_or}
 use Rattle.slot_match.specs.declared.rows.Row.{Row}

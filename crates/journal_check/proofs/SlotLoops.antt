@@ -1,15 +1,14 @@
 -- The posts and the outputs of a slot, read one after another.
-use Rattle.std.proofs.Common.{◌≡◌, ℕ, suc, ◌+◌, ◌<◌, ◌≤◌, ◌∙◌, Bool, List, [], ◌∷◌, ◌++◌, length, take, drop, map, set, Option, Result, Ok, Err, MatchResult, refl, sym, ap, arith, add-one}
+use Rattle.std.proofs.Common.{◌≡◌, ℕ, ◌+◌, ◌<◌, ◌≤◌, ◌∙◌, Bool, List, [], ◌∷◌, ◌++◌, length, take, drop, map, set, Option, Result, Ok, Err, MatchResult, refl, sym, ap, arith, add-one}
 use Rattle.std.specs.List.{range_with_len}
-use Rattle.std.proofs.lemmas.List.{map-append, take-set-le}
+use Rattle.std.proofs.lemmas.List.{map-append}
 use Rattle.std.proofs.Math.Seq.{take-suc-set}
 use Rattle.std.proofs.Math.ListN.{length-set}
 use Rattle.slot_match.specs.declared.rows.Row.{Row}
 use Rattle.slot_match.specs.declared.matching.Fed.{Fed}
 use Rattle.journal_check.specs.declared.fields.BadField.{BadField}
 use Rattle.journal_check.specs.declared.posts.FilePost.{FilePost}
-use Rattle.journal_check.specs.declared.slots.SlotRead.{SlotRead}
-use Rattle.journal_check.specs.Fields.{Reading, each_in}
+use Rattle.journal_check.specs.Fields.{each_in}
 use Rattle.journal_check.specs.Files.{FileSlot, post_in, output_in, slot_in}
 use Rattle.journal_check.specs.Steps.{IsRead, IsBadAt, IsSlotRead}
 use Rattle.journal_check.proofs.Loops.{with_front, left_in, begin, step_ok, step_err, step_end}

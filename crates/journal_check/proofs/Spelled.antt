@@ -1,15 +1,13 @@
 -- What is spelled is read again.
-use Rattle.std.proofs.Common.{◌≡◌, ℕ, zero, suc, ◌+◌, ◌*◌, ◌/◌, ◌%◌, ◌^◌, ◌<◌, ◌≤◌, ◌==◌, ◌&&◌, ◌∙◌, not, Bool, true, false, nat_le, All, List, [], ◌∷◌, ◌++◌, length, drop, get_or, map, Option, None, Some, Ok, Err, refl, sym, ap, arith, inl, inr, append_assoc, le-leb}
+use Rattle.std.proofs.Common.{◌≡◌, ℕ, suc, ◌+◌, ◌%◌, ◌^◌, ◌<◌, ◌∙◌, true, nat_le, List, [], ◌∷◌, ◌++◌, length, drop, get_or, Ok, refl, ap, arith, append_assoc, le-leb}
 use Rattle.std.specs.List.{flat_map, range_with_len}
-use Rattle.std.specs.Int.{bit_at}
-use Rattle.std.proofs.lemmas.Bool.{cond-true, cond-false, and_from, cases_eq, cases_Bool, eq-eqb}
+use Rattle.std.proofs.lemmas.Bool.{and_from}
 use Rattle.std.proofs.lemmas.List.{drop_at, length-append}
 use Rattle.byteorder.specs.Endian.{big_number, big_bytes}
 use Rattle.byteorder.specs.Numbers.{big_number-reads_back, length-bytes_high_first}
 use Rattle.journal_check.specs.declared.fields.Field.{Field}
-use Rattle.journal_check.specs.declared.fields.Field.TheVariants.{Magic, Ports, Rounds, Zeros, Slots, Sets, More, Set, Input, Rank}
 use Rattle.journal_check.specs.Fields.{len_of, allows, Reading, number_in, read_on, each_in}
-use Rattle.journal_check.proofs.NumberReads.{is_good, good_in, good}
+use Rattle.journal_check.proofs.NumberReads.{is_good, good}
 
 -- a byte is spelled by itself
 pub one_byte : (x : ℕ) → x < 256 → big_bytes 1 x ≡ x ∷ []

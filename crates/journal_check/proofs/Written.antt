@@ -1,5 +1,5 @@
 -- What is appended, one after another.
-use Rattle.std.proofs.Common.{◌≡◌, ℕ, zero, suc, ◌+◌, ◌*◌, ◌<◌, ◌≤◌, ◌==◌, ◌∙◌, not, Bool, true, false, List, [], ◌∷◌, ◌++◌, length, take, get_or, slice_index, slice_index_or, map, Option, None, Some, All, refl, sym, ap, subst, arith, append_assoc, inl, inr}
+use Rattle.std.proofs.Common.{◌≡◌, ℕ, ◌+◌, ◌*◌, ◌<◌, ◌≤◌, ◌==◌, ◌∙◌, Bool, List, [], ◌∷◌, ◌++◌, length, take, get_or, slice_index_or, map, Option, None, Some, All, refl, sym, ap, subst, arith, append_assoc, inl, inr}
 use Rattle.std.specs.List.{flat_map}
 use Rattle.std.proofs.lemmas.Grind.{flat_map-append}
 use Rattle.std.proofs.lemmas.List.{length-append, append-nil, take_more, take_all, length-map, get_or_default, get_or-map}

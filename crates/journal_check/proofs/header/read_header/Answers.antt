@@ -1,4 +1,4 @@
-use Rattle.std.proofs.Common.{refl, arith}
+use Rattle.std.proofs.Common.{arith}
 use Rattle.journal_check.proofs.NumberReads.{ports_within, rounds_within, slots_within}
 use Rattle.journal_check.proofs.header.read_header.Goals as goal
 

@@ -1,5 +1,5 @@
 use Rattle.std.proofs.Common.{◌≡◌, length}
-use Rattle.journal_check.specs.Lawful.{first_of, lacks_more, breaks, differs}
+use Rattle.journal_check.specs.Lawful.{first_of, differs}
 use Rattle.journal_check.proofs.Firsts.{first_from}
 use Rattle.journal_check.proofs.judging.first_difference.Given as goal
 

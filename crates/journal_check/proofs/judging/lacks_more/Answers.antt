@@ -1,4 +1,4 @@
-use Rattle.std.proofs.Common.{◌≡◌, ◌&&◌, not, Bool, true, false, refl, ap, sym}
+use Rattle.std.proofs.Common.{◌≡◌, ◌&&◌, not, Bool, true, false, ap}
 use Rattle.std.specs.Bool.{one_answer}
 use Rattle.slot_histories.specs.Tests.{is_empty}
 use Rattle.slot_histories.proofs.SetTests.{Decides-is_empty}

@@ -1,6 +1,5 @@
-use Rattle.std.proofs.Common.{◌≡◌, ◌+◌, ℕ, subst, sym, arith}
-use Rattle.std.proofs.lemmas.Result.{err_from_is_err_and}
-use Rattle.journal_check.proofs.SlotLoops.{AreOutputsRead, outputs_begin, outputs_go_on, outputs_fail, outputs_end}
+use Rattle.std.proofs.Common.{◌≡◌, ◌+◌, ℕ, subst, arith}
+use Rattle.journal_check.proofs.SlotLoops.{AreOutputsRead, outputs_begin, outputs_go_on, outputs_end}
 use Rattle.journal_check.proofs.slots.read_outputs.Goals as goal
 
 pub loop-j-init : goal.loop-j-init

@@ -1,4 +1,4 @@
-use Rattle.std.proofs.Common.{◌≡◌, ◌+◌, ℕ, subst, sym, arith}
+use Rattle.std.proofs.Common.{◌≡◌, ℕ, subst, arith}
 use Rattle.std.proofs.lemmas.Result.{err_from_is_err_and}
 use Rattle.journal_check.proofs.SlotLoops.{ArePostsRead, posts_begin, posts_go_on, posts_fail, posts_end}
 use Rattle.journal_check.proofs.slots.read_posts.Goals as goal

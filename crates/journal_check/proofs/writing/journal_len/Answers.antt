@@ -1,4 +1,4 @@
-use Rattle.std.proofs.Common.{◌≡◌, arith, length}
+use Rattle.std.proofs.Common.{arith}
 use Rattle.journal_check.proofs.Written.{slots_longer, file_long, slots_levels_more, levels_of}
 use Rattle.journal_check.proofs.writing.journal_len.Goals as goal
 

@@ -1,5 +1,4 @@
-use Rattle.std.proofs.Common.{◌≡◌, ◌+◌, None, false, length, take, get_or, refl, arith}
-use Rattle.std.specs.List.{flat_map}
+use Rattle.std.proofs.Common.{None, false, get_or, refl, arith}
 use Rattle.std.proofs.lemmas.List.{get_or_default}
 use Rattle.slot_match.specs.Rows.{no_row}
 use Rattle.crossbar.specs.declared.cards.Post.{Post as CardPost}

@@ -1,9 +1,8 @@
-use Rattle.std.proofs.Common.{◌≡◌, ◌-◌, ◌∙◌, ◌++◌, ◌∷◌, [], ℕ, List, None, length, take, refl, sym, ap, subst, arith}
+use Rattle.std.proofs.Common.{◌≡◌, ◌∙◌, ◌++◌, ◌∷◌, [], ℕ, None, length, take, refl, sym, subst}
 use Rattle.service_bound.specs.Waits.{NotedSlot}
 use Rattle.service_bound.specs.Meters.{HasNoted}
 use Rattle.journal_check.specs.Lawful.{after_slot, failure_in}
 use Rattle.journal_check.specs.Steps.{before_of}
-use Rattle.journal_check.specs.Verdicts.{noted_of}
 use Rattle.journal_check.proofs.Judged.{passed, noted_same}
 use Rattle.journal_check.proofs.SlotFails.{is_none}
 use Rattle.journal_check.proofs.judging.Judge.judge.Goals as goal

@@ -1,6 +1,5 @@
-use Rattle.std.proofs.Common.{◌≡◌, ◌-◌, ◌∙◌, ℕ, None, Some, length, take, refl, ap, arith}
+use Rattle.std.proofs.Common.{◌≡◌, ◌∙◌, None, Some, length, take, refl, ap}
 use Rattle.eslip_rounds.specs.Decisions.{decision_of}
-use Rattle.journal_check.specs.Lawful.{post_failure}
 use Rattle.journal_check.specs.Steps.{before_of}
 use Rattle.journal_check.proofs.SlotFails.{posts_fail, then_outputs, post_again}
 use Rattle.journal_check.proofs.judging.Judge.slot_failure.Goals as goal
