@@ -1,5 +1,5 @@
 -- A slot that is made of what the cards post is the run's, and leaves the switch as before the next.
-use Rattle.std.proofs.Common.{◌≡◌, ◌∙◌, ℕ, suc, ◌+◌, ◌<◌, ◌≤◌, Bool, true, false, List, [], ◌∷◌, ◌++◌, map, length, Option, Some, refl, sym, ap, subst, arith, add-one}
+use Rattle.std.proofs.Common.{◌≡◌, ◌∙◌, ℕ, ◌+◌, Bool, true, false, List, [], ◌∷◌, ◌++◌, length, Option, Some, sym, ap, subst}
 use Rattle.std.specs.Prelude.{slice_get}
 use Rattle.slot_match.specs.declared.rows.Row.{Row}
 use Rattle.slot_match.specs.declared.matching.Fed.{Fed}
@@ -9,7 +9,7 @@ use Rattle.eslip_rounds.specs.Slots.{Decision}
 use Rattle.eslip_rounds.specs.Schedulers.{Scheduler, IsScheduler}
 use Rattle.cell_cutter.specs.declared.cell.Cell.{Cell}
 use Rattle.crossbar.specs.declared.cards.Taken.{Taken}
-use Rattle.slot_histories.specs.Slots.{slot_posts, slot_rows, places_under, decision_under, is_done_at, is_done_before, taken_under}
+use Rattle.slot_histories.specs.Slots.{slot_rows, places_under, decision_under, is_done_at, taken_under}
 use Rattle.card_core.specs.Cards.{CardState, IsAfter, MayTake}
 use Rattle.switch_plan.specs.GoodPlans.{SwitchPlan, IsGood}
 use Rattle.whole_run.specs.Runs.{ports_of, setup_for, posts_under, takings_under}

@@ -1,7 +1,7 @@
 -- What a switch posts, decides and takes in a slot of a run is what the run has there.
-use Rattle.std.proofs.Common.{◌≡◌, ◌∙◌, ℕ, zero, suc, ◌+◌, ◌<◌, ◌≤◌, not, Bool, true, false, List, [], ◌∷◌, ◌++◌, map, length, Option, None, Some, refl, sym, ap, subst, arith, add-one}
-use Rattle.std.specs.Prelude.{slice_get, slice_index_or}
-use Rattle.std.specs.List.{range_with_len, list_all}
+use Rattle.std.proofs.Common.{◌≡◌, ◌∙◌, ℕ, zero, suc, ◌+◌, ◌<◌, not, Bool, true, false, List, [], ◌∷◌, ◌++◌, map, length, Option, None, Some, refl, sym, ap, subst, arith}
+use Rattle.std.specs.Prelude.{slice_get}
+use Rattle.std.specs.List.{range_with_len}
 use Rattle.std.specs.Option.{option_map}
 use Rattle.std.proofs.lemmas.List.{length-map, map_push}
 use Rattle.std.proofs.lemmas.List.Folds.{list_all-map}
@@ -10,11 +10,9 @@ use Rattle.std.proofs.lemmas.Option.{slice_get-map, slice_get_within, get_or_fro
 use Rattle.std.proofs.lemmas.Simd.{map-map}
 use Rattle.slot_match.specs.declared.rows.Row.{Row}
 use Rattle.slot_match.specs.declared.matching.Fed.{Fed}
-use Rattle.slot_match.specs.declared.matching.Served.{Served}
 use Rattle.slot_match.specs.Rows.{no_row}
 use Rattle.slot_match.specs.Parts.{served_of}
 use Rattle.slot_match.proofs.Kept.{fed_of-unmatched}
-use Rattle.eslip_rounds.specs.Slots.{Decision}
 use Rattle.eslip_rounds.specs.Schedulers.{Scheduler, IsScheduler}
 use Rattle.cell_cutter.specs.declared.cell.Cell.{Cell}
 use Rattle.crossbar.specs.Crossing.{deposit_by, fetched}
@@ -24,9 +22,8 @@ use Rattle.slot_histories.specs.Slots.{slot_posts, slot_rows, decision_under, se
 use Rattle.slot_histories.proofs.Telling.{done-told}
 use Rattle.service_bound.specs.Waits.{NotedSlot, noted_of}
 use Rattle.slot_board.specs.Schedules.{decided_under}
-use Rattle.card_core.specs.Plans.{Plan as CardPlan}
 use Rattle.card_core.specs.Posts.{IsServable, row_at, post_at}
-use Rattle.card_core.specs.Cards.{CardState, HasReceived, IsAfter, MayReceiveAny, MayTake, served_in, is_done}
+use Rattle.card_core.specs.Cards.{CardState, HasReceived, IsAfter, MayTake, served_in, is_done}
 use Rattle.card_core.specs.Deliveries.{cells_taken}
 use Rattle.switch_plan.specs.GoodPlans.{SwitchPlan, IsGood}
 use Rattle.whole_run.specs.Runs.{ports_of, setup_for, card_at, no_plan, parts_under, posts_under, takings_under}

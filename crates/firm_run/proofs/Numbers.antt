@@ -13,7 +13,7 @@ use Rattle.service_bound.specs.Waits.{NotedSlot, noted_of, longest_wait}
 use Rattle.service_bound.specs.Meters.{HasNoted}
 use Rattle.card_core.specs.declared.outcome.CardOut.{CardOut}
 use Rattle.card_core.specs.Plans.{Plan as CardPlan}
-use Rattle.card_core.specs.Cards.{CardState, IsOut}
+use Rattle.card_core.specs.Cards.{IsOut}
 use Rattle.card_worker.proofs.Grouping.{at_place}
 use Rattle.switch_plan.specs.GoodPlans.{SwitchPlan, packets_in, IsGood}
 use Rattle.whole_run.specs.Runs.{ports_of, takings_under}

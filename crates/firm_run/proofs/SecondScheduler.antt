@@ -1,5 +1,5 @@
 -- The second scheduler is a scheduler.
-use Rattle.std.proofs.Common.{◌≡◌, ◌∙◌}
+use Rattle.std.proofs.Common.{◌∙◌}
 use Rattle.eslip_rounds.specs.Schedulers.{IsSchedulerBy, StayAtPorts, IsScheduler}
 use Rattle.eslip_rounds.proofs.Scheduling.{IsSlotBy-moved}
 use Rattle.firm_rounds.specs.Slots.{AreMovedByFirm}

@@ -1,5 +1,5 @@
 -- The packets of a slot, input by input.
-use Rattle.std.proofs.Common.{◌≡◌, ◌∙◌, ◌↔◌, ◌⊎◌, ℕ, ◌+◌, ◌<◌, ◌≤◌, Bool, true, false, if◌then◌else◌, List, length, Option, None, Some, slice_index_or, slice_set, length-set, refl, sym, ap, subst, arith, inl, inr}
+use Rattle.std.proofs.Common.{◌≡◌, ◌∙◌, ◌↔◌, ◌⊎◌, ℕ, ◌+◌, ◌<◌, ◌≤◌, Bool, true, false, if◌then◌else◌, List, length, Option, Some, slice_set, length-set, refl, sym, ap, subst, arith, inl, inr}
 use Rattle.std.proofs.lemmas.Bool.{cases_eq}
 use Rattle.rotating_pick.specs.PortSets.{Has}
 use Rattle.slot_histories.specs.Tests.{has}
@@ -7,9 +7,9 @@ use Rattle.slot_histories.proofs.SetTests.{Decides-has}
 use Rattle.slot_match.specs.declared.matching.Served.{Served}
 use Rattle.output_queued.specs.declared.coming.Coming.{Coming}
 use Rattle.output_queued.specs.declared.tally.Tally.{Tally}
-use Rattle.output_queued.specs.Switches.{card_for, cells_from, IsComing}
+use Rattle.output_queued.specs.Switches.{card_for, cells_from}
 use Rattle.output_queued.specs.Noting.{Source, no_source, source_at, tally_at, IsBefore, IsIn, IsUnserved}
-use Rattle.output_queued.specs.Steps.{IsPart, HasEntered, IsAdmissible, Stand, HaveEntered, cells_to, cells_of_first, with_cells}
+use Rattle.output_queued.specs.Steps.{IsPart, HasEntered, Stand, HaveEntered, cells_to, cells_of_first, with_cells}
 use Rattle.output_queued.proofs.Totals.{total-more}
 use Rattle.output_queued.proofs.Places.{set-here, set-other, set-case}
 

@@ -1,28 +1,25 @@
 -- One slot more: what a reference keeps after it.
-use Rattle.std.proofs.Common.{◌≡◌, ◌∙◌, ℕ, zero, suc, ◌+◌, ◌-◌, ◌<◌, ◌≤◌, ◌&&◌, nat_lt, Bool, true, false, List, [], ◌∷◌, ◌++◌, map, length, Option, None, Some, slice_index_or, refl, sym, ap, subst, arith, inl, inr, if◌then◌else◌, length-append}
-use Rattle.std.specs.Prelude.{is_some, min, max}
+use Rattle.std.proofs.Common.{◌≡◌, ◌∙◌, ℕ, zero, suc, ◌+◌, ◌-◌, ◌<◌, ◌≤◌, ◌&&◌, nat_lt, Bool, true, false, List, [], ◌∷◌, ◌++◌, map, length, Option, None, Some, refl, sym, ap, subst, arith, inl, inr, if◌then◌else◌, length-append}
+use Rattle.std.specs.Prelude.{is_some, max}
 use Rattle.std.proofs.lemmas.Bool.{cases_lt, le-ltb}
 use Rattle.std.proofs.lemmas.List.{map-append, length-map}
 use Rattle.std.proofs.Math.ListN.{get_or-append}
 use Rattle.std.proofs.Math.Seq.{get_or-append_seam}
-use Rattle.rotating_pick.specs.declared.kinds.Kind.{Kind}
-use Rattle.slot_match.specs.declared.rows.Row.{Row}
 use Rattle.slot_match.specs.declared.matching.Served.{Served}
-use Rattle.slot_match.specs.Rows.{Names, row_of}
-use Rattle.slot_match.specs.Matches.{fed_of, Serves, IsMatch}
+use Rattle.slot_match.specs.Matches.{fed_of}
 use Rattle.slot_match.specs.Parts.{served_of, set_of}
 use Rattle.rotating_pick.specs.declared.limits.TheConstants.{LEVELS}
 use Rattle.std.specs.List.{range_with_len}
 use Rattle.card_core.specs.declared.plan.Planned.{Planned}
 use Rattle.card_core.specs.Plans.{Plan, Queue, OfOutput, OfLevel, queue_of, arriving, size_of}
-use Rattle.card_core.specs.Queues.{Passed, waiting, rest_of, before, queue_in, fits}
+use Rattle.card_core.specs.Queues.{Passed, waiting, rest_of, queue_in, fits}
 use Rattle.card_core.specs.Posts.{has_cells, row_at}
 use Rattle.card_core.proofs.Taking.{before-more, queue_in-more}
 use Rattle.slot_histories.specs.Tests.{has}
 use Rattle.output_queued.specs.declared.line.RefLine.{RefLine}
 use Rattle.output_queued.specs.declared.tally.Tally.{Tally}
-use Rattle.output_queued.specs.Ideal.{total, queued, gives_out, given}
-use Rattle.output_queued.specs.Switches.{Matched, match_at, served_in, card_of, brought, cells_from, comes, feeds, AreServed}
+use Rattle.output_queued.specs.Ideal.{total, queued, given}
+use Rattle.output_queued.specs.Switches.{Matched, match_at, served_in, card_of, brought, cells_from, comes, feeds}
 use Rattle.output_queued.specs.Lines.{ideal, ran, end_of, greatest_of, ahead, line_by, line_of}
 use Rattle.output_queued.specs.Noting.{IsTally, IsSmall}
 use Rattle.output_queued.specs.Steps.{Ticks}

@@ -1,13 +1,13 @@
 -- The ideal output, and two counts of which one is never behind the other.
-use Rattle.std.proofs.Common.{◌≡◌, ◌∙◌, ◌⊎◌, ℕ, zero, suc, ◌+◌, ◌-◌, ◌*◌, ◌<◌, ◌≤◌, Bool, true, false, List, [], ◌∷◌, ◌++◌, map, refl, sym, ap, arith, inl, inr, if◌then◌else◌, nat_lt}
-use Rattle.std.specs.Prelude.{min, max, filter, sum}
+use Rattle.std.proofs.Common.{◌≡◌, ◌∙◌, ℕ, zero, suc, ◌+◌, ◌*◌, ◌<◌, ◌≤◌, Bool, true, false, [], ◌∷◌, ◌++◌, refl, ap, arith, inl, inr, if◌then◌else◌, nat_lt}
+use Rattle.std.specs.Prelude.{min, filter, sum}
 use Rattle.std.specs.List.{range_with_len}
 use Rattle.std.proofs.lemmas.Bool.{cases_lt, lt-ltb, le-ltb}
 use Rattle.std.proofs.lemmas.List.Sums.{sum_by-append}
 use Rattle.std.proofs.lemmas.List.Elements.{filter-append}
 use Rattle.std.proofs.Math.Nat.{mul-suc, suc-mul}
-use Rattle.output_queued.specs.Ideal.{total, queued, gives_out, given}
-use Rattle.output_queued.specs.Lines.{end_of, greatest_of, rises, ahead}
+use Rattle.output_queued.specs.Ideal.{total, queued, given}
+use Rattle.output_queued.specs.Lines.{end_of, rises, ahead}
 
 -- what came was given out or waits
 pub given-queued : (comes : ℕ → ℕ) (t : ℕ) → given comes t + queued comes t ≡ total comes t

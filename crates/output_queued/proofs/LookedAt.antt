@@ -1,12 +1,12 @@
 -- Packets of an input, as far as they were looked at.
-use Rattle.std.proofs.Common.{◌≡◌, ◌∙◌, ◌⊎◌, ℕ, zero, suc, ◌+◌, ◌<◌, ◌≤◌, List, [], ◌∷◌, map, length, Some, slice_get, slice_index_or, refl, sym, ap, subst, arith, inl, inr}
+use Rattle.std.proofs.Common.{◌≡◌, ◌∙◌, ℕ, zero, suc, ◌+◌, ◌<◌, ◌≤◌, List, [], ◌∷◌, map, length, Some, slice_get, slice_index_or, refl, sym, ap, subst, arith, inl, inr}
 use Rattle.std.proofs.lemmas.Bool.{cases_eq}
 use Rattle.std.proofs.lemmas.List.{get_or-map}
 use Rattle.std.proofs.lemmas.Option.{same_Some}
 use Rattle.card_core.specs.Plans.{AreRising}
 use Rattle.card_core.proofs.Ascending.{RisesTo, rises_more, rises_not}
 use Rattle.output_queued.specs.declared.coming.Coming.{Coming}
-use Rattle.output_queued.specs.Switches.{planned_of, IsComing, IsInput}
+use Rattle.output_queued.specs.Switches.{planned_of, IsInput}
 use Rattle.output_queued.proofs.Sources.{planned-at, at-planned}
 
 abbrev pub no_coming : Coming

@@ -1,7 +1,6 @@
 -- A reference that has noted some slots: its rows, and what it keeps after one slot more.
-use Rattle.std.proofs.Common.{◌≡◌, ◌∙◌, ◌⊎◌, ℕ, zero, suc, ◌+◌, ◌*◌, ◌<◌, ◌≤◌, List, [], ◌∷◌, ◌++◌, map, length, replicate, Option, None, Some, slice_index_or, refl, sym, ap, subst, arith, inl, inr, if◌then◌else◌}
+use Rattle.std.proofs.Common.{◌≡◌, ◌∙◌, ℕ, zero, suc, ◌+◌, ◌<◌, ◌≤◌, List, [], ◌∷◌, ◌++◌, map, length, replicate, Option, None, Some, slice_index_or, refl, sym, ap, subst, arith, inl, inr, if◌then◌else◌}
 use Rattle.std.specs.Prelude.{is_some}
-use Rattle.std.specs.List.{range_with_len}
 use Rattle.std.proofs.lemmas.Bool.{cases_eq, cases_lt}
 use Rattle.std.proofs.lemmas.List.{length-map, get_or-map, ext_get_or}
 use Rattle.std.proofs.lemmas.List.FromFn.{length-map-range_with_len, get_or-map-range_with_len}
@@ -10,20 +9,18 @@ use Rattle.rotating_pick.specs.PortSets.{Has}
 use Rattle.rotating_pick.specs.declared.kinds.Kind.{Kind}
 use Rattle.slot_match.specs.declared.rows.Row.{Row}
 use Rattle.slot_match.specs.declared.matching.Fed.{Fed}
-use Rattle.slot_match.specs.declared.matching.Served.{Served}
 use Rattle.slot_match.specs.Rows.{Names, row_of as row_in, no_row}
 use Rattle.slot_match.specs.Matches.{fed_of, Serves, IsMatch}
 use Rattle.slot_match.specs.Parts.{served_of}
 use Rattle.slot_match.proofs.Sets.{Has-or}
-use Rattle.card_core.specs.Plans.{Plan}
 use Rattle.card_core.specs.Posts.{row_at, IsServable}
 use Rattle.card_core.specs.States.{row_of}
 use Rattle.output_queued.specs.declared.coming.Coming.{Coming}
 use Rattle.output_queued.specs.declared.tally.Tally.{Tally}
 use Rattle.output_queued.specs.Ideal.{total}
 use Rattle.output_queued.specs.Switches.{Matched, match_at, served_in, card_of, no_card, card_for, cells_from, comes, feeds, rows_after, AreServed, AreCards, IsSwitch}
-use Rattle.output_queued.specs.Lines.{ideal, ran, line_of}
-use Rattle.output_queued.specs.Noting.{Source, State, no_source, source_at, no_tally, tally_at, cards_in, IsBefore, IsIn, IsTally, IsSmall, IsUnserved, HasNoted, MayFollow, MayNote}
+use Rattle.output_queued.specs.Lines.{ran, line_of}
+use Rattle.output_queued.specs.Noting.{Source, State, no_source, source_at, no_tally, tally_at, cards_in, IsBefore, IsTally, IsSmall, IsUnserved, HasNoted, MayFollow, MayNote}
 use Rattle.output_queued.specs.Steps.{Ticks, IsPart, MayTake, HasTaken, Stand, HaveEntered, cells_of_first, with_cells}
 use Rattle.output_queued.proofs.Totals.{total-same, total-more}
 use Rattle.output_queued.proofs.Pairs.{may_serve}

@@ -1,15 +1,14 @@
 -- What a pair of a slot's match grants: one cell, of one queue of one input.
-use Rattle.std.proofs.Common.{◌≡◌, ◌∙◌, ℕ, ◌+◌, ◌<◌, ◌≤◌, ◌==◌, ◌&&◌, Bool, true, false, List, [], ◌∷◌, length, Option, None, Some, slice_index_or, refl, sym, ap, subst, arith, inl, inr, if◌then◌else◌}
+use Rattle.std.proofs.Common.{◌≡◌, ◌∙◌, ℕ, ◌<◌, ◌==◌, Bool, true, false, List, [], ◌∷◌, length, Option, None, Some, slice_index_or, refl, sym, ap, subst, inl, inr, if◌then◌else◌}
 use Rattle.std.proofs.lemmas.Bool.{eq-eqb, eqb-true, and_from, and_parts}
 use Rattle.rotating_pick.specs.declared.kinds.Kind.{Kind}
 use Rattle.rotating_pick.specs.declared.kinds.Kind.TheVariants.{Uni, Multi}
 use Rattle.slot_match.specs.declared.rows.Row.{Row}
-use Rattle.slot_match.specs.declared.matching.Fed.{Fed}
 use Rattle.slot_match.specs.declared.matching.Served.{Served}
 use Rattle.slot_match.specs.Rows.{Names}
-use Rattle.slot_match.specs.Matches.{fed_of, Serves, IsMatch}
+use Rattle.slot_match.specs.Matches.{Serves, IsMatch}
 use Rattle.slot_match.specs.Parts.{served_of}
-use Rattle.slot_match.proofs.Pairs.{Serves-from, Serves-once, Serves-along}
+use Rattle.slot_match.proofs.Pairs.{Serves-once, Serves-along}
 use Rattle.slot_match.proofs.ServedParts.{served_of-is, served_of-served}
 use Rattle.multicast_queue.specs.FanQueues.{FanCell}
 use Rattle.slot_histories.specs.Parts.{IsPartOf}

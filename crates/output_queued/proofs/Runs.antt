@@ -1,17 +1,16 @@
 -- A run that serves only what its rows name: what it fed to an output is of what came, and at its end it is all.
 use Rattle.std.proofs.Common.{◌≡◌, ◌∙◌, ℕ, zero, suc, ◌+◌, ◌<◌, ◌≤◌, List, [], length, Option, None, Some, slice_index_or, refl, sym, ap, arith, inl, inr, if◌then◌else◌}
 use Rattle.std.specs.Prelude.{is_some}
-use Rattle.std.proofs.lemmas.Bool.{cases_eq, cases_lt}
+use Rattle.std.proofs.lemmas.Bool.{cases_lt}
 use Rattle.std.proofs.lemmas.List.{get_or-map}
-use Rattle.rotating_pick.specs.declared.kinds.Kind.{Kind}
 use Rattle.slot_match.specs.declared.matching.Fed.{Fed}
-use Rattle.slot_match.specs.Matches.{fed_of, Serves}
+use Rattle.slot_match.specs.Matches.{fed_of}
 use Rattle.slot_match.specs.Parts.{served_of}
 use Rattle.slot_match.proofs.Pairs.{Serves-from, Serves-once, fed_of-lt}
 use Rattle.card_core.specs.Plans.{Plan, Queue, OfOutput, OfLevel}
 use Rattle.card_core.specs.Queues.{waiting, before}
 use Rattle.card_core.specs.Posts.{row_at, IsServable}
-use Rattle.output_queued.specs.Ideal.{total, given}
+use Rattle.output_queued.specs.Ideal.{total}
 use Rattle.output_queued.specs.Switches.{Matched, match_at, served_in, card_of, cells_from, comes, feeds, AreServed, AreEmptied, AreCards}
 use Rattle.output_queued.specs.Lines.{ideal, ran}
 use Rattle.output_queued.proofs.Totals.{total-same, total-plus, total-le, total-none, total-one}

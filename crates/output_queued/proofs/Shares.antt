@@ -1,12 +1,10 @@
 -- Of one input: the cells that come to an output, and those that are granted to it, over all queues from which it is fed.
-use Rattle.std.proofs.Common.{◌≡◌, ◌≢◌, ◌∙◌, ◌⊎◌, ℕ, zero, suc, ◌+◌, ◌^◌, ◌<◌, ◌≤◌, ◌==◌, ◌&&◌, not, Bool, true, false, List, [], ◌∷◌, ◌++◌, map, take, drop, length, Option, None, Some, slice_index_or, refl, sym, ap, subst, arith, inl, inr, if◌then◌else◌, length-append}
+use Rattle.std.proofs.Common.{◌≡◌, ◌≢◌, ◌∙◌, ℕ, zero, suc, ◌+◌, ◌^◌, ◌<◌, ◌≤◌, ◌==◌, ◌&&◌, not, Bool, true, false, List, [], ◌∷◌, map, take, drop, length, Option, None, Some, slice_index_or, refl, sym, ap, subst, arith, inl, inr, if◌then◌else◌, length-append}
 use Rattle.std.proofs.lemmas.Bool.{eq-eqb, eqb-true}
 use Rattle.std.proofs.lemmas.List.Elements.{filter-append}
 use Rattle.std.proofs.lemmas.List.FromFn.{length-map-range_with_len}
 use Rattle.std.proofs.lemmas.List.Sums.{sum_by-take-drop, length-filter}
 use Rattle.rotating_pick.specs.PortSets.{Has}
-use Rattle.rotating_pick.specs.declared.kinds.Kind.{Kind}
-use Rattle.rotating_pick.specs.declared.kinds.Kind.TheVariants.{Uni, Multi}
 use Rattle.rotating_pick.proofs.Bits.{no_member-zero}
 use Rattle.rotating_pick.proofs.Members.{only_member}
 use Rattle.cell_cutter.specs.declared.cell.CellName.{CellName}
@@ -17,7 +15,7 @@ use Rattle.slot_histories.specs.Tests.{has}
 use Rattle.slot_histories.proofs.SetTests.{Decides-has}
 use Rattle.card_core.specs.declared.plan.Planned.{Planned}
 use Rattle.card_core.specs.Plans.{Plan, Queue, OfOutput, OfLevel, IsGoodPlan, is_queue, queue_of, size_of, arriving}
-use Rattle.card_core.specs.Queues.{Passed, waiting, rest_of, is_routed, is_admitted, fits, coming, with_arrival, with_since, head_gone, after_part, after_part_of, before, queue_in}
+use Rattle.card_core.specs.Queues.{Passed, waiting, rest_of, is_routed, is_admitted, fits, coming, with_since, head_gone, after_part_of, before, queue_in}
 use Rattle.card_core.specs.Posts.{row_at, IsServable}
 use Rattle.card_core.specs.Grants.{serves, first_of, granted_to, to_output, begun_for}
 use Rattle.card_core.proofs.Granting.{granted_is, all_granted}

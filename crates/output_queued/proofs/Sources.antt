@@ -1,6 +1,6 @@
 -- An input that is told by the cells of its packets: its plan is one that a card can be made of, and what a packet that
 -- arrives makes of its queues.
-use Rattle.std.proofs.Common.{◌≡◌, ◌≢◌, ◌∙◌, ◌⊎◌, ℕ, zero, suc, ◌+◌, ◌-◌, ◌*◌, ◌^◌, ◌<◌, ◌≤◌, ◌==◌, ◌&&◌, not, Bool, true, false, List, [], ◌∷◌, map, length, replicate, Option, None, Some, slice_get, slice_index_or, refl, sym, ap, subst, arith, inl, inr, if◌then◌else◌}
+use Rattle.std.proofs.Common.{◌≡◌, ◌≢◌, ◌∙◌, ℕ, zero, suc, ◌+◌, ◌*◌, ◌<◌, ◌≤◌, ◌&&◌, Bool, true, false, List, [], ◌∷◌, map, length, replicate, Option, None, Some, slice_get, slice_index_or, refl, sym, ap, subst, arith, inl, inr, if◌then◌else◌}
 use Rattle.std.specs.List.{sum_by}
 use Rattle.std.specs.Option.{option_map}
 use Rattle.std.proofs.lemmas.Bool.{cases_lt, ne_eqb}
@@ -14,15 +14,15 @@ use Rattle.voq_banks.specs.Queues.{Queues as UniQueues, empty_queues as empty_un
 use Rattle.multicast_queue.specs.FanQueues.{Queues as FanQueues, empty_queues as empty_fans}
 use Rattle.card_core.specs.declared.plan.Planned.{Planned}
 use Rattle.card_core.specs.Plans.{Plan, IsPlanned, IsGoodPlan, size_of, arriving}
-use Rattle.card_core.specs.Queues.{queue_in, is_routed, is_admitted, admitted, dropped, counted, count_before, count_in}
+use Rattle.card_core.specs.Queues.{queue_in, is_routed, is_admitted, admitted, dropped, counted, count_in}
 use Rattle.card_core.specs.Posts.{granted_at}
-use Rattle.card_core.specs.States.{State, HasSent, HasRooms, IsNext, AreQueues, state_of, next_in, MayEnter, Enters, Arrives, queue_now}
+use Rattle.card_core.specs.States.{State, HasSent, HasRooms, IsNext, AreQueues, state_of, next_in, MayEnter, Enters}
 use Rattle.card_core.proofs.Beginning.{begins}
 use Rattle.card_core.proofs.Passing.{arriving-there}
 use Rattle.card_core.proofs.Posted.{may_arrive, posted_is, posted_state}
 use Rattle.card_core.proofs.Plenty.{few_packets}
 use Rattle.output_queued.specs.declared.coming.Coming.{Coming}
-use Rattle.output_queued.specs.Switches.{planned_of, bytes_for, card_for, brought, cells_from, IsComing, IsInput}
+use Rattle.output_queued.specs.Switches.{planned_of, bytes_for, card_for, brought, IsComing}
 use Rattle.output_queued.specs.Noting.{Source, IsBefore, IsIn}
 use Rattle.output_queued.specs.Steps.{IsPart, HasEntered, cells_to}
 use Rattle.output_queued.proofs.Shares.{routed-if}

@@ -1,5 +1,5 @@
 -- The switch of a reference: what each input is to send.
-use Rattle.std.proofs.Common.{◌≡◌, ◌∙◌, ℕ, ◌<◌, ◌≤◌, List, [], map, length, slice_index_or, refl, sym, ap, subst, arith}
+use Rattle.std.proofs.Common.{◌≡◌, ◌∙◌, ℕ, ◌<◌, List, [], map, length, slice_index_or, sym, ap, arith}
 use Rattle.std.proofs.lemmas.List.{get_or-map, length-map}
 use Rattle.card_core.specs.Plans.{Plan}
 use Rattle.output_queued.specs.declared.coming.Coming.{Coming}

@@ -1,9 +1,8 @@
 -- An input after a slot: what was served is off its queues.
-use Rattle.std.proofs.Common.{◌≡◌, ◌∙◌, ℕ, ◌+◌, ◌<◌, ◌≤◌, true, false, List, [], ◌∷◌, ◌++◌, map, length, Option, None, Some, refl, sym, ap, subst, arith}
+use Rattle.std.proofs.Common.{◌≡◌, ℕ, ◌+◌, true, List, [], ◌∷◌, ◌++◌, length, Option, None, Some, refl, sym, ap, subst}
 use Rattle.slot_match.specs.declared.matching.Served.{Served}
-use Rattle.slot_match.specs.declared.rows.Row.{Row}
 use Rattle.card_core.specs.Plans.{Plan}
-use Rattle.card_core.specs.Queues.{before, queue_in, admitted, dropped}
+use Rattle.card_core.specs.Queues.{before, admitted, dropped}
 use Rattle.card_core.specs.Posts.{row_at, granted_at, IsServable}
 use Rattle.card_core.specs.States.{State, HasSent, IsNext, AreQueues, state_of, row_of}
 use Rattle.card_core.proofs.After.{may_leave, take_none, take_some}

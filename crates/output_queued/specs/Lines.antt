@@ -1,5 +1,5 @@
 -- The numbers that compare an output of a run with the same output of the ideal switch.
-use Rattle.std.specs.Prelude.{ℕ, zero, suc, ◌+◌, ◌-◌, max, nat_lt, if◌then◌else◌, List, map, length, filter, sum}
+use Rattle.std.specs.Prelude.{ℕ, zero, suc, ◌-◌, max, nat_lt, if◌then◌else◌, List, map, length, filter}
 use Rattle.std.specs.List.{range_with_len}
 use Rattle.card_core.specs.Plans.{Plan}
 use Rattle.output_queued.specs.declared.line.RefLine.{RefLine}

@@ -1,6 +1,6 @@
 -- What comes to the outputs of a switch, and what its slots feed them. The switch is the list of what each input is to
 -- send, and the matches of its slots say which input fed which output.
-use Rattle.std.specs.Prelude.{◌≡◌, ◌≢◌, ℕ, suc, ◌+◌, ◌-◌, ◌*◌, ◌<◌, ◌≤◌, ◌&&◌, is_some, if◌then◌else◌, List, [], map, length, replicate, Option, None, Some, slice_get, slice_index_or}
+use Rattle.std.specs.Prelude.{◌≡◌, ◌≢◌, ℕ, ◌+◌, ◌-◌, ◌*◌, ◌<◌, ◌≤◌, ◌&&◌, is_some, if◌then◌else◌, List, [], map, length, replicate, Option, None, Some, slice_get, slice_index_or}
 use Rattle.std.specs.List.{sum_by, range_with_len}
 use Rattle.rotating_pick.specs.PortSets.{IsAmong}
 use Rattle.rotating_pick.specs.declared.kinds.Kind.{Kind}

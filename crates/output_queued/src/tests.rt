@@ -157,3 +157,31 @@ fn dropped_packets_do_not_count(rt: HostRuntime) -> Result<(), Fail> {
     );
     Ok(())
 }
+
+// The queue of input 0 has room for the packet that arrives in slot 4, since a cell has left it.
+#[test]
+fn packets_that_fit_count(rt: HostRuntime) -> Result<(), Fail> {
+    let both = [1, 1];
+    let first = [1, 0];
+    let slots = [
+        idle(&[0, 0]),
+        idle(&[0, 0]),
+        at(&both, 0, 0),
+        at(&both, 1, 0),
+        at(&both, 0, 0),
+        at(&both, 1, 0),
+        at(&both, 0, 0),
+        at(&both, 1, 0),
+        at(&first, 0, 0),
+        at(&first, 0, 0),
+        idle(&[0, 0]),
+    ];
+    let inputs: [&[Coming]; 2] = [&[packet(2, 3, 1), packet(4, 2, 1)], &[packet(2, 3, 1)]];
+    let reference = follow(&rt, rt.alloc(), 2, 4, &inputs, &slots)?;
+    assert_eq!(rt;
+        text(&rt, rt.alloc(), &reference, 2)?.as_str(),
+        "reference 0 ends 10 runs 10 lead 0 extra 0\n\
+         reference 1 ends 0 runs 0 lead 0 extra 0\n"
+    );
+    Ok(())
+}

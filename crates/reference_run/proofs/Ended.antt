@@ -1,15 +1,12 @@
 -- At the end of a run no cell waits.
-use Rattle.std.proofs.Common.{◌≡◌, ◌∙◌, ℕ, suc, ◌<◌, not, nat_lt, Bool, true, false, List, [], ◌∷◌, ◌++◌, map, length, ◌+◌, ◌≤◌, Option, None, slice_index_or, refl, sym, ap, subst, arith, if◌then◌else◌}
+use Rattle.std.proofs.Common.{◌≡◌, ◌∙◌, ℕ, suc, ◌<◌, not, nat_lt, Bool, true, false, List, [], ◌∷◌, map, length, Option, None, slice_index_or, refl, sym, ap, subst, arith}
 use Rattle.std.specs.Prelude.{slice_index}
 use Rattle.std.specs.List.{range_with_len, list_any, list_all}
 use Rattle.std.proofs.lemmas.Bool.{or_parts}
-use Rattle.std.proofs.lemmas.List.{append-nil}
 use Rattle.std.proofs.lemmas.List.Folds.{list_all_at}
 use Rattle.std.proofs.lemmas.List.FromFn.{get_or-map-range_with_len}
 use Rattle.rotating_pick.specs.PortSets.{Has}
-use Rattle.rotating_pick.specs.declared.kinds.Kind.{Kind}
 use Rattle.rotating_pick.specs.declared.kinds.Kind.TheVariants.{Uni, Multi}
-use Rattle.rotating_pick.specs.declared.limits.TheConstants.{LEVELS}
 use Rattle.slot_match.specs.declared.matching.Served.{Served}
 use Rattle.slot_match.specs.Rows.{IsEmptyRow}
 use Rattle.slot_match.proofs.Sets.{Has-set_of}
@@ -21,25 +18,16 @@ use Rattle.slot_histories.specs.Slots.{slot_posts, is_done_at}
 use Rattle.slot_histories.specs.Tests.{is_empty}
 use Rattle.slot_histories.proofs.SetTests.{Decides-is_empty}
 use Rattle.slot_histories.proofs.PostedRows.{length-slot_posts}
-use Rattle.reassembly.specs.Cutting.{messages_of}
-use Rattle.card_core.specs.Plans.{Plan, Queue, OfOutput, OfLevel, IsGoodPlan, message_of}
+use Rattle.card_core.specs.Plans.{Plan, Queue, OfOutput, OfLevel, IsGoodPlan}
 use Rattle.card_core.specs.Queues.{waiting, remaining, after_part_of, before as queue_before, queue_in}
 use Rattle.card_core.specs.Posts.{has_cells, unis_at, rest_at, row_at}
-use Rattle.card_core.specs.Grants.{serves, first_of, granted_to}
-use Rattle.card_core.specs.Deliveries.{messages_from}
 use Rattle.card_core.proofs.Remaining.{lacks, remaining-some}
 use Rattle.card_core.proofs.Passing.{kept-in}
 use Rattle.card_core.proofs.Accepting.{head-of}
-use Rattle.card_core.proofs.Granting.{all_granted}
-use Rattle.card_core.proofs.Messaging.{messages-are}
-use Rattle.card_core.proofs.Delivering.{flow_is_cut}
 use Rattle.switch_plan.specs.GoodPlans.{SwitchPlan, IsGood}
 use Rattle.whole_run.specs.Runs.{ports_of, card_at, served_by, posts_in}
 use Rattle.whole_run.specs.Ends.{IsLength}
-use Rattle.whole_run.specs.Crossings.{cells_to, queue_to, admitted_to}
-use Rattle.whole_run.proofs.Base.{good-card, servable, row_at-same, granted_to-same}
-use Rattle.whole_run.proofs.PacketCells.{named}
-use Rattle.whole_run.proofs.FlowCells.{granted_cells}
+use Rattle.whole_run.proofs.Base.{good-card, row_at-same}
 use Rattle.output_queued.specs.Switches.{served_in, AreEmptied}
 use Rattle.reference_run.specs.RunLines.{run_matches}
 use Rattle.reference_run.proofs.Matches.{matches-long, served-run}

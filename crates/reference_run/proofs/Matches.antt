@@ -1,12 +1,10 @@
 -- The matches of a run, and the run as slots that serve what their rows name.
-use Rattle.std.proofs.Common.{◌≡◌, ◌∙◌, ℕ, zero, suc, ◌+◌, ◌<◌, ◌≤◌, Bool, true, false, List, [], ◌∷◌, ◌++◌, map, length, Option, None, slice_index_or, refl, sym, ap, subst, arith, if◌then◌else◌}
+use Rattle.std.proofs.Common.{◌≡◌, ◌∙◌, ℕ, suc, ◌+◌, ◌<◌, ◌≤◌, Bool, true, false, List, [], ◌∷◌, ◌++◌, map, length, slice_index_or, sym, ap, subst, arith, if◌then◌else◌}
 use Rattle.std.specs.Prelude.{fold, max, nat_lt}
 use Rattle.std.specs.List.{range_with_len}
 use Rattle.std.proofs.lemmas.List.FromFn.{length-map-range_with_len, get_or-map-range_with_len, map-range_with_len_more}
 use Rattle.std.proofs.lemmas.Simd.{map-map}
 use Rattle.rotating_pick.specs.declared.kinds.Kind.{Kind}
-use Rattle.slot_match.specs.declared.rows.Row.{Row}
-use Rattle.slot_match.specs.declared.matching.Served.{Served}
 use Rattle.slot_match.specs.Rows.{Names, row_of as row_in, no_row}
 use Rattle.slot_match.specs.Matches.{Serves, IsMatch}
 use Rattle.slot_match.specs.Parts.{served_of}
@@ -16,16 +14,15 @@ use Rattle.crossbar.specs.declared.cards.Post.{Post}
 use Rattle.slot_histories.specs.Slots.{decision_at}
 use Rattle.slot_histories.specs.Answers.{JournalSlot}
 use Rattle.card_core.specs.declared.plan.Planned.{Planned}
-use Rattle.card_core.specs.Plans.{Plan}
 use Rattle.card_core.specs.Posts.{row_at}
-use Rattle.switch_plan.specs.Totals.{most_for, slots_of, greatest_slots, total_work}
+use Rattle.switch_plan.specs.Totals.{most_for, slots_of, greatest_slots}
 use Rattle.switch_plan.specs.GoodPlans.{SwitchPlan, IsGood, packets_in}
 use Rattle.whole_run.specs.Runs.{ports_of, setup_for, card_at, served_by, posts_in, run_slot}
 use Rattle.whole_run.specs.Ends.{IsLength}
 use Rattle.whole_run.proofs.Base.{served-is, row_at-same, good-card, sound, is-slot, pair-named}
 use Rattle.whole_run.proofs.RunEnds.{run_bound}
 use Rattle.whole_run.proofs.RunWork.{total_admitted-le}
-use Rattle.output_queued.specs.Switches.{Matched, match_at, served_in, card_of, AreCards, AreServed}
+use Rattle.output_queued.specs.Switches.{Matched, match_at, served_in, AreCards, AreServed}
 use Rattle.reference_run.specs.RunLines.{run_matches}
 use Rattle.reference_run.specs.Meeting.{run_rows}
 

@@ -1,12 +1,10 @@
 -- A plan's reference, and the plan's cards.
-use Rattle.std.proofs.Common.{◌≡◌, ◌∙◌, ℕ, ◌+◌, ◌<◌, ◌≤◌, List, [], ◌∷◌, ◌++◌, map, length, slice_index_or, refl, sym, ap, subst, arith}
+use Rattle.std.proofs.Common.{◌≡◌, ◌∙◌, ℕ, ◌<◌, List, [], map, length, refl, sym, ap, subst, arith}
 use Rattle.std.specs.List.{range_with_len}
 use Rattle.std.proofs.lemmas.List.{length-map, get_or-map, ext_get_or}
 use Rattle.std.proofs.lemmas.List.FromFn.{length-map-range_with_len, get_or-map-range_with_len}
-use Rattle.slot_match.specs.declared.rows.Row.{Row}
 use Rattle.slot_match.specs.Rows.{Names, no_row}
 use Rattle.slot_match.specs.Matches.{IsMatch}
-use Rattle.card_core.specs.Plans.{Plan}
 use Rattle.card_core.specs.Posts.{row_at}
 use Rattle.switch_plan.specs.GoodPlans.{SwitchPlan, IsGood}
 use Rattle.whole_run.specs.Runs.{ports_of, card_at, no_plan, served_by, run_slot}
@@ -15,13 +13,13 @@ use Rattle.whole_run.proofs.Base.{good-card}
 use Rattle.output_queued.specs.Ideal.{total}
 use Rattle.output_queued.specs.Switches.{Matched, served_in, card_of, no_card, card_for, cells_from, comes, rows_after}
 use Rattle.output_queued.specs.Lines.{ideal, ran, line_of}
-use Rattle.output_queued.specs.Noting.{Source, State, cards_in, MayFollow, MayNote}
+use Rattle.output_queued.specs.Noting.{State, cards_in, MayFollow}
 use Rattle.output_queued.proofs.Totals.{total-same}
 use Rattle.output_queued.proofs.Following.{given-same, line-same}
-use Rattle.output_queued.proofs.Noted.{coming_of, cards-are}
+use Rattle.output_queued.proofs.Noted.{cards-are}
 use Rattle.reference_run.specs.RunLines.{run_matches}
 use Rattle.reference_run.specs.Meeting.{IsReferenceOf, coming_in, run_rows}
-use Rattle.reference_run.proofs.Alike.{told_card, row-told, cells-told}
+use Rattle.reference_run.proofs.Alike.{row-told, cells-told}
 use Rattle.reference_run.proofs.Matches.{match_of, matches-long, served-run, rows-run, row-run, run-whole, run-named, run-few}
 
 module _ (plan : SwitchPlan) (good : IsGood plan) (r : State) (matches : List Matched) (is : IsReferenceOf plan r matches) where

@@ -1,4 +1,4 @@
-use Rattle.std.proofs.Common.{◌≡◌, ◌+◌, ◌<◌, ◌≤◌, map, length, arith, refl, sym, subst, slice_index_or}
+use Rattle.std.proofs.Common.{◌+◌, ◌<◌, map, arith, refl, sym, subst, slice_index_or}
 use Rattle.std.proofs.lemmas.List.{length-map}
 use Rattle.card_core.proofs.Ascending.{RisesTo, rises_none, rises_all}
 use Rattle.output_queued.specs.Switches.{planned_of, IsComing}

@@ -1,4 +1,4 @@
-use Rattle.std.proofs.Common.{◌≡◌, ◌∙◌, ℕ, ◌+◌, ◌*◌, ◌<◌, ◌≤◌, None, Some, length, length-set, ap, sym, subst, arith}
+use Rattle.std.proofs.Common.{◌≡◌, ◌∙◌, ◌+◌, ◌<◌, None, Some, length, length-set, ap, sym, subst, arith}
 use Rattle.rotating_pick.proofs.Bits.{Has-lt}
 use Rattle.output_queued.specs.Switches.{card_for, IsComing}
 use Rattle.output_queued.specs.Noting.{Source, no_source, source_at, tally_at, IsBefore}

@@ -1,4 +1,4 @@
-use Rattle.std.proofs.Common.{◌≡◌, ◌∙◌, ◌<◌, Bool, true, false, List, [], ◌∷◌, Some, length, sym, subst, refl, arith}
+use Rattle.std.proofs.Common.{◌≡◌, ◌<◌, Bool, true, false, List, [], ◌∷◌, Some, length, sym, subst, refl, arith}
 use Rattle.rotating_pick.specs.PortSets.{Has}
 use Rattle.rotating_pick.proofs.Members.{only_member}
 use Rattle.cell_cutter.specs.declared.cell.CellName.{CellName}

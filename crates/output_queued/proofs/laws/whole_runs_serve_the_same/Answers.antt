@@ -1,4 +1,4 @@
-use Rattle.std.proofs.Common.{ℕ, suc, length, refl, sym}
+use Rattle.std.proofs.Common.{length, refl, sym}
 use Rattle.output_queued.specs.Switches.{comes}
 use Rattle.output_queued.specs.Lines.{ideal, ran, line_of}
 use Rattle.output_queued.proofs.Ideals.{given-up, given-one, ends_first, delays_are}

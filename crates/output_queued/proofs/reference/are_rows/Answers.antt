@@ -1,4 +1,4 @@
-use Rattle.std.proofs.Common.{◌≡◌, ◌∙◌, ◌<◌, map, length, refl, sym, arith}
+use Rattle.std.proofs.Common.{◌∙◌, map, refl, sym, arith}
 use Rattle.std.proofs.lemmas.List.{length-map, get_or-map, ext_get_or}
 use Rattle.slot_match.specs.Rows.{no_row}
 use Rattle.card_core.specs.States.{row_of}

@@ -1,4 +1,4 @@
-use Rattle.std.proofs.Common.{◌≡◌, ℕ, ◌<◌, slice_index_or}
+use Rattle.std.proofs.Common.{◌≡◌, ℕ, ◌<◌}
 use Rattle.slot_match.specs.Rows.{row_of as row_in}
 use Rattle.card_core.specs.States.{row_of}
 use Rattle.output_queued.specs.Noting.{source_at}

@@ -1,13 +1,12 @@
-use Rattle.std.proofs.Common.{◌≡◌, ◌∙◌, ◌+◌, ◌<◌, ℕ, zero, suc, List, [], ◌∷◌, ◌++◌, map, length, slice_get, Some, refl, ap, sym, subst, arith, append_assoc, length-append, inl, inr}
+use Rattle.std.proofs.Common.{◌≡◌, ◌∙◌, ◌<◌, ℕ, List, [], ◌∷◌, ◌++◌, map, length, slice_get, Some, refl, ap, sym, subst, arith, append_assoc, length-append, inl, inr}
 use Rattle.std.specs.Vec.Iter.{into_iter_items}
 use Rattle.std.proofs.lemmas.Bool.{cases_eq}
-use Rattle.std.proofs.lemmas.List.{map-append, length-map}
+use Rattle.std.proofs.lemmas.List.{map-append}
 use Rattle.std.proofs.Math.ListN.{get_or-append}
 use Rattle.std.proofs.Math.Seq.{get_or-append_seam}
 use Rattle.output_queued.specs.declared.coming.Coming.{Coming}
-use Rattle.output_queued.specs.Switches.{card_for, IsInput}
+use Rattle.output_queued.specs.Switches.{card_for}
 use Rattle.output_queued.specs.Noting.{Source, no_source, source_at, IsBefore}
-use Rattle.output_queued.specs.Steps.{IsPart}
 use Rattle.output_queued.proofs.reference.inputs.Goals as goal
 
 gone_more : {X : Type 0} (gone rest next whole : List X) (x : X) → gone ++ rest ≡ whole → rest ≡ x ∷ next → (gone ++ x ∷ []) ++ next ≡ whole

@@ -1,4 +1,4 @@
-use Rattle.std.proofs.Common.{◌≤◌, arith}
+use Rattle.std.proofs.Common.{arith}
 use Rattle.output_queued.proofs.Runs.{ran-behind}
 use Rattle.reference_run.specs.RunLines.{run_matches}
 use Rattle.reference_run.proofs.Matches.{matches-long, run-cards, run-served}

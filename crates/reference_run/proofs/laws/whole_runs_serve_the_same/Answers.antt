@@ -1,4 +1,4 @@
-use Rattle.std.proofs.Common.{◌≡◌, ℕ, suc, ◌+◌, length, refl, sym, subst}
+use Rattle.std.proofs.Common.{◌≡◌, ◌+◌, length, refl, sym, subst}
 use Rattle.std.specs.Prelude.{sum}
 use Rattle.output_queued.specs.Ideal.{total}
 use Rattle.output_queued.specs.Switches.{comes}

@@ -1,4 +1,4 @@
-use Rattle.std.proofs.Common.{◌≡◌, ◌∙◌, length, refl, ap, sym, arith}
+use Rattle.std.proofs.Common.{◌∙◌, length, refl, ap, sym}
 use Rattle.std.specs.Vec.{with_items}
 use Rattle.firm_run.proofs.SlotSteps.{AreGathered, free, ports-are, matched-long, few-noted, count-posted, cards-back, rows-back, within-given, end-is-done, may, next}
 use Rattle.card_worker.proofs.Removing.{whole_back}

@@ -1,7 +1,7 @@
-use Rattle.std.proofs.Common.{◌≡◌, ◌∙◌, ◌≤◌, ◌<◌, ap, sym, subst, arith}
+use Rattle.std.proofs.Common.{arith}
 use Rattle.std.proofs.lemmas.Bool.{both_ways}
 use Rattle.firm_rounds.specs.Decisions.{firm_decision}
-use Rattle.slot_histories.specs.Slots.{is_done_at, is_done_before}
+use Rattle.slot_histories.specs.Slots.{is_done_at}
 use Rattle.whole_run.specs.Runs.{ports_of, posts_under}
 use Rattle.whole_run.proofs.FirstDone.{not_done}
 use Rattle.firm_run.proofs.SecondScheduler.{IsScheduler-firm_decision}

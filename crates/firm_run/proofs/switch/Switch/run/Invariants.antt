@@ -1,4 +1,4 @@
-use Rattle.std.proofs.Common.{◌≡◌, ◌<◌, false}
+use Rattle.std.proofs.Common.{◌≡◌, false}
 use Rattle.firm_rounds.specs.Decisions.{firm_decision}
 use Rattle.slot_histories.specs.Slots.{is_done_before}
 use Rattle.switch_plan.specs.GoodPlans.{SwitchPlan, IsGood}

@@ -1,6 +1,6 @@
 use Rattle.std.proofs.Common.{rules, ◌≡◌, ◌∙◌, ◌+◌, ◌<◌, List, map, length, Some, None, slice_get, ap, sym, subst, arith, if◌then◌else◌}
 use Rattle.std.specs.Option.{option_map}
-use Rattle.card_core.specs.States.{MayEnter, next_in}
+use Rattle.card_core.specs.States.{next_in}
 use Rattle.output_queued.specs.declared.coming.Coming.{Coming}
 use Rattle.output_queued.specs.Switches.{planned_of, card_for}
 use Rattle.output_queued.specs.Noting.{Source, IsBefore}

@@ -1,6 +1,6 @@
-use Rattle.output_queued.specs.Noting.{State, HasNoted, cards_in}
+use Rattle.output_queued.specs.Noting.{cards_in}
 use Rattle.output_queued.proofs.Runs.{ran-behind}
-use Rattle.output_queued.proofs.Noted.{cards-in-good, noted-next}
+use Rattle.output_queued.proofs.Noted.{cards-in-good}
 use Rattle.output_queued.proofs.reference.Reference.line.Goals as goal
 
 pub returns-clause-never_behind : goal.returns-clause-never_behind

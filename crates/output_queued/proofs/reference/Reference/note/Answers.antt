@@ -1,4 +1,4 @@
-use Rattle.std.proofs.Common.{◌≡◌, ◌∙◌, ◌++◌, ◌∷◌, [], length, ap, sym, subst, arith}
+use Rattle.std.proofs.Common.{◌∙◌, ◌++◌, ◌∷◌, [], ap, sym, subst, arith}
 use Rattle.output_queued.specs.Switches.{served_in}
 use Rattle.output_queued.specs.Noting.{State, HasNoted, MayNote}
 use Rattle.output_queued.specs.contracts.reference.Reference.{the_view}
