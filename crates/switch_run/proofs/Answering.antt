@@ -1,6 +1,6 @@
 -- When each answer comes: what the meaning of an ending says against all others.
 use Rattle.std.proofs.Common.{◌≡◌, ◌<◌, ◌≤◌, ◌+◌, ℕ, zero, suc, Bool, true, false, List, [], ◌∷◌, ◌++◌, map, take, length, get_or, Option, Some, None, inl, inr, refl, sym, ◌∙◌, ap, subst, arith, append_assoc, length-append}
-use Rattle.std.specs.Prelude.{◌⊎◌, Ok, Err, Result, if◌then◌else◌}
+use Rattle.std.specs.Prelude.{◌⊎◌, if◌then◌else◌}
 use Rattle.std.proofs.Math.ListN.{get_or-append}
 use Rattle.std.proofs.Math.Seq.{get_or-append_seam}
 use Rattle.std.proofs.lemmas.Bool.{cases_lt}
@@ -15,8 +15,8 @@ use Rattle.switch_plan.specs.Refusals.{IsRefusal}
 use Rattle.switch_plan.specs.GoodPlans.{SwitchPlan, IsGood}
 use Rattle.whole_run.specs.Ends.{IsLength}
 use Rattle.journal_run.specs.RunFiles.{journal_text}
-use Rattle.switch_run.specs.Causes.{Answers, AnswersUnlessOut, AreWritable, IsComplete, IsReadable, IsRunFor, IsWritable, JournalTooLongIsExact, RefusalIsExact, TooLongIsExact, UsageIsExact}
-use Rattle.switch_run.specs.Endings.{Command, IsCheck, IsFirstTooLong, IsJournalTooLong, IsMade, IsStopped, Stops, StopsWriting, captures_made, check_status}
+use Rattle.switch_run.specs.Causes.{Answers, AreWritable, IsComplete, IsReadable, IsRunFor, IsWritable, JournalTooLongIsExact, RefusalIsExact, TooLongIsExact, UsageIsExact}
+use Rattle.switch_run.specs.Endings.{Command, IsFirstTooLong, IsJournalTooLong, IsMade, IsStopped, Stops, StopsWriting, check_status}
 use Rattle.switch_run.specs.Inputs.{AreFilesRead, AreInputs, CapturesRead, EarlierFit}
 use Rattle.switch_run.specs.Jobs.{ReadWords, reads_of, pace_in, IsInput, RunsSwitch, input_name, wanted_by}
 use Rattle.switch_run.specs.OutputFiles.{files_from, journal_files, journal_name, nameless, output_name, report_name, run_files}
