@@ -1,9 +1,8 @@
 -- When each end of a check comes.
-use Rattle.std.proofs.Common.{◌≡◌, ◌<◌, ◌≤◌, ℕ, List, length, Option, Some, None, inl, inr, refl, sym, ◌∙◌, ap, subst, arith}
+use Rattle.std.proofs.Common.{◌≡◌, ℕ, List, length, Option, Some, inl, inr, refl, sym, ◌∙◌, ap, subst, arith}
 use Rattle.std.specs.Prelude.{◌⊎◌, Ok, Err, Result}
 use Rattle.outside.specs.Contents.{Contents}
 use Rattle.outside.specs.Faults.{ToOut, Rose}
-use Rattle.journal_check.specs.declared.limits.TheConstants.{MAX_JOURNAL_BYTES}
 use Rattle.journal_check.specs.Verdicts.{answer_to}
 use Rattle.journal_check.specs.declared.verdict.Verdict.{Verdict}
 use Rattle.journal_check.specs.declared.verdict.Verdict.TheVariants as verdict
@@ -13,14 +12,14 @@ use Rattle.journal_check.specs.declared.verdict.Reason.{Reason}
 use Rattle.check_job.specs.Checks.{HasAnswer, IsTooLong, MeansCheck}
 use Rattle.check_job.specs.declared.ending.CheckEnding.{CheckEnding}
 use Rattle.check_job.specs.declared.ending.CheckEnding.TheVariants as check_ending
-use Rattle.switch_words.specs.Reading.{JobWords, run, check, RunWords}
+use Rattle.switch_words.specs.Reading.{JobWords, check}
 use Rattle.switch_run.specs.Causes.{Answers, AnswersUnlessOut, CheckIsExact, IsCheckable}
 use Rattle.switch_run.specs.Endings.{Command, IsMade, IsStopped, Stops}
 use Rattle.switch_run.specs.ErrorLines.{line_of}
 use Rattle.switch_run.specs.LineParts.{GivesLine}
 use Rattle.switch_run.specs.declared.ending.Ending.{Ending}
 use Rattle.switch_run.specs.declared.ending.Ending.TheVariants.{Done, Usage, ReadFault, TooLong, Refused, JournalTooLong, OutOfMemory, WriteFault, Checked}
-use Rattle.switch_run.proofs.Answering.{no_inputs, no_job, no_reads, run_is_no_check, same_job, stops_here}
+use Rattle.switch_run.proofs.Answering.{no_job, no_reads, same_job, stops_here}
 
 -- ---- the file has one answer
 

@@ -9,7 +9,7 @@ use Rattle.outside.specs.WholeFiles.{NamedBytes, put_file}
 use Rattle.outside.proofs.Effects.{file-append_file-begin_file, file-append_file-other, file-begin_file-other}
 use Rattle.switch_words.specs.Reading.{JobWords, run, gen, check, firm, RunWords}
 use Rattle.switch_run.specs.Switched.{Texts}
-use Rattle.switch_run.specs.OutputFiles.{HoldsTexts, files_from, files_of, journal_files, journal_name, output_name, report_name, put_files, put_texts, run_files}
+use Rattle.switch_run.specs.OutputFiles.{HoldsTexts, files_from, journal_files, journal_name, output_name, report_name, put_files, put_texts, run_files}
 
 -- ---- names
 

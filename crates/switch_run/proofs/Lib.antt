@@ -6,6 +6,7 @@ pub mod Stopping
 pub mod ToWrite
 pub mod OneOutcome
 pub mod Answering
+pub mod Completing
 pub mod Cutting
 pub mod MadeSizes
 pub mod RunTexts

@@ -1,8 +1,8 @@
 -- The texts of a run, from what its cards left.
 use Rattle.std.proofs.Common.{◌≡◌, ◌<◌, ◌≤◌, ◌+◌, ℕ, Bool, true, false, List, [], ◌∷◌, ◌++◌, map, length, Option, Some, None, inl, inr, refl, sym, ◌∙◌, ap, subst, arith, append_assoc}
-use Rattle.std.specs.Prelude.{slice_get, string_bytes, Result, Ok, Err, IfErr, IfOk, IfSome, if◌then◌else◌}
+use Rattle.std.specs.Prelude.{slice_get, IfSome, if◌then◌else◌}
 use Rattle.std.specs.List.{range_with_len}
-use Rattle.std.proofs.lemmas.List.{get_or-map, length-map, map_push, same_lists}
+use Rattle.std.proofs.lemmas.List.{get_or-map, length-map, same_lists}
 use Rattle.std.proofs.lemmas.List.FromFn.{get_or-map-range_with_len, length-map-range_with_len}
 use Rattle.std.proofs.lemmas.Option.{slice_get_cases}
 use Rattle.pcap_records.specs.declared.link.Link.{Link}
@@ -14,7 +14,6 @@ use Rattle.slot_report.specs.declared.summary.OutLine.{OutLine}
 use Rattle.slot_report.specs.declared.summary.Summary.{Summary}
 use Rattle.slot_report.specs.Lines.{lines_text}
 use Rattle.slot_report.specs.Texts.{report_lines}
-use Rattle.switch_words.specs.declared.job.Settings.{Settings}
 use Rattle.switch_words.specs.declared.job.GenJob.{GenJob}
 use Rattle.switch_words.specs.Reading.{FirmWords, RunWords, run, gen, firm}
 use Rattle.slot_report.specs.Texts.{summary_lines}
@@ -30,10 +29,9 @@ use Rattle.switch_jobs.specs.declared.outcome.Outcome.{Outcome}
 use Rattle.switch_jobs.specs.Outcomes.{IsOutcome, messages_to, summary_of}
 use Rattle.reference_run.specs.RunLines.{run_lines}
 use Rattle.journal_run.specs.RunFiles.{journal_text, run_file}
-use Rattle.switch_run.specs.Endings.{captures_made}
 use Rattle.switch_run.specs.Making.{AreMade, HaveMessages, IsFirmRan, IsJournalFor, IsRan, StopsJournal, StopsTexts, file_of_board, line_of_card, reference_wanted, slots_told, text_or_none}
 use Rattle.switch_run.specs.Jobs.{Wanted, wanted_by, nothing_wanted}
-use Rattle.switch_run.specs.OutputFiles.{files_from, files_of, journal_files, report_name, run_files}
+use Rattle.switch_run.specs.OutputFiles.{files_from, journal_files, report_name}
 use Rattle.switch_run.specs.Switched.{Texts, firm_texts, out_line, report_of, texts_of}
 use Rattle.switch_run.proofs.Holding.{gen_is_no_run, firm_is_no_run}
 use Rattle.switch_run.specs.declared.ending.Ending.{Ending}

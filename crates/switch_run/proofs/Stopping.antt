@@ -1,5 +1,5 @@
 -- Why a job stops, said of a longer span of calls.
-use Rattle.std.proofs.Common.{◌≡◌, ◌<◌, ◌≤◌, ◌+◌, ℕ, List, [], ◌∷◌, ◌++◌, length, Option, Some, None, inl, inr, refl, ◌∙◌, ap, subst, arith, length-append}
+use Rattle.std.proofs.Common.{◌≡◌, ◌≤◌, ◌+◌, ℕ, List, [], ◌∷◌, length, Option, Some, None, inl, inr, refl, ◌∙◌, ap, subst, arith, length-append}
 use Rattle.std.specs.Prelude.{option_map}
 use Rattle.outside.specs.Contents.{Contents, append_out}
 use Rattle.outside.specs.Faults.{Place, ReadOf, ToOut, NeverFall}
@@ -17,7 +17,7 @@ use Rattle.switch_run.specs.LineParts.{GivesLine}
 use Rattle.switch_run.specs.OutputFiles.{files_from, files_of, journal_files, put_files, put_texts, report_name, run_files}
 use Rattle.switch_run.specs.RefusalLines.{memory_line}
 use Rattle.switch_run.specs.Endings.{Command, IsDone, IsMade, IsStopped, IsWriteFault, Means, Stops, StopsAtFile, StopsWriting, captures_made}
-use Rattle.switch_run.specs.Making.{AreMade, AreToWrite, StopsAtPlace, StopsPlan, StopsPutting, StopsReading, StopsTexts}
+use Rattle.switch_run.specs.Making.{AreMade, AreToWrite, StopsPlan, StopsPutting, StopsReading, StopsTexts}
 use Rattle.switch_run.specs.declared.ending.Written.{Written}
 use Rattle.switch_run.specs.declared.ending.Written.TheVariants.{Output, Report, Journal, StandardOutput}
 use Rattle.switch_run.specs.declared.ending.Ending.{Ending}

@@ -1,5 +1,5 @@
 -- What a job is to write, and why it is not made, from the calls that made its texts.
-use Rattle.std.proofs.Common.{◌≡◌, ◌<◌, ◌≤◌, ◌+◌, ℕ, List, map, length, Option, arith, ap}
+use Rattle.std.proofs.Common.{◌≡◌, ◌<◌, ◌≤◌, ℕ, List, map, length, Option, arith, ap}
 use Rattle.std.specs.Prelude.{string_bytes, Result, Ok, Err, IfErr, IfOk}
 use Rattle.std.proofs.lemmas.List.FromFn.{length-map-range_with_len}
 use Rattle.outside.specs.Contents.{Contents}

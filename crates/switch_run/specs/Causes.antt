@@ -1,5 +1,5 @@
 -- When each answer comes, that one comes where nothing stands against it, and what holds of the run of a command.
-use Rattle.std.specs.Prelude.{◌≡◌, ◌<◌, ◌≤◌, ◌⊎◌, ℕ, true, List, length, Option, Some, None, Result, Ok, Err}
+use Rattle.std.specs.Prelude.{◌≡◌, ◌<◌, ◌≤◌, ◌⊎◌, ℕ, true, List, length, Some, None, Ok, Err}
 use Rattle.outside.specs.Contents.{Contents}
 use Rattle.outside.specs.Faults.{ReadOf, BeginOf, WriteOf, ToOut, Rose}
 use Rattle.outside.specs.WholeFiles.{IsTooLong}

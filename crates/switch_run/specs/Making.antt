@@ -29,7 +29,7 @@ use Rattle.switch_jobs.specs.Outcomes.{IsOutcome}
 use Rattle.switch_jobs.specs.Captures.{IsCut}
 use Rattle.slot_report.specs.Lines.{lines_text}
 use Rattle.reference_run.specs.RunLines.{run_lines}
-use Rattle.switch_run.specs.Jobs.{ReadWords, pace_in, input_name, IsInput}
+use Rattle.switch_run.specs.Jobs.{ReadWords, input_name, IsInput}
 use Rattle.switch_run.specs.Inputs.{EarlierFit, AreInputs}
 use Rattle.switch_run.specs.Switched.{Texts, IsPlanned, IsJobOutcome, IsLongJournal}
 use Rattle.switch_run.specs.Endings.{captures_made}
@@ -38,7 +38,7 @@ use Rattle.switch_run.specs.declared.inputs.Reads.{Reads}
 use Rattle.switch_run.specs.declared.ending.Written.{Written}
 use Rattle.switch_run.specs.declared.ending.Written.TheVariants.{Output, Report, Journal, StandardOutput}
 use Rattle.switch_run.specs.declared.ending.Ending.{Ending}
-use Rattle.switch_run.specs.declared.ending.Ending.TheVariants.{Done, Usage, ReadFault, TooLong, Refused, JournalTooLong, OutOfMemory, WriteFault, Checked}
+use Rattle.switch_run.specs.declared.ending.Ending.TheVariants.{ReadFault, TooLong, Refused, JournalTooLong, OutOfMemory}
 
 -- a table and captures that no limit of files or ports refuses
 pub record AreOfSize (table : List ℕ) (captures : List (List ℕ)) : Type 0 where

@@ -3,7 +3,8 @@ use Rattle.std.specs.Prelude.{Ok}
 use Rattle.eslip_rounds.specs.Decisions.{decision_of}
 use Rattle.eslip_rounds.proofs.Scheduling.{IsScheduler-decision_of}
 use Rattle.switch_run.specs.Endings.{command_of}
-use Rattle.switch_run.proofs.Answering.{complete, journal_exact, refusal_exact, run_ends, run_good, too_long_exact, usage_exact}
+use Rattle.switch_run.proofs.Answering.{journal_exact, refusal_exact, run_ends, run_good, too_long_exact, usage_exact}
+use Rattle.switch_run.proofs.Completing.{complete}
 use Rattle.switch_run.proofs.Checking.{check_exact}
 use Rattle.switch_run.proofs.command.switch_main.Goals as goal
 

@@ -1,4 +1,4 @@
-use Rattle.std.proofs.Common.{map, option_map, string_bytes}
+use Rattle.std.proofs.Common.{option_map, string_bytes}
 use Rattle.switch_words.specs.Reading.{run_words}
 use Rattle.switch_run.proofs.RunTexts.{run_stops}
 use Rattle.switch_run.proofs.texts.run_texts.Goals as goal

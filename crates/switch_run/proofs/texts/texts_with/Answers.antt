@@ -1,4 +1,4 @@
-use Rattle.std.proofs.Common.{◌≡◌, List, ℕ, arith, length, map, option_map, string_bytes, sym, subst}
+use Rattle.std.proofs.Common.{◌≡◌, List, arith, length, map, option_map, string_bytes, sym, subst}
 use Rattle.std.proofs.lemmas.List.{length-map}
 use Rattle.card_core.specs.declared.outcome.CardOut.{CardOut}
 use Rattle.switch_plan.specs.Reading.{bytes_of_files}
