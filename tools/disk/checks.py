@@ -132,7 +132,7 @@ def process_substitution(place):
     expect_state(place, before)
 
 
-@case("check of journals of 134,217,728 bytes and one more")
+@case("check of journals of 134,217,728 bytes and one more", {})
 def longest_journal(place):
     shape = long_journals.longest_shape()
     longest = long_journals.journal(shape)
