@@ -3,5 +3,7 @@
 
 pub mod laws;
 mod making;
+#[cfg(test)]
+mod tests;
 
 pub use making::reference_of;
