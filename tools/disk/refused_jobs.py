@@ -2,7 +2,7 @@
 
 from typing import NamedTuple
 
-from .files import INPUTS, JOURNAL, RAW_IP, WORDS, header, packet, record
+from .files import FRAME, INPUTS, JOURNAL, RAW_IP, WORDS, header, packet, record
 from .running import Place, Wrong
 
 OUT_OF_MEMORY = b"out of memory\n"
@@ -15,6 +15,27 @@ MULTICAST = {
     "c": header(RAW_IP),
 }
 FLAGS = ("--slots", "--journal", "--reference")
+
+ADDRESSES, TAG = FRAME[:12], bytes.fromhex("81000005")
+
+
+def _frame(length, port, tag=b""):
+    """An Ethernet frame of so many bytes with a packet for a port's network."""
+    first = ADDRESSES + tag + b"\x08\x00" + packet(20, (10, 0, port, 1))
+    return first.ljust(length, b"\0")
+
+
+def _capture(port):
+    """A tagged and an untagged frame of full size for the next port, and an ARP frame for all."""
+    to = (port + 1) % 4
+    frames = (_frame(1518, to, TAG), _frame(1514, to), (ADDRESSES + b"\x08\x06").ljust(60, b"\0"))
+    return header() + b"".join(map(record, frames))
+
+
+FOUR_PORTS = {
+    "table": b"10.0.0.0/24 0\n10.0.1.0/24 1\n10.0.2.0/24 2\n10.0.3.0/24 3\n* 0,1,2,3 3\n",
+    **{name: _capture(port) for port, name in enumerate("abcd")},
+}
 
 
 class Job(NamedTuple):
@@ -29,6 +50,7 @@ JOBS = (
     Job(("run", "--workers", "1", *FLAGS, *WORDS), INPUTS),
     Job(("run", "--workers", "2", *WORDS), INPUTS),
     Job(("run", "--workers", "1", "--rounds", "2", *FLAGS, "table", "out", "a", "b", "c"), MULTICAST),
+    Job(("run", "--workers", "1", "table", "out", *"abcd"), FOUR_PORTS),
     Job(("run", "--workers", "1", "--pace-us", "10", *WORDS), INPUTS),
     Job(("gen", "--workers", "1", "1", "2", "2"), {}),
     Job(("firm", "table", "a", "b", "c"), MULTICAST),
