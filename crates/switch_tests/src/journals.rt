@@ -210,3 +210,13 @@ fn changed_journals_are_refused(rt: HostRuntime) -> Result<(), Fail> {
     }
     Ok(())
 }
+
+#[test]
+fn missing_journal_is_not_read(rt: HostRuntime) -> Result<(), Fail> {
+    let words = ["check", "journal"];
+    let mut files = files_of(&rt, rt.alloc(), Vec::new(rt.alloc()), PIECE, &[])?;
+    assert_eq!(rt; command(&rt, rt.alloc(), &words, &mut files, &OpenGate)?, 3);
+    compare_text(&rt, files.out_text(), "", &words);
+    compare_text(&rt, files.err_text(), "read fault: journal\n", &words);
+    Ok(())
+}

@@ -1,10 +1,10 @@
-ghost use Rattle.std.specs.Prelude.{◌≤◌, vec_len, All, IsTrue};
+ghost use Rattle.std.specs.Prelude.{◌≡◌, ◌≤◌, vec_len, None, All, IsTrue};
 
 use crate::captures::{ETHERNET, add_record};
 use crate::commands::{Given, PIECE, command, compare_file, compare_text, files_of, give};
 use card_worker::{Gate, OpenGate};
 use outside::MemFiles;
-use rotating_pick::MAX_FILE_BYTES;
+use rotating_pick::{MAX_FILE_BYTES, OutOfMemory};
 use std::alloc::{AllocError, Global};
 use std::process::Abort;
 use std::sync::atomic::{AtomicU64, Ordering};
@@ -12,7 +12,8 @@ use std::test::Fail;
 use std::thread::Threads;
 use switch_jobs::{Outcome, jobs, run_ready_with};
 use switch_plan::jobs::plan;
-use switch_words::Settings;
+use switch_plan::{Made, made_input};
+use switch_words::{GenJob, Settings};
 
 const TABLE: &[u8] = b"10.0.0.0/24 0\n10.0.1.0/24 1\n10.0.2.0/24 2\n10.0.3.0/24 3\n* 0,1,2,3 3\n";
 
@@ -175,22 +176,60 @@ fn are_short(captures: &[Vec<u8>]) -> bool
         .all(|capture| capture.len() <= MAX_FILE_BYTES)
 }
 
-// The outcome of the job by `workers` workers of this patience, and how many tries they made.
-fn outcome_of<R: Threads + Sync + Abort>(
-    rt: &R,
-    alloc: Global,
-    workers: u32,
-    patience: u32,
-) -> Result<(Outcome, u64), Fail> {
-    let settings = Settings {
+// What is given to the workers.
+#[derive(Clone, Copy, Debug)]
+enum Traffic {
+    // Full-size frames of four ports, each to one output, and short ones to all.
+    FourCaptures,
+    // The packets that are made for two ports.
+    MadePackets,
+}
+
+fn settings_for(workers: u32) -> Settings
+    ensures { result ≡ record { rounds = 4; depth = 131072; workers = workers; pace_us = None } }
+{
+    Settings {
         rounds: 4,
         depth: 131_072,
         workers,
         pace_us: None,
+    }
+}
+
+// The packets that `gen 1 2 2` makes.
+fn made_packets(alloc: Global) -> Result<Made, OutOfMemory> {
+    let job = GenJob {
+        settings: settings_for(1),
+        seed: 1,
+        count: 2,
+        ports: 2,
     };
-    let captures = captures(alloc)?;
-    assert!(rt; workers > 0 && workers <= 32 && captures.len() == 4 && are_short(&captures));
-    let plan = plan(rt, alloc, &settings, TABLE.to_vec(alloc)?, captures)?;
+    made_input(alloc, &job)
+}
+
+// The table and the captures of the traffic.
+fn inputs_of(alloc: Global, traffic: Traffic) -> Result<Made, Fail> {
+    match traffic {
+        Traffic::FourCaptures => Ok(Made {
+            table: TABLE.to_vec(alloc)?,
+            captures: captures(alloc)?,
+        }),
+        Traffic::MadePackets => Ok(made_packets(alloc)?),
+    }
+}
+
+// The outcome of the traffic by `workers` workers of this patience, and how many tries they made.
+fn outcome_of<R: Threads + Sync + Abort>(
+    rt: &R,
+    alloc: Global,
+    traffic: Traffic,
+    workers: u32,
+    patience: u32,
+) -> Result<(Outcome, u64), Fail> {
+    let Made { table, captures } = inputs_of(alloc, traffic)?;
+    assert!(rt; workers > 0 && workers <= 32 && table.len() <= MAX_FILE_BYTES);
+    assert!(rt; !captures.is_empty() && captures.len() <= 4 && are_short(&captures));
+    let plan = plan(rt, alloc, &settings_for(workers), table, captures)?;
     let ready = jobs::ready(alloc, plan)?;
     let gate = Counting {
         tries: AtomicU64::new(0),
@@ -208,14 +247,23 @@ fn compare_outcomes(rt: &impl Abort, outcome: &Outcome, expected: &Outcome, way:
     }
 }
 
-#[test]
-fn workers_and_patience_do_not_show(rt: HostRuntime) -> Result<(), Fail> {
-    let (expected, _) = outcome_of(&rt, rt.alloc(), 1, 64)?;
-    assert_eq!(rt; (expected.summary.slots, expected.summary.cells), (92, 256));
+// Compares the outcomes of the traffic, whichever its workers and their patience.
+fn compare_ways<R: Threads + Sync + Abort>(
+    rt: &R,
+    alloc: Global,
+    traffic: Traffic,
+    numbers: (u32, u32),
+) -> Result<(), Fail> {
+    let (expected, _) = outcome_of(rt, alloc, traffic, 1, 64)?;
+    assert_eq!(rt;
+        (expected.summary.slots, expected.summary.cells),
+        numbers,
+        "{traffic:?}"
+    );
     for workers in [1, 2, 32] {
         for patience in [0, 1, 64] {
-            let (outcome, tries) = outcome_of(&rt, rt.alloc(), workers, patience)?;
-            compare_outcomes(&rt, &outcome, &expected, (workers, patience));
+            let (outcome, tries) = outcome_of(rt, alloc, traffic, workers, patience)?;
+            compare_outcomes(rt, &outcome, &expected, (workers, patience));
             // Without patience all slots are made at the end, by one thread.
             assert_eq!(rt;
                 tries == 0,
@@ -225,4 +273,10 @@ fn workers_and_patience_do_not_show(rt: HostRuntime) -> Result<(), Fail> {
         }
     }
     Ok(())
+}
+
+#[test]
+fn workers_and_patience_do_not_show(rt: HostRuntime) -> Result<(), Fail> {
+    compare_ways(&rt, rt.alloc(), Traffic::FourCaptures, (92, 256))?;
+    compare_ways(&rt, rt.alloc(), Traffic::MadePackets, (47, 41))
 }
