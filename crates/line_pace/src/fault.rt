@@ -5,9 +5,9 @@ use std::fmt;
 /// Why a port's packets have no arrival slots.
 #[derive(Clone, Copy, Debug, PartialEq, Eq, Hash)]
 pub enum PaceFault {
-    /// The packets take more slots to come than a port may have: the last arrival slot plus one.
+    /// The packets have more arrival slots than a port may have.
     TooLong {
-        /// How many slots they take.
+        /// Their arrival slots: the last one plus one.
         slots: u64,
     },
     /// There was no memory for the answer.
@@ -17,7 +17,7 @@ pub enum PaceFault {
 impl fmt::Display for PaceFault {
     fn fmt<W: fmt::Write>(&self, f: &mut fmt::Formatter<W>) -> fmt::Result {
         match self {
-            PaceFault::TooLong { slots } => write!(f, "the packets take {slots} slots to come"),
+            PaceFault::TooLong { slots } => write!(f, "too many arrival slots: {slots}"),
             PaceFault::OutOfMemory => f.write_str("out of memory"),
         }
     }

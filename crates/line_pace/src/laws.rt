@@ -7,7 +7,7 @@ use crate::pace::MAX_SLOT_MICROS;
 use cell_cutter::MAX_CAPTURED_CELLS;
 
 /// The limits of a port's packets: at most 1,048,576 packets, as many as records of 16 bytes in a file of
-/// 16,777,216 bytes; 131,072 slots to come; 4,682 cells of a packet, those of a message with 262,144
+/// 16,777,216 bytes; 131,072 arrival slots; 4,682 cells of a packet, those of a message with 262,144
 /// captured bytes; and 1,000,000 microseconds of a slot.
 pub fn limits_are()
     ensures packets { MAX_CAPTURE_PACKETS ≡ 1048576 }

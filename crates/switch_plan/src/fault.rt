@@ -45,7 +45,7 @@ pub enum PlanFault {
 impl fmt::Display for PlanFault {
     fn fmt<W: fmt::Write>(&self, f: &mut fmt::Formatter<W>) -> fmt::Result {
         match self {
-            PlanFault::Table(fault) => write!(f, "table: {fault}"),
+            PlanFault::Table(fault) => write!(f, "{fault}"),
             PlanFault::Capture { port, fault } => write!(f, "capture {port}: {fault}"),
             PlanFault::MixedLink { first, other } => write!(f, "link types {first} and {other}"),
             PlanFault::TooManySlots { port, slots } => {

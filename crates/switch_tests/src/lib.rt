@@ -10,6 +10,8 @@ mod commands;
 #[cfg(test)]
 mod failing_calls;
 #[cfg(test)]
+mod fault_texts;
+#[cfg(test)]
 mod faults;
 #[cfg(test)]
 mod jobs;
