@@ -13,3 +13,4 @@ pub mod RunTexts
 pub mod OnePlan
 pub mod Checking
 pub mod Noting
+pub mod OtherWorkers

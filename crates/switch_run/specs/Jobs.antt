@@ -1,5 +1,6 @@
 -- What the words of a job say, whichever its command is.
 use Rattle.std.specs.Prelude.{ℕ, ◌<◌, Bool, false, List, [], length, slice_index_or, Option, Some, None}
+use Rattle.switch_words.specs.declared.job.Settings.{Settings}
 use Rattle.switch_words.specs.Reading.{JobWords, run, gen, check, firm, RunWords, FirmWords}
 use Rattle.switch_run.specs.declared.inputs.InputFile.{InputFile}
 use Rattle.switch_run.specs.declared.inputs.InputFile.TheVariants.{Table, Capture}
@@ -10,6 +11,17 @@ pace_in (run r) = r.settings.pace_us
 pace_in (gen g) = g.settings.pace_us
 pace_in (check file) = None
 pace_in (firm f) = f.settings.pace_us
+
+-- the same settings but for the number of workers
+abbrev pub settings_with : ℕ → Settings → Settings
+settings_with workers settings = record settings { workers = workers }
+
+-- the same job but for the number of workers; `check` has none
+abbrev pub with_workers : ℕ → JobWords → JobWords
+with_workers workers (run r) = run (record r { settings = settings_with workers r.settings })
+with_workers workers (gen g) = gen (record g { settings = settings_with workers g.settings })
+with_workers workers (check file) = check file
+with_workers workers (firm f) = firm (record f { settings = settings_with workers f.settings })
 
 -- what a run is to tell beside its captures, the report's numbers and the summary: a line for each slot, the journal, and
 -- the lines of the output-queued reference

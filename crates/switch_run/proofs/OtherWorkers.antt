@@ -1,0 +1,215 @@
+-- With another number of workers a job has a plan that differs in that number alone, and the plan's run is the same, slot
+-- by slot.
+use Rattle.std.proofs.Common.{◌≡◌, ◌∙◌, ℕ, zero, suc, true, false, List, [], ◌++◌, map, length, None, Some, refl, ap, subst}
+use Rattle.std.proofs.Math.Path.{fun_ext}
+use Rattle.std.specs.Prelude.{if◌then◌else◌, Result, Ok, Err}
+use Rattle.std.specs.List.{flat_map, range_with_len}
+use Rattle.std.specs.Option.{option_to_list}
+use Rattle.rotating_pick.specs.declared.limits.TheConstants.{LEVELS}
+use Rattle.pcap_records.specs.Output.{capture_text}
+use Rattle.eslip_rounds.specs.Schedulers.{Scheduler}
+use Rattle.eslip_rounds.specs.Decisions.{decision_of}
+use Rattle.firm_rounds.specs.Decisions.{firm_decision}
+use Rattle.slot_histories.specs.Slots.{crossed_under, is_done_at, is_done_before}
+use Rattle.slot_histories.specs.Answers.{journal_slot}
+use Rattle.slot_board.specs.Schedules.{decided_under}
+use Rattle.service_bound.specs.Waits.{longest_wait, noted_of}
+use Rattle.card_core.specs.declared.plan.Planned.{Planned}
+use Rattle.card_core.specs.Posts.{post_at}
+use Rattle.card_core.specs.Queues.{admitted, dropped, is_admitted}
+use Rattle.card_core.specs.Deliveries.{delivered}
+use Rattle.slot_report.specs.Lines.{lines_text}
+use Rattle.slot_report.specs.Texts.{report_lines, summary_lines}
+use Rattle.journal_check.specs.Texts.{file_slot, file_text}
+use Rattle.output_queued.specs.Lines.{lines_of}
+use Rattle.output_queued.specs.Texts.{reference_lines}
+use Rattle.switch_words.specs.declared.limits.TheConstants.{MAX_WORKERS}
+use Rattle.switch_words.specs.declared.job.Settings.{Settings}
+use Rattle.switch_words.specs.Limits.{IsUpTo}
+use Rattle.switch_words.specs.Reading.{JobWords, run, gen, check, firm}
+use Rattle.switch_plan.specs.declared.fault.PlanFault.{PlanFault}
+use Rattle.switch_plan.specs.GoodPlans.{SwitchPlan, IsGood}
+use Rattle.whole_run.specs.Runs.{after_slot, before_under, card_at, decision_in, parts_under, ports_of, posts_under, run_journal, setup_for}
+use Rattle.whole_run.specs.Ends.{IsLengthUnder}
+use Rattle.whole_run.specs.Crossings.{cells_under}
+use Rattle.whole_run.specs.Sums.{IsAdmittedUnder, IsBestUnder}
+use Rattle.switch_jobs.specs.Outcomes.{over_ports, summary_under}
+use Rattle.journal_run.specs.RunFiles.{journal_text}
+use Rattle.reference_run.specs.RunLines.{run_lines}
+use Rattle.switch_run.specs.Jobs.{Wanted, nothing_wanted, settings_with, wanted_by, with_workers}
+use Rattle.switch_run.specs.Switched.{Texts, IsJobOutcome, IsLongJournal, IsPlanned, IsRunOf, IsSwitched, IsSwitchedByFirm, texts_of}
+
+-- the same plan but for the number of workers
+abbrev plan_with : ℕ → SwitchPlan → SwitchPlan
+plan_with workers plan = record plan { workers = workers }
+
+-- ---- its run is the same
+
+module _ (scheduler : Scheduler) (workers : ℕ) (plan : SwitchPlan) where
+  same_before : (t : ℕ) → before_under scheduler plan t ≡ before_under scheduler (plan_with workers plan) t
+  unfolding before_under
+  same_before zero = refl
+  same_before (suc t) = ap (λ b. after_slot b (decision_in scheduler plan b t)) (same_before t)
+
+  same_parts : parts_under scheduler plan ≡ parts_under scheduler (plan_with workers plan)
+  same_parts = ap (λ runs i t. (runs t).served i) (fun_ext same_before)
+
+  same_posts : posts_under scheduler plan ≡ posts_under scheduler (plan_with workers plan)
+  same_posts = ap (λ parts i t. post_at (card_at plan i) (parts i t) t) same_parts
+
+  same_cells : cells_under scheduler plan ≡ cells_under scheduler (plan_with workers plan)
+  same_cells = ap (λ posts j slots. flat_map (λ t. option_to_list (crossed_under scheduler (setup_for plan) posts j t)) (range_with_len 0 slots)) same_posts
+
+  same_summary : (slots : ℕ) → summary_under scheduler plan slots ≡ summary_under scheduler (plan_with workers plan) slots
+  unfolding summary_under
+  same_summary slots = λ p. record (summary_under scheduler plan slots) {
+    dropped = over_ports plan (λ i. dropped (card_at plan i) (same_parts p i slots) slots);
+    forwarded = over_ports plan (λ i. admitted (card_at plan i) (same_parts p i slots) slots);
+    copies = over_ports plan (λ j. length (delivered (same_cells p j slots)));
+    cells = over_ports plan (λ j. length (same_cells p j slots));
+    longest = map (λ level. longest_wait (ports_of plan) level (map noted_of (map (decided_under scheduler (setup_for plan) (same_posts p)) (range_with_len 0 slots)))) (range_with_len 0 LEVELS);
+  }
+
+  same_length : (slots : ℕ) → IsLengthUnder scheduler plan slots → IsLengthUnder scheduler (plan_with workers plan) slots
+  same_length slots ends = record {
+    last = ends.last;
+    count = ends.count;
+    done = subst (λ posts. is_done_at (ports_of plan) posts ends.last ≡ true) same_posts ends.done;
+    going = subst (λ posts. is_done_before (ports_of plan) posts ends.last ≡ false) same_posts ends.going;
+  }
+
+  same_admitted : (slots i : ℕ) (packet : Planned) → IsAdmittedUnder scheduler plan slots i packet → IsAdmittedUnder scheduler (plan_with workers plan) slots i packet
+  same_admitted slots i packet a = record {
+    place = a.place;
+    found = a.found;
+    early = a.early;
+    routed = a.routed;
+    admitted = subst (λ parts. is_admitted (card_at plan i) (parts i slots) packet.arrival packet ≡ true) same_parts a.admitted;
+  }
+
+  -- a best level with the other number is a best level
+  same_best : (slots level : ℕ) → IsBestUnder scheduler (plan_with workers plan) slots level → IsBestUnder scheduler plan slots level
+  same_best slots level b = record {
+    level_in = b.level_in;
+    best = λ i packet inside is. b.best i packet inside (same_admitted slots i packet is);
+    unicast = λ i packet inside is. b.unicast i packet inside (same_admitted slots i packet is);
+  }
+
+-- ---- its texts are the same
+
+module _ (workers : ℕ) (plan : SwitchPlan) (slots : ℕ) where
+  same_journal : run_journal plan slots ≡ run_journal (plan_with workers plan) slots
+  same_journal = ap (λ posts. map (journal_slot (setup_for plan) posts) (range_with_len 0 slots)) (same_posts decision_of workers plan)
+
+  same_journal_text : journal_text plan slots ≡ journal_text (plan_with workers plan) slots
+  same_journal_text = ap (λ journal. file_text (record { ports = ports_of plan; rounds = plan.rounds; slots = map file_slot journal })) same_journal
+
+  same_lines : run_lines plan slots ≡ run_lines (plan_with workers plan) slots
+  unfolding run_lines
+  same_lines = ap (λ journal. reference_lines (lines_of plan.cards (map (λ slot. slot.matched) journal))) same_journal
+
+  same_texts : (wanted : Wanted) → texts_of wanted plan slots ≡ texts_of wanted (plan_with workers plan) slots
+  same_texts wanted =
+      let cells = same_cells decision_of workers plan in
+      let summary = same_summary decision_of workers plan slots in
+      λ p. record {
+        outputs = map (λ j. capture_text plan.nano plan.link (delivered (cells p j slots))) (range_with_len 0 (ports_of plan));
+        report =
+            lines_text (report_lines (summary p) (map (λ j. record { packets = length (delivered (cells p j slots)); cells = length (cells p j slots) }) (range_with_len 0 (ports_of plan))) (if wanted.slots then same_journal p else []))
+            ++ (if wanted.reference then lines_text (same_lines p) else []);
+        journal = if wanted.journal then Some (same_journal_text p) else None;
+        summary = lines_text (summary_lines (summary p));
+      }
+
+-- ---- it is the job's plan
+
+module _ (workers : ℕ) (few : IsUpTo MAX_WORKERS workers) where
+  still_good : (plan : SwitchPlan) → IsGood plan → IsGood (plan_with workers plan)
+  still_good plan good = record {
+    size = good.size;
+    rounds = good.rounds;
+    workers = few;
+    cards = λ port card is. let mine = good.cards port card is in record {
+      good = mine.good;
+      number = mine.number;
+      ports = mine.ports;
+      depth = mine.depth;
+      sizes = mine.sizes;
+      body = mine.body;
+      messages = mine.messages;
+    };
+    slots = good.slots;
+    cells = good.cells;
+    max_slots = good.max_slots;
+    aside = good.aside;
+    whole = good.whole;
+  }
+
+  module _ (settings : Settings) (table : List ℕ) (files : List (List ℕ)) where
+    still_planned : (plan : SwitchPlan) → IsPlanned settings table files plan → IsPlanned (settings_with workers settings) table files (plan_with workers plan)
+    still_planned plan p = record {
+      lines = p.lines;
+      captures = p.captures;
+      read = p.read;
+      allowed = p.allowed;
+      good = still_good plan p.good;
+      planned = let of = p.planned in record {
+        nano = of.nano;
+        link = of.link;
+        rounds = of.rounds;
+        depth = of.depth;
+        workers = refl;
+        oversize = of.oversize;
+        unrouted = of.unrouted;
+        packets = of.packets;
+        places = of.places;
+        kept = of.kept;
+        bodies = of.bodies;
+      };
+    }
+
+    still_run : (plan : SwitchPlan) (slots : ℕ) → IsRunOf settings table files plan slots → IsRunOf (settings_with workers settings) table files (plan_with workers plan) slots
+    still_run plan slots r = record { planned = still_planned plan r.planned; ends = same_length decision_of workers plan slots r.ends }
+
+    same_switched : (wanted : Wanted) (texts : Texts) → IsSwitched settings wanted table files texts → IsSwitched (settings_with workers settings) wanted table files texts
+    same_switched wanted texts p = record {
+      plan = plan_with workers p.plan;
+      slots = p.slots;
+      run = still_run p.plan p.slots p.run;
+      are = p.are ∙ same_texts workers p.plan p.slots wanted;
+      small = p.small;
+    }
+
+    same_by_firm : (texts : Texts) → IsSwitchedByFirm settings table files texts → IsSwitchedByFirm (settings_with workers settings) table files texts
+    same_by_firm texts p = record {
+      plan = plan_with workers p.plan;
+      summary = p.summary;
+      planned = still_planned p.plan p.planned;
+      run = record {
+        ends = same_length firm_decision workers p.plan p.summary.slots p.run.ends;
+        within = p.run.within;
+        numbers = p.run.numbers ∙ same_summary firm_decision workers p.plan p.summary.slots;
+      };
+      waits = λ level best. p.waits level (same_best firm_decision workers p.plan p.summary.slots level best);
+      are = p.are;
+    }
+
+-- ---- the job's outcome is the same
+
+pub same_outcome : (job : JobWords) (workers : ℕ) (table : List ℕ) (files : List (List ℕ)) (outcome : Result Texts PlanFault) → IsUpTo MAX_WORKERS workers → IsJobOutcome job table files outcome → IsJobOutcome (with_workers workers job) table files outcome
+same_outcome (run r) workers table files (Ok texts) few is = same_switched workers few r.settings table files (wanted_by r) texts is
+same_outcome (run r) workers table files (Err fault) few is = is
+same_outcome (gen g) workers table files (Ok texts) few is = same_switched workers few g.settings table files nothing_wanted texts is
+same_outcome (gen g) workers table files (Err fault) few is = is
+same_outcome (firm f) workers table files (Ok texts) few is = same_by_firm workers few f.settings table files texts is
+same_outcome (firm f) workers table files (Err fault) few is = is
+same_outcome (check file) workers table files outcome few is = is
+
+pub same_long_journal : (settings : Settings) (workers : ℕ) (table : List ℕ) (files : List (List ℕ)) (size : ℕ) → IsUpTo MAX_WORKERS workers → IsLongJournal settings table files size → IsLongJournal (settings_with workers settings) table files size
+same_long_journal settings workers table files size few p = record {
+  plan = plan_with workers p.plan;
+  slots = p.slots;
+  run = still_run workers few settings table files p.plan p.slots p.run;
+  size_is = p.size_is ∙ ap length (same_journal_text workers p.plan p.slots);
+  longer = p.longer;
+}
