@@ -1,4 +1,4 @@
-ghost use Rattle.std.specs.Prelude.{◌≡◌, ◌<◌, ◌↔◌, ◌⊎◌, ℕ, None, Some, length, map, slice_index_or};
+ghost use Rattle.std.specs.Prelude.{◌≡◌, ◌<◌, ◌↔◌, ◌⊎◌, ℕ, None, Some, drop, length, map, slice_index_or};
 ghost use Rattle.std.specs.List.{range_with_len};
 ghost use Rattle.rotating_pick.specs.PortSets.{Has};
 ghost use Rattle.rotating_pick.specs.declared.limits.TheConstants.{MAX_PORTS};
@@ -9,10 +9,11 @@ use crate::matching::{Fed, Match, Served};
 use rotating_pick::{PORT_COUNT, Ports, with};
 
 impl Match {
-    /// Writes each input's part of the match to the place of the input, None exactly where it is free. One
-    /// pass over the outputs serves all inputs.
+    /// Writes each input's part of the match to the place of the input, None exactly where it is free. The
+    /// places beyond the ports stay. One pass over the outputs serves all inputs.
     pub fn put_parts(&self, parts: &mut [Option<Served>; PORT_COUNT])
-        ensures { (i : ℕ) → i < length self.now → slice_index_or parts.new i None ≡ served_of self.now i }
+        ensures parts { (i : ℕ) → i < length self.now → slice_index_or parts.new i None ≡ served_of self.now i }
+        ensures others { drop (length self.now) parts.new ≡ drop (length self.now) parts.old }
     {
         let ports = self.ports() as usize;
         self.fill_parts(&mut parts[..ports]);

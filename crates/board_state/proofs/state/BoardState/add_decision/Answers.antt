@@ -60,7 +60,7 @@ invariant_of-self c =
           let at : t ≡ length s.matches.items = omega (arith, e, length_push s.matches.items made.out) in
           let found : c.index.result.now ≡ made.out = c.index.ensures ∙ ap (λ m. slice_index_or m c.len-slot.result c.index.result.now) (ap (λ m. slice_set m c.len-slot.result made.out) c.push_reserved.ensures.items ∙ matches) ∙ ap (λ (k : ℕ). slice_index_or (s.matches.items ++ made.out ∷ []) k c.index.result.now) at_end ∙ get_or-append_seam s.matches.items made.out [] c.index.result.now in
           let wide : i < length c.index.result.now = let count = c.decide-numbers.ensures.whole.count in let same = ap length found in omega arith in
-          c.put_parts.ensures i wide ∙ ap (λ m. served_of m i) found ∙ sym (ap (λ m. served_of m i) (ap (λ (k : ℕ). slice_index_or (s.matches.items ++ made.out ∷ []) k []) at ∙ get_or-append_seam s.matches.items made.out [] [])));
+          c.put_parts.ensures.parts i wide ∙ ap (λ m. served_of m i) found ∙ sym (ap (λ m. served_of m i) (ap (λ (k : ℕ). slice_index_or (s.matches.items ++ made.out ∷ []) k []) at ∙ get_or-append_seam s.matches.items made.out [] [])));
       room =
           rw (c.push_reserved.ensures.capacity, c.push_reserved-2.ensures.capacity, c.push_reserved-3.ensures.capacity)
           c.self.invariant.room;
