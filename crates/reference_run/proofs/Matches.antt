@@ -1,6 +1,5 @@
 -- The matches of a run, and the run as slots that serve what their rows name.
-use Rattle.std.proofs.Common.{◌≡◌, ◌∙◌, ℕ, suc, ◌+◌, ◌<◌, ◌≤◌, Bool, true, false, List, [], ◌∷◌, ◌++◌, map, length, slice_index_or, sym, ap, subst, arith, if◌then◌else◌}
-use Rattle.std.specs.Prelude.{fold, max, nat_lt}
+use Rattle.std.proofs.Common.{◌≡◌, ◌∙◌, ℕ, ◌+◌, ◌<◌, ◌≤◌, [], ◌∷◌, ◌++◌, map, length, slice_index_or, sym, ap, subst, arith}
 use Rattle.std.specs.List.{range_with_len}
 use Rattle.std.proofs.lemmas.List.FromFn.{length-map-range_with_len, get_or-map-range_with_len, map-range_with_len_more}
 use Rattle.std.proofs.lemmas.Simd.{map-map}
@@ -13,14 +12,14 @@ use Rattle.eslip_rounds.proofs.Scheduling.{IsScheduler-decision_of}
 use Rattle.crossbar.specs.declared.cards.Post.{Post}
 use Rattle.slot_histories.specs.Slots.{decision_at}
 use Rattle.slot_histories.specs.Answers.{JournalSlot}
-use Rattle.card_core.specs.declared.plan.Planned.{Planned}
 use Rattle.card_core.specs.Posts.{row_at}
-use Rattle.switch_plan.specs.Totals.{most_for, slots_of, greatest_slots}
-use Rattle.switch_plan.specs.GoodPlans.{SwitchPlan, IsGood, packets_in}
+use Rattle.switch_plan.specs.GoodPlans.{SwitchPlan, IsGood}
+use Rattle.switch_plan.proofs.RoomBounds.{most_few}
 use Rattle.whole_run.specs.Runs.{ports_of, setup_for, card_at, served_by, posts_in, run_slot}
 use Rattle.whole_run.specs.Ends.{IsLength}
 use Rattle.whole_run.proofs.Base.{served-is, row_at-same, good-card, sound, is-slot, pair-named}
 use Rattle.whole_run.proofs.RunEnds.{run_bound}
+use Rattle.whole_run.proofs.SlotLimits.{greatest-le}
 use Rattle.whole_run.proofs.RunWork.{total_admitted-le}
 use Rattle.output_queued.specs.Switches.{Matched, match_at, served_in, AreCards, AreServed}
 use Rattle.reference_run.specs.RunLines.{run_matches}
@@ -77,21 +76,11 @@ module _ (plan : SwitchPlan) where
         }
 
     -- ---- a run has few slots
-    greatest-from : (ports : List (List Planned)) (a n : ℕ) → a ≤ n → ((k : ℕ) (d : List Planned) → k < length ports → slots_of (slice_index_or ports k d) ≤ n) → fold (λ most packets. max most (slots_of packets)) a ports ≤ n
-    greatest-from [] a n first few = first
-    greatest-from (packets ∷ ports) a n first few =
-        let here = few 0 [] (omega arith) in
-        greatest-from ports (max a (slots_of packets)) n (omega arith) (λ k d inside. few (suc k) d (omega arith))
-
-    few-if : (b : Bool) → (if b then 65536 else 131072) ≤ 131072
-    few-if true = omega arith
-    few-if false = omega arith
-
     pub run-few : (slots : ℕ) → IsLength plan slots → slots ≤ 262145
     run-few slots end =
         let bound = run_bound decision_of IsScheduler-decision_of plan good slots end in
         let work = total_admitted-le decision_of plan slots in
         let cells = good.cells in
-        let few : most_for (ports_of plan) ≤ 131072 = few-if (nat_lt 32 (ports_of plan)) in
-        let greatest : greatest_slots (packets_in plan) ≤ most_for (ports_of plan) = greatest-from (packets_in plan) 0 (most_for (ports_of plan)) (omega arith) good.slots in
+        let few = most_few (ports_of plan) in
+        let greatest = greatest-le plan good in
         omega arith

@@ -8,6 +8,7 @@ pub mod RangeSums
 pub mod CardWork
 pub mod RunWork
 pub mod RunEnds
+pub mod SlotLimits
 pub mod Rooms
 pub mod FlowSums
 pub mod FirstParts
