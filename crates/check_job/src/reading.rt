@@ -4,18 +4,8 @@ ghost use Rattle.check_job.specs.Checks.{MeansCheck};
 
 use crate::ending::CheckEnding;
 use journal_check::MAX_JOURNAL_BYTES;
-use outside::{Files, ReadFailure, read_whole};
-use std::alloc::{AllocError, Global};
-
-/// The most bytes that are asked for at once.
-const PIECE: usize = 65_536;
-
-// A function of its own, so that the prover does not unfold a list of 65,536 zeros.
-fn blank(alloc: Global, len: usize) -> Result<Vec<u8>, AllocError>
-    ensures { IfOk result (λ v. length v.items ≡ len) }
-{
-    vec![in alloc; 0u8; len]
-}
+use outside::{Files, ReadFailure, read_buffer, read_whole};
+use std::alloc::Global;
 
 /// All bytes of the named file, of which there are at most 134,217,728.
 pub(crate) fn read_journal<F: Files>(
@@ -29,7 +19,7 @@ pub(crate) fn read_journal<F: Files>(
     ensures fits { IfOk result (λ v. length v.items ≤ MAX_JOURNAL_BYTES) }
     ensures stops { IfErr result (MeansCheck name.now (F.told files.old) (F.told files.new) (F.faults files.old) (F.faults files.new)) }
 {
-    let Ok(mut piece) = blank(alloc, PIECE) else {
+    let Ok(mut piece) = read_buffer(alloc) else {
         return Err(CheckEnding::OutOfMemory);
     };
     match read_whole(alloc, files, name, MAX_JOURNAL_BYTES, piece.as_mut_slice()) {

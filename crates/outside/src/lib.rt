@@ -11,4 +11,4 @@ pub use disk_files::DiskFiles;
 pub use files::{Failed, Files};
 pub use memory_files::{Call, Fail, MemFiles, names_differ};
 pub use standard_error::StandardError;
-pub use whole_file::{ReadFailure, put_out, put_whole, read_whole};
+pub use whole_file::{ReadFailure, put_out, put_whole, read_buffer, read_whole};

@@ -3,7 +3,10 @@ ghost use Rattle.outside.specs.Faults.{ReadOf, ToOut, NeverFall, Rose};
 ghost use Rattle.outside.specs.WholeFiles.{Appends, GivesOut, IsLongerThan, Puts};
 
 use crate::files::{Failed, Files};
-use std::alloc::Global;
+use std::alloc::{AllocError, Global};
+
+/// The bytes of a buffer that files are read through.
+const PIECE: usize = 65_536;
 
 /// Why a file was not read.
 #[derive(Clone, Copy, Debug, PartialEq, Eq)]
@@ -14,6 +17,20 @@ pub enum ReadFailure {
     TooLong,
     /// There was no memory for its bytes.
     OutOfMemory,
+}
+
+// `len` zeros. A function of its own, so that the prover does not unfold a list of 65,536 of them.
+fn zeros(alloc: Global, len: usize) -> Result<Vec<u8>, AllocError>
+    ensures { IfOk result (λ v. length v.items ≡ len) }
+{
+    vec![in alloc; 0u8; len]
+}
+
+/// A buffer of 65,536 bytes to read files through, as by [`read_whole`]. Its one error is want of memory.
+pub fn read_buffer(alloc: Global) -> Result<Vec<u8>, AllocError>
+    ensures { IfOk result (λ v. length v.items ≡ 65536) }
+{
+    zeros(alloc, PIECE)
 }
 
 // Reads all bytes of the named file, up to the limit, into an empty list, through a buffer.

@@ -10,14 +10,11 @@ ghost use Rattle.switch_run.specs.Jobs.{IsInput, input_name, run_reads, firm_rea
 ghost use Rattle.switch_run.specs.Making.{AreOfSize, StopsReading, reads_words};
 
 use crate::ending::Ending;
-use outside::{Files, ReadFailure, read_whole};
+use outside::{Files, ReadFailure, read_buffer, read_whole};
 use rotating_pick::{MAX_FILE_BYTES, MAX_PORTS, OutOfMemory};
-use std::alloc::{AllocError, Global};
+use std::alloc::Global;
 use switch_plan::made_input;
 use switch_words::{FirmJob, GenJob, RunJob};
-
-/// The most bytes that are asked for at once.
-const PIECE: usize = 65_536;
 
 /// A file that a job reads.
 #[derive(Clone, Copy, Debug, PartialEq, Eq)]
@@ -75,13 +72,6 @@ pub(crate) fn input_name<'a>(reads: &Reads<'a>, input: InputFile) -> &'a str
             None => "",
         },
     }
-}
-
-// A function of its own, so that the prover does not unfold a list of 65,536 zeros.
-fn blank(alloc: Global, len: usize) -> Result<Vec<u8>, AllocError>
-    ensures { IfOk result (λ v. length v.items ≡ len) }
-{
-    vec![in alloc; 0u8; len]
 }
 
 // All bytes of the table, or of the capture of a port.
@@ -149,7 +139,7 @@ pub(crate) fn read_inputs<F: Files>(
     ensures read { IfOk result (λ i. AreFilesRead (reads_words reads.now) (F.told files.old) i.table.items (bytes_of_files i.captures)) }
     ensures stops { IfErr result (StopsReading (reads_words reads.now) (F.told files.old) (F.faults files.old) (F.faults files.new)) }
 {
-    let Ok(mut piece) = blank(alloc, PIECE) else {
+    let Ok(mut piece) = read_buffer(alloc) else {
         return Err(Ending::OutOfMemory);
     };
     let buf = piece.as_mut_slice();

@@ -1,4 +1,4 @@
-use crate::{Call, Fail, Failed, Files, MemFiles, names_differ};
+use crate::{Call, Fail, Failed, Files, MemFiles, names_differ, read_buffer};
 use std::alloc::{AllocError, Global};
 use std::process::Abort;
 use std::test;
@@ -106,6 +106,8 @@ fn reads_in_pieces(rt: HostRuntime) -> Result<(), test::Fail> {
         assert_eq!(rt; buf[0], first, "at {at}");
     }
     assert_eq!(rt; files.read("b", 0, &mut [0; 4]), Err(Failed));
+    let mut buf = read_buffer(rt.alloc())?;
+    assert_eq!(rt; files.read("a", 0, buf.as_mut_slice()), Ok(12));
     Ok(())
 }
 
