@@ -14,6 +14,8 @@ mod ranks;
 mod refusals;
 mod rounds;
 mod slot;
+#[cfg(test)]
+mod tests;
 
 pub use refusals::Refused;
 pub use slot::{decide, decide_with_refused};

@@ -6,5 +6,7 @@
 
 pub mod laws;
 mod slot;
+#[cfg(test)]
+mod tests;
 
 pub use slot::decide_firm;
