@@ -37,7 +37,7 @@ entered_if : (s t : Passed) (b : Bool) → t.entered ≡ s.entered → (if b the
 entered_if s t true same = refl
 entered_if s t false same = same
 
-entered_stays : (q : Queue) (s : Passed) (part : Option Served) (w : List FanCell) → (after_part_of q s part w).entered ≡ s.entered
+pub entered_stays : (q : Queue) (s : Passed) (part : Option Served) (w : List FanCell) → (after_part_of q s part w).entered ≡ s.entered
 entered_stays q s part [] = refl
 entered_stays q s part (c ∷ w) = entered_if s (with_since s (part ∷ s.since)) (rest_of q (with_since s (part ∷ s.since)) == 0) refl
 

@@ -56,11 +56,11 @@ fan_cell fan name = record { name = name; fan = fan }
 abbrev cell_name : ℕ → ℕ → ℕ → CellName
 cell_name k total i = record { packet = k; number = i; last = i + 1 == total }
 
-all_go : (j fan : ℕ) (names : List CellName) → has fan j ≡ true → to_output j (map (fan_cell fan) names) ≡ map (fan_cell fan) names
+pub all_go : (j fan : ℕ) (names : List CellName) → has fan j ≡ true → to_output j (map (fan_cell fan) names) ≡ map (fan_cell fan) names
 all_go j fan [] yes' = refl
 all_go j fan (name ∷ names) yes' = rw yes' (ap (λ w. fan_cell fan name ∷ w) (all_go j fan names yes'))
 
-none_goes : (j fan : ℕ) (names : List CellName) → has fan j ≡ false → to_output j (map (fan_cell fan) names) ≡ []
+pub none_goes : (j fan : ℕ) (names : List CellName) → has fan j ≡ false → to_output j (map (fan_cell fan) names) ≡ []
 none_goes j fan [] no' = refl
 none_goes j fan (name ∷ names) no' = rw no' (none_goes j fan names no')
 
@@ -75,11 +75,11 @@ module _ (plan : Plan) (good : IsGoodPlan plan) where
       ap (λ r. cell_in plan r a ∷ cells_named (map (fan_cell p.fan) (map (cell_name k total) (range_with_len (a + 1) n)))) at
       ∙ ap (λ w. cell_in plan p a ∷ w) (cells-are k total p at (a + 1) n)
 
-  message-long : (k : ℕ) (p : Planned) → slice_get plan.packets k ≡ Some p → length (message_of plan p) ≡ 16 + p.len
+  pub message-long : (k : ℕ) (p : Planned) → slice_get plan.packets k ≡ Some p → length (message_of plan p) ≡ 16 + p.len
   message-long k p there =
       length-message p.seconds p.nanos p.original (bytes_of plan p) ∙ ap (λ n. 16 + n) (length-place plan.bytes p.start p.len (good.packets k p there).place)
 
-  packet-cells : (k : ℕ) (p : Planned) → slice_get plan.packets k ≡ Some p
+  pub packet-cells : (k : ℕ) (p : Planned) → slice_get plan.packets k ≡ Some p
       → cells_named (cells_with_fan k (size_of p) p.fan) ≡ cells_of_message plan.card (level_of (queue_of p)) (kind_of (queue_of p)) (message_of plan p)
   packet-cells k p there =
       cells-are k (size_of p) p (get_some plan.packets k p no_packet there) 0 (size_of p)

@@ -27,7 +27,7 @@ granted card part (Some found) fed grant own level kind = (found, refl, record {
 
 module _ (scheduler : Scheduler) (plan : SwitchPlan) where
   -- the cell that an input posts
-  posted_cell : (t i : ℕ) → i < ports_of plan → deposit_of (map (λ post. post.cell) (slot_posts (ports_of plan) (posts_under scheduler plan) t)) i ≡ (posts_under scheduler plan i t).cell
+  pub posted_cell : (t i : ℕ) → i < ports_of plan → deposit_of (map (λ post. post.cell) (slot_posts (ports_of plan) (posts_under scheduler plan) t)) i ≡ (posts_under scheduler plan i t).cell
   posted_cell t i inside =
       let cell : CardPost → Option Cell = λ post. post.cell in
       get_or-map cell (slot_posts (ports_of plan) (posts_under scheduler plan) t) i no_post None (omega (arith, length-slot_posts (ports_of plan) (posts_under scheduler plan) t))

@@ -21,12 +21,13 @@ use Rattle.card_core.specs.Queues.{is_routed, is_admitted, enters}
 use Rattle.card_core.specs.Grants.{packets_to}
 use Rattle.card_core.specs.Deliveries.{flow_cells, messages_from, delivered}
 use Rattle.card_core.proofs.Delivering.{flow_is_cut}
+use Rattle.card_core.proofs.Messaging.{message-long}
 use Rattle.switch_plan.specs.Totals.{message_length, body_room_for, packet_room_for}
 use Rattle.switch_plan.specs.GoodPlans.{SwitchPlan, IsGood, packets_in}
 use Rattle.whole_run.specs.Runs.{ports_of, card_at, parts_under}
 use Rattle.whole_run.specs.Crossings.{cells_under, queue_to}
 use Rattle.whole_run.proofs.Base.{good-card}
-use Rattle.whole_run.proofs.Rooms.{packets-at, message-long}
+use Rattle.whole_run.proofs.Rooms.{packets-at}
 use Rattle.whole_run.proofs.OfFlows.{all_of_flows}
 use Rattle.whole_run.proofs.FlowCells.{flow-messages}
 use Rattle.whole_run.proofs.FlowSums.{sum_same, sum_most, sum_range-le, level_sum, level_add, delivered-sum}
@@ -159,7 +160,7 @@ module _ (scheduler : Scheduler) (scheduling : IsScheduler scheduler) (plan : Sw
     delivered_fits : j < ports_of plan → (sum_by length (delivered (cells_under scheduler plan j t)) ≤ (card_at plan j).body_room) × (length (delivered (cells_under scheduler plan j t)) ≤ (card_at plan j).packet_room)
     delivered_fits to =
         let mine = good-card plan good j to in
-        let bytes : sum_by length (delivered (cells_under scheduler plan j t)) ≤ body_room_for j (packets_in plan) = delivered_weight length message_length (λ i k p inside there. message-long plan good i k p inside there) in
+        let bytes : sum_by length (delivered (cells_under scheduler plan j t)) ≤ body_room_for j (packets_in plan) = delivered_weight length message_length (λ i k p inside there. message-long (card_at plan i) (good-card plan good i inside).good k p there) in
         let count : sum_by (λ m. 1) (delivered (cells_under scheduler plan j t)) ≤ packet_room_for j (packets_in plan) = delivered_weight (λ m. 1) (λ p. 1) (λ i k p inside there. refl) in
         (omega (arith, bytes, mine.body), omega (arith, count, mine.messages, ones (delivered (cells_under scheduler plan j t)))) where
           ones : (xs : List (List ℕ)) → sum_by (λ m. 1) xs ≡ length xs

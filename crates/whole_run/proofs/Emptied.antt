@@ -1,7 +1,6 @@
 -- Where a run ends no cell waits, so each message of the admitted packets was delivered.
 use Rattle.std.proofs.Common.{◌≡◌, ◌∙◌, ℕ, suc, ◌<◌, not, nat_lt, Bool, true, false, List, [], ◌∷◌, ◌++◌, map, Option, None, slice_index_or, refl, sym, ap, subst, arith, if◌then◌else◌}
-use Rattle.std.specs.Prelude.{slice_index}
-use Rattle.std.specs.List.{range_with_len, list_any, list_all}
+use Rattle.std.specs.List.{list_any, list_all}
 use Rattle.std.proofs.lemmas.Bool.{or_parts}
 use Rattle.std.proofs.lemmas.List.{append-nil}
 use Rattle.std.proofs.lemmas.List.Folds.{list_all_at}
@@ -12,7 +11,6 @@ use Rattle.rotating_pick.specs.declared.kinds.Kind.TheVariants.{Uni, Multi}
 use Rattle.rotating_pick.specs.declared.limits.TheConstants.{LEVELS}
 use Rattle.slot_match.specs.declared.matching.Served.{Served}
 use Rattle.slot_match.specs.Rows.{IsEmptyRow}
-use Rattle.slot_match.proofs.Sets.{Has-set_of}
 use Rattle.multicast_queue.specs.FanQueues.{FanCell, first_fan}
 use Rattle.crossbar.specs.declared.cards.Post.{Post as CardPost}
 use Rattle.eslip_rounds.specs.Schedulers.{Scheduler, IsScheduler}
@@ -24,12 +22,12 @@ use Rattle.slot_histories.proofs.PostedRows.{length-slot_posts}
 use Rattle.reassembly.specs.Cutting.{messages_of}
 use Rattle.card_core.specs.Plans.{Plan, Queue, OfOutput, OfLevel, IsGoodPlan, message_of}
 use Rattle.card_core.specs.Queues.{waiting, remaining, after_part_of, before as queue_before, queue_in}
-use Rattle.card_core.specs.Posts.{has_cells, unis_at, rest_at, row_at}
+use Rattle.card_core.specs.Posts.{has_cells, row_at}
 use Rattle.card_core.specs.Grants.{serves, first_of, granted_to}
 use Rattle.card_core.specs.Deliveries.{messages_from}
 use Rattle.card_core.proofs.Remaining.{lacks, remaining-some}
 use Rattle.card_core.proofs.Passing.{kept-in}
-use Rattle.card_core.proofs.Accepting.{head-of}
+use Rattle.card_core.proofs.Accepting.{head-of, uni-from, multi-from}
 use Rattle.card_core.proofs.Granting.{all_granted}
 use Rattle.card_core.proofs.Messaging.{messages-are}
 use Rattle.card_core.proofs.Delivering.{flow_is_cut}
@@ -42,14 +40,9 @@ use Rattle.whole_run.proofs.PacketCells.{named}
 use Rattle.whole_run.proofs.FlowCells.{granted_cells}
 
 -- ---- a queue of which the row names nothing is empty
-set_is : (f : ℕ → ℕ) (level : ℕ) → level < 4 → slice_index (map f (range_with_len 0 4)) level ≡ f level
-set_is f level below = get_or-map-range_with_len f 0 4 level level 0 below (omega arith)
-
 module _ (card : Plan) (good : IsGoodPlan card) (served : List (Option Served)) (t : ℕ) (none : IsEmptyRow (row_at card served t)) where
   uni_waits : (j level : ℕ) → j < card.ports → level < 4 → has_cells (waiting (queue_in card (OfOutput j level) served t)) ≡ true → ⊥
-  uni_waits j level inside below some =
-      let member = (Has-set_of card.ports (λ k. has_cells (waiting (queue_in card (OfOutput k level) served t))) j).1 (inside, some) in
-      none level j Uni (subst (λ set. Has set j) (sym (set_is (unis_at card served t) level below)) member)
+  uni_waits j level inside below some = none level j Uni (uni-from card good served t level j below inside some)
 
   multi_waits : (level : ℕ) → level < 4 → (c : FanCell) (w : List FanCell) → waiting (queue_in card (OfLevel level) served t) ≡ c ∷ w → ⊥
   multi_waits level below c w is =
@@ -57,8 +50,7 @@ module _ (card : Plan) (good : IsGoodPlan card) (served : List (Option Served)) 
       let s = queue_in card q served t in
       let head = head-of card good q s c w (kept-in card good q served t) is in
       let (y, left) = remaining-some q c.fan s.since head.1 in
-      let member : Has (rest_at card served t level) y = subst (λ f. Has (remaining q f s.since) y) (sym (ap first_fan is)) left in
-      none level y Multi (subst (λ set. Has set y) (sym (set_is (rest_at card served t) level below)) member)
+      none level y Multi (multi-from card good served t level y below (subst (λ f. Has (remaining q f s.since) y) (sym (ap first_fan is)) left))
 
   uni_none : (j level : ℕ) → j < card.ports → level < 4 → (w : List FanCell) → waiting (queue_in card (OfOutput j level) served t) ≡ w → w ≡ []
   uni_none j level inside below [] is = refl
@@ -68,7 +60,7 @@ module _ (card : Plan) (good : IsGoodPlan card) (served : List (Option Served)) 
   multi_none level below [] is = refl
   multi_none level below (c ∷ w) is = absurd (multi_waits level below c w is)
 
-  none_waits : (j level : ℕ) (kind : Kind) → j < card.ports → level < 4 → waiting (queue_in card (queue_to j level kind) served t) ≡ []
+  pub none_waits : (j level : ℕ) (kind : Kind) → j < card.ports → level < 4 → waiting (queue_in card (queue_to j level kind) served t) ≡ []
   none_waits j level Uni inside below = uni_none j level inside below (waiting (queue_in card (OfOutput j level) served t)) refl
   none_waits j level Multi inside below = multi_none level below (waiting (queue_in card (OfLevel level) served t)) refl
 
@@ -78,7 +70,7 @@ nothing_more true cells = append-nil cells
 nothing_more false cells = append-nil cells
 
 module _ (card : Plan) (q : Queue) (j : ℕ) (served : List (Option Served)) (t : ℕ) (empty : waiting (queue_in card q served t) ≡ []) where
-  stays_empty : waiting (queue_before card q served (suc t)) ≡ []
+  pub stays_empty : waiting (queue_before card q served (suc t)) ≡ []
   stays_empty = ap (λ w. waiting (after_part_of q (queue_in card q served t) (slice_index_or served t None) w)) empty ∙ empty
 
   nothing_granted : granted_to card q j served (suc t) ≡ granted_to card q j served t
@@ -106,7 +98,7 @@ module _ (scheduler : Scheduler) (scheduling : IsScheduler scheduler) (plan : Sw
   last_more : (i t : ℕ) → i < ports_of plan → is_done_at (ports_of plan) (posts_under scheduler plan) t ≡ true → (posts_under scheduler plan i t).more ≡ false
   last_more i t inside done = lacks (posts_under scheduler plan i t).more (no_more i t inside done)
 
-  last_row : (i t : ℕ) → i < ports_of plan → is_done_at (ports_of plan) (posts_under scheduler plan) t ≡ true → IsEmptyRow (row_at (card_at plan i) (parts_under scheduler plan i (suc t)) t)
+  pub last_row : (i t : ℕ) → i < ports_of plan → is_done_at (ports_of plan) (posts_under scheduler plan) t ≡ true → IsEmptyRow (row_at (card_at plan i) (parts_under scheduler plan i (suc t)) t)
   last_row i t inside done =
       let card = card_at plan i in
       let row = row_at card (parts_under scheduler plan i t) t in

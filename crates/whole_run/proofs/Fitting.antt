@@ -24,6 +24,7 @@ use Rattle.card_core.specs.Plans.{Plan, OfOutput, OfLevel, level_of, kind_of, qu
 use Rattle.card_core.specs.Deliveries.{is_of_flow, flow_cells, message_with, delivered}
 use Rattle.card_core.specs.Cards.{Received, HasReceived, MayReceiveAny, flow_at}
 use Rattle.card_core.proofs.Delivering.{delivered-push}
+use Rattle.card_core.proofs.Messaging.{message-long}
 use Rattle.switch_plan.specs.GoodPlans.{SwitchPlan, IsGood}
 use Rattle.whole_run.specs.Runs.{ports_of, setup_for, card_at, parts_under, posts_under}
 use Rattle.whole_run.specs.Crossings.{cells_under, queue_to}
@@ -31,7 +32,7 @@ use Rattle.whole_run.proofs.Base.{good-card, sound}
 use Rattle.whole_run.proofs.Rooms.{size-enough}
 use Rattle.whole_run.proofs.Delivered.{delivered-fit}
 use Rattle.whole_run.proofs.FirstParts.{IsNextOf, next_is}
-use Rattle.whole_run.proofs.PacketCells.{IsMessageTo, message-long, packets_hold}
+use Rattle.whole_run.proofs.PacketCells.{IsMessageTo, packets_hold}
 use Rattle.whole_run.proofs.FlowCells.{IsFrom, level_to, kind_to, flow_one, cells_to-push, flow_first}
 use Rattle.whole_run.proofs.OfFlows.{feeds, comes_from}
 
@@ -131,7 +132,7 @@ module _ (scheduler : Scheduler) (scheduling : IsScheduler scheduler) (plan : Sw
         let enough = size-enough plan good i j of.place p inside to of.there of.goes in
         let at : place_of i p.level (kind_of (queue_of p)) ≡ place_of i level kind = ap (λ x. place_of i x (kind_of (queue_of p))) levels ∙ ap (place_of i level) kinds in
         let room : length m ≤ flow.size = omega (arith, ap length of.is, size, enough, ap (slice_index (card_at plan j).sizes) at) in
-        let few : length m ≤ 65551 = omega (arith, ap length of.is, message-long card mine.good (queue_to j level kind) j of.place p of.there, planned.forwarded of.routed) in
+        let few : length m ≤ 65551 = omega (arith, ap length of.is, message-long card mine.good of.place p of.there, planned.forwarded of.routed) in
         subst (Fits r.flows) (sym next.is)
         (Fits-next r.flows flow.size i level k kind m (omega (arith, ports, mine.good.size, mine.ports)) (omega (arith, ports)) below few room next.few begun)
 

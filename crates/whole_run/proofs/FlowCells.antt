@@ -3,9 +3,8 @@ use Rattle.std.proofs.Common.{◌≡◌, ◌∙◌, ℕ, zero, suc, ◌+◌, ◌
 use Rattle.std.specs.List.{range_with_len, flat_map}
 use Rattle.std.specs.Option.{option_map, option_to_list}
 use Rattle.std.proofs.lemmas.Bool.{and_from, and_parts, eqb-true, eq-eqb}
-use Rattle.std.proofs.lemmas.List.{append-nil, get_or-map, map-append, take-append-drop}
+use Rattle.std.proofs.lemmas.List.{append-nil, map-append, take-append-drop}
 use Rattle.std.proofs.lemmas.List.Elements.{filter-append}
-use Rattle.std.proofs.lemmas.List.FromFn.{get_or-map-range_with_len}
 use Rattle.std.proofs.Math.Seq.{take-append_seam}
 use Rattle.rotating_pick.specs.declared.kinds.Kind.{Kind}
 use Rattle.rotating_pick.specs.declared.kinds.Kind.TheVariants.{Uni, Multi}
@@ -19,14 +18,11 @@ use Rattle.slot_match.specs.Matches.{fed_of, Serves}
 use Rattle.slot_match.proofs.Pairs.{Serves-from}
 use Rattle.slot_match.proofs.KeepingParts.{Gives-iff_serves}
 use Rattle.multicast_queue.specs.FanQueues.{FanCell, first_fan, first_name}
-use Rattle.crossbar.specs.Crossing.{deposit_of, deposit_by}
-use Rattle.crossbar.specs.declared.cards.Post.{Post as CardPost}
+use Rattle.crossbar.specs.Crossing.{deposit_by}
 use Rattle.eslip_rounds.specs.Schedulers.{Scheduler, IsScheduler}
-use Rattle.slot_histories.specs.Events.{no_post}
 use Rattle.slot_histories.specs.Slots.{slot_posts, decision_under, served_under, crossed_under}
 use Rattle.slot_histories.specs.Tests.{has, gives}
 use Rattle.slot_histories.proofs.KeepingTests.{Decides-gives}
-use Rattle.slot_histories.proofs.PostedRows.{length-slot_posts}
 use Rattle.reassembly.specs.Cutting.{rest_after, pieces_after, joined, messages_of}
 use Rattle.card_core.specs.declared.plan.Planned.{Planned}
 use Rattle.card_core.specs.Plans.{Plan, Queue, level_of, kind_of, queue_of, message_of, cell_named, no_packet}
@@ -43,6 +39,7 @@ use Rattle.switch_plan.specs.GoodPlans.{SwitchPlan, IsGood}
 use Rattle.whole_run.specs.Runs.{ports_of, setup_for, card_at, parts_under, posts_under}
 use Rattle.whole_run.specs.Crossings.{cells_under, queue_to}
 use Rattle.whole_run.proofs.Base.{good-card, sound, served-at, servable, granted_to-same}
+use Rattle.whole_run.proofs.Crossed.{posted_cell}
 use Rattle.whole_run.proofs.FirstParts.{messages_of-append}
 use Rattle.whole_run.proofs.PacketCells.{named, packets_cells}
 
@@ -143,12 +140,6 @@ module _ (scheduler : Scheduler) (scheduling : IsScheduler scheduler) (plan : Sw
       serves_gives j level kind (part_at i t)
       ∙ (Decides-gives (part_at i t) j level kind).1 ((Gives-iff_serves (ports_of plan) (matched_at t) (sound scheduler scheduling plan good t).matches i j level kind).1 is)
 
-  posted_cell : (t i : ℕ) → i < ports_of plan → deposit_of (map (λ post. post.cell) (slot_posts (ports_of plan) (posts_under scheduler plan) t)) i ≡ (posts_under scheduler plan i t).cell
-  posted_cell t i inside =
-      let cell : CardPost → Option Cell = λ post. post.cell in
-      get_or-map cell (slot_posts (ports_of plan) (posts_under scheduler plan) t) i no_post None (omega (arith, length-slot_posts (ports_of plan) (posts_under scheduler plan) t))
-      ∙ ap cell (get_or-map-range_with_len (λ k. posts_under scheduler plan k t) 0 (ports_of plan) i i no_post inside (omega arith))
-
   -- what crosses is the first cell of the queue that was served
   pub crossed_is : (i j level : ℕ) (kind : Kind) (t : ℕ) → Serves (matched_at t) i j level kind
       → option_to_list (crossed_under scheduler (setup_for plan) (posts_under scheduler plan) j (suc t)) ≡ named (card_at plan i) (first_of (waits_at i (queue_to j level kind) t))
@@ -161,7 +152,7 @@ module _ (scheduler : Scheduler) (scheduling : IsScheduler scheduler) (plan : Sw
       let first : granted_at card (parts_under scheduler plan i (suc t)) (suc t) ≡ option_map (cell_named card) (first_name (waits_at i q t)) =
       first_granted card (good-card plan good i inside).good (parts_under scheduler plan i (suc t)) q j t (servable scheduler scheduling plan good i t (suc t) inside (omega arith)) (ap (serves q j) part ∙ serves_to i j level kind t feeds) in
       ap (λ o. option_to_list (deposit_by deposits o)) feeds
-      ∙ ap option_to_list (posted_cell (suc t) i inside ∙ first)
+      ∙ ap option_to_list (posted_cell scheduler plan (suc t) i inside ∙ first)
       ∙ first_list card (waits_at i q t)
 
   pub crossed_from : (i j level : ℕ) (kind : Kind) (t : ℕ) → i < ports_of plan → FirstsAre i level kind (card_at plan i) (waits_at i (queue_to j level kind) t)

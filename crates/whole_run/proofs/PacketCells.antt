@@ -1,6 +1,6 @@
 -- The cells of a queue that go to an output are those of the messages of its admitted packets that go there.
-use Rattle.std.proofs.Common.{◌≡◌, ◌≢◌, ◌∙◌, ℕ, zero, suc, ◌+◌, ◌&&◌, ◌==◌, not, nat_lt, Bool, true, false, List, [], ◌∷◌, ◌++◌, map, filter, length, Option, Some, slice_get, slice_index_or, refl, sym, ap, arith, if◌then◌else◌}
-use Rattle.std.specs.List.{range_with_len, flat_map}
+use Rattle.std.proofs.Common.{◌≡◌, ◌≢◌, ◌∙◌, ℕ, suc, ◌+◌, ◌&&◌, ◌==◌, not, nat_lt, Bool, true, false, List, [], ◌∷◌, ◌++◌, map, filter, Option, Some, slice_get, refl, sym, ap, arith, if◌then◌else◌}
+use Rattle.std.specs.List.{flat_map}
 use Rattle.std.proofs.lemmas.Bool.{and_parts, eq-eqb}
 use Rattle.std.proofs.lemmas.List.{map-append}
 use Rattle.std.proofs.lemmas.List.Elements.{filter-append}
@@ -8,18 +8,14 @@ use Rattle.slot_match.specs.declared.matching.Served.{Served}
 use Rattle.slot_histories.specs.Tests.{has}
 use Rattle.multicast_queue.specs.FanQueues.{FanCell}
 use Rattle.cell_cutter.specs.declared.cell.Cell.{Cell}
-use Rattle.cell_cutter.specs.declared.cell.CellName.{CellName}
-use Rattle.cell_cutter.specs.Messages.{cells_in}
 use Rattle.cell_cutter.specs.Cells.{cells_of_message}
-use Rattle.cell_cutter.proofs.Payloads.{length-message}
 use Rattle.cell_rings.specs.CellQueues.{names_of_packet, cells_with_fan}
 use Rattle.card_core.specs.declared.plan.Planned.{Planned}
-use Rattle.card_core.specs.Plans.{Plan, Queue, IsGoodPlan, is_queue, queue_of, size_of, level_of, kind_of, bytes_of, message_of, cell_in, cell_named, no_packet}
+use Rattle.card_core.specs.Plans.{Plan, Queue, IsGoodPlan, is_queue, queue_of, size_of, level_of, kind_of, message_of, cell_named}
 use Rattle.card_core.specs.Queues.{before, is_routed, is_admitted, enters, cells_admitted}
 use Rattle.card_core.specs.Grants.{to_output, packets_to}
-use Rattle.card_core.proofs.Ascending.{get_some}
-use Rattle.card_core.proofs.Accepting.{length-place}
 use Rattle.card_core.proofs.Admitting.{entered-is}
+use Rattle.card_core.proofs.Messaging.{all_go, none_goes, message-long, packet-cells}
 use Rattle.card_core.proofs.Passing.{is_queue-same}
 use Rattle.whole_run.proofs.FirstParts.{AllHold}
 
@@ -38,44 +34,17 @@ pub record IsMessageTo (plan : Plan) (q : Queue) (j : ℕ) (message : List ℕ) 
   pub is : message ≡ message_of plan packet
 
 -- ---- the cells of a packet
-abbrev fan_cell : ℕ → CellName → FanCell
-fan_cell fan name = record { name = name; fan = fan }
-
-abbrev cell_name : ℕ → ℕ → ℕ → CellName
-cell_name k total i = record { packet = k; number = i; last = i + 1 == total }
-
-all_go : (j fan : ℕ) (names : List CellName) → has fan j ≡ true → to_output j (map (fan_cell fan) names) ≡ map (fan_cell fan) names
-all_go j fan [] goes = refl
-all_go j fan (name ∷ names) goes = rw goes (ap (λ w. fan_cell fan name ∷ w) (all_go j fan names goes))
-
-none_goes : (j fan : ℕ) (names : List CellName) → has fan j ≡ false → to_output j (map (fan_cell fan) names) ≡ []
-none_goes j fan [] stays = refl
-none_goes j fan (name ∷ names) stays = rw stays (none_goes j fan names stays)
-
 some_fan : (p : Planned) → is_routed p ≡ true → p.fan ≢ 0
 some_fan p routed none = let e = eq-eqb p.fan 0 none in let r : not (p.fan == 0) ≡ true = routed in let r' : not true ≡ true = rw e at r in absurd (cc)
 
 module _ (plan : Plan) (good : IsGoodPlan plan) (q : Queue) (j : ℕ) where
-  cells-are : (k total : ℕ) (p : Planned) → slice_index_or plan.packets k no_packet ≡ p → (a n : ℕ)
-      → named plan (map (fan_cell p.fan) (map (cell_name k total) (range_with_len a n))) ≡ map (cell_in plan p) (range_with_len a n)
-  cells-are k total p at a zero = refl
-  cells-are k total p at a (suc n) =
-      ap (λ r. cell_in plan r a ∷ named plan (map (fan_cell p.fan) (map (cell_name k total) (range_with_len (a + 1) n)))) at
-      ∙ ap (λ w. cell_in plan p a ∷ w) (cells-are k total p at (a + 1) n)
-
-  pub message-long : (k : ℕ) (p : Planned) → slice_get plan.packets k ≡ Some p → length (message_of plan p) ≡ 16 + p.len
-  message-long k p there =
-      length-message p.seconds p.nanos p.original (bytes_of plan p) ∙ ap (λ n. 16 + n) (length-place plan.bytes p.start p.len (good.packets k p there).place)
-
   -- the cells of the queue's messages
   abbrev cells_of : List ℕ → List Cell
   cells_of message = cells_of_message plan.card (level_of q) (kind_of q) message
 
-  packet-cells : (k : ℕ) (p : Planned) → slice_get plan.packets k ≡ Some p → q ≡ queue_of p → named plan (cells_with_fan k (size_of p) p.fan) ≡ cells_of (message_of plan p)
-  packet-cells k p there is =
-      cells-are k (size_of p) p (get_some plan.packets k p no_packet there) 0 (size_of p)
-      ∙ ap (λ n. map (cell_in plan p) (range_with_len 0 (cells_in n))) (sym (message-long k p there))
-      ∙ ap (λ r. cells_of_message plan.card (level_of r) (kind_of r) (message_of plan p)) (sym is)
+  queue-cells : (k : ℕ) (p : Planned) → slice_get plan.packets k ≡ Some p → q ≡ queue_of p → named plan (cells_with_fan k (size_of p) p.fan) ≡ cells_of (message_of plan p)
+  queue-cells k p there is =
+      packet-cells plan good k p there ∙ ap (λ r. cells_of_message plan.card (level_of r) (kind_of r) (message_of plan p)) (sym is)
 
   cells_step : (k : ℕ) (p : Planned) → slice_get plan.packets k ≡ Some p → (cells : List FanCell) (packets : List Planned) (b h : Bool) → (b ≡ true → q ≡ queue_of p) → has p.fan j ≡ h
       → named plan (to_output j cells) ≡ flat_map cells_of (map (message_of plan) packets)
@@ -84,7 +53,7 @@ module _ (plan : Plan) (good : IsGoodPlan plan) (q : Queue) (j : ℕ) where
       let own = cells_with_fan k (size_of p) p.fan in
       ap (named plan) (filter-append (λ (cell : FanCell). has cell.fan j) own cells ∙ ap (λ w. w ++ to_output j cells) (all_go j p.fan (names_of_packet k (size_of p)) goes))
       ∙ map-append (λ (cell : FanCell). cell_named plan cell.name) own (to_output j cells)
-      ∙ ap (λ w. w ++ named plan (to_output j cells)) (packet-cells k p there (of refl))
+      ∙ ap (λ w. w ++ named plan (to_output j cells)) (queue-cells k p there (of refl))
       ∙ ap (λ w. cells_of (message_of plan p) ++ w) rest
   cells_step k p there cells packets true false of goes rest =
       let own = cells_with_fan k (size_of p) p.fan in
@@ -97,7 +66,7 @@ module _ (plan : Plan) (good : IsGoodPlan plan) (q : Queue) (j : ℕ) where
       → AllHold (IsMessageTo plan q j) (map (message_of plan) (if b && h then p ∷ packets else packets))
   hold_step k p there packets true true of goes rest = (
     record { place = k; packet = p; there = there; queue = (of refl).0; routed = (of refl).1; goes = goes; is = refl },
-    omega (arith, message-long k p there),
+    omega (arith, message-long plan good k p there),
     rest,
   )
   hold_step k p there packets true false of goes rest = rest

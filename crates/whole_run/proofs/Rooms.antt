@@ -10,11 +10,10 @@ use Rattle.rotating_pick.specs.declared.kinds.Kind.{Kind}
 use Rattle.rotating_pick.specs.declared.kinds.Kind.TheVariants.{Uni, Multi}
 use Rattle.slot_histories.specs.Tests.{has}
 use Rattle.cell_cutter.specs.Kinds.{kind_byte}
-use Rattle.cell_cutter.proofs.Payloads.{length-message}
 use Rattle.reassembly.specs.Flows.{place_of}
 use Rattle.card_core.specs.declared.plan.Planned.{Planned}
-use Rattle.card_core.specs.Plans.{Plan, kind_of, queue_of, bytes_of, message_of}
-use Rattle.card_core.proofs.Accepting.{length-place}
+use Rattle.card_core.specs.Plans.{Plan, kind_of, queue_of, message_of}
+use Rattle.card_core.proofs.Messaging.{message-long}
 use Rattle.std.proofs.lemmas.Option.{same_Some}
 use Rattle.switch_plan.specs.Totals.{goes_to, message_length, flow_of, greatest_message, sizes_for}
 use Rattle.switch_plan.specs.GoodPlans.{SwitchPlan, IsGood, packets_in}
@@ -72,11 +71,6 @@ module _ (plan : SwitchPlan) (good : IsGood plan) where
   pub packets-at : (i : ℕ) → i < ports_of plan → slice_index_or (packets_in plan) i [] ≡ (card_at plan i).packets
   packets-at i inside = get_or-map (λ (card : Plan). card.packets) plan.cards i no_plan [] inside
 
-  pub message-long : (i k : ℕ) (p : Planned) → i < ports_of plan → slice_get (card_at plan i).packets k ≡ Some p → length (message_of (card_at plan i) p) ≡ message_length p
-  message-long i k p inside there =
-      let card : Plan = card_at plan i in
-      length-message p.seconds p.nanos p.original (bytes_of card p) ∙ ap (λ n. 16 + n) (length-place card.bytes p.start p.len ((good-card plan good i inside).good.packets k p there).place)
-
   -- the flow of a packet at each of its outputs has room for its message
   pub size-enough : (i j k : ℕ) (p : Planned) → i < ports_of plan → j < ports_of plan → slice_get (card_at plan i).packets k ≡ Some p → has p.fan j ≡ true
       → length (message_of (card_at plan i) p) ≤ slice_index (card_at plan j).sizes (place_of i p.level (kind_of (queue_of p)))
@@ -89,4 +83,4 @@ module _ (plan : SwitchPlan) (good : IsGood plan) where
       ∙ sizes_at j (flow_of p) small (packets_in plan) i (omega arith)
       ∙ ap (greatest_message j (flow_of p)) (packets-at i inside) in
       let most = greatest_has j (flow_of p) (card_at plan i).packets 0 k p there goes refl in
-      omega (arith, at, most, message-long i k p inside there)
+      omega (arith, at, most, message-long (card_at plan i) (good-card plan good i inside).good k p there)

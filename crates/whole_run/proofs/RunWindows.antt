@@ -101,7 +101,7 @@ module _ (scheduler : Scheduler) (scheduling : IsScheduler scheduler) (plan : Sw
       → (level ≤ there) × (there ≡ level → kind ≡ Uni)
   named_at u i there j kind early inside below named =
       let row : Names (posts_under scheduler plan i u).row there kind j = subst (λ row. Names row there kind j) (row_of-slot_rows (ports_of plan) (posts_under scheduler plan) u i inside) named in
-      let waits = named-waits (card_at plan i) (good-card plan good i inside).good (parts_under scheduler plan i u) u j there kind below row in
+      let waits = named-waits (card_at plan i) (good-card plan good i inside).good (parts_under scheduler plan i u) u j there kind row in
       let (p, admitted, is) = waiting-admitted scheduler scheduling plan good slots i u inside early (queue_to j there kind) waits in
       let levels : p.level ≡ there = sym (level-queue p) ∙ ap level_of (sym is) ∙ level_to j there kind in
       let kinds : kind ≡ kind_of (queue_of p) = sym (kind_to j there kind) ∙ ap kind_of is in

@@ -1,38 +1,25 @@
 -- A cell that waits is of a packet that was admitted.
-use Rattle.std.proofs.Common.{◌≡◌, ◌∙◌, ℕ, zero, suc, ◌+◌, ◌<◌, ◌≤◌, ◌==◌, ◌&&◌, nat_lt, map, Bool, true, false, List, [], ◌∷◌, ◌++◌, drop, Option, Some, None, slice_index_or, slice_get, refl, sym, ap, subst, arith, if◌then◌else◌}
-use Rattle.std.specs.List.{range_with_len}
+use Rattle.std.proofs.Common.{◌≡◌, ◌∙◌, ℕ, zero, suc, ◌+◌, ◌<◌, ◌≤◌, ◌&&◌, nat_lt, Bool, true, false, List, [], ◌∷◌, ◌++◌, drop, Option, Some, None, slice_index_or, slice_get, refl, sym, ap, arith, if◌then◌else◌}
 use Rattle.std.proofs.lemmas.Bool.{ltb-true}
-use Rattle.std.proofs.lemmas.List.FromFn.{get_or-map-range_with_len}
-use Rattle.rotating_pick.specs.PortSets.{Has}
 use Rattle.rotating_pick.specs.declared.kinds.Kind.{Kind}
 use Rattle.rotating_pick.specs.declared.kinds.Kind.TheVariants.{Uni, Multi}
-use Rattle.rotating_pick.specs.declared.limits.TheConstants.{LEVELS}
 use Rattle.slot_match.specs.declared.matching.Served.{Served}
 use Rattle.slot_match.specs.Rows.{Names}
-use Rattle.slot_match.proofs.Sets.{Has-set_of}
 use Rattle.multicast_queue.specs.FanQueues.{FanCell}
 use Rattle.cell_rings.specs.CellQueues.{cells_with_fan}
 use Rattle.eslip_rounds.specs.Schedulers.{Scheduler, IsScheduler}
 use Rattle.card_core.specs.declared.plan.Planned.{Planned}
-use Rattle.card_core.specs.Plans.{Plan, Queue, OfOutput, OfLevel, IsGoodPlan, is_queue, queue_of, size_of}
-use Rattle.card_core.specs.Queues.{Passed, waiting, rest_of, with_since, head_gone, after_part_of, is_routed, fits, queue_in, is_admitted, enters, cells_admitted}
-use Rattle.card_core.specs.Posts.{has_cells, unis_at, rest_at, row_at}
-use Rattle.card_core.proofs.Admitting.{entered-is}
-use Rattle.card_core.proofs.Passing.{is_queue-same, some_waiting}
+use Rattle.card_core.specs.Plans.{Plan, Queue, OfLevel, IsGoodPlan, is_queue, queue_of, size_of}
+use Rattle.card_core.specs.Queues.{waiting, is_routed, fits, queue_in, is_admitted, enters, cells_admitted}
+use Rattle.card_core.specs.Posts.{has_cells, row_at}
+use Rattle.card_core.proofs.Accepting.{uni-in, multi-in, left_waits}
+use Rattle.card_core.proofs.Admitting.{entered_stays, entered-is}
+use Rattle.card_core.proofs.Passing.{is_queue-same}
 use Rattle.switch_plan.specs.GoodPlans.{SwitchPlan, IsGood}
 use Rattle.whole_run.specs.Runs.{ports_of, card_at, parts_under}
 use Rattle.whole_run.specs.Crossings.{queue_to}
 use Rattle.whole_run.specs.Sums.{IsAdmittedUnder}
 use Rattle.whole_run.proofs.Base.{good-card, before-same}
-
--- ---- what a slot serves takes no cell from those that entered
-entered_if : (s t : Passed) (b : Bool) → t.entered ≡ s.entered → (if b then head_gone s else t).entered ≡ s.entered
-entered_if s t true same = refl
-entered_if s t false same = same
-
-entered-after : (q : Queue) (s : Passed) (part : Option Served) (w : List FanCell) → (after_part_of q s part w).entered ≡ s.entered
-entered-after q s part [] = refl
-entered-after q s part (c ∷ w) = entered_if s (with_since s (part ∷ s.since)) (rest_of q (with_since s (part ∷ s.since)) == 0) refl
 
 -- ---- of which packet a cell is
 has-drop : (n : ℕ) (cells : List FanCell) → has_cells (drop n cells) ≡ true → has_cells cells ≡ true
@@ -59,19 +46,11 @@ module _ (card : Plan) (q : Queue) (served : List (Option Served)) (t : ℕ) whe
   some-enters k (p ∷ ps) some = first_or k p ps (nat_lt p.arrival t && enters card q served p) refl some (λ later. some-enters (k + 1) ps later)
 
 -- ---- what a row names waits
-set-at : (f : ℕ → ℕ) (level : ℕ) → level < LEVELS → slice_index_or (map f (range_with_len 0 LEVELS)) level 0 ≡ f level
-set-at f level below = get_or-map-range_with_len f 0 LEVELS level level 0 below (omega arith)
-
 module _ (card : Plan) (good : IsGoodPlan card) (served : List (Option Served)) (t : ℕ) where
-  pub named-waits : (j level : ℕ) (kind : Kind) → level < LEVELS → Names (row_at card served t) level kind j → has_cells (waiting (queue_in card (queue_to j level kind) served t)) ≡ true
-  named-waits j level Uni below named =
-      let member : Has (unis_at card served t level) j = subst (λ set. Has set j) (set-at (unis_at card served t) level below) named in
-      ((Has-set_of card.ports (λ k. has_cells (waiting (queue_in card (OfOutput k level) served t))) j).0 member).1
-  named-waits j level Multi below named =
-      let s = queue_in card (OfLevel level) served t in
-      let member : Has (rest_at card served t level) j = subst (λ set. Has set j) (set-at (rest_at card served t) level below) named in
-      let (c, w, is) = some_waiting card good (OfLevel level) (waiting s) s.since j member in
-      ap has_cells is
+  pub named-waits : (j level : ℕ) (kind : Kind) → Names (row_at card served t) level kind j → has_cells (waiting (queue_in card (queue_to j level kind) served t)) ≡ true
+  named-waits j level Uni named = (uni-in card good served t level j named).2
+  named-waits j level Multi named =
+      left_waits card good (OfLevel level) (queue_in card (OfLevel level) served t) j (multi-in card good served t level j named).1
 
 tests_of : (a r s d : Bool) → a && (r && s && d) ≡ true → (a ≡ true) × (r ≡ true) × (s ≡ true) × (d ≡ true)
 tests_of true true true true is = (refl, refl, refl, refl)
@@ -92,7 +71,7 @@ module _ (scheduler : Scheduler) (scheduling : IsScheduler scheduler) (plan : Sw
       let served = parts_under scheduler plan i u in
       let s = queue_in card q served u in
       let all : s.entered ≡ cells_admitted card q served (suc u) 0 card.packets =
-      sym (entered-after q s (slice_index_or served u None) (waiting s)) ∙ entered-is card q served (good-card plan good i inside).good (suc u) in
+      sym (entered_stays q s (slice_index_or served u None) (waiting s)) ∙ entered-is card q served (good-card plan good i inside).good (suc u) in
       let one = some-enters card q served (suc u) 0 card.packets (sym (ap has_cells all) ∙ has-drop s.left s.entered some) in
       let p = one.packet in
       let tests = tests_of (nat_lt p.arrival (suc u)) (is_routed p) (is_queue q (queue_of p)) (is_admitted card served p.arrival p) one.test in
