@@ -1,8 +1,10 @@
 -- How many packets there are, and how many enter each queue.
-use Rattle.std.proofs.Common.{◌≡◌, ◌≢◌, ◌∙◌, ℕ, zero, suc, ◌+◌, ◌*◌, ◌^◌, ◌<◌, ◌≤◌, ◌==◌, ◌&&◌, Bool, true, false, List, [], ◌∷◌, ◌++◌, length, Some, slice_get, slice_index, slice_index_or, slice_set, refl, sym, ap, subst, arith, inl, inr, count_by}
+use Rattle.std.proofs.Common.{◌≡◌, ◌≢◌, ◌∙◌, ℕ, zero, suc, ◌+◌, ◌*◌, ◌^◌, ◌<◌, ◌≤◌, ◌==◌, ◌&&◌, Bool, true, false, List, [], ◌∷◌, ◌++◌, length, Some, slice_get, slice_index, slice_index_or, slice_set, refl, sym, ap, subst, arith, inl, inr, count_by, replicate}
 use Rattle.std.proofs.lemmas.Bool.{cases_eq, eq-eqb, ne_eqb}
-use Rattle.std.proofs.lemmas.List.{get_or-set_same, get_or-set_other, length-set}
-use Rattle.rotating_pick.specs.PortSets.{HasSeveral}
+use Rattle.std.proofs.lemmas.List.{get_or-set_same, get_or-set_other, length-set, length-replicate}
+use Rattle.std.proofs.lemmas.Nat.Bits.{bit_at-pow_same}
+use Rattle.rotating_pick.specs.PortSets.{Has, HasSeveral}
+use Rattle.rotating_pick.proofs.Bits.{Has-lt}
 use Rattle.card_core.specs.declared.plan.Planned.{Planned}
 use Rattle.card_core.specs.Plans.{Plan, Queue, OfOutput, OfLevel, IsGoodPlan, AreRising, is_queue, queue_of}
 use Rattle.card_core.specs.Queues.{is_routed}
@@ -147,3 +149,33 @@ few-unicast most i uni fan inside few = record { unis = λ place. one_more uni i
 
 pub few-multicast : (most i : ℕ) (uni fan : List ℕ) → i < length fan → AreFew most uni fan → AreFew (most + 1) uni (slice_set fan i (slice_index_or fan i 0 + 1))
 few-multicast most i uni fan inside few = record { unis = λ place. omega (arith, few.unis place); fans = λ place. one_more fan i most place inside few.fans }
+
+-- ---- lists of rooms
+-- where no packet came there are none
+no_room : (n place : ℕ) → slice_index (replicate n 0) place ≡ 0
+no_room zero place = refl
+no_room (suc n) zero = refl
+no_room (suc n) (suc place) = no_room n place
+
+pub rooms_begin : (n : ℕ) (uni : List ℕ) → uni ≡ replicate (4 * n) 0 → HasRooms n [] uni (replicate 4 0) × AreFew 0 uni (replicate 4 0)
+rooms_begin n uni is = (
+  record {
+    long = ap length is ∙ length-replicate (4 * n) 0;
+    unis = λ j l inside below. ap (λ xs. slice_index xs (4 * j + l)) is ∙ no_room (4 * n) (4 * j + l);
+    fans = λ l below. no_room 4 l;
+  },
+  record {
+    unis = λ place. let e : slice_index uni place ≡ 0 = ap (λ xs. slice_index xs place) is ∙ no_room (4 * n) place in omega (arith, e);
+    fans = λ place. let e = no_room 4 place in omega (arith, e);
+  },
+)
+
+-- and as few as a greater number allows
+pub few_up : (k m : ℕ) (uni fan : List ℕ) → k ≤ m → AreFew k uni fan → AreFew m uni fan
+few_up k m uni fan up few = record { unis = λ place. omega (arith, few.unis place); fans = λ place. omega (arith, few.fans place) }
+
+-- the place of a unicast queue is within the list
+pub place_inside : (n fan j level len : ℕ) → fan ≡ 2 ^ j → fan < 2 ^ n → level < 4 → len ≡ 4 * n → 4 * j + level < len
+place_inside n fan j level len is among below long =
+    let j_in : j < n = Has-lt n fan j among (subst (λ s. Has s j) (sym is) (bit_at-pow_same j)) in
+    omega arith

@@ -1,5 +1,5 @@
 -- What a pair of a slot's match grants: one cell, of one queue of one input.
-use Rattle.std.proofs.Common.{◌≡◌, ◌∙◌, ℕ, ◌<◌, ◌==◌, Bool, true, false, List, [], ◌∷◌, length, Option, None, Some, slice_index_or, refl, sym, ap, subst, inl, inr, if◌then◌else◌}
+use Rattle.std.proofs.Common.{◌≡◌, ◌∙◌, ℕ, ◌<◌, ◌==◌, Bool, true, false, List, [], length, Option, None, Some, slice_index_or, refl, sym, ap, subst, inl, inr, if◌then◌else◌}
 use Rattle.std.proofs.lemmas.Bool.{eq-eqb, eqb-true, and_from, and_parts}
 use Rattle.rotating_pick.specs.declared.kinds.Kind.{Kind}
 use Rattle.rotating_pick.specs.declared.kinds.Kind.TheVariants.{Uni, Multi}
@@ -19,6 +19,7 @@ use Rattle.card_core.specs.Queues.{waiting, queue_in}
 use Rattle.card_core.specs.Posts.{has_cells, row_at, IsServable}
 use Rattle.card_core.specs.Grants.{serves, first_of}
 use Rattle.card_core.proofs.Accepting.{uni-in, multi-in, left_waits}
+use Rattle.card_core.proofs.CellCounts.{one_first}
 use Rattle.card_core.proofs.Passing.{is_queue-same}
 use Rattle.card_core.proofs.Arriving.{is_queue-refl}
 use Rattle.output_queued.specs.Switches.{Matched}
@@ -85,11 +86,6 @@ module _ (n : ℕ) (matched : Matched) (whole : IsMatch n matched) (i : ℕ) whe
   pair_serves j level Multi pair = gives-pair j level Multi pair
 
   -- ---- what is granted of its queues
-  one_first : (b : Bool) (w : List FanCell) → b ≡ true → has_cells w ≡ true → length (if b then first_of w else []) ≡ 1
-  one_first true [] is some = absurd (cc)
-  one_first true (c ∷ w) is some = refl
-  one_first false w is some = absurd (cc)
-
   no_first : (b : Bool) (w : List FanCell) → (b ≡ true → ⊥) → length (if b then first_of w else []) ≡ 0
   no_first true w never = absurd (never refl)
   no_first false w never = refl

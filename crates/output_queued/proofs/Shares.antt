@@ -1,24 +1,22 @@
 -- Of one input: the cells that come to an output, and those that are granted to it, over all queues from which it is fed.
-use Rattle.std.proofs.Common.{◌≡◌, ◌≢◌, ◌∙◌, ℕ, zero, suc, ◌+◌, ◌^◌, ◌<◌, ◌≤◌, ◌==◌, ◌&&◌, not, Bool, true, false, List, [], ◌∷◌, map, take, drop, length, Option, None, Some, slice_index_or, refl, sym, ap, subst, arith, inl, inr, if◌then◌else◌, length-append}
+use Rattle.std.proofs.Common.{◌≡◌, ◌≢◌, ◌∙◌, ℕ, zero, suc, ◌+◌, ◌^◌, ◌<◌, ◌≤◌, ◌==◌, ◌&&◌, not, Bool, true, false, List, [], length, Option, None, Some, slice_index_or, refl, sym, ap, subst, arith, inl, inr, if◌then◌else◌, length-append}
 use Rattle.std.proofs.lemmas.Bool.{eq-eqb, eqb-true}
 use Rattle.std.proofs.lemmas.List.Elements.{filter-append}
-use Rattle.std.proofs.lemmas.List.FromFn.{length-map-range_with_len}
-use Rattle.std.proofs.lemmas.List.Sums.{sum_by-take-drop, length-filter}
 use Rattle.rotating_pick.specs.PortSets.{Has}
 use Rattle.rotating_pick.proofs.Bits.{no_member-zero}
 use Rattle.rotating_pick.proofs.Members.{only_member}
-use Rattle.cell_cutter.specs.declared.cell.CellName.{CellName}
 use Rattle.slot_match.specs.declared.matching.Served.{Served}
-use Rattle.multicast_queue.specs.FanQueues.{FanCell, first_fan}
-use Rattle.cell_rings.specs.CellQueues.{names_of_packet, cells_with_fan}
+use Rattle.multicast_queue.specs.FanQueues.{FanCell}
 use Rattle.slot_histories.specs.Tests.{has}
 use Rattle.slot_histories.proofs.SetTests.{Decides-has}
 use Rattle.card_core.specs.declared.plan.Planned.{Planned}
 use Rattle.card_core.specs.Plans.{Plan, Queue, OfOutput, OfLevel, IsGoodPlan, is_queue, queue_of, size_of, arriving}
-use Rattle.card_core.specs.Queues.{Passed, waiting, rest_of, is_routed, is_admitted, fits, coming, with_since, head_gone, after_part_of, before, queue_in}
+use Rattle.card_core.specs.Queues.{waiting, is_routed, is_admitted, fits, coming, before, queue_in}
 use Rattle.card_core.specs.Posts.{row_at, IsServable}
-use Rattle.card_core.specs.Grants.{serves, first_of, granted_to, to_output, begun_for}
-use Rattle.card_core.proofs.Granting.{granted_is, all_granted}
+use Rattle.card_core.specs.Grants.{serves, first_of, granted_to, to_output}
+use Rattle.card_core.proofs.Admitting.{entered_stays}
+use Rattle.card_core.proofs.CellCounts.{packet_goes, granted_few}
+use Rattle.card_core.proofs.Granting.{all_granted}
 use Rattle.card_core.proofs.Passing.{arriving-there, is_queue-same, below_power}
 use Rattle.card_core.proofs.Arriving.{queue-unicast, queue-multicast}
 use Rattle.card_core.proofs.Posted.{one_or_several}
@@ -83,42 +81,7 @@ pub over-one : (j x : ℕ) (r : Queue) → IsTo j r → over j (λ q. if is_queu
 over-one j x (OfOutput k l) (unicast m below) = one_uni j l x below
 over-one j x (OfLevel l) (multicast m below) = one_multi j l x below
 
--- ---- lists of cells
-all_go : (j fan : ℕ) (names : List CellName) → length (to_output j (map (λ name. record { name = name; fan = fan }) names)) ≡ (if has fan j then length names else 0)
-all_go j fan [] = none_go (has fan j) where
-  none_go : (a : Bool) → ◌≡◌ {A = ℕ} 0 (if a then 0 else 0)
-  none_go true = refl
-  none_go false = refl
-all_go j fan (name ∷ names) = more_go (has fan j) (to_output j (map (λ name. record { name = name; fan = fan }) names)) (all_go j fan names) where
-  more_go : (a : Bool) (cells : List FanCell) → length cells ≡ (if a then length names else 0) → length (if a then record { name = name; fan = fan } ∷ cells else cells) ≡ (if a then length (name ∷ names) else 0)
-  more_go true cells is = omega arith
-  more_go false cells is = is
-
-packet_goes : (j k m fan : ℕ) (b : Bool) → length (to_output j (if b then cells_with_fan k m fan else [])) ≡ (if b && has fan j then m else 0)
-packet_goes j k m fan false = refl
-packet_goes j k m fan true = all_go j fan (names_of_packet k m) ∙ ap (λ n. if has fan j then n else 0) (length-map-range_with_len _ 0 m)
-
--- what was granted of the head is of the cells that wait
-begun_few : (j : ℕ) (b : Bool) (w : List FanCell) → length (if has (first_fan w) j && b then first_of w else []) ≤ length (to_output j w)
-begun_few j b [] = none_begun (has 0 j && b) where
-  none_begun : (a : Bool) → length (if a then [] else (let e : List FanCell = [] in e)) ≤ 0
-  none_begun true = omega arith
-  none_begun false = omega arith
-begun_few j b (c ∷ v) = one_begun (has c.fan j) b (to_output j v) where
-  one_begun : (a b : Bool) (v : List FanCell) → length (if a && b then c ∷ [] else []) ≤ length (if a then c ∷ v else v)
-  one_begun true true v = omega arith
-  one_begun true false v = omega arith
-  one_begun false b v = omega arith
-
 -- ---- what a slot does to the cells that entered
-entered-if : (b : Bool) (s : Passed) (since : List (Option Served)) → (if b then head_gone s else with_since s since).entered ≡ s.entered
-entered-if true s since = refl
-entered-if false s since = refl
-
-entered-of : (q : Queue) (s : Passed) (part : Option Served) (w : List FanCell) → (after_part_of q s part w).entered ≡ s.entered
-entered-of q s part [] = refl
-entered-of q s part (c ∷ w) = entered-if (rest_of q (with_since s (part ∷ s.since)) == 0) s (part ∷ s.since)
-
 -- a packet that goes to an output goes anywhere
 pub routed-if : (j : ℕ) (p : Planned) → has p.fan j ≡ true → is_routed p ≡ true
 routed-if j p goes = routed-by (p.fan == 0) refl where
@@ -156,7 +119,7 @@ module _ (plan : Plan) (good : IsGoodPlan plan) (served : List (Option Served)) 
   entered-more q t =
       let s = before plan q served t in
       let more = coming plan q s (arriving plan t) in
-      ap (λ cells. length (to_output j cells)) (entered-of q (queue_in plan q served t) (slice_index_or served t None) (waiting (queue_in plan q served t)))
+      ap (λ cells. length (to_output j cells)) (entered_stays q (queue_in plan q served t) (slice_index_or served t None) (waiting (queue_in plan q served t)))
       ∙ ap length (filter-append (λ (cell : FanCell). has cell.fan j) s.entered more)
       ∙ length-append (to_output j s.entered) (to_output j more)
 
@@ -236,21 +199,8 @@ module _ (plan : Plan) (good : IsGoodPlan plan) (served : List (Option Served)) 
   all_granted_more t = over-same j (λ q. granted_of q (suc t)) (λ q. granted_of q t + grant q t) (λ q to. granted-more q t) ∙ over-plus j (λ q. granted_of q t) (λ q. grant q t)
 
   -- what was granted is of the cells that entered and go to the output
-  granted_few : (t : ℕ) → ((u : ℕ) → u < t → IsServable (row_at plan served u) (slice_index_or served u None)) → (q : Queue) → granted_of q t ≤ entered_to q t
-  granted_few t may q =
-      let s = before plan q served t in
-      let gone = to_output j (take s.left s.entered) in
-      let goes = λ (cell : FanCell). has cell.fan j in
-      let granted : granted_of q t ≡ length gone + length (begun_for q j s) = ap length (granted_is plan good served q j t may) ∙ length-append gone (begun_for q j s) in
-      let begun = begun_few j (not (has (rest_of q s) j)) (waiting s) in
-      let whole = sum_by-take-drop (λ cell. if goes cell then 1 else 0) s.entered s.left in
-      let some = length-filter goes (take s.left s.entered) in
-      let rest = length-filter goes (drop s.left s.entered) in
-      let all = length-filter goes s.entered in
-      omega arith
-
   pub all_granted_few : (t : ℕ) → ((u : ℕ) → u < t → IsServable (row_at plan served u) (slice_index_or served u None)) → over j (λ q. granted_for plan served j q t) ≤ over j (λ q. entered_for plan served j q t)
-  all_granted_few t may = over-le j (λ q. granted_of q t) (λ q. entered_to q t) (granted_few t may)
+  all_granted_few t may = over-le j (λ q. granted_of q t) (λ q. entered_to q t) (λ q. granted_few plan good served q j t may)
 
   -- where no cell waits, these are all
   pub all_granted_all : (t : ℕ) → ((u : ℕ) → u < t → IsServable (row_at plan served u) (slice_index_or served u None)) → ((q : Queue) → IsTo j q → waiting (before plan q served t) ≡ [])

@@ -1,81 +1,36 @@
 -- What a card was granted, over all queues and outputs, is no more than its admitted packets bring to their outputs.
-use Rattle.std.proofs.Common.{◌≡◌, ◌∙◌, ℕ, ◌+◌, ◌*◌, ◌<◌, ◌≤◌, ◌==◌, ◌&&◌, not, nat_lt, Bool, true, false, List, [], ◌∷◌, map, take, drop, length, Option, None, slice_index_or, refl, sym, ap, arith, inl, inr, if◌then◌else◌, length-append}
+use Rattle.std.proofs.Common.{◌≡◌, ◌∙◌, ℕ, ◌+◌, ◌*◌, ◌<◌, ◌≤◌, ◌==◌, ◌&&◌, nat_lt, Bool, true, false, List, [], ◌∷◌, length, Option, None, slice_index_or, refl, sym, ap, arith, inl, inr, if◌then◌else◌, length-append}
 use Rattle.std.specs.Prelude.{count_ones, sum_by}
 use Rattle.std.specs.List.{range_with_len}
 use Rattle.std.specs.Int.{bit_at}
 use Rattle.std.proofs.lemmas.Bool.{cases_eq, eq-eqb, ne_eqb}
 use Rattle.std.proofs.lemmas.List.Elements.{filter-append}
-use Rattle.std.proofs.lemmas.List.FromFn.{length-map-range_with_len}
-use Rattle.std.proofs.lemmas.List.Sums.{sum_by-cons, sum_by-take-drop, sum_by-le-sum_by, length-filter}
+use Rattle.std.proofs.lemmas.List.Sums.{sum_by-cons, sum_by-le-sum_by}
 use Rattle.std.proofs.lemmas.Nat.{mul-le}
 use Rattle.std.proofs.lemmas.Nat.Bits.{bit_at-lt}
 use Rattle.rotating_pick.specs.declared.limits.TheConstants.{LEVELS}
-use Rattle.cell_cutter.specs.declared.cell.CellName.{CellName}
 use Rattle.slot_match.specs.declared.matching.Served.{Served}
-use Rattle.multicast_queue.specs.FanQueues.{FanCell, first_fan}
-use Rattle.cell_rings.specs.CellQueues.{names_of_packet, cells_with_fan}
+use Rattle.multicast_queue.specs.FanQueues.{FanCell}
+use Rattle.cell_rings.specs.CellQueues.{cells_with_fan}
 use Rattle.slot_histories.specs.Tests.{has}
 use Rattle.card_core.specs.declared.plan.Planned.{Planned}
 use Rattle.card_core.specs.Plans.{Plan, Queue, OfOutput, OfLevel, IsGoodPlan, is_queue, queue_of, size_of}
-use Rattle.card_core.specs.Queues.{waiting, rest_of, before, is_routed, is_admitted, enters, cells_admitted}
+use Rattle.card_core.specs.Queues.{is_routed, is_admitted, enters, cells_admitted}
 use Rattle.card_core.specs.Posts.{row_at, IsServable}
-use Rattle.card_core.specs.Grants.{first_of, granted_to, to_output, begun_for}
-use Rattle.card_core.proofs.Granting.{granted_is}
+use Rattle.card_core.specs.Grants.{granted_to, to_output}
+use Rattle.card_core.proofs.CellCounts.{packet_goes, granted_few}
 use Rattle.card_core.proofs.Admitting.{entered-is}
 use Rattle.switch_plan.specs.Totals.{work_of}
 use Rattle.whole_run.proofs.RangeSums.{sum_by-zero, sum_by-same, sum_by-plus, sum_by-turn, sum_by-times, range_sum-le, range_sum-one, bits-few}
 
 -- ---- of one queue and one output
--- what was granted of the head is of the cells that wait
-begun_few : (j : ℕ) (b : Bool) (w : List FanCell) → length (if has (first_fan w) j && b then first_of w else []) ≤ length (to_output j w)
-begun_few j b [] = none_begun (has 0 j && b) where
-  none_begun : (a : Bool) → length (if a then [] else (let e : List FanCell = [] in e)) ≤ 0
-  none_begun true = omega arith
-  none_begun false = omega arith
-begun_few j b (c ∷ v) = one_begun (has c.fan j) b (to_output j v) where
-  one_begun : (a b : Bool) (v : List FanCell) → length (if a && b then c ∷ [] else []) ≤ length (if a then c ∷ v else v)
-  one_begun true true v = omega arith
-  one_begun true false v = omega arith
-  one_begun false b v = omega arith
-
 -- the cells that a packet brings to an output of a queue before slot t
 module _ (plan : Plan) (served : List (Option Served)) (t : ℕ) where
   abbrev pub share : Queue → ℕ → Planned → ℕ
   share q j packet = if (nat_lt packet.arrival t && enters plan q served packet) && has packet.fan j then size_of packet else 0
 
-  -- what was granted is of the cells that entered and go to the output
-  granted_few : IsGoodPlan plan → (q : Queue) (j : ℕ) → ((u : ℕ) → u < t → IsServable (row_at plan served u) (slice_index_or served u None))
-      → length (granted_to plan q j served t) ≤ length (to_output j (before plan q served t).entered)
-  granted_few good q j may =
-      let s = before plan q served t in
-      let gone = to_output j (take s.left s.entered) in
-      let goes = λ (cell : FanCell). has cell.fan j in
-      let granted : length (granted_to plan q j served t) ≡ length gone + length (begun_for q j s) = ap length (granted_is plan good served q j t may) ∙ length-append gone (begun_for q j s) in
-      let begun = begun_few j (not (has (rest_of q s) j)) (waiting s) in
-      let whole = sum_by-take-drop (λ cell. if goes cell then 1 else 0) s.entered s.left in
-      let some = length-filter goes (take s.left s.entered) in
-      let rest = length-filter goes (drop s.left s.entered) in
-      let all = length-filter goes s.entered in
-      omega arith
-
--- the cells of one packet go to an output together
-all_go : (j fan : ℕ) (names : List CellName) → length (to_output j (map (λ name. record { name = name; fan = fan }) names)) ≡ (if has fan j then length names else 0)
-all_go j fan [] = none_go (has fan j) where
-  none_go : (a : Bool) → ◌≡◌ {A = ℕ} 0 (if a then 0 else 0)
-  none_go true = refl
-  none_go false = refl
-all_go j fan (name ∷ names) = more_go (has fan j) (to_output j (map (λ name. record { name = name; fan = fan }) names)) (all_go j fan names) where
-  more_go : (a : Bool) (cells : List FanCell) → length cells ≡ (if a then length names else 0) → length (if a then record { name = name; fan = fan } ∷ cells else cells) ≡ (if a then length (name ∷ names) else 0)
-  more_go true cells is = omega arith
-  more_go false cells is = is
-
-packet_goes : (j k m fan : ℕ) (b : Bool) → length (to_output j (if b then cells_with_fan k m fan else [])) ≡ (if b && has fan j then m else 0)
-packet_goes j k m fan false = refl
-packet_goes j k m fan true = all_go j fan (names_of_packet k m) ∙ ap (λ n. if has fan j then n else 0) (length-map-range_with_len _ 0 m)
-
-module _ (plan : Plan) (served : List (Option Served)) (t : ℕ) where
   -- these are the shares of all packets
-  admitted_go : (q : Queue) (j k : ℕ) (ps : List Planned) → length (to_output j (cells_admitted plan q served t k ps)) ≡ sum_by (share plan served t q j) ps
+  admitted_go : (q : Queue) (j k : ℕ) (ps : List Planned) → length (to_output j (cells_admitted plan q served t k ps)) ≡ sum_by (share q j) ps
   admitted_go q j k [] = refl
   admitted_go q j k (p ∷ ps) =
       let here = if nat_lt p.arrival t && enters plan q served p then cells_with_fan k (size_of p) p.fan else [] in
@@ -83,8 +38,8 @@ module _ (plan : Plan) (served : List (Option Served)) (t : ℕ) where
       ap length (filter-append (λ (cell : FanCell). has cell.fan j) here rest)
       ∙ length-append (to_output j here) (to_output j rest)
       ∙ ap (λ n. n + length (to_output j rest)) (packet_goes j k (size_of p) p.fan (nat_lt p.arrival t && enters plan q served p))
-      ∙ ap (λ n. share plan served t q j p + n) (admitted_go q j (k + 1) ps)
-      ∙ sym (sum_by-cons (share plan served t q j) p ps)
+      ∙ ap (λ n. share q j p + n) (admitted_go q j (k + 1) ps)
+      ∙ sym (sum_by-cons (share q j) p ps)
 
 -- ---- of all queues
 -- a packet enters one queue
@@ -155,7 +110,7 @@ module _ (plan : Plan) (good : IsGoodPlan plan) (served : List (Option Served)) 
 
   grants_few : (q : Queue) (j : ℕ) → grants q j ≤ sum_by (share plan served t q j) plan.packets
   grants_few q j =
-      let few = granted_few plan served t good q j may in
+      let few = granted_few plan good served q j t may in
       let cells = ap (λ cells. length (to_output j cells)) (entered-is plan q served good t) ∙ admitted_go plan served t q j 0 plan.packets in
       omega arith
 

@@ -23,6 +23,7 @@ use Rattle.card_core.specs.Queues.{waiting, queue_in}
 use Rattle.card_core.specs.Posts.{has_cells}
 use Rattle.card_core.specs.Grants.{serves, first_of, granted_to}
 use Rattle.card_core.proofs.Accepting.{uni-in, multi-in, left_waits}
+use Rattle.card_core.proofs.CellCounts.{one_first}
 use Rattle.switch_plan.specs.Totals.{work_of, total_work}
 use Rattle.switch_plan.specs.GoodPlans.{SwitchPlan, IsGood, packets_in}
 use Rattle.whole_run.specs.Runs.{ports_of, setup_for, card_at, no_plan, parts_under, posts_under}
@@ -32,11 +33,6 @@ use Rattle.whole_run.proofs.RangeSums.{range_sum-le, range_sum-less, range_sum-s
 use Rattle.whole_run.proofs.CardWork.{card_work}
 
 -- ---- the cells of one grant
-one_first : (b : Bool) (w : List FanCell) → b ≡ true → has_cells w ≡ true → length (if b then first_of w else []) ≡ 1
-one_first true [] is some = absurd (cc)
-one_first true (c ∷ w) is some = refl
-one_first false w is some = absurd (cc)
-
 module _ (scheduler : Scheduler) (plan : SwitchPlan) where
   -- the cells that input i was granted of a queue to output j before slot t
   abbrev granted : ℕ → Queue → ℕ → ℕ → ℕ

@@ -1,34 +1,26 @@
-use Rattle.std.proofs.Common.{◌≡◌, ◌≢◌, ◌+◌, ◌*◌, ◌^◌, ◌<◌, ℕ, Bool, true, false, refl, sym, subst, arith, length}
-use Rattle.rotating_pick.proofs.Bits.{Has-lt}
-use Rattle.rotating_pick.specs.PortSets.{Has}
-use Rattle.std.proofs.lemmas.Nat.Bits.{bit_at-pow_same}
-use Rattle.card_core.proofs.Plenty.{rooms-nowhere, rooms-unicast, rooms-multicast, few-unicast, few-multicast}
+use Rattle.std.proofs.Common.{◌≡◌, ◌≢◌, ◌+◌, ◌*◌, ℕ, Bool, true, false, refl, arith, length}
+use Rattle.card_core.proofs.Plenty.{place_inside, rooms-nowhere, rooms-unicast, rooms-multicast, few-unicast, few-multicast}
 use Rattle.card_core.proofs.Sets.{several-of}
 use Rattle.card_core.proofs.rooms.count.Goals as goal
 
 none_lacks : (fan : ℕ) (empty : Bool) → (fan ≡ 0 → empty ≡ true) → empty ≡ false → fan ≢ 0
 none_lacks fan empty tells no' none = let e = tells none in absurd (cc)
 
-inside : (n fan j level len : ℕ) → fan ≡ 2 ^ j → fan < 2 ^ n → level < 4 → len ≡ 4 * n → 4 * j + level < len
-inside n fan j level len is among below long =
-    let j_in : j < n = Has-lt n fan j among (subst (λ s. Has s j) (sym is) (bit_at-pow_same j)) in
-    omega arith
-
 pub bounds-unicast-output : goal.bounds-unicast-output
-bounds-unicast-output c = inside c.args.n c.args.packet.fan c.in-Some.output c.args.packet.level (length c.args.unicast.now) c.in-Some.ensures.one.1 c.requires.fan c.requires.level c.requires.long
+bounds-unicast-output c = place_inside c.args.n c.args.packet.fan c.in-Some.output c.args.packet.level (length c.args.unicast.now) c.in-Some.ensures.one.1 c.requires.fan c.requires.level c.requires.long
 
 pub bounds-unicast-output-in-Some : goal.bounds-unicast-output-in-Some
-bounds-unicast-output-in-Some c = inside c.args.n c.args.packet.fan c.in-Some.output c.args.packet.level (length c.args.unicast.now) c.in-Some.ensures.one.1 c.requires.fan c.requires.level c.requires.long
+bounds-unicast-output-in-Some c = place_inside c.args.n c.args.packet.fan c.in-Some.output c.args.packet.level (length c.args.unicast.now) c.in-Some.ensures.one.1 c.requires.fan c.requires.level c.requires.long
 
 pub returns-in-Some-clause-rooms : goal.returns-in-Some-clause-rooms
 returns-in-Some-clause-rooms c = λ before rooms.
     rooms-unicast c.args.packet c.args.n before c.args.unicast.now c.args.multicast.now rooms c.in-Some.output c.in-Some.ensures.one.1 (none_lacks c.args.packet.fan c.is_empty.result c.is_empty.ensures.zero.1 c.if-is_empty.false) c.in-Some.ensures.one.0 c.requires.level
-    (inside c.args.n c.args.packet.fan c.in-Some.output c.args.packet.level (length c.args.unicast.now) c.in-Some.ensures.one.1 c.requires.fan c.requires.level c.requires.long)
+    (place_inside c.args.n c.args.packet.fan c.in-Some.output c.args.packet.level (length c.args.unicast.now) c.in-Some.ensures.one.1 c.requires.fan c.requires.level c.requires.long)
 
 pub returns-in-Some-clause-few : goal.returns-in-Some-clause-few
 returns-in-Some-clause-few c = λ k few.
     few-unicast k (4 * c.in-Some.output + c.args.packet.level) c.args.unicast.now c.args.multicast.now
-    (inside c.args.n c.args.packet.fan c.in-Some.output c.args.packet.level (length c.args.unicast.now) c.in-Some.ensures.one.1 c.requires.fan c.requires.level c.requires.long) few
+    (place_inside c.args.n c.args.packet.fan c.in-Some.output c.args.packet.level (length c.args.unicast.now) c.in-Some.ensures.one.1 c.requires.fan c.requires.level c.requires.long) few
 
 pub returns-in-None-clause-rooms : goal.returns-in-None-clause-rooms
 returns-in-None-clause-rooms c = λ before rooms.

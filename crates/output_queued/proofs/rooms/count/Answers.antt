@@ -1,34 +1,26 @@
-use Rattle.std.proofs.Common.{◌≡◌, ◌+◌, ◌*◌, ◌^◌, ◌<◌, ℕ, List, ◌∷◌, [], ◌++◌, map, refl, sym, subst, arith, length}
+use Rattle.std.proofs.Common.{◌+◌, ℕ, List, ◌∷◌, [], ◌++◌, map, refl, sym, subst, arith, length}
 use Rattle.std.proofs.lemmas.List.{map-append}
-use Rattle.std.proofs.lemmas.Nat.Bits.{bit_at-pow_same}
-use Rattle.rotating_pick.specs.PortSets.{Has}
-use Rattle.rotating_pick.proofs.Bits.{Has-lt}
 use Rattle.card_core.specs.States.{HasRooms}
-use Rattle.card_core.proofs.Plenty.{rooms-unicast, rooms-multicast}
+use Rattle.card_core.proofs.Plenty.{place_inside, rooms-unicast, rooms-multicast}
 use Rattle.card_core.proofs.Sets.{several-of}
 use Rattle.output_queued.specs.declared.coming.Coming.{Coming}
 use Rattle.output_queued.specs.Switches.{planned_of}
 use Rattle.output_queued.proofs.rooms.count.Goals as goal
 
-inside : (n fan j level len : ℕ) → fan ≡ 2 ^ j → fan < 2 ^ n → level < 4 → len ≡ 4 * n → 4 * j + level < len
-inside n fan j level len is among below long =
-    let j_in : j < n = Has-lt n fan j among (subst (λ s. Has s j) (sym is) (bit_at-pow_same j)) in
-    omega arith
-
 with-last : (n : ℕ) (before : List Coming) (packet : Coming) (uni fan : List ℕ) → HasRooms n (map planned_of before ++ planned_of packet ∷ []) uni fan → HasRooms n (map planned_of (before ++ packet ∷ [])) uni fan
 with-last n before packet uni fan rooms = subst (λ ps. HasRooms n ps uni fan) (sym (map-append planned_of before (packet ∷ []))) rooms
 
 pub bounds-unicast-output : goal.bounds-unicast-output
-bounds-unicast-output c = inside c.args.n c.args.packet.fan c.in-Some.output c.args.packet.level (length c.args.unicast.now) c.in-Some.ensures.one.1 c.requires.packet.fan c.requires.packet.level c.requires.long
+bounds-unicast-output c = place_inside c.args.n c.args.packet.fan c.in-Some.output c.args.packet.level (length c.args.unicast.now) c.in-Some.ensures.one.1 c.requires.packet.fan c.requires.packet.level c.requires.long
 
 pub bounds-unicast-output-in-Some : goal.bounds-unicast-output-in-Some
-bounds-unicast-output-in-Some c = inside c.args.n c.args.packet.fan c.in-Some.output c.args.packet.level (length c.args.unicast.now) c.in-Some.ensures.one.1 c.requires.packet.fan c.requires.packet.level c.requires.long
+bounds-unicast-output-in-Some c = place_inside c.args.n c.args.packet.fan c.in-Some.output c.args.packet.level (length c.args.unicast.now) c.in-Some.ensures.one.1 c.requires.packet.fan c.requires.packet.level c.requires.long
 
 pub returns-in-Some-clause-rooms : goal.returns-in-Some-clause-rooms
 returns-in-Some-clause-rooms c before rooms =
     with-last c.args.n before c.args.packet _ _
     (rooms-unicast (planned_of c.args.packet) c.args.n (map planned_of before) c.args.unicast.now c.args.multicast.now rooms c.in-Some.output c.in-Some.ensures.one.1 c.requires.packet.routed c.in-Some.ensures.one.0 c.requires.packet.level
-    (inside c.args.n c.args.packet.fan c.in-Some.output c.args.packet.level (length c.args.unicast.now) c.in-Some.ensures.one.1 c.requires.packet.fan c.requires.packet.level c.requires.long))
+    (place_inside c.args.n c.args.packet.fan c.in-Some.output c.args.packet.level (length c.args.unicast.now) c.in-Some.ensures.one.1 c.requires.packet.fan c.requires.packet.level c.requires.long))
 
 pub returns-in-None-clause-rooms : goal.returns-in-None-clause-rooms
 returns-in-None-clause-rooms c before rooms =

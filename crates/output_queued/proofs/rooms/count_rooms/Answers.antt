@@ -1,31 +1,11 @@
-use Rattle.std.proofs.Common.{◌≡◌, ◌∙◌, ◌+◌, ◌*◌, ◌<◌, ◌≤◌, ℕ, zero, suc, List, [], ◌∷◌, ◌++◌, map, arith, refl, sym, ap, subst, take, drop, length, replicate, slice_index, slice_index_or}
-use Rattle.std.proofs.lemmas.List.{take_more, take_all, take_at, length-replicate}
+use Rattle.std.proofs.Common.{◌≡◌, ◌∙◌, ◌+◌, ◌<◌, ℕ, List, [], ◌∷◌, ◌++◌, map, arith, sym, subst, take, drop, length, slice_index_or}
+use Rattle.std.proofs.lemmas.List.{take_more, take_all, take_at}
 use Rattle.card_core.specs.States.{HasRooms, AreFew}
+use Rattle.card_core.proofs.Plenty.{rooms_begin, few_up}
 use Rattle.output_queued.specs.declared.coming.Coming.{Coming}
 use Rattle.output_queued.specs.Switches.{planned_of}
 use Rattle.output_queued.proofs.LookedAt.{no_coming, some_get}
 use Rattle.output_queued.proofs.rooms.count_rooms.Goals as goal
-
-no_room : (n place : ℕ) → slice_index (replicate n 0) place ≡ 0
-no_room zero place = refl
-no_room (suc n) zero = refl
-no_room (suc n) (suc place) = no_room n place
-
-begin : (n : ℕ) (uni : List ℕ) → uni ≡ replicate (4 * n) 0 → HasRooms n [] uni (replicate 4 0) × AreFew 0 uni (replicate 4 0)
-begin n uni is = (
-  record {
-    long = ap length is ∙ length-replicate (4 * n) 0;
-    unis = λ j l inside below. ap (λ xs. slice_index xs (4 * j + l)) is ∙ no_room (4 * n) (4 * j + l);
-    fans = λ l below. no_room 4 l;
-  },
-  record {
-    unis = λ place. let e : slice_index uni place ≡ 0 = ap (λ xs. slice_index xs place) is ∙ no_room (4 * n) place in omega (arith, e);
-    fans = λ place. let e = no_room 4 place in omega (arith, e);
-  },
-)
-
-few_up : (k m : ℕ) (uni fan : List ℕ) → k ≤ m → AreFew k uni fan → AreFew m uni fan
-few_up k m uni fan up few = record { unis = λ place. omega (arith, few.unis place); fans = λ place. omega (arith, few.fans place) }
 
 next : (n i len : ℕ) (packets : List Coming) (d : Coming) (uni new rest fan fan' : List ℕ) → i < length packets → length new ≡ len
     → ((before : List Coming) → HasRooms n (map planned_of before) uni fan → HasRooms n (map planned_of (before ++ slice_index_or packets i d ∷ [])) new fan') → ((k : ℕ) → AreFew k uni fan → AreFew (k + 1) new fan')
@@ -49,7 +29,7 @@ count-requires-clause-packet c =
 
 pub loop-packet-init : goal.loop-packet-init
 loop-packet-init c =
-    let b = begin c.args.n c.in_ok-unicast.unicast.items (c.in_ok-unicast.ensures.items_if_clones_equal (λ y same. same)) in
+    let b = rooms_begin c.args.n c.in_ok-unicast.unicast.items (c.in_ok-unicast.ensures.items_if_clones_equal (λ y same. same)) in
     record { rooms = b.0; few = b.1 }
 
 pub loop-packet-preserved : goal.loop-packet-preserved
