@@ -18,7 +18,7 @@ file_once bytes a b is_a is_b =
     ap (λ n. record a { nano = n }) same.0 ∙ ap (λ l. record { nano = b.nano; link = l; packets = a.packets }) same.1 ∙ ap (λ p. record { nano = b.nano; link = b.link; packets = p }) same.2
 
 -- files are these captures in one way
-files_once : (files : List (List ℕ)) (a b : List CaptureFile) → AreFiles files a → AreFiles files b → a ≡ b
+pub files_once : (files : List (List ℕ)) (a b : List CaptureFile) → AreFiles files a → AreFiles files b → a ≡ b
 files_once files a b are_a are_b =
     same_lists a b (are_a.count ∙ sym are_b.count)
     (λ k d inside.

@@ -22,7 +22,8 @@ use Rattle.switch_run.specs.declared.ending.Ending.{Ending}
 use Rattle.switch_run.specs.declared.ending.Ending.TheVariants.{Done, Usage, ReadFault, TooLong, Refused, JournalTooLong, OutOfMemory, WriteFault, Checked}
 use Rattle.switch_run.specs.declared.inputs.InputFile.{InputFile}
 use Rattle.switch_run.specs.declared.inputs.InputFile.TheVariants.{Table, Capture}
-use Rattle.switch_run.proofs.OneOutcome.{not_long, not_made, refusal_once}
+use Rattle.switch_plan.proofs.Refused.{refusal_once}
+use Rattle.switch_run.proofs.OneOutcome.{not_long, not_made}
 use Rattle.switch_run.proofs.OnePlan.{long_not_made, long_once}
 
 -- Files that are there, and not too long

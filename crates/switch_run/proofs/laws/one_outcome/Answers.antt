@@ -1,4 +1,5 @@
-use Rattle.switch_run.proofs.OneOutcome.{not_made, refusal_once}
+use Rattle.switch_plan.proofs.Refused.{refusal_once}
+use Rattle.switch_run.proofs.OneOutcome.{not_made}
 use Rattle.switch_run.proofs.OnePlan.{texts_once}
 use Rattle.switch_run.proofs.laws.one_outcome.Goals as goal
 
