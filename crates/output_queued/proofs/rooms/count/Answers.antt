@@ -1,4 +1,4 @@
-use Rattle.std.proofs.Common.{◌+◌, ℕ, List, ◌∷◌, [], ◌++◌, map, refl, sym, subst, arith, length}
+use Rattle.std.proofs.Common.{ℕ, List, ◌∷◌, [], ◌++◌, map, refl, sym, subst, arith, length}
 use Rattle.std.proofs.lemmas.List.{map-append}
 use Rattle.card_core.specs.States.{HasRooms}
 use Rattle.card_core.proofs.Plenty.{place_inside, rooms-unicast, rooms-multicast}
