@@ -1,6 +1,6 @@
-use Rattle.std.proofs.Common.{◌∙◌, ◌<◌, ap, sym, subst, arith, slice_index_or, length, drop}
+use Rattle.std.proofs.Common.{◌∙◌, ◌↔◌, ℕ, ◌<◌, ap, sym, subst, arith, slice_index_or, length, drop, IsTrue}
 use Rattle.rotating_pick.specs.PortSets.{Has}
-use Rattle.multicast_queue.specs.FanQueues.{queue_at}
+use Rattle.multicast_queue.specs.FanQueues.{FanQueue, HeadStays, queue_at}
 use Rattle.multicast_queue.specs.Fields.{IsKept}
 use Rattle.multicast_queue.proofs.Rests.{some_wait}
 use Rattle.multicast_queue.proofs.Levels.{read_is, queue-of_kept, queue-set, others-set, AreKept-set, IsKept-served}
@@ -30,6 +30,34 @@ returns-clause-leaves c =
     let is = queue-set s.ports s.depth s.queues c.args.level c.serve.new.self below in
     let left = c.serve.ensures.leaves done in
     rw (← c.self.view_is, is) record { cells = left.cells ∙ ap (λ q. drop 1 q.cells) (sym was); rest = left.rest }
+
+pub returns-clause-done : goal.returns-clause-done
+returns-clause-done c =
+    let s = c.self.inside in
+    let below : c.args.level < length s.queues = omega (arith, c.self.invariant.long, c.requires.level) in
+    let found = read_is s.queues c.args.level c.index-self-level.result below in
+    let was = queue-of_kept s.ports s.depth s.queues c.args.level ∙ ap (λ k. k.queue) (sym found) in
+    rw (← c.self.view_is)
+    (subst (λ (q : FanQueue). IsTrue c.serve.result ↔ ((output : ℕ) → Has q.rest output → Has c.args.mask output)) (sym was) c.serve.ensures.done)
+
+pub returns-clause-stays : goal.returns-clause-stays
+returns-clause-stays c =
+    λ more. let s = c.self.inside in
+    let below : c.args.level < length s.queues = omega (arith, c.self.invariant.long, c.requires.level) in
+    let found = read_is s.queues c.args.level c.index-self-level.result below in
+    let was = queue-of_kept s.ports s.depth s.queues c.args.level ∙ ap (λ k. k.queue) (sym found) in
+    let is = queue-set s.ports s.depth s.queues c.args.level c.serve.new.self below in
+    rw (← c.self.view_is, is)
+    (subst (λ (q : FanQueue). HeadStays c.args.mask q c.serve.new.self.queue) (sym was) (c.serve.ensures.stays more))
+
+pub returns-clause-spare : goal.returns-clause-spare
+returns-clause-spare c =
+    let s = c.self.inside in
+    let below : c.args.level < length s.queues = omega (arith, c.self.invariant.long, c.requires.level) in
+    let found = read_is s.queues c.args.level c.index-self-level.result below in
+    let was = queue-of_kept s.ports s.depth s.queues c.args.level ∙ ap (λ k. k.queue) (sym found) in
+    let is = queue-set s.ports s.depth s.queues c.args.level c.serve.new.self below in
+    rw (← c.self.view_is, is) (c.serve.ensures.spare ∙ ap (λ q. q.spare) (sym was))
 
 pub invariant_of-self : goal.invariant_of-self
 invariant_of-self c =
