@@ -11,7 +11,6 @@ use Rattle.clap.specs.declared.builder.value_parser.Reading.TheVariants.{AsWritt
 use Rattle.clap.specs.declared.parser.matches.ValueSource.TheVariants.{CommandLine}
 use Rattle.switch_words.specs.declared.options.Command.{Command}
 use Rattle.switch_words.specs.declared.options.Command.TheVariants.{Run, Gen, Check, Firm}
-use Rattle.switch_words.specs.declared.options.Flags.{Flags}
 use Rattle.switch_words.specs.Options.{Setting, rounds, depth, workers, pace_us, Flag, slots, journal, reference, Switch, value, flag, option_of}
 use Rattle.switch_words.specs.Lines.{Lookup, first_text, flag_arg, flags_for, is_true_text, lookup_in, names_arg, option_arg, options_for, parts_in}
 use Rattle.switch_words.specs.Parts.{Parts, is_given, set_flag, set_text, text_in, with_flag, with_names, with_text}

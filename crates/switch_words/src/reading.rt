@@ -1,6 +1,6 @@
 ghost use Rattle.std.specs.Prelude.{◌≡◌, codes, Some, None, Err, drop, map, ok_or, option_map, string_bytes, vec_len, IfOk, IfSome};
 ghost use Rattle.switch_words.specs.Parts.{no_parts, parts_from};
-ghost use Rattle.switch_words.specs.Reading.{number_given, settings_of, inputs_in, run_with, firm_with, check_with, gen_with, run_words, firm_words, job_words, reading_of};
+ghost use Rattle.switch_words.specs.Reading.{number_given, settings_of, inputs_in, run_with, firm_with, check_with, gen_with, run_words, firm_words, job_words, job_with, reading_of};
 ghost use Rattle.switch_words.specs.Limits.{AreWithinLimits, IsUpTo, IsRunWithinLimits, IsGenWithinLimits, IsFirmWithinLimits, IsWithinLimits};
 ghost use Rattle.switch_words.specs.Lines.{first_text, is_true_text, lookup_of, parts_of};
 
@@ -26,7 +26,7 @@ use voq_banks::MAX_DEPTH;
 /// a word is refused, the command lacks an option, an option is repeated, a flag has a value, a value is
 /// no number within its limits, or there are more or fewer names. `OutOfMemory` may come in place of
 /// any answer.
-#[tactic(auto, unfolding(crate::specs::Reading::reading_of, crate::specs::Reading::job_with))]
+#[tactic(auto, unfolding(crate::specs::Reading::reading_of))]
 pub fn read_words(alloc: Global, words: &[String]) -> Result<Job, WordsFault>
     ensures job { IfOk result (λ job. reading_of (map string_bytes words.now) ≡ Some (job_words job)) }
     ensures usage { result ≡ Err WordsFault.Usage → reading_of (map string_bytes words.now) ≡ None }
@@ -37,12 +37,22 @@ pub fn read_words(alloc: Global, words: &[String]) -> Result<Job, WordsFault>
     };
     let command = Command::named(first.as_str()).ok_or(WordsFault::Usage)?;
     let matches = parsed(alloc, command, words)?;
-    let names = names(&matches).ok_or(WordsFault::Usage)?;
+    job_of(alloc, command, &matches)
+}
+
+// The job of the command with these options and names.
+#[tactic(auto, unfolding(crate::specs::Reading::job_with))]
+fn job_of(alloc: Global, command: Command, matches: &ArgMatches<'_>) -> Result<Job, WordsFault>
+    ensures job { IfOk result (λ job. job_with command (parts_of matches.now) ≡ Some (job_words job)) }
+    ensures usage { result ≡ Err WordsFault.Usage → job_with command (parts_of matches.now) ≡ None }
+    ensures limits { IfOk result IsWithinLimits }
+{
+    let names = names(matches).ok_or(WordsFault::Usage)?;
     match command {
-        Command::Run => Ok(Job::Run(run_job(alloc, settings(&matches)?, flags(&matches), names)?)),
-        Command::Gen => Ok(Job::Gen(gen_job(settings(&matches)?, names)?)),
+        Command::Run => Ok(Job::Run(run_job(alloc, settings(matches)?, flags(matches), names)?)),
+        Command::Gen => Ok(Job::Gen(gen_job(settings(matches)?, names)?)),
         Command::Check => Ok(Job::Check(check_job(alloc, names)?)),
-        Command::Firm => Ok(Job::Firm(firm_job(alloc, settings(&matches)?, names)?)),
+        Command::Firm => Ok(Job::Firm(firm_job(alloc, settings(matches)?, names)?)),
     }
 }
 
