@@ -1,7 +1,7 @@
 //! Rows of arrival slots: `NAME PACE PACKETS -> SLOTS`, or `-> too_long SLOTS`. A pace is `line` or
 //! `SLOT:BASE`, a packet `TIME:CELLS`.
-ghost use Rattle.std.specs.Prelude.{◌≤◌, length, All, IfOk, IsTrue};
-ghost use Rattle.line_pace.specs.Arrivals.{IsPace, CanCome};
+ghost use Rattle.std.specs.Prelude.{◌≡◌, ◌≤◌, length, All, IfOk, IsTrue};
+ghost use Rattle.line_pace.specs.Arrivals.{IsPace, CanCome, base_of};
 
 use crate::fields::long_number;
 use crate::texts::numbers_text;
@@ -23,6 +23,10 @@ fn answer(alloc: Global, question: &str) -> Result<String, NoAnswer> {
     let [_, pace_text, packets_text] = words.as_slice() else {
         return Err(NoAnswer);
     };
+    slots_text(alloc, pace_text, packets_text)
+}
+
+fn slots_text(alloc: Global, pace_text: &str, packets_text: &str) -> Result<String, NoAnswer> {
     let pace = pace(pace_text)?;
     let packets = packets(alloc, packets_text, &pace)?;
     match arrivals(alloc, packets.as_slice(), pace) {
@@ -91,9 +95,15 @@ fn all_can_come(packets: &[Stamp], pace: &Pace) -> bool
 fn can_come(packet: &Stamp, pace: &Pace) -> bool
     ensures { IsTrue result → CanCome pace.now packet.now }
 {
-    let base = match pace {
+    0 < packet.cells && packet.cells <= MAX_CAPTURED_CELLS && base(pace) <= packet.time
+}
+
+// The time that slot 0 begins at, in nanoseconds.
+fn base(pace: &Pace) -> u64
+    ensures { result ≡ base_of pace.now }
+{
+    match pace {
         Pace::Line => 0,
         Pace::Micros { slot: _, base } => *base,
-    };
-    0 < packet.cells && packet.cells <= MAX_CAPTURED_CELLS && base <= packet.time
+    }
 }

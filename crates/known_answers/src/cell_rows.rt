@@ -25,15 +25,16 @@ pub fn row(alloc: Global, line: &str) -> Result<Row, AllocError> {
 fn answer(alloc: Global, question: &str) -> Result<String, NoAnswer> {
     let words = words(alloc, question)?;
     match words.as_slice() {
-        ["cells_of", len] => count_text(alloc, number(len)?),
-        ["form", cell] => form_text(alloc, &cell_bytes(cell)?),
-        ["cut", head @ .., packet] => cut_text(alloc, head, bytes(alloc, packet)?.as_slice()),
-        ["cut_long", head @ ..] => cut_text(alloc, head, long_packet(alloc)?.as_slice()),
+        ["cells_of", len] => count_text(alloc, len),
+        ["form", cell] => form_text(alloc, cell),
+        ["cut", head @ .., packet] => short_cut_text(alloc, head, packet),
+        ["cut_long", head @ ..] => long_cut_text(alloc, head),
         _ => Err(NoAnswer),
     }
 }
 
-fn count_text(alloc: Global, len: u32) -> Result<String, NoAnswer> {
+fn count_text(alloc: Global, len: &str) -> Result<String, NoAnswer> {
+    let len = number(len)?;
     if len > MAX_CAPTURED_BYTES {
         return Err(NoAnswer);
     }
@@ -47,6 +48,16 @@ pub fn cell_bytes(text: &str) -> Result<[u8; CELL_BYTES], NoAnswer> {
         Ok(()) => Ok(bytes),
         Err(_) => Err(NoAnswer),
     }
+}
+
+fn short_cut_text(alloc: Global, head: &[&str], packet: &str) -> Result<String, NoAnswer> {
+    let packet = bytes(alloc, packet)?;
+    cut_text(alloc, head, packet.as_slice())
+}
+
+fn long_cut_text(alloc: Global, head: &[&str]) -> Result<String, NoAnswer> {
+    let packet = long_packet(alloc)?;
+    cut_text(alloc, head, packet.as_slice())
 }
 
 // The longest packet that is forwarded: byte x is x mod 251.
@@ -91,9 +102,10 @@ fn cell_of(packet: &Packet<'_>, k: u32) -> Result<[u8; CELL_BYTES], NoAnswer> {
     }
 }
 
-fn form_text(alloc: Global, bytes: &[u8; CELL_BYTES]) -> Result<String, NoAnswer> {
-    match Cell::from_bytes(bytes) {
-        Some(cell) if cell.to_bytes() == *bytes => Ok(cell_text(alloc, &cell)?),
+fn form_text(alloc: Global, cell: &str) -> Result<String, NoAnswer> {
+    let bytes = cell_bytes(cell)?;
+    match Cell::from_bytes(&bytes) {
+        Some(cell) if cell.to_bytes() == bytes => Ok(cell_text(alloc, &cell)?),
         Some(_) => Err(NoAnswer),
         None => Ok(String::from_str(alloc, "none")?),
     }

@@ -20,7 +20,14 @@ pub fn row(alloc: Global, line: &str) -> Result<Row, AllocError> {
 
 fn answer(alloc: Global, question: &str) -> Result<String, NoAnswer> {
     let words = words(alloc, question)?;
-    let [_, n, rounds, asks, grant, accept] = words.as_slice() else {
+    let [_, fields @ ..] = words.as_slice() else {
+        return Err(NoAnswer);
+    };
+    slot_answer(alloc, fields)
+}
+
+fn slot_answer(alloc: Global, fields: &[&str]) -> Result<String, NoAnswer> {
+    let [n, rounds, asks, grant, accept] = fields else {
         return Err(NoAnswer);
     };
     let n = port_count(n)?;

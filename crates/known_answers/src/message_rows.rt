@@ -16,15 +16,32 @@ pub fn row(alloc: Global, line: &str) -> Result<Row, AllocError> {
 
 fn answer(alloc: Global, question: &str) -> Result<String, NoAnswer> {
     let words = words(alloc, question)?;
-    let written = match words.as_slice() {
-        ["header", unit_word, link_word] => header(alloc, unit(unit_word)?, link(link_word)?)?,
-        ["record", unit_word, message] => record(alloc, unit(unit_word)?, message)?,
-        ["capture", unit_word, link_word, messages] => {
-            capture(alloc, unit(unit_word)?, link(link_word)?, messages)?
-        }
-        _ => return Err(NoAnswer),
-    };
-    Ok(hex::encode(alloc, written.as_slice())?)
+    match words.as_slice() {
+        ["header", unit, link] => header_text(alloc, unit, link),
+        ["record", unit, message] => record_text(alloc, unit, message),
+        ["capture", unit, link, messages] => capture_text(alloc, unit, link, messages),
+        _ => Err(NoAnswer),
+    }
+}
+
+fn header_text(alloc: Global, unit_word: &str, link_word: &str) -> Result<String, NoAnswer> {
+    let header = header(alloc, unit(unit_word)?, link(link_word)?)?;
+    Ok(hex::encode(alloc, header.as_slice())?)
+}
+
+fn record_text(alloc: Global, unit_word: &str, message: &str) -> Result<String, NoAnswer> {
+    let record = record(alloc, unit(unit_word)?, message)?;
+    Ok(hex::encode(alloc, record.as_slice())?)
+}
+
+fn capture_text(
+    alloc: Global,
+    unit_word: &str,
+    link_word: &str,
+    messages: &str,
+) -> Result<String, NoAnswer> {
+    let capture = capture(alloc, unit(unit_word)?, link(link_word)?, messages)?;
+    Ok(hex::encode(alloc, capture.as_slice())?)
 }
 
 fn header(alloc: Global, nano: bool, link: Link) -> Result<Vec<u8>, AllocError> {
