@@ -1,8 +1,6 @@
 -- What is kept still stands for the events, with one more.
-use Rattle.std.proofs.Common.{inl, inr, ◌⊎◌, ◌↔◌, ◌≡◌, ℕ, ◌+◌, ◌*◌, ◌<◌, ◌≤◌, Bool, List, [], ◌∷◌, ◌++◌, length, ap, arith, slice_index, slice_set}
-use Rattle.std.proofs.lemmas.Bool.{cases_lt}
+use Rattle.std.proofs.Common.{◌⊎◌, ◌↔◌, ◌≡◌, ℕ, ◌+◌, ◌*◌, ◌<◌, ◌≤◌, Bool, List, [], ◌∷◌, ◌++◌, length, arith, slice_index, slice_set}
 use Rattle.std.proofs.lemmas.List.{length_push}
-use Rattle.std.proofs.Math.Nat.{mul-le-mul_right}
 use Rattle.rotating_pick.specs.declared.limits.TheConstants.{MAX_PORTS}
 use Rattle.rotating_pick.specs.PortSets.{Has}
 use Rattle.eslip_rounds.specs.Slots.{Decision}
@@ -15,9 +13,9 @@ use Rattle.slot_histories.specs.Legal.{MayPost, MayDecide, MayTake, Allows}
 use Rattle.slot_histories.proofs.Appending.{posts_of-decide, posts_of-take, decides-post, decides-take}
 use Rattle.slot_histories.proofs.InStep.{AreInStep, length-in_step}
 use Rattle.slot_histories.proofs.LegalLists.{IsLegal-more, AreInStep-legal}
-use Rattle.board_state.specs.Kept.{Parts, events_of, events_in, with_slot, IsKept, IsRoom}
+use Rattle.board_state.specs.Kept.{Parts, events_of, events_in, with_place, IsKept, IsRoom}
 use Rattle.board_state.proofs.Decoding.{events_of-post, events_of-take, events_of-decide}
-use Rattle.board_state.proofs.Placing.{with_slot-like, place_in, ArePlaces-idle, ArePlaces-post}
+use Rattle.board_state.proofs.Placing.{with_place-like, place_in, place_few, ArePlaces-idle, ArePlaces-post}
 use Rattle.board_state.proofs.Booking.{raised, AreBooks-post, AreBooks-take, AreBooks-decide, HavePosted-post, HavePosted-take, HavePosted-decide}
 use Rattle.board_state.proofs.Deciding.{with_decided, AreDecided-idle, AreDecided-decide}
 
@@ -25,8 +23,8 @@ use Rattle.board_state.proofs.Deciding.{with_decided, AreDecided-idle, AreDecide
 -- the posts, with one more of the card
 abbrev pub posts_with : Parts → ℕ → CardPost → List CardPost
 posts_with p card post =
-    let slot = slice_index p.posted card in
-    slice_set (with_slot p.setup.ports slot p.posts) (slot * p.setup.ports + card) post
+    let place = slice_index p.posted card * p.setup.ports + card in
+    slice_set (with_place place p.posts) place post
 
 -- a post, after which these cards have posted the slot that is decided next
 abbrev pub with_post : Parts → ℕ → CardPost → ℕ → Parts
@@ -133,19 +131,9 @@ module _ {p : Parts} {events : List Event} (kept : IsKept p events) where
   pub decided_few : decides events ≤ p.setup.max_slots
   decided_few = omega (arith, in_step.decided_posted 0 kept.setup.ports_some, in_step.posts_within 0 kept.setup.ports_some)
 
-  -- the places of the slot that a card posts next: none, or all
-  pub slot_whole :
-      (card : ℕ) → card < p.setup.ports → slice_index p.posted card * p.setup.ports < length p.posts →
-      slice_index p.posted card * p.setup.ports + p.setup.ports ≤ length p.posts
-  slot_whole card card_in old =
-      let count = kept.books.counts_are card card_in in
-      let few = kept.places.in_begun card card_in in
-      elim (cases_lt (slice_index p.posted card) kept.places.begun) [
-        | inl inside ↦ omega (arith, mul-le-mul_right p.setup.ports inside, kept.places.long)
-        | inr all ↦
-            let is : slice_index p.posted card ≡ kept.places.begun = omega arith in
-            absurd (omega (arith, ap (λ k. k * p.setup.ports) is, kept.places.long))
-      ]
+  -- the place of the card's next post is within those of all slots
+  pub post_few : (card : ℕ) (post : CardPost) → MayPost p.setup events card post → slice_index p.posted card * p.setup.ports + card < p.setup.max_slots * p.setup.ports
+  post_few card post may = rw (kept.books.counts_are card may.card_in) (place_few kept.places kept.setup.ports_some may)
 
 -- ---- the events of what is kept then
 module _ {p : Parts} (kept : IsKept p (events_in p)) where
@@ -156,8 +144,8 @@ module _ {p : Parts} (kept : IsKept p (events_in p)) where
       let n = p.setup.ports in
       let slot = length (posts_of card (events_in p)) in
       rw (kept.books.counts_are card may.card_in)
-      (events_of-post n p.posts (with_slot n slot p.posts) p.order slot card post may.card_in
-      (place_in kept.places kept.setup.ports_some may) (λ place. with_slot-like n slot p.posts place) (kept.places.bytes card may.card_in))
+      (events_of-post n p.posts (with_place (slot * n + card) p.posts) p.order slot card post may.card_in
+      (place_in kept.places kept.setup.ports_some may) (λ other. with_place-like (slot * n + card) p.posts other) (kept.places.bytes card may.card_in))
 
   pub take_events : (card : ℕ) → card < p.setup.ports → events_in (with_take p card) ≡ events_in p ++ Take card ∷ []
   take_events card card_in = events_of-take p.setup.ports p.posts p.order card kept.setup.ports_few card_in

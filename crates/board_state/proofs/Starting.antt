@@ -54,10 +54,7 @@ IsKept-first {s} setup =
         done_is = refl;
       };
       places = record {
-        begun = 0;
-        few = omega arith;
-        long = omega arith;
-        in_begun = λ i below. omega arith;
+        inside = λ i t below before. absurd (omega arith);
         each = λ i t below inside. absurd (omega arith);
         bytes = λ i below. refl;
       };

@@ -1,5 +1,5 @@
 -- What a board keeps of its events: the posts and the decided slots by place, and the order in a byte each.
-use Rattle.std.specs.Prelude.{ℕ, ◌+◌, ◌-◌, ◌*◌, ◌<◌, ◌≤◌, ◌≡◌, ◌==◌, nat_lt, nat_le, if◌then◌else◌, Bool, List, [], ◌∷◌, ◌++◌, Option, length, slice_index, slice_index_or, count_by, replicate}
+use Rattle.std.specs.Prelude.{ℕ, ◌+◌, ◌-◌, ◌*◌, ◌<◌, ◌≤◌, ◌≡◌, ◌==◌, nat_lt, if◌then◌else◌, Bool, List, [], ◌∷◌, ◌++◌, Option, length, slice_index, slice_index_or, count_by, replicate}
 use Rattle.rotating_pick.specs.declared.limits.TheConstants.{MAX_PORTS}
 use Rattle.slot_match.specs.declared.matching.Fed.{Fed}
 use Rattle.pointer_state.specs.Places.{Places}
@@ -59,9 +59,9 @@ events_of n posts order = events_after n posts [] order
 abbrev pub events_in : Parts → List Event
 events_in p = events_of p.setup.ports p.posts p.order
 
--- the posts with places for those of the slot: n more, if there are none
-unfoldable pub with_slot : ℕ → ℕ → List CardPost → List CardPost
-with_slot n slot posts = if nat_le (length posts) (slot * n) then posts ++ replicate n no_post else posts
+-- the posts with a place of this number: posts of nothing are added up to it, if there is none
+abbrev pub with_place : ℕ → List CardPost → List CardPost
+with_place place posts = posts ++ replicate (place + 1 - length posts) no_post
 
 -- how often each card posted and took
 pub record AreBooks (n : ℕ) (counts takes : List ℕ) (events : List Event) : Type 0 where
@@ -77,12 +77,9 @@ pub record AreDecided (s : Setup) (kept : Decisions) (events : List Event) : Typ
   pub pointers_are : kept.pointers ≡ places_at s (posted events) (decides events)
   pub done_is : kept.done ≡ is_done_before s.ports (posted events) (decides events)
 
--- the posts of as many slots as were begun, each in its place, and a byte for each
+-- the posts, each in its place, and a byte for each
 pub record ArePlaces (s : Setup) (posts : List CardPost) (order : List ℕ) (events : List Event) : Type 0 where
-  pub begun : ℕ
-  pub few : begun ≤ s.max_slots
-  pub long : length posts ≡ begun * s.ports
-  pub in_begun : (i : ℕ) → i < s.ports → length (posts_of i events) ≤ begun
+  pub inside : (i t : ℕ) → i < s.ports → t < length (posts_of i events) → t * s.ports + i < length posts
   pub each : (i t : ℕ) → i < s.ports → t < length (posts_of i events) → post_at posts (t * s.ports + i) ≡ posted events i t
   pub bytes : (i : ℕ) → i < s.ports → count_of i order ≡ length (posts_of i events)
 

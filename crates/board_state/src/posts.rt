@@ -2,7 +2,7 @@ ghost use Rattle.std.specs.Prelude.{◌≡◌, ℕ, ◌+◌, ◌*◌, ◌<◌, �
 ghost use Rattle.std.specs.List.{list_all};
 ghost use Rattle.crossbar.specs.Crossing.{fetched};
 ghost use Rattle.slot_histories.specs.Events.{no_post};
-ghost use Rattle.board_state.specs.Kept.{with_slot};
+ghost use Rattle.board_state.specs.Kept.{with_place};
 
 use cell_cutter::Cell;
 use crossbar::Post;
@@ -27,29 +27,31 @@ pub(crate) fn posts_at(posts: &[Post], slot: usize, ports: usize) -> &[Post]
     &posts[slot * ports..slot * ports + ports]
 }
 
-// Writes the card's post for the slot into its place. Where it is the slot's first, places for all of
-// the slot's posts are made before, for which there is room.
-pub(crate) fn write_post(posts: &mut Vec<Post>, ports: usize, slot: usize, card: usize, post: Post)
-    requires room { slot * ports + ports ≤ vec_capacity posts.old }
-    requires card_in { card < ports }
-    requires begun { slot * ports ≤ vec_len posts.old }
-    requires whole { slot * ports < vec_len posts.old → slot * ports + ports ≤ vec_len posts.old }
-    ensures items { posts.new.items ≡ slice_set (with_slot ports slot posts.old.items) (slot * ports + card) post }
+// Writes the card's post for the slot into its place. Where posts come in order, that is the next one;
+// else posts of nothing are added up to it, for which there is room.
+pub(crate) fn write_post(posts: &mut Vec<Post>, ports: usize, slot: usize, card: usize, post: &Post)
+    requires { slot * ports + card < vec_capacity posts.old }
+    ensures items { posts.new.items ≡ slice_set (with_place (slot * ports + card) posts.old.items) (slot * ports + card) post.now }
     ensures room { vec_capacity posts.new ≡ vec_capacity posts.old }
 {
-    begin_slot(posts, ports, slot);
-    posts[slot * ports + card] = post;
+    let place = slot * ports + card;
+    if place == posts.len() {
+        posts.push_reserved(*post);
+    } else {
+        make_place(posts, place);
+        posts[place] = *post;
+    }
 }
 
-// Makes places for the slot's posts, if there are none.
-fn begin_slot(posts: &mut Vec<Post>, ports: usize, slot: usize)
-    requires room { slot * ports + ports ≤ vec_capacity posts.old }
-    requires begun { slot * ports ≤ vec_len posts.old }
-    ensures items { posts.new.items ≡ with_slot ports slot posts.old.items }
+// Adds posts of nothing up to the place, if there is none.
+fn make_place(posts: &mut Vec<Post>, place: usize)
+    requires { place < vec_capacity posts.old }
+    ensures items { posts.new.items ≡ with_place place posts.old.items }
     ensures room { vec_capacity posts.new ≡ vec_capacity posts.old }
 {
-    if posts.len() <= slot * ports {
-        push_blanks(posts, ports);
+    if posts.len() <= place {
+        let missing = place - posts.len() + 1;
+        push_blanks(posts, missing);
     }
 }
 

@@ -1,5 +1,7 @@
 ghost use Rattle.std.specs.Prelude.{◌≡◌, ℕ, ◌+◌, ◌<◌, ◌≤◌, ◌↔◌, [], length, IsTrue, IfOk};
-ghost use Rattle.slot_histories.specs.Events.{takes_of, decides};
+ghost use Rattle.slot_histories.specs.declared.events.Event.{Event};
+ghost use Rattle.slot_histories.specs.Events.{takes_of, decides, posted};
+ghost use Rattle.slot_histories.specs.Slots.{taken_at};
 ghost use Rattle.slot_histories.specs.Legal.{Allows, IsLegal};
 ghost use Rattle.slot_histories.specs.Answers.{answer_of, journal_of};
 ghost use Rattle.slot_histories.specs.Tests.{is_allowed};
@@ -10,7 +12,7 @@ use crate::books::CardBook;
 use crate::counts::{Counts, no_counts};
 use crate::journal::Journal;
 use crate::limits::{MAX_SLOTS, MAX_SLOTS_WIDE};
-use crossbar::Post;
+use crossbar::{Post, Taken};
 use islip_rounds::RoundsUsed;
 use pointer_state::Pointers;
 use rotating_pick::{MAX_PORTS, MAX_ROUNDS, OutOfMemory, PORT_COUNT, Ports};
@@ -119,12 +121,66 @@ impl BoardState {
     {
         match event {
             Event::Post { card, post } => {
-                self.add_post(card, post);
+                self.add_post(card, &post);
                 Answer::Posted
             }
             Event::Decide => Answer::Decided(self.add_decision()),
             Event::Take { card } => Answer::Took(self.add_take(card)),
         }
+    }
+
+    /// Whether the card may post this now: [`BoardState::may`] of the event, with the post lent.
+    pub fn may_put(&self, card: u32, post: &Post) -> bool
+        ensures may { IsTrue result ↔ Allows self.now.setup self.now.events (Event.Post card post.now) }
+        ensures test { result ≡ is_allowed self.now.setup self.now.events (Event.Post card post.now) }
+    {
+        self.legal();
+        self.may_post(card, post)
+    }
+
+    /// Makes the card's post, which may come: [`BoardState::step`] of the event, with the post lent.
+    /// Takes no memory.
+    pub fn put(&mut self, card: u32, post: &Post)
+        requires { Allows self.old.setup self.old.events (Event.Post card post.now) }
+        ensures { self.new ≡ with_event self.old (Event.Post card post.now) }
+    {
+        self.add_post(card, post);
+    }
+
+    /// Whether the next slot may be decided now: [`BoardState::may`] of the event.
+    pub fn may_settle(&self) -> bool
+        ensures may { IsTrue result ↔ Allows self.now.setup self.now.events Event.Decide }
+        ensures test { result ≡ is_allowed self.now.setup self.now.events Event.Decide }
+    {
+        self.legal();
+        self.may_decide()
+    }
+
+    /// Decides the next slot, which may be decided: [`BoardState::step`] of the event. Takes no memory.
+    pub fn settle(&mut self)
+        requires { Allows self.old.setup self.old.events Event.Decide }
+        ensures { self.new ≡ with_event self.old Event.Decide }
+    {
+        self.add_decision();
+    }
+
+    /// Whether the card may take now: [`BoardState::may`] of the event.
+    pub fn may_draw(&self, card: u32) -> bool
+        ensures may { IsTrue result ↔ Allows self.now.setup self.now.events (Event.Take card) }
+        ensures test { result ≡ is_allowed self.now.setup self.now.events (Event.Take card) }
+    {
+        self.legal();
+        self.may_take(card)
+    }
+
+    /// Makes the card's take, which may come, and answers what it took: [`BoardState::step`] of the
+    /// event. Takes no memory.
+    pub fn draw(&mut self, card: u32) -> Taken
+        requires { Allows self.old.setup self.old.events (Event.Take card) }
+        ensures board { self.new ≡ with_event self.old (Event.Take card) }
+        ensures taken { result ≡ taken_at self.old.setup (posted self.old.events) card (takes_of card self.old.events) }
+    {
+        self.add_take(card)
     }
 
     /// Where the card, one of the ports, stands.

@@ -10,3 +10,4 @@ mod Settled
 pub mod SeatColumns
 pub mod DecidedSlots
 pub mod AfterCalls
+mod Drawings

@@ -5,3 +5,4 @@ pub mod Boards
 pub mod Schedules
 pub mod Calls
 pub mod States
+pub mod Drawings

@@ -1,15 +1,12 @@
 ghost use Rattle.std.specs.Prelude.{◌≡◌, ◌++◌};
-ghost use Rattle.board_state.specs.Boards.{with_event};
-ghost use Rattle.slot_histories.specs.Events.{posted, takes_of};
-ghost use Rattle.slot_histories.specs.Legal.{Allows, MayDecide};
-ghost use Rattle.slot_histories.specs.Slots.{taken_at};
-ghost use Rattle.slot_histories.specs.declared.events.Event.TheVariants.{Take};
-ghost use Rattle.slot_board.specs.Turns.{setup_of, numbers_of, decision_entries, post_adds, take_adds, StayLegal, TakeAnswers};
+ghost use Rattle.slot_histories.specs.Legal.{MayDecide};
+ghost use Rattle.slot_board.specs.Turns.{numbers_of, decision_entries, post_adds, take_adds, StayLegal};
+ghost use Rattle.slot_board.specs.Drawings.{DrawnAnswers};
 
 use board_state::BoardState;
 use crossbar::{Post, Taken};
 use rotating_pick::Ports;
-use slot_histories::{Answer, Event};
+use slot_histories::Event;
 use turn_lock::{Act, Kept};
 
 /// The state that the cards share, in a box, so that a turn moves a pointer alone. Between turns a slot
@@ -36,23 +33,32 @@ impl Kept for KeptState {
 
 /// A card posts. The last post of a slot decides it.
 #[derive(Clone, Copy, Debug, PartialEq, Eq)]
-pub(crate) struct PostAct {
+pub(crate) struct PostAct<'a> {
     pub(crate) card: u32,
-    pub(crate) post: Post,
+    pub(crate) post: &'a Post,
 }
 
-impl Act<KeptState> for PostAct {
+impl<'a> Act<KeptState> for PostAct<'a> {
     ghost use Rattle.slot_board.specs.Turns.{setup_of, post_adds, StayLegal};
 
     type Out = ();
 
-    ghost adds = { λ act numbers events. post_adds act.card act.post numbers events };
+    ghost adds = { λ act numbers events. post_adds act.card act.post.now numbers events };
 
-    ghost answers = { λ act numbers events out. StayLegal (setup_of numbers) events (post_adds act.card act.post numbers events) };
+    ghost answers = { λ act numbers events out. StayLegal (setup_of numbers) events (post_adds act.card act.post.now numbers events) };
 
     fn apply(self, kept: &mut KeptState) {
         add_post(&mut kept.state, self.card, self.post);
     }
+}
+
+/// What a try to take is answered: the card's part of its slot where it is ready, else the cards that have
+/// posted it. It is one struct, so that the part is not copied through an enum.
+#[derive(Clone, Copy, Debug, PartialEq, Eq)]
+pub struct Drawn {
+    pub(crate) ready: bool,
+    pub(crate) posted: Ports,
+    pub(crate) taken: Taken,
 }
 
 /// A card takes its part of its slot. Where the slot is not decided, it learns which cards have posted it.
@@ -62,31 +68,31 @@ pub(crate) struct TakeAct {
 }
 
 impl Act<KeptState> for TakeAct {
-    ghost use Rattle.slot_board.specs.Turns.{setup_of, take_adds, StayLegal, TakeAnswers};
+    ghost use Rattle.slot_board.specs.Turns.{setup_of, take_adds, StayLegal};
+    ghost use Rattle.slot_board.specs.Drawings.{DrawnAnswers};
 
-    type Out = Result<Taken, Ports>;
+    type Out = Drawn;
 
     ghost adds = { λ act numbers events. take_adds act.card numbers events };
 
-    ghost answers = { λ act numbers events out. StayLegal (setup_of numbers) events (take_adds act.card numbers events) × TakeAnswers (setup_of numbers) act.card events out };
+    ghost answers = { λ act numbers events out. StayLegal (setup_of numbers) events (take_adds act.card numbers events) × DrawnAnswers (setup_of numbers) act.card events out };
 
-    fn apply(self, kept: &mut KeptState) -> Result<Taken, Ports> {
+    fn apply(self, kept: &mut KeptState) -> Drawn {
         add_take(&mut kept.state, self.card)
     }
 }
 
 // Notes the card's post where it may come, and decides the slot where that was its last post.
-fn add_post(state: &mut BoardState, card: u32, post: Post)
+fn add_post(state: &mut BoardState, card: u32, post: &Post)
     requires { MayDecide state.old.setup state.old.events → ⊥ }
     ensures setup { state.new.setup ≡ state.old.setup }
-    ensures events { state.new.events ≡ state.old.events ++ post_adds card post (numbers_of state.old.setup) state.old.events }
-    ensures legal { StayLegal state.old.setup state.old.events (post_adds card post (numbers_of state.old.setup) state.old.events) }
+    ensures events { state.new.events ≡ state.old.events ++ post_adds card post.now (numbers_of state.old.setup) state.old.events }
+    ensures legal { StayLegal state.old.setup state.old.events (post_adds card post.now (numbers_of state.old.setup) state.old.events) }
     ensures settled { MayDecide state.new.setup state.new.events → ⊥ }
 {
-    let event = Event::Post { card, post };
     state.legal();
-    if state.may(&event) {
-        state.step(event);
+    if state.may_put(card, post) {
+        state.put(card, post);
         decide_if_full(state);
     }
     state.legal();
@@ -99,39 +105,44 @@ fn decide_if_full(state: &mut BoardState)
     ensures settled { MayDecide state.new.setup state.new.events → ⊥ }
 {
     state.legal();
-    if state.may(&Event::Decide) {
-        state.step(Event::Decide);
+    if state.may_settle() {
+        state.settle();
     }
 }
 
 // The card's part of its slot, or where that is not decided the cards that have posted it.
-fn add_take(state: &mut BoardState, card: u32) -> Result<Taken, Ports>
+fn add_take(state: &mut BoardState, card: u32) -> Drawn
     requires { MayDecide state.old.setup state.old.events → ⊥ }
     ensures setup { state.new.setup ≡ state.old.setup }
     ensures events { state.new.events ≡ state.old.events ++ take_adds card (numbers_of state.old.setup) state.old.events }
     ensures legal { StayLegal state.old.setup state.old.events (take_adds card (numbers_of state.old.setup) state.old.events) }
-    ensures answer { TakeAnswers state.old.setup card state.old.events result }
+    ensures answer { DrawnAnswers state.old.setup card state.old.events result }
     ensures settled { MayDecide state.new.setup state.new.events → ⊥ }
 {
-    let event = Event::Take { card };
     state.legal();
-    if state.may(&event) {
-        let taken = draw(state, card);
+    if state.may_draw(card) {
+        let taken = state.draw(card);
         state.legal();
-        Ok(taken)
+        Drawn {
+            ready: true,
+            posted: 0,
+            taken,
+        }
     } else {
-        Err(state.posted())
+        Drawn {
+            ready: false,
+            posted: state.posted(),
+            taken: no_part(),
+        }
     }
 }
 
-// The card's part of its slot.
-fn draw(state: &mut BoardState, card: u32) -> Taken
-    requires { Allows state.old.setup state.old.events (Take card) }
-    ensures state { state.new ≡ with_event state.old (Take card) }
-    ensures taken { result ≡ taken_at state.old.setup (posted state.old.events) card (takes_of card state.old.events) }
-{
-    match state.step(Event::Take { card }) {
-        Answer::Took(taken) => taken,
-        _ => unreachable!(),
+// A part of nothing, which stands where a card may not take.
+fn no_part() -> Taken {
+    Taken {
+        slot: 0,
+        served: None,
+        cell: None,
+        done: false,
     }
 }

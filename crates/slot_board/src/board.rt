@@ -101,7 +101,7 @@ impl Board {
     {
         let act = PostAct {
             card: seat.card,
-            post,
+            post: &post,
         };
         match self.turn.try_turn(&mut seat.seat, act) {
             Ok(()) => {
@@ -109,9 +109,9 @@ impl Board {
                 seat.last = post.row;
                 Ok(())
             }
-            Err(Busy { act }) => {
+            Err(_) => {
                 seat.refused = seat.refused.saturating_add(1);
-                Err(Busy { act: act.post })
+                Err(Busy { act: post })
             }
         }
     }
@@ -135,16 +135,19 @@ impl Board {
     {
         let act = TakeAct { card: seat.card };
         match self.turn.try_turn(&mut seat.seat, act) {
-            Ok(Ok(taken)) => {
-                seat.slot += 1;
-                seat.posted = false;
-                seat.done = taken.done;
-                seat.served = taken.served;
-                Ok(taken)
-            }
-            Ok(Err(posted)) => {
-                seat.refused = seat.refused.saturating_add(1);
-                Err(TakeWait::NotYet { posted })
+            Ok(drawn) => {
+                if drawn.ready {
+                    seat.slot += 1;
+                    seat.posted = false;
+                    seat.done = drawn.taken.done;
+                    seat.served = drawn.taken.served;
+                    Ok(drawn.taken)
+                } else {
+                    seat.refused = seat.refused.saturating_add(1);
+                    Err(TakeWait::NotYet {
+                        posted: drawn.posted,
+                    })
+                }
             }
             Err(_) => {
                 seat.refused = seat.refused.saturating_add(1);

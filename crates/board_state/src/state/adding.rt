@@ -20,9 +20,9 @@ const DECISION: u8 = 128;
 
 impl BoardState {
     // Notes a post, which may come.
-    pub(super) fn add_post(&mut self, card: u32, post: Post)
-        requires { MayPost self.old.setup self.old.events card post }
-        ensures { self.new ≡ with_event self.old (Event.Post card post) }
+    pub(super) fn add_post(&mut self, card: u32, post: &Post)
+        requires { MayPost self.old.setup self.old.events card post.now }
+        ensures { self.new ≡ with_event self.old (Event.Post card post.now) }
     {
         let slot = self.posted[card as usize];
         let ports = self.ports as usize;

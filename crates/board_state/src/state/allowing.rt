@@ -20,7 +20,7 @@ impl BoardState {
         }
     }
 
-    fn may_post(&self, card: u32, post: &Post) -> bool
+    pub(super) fn may_post(&self, card: u32, post: &Post) -> bool
         ensures { IsTrue result ↔ MayPost self.now.setup self.now.events card post.now }
     {
         if card >= self.ports {
@@ -37,13 +37,13 @@ impl BoardState {
         is_accepted(self.ports, card, &last, self.last_served(card, slot), post)
     }
 
-    fn may_decide(&self) -> bool
+    pub(super) fn may_decide(&self) -> bool
         ensures { IsTrue result ↔ MayDecide self.now.setup self.now.events }
     {
         is_subset(all(self.ports), self.posted_next)
     }
 
-    fn may_take(&self, card: u32) -> bool
+    pub(super) fn may_take(&self, card: u32) -> bool
         ensures { IsTrue result ↔ MayTake self.now.setup self.now.events card }
     {
         card < self.ports

@@ -5,7 +5,7 @@ use crate::tests::builders::{
 use crate::{BoardState, Journal};
 use cell_cutter::Cell;
 use rotating_pick::{Kind, Ports};
-use slot_histories::Event;
+use slot_histories::{Answer, Event};
 use slot_match::Fed;
 use std::process::Abort;
 use std::test::Fail;
@@ -110,6 +110,39 @@ fn lists_in_two_orders(rt: HostRuntime) -> Result<(), Fail> {
         assert!(rt; journal.used(0) == one_round(1));
         assert!(rt; journal.used(1) == one_round(2));
     }
+    Ok(())
+}
+
+// Makes the event by the call of its kind, where it may come, and compares what a take answers.
+fn make_by_kind(rt: &impl Abort, board: &mut BoardState, step: &Step) {
+    match step.event {
+        Event::Post { card, post } => {
+            assert!(rt; board.may_put(card, &post));
+            board.put(card, &post);
+        }
+        Event::Decide => {
+            assert!(rt; board.may_settle());
+            board.settle();
+        }
+        Event::Take { card } => {
+            assert!(rt; board.may_draw(card));
+            let taken = board.draw(card);
+            assert!(rt; Answer::Took(taken) == step.answer);
+        }
+    }
+}
+
+#[test]
+fn calls_of_each_kind_make_the_list(rt: HostRuntime) -> Result<(), Fail> {
+    let mut board = BoardState::make(rt.alloc(), PORTS, 1, 3)?;
+    assert!(rt; !board.may_settle() && !board.may_draw(0));
+    for step in in_one_order() {
+        make_by_kind(&rt, &mut board, &step);
+    }
+    let journal = board.journal();
+    assert_eq!(rt; (journal.slots(), journal.events()), (2, 10));
+    let second_posts = [second_post(0), second_post(1)];
+    compare_slot(&rt, &journal, 1, [Some(1), Some(0)], second_posts);
     Ok(())
 }
 

@@ -1,9 +1,15 @@
 use Rattle.std.proofs.Common.{ap, arith}
 use Rattle.slot_histories.specs.declared.events.Event.TheVariants.{Take}
 use Rattle.board_state.specs.Boards.{with_event}
-use Rattle.board_state.proofs.Keeping.{IsKept-take, event_fits, take_events}
+use Rattle.board_state.proofs.Keeping.{IsKept-take, decided_few, event_fits, take_events}
 use Rattle.board_state.proofs.Reading.{may_come}
 use Rattle.board_state.proofs.state.BoardState.add_take.Goals as goal
+
+pub raise-requires-clause-room : goal.raise-requires-clause-room
+raise-requires-clause-room c =
+    let may = may_come c.self.invariant c.self.view_is (Take c.args.card) c.requires in
+    let kept = c.self.invariant.kept in
+    omega (arith, kept.books.takes_are c.args.card may.card_in, may.decided, decided_few kept, kept.setup.slots_few)
 
 pub push_reserved-requires : goal.push_reserved-requires
 push_reserved-requires c =

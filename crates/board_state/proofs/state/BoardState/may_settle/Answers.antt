@@ -1,0 +1,8 @@
+use Rattle.slot_histories.specs.declared.events.Event.TheVariants.{Decide}
+use Rattle.slot_histories.proofs.EventTests.{is_allowed-only}
+use Rattle.board_state.proofs.state.BoardState.may_settle.Goals as goal
+
+pub returns-clause-test : goal.returns-clause-test
+returns-clause-test c =
+    let board = c.args.self.now in
+    is_allowed-only board.setup board.events Decide c.may_decide.result c.legal.ensures.legal c.may_decide.ensures
