@@ -1,7 +1,8 @@
 -- Distances from a pointer: one that moves past a nearer port comes nearer.
-use Rattle.std.proofs.Common.{◌≡◌, ℕ, ◌+◌, ◌-◌, ◌%◌, ◌<◌, ◌≤◌, ◌⊎◌, ◌∙◌, inl, inr, arith}
+use Rattle.std.proofs.Common.{◌≡◌, ℕ, ◌+◌, ◌-◌, ◌%◌, ◌<◌, ◌≤◌, ◌⊎◌, ◌∙◌, sym, subst, inl, inr, arith}
 use Rattle.std.proofs.Math.Nat.{mod-eq_of_lt}
 use Rattle.std.proofs.lemmas.Bool.{cases_lt}
+use Rattle.std.proofs.lemmas.Nat.{mod_below}
 use Rattle.rotating_pick.specs.Rotation.{distance}
 use Rattle.rotating_pick.proofs.Circle.{mod_once, distance-lt}
 use Rattle.rotating_pick.proofs.Picking.{distance-injective}
@@ -71,3 +72,27 @@ reached_by n from x y a b c f x_in y_in da db dc less = grind (arith, da.above, 
 pub distance-reached : (n from x y : ℕ) → from < n → x < n → y < n → distance n from x ≤ distance n from y → distance n x y + distance n from x ≡ distance n from y
 distance-reached n from x y f x_in y_in less =
     reached_by n from x y (distance n from x) (distance n from y) (distance n x y) f x_in y_in (IsDistance-distance n from x f x_in) (IsDistance-distance n from y f y_in) (IsDistance-distance n x y x_in y_in) less
+
+-- the port after port x is one step farther than x, or at the pointer where x is the farthest
+pub distance-next : (n from x : ℕ) → from < n → x < n → (distance n from ((x + 1) % n) ≡ distance n from x + 1) ⊎ ((distance n from ((x + 1) % n) ≡ 0) × (distance n from x + 1 ≡ n))
+distance-next n from x f x_in =
+    let next_in : (x + 1) % n < n = mod_below (x + 1) n (omega arith) in
+    let own = distance-own n ((x + 1) % n) next_in in
+    let far = distance-lt n from x f in
+    let farther = distance-lt n from ((x + 1) % n) f in
+    elim (cases_lt (distance n from x) (distance n from ((x + 1) % n))) [
+      | inl beyond ↦ let passed = distance-passed n from x ((x + 1) % n) f x_in next_in beyond in inl (omega (arith, passed, own))
+      | inr within ↦ let after = distance-after n from x ((x + 1) % n) f x_in next_in within in inr (omega (arith, after, own, far), omega (arith, after, own, far))
+    ]
+
+-- one beyond a port, that port is the farthest
+pub distance-last : (n x : ℕ) → x < n → distance n ((x + 1) % n) x + 1 ≡ n
+distance-last n x x_in = let after = distance-after n x x x x_in x_in x_in (omega arith) in omega (arith, after)
+
+-- two ports are the same where those after them are
+pub next-injective : (n x y : ℕ) → x < n → y < n → (x + 1) % n ≡ (y + 1) % n → x ≡ y
+next-injective n x y x_in y_in same =
+    let next_in : (x + 1) % n < n = mod_below (x + 1) n (omega arith) in
+    let of_y : distance n ((x + 1) % n) y + 1 ≡ n = subst (λ p. distance n p y + 1 ≡ n) (sym same) (distance-last n y y_in) in
+    let of_x = distance-last n x x_in in
+    distance-injective n ((x + 1) % n) x y next_in x_in y_in (omega (arith, of_x, of_y))

@@ -44,7 +44,7 @@ module _ (n t level : ℕ) (rows : List Row) (first matched : List (Option Fed))
 
   module _ (i j : ℕ) (i_in : i < n) (j_in : j < n) where
     -- no input becomes fresh where the output is not accepted
-    no_fresher-refused : ((x : ℕ) → Serves first x j level Uni → ⊥) → (x : ℕ) → x < n → fresh_for n level after i j x ≤ fresh_for n level before i j x
+    pub no_fresher-refused : ((x : ℕ) → Serves first x j level Uni → ⊥) → (x : ℕ) → x < n → fresh_for n level after i j x ≤ fresh_for n level before i j x
     no_fresher-refused nobody x x_in =
         let stays = moved.grant_stays j level nobody in
         let turns_in = distance-lt n (accept_of before x level) j (pointing.accept x x_in) in

@@ -13,6 +13,11 @@ pub mod Falling
 pub mod OneRoundRank
 pub mod OneRound
 pub mod OneRoundServed
+pub mod LineRateClasses
+pub mod OneRoundAtLineRate
+pub mod OneRoundServedAtLineRate
+pub mod RankAtLineRate
+pub mod ServedAtLineRate
 pub mod HeadsComplete
 pub mod PartsOfSchedules
 pub mod Waiting

@@ -63,8 +63,30 @@ nearest_of n level places rows i j pointing i_in j_in named =
 module _ (n t level : ℕ) (rows : List Row) (matched : List (Option Fed)) (before after : Places) (level_in : level < LEVELS) (begins : BeginsWith n t rows before matched matched) (moved : AreMoved n t rows matched matched before after) (pointing : ArePointing n level before) (clean : IsClean n level rows) (alone : IsWithoutMulticast n level rows) where
   module _ (later : List Row) (i j g h : ℕ) (i_in : i < n) (j_in : j < n) (named : Names (row_of rows i) level Uni j) (left : Serves matched i j level Uni → ⊥) (on : AskOn n level matched rows later j) (nearest : IsNearest n level before rows j g) (next : IsNearest n level after later j h) where
     -- what is asked goes on, as a test
-    tests_on : (x : ℕ) → x < n → (Serves matched x j level Uni → ⊥) → is_named (row_of rows x) level Uni j ≡ true → is_named (row_of later x) level Uni j ≡ true
+    pub tests_on : (x : ℕ) → x < n → (Serves matched x j level Uni → ⊥) → is_named (row_of rows x) level Uni j ≡ true → is_named (row_of later x) level Uni j ≡ true
     tests_on x x_in unserved asked = (Decides-named (row_of later x) level Uni j).1 (on x x_in ((Decides-named (row_of rows x) level Uni j).0 asked) unserved)
+
+    -- no input becomes silent where the nearest took the output
+    pub silent_accepted : Serves matched g j level Uni → silent_of n level after later i j ≤ silent_of n level before rows i j
+    silent_accepted served =
+        let g_in = nearest.below in
+        let from_in = pointing.grant j j_in in
+        let at_most = nearest.least i i_in named in
+        let other : g ≡ i → ⊥ = λ same. left (subst (λ x. Serves matched x j level Uni) same served) in
+        let apart : distance n (grant_of before j level) g ≡ distance n (grant_of before j level) i → ⊥ = λ e. other (distance-injective n (grant_of before j level) g i from_in g_in i_in e) in
+        let ahead : distance n (grant_of before j level) g < distance n (grant_of before j level) i = omega arith in
+        let far_in = distance-lt n (grant_of before j level) i from_in in
+        let passed = distance-passed n (grant_of before j level) g i from_in g_in i_in ahead in
+        let place = moved.granted g j level served in
+        let stay : (x : ℕ) → x < n → silent_for n level after later i j x ≤ silent_for n level before rows i j x = λ x x_in.
+        rw place (silent_at-le (distance n (grant_of before j level) i) (distance n (grant_of before j level) x) (distance n ((g + 1) % n) i) (distance n ((g + 1) % n) x) (is_named (row_of rows x) level Uni j) (is_named (row_of later x) level Uni j)
+        (λ near. elim (cases_lt (distance n (grant_of before j level) g) (distance n (grant_of before j level) x)) [
+          | inr not_before ↦ let end = distance-after n (grant_of before j level) g x from_in g_in x_in not_before in absurd (omega arith)
+          | inl beyond ↦
+              let also = distance-passed n (grant_of before j level) g x from_in g_in x_in beyond in
+              (omega arith, tests_on x x_in (λ taken. let same : x ≡ g = (Serves-once matched j x g level level Uni Uni taken served).0 in let e = ap (distance n (grant_of before j level)) same in absurd (omega arith)))
+        ])) in
+        sum_below-le (silent_for n level after later i j) (silent_for n level before rows i j) n stay
 
     -- the nearest input took the output: the grant pointer passes it, and comes nearer to i
     one_falls_where_accepted : Serves matched g j level Uni → one_rank_of n level after later i j h + 1 ≤ one_rank_of n level before rows i j g
@@ -80,17 +102,9 @@ module _ (n t level : ℕ) (rows : List Row) (matched : List (Option Fed)) (befo
         let place = moved.granted g j level served in
         let closer : distance n (grant_of after j level) i < distance n (grant_of before j level) i = rw place (omega arith) in
         let no_fresher = fresh-accepted n t level rows matched matched begins.opening.count before after moved pointing i j i_in j_in g g_in served ahead in
-        let stay : (x : ℕ) → x < n → silent_for n level after later i j x ≤ silent_for n level before rows i j x = λ x x_in.
-        rw place (silent_at-le (distance n (grant_of before j level) i) (distance n (grant_of before j level) x) (distance n ((g + 1) % n) i) (distance n ((g + 1) % n) x) (is_named (row_of rows x) level Uni j) (is_named (row_of later x) level Uni j)
-        (λ near. elim (cases_lt (distance n (grant_of before j level) g) (distance n (grant_of before j level) x)) [
-          | inr not_before ↦ let end = distance-after n (grant_of before j level) g x from_in g_in x_in not_before in absurd (omega arith)
-          | inl beyond ↦
-              let also = distance-passed n (grant_of before j level) g x from_in g_in x_in beyond in
-              (omega arith, tests_on x x_in (λ taken. let same : x ≡ g = (Serves-once matched j x g level level Uni Uni taken served).0 in let e = ap (distance n (grant_of before j level)) same in absurd (omega arith)))
-        ])) in
         one_rank-far n (distance n (grant_of before j level) i) (silent_of n level before rows i j) (distance n (accept_of before g level) j) (fresh_of n level before i j)
         (distance n (grant_of after j level) i) (silent_of n level after later i j) (distance n (accept_of after h level) j) (fresh_of n level after i j)
-        closer (sum_below-le (silent_for n level after later i j) (silent_for n level before rows i j) n stay) no_fresher
+        closer (silent_accepted served) no_fresher
 
     -- the nearest input took another output y: it asks on, and is the nearest unless a nearer one begins to ask
     one_falls_where_refused : (y : ℕ) → Grants n t rows before (unmatched n) g j level Uni → IsFirstFrom n (accept_of before g level) (λ k. Grants n t rows before (unmatched n) g k level Uni) y → Serves matched g y level Uni → (y ≡ j → ⊥) → one_rank_of n level after later i j h + 1 ≤ one_rank_of n level before rows i j g
@@ -123,7 +137,7 @@ module _ (n t level : ℕ) (rows : List Row) (matched : List (Option Fed)) (befo
         ])
 
     -- either way the rank falls
-    one_falls : one_rank_of n level after later i j h + 1 ≤ one_rank_of n level before rows i j g
+    pub one_falls : one_rank_of n level after later i j h + 1 ≤ one_rank_of n level before rows i j g
     one_falls =
         let granted = grants_first n t rows before level level_in clean Uni (kind_is_first n t level rows matched before level_in begins.opening pointing clean alone) g j j_in nearest in
         let met = served_by_first n t level rows matched before level_in begins.opening pointing clean alone g j nearest.below granted in

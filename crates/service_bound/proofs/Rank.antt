@@ -50,6 +50,30 @@ twice_rank-near n far near turns fresh near_later turns_later fresh_later less l
 pub twice_rank-turns : (n far near turns fresh turns_later fresh_later : ℕ) → min turns_later (n - 2) + fresh_later + 1 ≤ min turns (n - 2) + fresh → twice_rank n far near turns_later fresh_later + 2 ≤ twice_rank n far near turns fresh
 twice_rank-turns n far near turns fresh turns_later fresh_later lower = omega arith
 
+-- The rank falls by two or more, and so twice the rank by four, where the accept pointer comes nearer by so much,
+pub twice_rank-turns_twice : (n far near turns fresh turns_later fresh_later : ℕ) → min turns_later (n - 2) + fresh_later + 2 ≤ min turns (n - 2) + fresh → twice_rank n far near turns_later fresh_later + 4 ≤ twice_rank n far near turns fresh
+twice_rank-turns_twice n far near turns fresh turns_later fresh_later lower = omega arith
+
+-- and where a nearer input asks for the output, and what else falls makes up for its accept pointer,
+pub twice_rank-near_twice : (n far near turns fresh near_later turns_later fresh_later : ℕ) → near_later < near → min turns_later (n - 2) + fresh_later + 2 ≤ (n - 2) + (min turns (n - 2) + fresh) → twice_rank n far near_later turns_later fresh_later + 4 ≤ twice_rank n far near turns fresh
+twice_rank-near_twice n far near turns fresh near_later turns_later fresh_later less lower =
+    let scaled : (n - 2) * (far * (far + 1) + 2 * near_later + 2) ≤ (n - 2) * (far * (far + 1) + 2 * near) = mul-le-mul_left (n - 2) (omega arith) in
+    omega (arith, scaled, lower)
+
+-- and where an input nearer by two asks for it,
+pub twice_rank-near_by_two : (n far near turns fresh near_later turns_later fresh_later : ℕ) → near_later + 2 ≤ near → 1 ≤ min turns (n - 2) → fresh_later ≤ fresh → twice_rank n far near_later turns_later fresh_later + 4 ≤ twice_rank n far near turns fresh
+twice_rank-near_by_two n far near turns fresh near_later turns_later fresh_later less some also =
+    let scaled : (n - 2) * (far * (far + 1) + 2 * near_later + 4) ≤ (n - 2) * (far * (far + 1) + 2 * near) = mul-le-mul_left (n - 2) (omega arith) in
+    omega (arith, scaled, some, also)
+
+-- and where the request's own input comes nearer, and the other had some way to go
+pub twice_rank-far_twice : (n far near turns fresh far_later near_later turns_later fresh_later : ℕ) → far_later < far → near_later ≤ far_later → fresh_later ≤ fresh → 2 < n → 1 ≤ near + min turns (n - 2) → twice_rank n far_later near_later turns_later fresh_later + 4 ≤ twice_rank n far near turns fresh
+twice_rank-far_twice n far near turns fresh far_later near_later turns_later fresh_later less within no_more more some =
+    let square : (far_later + 1) * (far_later + 2) ≤ far * (far + 1) = mul-le (far_later + 1) (far_later + 2) far (far + 1) (omega arith) (omega arith) in
+    let scaled : (n - 2) * (far_later * (far_later + 1) + 2 * near_later + 2 + 2 * near) ≤ (n - 2) * (far * (far + 1) + 2 * near) = mul-le-mul_left (n - 2) (omega (arith, square)) in
+    let grown : 1 * near ≤ (n - 2) * near = mul-le 1 near (n - 2) near (omega arith) (omega arith) in
+    omega (arith, scaled, grown, some, no_more, less)
+
 -- an input whose accept pointer comes nearer was fresh and is no more, or its lesser of `turns` and n - 2 falls
 pub lower_or_stale : (n far place turns turns_later fresh fresh_later : ℕ) → turns < n → turns_later < turns → place ≤ far → fresh_later + fresh_at n far place turns ≤ fresh + fresh_at n far place turns_later → min turns_later (n - 2) + fresh_later + 1 ≤ min turns (n - 2) + fresh
 lower_or_stale n far place turns turns_later fresh fresh_later turns_in closer within others = omega arith
@@ -85,3 +109,33 @@ twice_rank-bound n far near turns fresh far_in within few =
 -- and the bound is of one slot or more
 pub twice_longest-some : (n : ℕ) → 0 < n → 2 ≤ twice_longest n
 twice_longest-some n some = let least = twice_rank-bound n 0 0 0 0 some (omega arith) (omega arith) in omega (arith, least)
+
+-- the rank is greatest only where the input is as far as can be, and so is the other, and all are fresh
+twice_rank-less : (step far near low fresh : ℕ) → far < step + 2 → near ≤ far → low ≤ step → fresh ≤ step + 2 → 0 < step → (near < step + 1) ⊎ (fresh < step + 2) → step * (far * (far + 1) + 2 * near) + 2 * (far + low + fresh) + 4 ≤ (step + 2) * ((step + 2) * (step + 1) + 2)
+twice_rank-less step far near low fresh far_in within low_in fresh_in some one =
+    let square : (far + 1) * (far + 2) ≤ (step + 2) * (step + 3) = mul-le (far + 1) (far + 2) (step + 2) (step + 3) (omega arith) (omega arith) in
+    let apart : (step + 2) * (step + 3) ≡ step * step + 5 * step + 6 = omega arith in
+    let grown : 0 ≤ step * step = omega arith in
+    elim one [
+      | inl near_less ↦ elim (cases_lt far (step + 1)) [
+        | inl nearer ↦
+            let lower : (far + 1) * (far + 2) ≤ (step + 1) * (step + 2) = mul-le (far + 1) (far + 2) (step + 1) (step + 2) (omega arith) (omega arith) in
+            let scaled : step * (far * (far + 1) + 2 * near) ≤ step * (step * step + 3 * step) = mul-le-mul_left step (omega (arith, lower)) in
+            let squares : 1 * step ≤ step * step = mul-le 1 step step step (omega arith) (omega arith) in
+            omega (arith, scaled, squares)
+        | inr farthest ↦
+            let scaled : step * (far * (far + 1) + 2 * near) ≤ step * (step * step + 5 * step + 2) = mul-le-mul_left step (omega (arith, square, apart)) in
+            omega (arith, scaled)
+      ]
+      | inr few ↦
+          let scaled : step * (far * (far + 1) + 2 * near) ≤ step * (step * step + 5 * step + 4) = mul-le-mul_left step (omega (arith, square, apart)) in
+          omega (arith, scaled)
+    ]
+
+pub twice_rank-short : (n far near turns fresh : ℕ) → 2 < n → far < n → near ≤ far → fresh ≤ n → (near + 1 < n) ⊎ (fresh < n) → twice_rank n far near turns fresh + 4 ≤ twice_longest n
+twice_rank-short n far near turns fresh more far_in within few one =
+    let e : n ≡ n - 2 + 2 = omega arith in
+    let either : (near < n - 2 + 1) ⊎ (fresh < n - 2 + 2) = elim one [ inl near_less ↦ inl (omega arith) | inr fewer ↦ inr (omega arith) ] in
+    let less = twice_rank-less (n - 2) far near (min turns (n - 2)) fresh (omega arith) within (omega arith) (omega arith) (omega arith) either in
+    let bound : twice_longest n ≡ (n - 2 + 2) * ((n - 2 + 2) * (n - 2 + 1) + 2) = ap twice_longest e ∙ twice_longest-from_2 (n - 2) in
+    omega (arith, less, bound)

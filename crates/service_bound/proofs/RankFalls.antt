@@ -86,7 +86,7 @@ module _ (n t level : ℕ) (rows : List Row) (first matched : List (Option Fed))
         }
 
     -- either way some input asks on by which the rank falls
-    falls : (h : ℕ) × FallsBy n level rows matched before after i j g h
+    pub falls : (h : ℕ) × FallsBy n level rows matched before after i j g h
     falls =
         let nearest = IsFirstFrom-some n (grant_of before j level) (λ x. Names (row_of rows x) level Uni j) (λ x. Names-decides (row_of rows x) level Uni j) (pointing.grant j j_in) g g_in asking in
         let h = nearest.0 in

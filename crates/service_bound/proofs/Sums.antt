@@ -35,3 +35,24 @@ sum_below-most f (suc m) most all =
     let rest = sum_below-most f m most (λ x below. all x (omega arith)) in
     let last = all m (omega arith) in
     omega arith
+
+-- and where those of two ports fall
+pub sum_below-two : (f g : ℕ → ℕ) (m h k : ℕ) → h < m → k < m → (h ≡ k → ⊥) → ((x : ℕ) → x < m → f x ≤ g x) → sum_below f m + g h + g k ≤ sum_below g m + f h + f k
+sum_below-two f g zero h k h_in k_in apart all = absurd (omega arith)
+sum_below-two f g (suc m) h k h_in k_in apart all =
+    let last = all m (omega arith) in
+    elim (cases_eq h m) [
+      | inl same ↦
+          let rest = sum_below-less f g m k (omega arith) (λ x below. all x (omega arith)) in
+          let e : f h ≡ f m = ap f same in
+          let d : g h ≡ g m = ap g same in
+          omega arith
+      | inr other ↦ elim (cases_eq k m) [
+        | inl same ↦
+            let rest = sum_below-less f g m h (omega arith) (λ x below. all x (omega arith)) in
+            let e : f k ≡ f m = ap f same in
+            let d : g k ≡ g m = ap g same in
+            omega arith
+        | inr also ↦ let rest = sum_below-two f g m h k (omega arith) (omega arith) apart (λ x below. all x (omega arith)) in omega arith
+      ]
+    ]

@@ -1,7 +1,7 @@
 -- Windows: slots one after the other in which the laws speak of one level.
-use Rattle.std.specs.Prelude.{ℕ, ◌<◌, List, [], ◌∷◌, Option, All}
+use Rattle.std.specs.Prelude.{◌≡◌, ℕ, ◌<◌, List, [], ◌∷◌, Option, All}
 use Rattle.rotating_pick.specs.declared.kinds.Kind.{Kind}
-use Rattle.rotating_pick.specs.declared.kinds.Kind.TheVariants.{Multi}
+use Rattle.rotating_pick.specs.declared.kinds.Kind.TheVariants.{Uni, Multi}
 use Rattle.slot_match.specs.declared.rows.Row.{Row}
 use Rattle.slot_match.specs.declared.matching.Fed.{Fed}
 use Rattle.slot_match.specs.Rows.{Names, row_of, AreWithin}
@@ -27,6 +27,24 @@ InFirst P (slot ∷ slots) = P slot.rows
 abbrev pub AreKept : ℕ → List DecidedSlot → Type 0
 AreKept n [] = Unit {0}
 AreKept n (slot ∷ slots) = InFirst (λ rows. (i : ℕ) → i < n → Keeps slot.decision.matched i (row_of slot.rows i) (row_of rows i)) slots × AreKept n slots
+
+-- the next row gains at most one unicast output of the level: two that it names and the old row did not are one
+abbrev pub GainsAtMostOne : ℕ → Row → Row → Type 0
+GainsAtMostOne level old new = (j k : ℕ) → Names new level Uni j → Names new level Uni k → (Names old level Uni j → ⊥) → (Names old level Uni k → ⊥) → j ≡ k
+
+-- so does the next row of each of the n inputs
+abbrev pub GainAtMostOne : ℕ → ℕ → List Row → List Row → Type 0
+GainAtMostOne n level old new = (i : ℕ) → i < n → GainsAtMostOne level (row_of old i) (row_of new i)
+
+-- the rows of each slot but the first are so to those of the slot before
+abbrev pub AreFollowing : (List Row → List Row → Type 0) → List DecidedSlot → Type 0
+AreFollowing Follows [] = Unit {0}
+AreFollowing Follows (slot ∷ slots) = InFirst (Follows slot.rows) slots × AreFollowing Follows slots
+
+-- Slots at line rate: from one slot to the next at most one unicast queue of each input begins to ask, as where at
+-- most one packet arrives at each port in a slot.
+abbrev pub AreAtLineRate : ℕ → ℕ → List DecidedSlot → Type 0
+AreAtLineRate n level = AreFollowing (GainAtMostOne n level)
 
 -- Slots from slot t on, decided from these pointers, of rows that are kept, where `Moves` says how pointers move. None
 -- names an output at a better level, and the level's pointers are at ports.

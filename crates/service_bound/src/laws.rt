@@ -8,7 +8,7 @@ ghost use Rattle.slot_match.specs.Rows.{Names, row_of, HasHead, AreWithin};
 ghost use Rattle.slot_match.specs.Matches.{Serves, Completes};
 ghost use Rattle.pointer_state.specs.Places.{Places, ArePointing};
 ghost use Rattle.eslip_rounds.specs.Schedules.{DecidedSlot, IsSchedule};
-ghost use Rattle.service_bound.specs.Windows.{IsWindow, InFirst, AreKept, IsClean, IsWithoutMulticast, places_after};
+ghost use Rattle.service_bound.specs.Windows.{IsWindow, InFirst, AreKept, IsClean, IsWithoutMulticast, AreAtLineRate, places_after};
 ghost use Rattle.service_bound.specs.Latest.{IsServedLast, ComesLast};
 ghost use Rattle.service_bound.specs.Waits.{noted_of, longest_wait, longest_service, longest_service_in_one_round, longest_service_by};
 
@@ -26,6 +26,21 @@ pub fn one_round_served()
     ensures { (n t level i j : ℕ) (places : Places) (slots : List DecidedSlot) → i < n → IsWindow n 1 t level places slots
         → All (λ slot. IsWithoutMulticast n level slot.rows) slots → InFirst (λ rows. Names (row_of rows i) level Uni j) slots
         → longest_service_in_one_round n ≤ length slots → Any (λ slot. Serves slot.decision.matched i j level Uni) slots }
+{}
+
+/// At line rate, where from one slot to the next each input begins to ask at most one output, one slot less is
+/// enough for three ports or more.
+pub fn one_round_served_at_line_rate()
+    ensures { (n t level i j : ℕ) (places : Places) (slots : List DecidedSlot) → 2 < n → i < n → IsWindow n 1 t level places slots
+        → All (λ slot. IsWithoutMulticast n level slot.rows) slots → AreAtLineRate n level slots → InFirst (λ rows. Names (row_of rows i) level Uni j) slots
+        → longest_service_in_one_round n ≤ length slots + 1 → Any (λ slot. Serves slot.decision.matched i j level Uni) slots }
+{}
+
+/// And whatever the number of rounds, one slot less than without: `n * (n * n - n + 2) / 2 - 1` are enough.
+pub fn unicast_served_at_line_rate()
+    ensures { (n rounds t level i j : ℕ) (places : Places) (slots : List DecidedSlot) → 2 < n → 0 < rounds → i < n → IsWindow n rounds t level places slots
+        → All (λ slot. IsWithoutMulticast n level slot.rows) slots → AreAtLineRate n level slots → InFirst (λ rows. Names (row_of rows i) level Uni j) slots
+        → longest_service n ≤ length slots + 1 → Any (λ slot. Serves slot.decision.matched i j level Uni) slots }
 {}
 
 /// Of two ports with two rounds or more, three slots are enough: one less than one round needs.
@@ -81,6 +96,20 @@ pub fn one_round_waits_are_bounded()
     ensures { (n t level : ℕ) (places : Places) (slots : List DecidedSlot) → 0 < n → IsWindow n 1 t level places slots
         → All (λ slot. IsWithoutMulticast n level slot.rows) slots
         → longest_wait n level (map noted_of slots) < longest_service_in_one_round n }
+{}
+
+/// At line rate, for three ports or more, none waits for one slot less than that either.
+pub fn one_round_waits_at_line_rate_are_bounded()
+    ensures { (n t level : ℕ) (places : Places) (slots : List DecidedSlot) → 2 < n → IsWindow n 1 t level places slots
+        → All (λ slot. IsWithoutMulticast n level slot.rows) slots → AreAtLineRate n level slots
+        → longest_wait n level (map noted_of slots) + 1 < longest_service_in_one_round n }
+{}
+
+/// Nor does any, whatever the number of rounds, for one slot less than without.
+pub fn waits_at_line_rate_are_bounded()
+    ensures { (n rounds t level : ℕ) (places : Places) (slots : List DecidedSlot) → 2 < n → 0 < rounds → IsWindow n rounds t level places slots
+        → All (λ slot. IsWithoutMulticast n level slot.rows) slots → AreAtLineRate n level slots
+        → longest_wait n level (map noted_of slots) + 1 < longest_service n }
 {}
 
 /// Whatever the number of rounds, no wait reaches the number of slots that [`crate::longest_service`] tells for it.
