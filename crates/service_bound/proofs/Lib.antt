@@ -26,6 +26,7 @@ pub mod LongestWaits
 pub mod WaitsByRounds
 pub mod Comparing
 pub mod TwoPorts
+pub mod LineRateByRounds
 pub mod Renumbering
 pub mod RenumberedSlots
 pub mod Postings

@@ -2,9 +2,8 @@
 --
 -- Where its input is not the one that its output grants, and that one takes the other output, the second round serves
 -- the request: its input and its output are left alone.
-use Rattle.std.proofs.Common.{◌≡◌, ℕ, ◌+◌, ◌<◌, ◌≤◌, List, [], ◌∷◌, Option, None, Some, length, All, Any, refl, ap, sym, subst, inl, inr, arith}
+use Rattle.std.proofs.Common.{◌≡◌, ℕ, ◌+◌, ◌<◌, ◌≤◌, List, Option, None, Some, length, map, All, Any, refl, ap, sym, subst, inl, inr, arith}
 use Rattle.std.proofs.lemmas.Bool.{cases_eq, cases_lt}
-use Rattle.std.proofs.lemmas.List.Elements.{All-head, All-tail}
 use Rattle.rotating_pick.specs.Rotation.{distance, IsFirstFrom}
 use Rattle.rotating_pick.specs.declared.kinds.Kind.{Kind}
 use Rattle.rotating_pick.specs.declared.kinds.Kind.TheVariants.{Uni}
@@ -15,9 +14,8 @@ use Rattle.slot_match.specs.declared.rows.Row.{Row}
 use Rattle.slot_match.specs.declared.matching.Fed.{Fed}
 use Rattle.slot_match.specs.Rows.{Names, row_of}
 use Rattle.slot_match.specs.Matches.{unmatched, fed_of, Serves, IsFreeInput, IsFreeOutput}
-use Rattle.slot_match.specs.Keeping.{Keeps}
 use Rattle.slot_match.proofs.Kept.{nobody_at_first}
-use Rattle.slot_match.proofs.Pairs.{Serves-once, Serves-from, Serves-decides, fed_of-lt}
+use Rattle.slot_match.proofs.Pairs.{Serves-once, Serves-from, fed_of-lt}
 use Rattle.pointer_state.specs.Places.{Places, ArePointing, grant_of, accept_of}
 use Rattle.eslip_rounds.specs.Rounds.{preferred, Requests, Grants, Accepts, IsRound}
 use Rattle.eslip_rounds.specs.Slots.{AreMoved}
@@ -30,7 +28,9 @@ use Rattle.service_bound.proofs.FirstRound.{grants_first, asks_at_first}
 use Rattle.service_bound.proofs.LaterRounds.{first_of, second_of, BeginsWith, BeginsWith-slot}
 use Rattle.service_bound.proofs.Granting.{kind_alone, kind_is_first, served_by_first, refused}
 use Rattle.service_bound.proofs.Fresh.{accept_later}
-use Rattle.service_bound.proofs.InWindows.{Any-here, Any-later, InFirst-along, IsWindowSlot, first_slot, later_slots}
+use Rattle.service_bound.specs.Waits.{noted_of, longest_wait}
+use Rattle.service_bound.proofs.InWindows.{AreMoved-keep, IsWindowSlot}
+use Rattle.service_bound.proofs.Falling.{IsFalling, served_by_falling, longest_by_falling}
 
 -- of two ports, what is not one is the other
 other_of_two : (a b c : ℕ) → a < 2 → b < 2 → c < 2 → (a ≡ b → ⊥) → (c ≡ b → ⊥) → a ≡ c
@@ -130,11 +130,16 @@ module _ (t level : ℕ) (rows : List Row) (first : List (Option Fed)) (places :
     pub served_second : (second : List (Option Fed)) → IsRound 2 t rows places first second → Serves second i j level Uni
     served_second second round = (round.pairs i j level Uni).1 (inr accepted_second)
 
-module _ (rounds level i j : ℕ) (two : 1 < rounds) (i_in : i < 2) where
-  -- the rank of the request: how far its input is from the grant pointer, and its output from the accept pointer
-  abbrev two_rank : Places → ℕ
-  two_rank places = distance 2 (grant_of places j level) i + distance 2 (accept_of places i level) j
+-- the rank of a request: how far its input is from the grant pointer, and its output from the accept pointer
+abbrev two_rank : ℕ → ℕ → ℕ → Places → ℕ
+two_rank level i j places = distance 2 (grant_of places j level) i + distance 2 (accept_of places i level) j
 
+-- Where these rows are posted: the input asks, and the rank is below `most`.
+record AsksWithin (level i j : ℕ) (places : Places) (most : ℕ) (rows : List Row) : Type 0 where
+  named : Names (row_of rows i) level Uni j
+  below : two_rank level i j places < most
+
+module _ (rounds level i j : ℕ) (two : 1 < rounds) (i_in : i < 2) where
   module _ (t : ℕ) (places : Places) (slot : DecidedSlot) (now : IsWindowSlot 2 rounds t level places slot) (alone : IsWithoutMulticast 2 level slot.rows) (named : Names (row_of slot.rows i) level Uni j) (left : Serves slot.decision.matched i j level Uni → ⊥) where
     First : List (Option Fed)
     First = first_of 2 now.decided.steps
@@ -153,7 +158,7 @@ module _ (rounds level i j : ℕ) (two : 1 < rounds) (i_in : i < 2) where
     j_in : j < 2
     j_in = now.within.ports i i_in level j Uni named
 
-    falls_where_accepted : (h : ℕ) → IsFirstFrom 2 (grant_of places j level) (λ x. Names (row_of slot.rows x) level Uni j) h → Serves First h j level Uni → two_rank slot.decision.places + 1 ≤ two_rank places
+    falls_where_accepted : (h : ℕ) → IsFirstFrom 2 (grant_of places j level) (λ x. Names (row_of slot.rows x) level Uni j) h → Serves First h j level Uni → two_rank level i j slot.decision.places + 1 ≤ two_rank level i j places
     falls_where_accepted h nearest served =
         let other : h ≡ i → ⊥ = λ same. left (subst (λ x. Serves slot.decision.matched x j level Uni) same (begins.stays h j level Uni served)) in
         let from_in = now.pointing.grant j j_in in
@@ -167,7 +172,7 @@ module _ (rounds level i j : ℕ) (two : 1 < rounds) (i_in : i < 2) where
           | inr later ↦ elim later [ inl beyond ↦ omega arith | inr stays ↦ omega arith ]
         ]
 
-    falls_where_refused : (h y : ℕ) → IsFirstFrom 2 (grant_of places j level) (λ x. Names (row_of slot.rows x) level Uni j) h → Grants 2 t slot.rows places (unmatched 2) h j level Uni → IsFirstFrom 2 (accept_of places h level) (λ k. Grants 2 t slot.rows places (unmatched 2) h k level Uni) y → Serves First h y level Uni → (y ≡ j → ⊥) → two_rank slot.decision.places + 1 ≤ two_rank places
+    falls_where_refused : (h y : ℕ) → IsFirstFrom 2 (grant_of places j level) (λ x. Names (row_of slot.rows x) level Uni j) h → Grants 2 t slot.rows places (unmatched 2) h j level Uni → IsFirstFrom 2 (accept_of places h level) (λ k. Grants 2 t slot.rows places (unmatched 2) h k level Uni) y → Serves First h y level Uni → (y ≡ j → ⊥) → two_rank level i j slot.decision.places + 1 ≤ two_rank level i j places
     unfolding First
     falls_where_refused h y nearest granted accepted served other =
         let h_in = nearest.below in
@@ -191,8 +196,8 @@ module _ (rounds level i j : ℕ) (two : 1 < rounds) (i_in : i < 2) where
               absurd (left (subst (λ m. Serves m i j level Uni) (sym now.decided.result) (second.2 i j level Uni serves)))
         ]
 
-    falls : two_rank slot.decision.places + 1 ≤ two_rank places
-    falls =
+    rank_falls : two_rank level i j slot.decision.places + 1 ≤ two_rank level i j places
+    rank_falls =
         let nearest = IsFirstFrom-some 2 (grant_of places j level) (λ x. Names (row_of slot.rows x) level Uni j) (λ x. Names-decides (row_of slot.rows x) level Uni j) (now.pointing.grant j j_in) i i_in named in
         let h = nearest.0 in
         let granted = grants_first 2 t slot.rows places level level_in now.clean Uni (kind_is_first 2 t level slot.rows First places level_in begins.opening now.pointing now.clean alone) h j j_in nearest.1 in
@@ -202,29 +207,27 @@ module _ (rounds level i j : ℕ) (two : 1 < rounds) (i_in : i < 2) where
           | inr other ↦ falls_where_refused h met.0 nearest.1 granted met.1 met.2 other
         ]
 
-  -- more slots than the rank are enough
-  served_by_rank : (slots : List DecidedSlot) (t : ℕ) (places : Places) → IsWindow 2 rounds t level places slots → All (λ slot. IsWithoutMulticast 2 level slot.rows) slots → InFirst (λ rows. Names (row_of rows i) level Uni j) slots → two_rank places < length slots → Any (λ slot. Serves slot.decision.matched i j level Uni) slots
-  served_by_rank [] t places window alone named short = absurd (omega arith)
-  served_by_rank (slot ∷ slots) t places window alone named short =
-      let Served : DecidedSlot → Type 0 = λ s. Serves s.decision.matched i j level Uni in
-      let Without : DecidedSlot → Type 0 = λ s. IsWithoutMulticast 2 level s.rows in
-      elim (Serves-decides slot.decision.matched i j level Uni) [
-        | inl served ↦ Any-here Served slot slots served
-        | inr left ↦
-            let Keeping : List Row → Type 0 = λ rows. (x : ℕ) → x < 2 → Keeps slot.decision.matched x (row_of slot.rows x) (row_of rows x) in
-            let lower = falls t places slot (first_slot 2 rounds t level places slot slots window) (All-head Without slot slots alone) named left in
-            Any-later Served slot slots
-            (served_by_rank slots (t + 1) slot.decision.places (later_slots 2 rounds t level places slot slots window (omega arith)) (All-tail Without slot slots alone)
-            (InFirst-along Keeping (λ rows. Names (row_of rows i) level Uni j) (λ rows keeps. (keeps i i_in).uni level j named left) slots window.kept.0)
-            (omega arith))
-      ]
+  two_falling : IsFalling AreMoved 2 rounds level i j 3 (AsksWithin level i j)
+  two_falling =
+      record {
+        begins = λ t places slot now named.
+            let far = distance-lt 2 (grant_of places j level) i (now.pointing.grant j (now.within.ports i i_in level j Uni named)) in
+            let turns = distance-lt 2 (accept_of places i level) j (now.pointing.accept i i_in) in
+            record { named = named; below = omega (arith, far, turns) };
+        some = λ places most rows pointing within asks. let below = asks.below in omega (arith, below);
+        falls = λ t places slot most now alone left asks later on.
+            let lower = rank_falls t places slot now alone asks.named left in
+            let below = asks.below in
+            record { named = on i i_in asks.named left; below = omega (arith, lower, below) };
+      }
 
 -- three slots are enough
 pub two_served_in_time : (rounds t level i j : ℕ) (places : Places) (slots : List DecidedSlot) → 1 < rounds → i < 2 → IsWindow 2 rounds t level places slots → All (λ slot. IsWithoutMulticast 2 level slot.rows) slots → InFirst (λ rows. Names (row_of rows i) level Uni j) slots
     → 3 ≤ length slots → Any (λ slot. Serves slot.decision.matched i j level Uni) slots
-two_served_in_time rounds t level i j places [] two i_in window alone named long = absurd (omega arith)
-two_served_in_time rounds t level i j places (slot ∷ slots) two i_in window alone named long =
-    let now = first_slot 2 rounds t level places slot slots window in
-    let far = distance-lt 2 (grant_of places j level) i (now.pointing.grant j (now.within.ports i i_in level j Uni named)) in
-    let turns = distance-lt 2 (accept_of places i level) j (now.pointing.accept i i_in) in
-    served_by_rank rounds level i j two i_in (slot ∷ slots) t places window alone named (omega arith)
+two_served_in_time rounds t level i j places slots two i_in =
+    served_by_falling AreMoved 2 rounds level i j 3 (AsksWithin level i j) (AreMoved-keep 2 level) (omega arith) (two_falling rounds level i j two i_in) t places slots
+
+-- and no queue waits for as many
+pub two_longest_wait-bound : (rounds t level : ℕ) (places : Places) (slots : List DecidedSlot) → 1 < rounds → IsWindow 2 rounds t level places slots → All (λ slot. IsWithoutMulticast 2 level slot.rows) slots → longest_wait 2 level (map noted_of slots) < 3
+two_longest_wait-bound rounds t level places slots two =
+    longest_by_falling AreMoved 2 rounds t level 3 (AsksWithin level) places slots (AreMoved-keep 2 level) (omega arith) (λ i j i_in. two_falling rounds level i j two i_in)

@@ -1,5 +1,5 @@
 -- Waits: for how many slots, one after the other, a unicast queue was posted and not served.
-use Rattle.std.specs.Prelude.{ℕ, ◌+◌, ◌-◌, ◌*◌, ◌/◌, ◌==◌, ◌&&◌, Bool, not, max, if◌then◌else◌, List, [], ◌∷◌, Option}
+use Rattle.std.specs.Prelude.{ℕ, ◌+◌, ◌-◌, ◌*◌, ◌/◌, ◌==◌, ◌&&◌, Bool, not, nat_lt, max, if◌then◌else◌, List, [], ◌∷◌, Option}
 use Rattle.std.specs.List.{flat_map, range_with_len}
 use Rattle.rotating_pick.specs.declared.kinds.Kind.TheVariants.{Uni}
 use Rattle.slot_match.specs.declared.rows.Row.{Row}
@@ -53,3 +53,9 @@ longest_service_in_one_round n = 2 * n * n + 2 - 3 * n
 -- the same by the number of rounds of a slot
 abbrev pub longest_service_by : ℕ → ℕ → ℕ
 longest_service_by n rounds = if rounds == 1 then longest_service_in_one_round n else longest_service n
+
+-- The same for slots at line rate, where from one slot to the next each input begins to ask for at most one output: from
+-- three ports on one slot less. Of two ports with two rounds or more these are three, whatever begins.
+abbrev pub longest_service_at_line_rate : ℕ → ℕ → ℕ
+longest_service_at_line_rate n rounds =
+    if nat_lt 2 n then longest_service_by n rounds - 1 else (if n == 2 && not (rounds == 1) then 3 else longest_service_by n rounds)

@@ -9,8 +9,9 @@ ghost use Rattle.slot_match.specs.Matches.{Serves, Completes};
 ghost use Rattle.pointer_state.specs.Places.{Places, ArePointing};
 ghost use Rattle.eslip_rounds.specs.Schedules.{DecidedSlot, IsSchedule};
 ghost use Rattle.service_bound.specs.Windows.{IsWindow, InFirst, AreKept, IsClean, IsWithoutMulticast, AreAtLineRate, places_after};
+ghost use Rattle.service_bound.specs.declared.limits.TheConstants.{MAX_NOTED};
 ghost use Rattle.service_bound.specs.Latest.{IsServedLast, ComesLast};
-ghost use Rattle.service_bound.specs.Waits.{noted_of, longest_wait, longest_service, longest_service_in_one_round, longest_service_by};
+ghost use Rattle.service_bound.specs.Waits.{noted_of, longest_wait, longest_service, longest_service_in_one_round, longest_service_by, longest_service_at_line_rate};
 
 /// In a window of `n * (n * n - n + 2) / 2` slots without multicast at the level, a unicast queue that is
 /// posted in the first slot is served in one of them. (McKeown argues for `n * n` slots; where a new
@@ -41,6 +42,13 @@ pub fn unicast_served_at_line_rate()
     ensures { (n rounds t level i j : ℕ) (places : Places) (slots : List DecidedSlot) → 2 < n → 0 < rounds → i < n → IsWindow n rounds t level places slots
         → All (λ slot. IsWithoutMulticast n level slot.rows) slots → AreAtLineRate n level slots → InFirst (λ rows. Names (row_of rows i) level Uni j) slots
         → longest_service n ≤ length slots + 1 → Any (λ slot. Serves slot.decision.matched i j level Uni) slots }
+{}
+
+/// So many slots at line rate as `longest_service_at_line_rate` says are enough, whatever the numbers of ports and rounds.
+pub fn served_at_line_rate()
+    ensures { (n rounds t level i j : ℕ) (places : Places) (slots : List DecidedSlot) → 0 < rounds → i < n → IsWindow n rounds t level places slots
+        → All (λ slot. IsWithoutMulticast n level slot.rows) slots → AreAtLineRate n level slots → InFirst (λ rows. Names (row_of rows i) level Uni j) slots
+        → longest_service_at_line_rate n rounds ≤ length slots → Any (λ slot. Serves slot.decision.matched i j level Uni) slots }
 {}
 
 /// Of two ports with two rounds or more, three slots are enough: one less than one round needs.
@@ -117,6 +125,23 @@ pub fn waits_are_below_the_longest_service()
     ensures { (n rounds t level : ℕ) (places : Places) (slots : List DecidedSlot) → 0 < n → 0 < rounds → IsWindow n rounds t level places slots
         → All (λ slot. IsWithoutMulticast n level slot.rows) slots
         → longest_wait n level (map noted_of slots) < longest_service_by n rounds }
+{}
+
+/// Nor does any, at line rate, reach the number of slots that `longest_service_at_line_rate` says for it.
+pub fn waits_are_below_the_longest_service_at_line_rate()
+    ensures { (n rounds t level : ℕ) (places : Places) (slots : List DecidedSlot) → 0 < n → 0 < rounds → IsWindow n rounds t level places slots
+        → All (λ slot. IsWithoutMulticast n level slot.rows) slots → AreAtLineRate n level slots
+        → longest_wait n level (map noted_of slots) < longest_service_at_line_rate n rounds }
+{}
+
+/// The numbers that the users of this crate rely on: how many slots a meter notes, and how long a service at line rate
+/// takes of 2, 3, 16 and 64 ports, with one round and with more.
+pub fn limits_are()
+    ensures noted { MAX_NOTED ≡ 1048576 }
+    ensures two_ports { (longest_service_at_line_rate 2 1 ≡ 4) × (longest_service_at_line_rate 2 2 ≡ 3) }
+    ensures three_ports { (longest_service_at_line_rate 3 1 ≡ 10) × (longest_service_at_line_rate 3 2 ≡ 11) }
+    ensures sixteen_ports { (longest_service_at_line_rate 16 1 ≡ 465) × (longest_service_at_line_rate 16 2 ≡ 1935) }
+    ensures sixty_four_ports { (longest_service_at_line_rate 64 1 ≡ 8001) × (longest_service_at_line_rate 64 2 ≡ 129087) }
 {}
 
 /// One round never needs more slots than more rounds do. Both bounds are within `n * n * (n + 1) / 2`, and so
