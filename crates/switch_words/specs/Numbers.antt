@@ -2,7 +2,7 @@
 use Rattle.std.specs.Prelude.{ℕ, Bool, ◌+◌, ◌-◌, ◌*◌, ◌&&◌, nat_le, if◌then◌else◌, List, [], ◌∷◌, length, Option, None, Some}
 use Rattle.std.specs.Char.{is_ascii_digit}
 use Rattle.std.specs.List.{list_all}
-use Rattle.switch_words.specs.declared.numbers.TheConstants.{MAX_DIGITS}
+use Rattle.switch_words.specs.declared.limits.TheConstants.{MAX_DIGITS}
 
 -- number = 1 to 10 decimal digits
 unfoldable pub is_number : List ℕ → Bool

@@ -27,5 +27,5 @@ mod tests;
 
 pub use fault::WordsFault;
 pub use job::{CheckJob, FirmJob, GenJob, Job, RunJob, Settings};
-pub use limits::{MAX_COUNT, MAX_SEED, MAX_WORKERS};
+pub use limits::{MAX_COUNT, MAX_SEED, MAX_WORKERS, limits_are};
 pub use reading::read_words;

@@ -3,8 +3,7 @@ ghost use Rattle.std.specs.Char.{is_ascii_digit};
 ghost use Rattle.std.specs.List.{list_all};
 ghost use Rattle.switch_words.specs.Numbers.{is_number, number_within};
 
-// The most digits of a number.
-const MAX_DIGITS: usize = 10;
+use crate::limits::MAX_DIGITS;
 
 /// The number from `low` to `high` that a text writes, if it writes one.
 pub(crate) fn number_within(low: u32, high: u32, text: &str) -> Option<u32>
