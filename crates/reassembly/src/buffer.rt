@@ -6,23 +6,23 @@ use cell_cutter::Cell;
 use std::alloc::{AllocError, Global};
 use std::marker::Model;
 
-/// The bytes of one flow, written in place.
+/// The bytes of one flow, written in place. There is room for `size` of them.
 #[derive(Drop)]
 pub(crate) struct Buffer {
     bytes: Vec<u8>,
-    filled: usize,
+    size: usize,
     next: u16,
 }
 
 impl Model for Buffer {
-    ghost use Rattle.std.specs.Prelude.{◌≤◌, length, take};
+    ghost use Rattle.std.specs.Prelude.{◌≤◌, vec_capacity, vec_len};
     ghost use Rattle.reassembly.specs.Buffers.{Stored};
 
     ghost Value = { Stored };
 
-    ghost view = { λ b. record { size = length b.bytes.items; bytes = take b.filled b.bytes.items; next = b.next } };
+    ghost view = { λ b. record { size = b.size; bytes = b.bytes.items; next = b.next } };
 
-    ghost invariant = { λ b. b.filled ≤ length b.bytes.items };
+    ghost invariant = { λ b. (vec_len b.bytes ≤ b.size) × (b.size ≤ vec_capacity b.bytes) };
 }
 
 impl Buffer {
@@ -31,8 +31,8 @@ impl Buffer {
         ensures { IfOk result (λ buffer. buffer ≡ record { size = size; bytes = []; next = 0 }) }
     {
         Ok(Buffer {
-            bytes: vec![in alloc; 0; size]?,
-            filled: 0,
+            bytes: Vec::with_capacity(alloc, size)?,
+            size,
             next: 0,
         })
     }
@@ -41,7 +41,7 @@ impl Buffer {
     pub(crate) fn fits(&self, cell: &Cell) -> bool
         ensures { IsTrue result ↔ ((cell.now.number ≡ self.now.next) × (length (begun self.now) + cell.now.used ≤ self.now.size)) }
     {
-        cell.number == self.next && self.begun() + usize::from(cell.used) <= self.bytes.len()
+        cell.number == self.next && usize::from(cell.used) <= self.size - self.begun()
     }
 
     /// Writes the used bytes of the flow's next cell after those of its message.
@@ -50,10 +50,13 @@ impl Buffer {
         requires room { length (begun self.old) + cell.now.used ≤ self.old.size }
         ensures { self.new ≡ stored_with self.old cell.now }
     {
-        let begun = self.begun();
-        let used = usize::from(cell.used);
-        self.bytes[begun..begun + used].copy_from_slice(&cell.payload[..used]);
-        self.filled = begun + used;
+        if self.next == 0 {
+            self.bytes.clear();
+        }
+        let used = &cell.payload[..usize::from(cell.used)];
+        let Ok(()) = self.bytes.extend_from_slice(used) else {
+            unreachable!()
+        };
         self.next = if cell.last { 0 } else { cell.number + 1 };
     }
 
@@ -61,7 +64,7 @@ impl Buffer {
     pub(crate) fn message(&self) -> &[u8]
         ensures { result.now ≡ self.now.bytes }
     {
-        &self.bytes[..self.filled]
+        &self.bytes
     }
 
     // How many bytes stand of the message that the next cell belongs to.
@@ -69,6 +72,6 @@ impl Buffer {
         ensures count { result ≡ length (begun self.now) }
         ensures within { result ≤ self.now.size }
     {
-        if self.next == 0 { 0 } else { self.filled }
+        if self.next == 0 { 0 } else { self.bytes.len() }
     }
 }
