@@ -1,6 +1,8 @@
-ghost use Rattle.std.specs.Prelude.{◌≡◌, ℕ, ◌+◌, ◌%◌, ◌<◌, ◌≤◌, replicate};
-ghost use Rattle.pointer_state.specs.Places.{grant_of, accept_of, shared_of, with_place, AreAtPorts, places_at_first, places_met, places_passed, places_held};
+ghost use Rattle.std.specs.Prelude.{◌≡◌, ℕ, ◌+◌, ◌%◌, ◌<◌, ◌≤◌, ◌↔◌, IsSome, IfSome, replicate, slice_index};
+ghost use Rattle.pointer_state.specs.CallerTables.{AreInRange, places_from, tables_of};
+ghost use Rattle.pointer_state.specs.Places.{place_of, grant_of, accept_of, shared_of, with_place, AreAtPorts, places_at_first, places_met, places_passed, places_held};
 
+use crate::caller_tables::{PointerTables, are_pointing};
 use rotating_pick::{LEVEL_COUNT, LEVELS, MAX_PORTS, PORT_COUNT, next};
 use std::marker::Model;
 
@@ -62,6 +64,42 @@ impl Pointers {
             accept: table_at_first(),
             shared: [0; LEVEL_COUNT],
         }
+    }
+
+    /// The pointers of `n` ports that are where the tables say. None exactly where `n` is not 1 to 64, or a
+    /// pointer of one of the `n` ports, or a shared one, is at none of them.
+    pub fn from_tables(n: u32, tables: &PointerTables) -> Option<Pointers>
+        ensures some { IsSome result ↔ AreInRange n tables.now }
+        ensures value { IfSome result (λ p. p ≡ places_from n tables.now) }
+        ensures at_ports { IfSome result AreAtPorts }
+        ensures ports { IfSome result (λ p. p.ports ≡ n) }
+        ensures grant { IfSome result (λ p. (j level : ℕ) → grant_of p j level ≡ place_of tables.now.grant level j) }
+        ensures accept { IfSome result (λ p. (i level : ℕ) → accept_of p i level ≡ place_of tables.now.accept level i) }
+        ensures shared { IfSome result (λ p. (level : ℕ) → shared_of p level ≡ slice_index tables.now.shared level) }
+    {
+        if n == 0 || n > MAX_PORTS || !are_pointing(n, tables) {
+            return None;
+        }
+        Some(Pointers {
+            ports: n,
+            grant: tables.grant,
+            accept: tables.accept,
+            shared: tables.shared,
+        })
+    }
+
+    /// Writes into a caller's tables where the pointers are, so that [`Pointers::from_tables`] gives the same
+    /// pointers from them. The places of ports that the switch does not have get what they had there.
+    pub fn put_tables(&self, tables: &mut PointerTables)
+        ensures value { tables.new ≡ tables_of self.now }
+        ensures again { places_from self.now.ports tables.new ≡ self.now }
+        ensures grant { (j level : ℕ) → place_of tables.new.grant level j ≡ grant_of self.now j level }
+        ensures accept { (i level : ℕ) → place_of tables.new.accept level i ≡ accept_of self.now i level }
+        ensures shared { (level : ℕ) → slice_index tables.new.shared level ≡ shared_of self.now level }
+    {
+        tables.grant = self.grant;
+        tables.accept = self.accept;
+        tables.shared = self.shared;
     }
 
     /// The number of ports of the switch, 1 to 64.
@@ -162,7 +200,7 @@ impl Pointers {
 
 #[cfg(test)]
 mod tests {
-    use crate::Pointers;
+    use crate::{PointerTables, Pointers};
 
     #[test]
     fn moves_one_pointer_or_two(rt: HostRuntime) {
@@ -187,5 +225,61 @@ mod tests {
         assert_eq!(rt; pointers.shared(3), 1);
         assert_eq!(rt; pointers.shared(2), 0);
         assert_eq!(rt; pointers.grant(1, 0), 2);
+    }
+
+    const AT_ZERO: PointerTables = PointerTables {
+        grant: [[0; 64]; 4],
+        accept: [[0; 64]; 4],
+        shared: [0; 4],
+    };
+
+    #[test]
+    fn tables_are_lent(rt: HostRuntime) {
+        let mut tables = AT_ZERO;
+        tables.grant[3][1] = 2;
+        tables.accept[2][0] = 1;
+        tables.shared[1] = 2;
+        // Of a port that the switch does not have.
+        tables.grant[0][63] = 9;
+        let Some(mut pointers) = Pointers::from_tables(3, &tables) else {
+            return assert!(rt; false, "three ports");
+        };
+        assert!(rt; pointers.ports() == 3);
+        assert_eq!(rt;
+            [
+                pointers.grant(1, 3),
+                pointers.accept(0, 2),
+                pointers.shared(1)
+            ],
+            [2, 1, 2]
+        );
+        assert_eq!(rt;
+            [
+                pointers.grant(2, 3),
+                pointers.accept(0, 3),
+                pointers.shared(0)
+            ],
+            [0, 0, 0]
+        );
+        pointers.met(2, 1, 3);
+        let mut after = AT_ZERO;
+        pointers.put_tables(&mut after);
+        tables.grant[3][1] = 0;
+        tables.accept[3][2] = 2;
+        assert!(rt; after == tables);
+    }
+
+    #[test]
+    fn tables_out_of_range_are_refused(rt: HostRuntime) {
+        let mut tables = AT_ZERO;
+        assert!(rt; Pointers::from_tables(0, &tables).is_none());
+        assert!(rt; Pointers::from_tables(64, &tables).is_some());
+        assert!(rt; Pointers::from_tables(65, &tables).is_none());
+        tables.accept[1][2] = 3;
+        assert!(rt; Pointers::from_tables(2, &tables).is_some());
+        assert!(rt; Pointers::from_tables(3, &tables).is_none());
+        assert!(rt; Pointers::from_tables(4, &tables).is_some());
+        tables.shared[3] = 4;
+        assert!(rt; Pointers::from_tables(4, &tables).is_none());
     }
 }

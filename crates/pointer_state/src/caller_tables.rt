@@ -1,0 +1,64 @@
+ghost use Rattle.std.specs.Prelude.{◌≡◌, ℕ, ◌<◌, ◌≤◌, ◌↔◌, [], IsTrue, length, slice_index, slice_index_or};
+ghost use Rattle.pointer_state.specs.Places.{IsTable, ArePointing};
+ghost use Rattle.pointer_state.specs.CallerTables.{ArePlacedBelow, places_from};
+
+use rotating_pick::{LEVEL_COUNT, LEVELS, MAX_PORTS, PORT_COUNT};
+
+/// Where the pointers of a switch are, as tables that a caller holds from slot to slot: for each level 64
+/// places for the outputs' grant pointers, 64 for the inputs' accept pointers, and the shared pointer. The
+/// places of ports that a switch does not have may hold any number.
+#[repr(C)]
+#[derive(Clone, Copy, Debug, PartialEq, Eq)]
+pub struct PointerTables {
+    /// For each level and output the input that it grants from.
+    pub grant: [[u32; PORT_COUNT]; LEVEL_COUNT],
+    /// For each level and input the output that it accepts from.
+    pub accept: [[u32; PORT_COUNT]; LEVEL_COUNT],
+    /// For each level the input that all outputs pick multicast from.
+    pub shared: [u32; LEVEL_COUNT],
+}
+
+// Whether each pointer of the n ports is at one of them.
+pub(crate) fn are_pointing(n: u32, tables: &PointerTables) -> bool
+    requires some { 0 < n }
+    requires size { n ≤ MAX_PORTS }
+    ensures below { IsTrue result ↔ ArePlacedBelow n tables.now }
+
+    // What the types of the tables say, for a proof that has only the tables' values.
+    ensures whole { IsTrue result → IsTable tables.now.grant × IsTable tables.now.accept × (length tables.now.shared ≡ LEVELS) }
+{
+    for level in 0..LEVEL_COUNT {
+        if !is_level_pointing(n, tables, level) {
+            return false;
+        }
+    }
+    true
+}
+
+// Whether each pointer of the level is at one of the n ports.
+fn is_level_pointing(n: u32, tables: &PointerTables, level: usize) -> bool
+    requires some { 0 < n }
+    requires size { n ≤ MAX_PORTS }
+    requires level_in { level < LEVELS }
+    ensures below { IsTrue result ↔ ArePointing n level (places_from n tables.now) }
+    ensures whole { IsTrue result → (length (slice_index_or tables.now.grant level []) ≡ MAX_PORTS) × (length (slice_index_or tables.now.accept level []) ≡ MAX_PORTS) }
+{
+    are_below(n, &tables.grant[level])
+        && are_below(n, &tables.accept[level])
+        && tables.shared[level] < n
+}
+
+// Whether the places of the n ports are below n. It looks at all of them, which takes less time than to stop
+// at the first that is not.
+fn are_below(n: u32, places: &[u32; PORT_COUNT]) -> bool
+    requires some { 0 < n }
+    requires size { n ≤ MAX_PORTS }
+    ensures below { IsTrue result ↔ ((port : ℕ) → port < n → slice_index places.now port < n) }
+    ensures whole { length places.now ≡ MAX_PORTS }
+{
+    let mut greatest = 0;
+    for port in 0..n as usize {
+        greatest = greatest.max(places[port]);
+    }
+    greatest < n
+}
