@@ -24,8 +24,8 @@ impl Board {
         ensures columns { (i : ℕ) (s : _) → slice_get seats.items i ≡ Some s → column_of result.setup i result.events ≡ column_at s }
         ensures rows { AreJournalRows result.setup.ports (journal_of result.setup result.events) }
     {
-        let Board { turn, max_slots } = self;
-        let least = least_refused(&seats, max_slots);
+        let least = least_refused(&seats, &self);
+        let Board { turn, .. } = self;
         let KeptState { state } = turn.close(turn_seats(seats));
         let state = Box::into_inner(state);
         let closed = BoardState {
@@ -38,13 +38,13 @@ impl Board {
 }
 
 // The least of the due cards' refused tries, the last value of a `u64` where none is due.
-fn least_refused(seats: &[CardSeat], max_slots: u32) -> u64
-    requires { (i : ℕ) (s : _) → slice_get seats.now i ≡ Some s → (setup_at s).max_slots ≡ max_slots }
+fn least_refused(seats: &[CardSeat], board: &Board) -> u64
+    requires { (i : ℕ) (s : _) → slice_get seats.now i ≡ Some s → s.turn ≡ board.now }
     ensures { result ≡ least_refused seats.now }
 {
     let mut least = u64::MAX;
     for seat in seats {
-        let tries = due_tries(seat, max_slots);
+        let tries = due_tries(seat, board);
         if tries < least {
             least = tries;
         }
@@ -53,11 +53,11 @@ fn least_refused(seats: &[CardSeat], max_slots: u32) -> u64
 }
 
 // The card's refused tries where it is due, else the last value of a `u64`.
-fn due_tries(seat: &CardSeat, max_slots: u32) -> u64
-    requires { (setup_at seat.now).max_slots ≡ max_slots }
+fn due_tries(seat: &CardSeat, board: &Board) -> u64
+    requires { seat.now.turn ≡ board.now }
     ensures { result ≡ due_tries seat.now }
 {
-    if seat.posted || (!seat.done && seat.slot < max_slots) {
+    if seat.is_due(board) {
         seat.refused
     } else {
         u64::MAX

@@ -2,9 +2,10 @@ ghost use Rattle.std.specs.Prelude.{◌≡◌, ◌<◌, ◌≤◌, ◌↔◌, []
 ghost use Rattle.slot_match.specs.Keeping.{KeepsRest, Gives};
 ghost use Rattle.slot_board.specs.Columns.{IsBoard};
 ghost use Rattle.slot_board.specs.Calls.{IsSeat};
-ghost use Rattle.slot_board.specs.Seats.{setup_at, slot_of, IsPosted, is_done, last_row, last_served, Accepts};
+ghost use Rattle.slot_board.specs.Seats.{setup_at, slot_of, IsPosted, is_done, is_due, last_row, last_served, Accepts};
 
 use crate::acts::KeptState;
+use crate::board::Board;
 use board_state::is_accepted;
 use crossbar::Post;
 use slot_match::{Row, Served};
@@ -85,6 +86,14 @@ impl CardSeat {
         ensures { result ≡ is_done self.now }
     {
         self.done
+    }
+
+    /// Whether the card is due at its board: it has posted its slot, or is not done and a slot is left.
+    pub fn is_due(&self, board: &Board) -> bool
+        requires { self.now.turn ≡ board.now }
+        ensures { result ≡ is_due self.now }
+    {
+        self.posted || (!self.done && self.slot < board.max_slots)
     }
 
     /// The number of turns of all seats that this seat has seen. After a turn of its own these are all

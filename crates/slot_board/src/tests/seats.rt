@@ -111,6 +111,13 @@ fn told_by(seat: &CardSeat) -> (u32, u32, bool, bool, u64) {
     )
 }
 
+// Whether the card at the place is due.
+fn due_at(board: &Board, seats: &Seats, card: usize) -> bool
+    requires { AreSeats board.now seats.now.items }
+{
+    card < seats.len() && seats[card].is_due(board)
+}
+
 #[test]
 fn a_seat_tells_where_its_card_stands(rt: HostRuntime) -> Result<(), Fail> {
     let (board, mut seats) = board_of(rt.alloc(), 2, 4)?;
@@ -118,6 +125,7 @@ fn a_seat_tells_where_its_card_stands(rt: HostRuntime) -> Result<(), Fail> {
     assert_eq!(rt; board.max_slots(), 4);
     assert!(rt; seats.len() == 2);
     assert_eq!(rt; told_by(&seats[0]), (0, 0, false, false, 0));
+    assert!(rt; due_at(&board, &seats, 0));
     assert!(rt; post_at(&board, &mut seats, 0, nothing));
     assert!(rt; post_at(&board, &mut seats, 1, nothing));
     assert!(rt; seats.len() == 2);
@@ -126,6 +134,7 @@ fn a_seat_tells_where_its_card_stands(rt: HostRuntime) -> Result<(), Fail> {
     assert!(rt; take_at(&board, &mut seats, 0).is_some());
     assert!(rt; seats.len() == 2);
     assert_eq!(rt; told_by(&seats[0]), (0, 1, false, true, 3));
+    assert!(rt; !due_at(&board, &seats, 0) && due_at(&board, &seats, 1));
     board.close(seats);
     Ok(())
 }
