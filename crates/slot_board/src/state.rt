@@ -1,5 +1,6 @@
 ghost use Rattle.std.specs.Prelude.{◌≡◌, ◌<◌, ◌↔◌, IsTrue, [], ◌∷◌, ◌++◌, length};
-ghost use Rattle.slot_histories.specs.Events.{decides};
+ghost use Rattle.slot_histories.specs.Events.{decides, posted, takes_of};
+ghost use Rattle.slot_histories.specs.Slots.{taken_at};
 ghost use Rattle.slot_histories.specs.Legal.{Allows, IsLegal};
 ghost use Rattle.slot_histories.specs.Answers.{answer_of, journal_of};
 ghost use Rattle.slot_histories.specs.Tests.{is_allowed};
@@ -9,6 +10,7 @@ ghost use Rattle.slot_board.specs.States.{board_in};
 
 use crate::journal::Journal;
 use board_state::CardBook;
+use crossbar::{Post, Taken};
 use rotating_pick::Ports;
 use slot_histories::{Answer, Event};
 use std::marker::Model;
@@ -45,6 +47,47 @@ impl BoardState {
         ensures answer { result ≡ answer_of self.old.setup self.old.events event }
     {
         self.state.step(event)
+    }
+
+    /// Makes the card's post, which may come: [`BoardState::step`] of the event, with the post lent.
+    /// Takes no memory.
+    pub fn put(&mut self, card: u32, post: &Post)
+        requires { Allows self.old.setup self.old.events (Event.Post card post.now) }
+        ensures { self.new ≡ record self.old { events = self.old.events ++ Event.Post card post.now ∷ [] } }
+    {
+        self.state.put(card, post);
+    }
+
+    /// Whether the next slot may be decided now: [`BoardState::may`] of the event.
+    pub fn may_settle(&self) -> bool
+        ensures { IsTrue result ↔ Allows self.now.setup self.now.events Event.Decide }
+    {
+        self.state.may_settle()
+    }
+
+    /// Decides the next slot, which may be decided: [`BoardState::step`] of the event. Takes no memory.
+    pub fn settle(&mut self)
+        requires { Allows self.old.setup self.old.events Event.Decide }
+        ensures { self.new ≡ record self.old { events = self.old.events ++ Event.Decide ∷ [] } }
+    {
+        self.state.settle();
+    }
+
+    /// Whether the card may take now: [`BoardState::may`] of the event.
+    pub fn may_draw(&self, card: u32) -> bool
+        ensures { IsTrue result ↔ Allows self.now.setup self.now.events (Event.Take card) }
+    {
+        self.state.may_draw(card)
+    }
+
+    /// Makes the card's take, which may come, and answers what it took: [`BoardState::step`] of the
+    /// event. Takes no memory.
+    pub fn draw(&mut self, card: u32) -> Taken
+        requires { Allows self.old.setup self.old.events (Event.Take card) }
+        ensures board { self.new ≡ record self.old { events = self.old.events ++ Event.Take card ∷ [] } }
+        ensures taken { result ≡ taken_at self.old.setup (posted self.old.events) card (takes_of card self.old.events) }
+    {
+        self.state.draw(card)
     }
 
     /// Where the card, one of the ports, stands.

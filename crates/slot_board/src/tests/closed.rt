@@ -57,3 +57,24 @@ fn a_closed_board_goes_on(rt: HostRuntime) -> Result<(), Fail> {
     assert_eq!(rt; (journal.slots(), journal.events()), (1, 5));
     Ok(())
 }
+
+#[test]
+fn a_closed_board_goes_on_by_calls_of_each_kind(rt: HostRuntime) -> Result<(), Fail> {
+    let (board, mut seats) = board_of(rt.alloc(), 2, 4)?;
+    let nothing = post_of(0, None, false);
+    assert!(rt; post_at(&board, &mut seats, 0, nothing));
+    let mut state = board.close(seats);
+    assert!(rt; !state.may_settle() && !state.may_draw(0));
+    let event = Event::Post {
+        card: 1,
+        post: nothing,
+    };
+    assert!(rt; state.may(&event));
+    state.put(1, &nothing);
+    assert!(rt; state.may_settle());
+    state.settle();
+    assert!(rt; state.may_draw(0));
+    assert_eq!(rt; state.draw(0), TAKEN);
+    assert_eq!(rt; (state.events(), state.decided_slots()), (4, 1));
+    Ok(())
+}
