@@ -44,7 +44,8 @@ pub fn unicast_served_at_line_rate()
         → longest_service n ≤ length slots + 1 → Any (λ slot. Serves slot.decision.matched i j level Uni) slots }
 {}
 
-/// So many slots at line rate as `longest_service_at_line_rate` says are enough, whatever the numbers of ports and rounds.
+/// So many slots at line rate as [`crate::longest_service_at_line_rate`] tells are enough, whatever the numbers of
+/// ports and rounds.
 pub fn served_at_line_rate()
     ensures { (n rounds t level i j : ℕ) (places : Places) (slots : List DecidedSlot) → 0 < rounds → i < n → IsWindow n rounds t level places slots
         → All (λ slot. IsWithoutMulticast n level slot.rows) slots → AreAtLineRate n level slots → InFirst (λ rows. Names (row_of rows i) level Uni j) slots
@@ -127,7 +128,7 @@ pub fn waits_are_below_the_longest_service()
         → longest_wait n level (map noted_of slots) < longest_service_by n rounds }
 {}
 
-/// Nor does any, at line rate, reach the number of slots that `longest_service_at_line_rate` says for it.
+/// Nor does any, at line rate, reach the number of slots that [`crate::longest_service_at_line_rate`] tells for it.
 pub fn waits_are_below_the_longest_service_at_line_rate()
     ensures { (n rounds t level : ℕ) (places : Places) (slots : List DecidedSlot) → 0 < n → 0 < rounds → IsWindow n rounds t level places slots
         → All (λ slot. IsWithoutMulticast n level slot.rows) slots → AreAtLineRate n level slots

@@ -9,6 +9,6 @@ mod meter;
 #[cfg(test)]
 mod tests;
 
-pub use bounds::longest_service;
+pub use bounds::{longest_service, longest_service_at_line_rate};
 pub use limits::MAX_NOTED;
 pub use meter::WaitMeter;
