@@ -12,16 +12,18 @@ use Rattle.switch_plan.specs.Refusals.{IsRefusal}
 use Rattle.switch_plan.specs.GoodPlans.{SwitchPlan, IsGood}
 use Rattle.whole_run.specs.Ends.{IsLength}
 use Rattle.switch_run.specs.Causes.{Answers, IsReadable, IsRunFor, JournalTooLongIsExact, RefusalIsExact, TooLongIsExact, UsageIsExact}
-use Rattle.switch_run.specs.Endings.{Command, IsFirstTooLong, IsJournalTooLong, IsMade, IsStopped, Stops, check_status}
-use Rattle.switch_run.specs.Inputs.{AreFilesRead, AreInputs, CapturesRead, EarlierFit}
-use Rattle.switch_run.specs.Jobs.{ReadWords, reads_of, pace_in, IsInput, input_name}
-use Rattle.switch_run.specs.Switched.{Texts, AreTexts, IsLongJournal}
+use Rattle.switch_run.specs.Endings.{Command, IsFirstTooLong, IsJournalTooLong, IsMade, IsStopped, Stops}
+use Rattle.job_files.specs.Statuses.{check_status}
+use Rattle.job_files.specs.Inputs.{AreFilesRead, AreInputs, CapturesRead, EarlierFit}
+use Rattle.job_files.specs.Jobs.{ReadWords, reads_of, pace_in, IsInput, input_name}
+use Rattle.job_files.specs.OutputFiles.{Texts}
+use Rattle.switch_run.specs.Switched.{AreTexts, IsLongJournal}
 use Rattle.check_job.specs.declared.ending.CheckEnding.{CheckEnding}
 use Rattle.check_job.specs.declared.ending.CheckEnding.TheVariants as check_ending
-use Rattle.switch_run.specs.declared.ending.Ending.{Ending}
-use Rattle.switch_run.specs.declared.ending.Ending.TheVariants.{Done, Usage, ReadFault, TooLong, Refused, JournalTooLong, OutOfMemory, WriteFault, Checked}
-use Rattle.switch_run.specs.declared.inputs.InputFile.{InputFile}
-use Rattle.switch_run.specs.declared.inputs.InputFile.TheVariants.{Table, Capture}
+use Rattle.job_files.specs.declared.ending.Ending.{Ending}
+use Rattle.job_files.specs.declared.ending.Ending.TheVariants.{Done, Usage, ReadFault, TooLong, Refused, JournalTooLong, OutOfMemory, WriteFault, Checked}
+use Rattle.job_files.specs.declared.inputs.InputFile.{InputFile}
+use Rattle.job_files.specs.declared.inputs.InputFile.TheVariants.{Table, Capture}
 use Rattle.switch_plan.proofs.Refused.{refusal_once}
 use Rattle.switch_run.proofs.OneOutcome.{not_long, not_made}
 use Rattle.switch_run.proofs.OnePlan.{long_not_made, long_once}

@@ -15,10 +15,10 @@ use Rattle.check_job.specs.declared.ending.CheckEnding.TheVariants as check_endi
 use Rattle.switch_words.specs.Reading.{JobWords, check}
 use Rattle.switch_run.specs.Causes.{Answers, AnswersUnlessOut, CheckIsExact, IsCheckable}
 use Rattle.switch_run.specs.Endings.{Command, IsMade, IsStopped, Stops}
-use Rattle.switch_run.specs.ErrorLines.{line_of}
-use Rattle.switch_run.specs.LineParts.{GivesLine}
-use Rattle.switch_run.specs.declared.ending.Ending.{Ending}
-use Rattle.switch_run.specs.declared.ending.Ending.TheVariants.{Done, Usage, ReadFault, TooLong, Refused, JournalTooLong, OutOfMemory, WriteFault, Checked}
+use Rattle.job_files.specs.ErrorLines.{line_of}
+use Rattle.job_files.specs.LineParts.{GivesLine}
+use Rattle.job_files.specs.declared.ending.Ending.{Ending}
+use Rattle.job_files.specs.declared.ending.Ending.TheVariants.{Done, Usage, ReadFault, TooLong, Refused, JournalTooLong, OutOfMemory, WriteFault, Checked}
 use Rattle.switch_run.proofs.Answering.{no_job, no_reads, same_job, stops_here}
 
 -- ---- the file has one answer

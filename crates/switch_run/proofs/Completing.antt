@@ -9,14 +9,14 @@ use Rattle.switch_words.specs.Reading.{JobWords, run, gen, check, firm, RunWords
 use Rattle.journal_run.specs.RunFiles.{journal_text}
 use Rattle.switch_run.specs.Causes.{Answers, AreWritable, IsComplete, IsWritable}
 use Rattle.switch_run.specs.Endings.{Command, IsMade, StopsWriting}
-use Rattle.switch_run.specs.Jobs.{RunsSwitch, wanted_by}
-use Rattle.switch_run.specs.OutputFiles.{files_from, journal_files, journal_name, nameless, output_name, report_name, run_files}
-use Rattle.switch_run.specs.Switched.{Texts, IsSwitched}
-use Rattle.switch_run.specs.declared.ending.Written.{Written}
-use Rattle.switch_run.specs.declared.ending.Written.TheVariants.{Output, Report, Journal, StandardOutput}
-use Rattle.switch_run.specs.declared.ending.Ending.{Ending}
-use Rattle.switch_run.specs.declared.ending.Ending.TheVariants.{Done, Usage, ReadFault, TooLong, Refused, JournalTooLong, OutOfMemory, WriteFault, Checked}
-use Rattle.switch_run.proofs.Holding.{length-files_from}
+use Rattle.job_files.specs.Jobs.{RunsSwitch, wanted_by}
+use Rattle.job_files.specs.OutputFiles.{files_from, journal_files, journal_name, nameless, output_name, report_name, run_files, Texts}
+use Rattle.switch_run.specs.Switched.{IsSwitched}
+use Rattle.job_files.specs.declared.ending.Written.{Written}
+use Rattle.job_files.specs.declared.ending.Written.TheVariants.{Output, Report, Journal, StandardOutput}
+use Rattle.job_files.specs.declared.ending.Ending.{Ending}
+use Rattle.job_files.specs.declared.ending.Ending.TheVariants.{Done, Usage, ReadFault, TooLong, Refused, JournalTooLong, OutOfMemory, WriteFault, Checked}
+use Rattle.job_files.proofs.Holding.{length-files_from}
 use Rattle.switch_run.proofs.Answering.{no_job, no_read_fault, stops_here}
 
 tells : (b : Bool) → (b ≡ true) ⊎ (b ≡ false)

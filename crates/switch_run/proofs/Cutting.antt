@@ -13,7 +13,7 @@ use Rattle.rotating_pick.specs.declared.kinds.Kind.{Kind}
 use Rattle.rotating_pick.specs.declared.kinds.Kind.TheVariants.{Uni, Multi}
 use Rattle.cell_cutter.specs.declared.cell.Cell.{Cell}
 use Rattle.cell_cutter.specs.Messages.{message_header}
-use Rattle.eslip_rounds.specs.Decisions.{is_kind}
+use Rattle.eslip_rounds.specs.Decisions.{is_kind, decision_of}
 use Rattle.slot_match.specs.declared.matching.Served.{Served}
 use Rattle.card_core.specs.declared.outcome.CardOut.{CardOut}
 use Rattle.card_core.specs.declared.plan.Planned.{Planned}
@@ -23,7 +23,6 @@ use Rattle.card_core.specs.Grants.{packets_to}
 use Rattle.card_core.specs.Deliveries.{ended_by, is_of_flow, messages_after, messages_from}
 use Rattle.slot_histories.specs.Tests.{has}
 use Rattle.switch_plan.specs.GoodPlans.{SwitchPlan, IsGood}
-use Rattle.eslip_rounds.specs.Decisions.{decision_of}
 use Rattle.eslip_rounds.proofs.Scheduling.{IsScheduler-decision_of}
 use Rattle.whole_run.specs.Runs.{card_at, no_plan, ports_of, served_by}
 use Rattle.whole_run.specs.Ends.{IsLength}

@@ -1,14 +1,9 @@
-pub mod Printing
-pub mod InputFiles
-pub mod Putting
-pub mod Holding
 pub mod Stopping
 pub mod ToWrite
 pub mod OneOutcome
 pub mod Answering
 pub mod Completing
 pub mod Cutting
-pub mod MadeSizes
 pub mod RunTexts
 pub mod OnePlan
 pub mod Checking

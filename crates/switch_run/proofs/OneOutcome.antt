@@ -8,8 +8,9 @@ use Rattle.switch_plan.specs.Traffic.{CaptureFile}
 use Rattle.switch_plan.specs.Refusals.{AreRead, IsRefusal}
 use Rattle.switch_plan.specs.GoodPlans.{SwitchPlan}
 use Rattle.switch_plan.proofs.Refused.{files_once, no_refusal}
-use Rattle.switch_run.specs.Jobs.{pace_in}
-use Rattle.switch_run.specs.Switched.{Texts, AreTexts, IsLongJournal, IsPlanned}
+use Rattle.job_files.specs.Jobs.{pace_in}
+use Rattle.job_files.specs.OutputFiles.{Texts}
+use Rattle.switch_run.specs.Switched.{AreTexts, IsLongJournal, IsPlanned}
 
 -- what was read is one table and one list of captures
 pub same_table : (text : List ℕ) (files : List (List ℕ)) (t u : List RouteLine) (xs ys : List CaptureFile) → AreRead text files t xs → AreRead text files u ys → t ≡ u

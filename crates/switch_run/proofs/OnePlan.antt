@@ -25,8 +25,9 @@ use Rattle.whole_run.specs.Ends.{IsLength, IsLengthUnder}
 use Rattle.switch_jobs.specs.Outcomes.{summary_under}
 use Rattle.journal_run.specs.RunFiles.{journal_text}
 use Rattle.firm_run.specs.FirmRuns.{IsFirmRun}
-use Rattle.switch_run.specs.Jobs.{Wanted, wanted_by, nothing_wanted}
-use Rattle.switch_run.specs.Switched.{Texts, AreTexts, IsLongJournal, IsPlanned, IsRunOf, IsSwitched, IsSwitchedByFirm, firm_texts, texts_of}
+use Rattle.job_files.specs.Jobs.{Wanted, wanted_by, nothing_wanted}
+use Rattle.job_files.specs.OutputFiles.{Texts}
+use Rattle.switch_run.specs.Switched.{AreTexts, IsLongJournal, IsPlanned, IsRunOf, IsSwitched, IsSwitchedByFirm, firm_texts, texts_of}
 use Rattle.switch_run.proofs.OneOutcome.{same_captures, same_table}
 
 -- ---- the length of a run

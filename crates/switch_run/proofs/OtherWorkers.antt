@@ -36,8 +36,9 @@ use Rattle.whole_run.specs.Sums.{IsAdmittedUnder, IsBestUnder}
 use Rattle.switch_jobs.specs.Outcomes.{over_ports, summary_under}
 use Rattle.journal_run.specs.RunFiles.{journal_text}
 use Rattle.reference_run.specs.RunLines.{run_lines}
-use Rattle.switch_run.specs.Jobs.{Wanted, nothing_wanted, settings_with, wanted_by, with_workers}
-use Rattle.switch_run.specs.Switched.{Texts, IsJobOutcome, IsLongJournal, IsPlanned, IsRunOf, IsSwitched, IsSwitchedByFirm, texts_of}
+use Rattle.job_files.specs.Jobs.{Wanted, nothing_wanted, settings_with, wanted_by, with_workers}
+use Rattle.job_files.specs.OutputFiles.{Texts}
+use Rattle.switch_run.specs.Switched.{IsJobOutcome, IsLongJournal, IsPlanned, IsRunOf, IsSwitched, IsSwitchedByFirm, texts_of}
 
 -- the same plan but for the number of workers
 abbrev plan_with : ℕ → SwitchPlan → SwitchPlan

@@ -13,10 +13,9 @@ use Rattle.slot_histories.specs.Answers.{JournalSlot}
 use Rattle.slot_report.specs.declared.summary.OutLine.{OutLine}
 use Rattle.slot_report.specs.declared.summary.Summary.{Summary}
 use Rattle.slot_report.specs.Lines.{lines_text}
-use Rattle.slot_report.specs.Texts.{report_lines}
+use Rattle.slot_report.specs.Texts.{report_lines, summary_lines}
 use Rattle.switch_words.specs.declared.job.GenJob.{GenJob}
 use Rattle.switch_words.specs.Reading.{FirmWords, RunWords, run, gen, firm}
-use Rattle.slot_report.specs.Texts.{summary_lines}
 use Rattle.board_state.specs.Boards.{JournalValue as CoreJournal}
 use Rattle.slot_board.specs.States.{JournalValue as BoardJournal}
 use Rattle.slot_histories.specs.Events.{Setup}
@@ -30,18 +29,12 @@ use Rattle.switch_jobs.specs.Outcomes.{IsOutcome, messages_to, summary_of}
 use Rattle.reference_run.specs.RunLines.{run_lines}
 use Rattle.journal_run.specs.RunFiles.{journal_text, run_file}
 use Rattle.switch_run.specs.Making.{AreMade, HaveMessages, IsFirmRan, IsJournalFor, IsRan, StopsJournal, StopsTexts, file_of_board, line_of_card, reference_wanted, slots_told, text_or_none}
-use Rattle.switch_run.specs.Jobs.{Wanted, wanted_by, nothing_wanted}
-use Rattle.switch_run.specs.OutputFiles.{files_from, journal_files, report_name}
-use Rattle.switch_run.specs.Switched.{Texts, firm_texts, out_line, report_of, texts_of}
-use Rattle.switch_run.proofs.Holding.{gen_is_no_run, firm_is_no_run}
-use Rattle.switch_run.specs.declared.ending.Ending.{Ending}
-use Rattle.switch_run.specs.declared.ending.Ending.TheVariants.{Done, Usage, ReadFault, TooLong, Refused, JournalTooLong, OutOfMemory, WriteFault, Checked}
-
--- the line of what is written to the file of an output
-pub output_line : (what prefix digits : List ℕ) (end : List ℕ) → what ++ (prefix ++ (46 ∷ (digits ++ (46 ∷ 112 ∷ 99 ∷ 97 ∷ 112 ∷ end)))) ≡ what ++ ((prefix ++ (46 ∷ (digits ++ (46 ∷ 112 ∷ 99 ∷ 97 ∷ 112 ∷ [])))) ++ end)
-output_line what prefix digits end =
-    ap (λ xs. what ++ (prefix ++ (46 ∷ xs))) (sym (append_assoc digits (46 ∷ 112 ∷ 99 ∷ 97 ∷ 112 ∷ []) end))
-    ∙ ap (λ xs. what ++ xs) (sym (append_assoc prefix (46 ∷ (digits ++ (46 ∷ 112 ∷ 99 ∷ 97 ∷ 112 ∷ []))) end))
+use Rattle.job_files.specs.Jobs.{Wanted, wanted_by, nothing_wanted}
+use Rattle.job_files.specs.OutputFiles.{files_from, journal_files, report_name, Texts}
+use Rattle.switch_run.specs.Switched.{firm_texts, out_line, report_of, texts_of}
+use Rattle.job_files.proofs.Holding.{gen_is_no_run, firm_is_no_run}
+use Rattle.job_files.specs.declared.ending.Ending.{Ending}
+use Rattle.job_files.specs.declared.ending.Ending.TheVariants.{Done, Usage, ReadFault, TooLong, Refused, JournalTooLong, OutOfMemory, WriteFault, Checked}
 
 -- what is made of each element is what is made of its place
 mapped : {X Y : Type 0} (f : X → Y) (g : ℕ → Y) (xs : List X) (n : ℕ) → length xs ≡ n → ((j : ℕ) (x : X) → slice_get xs j ≡ Some x → f x ≡ g j) → map f xs ≡ map g (range_with_len 0 n)

@@ -10,19 +10,19 @@ use Rattle.check_job.specs.Checks.{MeansCheck}
 use Rattle.check_job.specs.declared.ending.CheckEnding.{CheckEnding}
 use Rattle.check_job.specs.declared.ending.CheckEnding.TheVariants as check_ending
 use Rattle.switch_words.specs.Reading.{JobWords, run, gen, check, firm, RunWords}
-use Rattle.switch_run.specs.Jobs.{ReadWords, reads_of, pace_in, input_name}
-use Rattle.switch_run.specs.Switched.{Texts}
-use Rattle.switch_run.specs.Inputs.{AreInputs}
-use Rattle.switch_run.specs.LineParts.{GivesLine}
-use Rattle.switch_run.specs.OutputFiles.{files_from, files_of, journal_files, put_files, put_texts, report_name, run_files}
-use Rattle.switch_run.specs.RefusalLines.{memory_line}
+use Rattle.job_files.specs.Jobs.{ReadWords, reads_of, pace_in, input_name}
+use Rattle.job_files.specs.OutputFiles.{Texts, files_from, files_of, journal_files, put_files, put_texts, report_name, run_files}
+use Rattle.job_files.specs.Inputs.{AreInputs}
+use Rattle.job_files.specs.LineParts.{GivesLine}
+use Rattle.job_files.specs.RefusalLines.{memory_line}
 use Rattle.switch_run.specs.Endings.{Command, IsDone, IsMade, IsStopped, IsWriteFault, Means, Stops, StopsAtFile, StopsWriting, captures_made}
-use Rattle.switch_run.specs.Making.{AreMade, AreToWrite, StopsPlan, StopsPutting, StopsReading, StopsTexts}
-use Rattle.switch_run.specs.declared.ending.Written.{Written}
-use Rattle.switch_run.specs.declared.ending.Written.TheVariants.{Output, Report, Journal, StandardOutput}
-use Rattle.switch_run.specs.declared.ending.Ending.{Ending}
-use Rattle.switch_run.specs.declared.ending.Ending.TheVariants.{Done, Usage, ReadFault, TooLong, Refused, JournalTooLong, OutOfMemory, WriteFault, Checked}
-use Rattle.switch_run.proofs.Holding.{holds_told, length-files_from}
+use Rattle.switch_run.specs.Making.{AreMade, AreToWrite, StopsPlan, StopsTexts}
+use Rattle.job_files.specs.FileSteps.{StopsPutting, StopsReading}
+use Rattle.job_files.specs.declared.ending.Written.{Written}
+use Rattle.job_files.specs.declared.ending.Written.TheVariants.{Output, Report, Journal, StandardOutput}
+use Rattle.job_files.specs.declared.ending.Ending.{Ending}
+use Rattle.job_files.specs.declared.ending.Ending.TheVariants.{Done, Usage, ReadFault, TooLong, Refused, JournalTooLong, OutOfMemory, WriteFault, Checked}
+use Rattle.job_files.proofs.Holding.{holds_told, length-files_from}
 
 module _ (job : JobWords) (texts : Texts) (a b c d : Place → ℕ) (old told : Option Contents) (start : NeverFall a b) (end : NeverFall c d) where
   StopsAtFile-wider : (place : ℕ) → StopsAtFile job texts place old b c told → StopsAtFile job texts place old a d told
@@ -56,24 +56,6 @@ Stops-wider job old a b c d told (WriteFault written) start end stops =
     record { texts = stops.texts; made = stops.made; stops = StopsWriting-wider job stops.texts a b c d old told start end written stops.stops }
 Stops-wider job old a b c d told (Checked ending) start end stops =
     record { file = stops.file; is_check = stops.is_check; means = MeansCheck-wider stops.file old told a b c d ending start end stops.means }
-
--- ---- reading
-
-StopsReading-wider : (r : ReadWords) (old : Option Contents) (a b c d : Place → ℕ) (ending : Ending) → NeverFall a b → NeverFall c d → StopsReading r old b c ending → StopsReading r old a d ending
-StopsReading-wider r old a b c d Done start end stops = stops
-StopsReading-wider r old a b c d Usage start end stops = stops
-StopsReading-wider r old a b c d (ReadFault input) start end stops = (stops.0, stops.1, Rose-wider a b c d (ReadOf (input_name r input)) start end stops.2)
-StopsReading-wider r old a b c d (TooLong input) start end stops = stops
-StopsReading-wider r old a b c d (Refused fault) start end stops = stops
-StopsReading-wider r old a b c d (JournalTooLong size) start end stops = stops
-StopsReading-wider r old a b c d OutOfMemory start end stops = stops
-StopsReading-wider r old a b c d (WriteFault written) start end stops = stops
-StopsReading-wider r old a b c d (Checked ending) start end stops = stops
-
--- after calls that left the contents
-pub StopsReading-since : (r : ReadWords) (old mid : Option Contents) (was b now : Place → ℕ) (ending : Ending) → mid ≡ old → NeverFall was b → StopsReading r mid b now ending → StopsReading r old was now ending
-StopsReading-since r old mid was b now ending same kept stops =
-    StopsReading-wider r old was b now now ending kept (NeverFall-refl now) (subst (λ (o : Option Contents). StopsReading r o b now ending) same stops)
 
 -- a job whose files were not read
 pub reading_stops : (job : JobWords) (r : ReadWords) (old told : Option Contents) (was now : Place → ℕ) (ending : Ending) → reads_of job ≡ Some r → told ≡ old → StopsReading r old was now ending → Stops job old was now told ending

@@ -9,12 +9,12 @@ use Rattle.switch_plan.specs.GoodPlans.{SwitchPlan}
 use Rattle.whole_run.specs.Runs.{run_slot}
 use Rattle.switch_jobs.specs.declared.outcome.Outcome.{Outcome}
 use Rattle.switch_jobs.specs.Outcomes.{IsOutcome}
-use Rattle.switch_run.specs.Inputs.{AreInputs}
+use Rattle.job_files.specs.Inputs.{AreInputs}
 use Rattle.switch_run.specs.Endings.{Stops}
 use Rattle.switch_run.specs.Making.{AreMade, AreToWrite, StopsTexts}
-use Rattle.switch_run.specs.OutputFiles.{shown}
-use Rattle.switch_run.specs.declared.output_files.JobTexts.{JobTexts}
-use Rattle.switch_run.specs.declared.ending.Ending.{Ending}
+use Rattle.job_files.specs.OutputFiles.{shown}
+use Rattle.job_files.specs.declared.output_files.JobTexts.{JobTexts}
+use Rattle.job_files.specs.declared.ending.Ending.{Ending}
 use Rattle.switch_run.proofs.Stopping.{texts_stop}
 
 -- a run has a slot at least

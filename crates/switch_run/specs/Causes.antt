@@ -18,14 +18,15 @@ use Rattle.switch_jobs.specs.Outcomes.{summary_of}
 use Rattle.journal_run.specs.RunFiles.{journal_text}
 use Rattle.output_queued.specs.Lines.{ideal, ran}
 use Rattle.reference_run.specs.RunLines.{run_matches}
-use Rattle.switch_run.specs.Jobs.{ReadWords, reads_of, pace_in, input_name, IsInput, RunsSwitch}
+use Rattle.job_files.specs.Jobs.{ReadWords, reads_of, pace_in, input_name, IsInput, RunsSwitch}
 use Rattle.switch_run.specs.Switched.{IsLongJournal, IsRunOf}
-use Rattle.switch_run.specs.Inputs.{EarlierFit, AreInputs}
-use Rattle.switch_run.specs.OutputFiles.{output_name, report_name, journal_name}
-use Rattle.switch_run.specs.Endings.{Command, Means, status_of}
-use Rattle.switch_run.specs.declared.inputs.InputFile.{InputFile}
-use Rattle.switch_run.specs.declared.ending.Ending.{Ending}
-use Rattle.switch_run.specs.declared.ending.Ending.TheVariants.{TooLong, Refused, JournalTooLong, OutOfMemory, Checked}
+use Rattle.job_files.specs.Inputs.{EarlierFit, AreInputs}
+use Rattle.job_files.specs.OutputFiles.{output_name, report_name, journal_name}
+use Rattle.switch_run.specs.Endings.{Command, Means}
+use Rattle.job_files.specs.Statuses.{status_of}
+use Rattle.job_files.specs.declared.inputs.InputFile.{InputFile}
+use Rattle.job_files.specs.declared.ending.Ending.{Ending}
+use Rattle.job_files.specs.declared.ending.Ending.TheVariants.{TooLong, Refused, JournalTooLong, OutOfMemory, Checked}
 
 -- the status is that of this ending, with all that it means
 abbrev pub Answers : Command → ℕ → Ending → Type 0

@@ -8,40 +8,18 @@ use Rattle.check_job.specs.declared.ending.CheckEnding.{CheckEnding}
 use Rattle.check_job.specs.declared.ending.CheckEnding.TheVariants as check_ending
 use Rattle.switch_words.specs.Reading.{JobWords, run, gen, check, firm, RunWords, reading_of}
 use Rattle.switch_plan.specs.declared.fault.PlanFault.{PlanFault}
-use Rattle.switch_run.specs.Jobs.{ReadWords, reads_of, input_name, IsInput}
-use Rattle.switch_run.specs.Switched.{Texts, IsJobOutcome, IsLongJournal}
-use Rattle.switch_run.specs.Inputs.{EarlierFit, AreInputs}
-use Rattle.switch_run.specs.OutputFiles.{nameless, files_of, put_files, put_texts, HoldsTexts}
-use Rattle.switch_run.specs.LineParts.{GivesLine}
-use Rattle.switch_run.specs.RefusalLines.{memory_line}
-use Rattle.switch_run.specs.ErrorLines.{line_of, usage_line}
-use Rattle.switch_run.specs.declared.inputs.InputFile.{InputFile}
-use Rattle.switch_run.specs.declared.ending.Written.{Written}
-use Rattle.switch_run.specs.declared.ending.Written.TheVariants.{Output, Report, Journal, StandardOutput}
-use Rattle.switch_run.specs.declared.ending.Ending.{Ending}
-use Rattle.switch_run.specs.declared.ending.Ending.TheVariants.{Done, Usage, ReadFault, TooLong, Refused, JournalTooLong, OutOfMemory, WriteFault, Checked}
-
--- the exit status of each ending of a check
-abbrev pub check_status : CheckEnding → ℕ
-check_status check_ending.Yes = 0
-check_status (check_ending.No slot reason) = 7
-check_status (check_ending.Bad at) = 4
-check_status check_ending.TooLong = 4
-check_status check_ending.ReadFault = 3
-check_status check_ending.OutOfMemory = 5
-check_status check_ending.OutFault = 6
-
--- the exit status of each ending
-abbrev pub status_of : Ending → ℕ
-status_of Done = 0
-status_of Usage = 2
-status_of (ReadFault input) = 3
-status_of (TooLong input) = 4
-status_of (Refused fault) = 4
-status_of (JournalTooLong size) = 4
-status_of OutOfMemory = 5
-status_of (WriteFault written) = 6
-status_of (Checked ending) = check_status ending
+use Rattle.job_files.specs.Jobs.{ReadWords, reads_of, input_name, IsInput}
+use Rattle.job_files.specs.OutputFiles.{Texts, nameless, files_of, put_files, put_texts, HoldsTexts}
+use Rattle.switch_run.specs.Switched.{IsJobOutcome, IsLongJournal}
+use Rattle.job_files.specs.Inputs.{EarlierFit, AreInputs}
+use Rattle.job_files.specs.LineParts.{GivesLine}
+use Rattle.job_files.specs.RefusalLines.{memory_line}
+use Rattle.job_files.specs.ErrorLines.{line_of, usage_line}
+use Rattle.job_files.specs.declared.inputs.InputFile.{InputFile}
+use Rattle.job_files.specs.declared.ending.Written.{Written}
+use Rattle.job_files.specs.declared.ending.Written.TheVariants.{Output, Report, Journal, StandardOutput}
+use Rattle.job_files.specs.declared.ending.Ending.{Ending}
+use Rattle.job_files.specs.declared.ending.Ending.TheVariants.{Done, Usage, ReadFault, TooLong, Refused, JournalTooLong, OutOfMemory, WriteFault, Checked}
 
 -- What a command found and left: the job that its words mean, and the contents and the counts of faults before and after.
 pub record Command : Type 0 where

@@ -1,10 +1,4 @@
-pub mod Jobs
 pub mod Switched
-pub mod Inputs
-pub mod OutputFiles
-pub mod LineParts
-pub mod RefusalLines
-pub mod ErrorLines
 pub mod Endings
 pub mod Causes
 pub mod Making

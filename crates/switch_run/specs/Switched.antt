@@ -21,14 +21,7 @@ use Rattle.switch_jobs.specs.Outcomes.{messages_to, summary_of}
 use Rattle.journal_run.specs.RunFiles.{journal_text}
 use Rattle.reference_run.specs.RunLines.{run_lines}
 use Rattle.firm_run.specs.FirmRuns.{IsFirmRun, HasShortWaits}
-use Rattle.switch_run.specs.Jobs.{Wanted, wanted_by, nothing_wanted, pace_in}
-
--- The texts of a run: the capture of each output, the report, the journal where it is wanted, and the summary.
-pub record Texts : Type 0 where
-  pub outputs : List (List ℕ)
-  pub report : List ℕ
-  pub journal : Option (List ℕ)
-  pub summary : List ℕ
+use Rattle.job_files.specs.Jobs.{Wanted, wanted_by, nothing_wanted, pace_in}
 
 -- the number of packets and of cells that come to output j in the first slots
 abbrev pub out_line : SwitchPlan → ℕ → ℕ → OutLine

@@ -6,12 +6,12 @@ ghost use Rattle.switch_run.specs.Causes.{Answers, CheckIsExact, IsComplete, IsN
 ghost use Rattle.switch_plan.specs.GoodPlans.{SwitchPlan};
 ghost use Rattle.whole_run.specs.Promises.{BusySlotsMatch, DeliversAdmitted, DeliversNoOthers, HasFewSlots, ServesWaiting, WaitsAreShort};
 ghost use Rattle.switch_run.specs.Endings.{IsDone, Means, Stops, command_of};
-ghost use Rattle.switch_run.specs.declared.ending.Ending.{Ending};
+ghost use Rattle.job_files.specs.declared.ending.Ending.{Ending};
 
-use crate::ending::Ending;
-use crate::error_lines::{print_line, print_memory, print_usage};
+use job_files::Ending;
+use job_files::{print_line, print_memory, print_usage};
 use crate::job_texts::job_texts;
-use crate::output_files::put_texts;
+use job_files::put_texts;
 use card_worker::Gate;
 use journal_run::laws as journals;
 use outside::Files;

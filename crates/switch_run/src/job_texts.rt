@@ -5,12 +5,12 @@ ghost use Rattle.switch_words.specs.Limits.{IsFirmWithinLimits, IsGenWithinLimit
 ghost use Rattle.switch_words.specs.Reading.{run, gen, check, firm, run_words, firm_words, job_words};
 ghost use Rattle.switch_run.specs.Endings.{Stops};
 ghost use Rattle.switch_run.specs.Making.{AreToWrite};
-ghost use Rattle.switch_run.specs.OutputFiles.{shown};
+ghost use Rattle.job_files.specs.OutputFiles.{shown};
 
-use crate::ending::Ending;
-use crate::inputs::{made_inputs, read_inputs, reads_of_firm, reads_of_run};
+use job_files::Ending;
+use job_files::{made_inputs, read_inputs, reads_of_firm, reads_of_run};
 use crate::making::{plan_and_run, plan_and_run_firm};
-use crate::output_files::JobTexts;
+use job_files::JobTexts;
 use crate::texts::{run_texts, summary_alone};
 use card_worker::Gate;
 use check_job::{CheckEnding, check_file};

@@ -7,8 +7,9 @@ ghost use Rattle.switch_words.specs.Limits.{IsUpTo};
 ghost use Rattle.switch_words.specs.Reading.{JobWords};
 ghost use Rattle.switch_plan.specs.declared.fault.PlanFault.{PlanFault};
 ghost use Rattle.switch_plan.specs.Refusals.{IsRefusal};
-ghost use Rattle.switch_run.specs.Jobs.{pace_in, settings_with, with_workers};
-ghost use Rattle.switch_run.specs.Switched.{Texts, AreTexts, IsJobOutcome, IsLongJournal};
+ghost use Rattle.job_files.specs.Jobs.{pace_in, settings_with, with_workers};
+ghost use Rattle.job_files.specs.OutputFiles.{Texts};
+ghost use Rattle.switch_run.specs.Switched.{AreTexts, IsJobOutcome, IsLongJournal};
 
 /// A job has one outcome: no two causes for which it is refused, no cause beside texts, and one list of texts.
 pub fn one_outcome()

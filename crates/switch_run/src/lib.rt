@@ -2,13 +2,9 @@
 #![tactic(auto)]
 
 mod command;
-mod ending;
-mod error_lines;
-mod inputs;
 mod job_texts;
 pub mod laws;
 mod making;
-mod output_files;
 mod reference;
 mod texts;
 

@@ -4,11 +4,12 @@ ghost use Rattle.switch_words.specs.Limits.{AreWithinLimits};
 ghost use Rattle.switch_plan.specs.GoodPlans.{IsGood, switch_plan_of};
 ghost use Rattle.switch_plan.specs.Reading.{bytes_of_files};
 ghost use Rattle.firm_run.specs.FirmRuns.{IsFirmRun};
-ghost use Rattle.switch_run.specs.Making.{AreOfSize, IsFirmRan, IsRan, IsRanOf, StopsPlan};
+ghost use Rattle.job_files.specs.FileSteps.{AreOfSize};
+ghost use Rattle.switch_run.specs.Making.{IsFirmRan, IsRan, IsRanOf, StopsPlan};
 ghost use Rattle.switch_run.specs.Switched.{IsPlanned};
 
-use crate::ending::Ending;
-use crate::inputs::Inputs;
+use job_files::Ending;
+use job_files::Inputs;
 use crate::reference::{reference_for, reference_lines};
 use card_worker::Gate;
 use firm_run::run_firm;

@@ -7,11 +7,11 @@ ghost use Rattle.switch_words.specs.Reading.{run, gen, firm, run_words, firm_wor
 ghost use Rattle.switch_plan.specs.Reading.{bytes_of_files};
 ghost use Rattle.switch_jobs.specs.Captures.{IsCut};
 ghost use Rattle.switch_run.specs.Making.{AreMade, HaveMessages, IsFirmRan, IsJournalFor, IsRan, StopsJournal, StopsTexts, line_of_card, slots_told, text_or_none};
-ghost use Rattle.switch_run.specs.OutputFiles.{shown};
+ghost use Rattle.job_files.specs.OutputFiles.{shown};
 
-use crate::ending::Ending;
+use job_files::Ending;
 use crate::making::EndedRun;
-use crate::output_files::{JobTexts, run_files};
+use job_files::{JobTexts, run_files};
 use card_core::CardOut;
 use journal_check::{MAX_JOURNAL_BYTES, journal_bytes, journal_len};
 use pcap_records::Link;

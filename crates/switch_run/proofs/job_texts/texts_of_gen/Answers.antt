@@ -1,7 +1,7 @@
 use Rattle.std.proofs.Common.{ap, map, refl, string_bytes}
 use Rattle.switch_plan.specs.Reading.{bytes_of_files}
 use Rattle.switch_words.specs.Reading.{gen}
-use Rattle.switch_run.specs.OutputFiles.{shown}
+use Rattle.job_files.specs.OutputFiles.{shown}
 use Rattle.switch_run.proofs.RunTexts.{gen_made}
 use Rattle.switch_run.proofs.Stopping.{plan_stops}
 use Rattle.switch_run.proofs.job_texts.texts_of_gen.Goals as goal

@@ -2,8 +2,8 @@ use Rattle.std.proofs.Common.{arith, refl, string_bytes}
 use Rattle.std.proofs.lemmas.List.{length-map}
 use Rattle.switch_plan.specs.Reading.{bytes_of_files}
 use Rattle.switch_words.specs.Reading.{run, run_words}
-use Rattle.switch_run.specs.Jobs.{run_reads}
-use Rattle.switch_run.proofs.InputFiles.{read_of_size}
+use Rattle.job_files.specs.Jobs.{run_reads}
+use Rattle.job_files.proofs.InputFiles.{read_of_size}
 use Rattle.switch_run.proofs.Stopping.{plan_stops, reading_stops}
 use Rattle.switch_run.proofs.ToWrite.{some_slots, texts_not_made, texts_to_write}
 use Rattle.switch_run.proofs.job_texts.texts_of_run.Goals as goal

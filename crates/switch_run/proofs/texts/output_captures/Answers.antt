@@ -4,7 +4,7 @@ use Rattle.std.specs.List.{range_with_len}
 use Rattle.std.proofs.lemmas.List.FromFn.{map-range_with_len_more}
 use Rattle.std.proofs.lemmas.Option.{slice_get_read}
 use Rattle.pcap_records.specs.Output.{capture_text}
-use Rattle.switch_run.proofs.InputFiles.{bytes_pushed}
+use Rattle.job_files.proofs.InputFiles.{bytes_pushed}
 use Rattle.switch_run.proofs.texts.output_captures.Goals as goal
 
 pub loop-output-preserved : goal.loop-output-preserved

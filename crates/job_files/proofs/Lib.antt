@@ -1,0 +1,6 @@
+pub mod Printing
+pub mod InputFiles
+pub mod StoppingReads
+pub mod Putting
+pub mod Holding
+pub mod MadeSizes

@@ -1,0 +1,84 @@
+-- The files that a run writes, one after the other.
+use Rattle.std.proofs.Common.{◌≡◌, ◌<◌, ◌+◌, ℕ, suc, List, [], ◌∷◌, ◌++◌, map, take, length, get_or, Option, Some, None, inl, inr, refl, sym, ◌∙◌, ap, subst, arith}
+use Rattle.std.specs.Prelude.{Result, Ok, Err, is_err, is_ok, true, false, if◌then◌else◌, option_map, string_bytes}
+use Rattle.std.proofs.lemmas.List.{get_or-map, length-map, map_push}
+use Rattle.std.proofs.lemmas.Bool.{cases_lt, le-ltb, lt-ltb}
+use Rattle.std.proofs.lemmas.Bool.Decides.{eqb_tells}
+use Rattle.std.proofs.lemmas.List.Sums.{fold_more}
+use Rattle.outside.specs.Contents.{Contents}
+use Rattle.outside.specs.Faults.{Place, NeverFall}
+use Rattle.outside.specs.WholeFiles.{NamedBytes, Puts, StopsAt, put_file}
+use Rattle.outside.proofs.Counting.{NeverFall-refl}
+use Rattle.outside.proofs.Putting.{StopsAt-wider}
+use Rattle.outside.proofs.Effects.{option_map-option_map}
+use Rattle.job_files.specs.OutputFiles.{files_from, nameless, output_name, put_files, shown}
+use Rattle.job_files.specs.FileSteps.{StopsAtPlace, StopsPutting, written_at}
+use Rattle.job_files.specs.declared.output_files.OutputFile.{OutputFile}
+use Rattle.job_files.proofs.Holding.{length-files_from}
+
+-- a call on one of the files failed
+pub put_to : {X T E : Type 0} (text : X → NamedBytes) (files : List X) (i : ℕ) (x : X) (r : Result T E) (a b d : Place → ℕ) (o now new : Option Contents)
+    → i < length files → x ≡ get_or files i x → is_err r ≡ true → NeverFall a b → now ≡ option_map (put_files (take i (map text files))) o → Puts r (text x) b d now new
+    → StopsAt (get_or (map text files) i nameless) a d (option_map (put_files (take i (map text files))) o) new
+put_to text files i x (Ok y) a b d o now new within is err kept at puts = absurd (cc)
+put_to text files i x (Err e) a b d o now new within is err kept at puts =
+    let same : get_or (map text files) i nameless ≡ text x = get_or-map text files i x nameless within ∙ ap text (sym is) in
+    rw same (subst (λ (before : Option Contents). StopsAt (text x) a d before new) at (StopsAt-wider (text x) a b d d now new kept (NeverFall-refl d) puts))
+
+one_more_put : (files : List NamedBytes) (i : ℕ) (o : Option Contents) → i < length files
+    → option_map (λ c. put_file (put_files (take i files) c) (get_or files i nameless)) o ≡ option_map (put_files (take (i + 1) files)) o
+one_more_put files i None within = refl
+one_more_put files i (Some c) within = ap Some (sym (fold_more put_file c files i nameless within))
+
+-- one file more is put
+pub put_more : {X T E : Type 0} (text : X → NamedBytes) (files : List X) (i : ℕ) (x : X) (r : Result T E) (b d : Place → ℕ) (o now new : Option Contents)
+    → i < length files → x ≡ get_or files i x → is_err r ≡ false → now ≡ option_map (put_files (take i (map text files))) o → Puts r (text x) b d now new
+    → new ≡ option_map (put_files (take (i + 1) (map text files))) o
+put_more text files i x (Ok y) b d o now new within is err at puts =
+    let same : get_or (map text files) i nameless ≡ text x = get_or-map text files i x nameless within ∙ ap text (sym is) in
+    let inside : i < length (map text files) = omega (arith, length-map files text) in
+    puts ∙ ap (option_map (λ c. put_file c (text x))) at ∙ option_map-option_map (put_files (take i (map text files))) (λ c. put_file c (text x)) o
+    ∙ ap (λ f. option_map (λ c. put_file (put_files (take i (map text files)) c) f) o) (sym same)
+    ∙ one_more_put (map text files) i o inside
+put_more text files i x (Err e) b d o now new within is err at puts = absurd (cc)
+
+-- The names of the files
+
+files_push : (prefix : List ℕ) (j : ℕ) (outputs : List (List ℕ)) (bytes : List ℕ) → files_from prefix j (outputs ++ bytes ∷ []) ≡ files_from prefix j outputs ++ record { name = output_name prefix (j + length outputs); bytes = bytes } ∷ []
+files_push prefix j [] bytes = let n : j ≡ j + 0 = omega arith in ap (λ k. record { name = output_name prefix k; bytes = bytes } ∷ []) n
+files_push prefix j (first ∷ more) bytes =
+    let n : j + 1 + length more ≡ j + suc (length more) = omega arith in
+    ap (λ xs. record { name = output_name prefix j; bytes = first } ∷ xs)
+    (files_push prefix (j + 1) more bytes ∙ ap (λ k. files_from prefix (j + 1) more ++ record { name = output_name prefix k; bytes = bytes } ∷ []) n)
+
+-- one file more is named
+pub named_more : (prefix : List ℕ) (files : List OutputFile) (f : OutputFile) (outputs : List (List ℕ)) → map shown files ≡ files_from prefix 0 outputs → string_bytes f.name ≡ output_name prefix (length files)
+    → map shown (files ++ f ∷ []) ≡ files_from prefix 0 (outputs ++ f.bytes.items ∷ [])
+named_more prefix files f outputs same name_is =
+    let n : length files ≡ 0 + length outputs = omega (arith, length-map files shown, ap length same, length-files_from prefix 0 outputs) in
+    let e : string_bytes f.name ≡ output_name prefix (0 + length outputs) = name_is ∙ ap (output_name prefix) n in
+    map_push shown files f ∙ ap (λ xs. xs ++ shown f ∷ []) same
+    ∙ ap (λ name. files_from prefix 0 outputs ++ record { name = name; bytes = f.bytes.items } ∷ []) e
+    ∙ sym (files_push prefix 0 outputs f.bytes.items)
+
+-- what a push left, where it did not fail
+pub pushed : {A T E : Type 0} (r : Result T E) (new old : List A) (x : A) (y : T) → new ≡ (if is_ok r then old ++ x ∷ [] else old) → r ≡ Ok y → new ≡ old ++ x ∷ []
+pushed r new old x y e ok = rw ok at e
+
+-- the same where the name and the bytes were taken out of the file
+pub puts_of : {T E : Type 0} (r : Result T E) (f : NamedBytes) (name bytes : List ℕ) (a d : Place → ℕ) (o new : Option Contents) → name ≡ f.name → bytes ≡ f.bytes
+    → Puts r (record { name = name; bytes = bytes }) a d o new → Puts r f a d o new
+puts_of r f name bytes a d o new name_is bytes_is puts =
+    subst (λ (n : List ℕ). Puts r (record { name = n; bytes = f.bytes }) a d o new) name_is
+    (subst (λ (bs : List ℕ). Puts r (record { name = name; bytes = bs }) a d o new) bytes_is puts)
+
+-- a call on the file at a place, after so many outputs, was refused
+pub stops_at_place : (outputs : ℕ) (files : List NamedBytes) (text : List ℕ) (place : ℕ) (old told : Option Contents) (was now : Place → ℕ) → place < length files
+    → StopsAt (get_or files place nameless) was now (option_map (put_files (take place files)) old) told → StopsPutting outputs files text (written_at place outputs) old was now told
+stops_at_place outputs files text place old told was now within stops = elim (cases_lt place outputs) [
+  | inl before ↦ rw (lt-ltb place outputs before) (before, record { within = within; stops = stops })
+  | inr after ↦ elim (eqb_tells place outputs) [
+    | inl same ↦ rw (le-ltb place outputs after, same.0) (subst (λ (n : ℕ). StopsAtPlace files n old was now told) same.1 (record { within = within; stops = stops }))
+    | inr other ↦ let differs = other.1 in rw (le-ltb place outputs after, other.0) (place, omega (arith, after, differs), record { within = within; stops = stops })
+  ]
+]

@@ -1,0 +1,20 @@
+use Rattle.std.proofs.Common.{◌≡◌, ◌<◌, length, take}
+use Rattle.std.specs.Prelude.{IfSome}
+use Rattle.outside.specs.Faults.{NeverFall}
+use Rattle.job_files.specs.Inputs.{CapturesRead, EarlierFit}
+use Rattle.job_files.specs.FileSteps.{reads_words}
+use Rattle.switch_plan.specs.Reading.{bytes_of_files}
+use Rattle.job_files.specs.declared.inputs.InputFile.TheVariants.{Capture}
+use Rattle.job_files.proofs.inputs.read_captures.Given as goal
+
+abbrev pub invariant-loop-port : goal.invariant-loop-port
+invariant-loop-port g l =
+    let contents = g.F.Files.told in
+    let counts = g.F.Files.faults in
+    record {
+      told : contents l.files ≡ contents l.fn.files;
+      never_fall : NeverFall (counts l.fn.files) (counts l.files);
+      room : 0 < length l.buf;
+      earlier : IfSome (contents l.fn.files) (EarlierFit (reads_words l.reads) (Capture l.port));
+      read : CapturesRead (take l.port (reads_words l.reads).inputs) (contents l.fn.files) (bytes_of_files l.captures);
+    }

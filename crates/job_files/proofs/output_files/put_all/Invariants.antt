@@ -1,0 +1,14 @@
+use Rattle.std.proofs.Common.{◌≡◌, map, take}
+use Rattle.std.specs.Prelude.{option_map}
+use Rattle.outside.specs.Faults.{NeverFall}
+use Rattle.job_files.specs.OutputFiles.{put_files, shown}
+use Rattle.job_files.proofs.output_files.put_all.Given as goal
+
+abbrev pub invariant-loop-place : goal.invariant-loop-place
+invariant-loop-place g l =
+    let contents = g.F.Files.told in
+    let counts = g.F.Files.faults in
+    record {
+      told : contents l.files ≡ option_map (put_files (take l.place (map shown l.output_files))) (contents l.fn.files);
+      never_fall : NeverFall (counts l.fn.files) (counts l.files);
+    }

@@ -1,0 +1,34 @@
+-- The bytes of a job's table and captures: those of the files that it names, or those that `gen` makes.
+use Rattle.std.specs.Prelude.{◌≡◌, ◌≤◌, ℕ, List, map, take, length, Option, Some, All, IfSome}
+use Rattle.outside.specs.Contents.{Contents}
+use Rattle.outside.specs.WholeFiles.{Fits}
+use Rattle.rotating_pick.specs.declared.limits.TheConstants.{MAX_FILE_BYTES}
+use Rattle.switch_words.specs.Reading.{JobWords, run, gen, check, firm}
+use Rattle.switch_plan.specs.Made.{made_table, made_captures}
+use Rattle.job_files.specs.Jobs.{ReadWords, run_reads, firm_reads}
+use Rattle.job_files.specs.declared.inputs.InputFile.{InputFile}
+use Rattle.job_files.specs.declared.inputs.InputFile.TheVariants.{Table, Capture}
+
+-- the files that are read before this one are there, and not too long
+abbrev pub EarlierFit : ReadWords → InputFile → Contents → Type 0
+EarlierFit r Table c = Unit {0}
+EarlierFit r (Capture port) c = Fits c r.table × All (Fits c) (take port r.inputs)
+
+-- These are the bytes of the files of these names, in order; none is too long. Where contents are told, the files hold them.
+pub record CapturesRead (names : List (List ℕ)) (told : Option Contents) (captures : List (List ℕ)) : Type 0 where
+  pub count : length captures ≡ length names
+  pub fit : All (λ bytes. length bytes ≤ MAX_FILE_BYTES) captures
+  pub there : IfSome told (λ c. map (λ name. c.file name) names ≡ map (λ bytes. Some bytes) captures)
+
+-- These are the bytes of the table and of each capture, in order; none is too long. Where contents are told, the files hold them.
+pub record AreFilesRead (r : ReadWords) (told : Option Contents) (table : List ℕ) (captures : List (List ℕ)) : Type 0 where
+  pub table_fits : length table ≤ MAX_FILE_BYTES
+  pub table_there : IfSome told (λ c. c.file r.table ≡ Some table)
+  pub captures_read : CapturesRead r.inputs told captures
+
+-- these are the bytes of a job's table and captures
+abbrev pub AreInputs : JobWords → Option Contents → List ℕ → List (List ℕ) → Type 0
+AreInputs (run r) told table captures = AreFilesRead (run_reads r) told table captures
+AreInputs (gen g) told table captures = (table ≡ made_table g.ports) × (captures ≡ made_captures g)
+AreInputs (check file) told table captures = ⊥
+AreInputs (firm f) told table captures = AreFilesRead (firm_reads f) told table captures

@@ -1,0 +1,72 @@
+-- What the words of a job say, whichever its command is.
+use Rattle.std.specs.Prelude.{ℕ, ◌<◌, Bool, false, List, [], length, slice_index_or, Option, Some, None}
+use Rattle.switch_words.specs.declared.job.Settings.{Settings}
+use Rattle.switch_words.specs.Reading.{JobWords, run, gen, check, firm, RunWords, FirmWords}
+use Rattle.job_files.specs.declared.inputs.InputFile.{InputFile}
+use Rattle.job_files.specs.declared.inputs.InputFile.TheVariants.{Table, Capture}
+
+-- how many microseconds a slot of the job has, if not those of line pace
+abbrev pub pace_in : JobWords → Option ℕ
+pace_in (run r) = r.settings.pace_us
+pace_in (gen g) = g.settings.pace_us
+pace_in (check file) = None
+pace_in (firm f) = f.settings.pace_us
+
+-- the same settings but for the number of workers
+abbrev pub settings_with : ℕ → Settings → Settings
+settings_with workers settings = record settings { workers = workers }
+
+-- the same job but for the number of workers; `check` has none
+abbrev pub with_workers : ℕ → JobWords → JobWords
+with_workers workers (run r) = run (record r { settings = settings_with workers r.settings })
+with_workers workers (gen g) = gen (record g { settings = settings_with workers g.settings })
+with_workers workers (check file) = check file
+with_workers workers (firm f) = firm (record f { settings = settings_with workers f.settings })
+
+-- what a run is to tell beside its captures, the report's numbers and the summary: a line for each slot, the journal, and
+-- the lines of the output-queued reference
+pub record Wanted : Type 0 where
+  pub slots : Bool
+  pub journal : Bool
+  pub reference : Bool
+
+abbrev pub wanted_by : RunWords → Wanted
+wanted_by r = record { slots = r.slots; journal = r.journal; reference = r.reference }
+
+abbrev pub nothing_wanted : Wanted
+nothing_wanted = record { slots = false; journal = false; reference = false }
+
+-- the names of the files that a job reads: the table, and the capture of each port
+pub record ReadWords : Type 0 where
+  pub table : List ℕ
+  pub inputs : List (List ℕ)
+
+abbrev pub run_reads : RunWords → ReadWords
+run_reads r = record { table = r.table; inputs = r.inputs }
+
+abbrev pub firm_reads : FirmWords → ReadWords
+firm_reads f = record { table = f.table; inputs = f.inputs }
+
+-- the table and the captures that a job reads: `gen` makes them, and `check` has none
+abbrev pub reads_of : JobWords → Option ReadWords
+reads_of (run r) = Some (run_reads r)
+reads_of (gen g) = None
+reads_of (check file) = None
+reads_of (firm f) = Some (firm_reads f)
+
+-- the name of a file that a job reads: the table's, or that of the capture of a port
+abbrev pub input_name : ReadWords → InputFile → List ℕ
+input_name r Table = r.table
+input_name r (Capture port) = slice_index_or r.inputs port []
+
+-- there is a port of this number
+abbrev pub IsInput : ReadWords → InputFile → Type 0
+IsInput r Table = Unit {0}
+IsInput r (Capture port) = port < length r.inputs
+
+-- a job that runs a switch: each but `check`
+abbrev pub RunsSwitch : JobWords → Type 0
+RunsSwitch (run r) = Unit {0}
+RunsSwitch (gen g) = Unit {0}
+RunsSwitch (check file) = ⊥
+RunsSwitch (firm f) = Unit {0}

@@ -1,0 +1,26 @@
+-- The parts of a line on standard error, and what giving a line leaves.
+use Rattle.std.specs.Prelude.{◌≡◌, ◌⊎◌, ℕ, List, ◌++◌, Option, Result, Ok, Err, option_map, decimal}
+use Rattle.outside.specs.Contents.{Contents, append_err}
+use Rattle.outside.specs.Faults.{Rose}
+use Rattle.pcap_records.specs.Texts.{hex_text}
+use Rattle.job_files.specs.declared.error_lines.Part.{Part}
+use Rattle.job_files.specs.declared.error_lines.Part.TheVariants.{Text, Number, Magic}
+
+-- the bytes of a part of a line
+abbrev pub part_text : Part → List ℕ
+part_text (Text text) = text.now
+part_text (Number n) = decimal n
+part_text (Magic n) = hex_text n
+
+-- calls gave standard error all of the text; or one of them failed, and a first part of it was given
+abbrev pub Gives : {T E : Type 0} → Result T E → List ℕ → Option Contents → Option Contents → Type 0
+Gives (Ok done) text old new = new ≡ option_map (append_err text) old
+Gives (Err failure) text old new = (part : List ℕ) × (rest : List ℕ) × (text ≡ part ++ rest) × (new ≡ option_map (append_err part) old)
+
+-- Standard error was given a first part of the text, and all else is as before. It was given all of it, or the count of failed calls of `err` rose.
+pub record GivesLine (text : List ℕ) (old new : Option Contents) (was now : ℕ) : Type 0 where
+  pub part : List ℕ
+  pub rest : List ℕ
+  pub splits : text ≡ part ++ rest
+  pub given : new ≡ option_map (append_err part) old
+  pub whole : (part ≡ text) ⊎ Rose was now

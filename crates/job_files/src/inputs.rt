@@ -1,0 +1,168 @@
+ghost use Rattle.std.specs.Prelude.{◌≡◌, ◌≤◌, ◌<◌, Some, length, vec_len, IfErr, IfOk, IfSome};
+ghost use Rattle.outside.specs.Faults.{NeverFall};
+ghost use Rattle.outside.specs.WholeFiles.{Fits};
+ghost use Rattle.switch_words.specs.Limits.{IsGenWithinLimits};
+ghost use Rattle.switch_words.specs.Reading.{run_words, firm_words};
+ghost use Rattle.switch_plan.specs.Made.{made_table, made_captures};
+ghost use Rattle.switch_plan.specs.Reading.{bytes_of_files};
+ghost use Rattle.job_files.specs.Inputs.{AreFilesRead, CapturesRead, EarlierFit};
+ghost use Rattle.job_files.specs.Jobs.{IsInput, input_name, run_reads, firm_reads};
+ghost use Rattle.job_files.specs.FileSteps.{AreOfSize, StopsReading, reads_words};
+
+use crate::ending::Ending;
+use outside::{Files, ReadFailure, read_buffer, read_whole};
+use rotating_pick::{MAX_FILE_BYTES, MAX_PORTS, OutOfMemory};
+use std::alloc::Global;
+use switch_plan::made_input;
+use switch_words::{FirmJob, GenJob, RunJob};
+
+/// A file that a job reads.
+#[derive(Clone, Copy, Debug, PartialEq, Eq)]
+pub enum InputFile {
+    Table,
+    /// The capture of this port.
+    Capture(u32),
+}
+
+/// The bytes of a job's table and of the capture of each port.
+#[derive(Drop)]
+pub struct Inputs {
+    pub table: Vec<u8>,
+    pub captures: Vec<Vec<u8>>,
+}
+
+/// The names of the files that a job reads.
+#[derive(Clone, Copy)]
+pub struct Reads<'a> {
+    pub table: &'a str,
+    /// That of the capture of each port, from port 0 on.
+    pub inputs: &'a [String],
+}
+
+/// The files of a `run` job.
+pub fn reads_of_run(job: &RunJob) -> Reads<'_>
+    ensures names { reads_words result ≡ run_reads (run_words job.now) }
+    ensures count { length result.inputs.now ≡ vec_len job.now.inputs }
+{
+    Reads {
+        table: job.table.as_str(),
+        inputs: job.inputs.as_slice(),
+    }
+}
+
+/// The files of a `firm` job.
+pub fn reads_of_firm(job: &FirmJob) -> Reads<'_>
+    ensures names { reads_words result ≡ firm_reads (firm_words job.now) }
+    ensures count { length result.inputs.now ≡ vec_len job.now.inputs }
+{
+    Reads {
+        table: job.table.as_str(),
+        inputs: job.inputs.as_slice(),
+    }
+}
+
+/// The name of the table, or of the capture of a port: empty where there is no such port.
+pub fn input_name<'a>(reads: &Reads<'a>, input: InputFile) -> &'a str
+    ensures { result.now ≡ input_name (reads_words reads.now) input }
+{
+    match input {
+        InputFile::Table => reads.table,
+        InputFile::Capture(port) => match reads.inputs.get(port as usize) {
+            Some(name) => name.as_str(),
+            None => "",
+        },
+    }
+}
+
+// All bytes of the table, or of the capture of a port.
+fn read_input<F: Files>(
+    alloc: Global,
+    reads: &Reads<'_>,
+    files: &mut F,
+    input: InputFile,
+    buf: &mut [u8],
+) -> Result<Vec<u8>, Ending>
+    requires room { 0 < length buf.old }
+    requires known { IsInput (reads_words reads.now) input }
+    requires earlier { IfSome (F.told files.old) (EarlierFit (reads_words reads.now) input) }
+    ensures told { F.told files.new ≡ F.told files.old }
+    ensures never_fall { NeverFall (F.faults files.old) (F.faults files.new) }
+    ensures bytes { IfOk result (λ v. IfSome (F.told files.old) (λ c. c.file (input_name (reads_words reads.now) input) ≡ Some v.items)) }
+    ensures fits { IfOk result (λ v. length v.items ≤ MAX_FILE_BYTES) }
+    ensures stops { IfErr result (StopsReading (reads_words reads.now) (F.told files.old) (F.faults files.old) (F.faults files.new)) }
+{
+    match read_whole(alloc, files, input_name(reads, input), MAX_FILE_BYTES, buf) {
+        Ok(bytes) => Ok(bytes),
+        Err(ReadFailure::Fault) => Err(Ending::ReadFault(input)),
+        Err(ReadFailure::TooLong) => Err(Ending::TooLong(input)),
+        Err(ReadFailure::OutOfMemory) => Err(Ending::OutOfMemory),
+    }
+}
+
+// All bytes of each capture, in order.
+fn read_captures<F: Files>(
+    alloc: Global,
+    reads: &Reads<'_>,
+    files: &mut F,
+    buf: &mut [u8],
+) -> Result<Vec<Vec<u8>>, Ending>
+    requires room { 0 < length buf.old }
+    requires ports { length reads.now.inputs.now ≤ MAX_PORTS }
+    requires table { IfSome (F.told files.old) (λ c. Fits c (reads_words reads.now).table) }
+    ensures told { F.told files.new ≡ F.told files.old }
+    ensures never_fall { NeverFall (F.faults files.old) (F.faults files.new) }
+    ensures read { IfOk result (λ v. CapturesRead (reads_words reads.now).inputs (F.told files.old) (bytes_of_files v)) }
+    ensures stops { IfErr result (StopsReading (reads_words reads.now) (F.told files.old) (F.faults files.old) (F.faults files.new)) }
+{
+    let mut captures = Vec::new(alloc);
+    for port in 0..reads.inputs.len() as u32 {
+        let capture = match read_input(alloc, reads, files, InputFile::Capture(port), buf) {
+            Ok(capture) => capture,
+            Err(ending) => return Err(ending),
+        };
+        if captures.push(capture).is_err() {
+            return Err(Ending::OutOfMemory);
+        }
+    }
+    Ok(captures)
+}
+
+/// All bytes of the files of these names: of the table and of each capture, in this order.
+pub fn read_inputs<F: Files>(
+    alloc: Global,
+    reads: &Reads<'_>,
+    files: &mut F,
+) -> Result<Inputs, Ending>
+    requires { length reads.now.inputs.now ≤ MAX_PORTS }
+    ensures told { F.told files.new ≡ F.told files.old }
+    ensures never_fall { NeverFall (F.faults files.old) (F.faults files.new) }
+    ensures read { IfOk result (λ i. AreFilesRead (reads_words reads.now) (F.told files.old) i.table.items (bytes_of_files i.captures)) }
+    ensures stops { IfErr result (StopsReading (reads_words reads.now) (F.told files.old) (F.faults files.old) (F.faults files.new)) }
+{
+    let Ok(mut piece) = read_buffer(alloc) else {
+        return Err(Ending::OutOfMemory);
+    };
+    let buf = piece.as_mut_slice();
+    let table = match read_input(alloc, reads, files, InputFile::Table, buf) {
+        Ok(table) => table,
+        Err(ending) => return Err(ending),
+    };
+    match read_captures(alloc, reads, files, buf) {
+        Ok(captures) => Ok(Inputs { table, captures }),
+        Err(ending) => Err(ending),
+    }
+}
+
+/// The input that a `gen` job makes.
+pub fn made_inputs(alloc: Global, job: &GenJob) -> Result<Inputs, OutOfMemory>
+    requires { IsGenWithinLimits job.now }
+    ensures table { IfOk result (λ i. i.table.items ≡ made_table job.now.ports) }
+    ensures captures { IfOk result (λ i. bytes_of_files i.captures ≡ made_captures job.now) }
+    ensures size { IfOk result (λ i. AreOfSize i.table.items (bytes_of_files i.captures)) }
+{
+    let made = made_input(alloc, job)?;
+    Ok(Inputs {
+        table: made.table,
+        captures: made.captures,
+    })
+}

@@ -1,0 +1,12 @@
+//! The files of a job and how a command ends: inputs read, outputs written, and the line on standard error.
+#![tactic(auto)]
+
+mod ending;
+mod error_lines;
+mod inputs;
+mod output_files;
+
+pub use ending::{Ending, Written};
+pub use error_lines::{print_line, print_memory, print_usage};
+pub use inputs::{InputFile, Inputs, Reads, input_name, made_inputs, read_inputs, reads_of_firm, reads_of_run};
+pub use output_files::{JobTexts, OutputFile, put_texts, run_files};

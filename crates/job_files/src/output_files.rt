@@ -1,0 +1,140 @@
+ghost use Rattle.std.specs.Prelude.{◌≡◌, ◌≤◌, ◌<◌, ◌+◌, ◌∷◌, ◌++◌, [], length, map, slice_index_or, string_bytes, take, IfErr, IfOk, OnOk};
+ghost use Rattle.std.specs.Option.{option_map};
+ghost use Rattle.outside.specs.Contents.{append_out};
+ghost use Rattle.outside.specs.Faults.{NeverFall};
+ghost use Rattle.outside.specs.WholeFiles.{Puts, StopsAt};
+ghost use Rattle.switch_plan.specs.Reading.{bytes_of_files};
+ghost use Rattle.job_files.specs.FileSteps.{StopsPutting, written_at};
+ghost use Rattle.job_files.specs.OutputFiles.{files_from, journal_files, journal_name, nameless, put_files, report_name, shown};
+
+use crate::ending::Written;
+use outside::{Failed, Files, put_out, put_whole};
+use rotating_pick::MAX_PORTS;
+use std::alloc::{AllocError, Global};
+
+/// A file that a job writes.
+#[derive(Drop)]
+pub struct OutputFile {
+    pub name: String,
+    pub bytes: Vec<u8>,
+}
+
+/// What a job writes.
+#[derive(Drop)]
+pub struct JobTexts {
+    /// How many of the files are captures of outputs. They are the first; then come the report's and, where it is
+    /// wanted, the journal's.
+    pub outputs: usize,
+    /// The files, in order.
+    pub files: Vec<OutputFile>,
+    /// What standard output is given after them.
+    pub summary: String,
+}
+
+// The files of the outputs, in order: `PREFIX.j.pcap` is that of output `j`.
+fn named(alloc: Global, prefix: &str, outputs: Vec<Vec<u8>>) -> Result<Vec<OutputFile>, AllocError>
+    ensures { IfOk result (λ v. map shown v.items ≡ files_from prefix.now 0 (bytes_of_files outputs)) }
+{
+    let mut files = Vec::new(alloc);
+    for bytes in outputs {
+        let port = files.len();
+        let name = format!(in alloc; "{prefix}.{port}.pcap")?;
+        files.push(OutputFile { name, bytes })?;
+    }
+    Ok(files)
+}
+
+// The file of the report, `PREFIX.report`.
+fn report_file(alloc: Global, prefix: &str, report: String) -> Result<OutputFile, AllocError>
+    ensures { IfOk result (λ file. shown file ≡ record { name = report_name prefix.now; bytes = string_bytes report }) }
+{
+    let name = format!(in alloc; "{prefix}.report")?;
+    Ok(OutputFile {
+        name,
+        bytes: report.into_bytes(),
+    })
+}
+
+// The file of the journal, `PREFIX.journal`.
+fn journal_file(alloc: Global, prefix: &str, bytes: Vec<u8>) -> Result<OutputFile, AllocError>
+    ensures { IfOk result (λ file. shown file ≡ record { name = journal_name prefix.now; bytes = bytes.items }) }
+{
+    let name = format!(in alloc; "{prefix}.journal")?;
+    Ok(OutputFile { name, bytes })
+}
+
+/// The files of a run, in order: the captures of the outputs, the report, and the journal where there is one.
+pub fn run_files(
+    alloc: Global,
+    prefix: &str,
+    captures: Vec<Vec<u8>>,
+    report: String,
+    journal: Option<Vec<u8>>,
+) -> Result<Vec<OutputFile>, AllocError>
+    ensures { IfOk result (λ files. map shown files.items ≡ files_from prefix.now 0 (bytes_of_files captures) ++ record { name = report_name prefix.now; bytes = string_bytes report } ∷ journal_files prefix.now (option_map (λ b. b.items) journal)) }
+{
+    let mut files = named(alloc, prefix, captures)?;
+    files.push(report_file(alloc, prefix, report)?)?;
+    match journal {
+        Some(bytes) => {
+            files.push(journal_file(alloc, prefix, bytes)?)?;
+            Ok(files)
+        }
+        None => Ok(files),
+    }
+}
+
+// Begins the file and gives it all its bytes.
+fn put_file<F: Files>(files: &mut F, file: &OutputFile) -> Result<(), Failed>
+    ensures told { Puts result (shown file.now) (F.faults files.old) (F.faults files.new) (F.told files.old) (F.told files.new) }
+    ensures never_fall { NeverFall (F.faults files.old) (F.faults files.new) }
+{
+    put_whole(files, file.name.as_str(), file.bytes.as_slice())
+}
+
+// Begins and writes each file, in order; else the place of the first of which a call failed.
+fn put_all<F: Files>(files: &mut F, output_files: &[OutputFile]) -> Result<(), u32>
+    requires { length output_files.now ≤ MAX_PORTS + 2 }
+    ensures ok { OnOk result (F.told files.new ≡ option_map (put_files (map shown output_files.now)) (F.told files.old)) }
+    ensures place { IfErr result (λ place. place < length output_files.now) }
+    ensures err { IfErr result (λ place. StopsAt (slice_index_or (map shown output_files.now) place nameless) (F.faults files.old) (F.faults files.new) (option_map (put_files (take place (map shown output_files.now))) (F.told files.old)) (F.told files.new)) }
+    ensures never_fall { NeverFall (F.faults files.old) (F.faults files.new) }
+{
+    for (place, file) in output_files.iter().enumerate() {
+        if put_file(files, file).is_err() {
+            return Err(place as u32);
+        }
+    }
+    Ok(())
+}
+
+// What is written at a place, after so many outputs.
+fn written_at(place: u32, outputs: usize) -> Written
+    ensures { result ≡ written_at place outputs }
+{
+    let place_among_files = place as usize;
+    if place_among_files < outputs {
+        Written::Output(place)
+    } else if place_among_files == outputs {
+        Written::Report
+    } else {
+        Written::Journal
+    }
+}
+
+/// Writes the files, one after the other, and then gives the summary to standard output; else what was being
+/// written when a call failed. It takes no memory.
+pub fn put_texts<F: Files>(files: &mut F, texts: &JobTexts) -> Result<(), Written>
+    requires { length texts.now.files.items ≤ MAX_PORTS + 2 }
+    ensures ok { OnOk result (F.told files.new ≡ option_map (λ c. append_out (string_bytes texts.now.summary) (put_files (map shown texts.now.files.items) c)) (F.told files.old)) }
+    ensures err { IfErr result (λ written. StopsPutting texts.now.outputs (map shown texts.now.files.items) (string_bytes texts.now.summary) written (F.told files.old) (F.faults files.old) (F.faults files.new) (F.told files.new)) }
+    ensures never_fall { NeverFall (F.faults files.old) (F.faults files.new) }
+{
+    if let Err(place) = put_all(files, texts.files.as_slice()) {
+        return Err(written_at(place, texts.outputs));
+    }
+    match put_out(files, texts.summary.as_str().as_bytes()) {
+        Ok(()) => Ok(()),
+        Err(_) => Err(Written::StandardOutput),
+    }
+}
