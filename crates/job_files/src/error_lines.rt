@@ -233,7 +233,7 @@ fn print_refusal<F: Files>(files: &mut F, fault: PlanFault)
     }
 }
 
-/// Prints the usage line.
+/// Gives standard error the usage line. Where a call fails, the rest of the line is left out.
 pub fn print_usage<F: Files>(files: &mut F)
     ensures line { GivesLine usage_line (F.told files.old) (F.told files.new) (F.faults files.old ToErr) (F.faults files.new ToErr) }
     ensures never_fall { NeverFall (F.faults files.old) (F.faults files.new) }
@@ -241,7 +241,7 @@ pub fn print_usage<F: Files>(files: &mut F)
     give_parts(files, &[Text(USAGE)]);
 }
 
-/// Prints the line where memory runs out.
+/// Gives standard error the line for want of memory. Where a call fails, the rest of the line is left out.
 pub fn print_memory<F: Files>(files: &mut F)
     ensures line { GivesLine memory_line (F.told files.old) (F.told files.new) (F.faults files.old ToErr) (F.faults files.new ToErr) }
     ensures never_fall { NeverFall (F.faults files.old) (F.faults files.new) }
@@ -346,7 +346,8 @@ fn print_checked<F: Files>(files: &mut F, job: &Job, ending: CheckEnding)
     }
 }
 
-/// Prints the line of an ending. Where a call fails, the rest of the line is left out.
+/// Gives standard error the line of an ending, none where all is written. Where a call fails, the rest of the line is
+/// left out.
 pub fn print_line<F: Files>(files: &mut F, job: &Job, ending: Ending)
     ensures line { GivesLine (line_of (job_words job.now) ending) (F.told files.old) (F.told files.new) (F.faults files.old ToErr) (F.faults files.new ToErr) }
     ensures never_fall { NeverFall (F.faults files.old) (F.faults files.new) }

@@ -39,7 +39,7 @@ pub struct Reads<'a> {
     pub inputs: &'a [String],
 }
 
-/// The files of a `run` job.
+/// The names of the files that a `run` job reads.
 pub fn reads_of_run(job: &RunJob) -> Reads<'_>
     ensures names { reads_words result ≡ run_reads (run_words job.now) }
     ensures count { length result.inputs.now ≡ vec_len job.now.inputs }
@@ -50,7 +50,7 @@ pub fn reads_of_run(job: &RunJob) -> Reads<'_>
     }
 }
 
-/// The files of a `firm` job.
+/// The names of the files that a `firm` job reads.
 pub fn reads_of_firm(job: &FirmJob) -> Reads<'_>
     ensures names { reads_words result ≡ firm_reads (firm_words job.now) }
     ensures count { length result.inputs.now ≡ vec_len job.now.inputs }
@@ -127,7 +127,8 @@ fn read_captures<F: Files>(
     Ok(captures)
 }
 
-/// All bytes of the files of these names: of the table and of each capture, in this order.
+/// All bytes of the files of these names: of the table and of each capture, in this order. The error is how the job
+/// ends: with the first file of which a read was refused or that is too long, or with want of memory.
 pub fn read_inputs<F: Files>(
     alloc: Global,
     reads: &Reads<'_>,
@@ -153,7 +154,7 @@ pub fn read_inputs<F: Files>(
     }
 }
 
-/// The input that a `gen` job makes.
+/// The input that a `gen` job makes. The only error is want of memory.
 pub fn made_inputs(alloc: Global, job: &GenJob) -> Result<Inputs, OutOfMemory>
     requires { IsGenWithinLimits job.now }
     ensures table { IfOk result (λ i. i.table.items ≡ made_table job.now.ports) }

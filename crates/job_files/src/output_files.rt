@@ -63,7 +63,8 @@ fn journal_file(alloc: Global, prefix: &str, bytes: Vec<u8>) -> Result<OutputFil
     Ok(OutputFile { name, bytes })
 }
 
-/// The files of a run, in order: the captures of the outputs, the report, and the journal where there is one.
+/// The files of a run, in order: the captures of the outputs, `PREFIX.j.pcap`, the report, `PREFIX.report`, and the
+/// journal where there is one, `PREFIX.journal`. The only error is want of memory.
 pub fn run_files(
     alloc: Global,
     prefix: &str,
