@@ -97,6 +97,10 @@ pub record IsOut (plan : Plan) (takings : List Taken) (posted : Bool) (out : Car
 abbrev pub AreFull : Flows → Type 0
 AreFull all = (place : ℕ) → length (slice_index_or all.flows place (fresh 0)).bytes ≡ PAYLOAD_BYTES * (slice_index_or all.flows place (fresh 0)).next
 
+-- a list of this length has room for so many
+abbrev pub IsRoom : ℕ → ℕ → ℕ → Type 0
+IsRoom len room capacity = (len ≤ room) × (room ≤ capacity)
+
 -- what a card keeps after a cell
 abbrev pub received_with : Received → Cell → Received
 received_with r cell = record {

@@ -1,4 +1,4 @@
-ghost use Rattle.std.specs.Prelude.{◌≡◌, ℕ, ◌+◌, ◌<◌, ◌≤◌, ◌↔◌, ◌*◌, ◌^◌, ◌++◌, [], map, take, length, Option, Some, None, IfOk, IsTrue, All, true, false, if◌then◌else◌};
+ghost use Rattle.std.specs.Prelude.{◌≡◌, ◌+◌, ◌<◌, ◌≤◌, ◌↔◌, ◌*◌, ◌^◌, ◌++◌, [], map, length, vec_len, vec_capacity, Some, None, IfOk, IsTrue, All, true, if◌then◌else◌};
 ghost use Rattle.reassembly.specs.Flows.{Fits, fresh, flow_of, bytes_with, after_cell};
 ghost use Rattle.card_core.specs.Cards.{MayReceive, MayReceiveAny, received_with, received_any};
 
@@ -10,26 +10,27 @@ use rotating_pick::{MAX_PORTS, OutOfMemory};
 use std::alloc::Global;
 use std::marker::Model;
 
-/// What a line card keeps of what comes to its output. `body` and `lens` have room for all that comes.
+/// What a line card keeps of what comes to its output. `body` and `lens` have room for all that comes: for
+/// `body_room` bytes, and for `packet_room` lengths.
 #[derive(Drop)]
 pub(crate) struct Egress {
     flows: Reassembly,
     body: Vec<u8>,
-    filled: usize,
+    body_room: usize,
     lens: Vec<u32>,
-    packets: usize,
+    packet_room: usize,
     cells: u32,
 }
 
 impl Model for Egress {
-    ghost use Rattle.std.specs.Prelude.{◌≤◌, length, take};
-    ghost use Rattle.card_core.specs.Cards.{Received, AreFull};
+    ghost use Rattle.std.specs.Prelude.{vec_capacity, vec_len};
+    ghost use Rattle.card_core.specs.Cards.{Received, AreFull, IsRoom};
 
     ghost Value = { Received };
 
-    ghost view = { λ e. record { flows = e.flows; body = take e.filled e.body.items; lens = take e.packets e.lens.items; cells = e.cells; body_room = length e.body.items; packet_room = length e.lens.items } };
+    ghost view = { λ e. record { flows = e.flows; body = e.body.items; lens = e.lens.items; cells = e.cells; body_room = e.body_room; packet_room = e.packet_room } };
 
-    ghost invariant = { λ e. (e.filled ≤ length e.body.items) × (e.packets ≤ length e.lens.items) × AreFull e.flows };
+    ghost invariant = { λ e. IsRoom (vec_len e.body) e.body_room (vec_capacity e.body) × IsRoom (vec_len e.lens) e.packet_room (vec_capacity e.lens) × AreFull e.flows };
 }
 
 impl Egress {
@@ -50,10 +51,10 @@ impl Egress {
     {
         Ok(Egress {
             flows: Reassembly::make(alloc, n, sizes)?,
-            body: vec![in alloc; 0; body_room as usize]?,
-            filled: 0,
-            lens: vec![in alloc; 0; packet_room as usize]?,
-            packets: 0,
+            body: Vec::with_capacity(alloc, body_room as usize)?,
+            body_room: body_room as usize,
+            lens: Vec::with_capacity(alloc, packet_room as usize)?,
+            packet_room: packet_room as usize,
             cells: 0,
         })
     }
@@ -74,10 +75,11 @@ impl Egress {
         ensures { IsTrue result ↔ ((length self.now.body + length (bytes_with (flow_of self.now.flows cell.now) cell.now) ≤ self.now.body_room) × (length self.now.lens < self.now.packet_room)) }
     {
         let len = PAYLOAD_BYTES * usize::from(cell.number) + usize::from(cell.used);
-        len <= self.body.len() - self.filled && self.packets < self.lens.len()
+        len <= self.body_room - self.body.len() && self.lens.len() < self.packet_room
     }
 
     /// Puts the cell, if any. With a last one its message goes after those that are whole.
+    #[tactic(auto, using(crate::proofs::Collecting::full_after))]
     pub(crate) fn take(&mut self, cell: &Option<Cell>)
         requires may { MayReceiveAny self.old cell.now }
         requires few { self.old.cells < MAX_SLOTS }
@@ -87,10 +89,8 @@ impl Egress {
             return;
         };
         self.cells += 1;
-        if let Some(len) = put(&mut self.flows, cell, &mut self.body, self.filled) {
-            self.filled += len;
-            self.lens[self.packets] = len as u32;
-            self.packets += 1;
+        if let Some(len) = put(&mut self.flows, cell, &mut self.body) {
+            self.lens.push_reserved(len as u32);
         }
     }
 }
@@ -108,18 +108,16 @@ impl Egress {
     {
         let Egress {
             flows: _,
-            mut body,
-            filled,
-            mut lens,
-            packets,
+            body,
+            body_room: _,
+            lens,
+            packet_room: _,
             cells,
         } = self;
-        body.truncate(filled);
-        lens.truncate(packets);
         CardOut {
+            packets: lens.len() as u32,
             body,
             lens,
-            packets: packets as u32,
             cells,
             admitted,
             dropped,
@@ -127,18 +125,19 @@ impl Egress {
     }
 }
 
-// Puts the cell. With a last one its message is copied to the bytes from a place on, and the answer is its
-// length.
-fn put(flows: &mut Reassembly, cell: &Cell, body: &mut [u8], from: usize) -> Option<usize>
+// Puts the cell. With a last one its message is copied behind the bytes, which have room for it, and the
+// answer is its length.
+fn put(flows: &mut Reassembly, cell: &Cell, body: &mut Vec<u8>) -> Option<usize>
     requires fits { Fits flows.old cell.now }
-    requires room { cell.now.last ≡ true → from + length (bytes_with (flow_of flows.old cell.now) cell.now) ≤ length body.old }
+    requires room { cell.now.last ≡ true → vec_len body.old + length (bytes_with (flow_of flows.old cell.now) cell.now) ≤ vec_capacity body.old }
     ensures flows { flows.new ≡ after_cell flows.old cell.now }
     ensures len { result ≡ (if cell.now.last then Some (length (bytes_with (flow_of flows.old cell.now) cell.now)) else None) }
-    ensures whole { cell.now.last ≡ true → take (from + length (bytes_with (flow_of flows.old cell.now) cell.now)) body.new ≡ take from body.old ++ bytes_with (flow_of flows.old cell.now) cell.now }
-    ensures stays { cell.now.last ≡ false → body.new ≡ body.old }
+    ensures body { body.new.items ≡ (if cell.now.last then body.old.items ++ bytes_with (flow_of flows.old cell.now) cell.now else body.old.items) }
+    ensures room { vec_capacity body.old ≤ vec_capacity body.new }
 {
     let done = flows.put(cell)?;
-    let len = done.message.len();
-    body[from..from + len].copy_from_slice(done.message);
-    Some(len)
+    let Ok(()) = body.extend_from_slice(done.message) else {
+        unreachable!()
+    };
+    Some(done.message.len())
 }
