@@ -5,3 +5,5 @@ pub mod Holding
 pub mod OneDecision
 pub mod Computed
 pub mod PointersMoved
+pub mod OneRoundSlots
+pub mod OneRoundFamily

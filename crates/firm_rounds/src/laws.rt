@@ -3,6 +3,7 @@
 
 ghost use Rattle.std.specs.Prelude.{◌≡◌, ℕ, ◌+◌, ◌*◌, ◌%◌, ◌<◌, ◌≤◌, List, Option, All, Any, length, map, take, drop};
 ghost use Rattle.rotating_pick.specs.declared.kinds.Kind.TheVariants.{Uni};
+ghost use Rattle.rotating_pick.specs.declared.limits.TheConstants.{MAX_PORTS};
 ghost use Rattle.slot_match.specs.declared.rows.Row.{Row};
 ghost use Rattle.slot_match.specs.declared.matching.Fed.{Fed};
 ghost use Rattle.slot_match.specs.Rows.{Names, row_of, HasHead, AreWithin};
@@ -15,6 +16,7 @@ ghost use Rattle.service_bound.specs.Windows.{IsWindowBy, InFirst, AreKept, IsCl
 ghost use Rattle.service_bound.specs.Waits.{noted_of, longest_wait};
 ghost use Rattle.firm_rounds.specs.Slots.{AreMovedByFirm, IsFirmSlot};
 ghost use Rattle.firm_rounds.specs.Decisions.{firm_decision};
+ghost use Rattle.firm_rounds.specs.Latest.{IsServedLastByFirm};
 
 /// In a window of `n * n` slots without multicast at the level, a unicast queue that is posted in the first
 /// slot is served in one of them, whatever the number of rounds.
@@ -22,6 +24,12 @@ pub fn firm_served()
     ensures { (n rounds t level i j : ℕ) (places : Places) (slots : List DecidedSlot) → 0 < rounds → i < n → IsWindowBy AreMovedByFirm n rounds t level places slots
         → All (λ slot. IsWithoutMulticast n level slot.rows) slots → InFirst (λ rows. Names (row_of rows i) level Uni j) slots
         → n * n ≤ length slots → Any (λ slot. Serves slot.decision.matched i j level Uni) slots }
+{}
+
+/// That many are needed where each slot has one round, for every number of ports: in some window of `n * n` slots, the
+/// queue from input 0 to output 0 at level 0 is posted in every slot and served in the last one alone.
+pub fn firm_is_reached()
+    ensures { (n t : ℕ) → 0 < n → n ≤ MAX_PORTS → (places : Places) × (slots : List DecidedSlot) × IsServedLastByFirm n 1 t 0 0 0 places slots × (length slots ≡ n * n) }
 {}
 
 /// In a window without multicast at the level, no queue of the level waits for `n * n` slots.
