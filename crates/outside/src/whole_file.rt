@@ -1,4 +1,4 @@
-ghost use Rattle.std.specs.Prelude.{◌≡◌, ◌≤◌, ◌<◌, [], Some, true, length, IfOk, OnOk, OnErr, IfSome, IsErrOf};
+ghost use Rattle.std.specs.Prelude.{◌≡◌, ◌≤◌, ◌<◌, [], Some, true, length, All, IfOk, OnOk, OnErr, IfSome, IsErrOf};
 ghost use Rattle.outside.specs.Faults.{ReadOf, ToOut, NeverFall, Rose};
 ghost use Rattle.outside.specs.WholeFiles.{Appends, GivesOut, IsLongerThan, Puts};
 
@@ -21,14 +21,16 @@ pub enum ReadFailure {
 
 // `len` zeros. A function of its own, so that the prover does not unfold a list of 65,536 of them.
 fn zeros(alloc: Global, len: usize) -> Result<Vec<u8>, AllocError>
-    ensures { IfOk result (λ v. length v.items ≡ len) }
+    ensures length { IfOk result (λ v. length v.items ≡ len) }
+    ensures zeros { IfOk result (λ v. All (λ byte. byte ≡ 0) v.items) }
 {
     vec![in alloc; 0u8; len]
 }
 
-/// A buffer of 65,536 bytes to read files through, as by [`read_whole`]. Its one error is want of memory.
+/// A buffer of 65,536 zeros to read files through, as by [`read_whole`]. Its one error is want of memory.
 pub fn read_buffer(alloc: Global) -> Result<Vec<u8>, AllocError>
-    ensures { IfOk result (λ v. length v.items ≡ 65536) }
+    ensures length { IfOk result (λ v. length v.items ≡ 65536) }
+    ensures zeros { IfOk result (λ v. All (λ byte. byte ≡ 0) v.items) }
 {
     zeros(alloc, PIECE)
 }
