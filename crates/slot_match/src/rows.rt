@@ -1,7 +1,7 @@
 ghost use Rattle.std.specs.Prelude.{◌≡◌, ℕ, ◌<◌, ◌↔◌, ◌⊎◌, Option, IsTrue, slice_index};
 ghost use Rattle.rotating_pick.specs.PortSets.{Has};
 ghost use Rattle.rotating_pick.specs.declared.kinds.Kind.{Kind};
-ghost use Rattle.slot_match.specs.Rows.{Names, IsEmptyRow, IsWithin, IsOfLevels, AreWithin, empty_row};
+ghost use Rattle.slot_match.specs.Rows.{Names, IsEmptyRow, IsWithin, IsOfLevels, AreWithin, empty_row, sets_of};
 ghost use Rattle.slot_match.specs.Keeping.{KeepsRest, KeepsLevel, Gives};
 
 use crate::matching::Served;
@@ -28,6 +28,17 @@ impl Row {
         Row {
             uni: [0; LEVEL_COUNT],
             multi: [0; LEVEL_COUNT],
+        }
+    }
+
+    /// The outputs that the row names at the level, 0 to 3, with the kind.
+    pub fn outputs(&self, level: u8, kind: Kind) -> Ports
+        requires { level < LEVELS }
+        ensures { result ≡ slice_index (sets_of self.now kind) level }
+    {
+        match kind {
+            Kind::Uni => self.uni[usize::from(level)],
+            Kind::Multi => self.multi[usize::from(level)],
         }
     }
 
@@ -145,6 +156,9 @@ mod tests {
             multi: [0, 0, 0, 0b110],
         };
         assert_eq!(rt; row.named(), 0b111);
+        assert_eq!(rt; row.outputs(1, Kind::Uni), 0b001);
+        assert_eq!(rt; row.outputs(1, Kind::Multi), 0);
+        assert_eq!(rt; row.outputs(3, Kind::Multi), 0b110);
         assert!(rt; !row.is_empty());
         assert!(rt; row.within(3));
         assert!(rt; !row.within(2));
