@@ -1,16 +1,14 @@
 ghost use Rattle.std.specs.Prelude.{◌≡◌, ◌<◌, ◌≤◌, ◌+◌, ◌*◌, ℕ, true, false, List, length};
 ghost use Rattle.card_worker.specs.declared.hands.Hand.{Hand};
-ghost use Rattle.slot_histories.specs.declared.events.Event.TheVariants.{Decide, Take};
 ghost use Rattle.slot_histories.specs.Events.{takes_of, posts_of, posted};
-ghost use Rattle.slot_histories.specs.Slots.{taken_at, is_done_before};
-ghost use Rattle.slot_histories.specs.Legal.{Allows, MayTake, MayDecide, IsLegal};
+ghost use Rattle.slot_histories.specs.Slots.{is_done_before};
+ghost use Rattle.slot_histories.specs.Legal.{MayTake, MayDecide};
 ghost use Rattle.card_worker.specs.Trying.{one_if};
-ghost use Rattle.card_worker.specs.Alone.{with_event, plans_of, IsHandOf, AreHandsOf, AfterAct, AfterRound, IsOver};
+ghost use Rattle.card_worker.specs.Alone.{plans_of, IsHandOf, AreHandsOf, AfterAct, AfterRound, IsOver};
 
 use crate::hands::{Hand, Hands};
-use crate::tries::{give, next_post};
-use crossbar::Taken;
-use slot_board::{Answer, BoardState, Event};
+use crate::tries::{forget, give, next_post};
+use slot_board::BoardState;
 
 /// Makes events of the cards and decisions until no more may come. Then each card has taken all that it
 /// posted, and is done or has used all slots. The cards keep their plans. Answers how many events came.
@@ -85,10 +83,10 @@ fn decide(state: &mut BoardState) -> bool
     ensures more { result ≡ true → length state.old.events < length state.new.events }
     ensures none { result ≡ false → (state.new ≡ state.old) × (MayDecide state.old.setup state.old.events → ⊥) }
 {
-    if !state.may(&Event::Decide) {
+    if !state.may_settle() {
         return false;
     }
-    state.step(Event::Decide);
+    state.settle();
     true
 }
 
@@ -103,7 +101,7 @@ fn act(hand: &mut Hand, card: u32, state: &mut BoardState) -> bool
     state.legal();
     let book = state.book(card);
     if book.posted {
-        if !state.may(&Event::Take { card }) {
+        if !state.may_draw(card) {
             return false;
         }
         take_alone(hand, card, state);
@@ -128,8 +126,8 @@ fn post_alone(hand: &mut Hand, card: u32, state: &mut BoardState)
 {
     state.legal();
     let post = next_post(hand);
-    hand.kept = None;
-    state.step(Event::Post { card, post });
+    forget(&mut hand.kept);
+    state.put(card, &post);
 }
 
 fn take_alone(hand: &mut Hand, card: u32, state: &mut BoardState)
@@ -140,21 +138,7 @@ fn take_alone(hand: &mut Hand, card: u32, state: &mut BoardState)
     ensures act { AfterAct card state.old state.new true }
 {
     state.legal();
-    let taken = draw(state, card);
-    give(&mut hand.card, taken);
-}
-
-// The card's part of its slot.
-fn draw(state: &mut BoardState, card: u32) -> Taken
-    requires { Allows state.old.setup state.old.events (Take card) }
-    ensures state { state.new ≡ with_event state.old (Take card) }
-    ensures legal { IsLegal state.new.setup state.new.events }
-    ensures taken { result ≡ taken_at state.old.setup (posted state.old.events) card (takes_of card state.old.events) }
-{
-    let answer = state.step(Event::Take { card });
+    let taken = state.draw(card);
     state.legal();
-    match answer {
-        Answer::Took(taken) => taken,
-        _ => unreachable!(),
-    }
+    give(&mut hand.card, &taken);
 }

@@ -1,4 +1,4 @@
-ghost use Rattle.std.specs.Prelude.{◌≡◌, true, length};
+ghost use Rattle.std.specs.Prelude.{◌≡◌, true, length, None};
 ghost use Rattle.slot_histories.specs.Columns.{Column};
 ghost use Rattle.card_core.specs.Posts.{IsServable};
 ghost use Rattle.slot_board.specs.Seats.{IsPosted, is_due};
@@ -35,7 +35,7 @@ fn post(member: &mut Member, board: &Board) -> bool
     let post = next_post(&mut member.hand);
     match board.try_post(&mut member.seat, post) {
         Ok(()) => {
-            member.hand.kept = None;
+            forget(&mut member.hand.kept);
             member.seat.legal();
             true
         }
@@ -59,6 +59,15 @@ pub(crate) fn next_post(hand: &mut Hand) -> Post
     }
 }
 
+// Lets the kept post go. Most posts were not kept, and are not written over.
+pub(crate) fn forget(kept: &mut Option<Post>)
+    ensures { kept.new ≡ None }
+{
+    if kept.is_some() {
+        *kept = None;
+    }
+}
+
 // A try to take.
 fn take(member: &mut Member, board: &Board) -> bool
     requires sound { IsSound board.now member.old }
@@ -69,7 +78,7 @@ fn take(member: &mut Member, board: &Board) -> bool
     match board.try_take(&mut member.seat) {
         Ok(taken) => {
             member.seat.legal();
-            give(&mut member.hand.card, taken);
+            give(&mut member.hand.card, &taken);
             true
         }
         Err(_) => {
@@ -80,18 +89,18 @@ fn take(member: &mut Member, board: &Board) -> bool
 }
 
 // Gives the card what its slot gave, without its cell where that may not be put.
-pub(crate) fn give(card: &mut Card, taken: Taken)
+pub(crate) fn give(card: &mut Card, taken: &Taken)
     requires posted { card.old.sends.posted ≡ true }
-    requires slot { taken.slot ≡ card.old.sends.slot }
-    requires served { IsServable card.old.sends.row taken.served }
-    ensures { AfterGiving taken card.old card.new }
+    requires slot { taken.now.slot ≡ card.old.sends.slot }
+    requires served { IsServable card.old.sends.row taken.now.served }
+    ensures { AfterGiving taken.now card.old card.new }
 {
-    if card.may_take(&taken) {
-        card.take(&taken);
+    if card.may_take(taken) {
+        card.take(taken);
     } else {
         let bare = Taken {
             cell: None,
-            ..taken
+            ..*taken
         };
         card.take(&bare);
     }

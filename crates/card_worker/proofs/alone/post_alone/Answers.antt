@@ -13,8 +13,8 @@ next_post-post-requires c =
     let b = c.args.state.now in
     can_post b.setup c.args.card b.events c.legal.ensures.setup c.legal.ensures.legal c.requires.card c.args.hand.now c.requires.hand c.requires.free c.requires.going c.requires.room
 
-pub step-requires : goal.step-requires
-step-requires c =
+pub put-requires : goal.put-requires
+put-requires c =
     let b = c.args.state.now in
     let column = column_of b.setup c.args.card b.events in
     let same = posts_same b.setup c.args.card b.events c.legal.ensures.setup c.legal.ensures.legal c.requires.card c.args.hand.now c.requires.hand c.requires.free in
@@ -27,10 +27,12 @@ returns-clause-hand c =
     let column = column_of b.setup c.args.card b.events in
     let same = posts_same b.setup c.args.card b.events c.legal.ensures.setup c.legal.ensures.legal c.requires.card c.args.hand.now c.requires.hand c.requires.free in
     let ahead : IsAhead c.next_post-post.result c.next_post-post.new.hand.card column = c.next_post-post.ensures.ahead column c.requires.hand.step same in
-    subst (λ (board : StateValue). IsHandOf (record { card = c.next_post-post.new.hand.card; kept = None }) board.setup c.args.card board.events) (sym c.step.ensures.board)
-    (hand-posted b.setup c.args.card b.events c.legal.ensures.setup c.legal.ensures.legal c.requires.card c.args.hand.now c.requires.hand c.requires.free c.next_post-post.new.hand.card c.next_post-post.result c.next_post-post.ensures.plan ahead)
+    let card = c.next_post-post.new.hand.card in
+    subst (λ kept. IsHandOf (record { card = card; kept = kept }) c.put.new.self.setup c.args.card c.put.new.self.events) (sym c.forget.ensures)
+    (subst (λ (board : StateValue). IsHandOf (record { card = card; kept = None }) board.setup c.args.card board.events) (sym c.put.ensures)
+    (hand-posted b.setup c.args.card b.events c.legal.ensures.setup c.legal.ensures.legal c.requires.card c.args.hand.now c.requires.hand c.requires.free c.next_post-post.new.hand.card c.next_post-post.result c.next_post-post.ensures.plan ahead))
 
 pub returns-clause-act : goal.returns-clause-act
 returns-clause-act c =
     let b = c.args.state.now in
-    subst (λ (board : StateValue). AfterAct c.args.card b board true) (sym c.step.ensures.board) (AfterAct-post c.args.card b c.next_post-post.result)
+    subst (λ (board : StateValue). AfterAct c.args.card b board true) (sym c.put.ensures) (AfterAct-post c.args.card b c.next_post-post.result)

@@ -18,16 +18,16 @@ give-requires-clause-slot c =
 pub give-requires-clause-served : goal.give-requires-clause-served
 give-requires-clause-served c =
     let b = c.args.state.now in
-    let next = subst (λ (board : StateValue). IsLegal board.setup board.events) c.draw-taken.ensures.state c.draw-taken.ensures.legal in
+    let next = subst (λ (board : StateValue). IsLegal board.setup board.events) c.draw-taken.ensures.board c.legal-2.ensures.legal in
     servable b.setup c.args.card b.events c.legal.ensures.setup c.legal.ensures.legal c.requires.may.card_in c.args.hand.now c.requires.hand c.requires.may.posted c.draw-taken.result c.draw-taken.ensures.taken next
 
 pub returns-clause-hand : goal.returns-clause-hand
 returns-clause-hand c =
     let b = c.args.state.now in
-    subst (λ (board : StateValue). IsHandOf (record { card = c.give.new.card; kept = c.args.hand.now.kept }) board.setup c.args.card board.events) (sym c.draw-taken.ensures.state)
+    subst (λ (board : StateValue). IsHandOf (record { card = c.give.new.card; kept = c.args.hand.now.kept }) board.setup c.args.card board.events) (sym c.draw-taken.ensures.board)
     (hand-taken b.setup c.args.card b.events c.legal.ensures.setup c.legal.ensures.legal c.requires.may.card_in c.args.hand.now c.requires.hand c.requires.may.posted c.give.new.card c.draw-taken.result c.draw-taken.ensures.taken c.give.ensures)
 
 pub returns-clause-act : goal.returns-clause-act
 returns-clause-act c =
     let b = c.args.state.now in
-    subst (λ (board : StateValue). AfterAct c.args.card b board true) (sym c.draw-taken.ensures.state) (AfterAct-take c.args.card b)
+    subst (λ (board : StateValue). AfterAct c.args.card b board true) (sym c.draw-taken.ensures.board) (AfterAct-take c.args.card b)

@@ -6,13 +6,13 @@ use Rattle.card_worker.proofs.tries.give.Goals as goal
 
 pub returns-then-may_take : goal.returns-then-may_take
 returns-then-may_take c =
-    let may : MayTake c.args.card.now c.args.taken = c.if-may_take.ensures.0 refl in
-    record { given = c.args.taken; fitted = inl (may.cell, refl); plan = c.take.ensures.plan; after = c.take.ensures.after }
+    let may : MayTake c.args.card.now c.args.taken.now = c.if-may_take.ensures.0 refl in
+    record { given = c.args.taken.now; fitted = inl (may.cell, refl); plan = c.take.ensures.plan; after = c.take.ensures.after }
 
 pub returns-else-may_take : goal.returns-else-may_take
 returns-else-may_take c =
     record {
-      given = record { slot = c.args.taken.slot; served = c.args.taken.served; cell = None; done = c.args.taken.done };
+      given = record { slot = c.args.taken.now.slot; served = c.args.taken.now.served; cell = None; done = c.args.taken.now.done };
       fitted = inr (λ fits. both_ways false refl (c.if-may_take.ensures.1 (record { posted = c.requires.posted; slot = c.requires.slot; served = c.requires.served; cell = fits })), refl);
       plan = c.take-else-may_take.ensures.plan;
       after = c.take-else-may_take.ensures.after;

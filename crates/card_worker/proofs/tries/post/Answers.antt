@@ -1,4 +1,4 @@
-use Rattle.std.proofs.Common.{◌∙◌, ◌<◌, refl, ap, sym, subst}
+use Rattle.std.proofs.Common.{◌∙◌, ◌<◌, ap, sym, subst}
 use Rattle.std.specs.Prelude.{Some}
 use Rattle.turn_lock.specs.Seats.{TurnValue}
 use Rattle.slot_histories.specs.declared.events.Event.{Event}
@@ -26,7 +26,7 @@ returns-in-Ok c =
     let column = column_at old.seat in
     let free = c.requires.free in
     let ahead : IsAhead c.next_post-post.result c.next_post-post.new.hand.card column = c.next_post-post.ensures.ahead column c.requires.sound.agrees.agrees.step (posts_same board old c.requires.sound free) in
-    posted_next board old c.requires.sound _ c.try_post.new.seat c.in-Ok.ensures.same c.legal-in-Ok.ensures c.next_post-post.ensures.plan free c.next_post-post.result refl ahead c.in-Ok.ensures.after c.in-Ok.ensures.column
+    posted_next board old c.requires.sound _ c.try_post.new.seat c.in-Ok.ensures.same c.legal-in-Ok.ensures c.next_post-post.ensures.plan free c.next_post-post.result c.forget.ensures ahead c.in-Ok.ensures.after c.in-Ok.ensures.column
 
 pub try_post-requires-clause-not_done : goal.try_post-requires-clause-not_done
 try_post-requires-clause-not_done c = (due_free c.args.board.now c.args.member.now c.requires.sound c.requires.free c.requires.due).0
