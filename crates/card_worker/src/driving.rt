@@ -1,14 +1,15 @@
-ghost use Rattle.std.specs.Prelude.{◌≡◌, ◌<◌, ◌≤◌, ◌+◌, ◌-◌, ◌^◌, ◌&&◌, not, nat_lt, ℕ, true, false, min, Some, length, slice_get};
-ghost use Rattle.slot_board.specs.Seats.{setup_at, slot_of, is_done, is_due};
+ghost use Rattle.std.specs.Prelude.{◌≡◌, ◌<◌, ◌≤◌, ◌+◌, ◌-◌, ◌^◌, ℕ, true, false, min, Some, length, slice_get};
+ghost use Rattle.slot_board.specs.Seats.{is_due};
 ghost use Rattle.slot_board.specs.Calls.{IsSeat};
 ghost use Rattle.card_worker.specs.declared.hands.Member.{Member};
 ghost use Rattle.card_worker.specs.Trying.{IsMember, IsSound};
 ghost use Rattle.card_worker.specs.Driving.{AfterTurn, AfterTurns, AfterPasses};
 
 use crate::hands::{Gate, Group, Member};
+use crate::order::{cards_of, wait_for_others};
 use crate::tries::try_member;
-use rotating_pick::MAX_PORTS;
-use slot_board::{Board, CardSeat};
+use rotating_pick::{MAX_PORTS, Ports};
+use slot_board::Board;
 use std::hint::spin_loop;
 use std::thread::yield_now;
 
@@ -57,8 +58,9 @@ fn drive_all<G: Gate>(
 {
     let mut made: u64 = 0;
     let mut idle: u32 = 0;
+    let cards = cards_of(members);
     while goes_on(members, board, idle, patience) {
-        let acts = pass(members, board, gate, worker);
+        let acts = pass(members, board, gate, worker, cards);
         if acts == 0 {
             idle += 1;
             pause(idle);
@@ -67,6 +69,7 @@ fn drive_all<G: Gate>(
             made += acts;
         }
     }
+    board.pass_on(Ports::MAX);
     made
 }
 
@@ -96,15 +99,26 @@ fn some_due(members: &[Member], board: &Board) -> bool
     ensures { result ≡ false → (j : ℕ) (m : Member) → slice_get members.now j ≡ Some m → is_due m.seat ≡ false }
 {
     for member in members {
-        if is_due(&member.seat, board) {
+        if member.seat.is_due(board) {
             return true;
         }
     }
     false
 }
 
-// One pass: each due member makes one try.
-fn pass<G: Gate>(members: &mut [Member], board: &Board, gate: &G, worker: u32) -> u64
+// One pass: each due member makes one try. Where all then wait for posts of other cards, their worker waits for
+// a while.
+fn pass<G: Gate>(members: &mut [Member], board: &Board, gate: &G, worker: u32, cards: Ports) -> u64
+    requires { (j : ℕ) (m : Member) → slice_get members.old j ≡ Some m → IsSound board.now m }
+    ensures { AfterTurns board.now members.old members.new (length members.old) result }
+{
+    let acts = try_each(members, board, gate, worker);
+    wait_for_others(members, board, cards);
+    acts
+}
+
+// One try of each due member.
+fn try_each<G: Gate>(members: &mut [Member], board: &Board, gate: &G, worker: u32) -> u64
     requires { (j : ℕ) (m : Member) → slice_get members.old j ≡ Some m → IsSound board.now m }
     ensures { AfterTurns board.now members.old members.new (length members.old) result }
 {
@@ -122,24 +136,9 @@ fn take_turn<G: Gate>(member: &mut Member, board: &Board, gate: &G, worker: u32)
     requires sound { IsSound board.now member.old }
     ensures { AfterTurn board.now member.old member.new result }
 {
-    if is_due(&member.seat, board) {
+    if member.seat.is_due(board) {
         try_member(member, board, gate, worker)
     } else {
         false
     }
-}
-
-// Whether the seat's card is due: it has posted its slot, or is not done and a slot is left.
-pub(crate) fn is_due(seat: &CardSeat, board: &Board) -> bool
-    requires { seat.now.turn ≡ board.now }
-    ensures { result ≡ is_due seat.now }
-{
-    seat.posted() || has_next(seat, board)
-}
-
-fn has_next(seat: &CardSeat, board: &Board) -> bool
-    requires { seat.now.turn ≡ board.now }
-    ensures { result ≡ (not (is_done seat.now) && nat_lt (slot_of seat.now) (setup_at seat.now).max_slots) }
-{
-    !seat.done() && seat.slot() < board.max_slots()
 }

@@ -7,6 +7,7 @@ mod disbanding;
 mod driving;
 mod hands;
 pub mod laws;
+mod order;
 #[cfg(test)]
 mod tests;
 mod tries;

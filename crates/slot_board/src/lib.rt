@@ -12,6 +12,7 @@ mod closing;
 mod journal;
 pub mod laws;
 mod making;
+mod order;
 mod seat;
 mod state;
 #[cfg(test)]

@@ -9,7 +9,6 @@ ghost use Rattle.card_worker.specs.Trying.{IsMember};
 ghost use Rattle.card_worker.specs.Groups.{AreGroups, IsGroup, IsDrivenGroup};
 ghost use Rattle.card_worker.specs.Alone.{AreHandsOf};
 
-use crate::driving::is_due;
 use crate::tries::next_post;
 use crate::{Group, Hand, Hands, Member, OpenGate, close_with, disband, drive, finish_alone, laws};
 use card_core::{Card, CardPlan, Planned};
@@ -117,7 +116,7 @@ fn keep_post(board: &Board, member: &mut Member)
     ensures number { member.new.seat.number ≡ member.old.seat.number }
 {
     member.seat.legal();
-    if !member.seat.posted() && is_due(&member.seat, board) {
+    if !member.seat.posted() && member.seat.is_due(board) {
         let post = next_post(&mut member.hand);
         member.hand.kept = Some(post);
     }
