@@ -33,6 +33,10 @@ pub record AreAsks (n : ℕ) (first_kind : Kind) (rows : List Row) (asks : Asks)
   pub outputs : (i j level : ℕ) (kind : Kind) → i < n → Names (row_of rows i) level kind j → Has asks.outputs j
   pub named : (i j level : ℕ) (kind : Kind) → i < n → Names (row_of rows i) level kind j → Names asks.named level kind j
 
+-- only the columns of the ranks have members
+abbrev pub AreOfRanks : Asks → Type 0
+AreOfRanks asks = (rank i j : ℕ) → rank < RANKS → Has (column_of asks.columns rank j) i → Has asks.ranks rank
+
 -- the input may ask at the level with the kind: it is free, or goes on there
 abbrev pub MayAsk : List (Option Fed) → ℕ → Kind → ℕ → Type 0
 MayAsk before level kind i = IsFreeInput before i ⊎ ((kind ≡ Multi) × IsMulticasting before i level)

@@ -1,13 +1,13 @@
-ghost use Rattle.std.specs.Prelude.{◌≡◌, ℕ, ◌<◌, ◌≤◌, ◌↔◌, length, replicate, slice_index};
+ghost use Rattle.std.specs.Prelude.{◌≡◌, ℕ, ◌<◌, ◌≤◌, ◌↔◌, length, replicate, slice_index, slice_set, if◌then◌else◌};
 ghost use Rattle.rotating_pick.specs.PortSets.{Has};
 ghost use Rattle.rotating_pick.specs.declared.kinds.Kind.{Kind};
 ghost use Rattle.slot_match.specs.Rows.{Names, row_of, sets_of, AreWithin};
 ghost use Rattle.eslip_rounds.specs.Ranks.{level_at, kind_at};
-ghost use Rattle.eslip_rounds.specs.Steps.{column_of, AreAsks};
+ghost use Rattle.eslip_rounds.specs.Steps.{column_of, AreAsks, AreOfRanks};
 
 use crate::ranks::{RANKS, kind_of, level_of};
 use islip_rounds::transpose;
-use rotating_pick::{Kind, LEVELS, MAX_PORTS, PORT_COUNT, Ports, is_empty, with};
+use rotating_pick::{Kind, LEVELS, MAX_PORTS, PORT_COUNT, Ports, contains, is_empty, with};
 use slot_match::Row;
 
 /// What the rows of a slot ask, by columns.
@@ -23,36 +23,49 @@ pub(crate) struct Asks {
     pub named: Row,
 }
 
-/// Turns the rows into columns, once a slot: those of the ranks that occur.
-pub(crate) fn asks_of(n: u32, first_kind: Kind, rows: &[Row]) -> Asks
-    requires size { n ≤ MAX_PORTS }
-    requires rows { AreWithin n rows.now }
-    ensures { AreAsks n first_kind rows.now result }
-{
-    let named = joined(rows);
-    let mut asks = Asks {
-        columns: no_columns(),
-        ranks: 0,
-        outputs: named.named(),
-        named,
-    };
-    asks.ranks = fill(n, first_kind, rows, &named, &mut asks.columns);
-    asks
+impl Asks {
+    /// What no row asks.
+    pub(crate) fn new() -> Asks
+        ensures { AreOfRanks result }
+    {
+        Asks {
+            columns: no_columns(),
+            ranks: 0,
+            outputs: 0,
+            named: Row::empty(),
+        }
+    }
+
+    /// Turns the rows into columns, once a slot: those of the ranks that occur. Of an earlier slot only the
+    /// columns of its ranks are emptied.
+    pub(crate) fn read(&mut self, n: u32, first_kind: Kind, rows: &[Row])
+        requires size { n ≤ MAX_PORTS }
+        requires rows { AreWithin n rows.now }
+        requires kept { AreOfRanks self.old }
+        ensures { AreAsks n first_kind rows.now self.new }
+    {
+        let named = joined(rows);
+        let before = self.ranks;
+        self.ranks = fill(n, first_kind, rows, &named, before, &mut self.columns);
+        self.outputs = named.named();
+        self.named = named;
+    }
 }
 
 // Fills the columns of the ranks at which `named`, the joined rows, names an output, and answers these
-// ranks. The columns were empty.
+// ranks. The columns were empty but at the ranks `before`.
 fn fill(
     n: u32,
     first_kind: Kind,
     rows: &[Row],
     named: &Row,
+    before: Ports,
     columns: &mut [[Ports; PORT_COUNT]; RANKS],
 ) -> Ports
     requires size { n ≤ MAX_PORTS }
     requires rows { AreWithin n rows.now }
     requires named { (i j level : ℕ) (kind : Kind) → i < n → Names (row_of rows.now i) level kind j → Names named.now level kind j }
-    requires empty { columns.old ≡ replicate RANKS (replicate MAX_PORTS 0) }
+    requires kept { (rank i j : ℕ) → rank < RANKS → Has (column_of columns.old rank j) i → Has before rank }
     ensures columns { (rank i j : ℕ) → rank < RANKS → Has (column_of columns.new rank j) i ↔ ((i < n) × Names (row_of rows.now i) (level_at rank) (kind_at first_kind rank) j) }
     ensures ranks { (rank i j : ℕ) → rank < RANKS → i < n → Names (row_of rows.now i) (level_at rank) (kind_at first_kind rank) j → Has result rank }
     ensures ranks_in { (rank : ℕ) → Has result rank → rank < RANKS }
@@ -61,12 +74,24 @@ fn fill(
     for rank in 0..RANKS as u32 {
         let level = level_of(rank);
         let kind = kind_of(first_kind, rank);
-        if !is_empty(set_at(named, level, kind)) {
+        if !is_empty(named.outputs(level, kind)) {
             gather(n, rows, level, kind, &mut columns[rank as usize]);
             ranks = with(ranks, rank);
+        } else {
+            empty_if(contains(before, rank), rank, columns);
         }
     }
     ranks
+}
+
+// Empties the columns of the rank, if they are used.
+fn empty_if(used: bool, rank: u32, columns: &mut [[Ports; PORT_COUNT]; RANKS])
+    requires { rank < RANKS }
+    ensures { columns.new ≡ (if used then slice_set columns.old rank (replicate MAX_PORTS 0) else columns.old) }
+{
+    if used {
+        columns[rank as usize] = no_sets();
+    }
 }
 
 // All that the rows name, as one row.
@@ -112,16 +137,6 @@ fn collect(n: u32, rows: &[Row], level: u8, kind: Kind, sets: &mut [Ports; PORT_
     ensures { (i : ℕ) → i < n → slice_index sets.new i ≡ slice_index (sets_of (row_of rows.now i) kind) level }
 {
     for i in 0..n {
-        sets[i as usize] = set_at(&rows[i as usize], level, kind);
-    }
-}
-
-fn set_at(row: &Row, level: u8, kind: Kind) -> Ports
-    requires { level < LEVELS }
-    ensures { result ≡ slice_index (sets_of row.now kind) level }
-{
-    match kind {
-        Kind::Uni => row.uni[level as usize],
-        Kind::Multi => row.multi[level as usize],
+        sets[i as usize] = rows[i as usize].outputs(level, kind);
     }
 }

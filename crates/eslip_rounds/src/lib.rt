@@ -18,4 +18,4 @@ mod slot;
 mod tests;
 
 pub use refusals::Refused;
-pub use slot::{decide, decide_with_refused};
+pub use slot::{Scratch, decide, decide_in, decide_with_refused};

@@ -6,7 +6,7 @@ ghost use Rattle.eslip_rounds.specs.Slots.{IsSlot};
 ghost use Rattle.eslip_rounds.specs.Steps.{AreRefused};
 ghost use Rattle.eslip_rounds.specs.Decisions.{decision_of};
 
-use crate::asks::asks_of;
+use crate::asks::Asks;
 use crate::moves::move_pointers;
 use crate::ranks::preferred_kind;
 use crate::refusals::{Refused, refused_grants};
@@ -15,6 +15,7 @@ use islip_rounds::RoundsUsed;
 use pointer_state::Pointers;
 use rotating_pick::{MAX_PORTS, MAX_ROUNDS};
 use slot_match::{Match, Row};
+use std::marker::Model;
 
 /// Decides slot number `slot` of a switch of `n` ports in `rounds` rounds, each from 1 to 64: sets
 /// `out` to the match, moves the pointers and answers how the rounds were used. There are `n` rows
@@ -45,11 +46,67 @@ pub fn decide(
     ensures unused { result.last_added ≡ 0 → IsMaximal n rows.now out.new }
     ensures enough { n ≤ rounds → IsMaximal n rows.now out.new }
 {
+    let mut scratch = Scratch::new();
+    decide_in(n, rounds, slot, rows, p, out, &mut scratch)
+}
+
+/// What a decision works in. One who decides slot after slot keeps it, so that nothing is made anew and
+/// emptied in each: no slot sees what an earlier one left, which may be of a switch of another size.
+#[derive(Drop)]
+pub struct Scratch {
+    asks: Asks,
+}
+
+impl Model for Scratch {
+    ghost use Rattle.eslip_rounds.specs.Steps.{AreOfRanks};
+
+    ghost Value = { Unit {0} };
+
+    ghost view = { λ _. tt };
+
+    ghost invariant = { λ s. AreOfRanks s.asks };
+}
+
+impl Scratch {
+    /// One that no slot has used. Takes no memory.
+    pub fn new() -> Scratch {
+        Scratch { asks: Asks::new() }
+    }
+}
+
+/// Decides the slot as [`decide`] does, and works in `scratch`. Takes no memory.
+pub fn decide_in(
+    n: u32,
+    rounds: u32,
+    slot: u32,
+    rows: &[Row],
+    p: &mut Pointers,
+    out: &mut Match,
+    scratch: &mut Scratch,
+) -> RoundsUsed
+    requires some { 0 < n }
+    requires size { n ≤ MAX_PORTS }
+    requires rounds_some { 0 < rounds }
+    requires rounds_few { rounds ≤ MAX_ROUNDS }
+    requires rows { AreWithin n rows.now }
+    requires pointers { p.old.ports ≡ n }
+    requires matched { length out.old ≡ n }
+    ensures slot { IsSlot n rounds slot rows.now p.old (record { matched = out.new; numbers = result; places = p.new }) }
+
+    // The same as one value: a slot leaves no choice.
+    ensures decision { record { matched = out.new; numbers = result; places = p.new } ≡ decision_of n rounds slot rows.now p.old }
+    ensures whole { IsMatch n out.new }
+    ensures at_ports { AreAtPorts p.new }
+
+    // The match is maximal where the last round of all added nothing, and where there are n rounds.
+    ensures unused { result.last_added ≡ 0 → IsMaximal n rows.now out.new }
+    ensures enough { n ≤ rounds → IsMaximal n rows.now out.new }
+{
     prove!(p.ports() == n);
     let first_kind = preferred_kind(slot);
-    let asks = asks_of(n, first_kind, rows);
-    let made = make_rounds(n, rounds, first_kind, &asks, p, out);
-    move_pointers(n, rows, &asks.named, out, made.first_outputs, p);
+    scratch.asks.read(n, first_kind, rows);
+    let made = make_rounds(n, rounds, first_kind, &scratch.asks, p, out);
+    move_pointers(n, rows, &scratch.asks.named, out, made.first_outputs, p);
     made.numbers
 }
 
@@ -84,7 +141,8 @@ pub fn decide_with_refused(
 {
     prove!(p.ports() == n);
     let first_kind = preferred_kind(slot);
-    let asks = asks_of(n, first_kind, rows);
+    let mut asks = Asks::new();
+    asks.read(n, first_kind, rows);
     let made = make_rounds(n, rounds, first_kind, &asks, p, out);
     let refused = refused_grants(n, first_kind, &asks, p, made.first_outputs);
     move_pointers(n, rows, &asks.named, out, made.first_outputs, p);

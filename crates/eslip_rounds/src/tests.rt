@@ -1,4 +1,4 @@
-use crate::{decide, decide_with_refused};
+use crate::{Scratch, decide, decide_in, decide_with_refused};
 use pointer_state::Pointers;
 use rotating_pick::Kind;
 use slot_match::{Fed, Match, Row, are_within};
@@ -232,4 +232,31 @@ fn multicast_input_goes_on(rt: HostRuntime) {
     assert_eq!(rt; p.shared(0), 1);
     assert_eq!(rt; p.grant(0, 0), 2);
     assert_eq!(rt; p.accept(1, 0), 1);
+}
+
+// The match of one round from the first pointers on.
+fn first_match(rt: &impl Abort, n: u32, rows: &[Row], scratch: &mut Scratch) -> Match {
+    assert!(rt; 0 < n && n <= 3);
+    assert!(rt; are_within(n, rows));
+    let mut p = Pointers::new(n);
+    let mut out = Match::new(n);
+    let _numbers = decide_in(n, 1, 0, rows, &mut p, &mut out, scratch);
+    out
+}
+
+#[test]
+fn nothing_of_an_earlier_slot_is_read(rt: HostRuntime) {
+    let mut scratch = Scratch::new();
+    // All inputs ask all outputs, so each output grants input 0, which takes output 0.
+    let all = first_match(&rt, 3, &[uni(0b111); 3], &mut scratch);
+    assert!(rt; all.fed(0) == u(0));
+    assert_eq!(rt; all.count(), 1);
+    // Then input 0 asks nothing, and input 1 output 0.
+    let one = first_match(&rt, 2, &[Row::empty(), uni(0b01)], &mut scratch);
+    assert!(rt; one.fed(0) == u(1));
+    assert_eq!(rt; one.count(), 1);
+    // Then no rank of the slots before occurs.
+    let heads = first_match(&rt, 2, &[multi(0b10), Row::empty()], &mut scratch);
+    assert!(rt; heads.fed(1) == m(0));
+    assert_eq!(rt; heads.count(), 1);
 }

@@ -1,10 +1,10 @@
 use Rattle.std.proofs.Common.{ℕ, ◌<◌, length, arith}
 use Rattle.rotating_pick.specs.declared.kinds.Kind.{Kind}
 use Rattle.slot_match.specs.Rows.{Names, row_of}
-use Rattle.eslip_rounds.proofs.asks.asks_of.Goals as goal
+use Rattle.eslip_rounds.proofs.asks.Asks.read.Goals as goal
 
-pub fill-requires-clause-named : goal.fill-requires-clause-named
-fill-requires-clause-named c i j level kind i_in named =
+pub fill-self-requires-clause-named : goal.fill-self-requires-clause-named
+fill-self-requires-clause-named c i j level kind i_in named =
     let inside : i < length c.args.rows.now = let count = c.requires.rows.count in omega arith in
     (c.joined-named.ensures level j kind).1 (i, inside, named)
 
@@ -14,9 +14,9 @@ returns c =
     let inside : i < length c.args.rows.now = let count = c.requires.rows.count in omega arith in
     (c.joined-named.ensures level j kind).1 (i, inside, named) in
     record {
-      columns = c.fill.ensures.columns;
-      ranks = c.fill.ensures.ranks;
-      ranks_in = c.fill.ensures.ranks_in;
-      outputs = λ i j level kind i_in named. (c.named.ensures j).1 (level, kind, joined i j level kind i_in named);
+      columns = c.fill-self.ensures.columns;
+      ranks = c.fill-self.ensures.ranks;
+      ranks_in = c.fill-self.ensures.ranks_in;
+      outputs = λ i j level kind i_in named. (c.named-self.ensures j).1 (level, kind, joined i j level kind i_in named);
       named = joined;
     }
