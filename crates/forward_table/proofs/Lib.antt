@@ -1,5 +1,7 @@
 pub mod Covering
 pub mod Indexing
+pub mod Placing
+pub mod Searching
 pub mod Ports
 pub mod Serving
 pub mod Splitting

@@ -10,6 +10,7 @@ mod forms;
 pub mod laws;
 mod limits;
 mod lookup;
+mod ordered_lines;
 mod reading;
 mod route_lines;
 mod text;

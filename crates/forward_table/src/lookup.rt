@@ -1,25 +1,28 @@
-ghost use Rattle.std.specs.Prelude.{◌≡◌, ◌≢◌, ◌↔◌, ℕ, Some, None, List, [], ◌∷◌, ◌++◌, length, map, All, Contains, IfSome, IfOk, IfErr, IsTrue, option_map, count_ones, ◌≤◌, false, replicate};
-ghost use Rattle.forward_table.specs.declared.route_lines.Target.TheVariants.{Prefix};
-ghost use Rattle.forward_table.specs.Index.{with_length};
+ghost use Rattle.std.specs.Prelude.{◌≡◌, ◌≢◌, ◌↔◌, ℕ, ◌-◌, ◌≤◌, None, List, [], ◌∷◌, ◌++◌, length, map, All, Contains, IfSome, IfOk, IfErr, IsTrue, option_map, count_ones};
+ghost use Rattle.forward_table.specs.Index.{IsWithLength};
 ghost use Rattle.forward_table.specs.Targets.{IsPrefix};
 ghost use Rattle.forward_table.specs.Reading.{line_with};
 ghost use Rattle.forward_table.specs.Routing.{covering, longest, serving_line, route_of};
 
 use crate::faults::TableFault;
-use crate::route_lines::{ADDRESS_BITS, Route, RouteLine, Target, without_host_bits};
+use crate::ordered_lines::{line_of, longest_of, place_of};
+use crate::route_lines::{ADDRESS_BITS, Route, RouteLine, Target};
+use rotating_pick::with;
 use std::alloc::Global;
-use std::collections::BTreeMap;
 use std::marker::Model;
 
 /// A forwarding table: the route lines of its text, in order.
 ///
-/// A look-up takes a search of an ordered map for each prefix length that occurs, from the longest on, at
-/// most 33.
+/// A look-up takes a search by halves for each prefix length that occurs, from the longest on, at most 33.
 #[derive(Debug, Drop)]
 pub struct Table {
     lines: Vec<RouteLine>,
-    index: BTreeMap<Target, RouteLine>,
-    lengths: Lengths,
+
+    // The same lines in the order of their targets.
+    ordered: Vec<RouteLine>,
+
+    // Bit `k` is 1 where a line has a prefix with `k` host bits.
+    lengths: u64,
 }
 
 impl Model for Table {
@@ -31,7 +34,7 @@ impl Model for Table {
 
     ghost view = { λ table. table.lines.items };
 
-    ghost invariant = { λ table. IsIndexed table.lines.items table.index × AreLengths table.lines.items table.lengths };
+    ghost invariant = { λ table. IsIndexed table.lines.items table.ordered.items × AreLengths table.lines.items table.lengths };
 }
 
 impl Table {
@@ -41,8 +44,8 @@ impl Table {
     {
         Table {
             lines: Vec::new(alloc),
-            index: BTreeMap::new(alloc),
-            lengths: no_lengths(),
+            ordered: Vec::new(alloc),
+            lengths: 0,
         }
     }
 
@@ -55,22 +58,24 @@ impl Table {
     {
         let Table {
             mut lines,
-            mut index,
-            mut lengths,
-        } = self;
-        if let Some(first) = index.insert(line.target, line)? {
-            return Err(TableFault::Repeated {
-                line: line.number,
-                first: first.number,
-            });
-        }
-        lines.push(line)?;
-        note_length(&mut lengths, &line.target);
-        Ok(Table {
-            lines,
-            index,
+            mut ordered,
             lengths,
-        })
+        } = self;
+        match place_of(&ordered, &line.target) {
+            Ok(at) => Err(TableFault::Repeated {
+                line: line.number,
+                first: ordered[at].number,
+            }),
+            Err(at) => {
+                ordered.insert(at, line)?;
+                lines.push(line)?;
+                Ok(Table {
+                    lines,
+                    ordered,
+                    lengths: with_length(lengths, &line.target),
+                })
+            }
+        }
     }
 
     /// The route of an address, by the line of greatest length among those that cover it, else by the
@@ -115,55 +120,24 @@ impl Table {
     fn longest(&self, address: u32) -> Option<RouteLine>
         ensures { result ≡ longest (covering self.now address) }
     {
-        for host_bits in 0..ADDRESS_BITS + 1 {
-            let prefix = without_host_bits(address, host_bits);
-            if let Some(line) = self.line_of_prefix(ADDRESS_BITS - host_bits, prefix) {
-                return Some(line);
-            }
-        }
-        None
-    }
-
-    // The line of the prefix. No search is made for a length that does not occur.
-    fn line_of_prefix(&self, length: u32, address: u32) -> Option<RouteLine>
-        requires { length ≤ 32 }
-        ensures line { result ≡ line_with (Prefix length address) self.now }
-        ensures prefixes { All (λ line. IsPrefix line.target) self.now }
-    {
-        if self.lengths[length as usize] {
-            self.line_with(&Target::Prefix { length, address })
-        } else {
-            None
-        }
+        longest_of(&self.ordered, self.lengths, address)
     }
 
     // The line with this target.
     fn line_with(&self, target: &Target) -> Option<RouteLine>
-        ensures line { result ≡ line_with target.now self.now }
-        ensures prefixes { All (λ line. IsPrefix line.target) self.now }
+        ensures { result ≡ line_with target.now self.now }
     {
-        self.index.get(target).copied()
+        line_of(&self.ordered, target)
     }
 }
 
-// For each prefix length whether it occurs.
-type Lengths = [bool; LENGTH_COUNT];
-
-// How many prefix lengths there are.
-const LENGTH_COUNT: usize = ADDRESS_BITS as usize + 1;
-
-fn no_lengths() -> Lengths
-    ensures { result ≡ replicate 33 false }
-{
-    [false; LENGTH_COUNT]
-}
-
-// The target's length occurs.
-fn note_length(lengths: &mut Lengths, target: &Target)
+// The prefix lengths with that of the target.
+fn with_length(lengths: u64, target: &Target) -> u64
     requires { IsPrefix target.now }
-    ensures { lengths.new ≡ with_length target.now lengths.old }
+    ensures { IsWithLength target.now lengths result }
 {
-    if let Target::Prefix { length, .. } = target {
-        lengths[*length as usize] = true;
+    match target {
+        Target::Fallback => lengths,
+        Target::Prefix { length, .. } => with(lengths, ADDRESS_BITS - *length),
     }
 }
