@@ -13,6 +13,7 @@ use crate::counts::{Counts, no_counts};
 use crate::journal::Journal;
 use crate::limits::{MAX_SLOTS, MAX_SLOTS_WIDE};
 use crossbar::{Post, Taken};
+use eslip_rounds::Scratch;
 use islip_rounds::RoundsUsed;
 use pointer_state::Pointers;
 use rotating_pick::{MAX_PORTS, MAX_ROUNDS, OutOfMemory, PORT_COUNT, Ports};
@@ -44,6 +45,8 @@ pub struct BoardState {
     parts: [Option<Served>; PORT_COUNT],
     // The rows of that slot, from which it was decided.
     rows: [Row; PORT_COUNT],
+    // What a decision works in.
+    scratch: Scratch,
     // Whether a decided slot is done. It is the last, since no card posts after it.
     done: bool,
     // Slot by slot and card by card.
@@ -96,6 +99,7 @@ impl BoardState {
             pointers: Pointers::new(n),
             parts: [None; PORT_COUNT],
             rows: [Row::empty(); PORT_COUNT],
+            scratch: Scratch::new(),
             done: false,
             posts,
             matches,

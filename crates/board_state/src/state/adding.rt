@@ -9,7 +9,7 @@ use crate::counts::raise;
 use crate::posts::{is_last, posts_at, write_post};
 use crate::state::BoardState;
 use crossbar::{Post, Taken, put_rows};
-use eslip_rounds::decide;
+use eslip_rounds::decide_in;
 use islip_rounds::RoundsUsed;
 use rotating_pick::{MAX_PORTS, with};
 use slot_match::Match;
@@ -42,13 +42,14 @@ impl BoardState {
         let posts = posts_at(&self.posts, slot as usize, self.ports as usize);
         self.matches.push_reserved(Match::new(self.ports));
         put_rows(&mut self.rows, posts);
-        let numbers = decide(
+        let numbers = decide_in(
             self.ports,
             self.rounds,
             slot,
             &self.rows[..posts.len()],
             &mut self.pointers,
             &mut self.matches[slot as usize],
+            &mut self.scratch,
         );
         self.matches[slot as usize].put_parts(&mut self.parts);
         self.done = is_last(posts);
