@@ -90,19 +90,41 @@ def route(routes, address):
     return routes.get(None)
 
 
+class OnLine(NamedTuple):
+    """A packet on the line of its port: its capture's record, the slot of its time stamp, that of its first cell, and
+    its cells. At line pace each time stamp counts as the first slot."""
+
+    packet: Packet
+    due: int
+    first: int
+    cells: int
+
+
+def on_line(packets, base, pace_us):
+    """The packets of one port as its line brings them, at a pace counted from a time in nanoseconds."""
+    free = 0
+    for packet in packets:
+        cells = -(-(MESSAGE_HEADER + len(packet.frame)) // CELL_PAYLOAD)
+        due = (packet.time - base) // (1000 * pace_us) if pace_us else 0
+        first = max(free, due)
+        free = first + cells
+        yield OnLine(packet, due, first, cells)
+
+
+def first_time(packets_by_port):
+    """The earliest time of all packets of all ports."""
+    return min((packet.time for packets in packets_by_port for packet in packets), default=0)
+
+
 def arrivals_of(table, captures, pace_us):
     """The packets that are offered to queues, in the order of slots; pace_us None is line pace."""
     routes = read_table(table)
     read = [read_capture(data) for data in captures]
-    base = min((packet.time for _, packets in read for packet in packets), default=0)
+    base = first_time(packets for _, packets in read)
     found = []
     for card, (link, packets) in enumerate(read):
-        next_slot = 0
-        for packet in packets:
-            cells = -(-(MESSAGE_HEADER + len(packet.frame)) // CELL_PAYLOAD)
-            due = (packet.time - base) // (1000 * pace_us) if pace_us else 0
-            next_slot = max(next_slot, due) + cells
+        for packet, _, first, cells in on_line(packets, base, pace_us):
             served = route(routes, destination(link, packet.frame))
             if served and len(packet.frame) <= LONGEST_FORWARDED:
-                found.append(Arrival(next_slot - 1, card, served[0], served[1], cells))
+                found.append(Arrival(first + cells - 1, card, served[0], served[1], cells))
     return sorted(found)
