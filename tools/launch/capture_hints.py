@@ -1,0 +1,151 @@
+"""Hints on captures that are refused: which file it is, and the command that makes one of it that is not."""
+
+import shlex
+
+from .sources import stamp_of
+
+ETHERNET, RAW_IP = 1, 101
+LINKS = {
+    ETHERNET: "Ethernet", RAW_IP: "raw IP", 0: "loopback", 12: "raw IP under another number", 14: "raw IP under another number",
+    105: "802.11", 108: "loopback", 113: "tcpdump -i any", 127: "802.11 with radio headers", 228: "raw IPv4", 276: "tcpdump -i any",
+}
+# What stands before the IP header of a packet of a link type that editcap makes raw IP of.
+HEADER_BYTES = {0: 4, 12: 0, 14: 0, 108: 4, 113: 16, 228: 0, 276: 20}
+# The first bytes of files that are no classic captures, and the command that makes one: IN and OUT are its files.
+MAGICS = (
+    (b"\x0a\x0d\x0d\x0a", "is a pcapng file", "editcap -F pcap IN OUT"),
+    (b"\x1f\x8b", "is compressed by gzip", "zcat IN > OUT"),
+    (b"\xfd7zXZ", "is compressed by xz", "xzcat IN > OUT"),
+    (b"\x28\xb5\x2f\xfd", "is compressed by zstd", "zstdcat IN > OUT"),
+    (b"BZh", "is compressed by bzip2", "bzcat IN > OUT"),
+    (b"\x34\xcd\xb2\xa1", "is of a variant of pcap with longer headers", "editcap -F pcap IN OUT"),
+    (b"\xa1\xb2\xcd\x34", "is of a variant of pcap with longer headers", "editcap -F pcap IN OUT"),
+    (b"\xc3\xd4\xa1\xb2", "has the bytes of each pair in the wrong order", "dd conv=swab if=IN of=OUT"),
+    (b"\xb2\xa1\xd4\xc3", "has the bytes of each pair in the wrong order", "dd conv=swab if=IN of=OUT"),
+)
+MAGIC_BYTES = {"little": r"'\324\303\262\241'", "big": r"'\241\262\303\324'"}
+VERSION_SWAPPED = (512, 1024)
+HIGHEST_LINK = 0xFFFF
+LONGEST_RECORD = 262_144
+MAX_BYTES = 16_777_216
+
+
+def first_bytes(name, count=6):
+    """The first bytes of a regular file; nothing of any other, since reading it could wait or take its bytes away."""
+    if not stamp_of(name):
+        return b""
+    try:
+        with open(name, "rb") as file:
+            return file.read(count)
+    except OSError:
+        return b""
+
+
+def kind_of(name):
+    """What a file that is no classic capture is, with the command that makes one of it; None where that is not known."""
+    begin = first_bytes(name)
+    return next(((what, command) for magic, what, command in MAGICS if begin.startswith(magic)), None)
+
+
+def is_capture(name):
+    """Whether a file begins as a capture, of whatever form."""
+    begin = first_bytes(name)
+    classic = (b"\xd4\xc3\xb2\xa1", b"\xa1\xb2\xc3\xd4", b"\x4d\x3c\xb2\xa1", b"\xa1\xb2\x3c\x4d")
+    return begin.startswith(classic + tuple(magic for magic, *_ in MAGICS))
+
+
+def converted(command, name):
+    """A command with the name of a file, and one for what it makes."""
+    new = name
+    for end in (".gz", ".xz", ".zst", ".bz2"):
+        new = new[:-len(end)] if new.endswith(end) else new
+    base = new[:-5] if new.endswith(".pcap") else new[:-7] if new.endswith(".pcapng") else new
+    made = new if new != name else f"{base}.classic.pcap"
+    return command.replace("IN", shlex.quote(name), 1).replace("OUT", shlex.quote(made), 1)
+
+
+def to_raw(name, link):
+    """The command that makes raw IP of a capture of a link type, None where there is none."""
+    before = {**HEADER_BYTES, ETHERNET: 14}.get(link)
+    if before is None:
+        return None
+    chop = f"-L -C {before} " if before else ""
+    return converted(f"editcap -F pcap {chop}-T rawip IN OUT", name)
+
+
+def named(link):
+    return f"link type {link}" + (f" ({LINKS[link]})" if link in LINKS else "")
+
+
+def on_short_header(port, name, count):
+    if count == "0":
+        return f"{name}, the capture of port {port}, is empty; a capture without packets has a header of 24 bytes"
+    return f"{name}, the capture of port {port}, ends within its header of 24 bytes"
+
+
+def on_magic(port, name, magic):
+    found = kind_of(name)
+    if not found:
+        begin = bytes.fromhex(magic)
+        found = next(((what, None) for known, what, _ in MAGICS if begin.startswith(known[:4])), None)
+    if not found:
+        return f"{name}, the capture of port {port}, is no capture"
+    what, command = found
+    return f"{name}, the capture of port {port}, {what}" + (f": {converted(command, name)}" if command else "")
+
+
+def on_version(port, name, major, minor):
+    if (int(major), int(minor)) == VERSION_SWAPPED:
+        return _other_order(port, name)
+    fix = converted("editcap -F pcap IN OUT", name)
+    return f"{name}, the capture of port {port}, is not of version 2.4: {fix}"
+
+
+def _other_order(port, name):
+    """A header whose magic is in one byte order and the rest in the other."""
+    text = f"{name}, the capture of port {port}, has its magic in one byte order and the rest in the other"
+    begin = first_bytes(name)
+    if not begin:
+        return text
+    order = MAGIC_BYTES["big" if begin[:1] in (b"\xd4", b"\x4d") else "little"]
+    is_nano = begin[:4] in (b"\x4d\x3c\xb2\xa1", b"\xa1\xb2\x3c\x4d")
+    order = order.replace(r"\303\324", r"\074\115").replace(r"\324\303", r"\115\074") if is_nano else order
+    return text + ": " + converted(f"(printf {order}; tail -c +5 IN) > OUT", name)
+
+
+def on_link(port, name, link):
+    link = int(link)
+    if link > HIGHEST_LINK and link & HIGHEST_LINK in (ETHERNET, RAW_IP):
+        fix = converted("editcap -F pcap IN OUT", name)
+        return f"{name}, the capture of port {port}, has more in the field of its link type than {named(link & HIGHEST_LINK)}: {fix}"
+    text = f"{name}, the capture of port {port}, is of {named(link)}, and the switch takes Ethernet (1) and raw IP (101)"
+    fix = to_raw(name, link)
+    return text + (f"; capture on one interface, or make raw IP of it: {fix}" if link in (113, 276) else f": {fix}" if fix else "")
+
+
+def on_cut(port, name, at):
+    fix = converted("editcap -F pcap IN OUT", name)
+    return f"{name}, the capture of port {port}, ends within a packet, as one that is still written; to keep the whole packets: {fix}"
+
+
+def on_long(port, name, at, count):
+    as_swapped = int.from_bytes(int(count).to_bytes(4, "little"), "big")
+    why = "its length may be in the wrong byte order" if as_swapped <= LONGEST_RECORD else "the file may be damaged there"
+    return f"{name}, the capture of port {port}, has a packet of more than 262,144 bytes at byte {int(at):,}; {why}"
+
+
+def on_two_links(job, first, second):
+    """Captures of two link types: raw IP can be made of Ethernet, and not the other way."""
+    kinds = {name: _link_of(name) for name in job.inputs}
+    ethernet = next((name for name in job.inputs if kinds[name] == ETHERNET), None)
+    other = next((name for name in job.inputs if kinds[name] == RAW_IP), None)
+    if not (ethernet and other):
+        return None
+    fix = to_raw(ethernet, ETHERNET)
+    return f"{ethernet} is Ethernet (1) and {other} raw IP (101), and all captures are of one type; of each that is Ethernet: {fix}"
+
+
+def _link_of(name):
+    begin = first_bytes(name, 24)
+    order = "little" if begin[:1] in (b"\xd4", b"\x4d") else "big"
+    return int.from_bytes(begin[20:24], order) if len(begin) == 24 else None

@@ -1,0 +1,153 @@
+"""One line of help after the program's own line, for statuses 2, 3, 4 and 6. A hint that does not know says nothing."""
+
+import errno
+import os
+import re
+
+from . import capture_hints, table_hints
+from .capture_hints import converted, first_bytes, is_capture
+from .made import largest_count
+from .too_many import on_cells, on_slots
+from .words import MAX_COUNT, Fault, read_words
+
+TOO_LONG = {"check": "134,217,728"}
+
+
+def hint(words, status, said):
+    """What is to be said of a run that ended so, None where that is not known."""
+    try:
+        job = read_words(words)
+    except Fault as fault:
+        return str(fault) if status == 2 else None
+    for at, pattern, make in HINTS:
+        found = re.fullmatch(pattern, said.rstrip("\n"), re.S) if at == status else None
+        if found:
+            return make(job, *found.groups())
+    return None
+
+
+def _part_of(job, name):
+    """What a file is in the job."""
+    if name == job.table:
+        return "TABLE"
+    if name in job.inputs:
+        return f"the capture of port {job.inputs.index(name)}"
+    return "the journal"
+
+
+def _fault_of_path(name, for_writing):
+    """What stands against reading or writing a file, None where nothing is seen."""
+    folder = os.path.dirname(name) or "."
+    if not os.path.isdir(folder):
+        return f"there is no folder {folder}"
+    if os.path.isdir(name):
+        return f"{name} is a folder"
+    if os.path.exists(name):
+        return None if os.access(name, os.W_OK if for_writing else os.R_OK) else f"this user may not {'write' if for_writing else 'read'} {name}"
+    if for_writing:
+        return None if os.access(folder, os.W_OK) else f"this user may not write to the folder {folder}"
+    if os.path.islink(name):
+        return f"{name} is a link to a file that is not there"
+    if any(it in name for it in "*?["):
+        return f"no file fits the pattern {name}"
+    return f"there is no file {name}"
+
+
+def _on_read(job, name):
+    why = _fault_of_path(name, False)
+    return f"{_part_of(job, name)}: {why}" if why else None
+
+
+def _on_write(job, name):
+    why = _fault_of_path(name, True)
+    if why is None:
+        folder = os.path.dirname(name) or "."
+        try:
+            is_full = os.statvfs(folder).f_bavail == 0
+        except OSError as fault:
+            is_full = fault.errno == errno.ENOSPC
+        why = f"the disk of {folder} is full" if is_full else None
+    return f"{why}; PREFIX is {job.prefix}" if why else None
+
+
+def _on_standard_output(job):
+    where = "; all files are written" if job.command == "run" else ""
+    return "standard output is closed or full, or its reader has ended, as head does" + where
+
+
+def _on_too_long(job, name):
+    most = TOO_LONG.get(job.command, "16,777,216")
+    text = f"{_part_of(job, name)} may have at most {most} bytes"
+    if name in job.inputs:
+        fix = converted("editcap -F pcap -r IN OUT 1-1000", name)
+        return f"{text}; to keep its first 1,000 packets: {fix}"
+    return text
+
+
+def _of_capture(make):
+    """A hint on one capture, with its port and its name in place of the job."""
+    def made(job, port, *groups):
+        return make(int(port), job.inputs[int(port)], *groups) if int(port) < len(job.inputs) else None
+
+    return made
+
+
+def _of_line(make):
+    """A hint on a line of the table, with numbers."""
+    return lambda job, *groups: make(job, *map(int, groups))
+
+
+def _on_all_cells(job, cells):
+    if job.command != "gen":
+        return on_cells(job, int(cells))
+    seed, _, ports = map(int, job.names)
+    most = largest_count(seed, ports, MAX_COUNT)
+    return f"with SEED {seed} and PORTS {ports} the largest COUNT is {most}"
+
+
+def _on_journal_too_long(job, _):
+    return "leave out --journal, or run fewer packets: a journal may have at most 134,217,728 bytes"
+
+
+def _on_journal(job, at):
+    name = job.names[0]
+    begin = first_bytes(name, 16)
+    if is_capture(name):
+        kind = capture_hints.kind_of(name)
+        if kind and kind[1].endswith("> OUT"):
+            return f"{name} {kind[0]}: {converted(kind[1], name)}"
+        return f"{name} is a capture; check reads a journal, as run --journal writes it"
+    if begin.startswith(b"ports "):
+        return f"{name} is a report; check reads a journal, as run --journal writes it"
+    if not begin:
+        return f"{name} is empty" if os.path.isfile(name) else None
+    if begin.startswith(b"TTJ1") and int(at) == os.path.getsize(name):
+        return f"{name} ends at byte {at}, before its last slot does"
+    return None
+
+
+CAPTURE = r"capture (\d+): "
+LINE = r"table line (\d+): "
+HINTS = (
+    (3, r"read fault: (.*)", _on_read),
+    (6, r"write fault: standard output", _on_standard_output),
+    (6, r"write fault: (.*)", _on_write),
+    (4, r"too long: (.*)", _on_too_long),
+    (4, LINE + "bad line", _of_line(table_hints.on_bad_line)),
+    (4, LINE + "host bits", _of_line(table_hints.on_host_bits)),
+    (4, LINE + r"port (\d+)", _of_line(table_hints.on_port)),
+    (4, LINE + "level", _of_line(table_hints.on_level)),
+    (4, LINE + r"repeats line (\d+)", _of_line(table_hints.on_repeats)),
+    (4, r"table: (\d+) lines", lambda job, _: f"{job.table} may have at most 4,096 lines with routes"),
+    (4, CAPTURE + r"short header, (\d+) bytes", _of_capture(capture_hints.on_short_header)),
+    (4, CAPTURE + r"bad magic ([0-9a-f]{8})", _of_capture(capture_hints.on_magic)),
+    (4, CAPTURE + r"version (\d+)\.(\d+)", _of_capture(capture_hints.on_version)),
+    (4, CAPTURE + r"link type (\d+)", _of_capture(capture_hints.on_link)),
+    (4, CAPTURE + r"cut record at (\d+)", _of_capture(capture_hints.on_cut)),
+    (4, CAPTURE + r"long record at (\d+), (\d+) bytes", _of_capture(capture_hints.on_long)),
+    (4, r"link types (\d+) and (\d+)", capture_hints.on_two_links),
+    (4, r"too many slots: port (\d+) has (\d+)", _of_line(on_slots)),
+    (4, r"too many cells: (\d+)", _on_all_cells),
+    (4, r"journal too long: (\d+)", _on_journal_too_long),
+    (4, r"journal: bad at (\d+)", _on_journal),
+)

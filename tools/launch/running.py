@@ -1,0 +1,46 @@
+"""Starts the program, and hands on its words, its streams, its signals and its end."""
+
+import os
+import signal
+import subprocess
+
+# The program asks for large pages: fewer of them are touched for the first time, so a run takes less.
+TUNABLES, LARGE_PAGES = "GLIBC_TUNABLES", "glibc.malloc.hugetlb=1"
+HANDED_ON = (signal.SIGTERM, signal.SIGHUP, signal.SIGUSR1, signal.SIGUSR2)
+KEPT = 1 << 16
+
+
+def environment():
+    """The variables of the program: those of the user, who may have set the one for large pages otherwise."""
+    return {**os.environ, TUNABLES: os.environ.get(TUNABLES, LARGE_PAGES)}
+
+
+def run(program, words):
+    """The program's status, negative where a signal ended it, and what it said on standard error."""
+    # A name as /dev/fd/63 stands for a file that the shell has opened, so open files are passed on.
+    ran = subprocess.Popen([program, *words], stderr=subprocess.PIPE, close_fds=False, env=environment())
+    signal.signal(signal.SIGINT, signal.SIG_IGN)  # It goes to the program too, which ends.
+    for number in HANDED_ON:
+        signal.signal(number, lambda it, _: ran.send_signal(it))
+    said = b""
+    for piece in iter(lambda: os.read(ran.stderr.fileno(), KEPT), b""):
+        said = (said + piece)[:KEPT]
+        _hand_on(piece)
+    return ran.wait(), said.decode(errors="surrogateescape")
+
+
+def _hand_on(piece):
+    try:
+        while piece:
+            piece = piece[os.write(2, piece):]
+    except OSError:
+        pass  # Standard error is closed or full, as the program would have found it.
+
+
+def end_as(status):
+    """Ends as the program ended: with its status, or by the same signal."""
+    if status < 0:
+        if -status != signal.SIGKILL:
+            signal.signal(-status, signal.SIG_DFL)
+        os.kill(os.getpid(), -status)
+    return status
