@@ -1,0 +1,148 @@
+"""A small repository with a made-up toolchain and program, in a folder whose name has a blank."""
+
+import os
+import shutil
+import struct
+import subprocess
+import sys
+import tempfile
+import unittest
+from pathlib import Path
+
+TOP = Path(__file__).resolve().parent.parent.parent
+# The proved program, where it is built: what the made-up one is told to say is compared with what it says.
+PROGRAM = Path(os.environ.get("TINY_TERA", TOP / "crates/tiny_tera/out/tiny_tera"))
+KIT = "rattle-kit-test logic 0123456789abcdef"
+USAGE_LINE = (
+    "usage: tiny_tera run [options] TABLE PREFIX INPUT.. or tiny_tera gen [options] SEED COUNT PORTS"
+    " or tiny_tera check FILE or tiny_tera firm [options] TABLE INPUT.."
+)
+CRATES = "# Crates\nlower:\nupper: lower hex\ntiny_tera: upper\nbeside: lower\n"
+SOURCES = {
+    "HANDLES": "Handles allowed: Threads, Wait.\n",
+    "crates.txt": CRATES,
+    "crates/lower/src/lib.rt": "// lower\n",
+    "crates/lower/proofs/walk/Proof.antt": "-- a proof\n",
+    "crates/lower/must-fail/wrong.edit": "file: src/lib.rt\n",
+    "crates/upper/src/lib.rt": "// upper\n",
+    "crates/upper/specs/Lib.antt": "-- a definition\n",
+    "crates/tiny_tera/src/main.rt": "fn main\n",
+    "crates/beside/src/lib.rt": "// beside\n",
+}
+# Says and ends as the variables SAID and STATUS have it, after it has noted its words in NOTES; may run CODE.
+FAKE_PROGRAM = """#!/bin/sh
+if [ -n "$NOTES" ]; then
+    for word in "$@"; do echo "$word"; done >"$NOTES"
+    echo "tunables $GLIBC_TUNABLES" >>"$NOTES"
+fi
+if [ -n "$CODE" ]; then eval "$CODE"; fi
+if [ -n "$SAID" ]; then echo "$SAID" >&2; fi
+echo summary
+exit "${STATUS:-0}"
+"""
+FAKE_RT = """#!/bin/sh
+[ "$1" = version ] && { echo "%s"; exit 0; }
+echo "$*" >>"$RT_CALLS"
+if [ -n "$RT_CODE" ]; then eval "$RT_CODE"; fi
+case "$1" in
+all) for name in lower upper tiny_tera; do
+        echo "== $name"
+        echo "fn $name: proved"
+        echo "logic=proved functions=1 sum=0"
+    done ;;
+run) echo "rt: chose --jobs 1 for tiny_tera"
+    mkdir -p out
+    cp "$FAKE_PROGRAM" out/tiny_tera ;;
+esac
+""" % KIT
+
+
+class Scene(unittest.TestCase):
+    """A test with a repository of its own, in which the program is not built yet."""
+
+    def setUp(self):
+        self.room = Path(tempfile.mkdtemp(prefix="test_launcher."))
+        self.addCleanup(shutil.rmtree, self.room)
+        self.top, self.jobs = self.room / "a clone", self.room / "jobs"
+        self.jobs.mkdir()
+        write_repository(self.top)
+        self.variables = {**os.environ, "PATH": f"{self.room / 'bin'}:{os.environ['PATH']}", "RT_CALLS": str(self.room / "calls")}
+        for name in ("NOTES", "CODE", "SAID", "STATUS", "RT_CODE", "GLIBC_TUNABLES"):
+            self.variables.pop(name, None)
+        self.variables["FAKE_PROGRAM"] = str(self.room / "fake")
+        self.executable(self.room / "bin/rt", FAKE_RT)
+        self.executable(self.room / "fake", FAKE_PROGRAM)
+
+    def executable(self, path, text):
+        path.parent.mkdir(parents=True, exist_ok=True)
+        path.write_text(text)
+        path.chmod(0o755)
+
+    def build(self):
+        """Has the program built, and what was called forgotten."""
+        self.assertEqual(self.launch("gen", "0", "0", "1").returncode, 0)
+        self.room.joinpath("calls").unlink()
+
+    def calls(self):
+        """The calls of rt, and none from then on."""
+        file = self.room / "calls"
+        found = file.read_text().splitlines() if file.exists() else []
+        if file.exists():
+            file.unlink()
+        return found
+
+    def launch(self, *words, top=None, **variables):
+        """Runs the launcher in the folder of jobs."""
+        options = {name: variables.pop(name) for name in ("pass_fds", "preexec_fn", "cwd") if name in variables}
+        return subprocess.run(
+            [str((top or self.top) / "tiny_tera"), *map(str, words)],
+            cwd=options.pop("cwd", self.jobs), env={**self.variables, **variables}, stdin=subprocess.DEVNULL,
+            stdout=subprocess.PIPE, stderr=subprocess.PIPE, universal_newlines=True, **options,
+        )
+
+    def files(self, **named):
+        """Writes files of a job, by names in which _ before the last part stands for a dot."""
+        for name, data in named.items():
+            self.write(".".join(name.rsplit("_", 1)), data)
+
+    def write(self, name, data):
+        path = self.jobs / name
+        path.parent.mkdir(parents=True, exist_ok=True)
+        path.write_bytes(data if isinstance(data, bytes) else data.encode())
+
+
+def write_repository(top):
+    """The launcher and what it reads, with sources of a few crates."""
+    ignored = shutil.ignore_patterns("__pycache__")
+    for name in ("tools/launch", "tools/measure", "viewer"):
+        shutil.copytree(TOP / name, top / name, ignore=ignored)
+    (top / "docs").mkdir()
+    for name in ("tiny_tera", "tools/install", "tools/arrivals", "docs/USAGE.md", "docs/tiny_tera.1", "LICENSE"):
+        shutil.copy(TOP / name, top / name)
+    for name, text in SOURCES.items():
+        (top / name).parent.mkdir(parents=True, exist_ok=True)
+        (top / name).write_text(text)
+
+
+def frame(to="10.0.0.1", length=60):
+    """An Ethernet frame to an IPv4 address."""
+    data = bytearray(length)
+    data[12], data[14] = 0x08, 0x45
+    data[30:34] = bytes(map(int, to.split(".")))
+    return bytes(data)
+
+
+def capture(*frames, link=1, order="<", magic=0xA1B2C3D4, version=(2, 4), times=None):
+    """A classic capture; times are in microseconds."""
+    data = struct.pack(order + "IHHIIII", magic, *version, 0, 0, 262_144, link)
+    for at, one in enumerate(frames):
+        seconds, micros = divmod(times[at] if times else at, 1_000_000)
+        data += struct.pack(order + "IIII", seconds, micros, len(one), len(one)) + one
+    return data
+
+
+def python(*words, **more):
+    """Runs a Python tool."""
+    return subprocess.run(
+        [sys.executable, *map(str, words)], stdout=subprocess.PIPE, stderr=subprocess.PIPE, universal_newlines=True, **more
+    )

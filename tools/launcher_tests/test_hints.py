@@ -1,0 +1,273 @@
+"""One case for each hint: what the program says of the job, and what the launcher adds.
+
+Where the program is built it is run on the same files, and must say what is stated here.
+"""
+
+import gzip
+import os
+import struct
+import subprocess
+import tempfile
+import unittest
+from pathlib import Path
+
+from .scene import PROGRAM, USAGE_LINE, Scene, capture, frame
+
+GOOD = {"table.txt": "* 0\n", "a.pcap": capture(frame()), "b.pcap": capture()}
+RUN = ["run", "table.txt", "out", "a.pcap", "b.pcap"]
+ORDER = "tiny_tera run [options] TABLE PREFIX INPUT.."
+
+# The words, and the hint.
+USAGE = [
+    ([], "the first word is the command: run, gen, check or firm"),
+    (["rum", "t"], "'rum' is no command; is run meant?"),
+    (["table.txt", "out"], "'table.txt' is no command: the first word is run, gen, check or firm"),
+    (["--rounds", "2", "run"], "the command comes before --rounds: run, gen, check or firm"),
+    (["run", "--rounds", "65", "t", "out", "a"], "--rounds 65: R is a number from 1 to 64"),
+    (["run", "--depth=131073", "t", "out", "a"], "--depth 131073: D is a number from 1 to 131,072, written without commas"),
+    (["run", "--workers", "33", "t", "out", "a"], "--workers 33: W is a number from 1 to 32"),
+    (["firm", "--pace-us", "0.5", "t", "a"], "--pace-us 0.5: K is a number from 1 to 1,000,000, written without commas"),
+    (["run", "t", "out", "a", "--rounds"], "behind --rounds comes a number from 1 to 64"),
+    (["run", "--slots=1", "t", "out", "a"], "--slots has no value: leave out =1"),
+    (["run", "--slots", "--slots", "t", "out", "a"], "--slots stands twice"),
+    (["run", "--round", "2", "t", "out", "a"], "--round is no option; is --rounds meant?"),
+    (["gen", "--xyz", "1", "2", "3"], "--xyz is no option: the options of gen are --rounds, --depth or --workers"),
+    (["gen", "--slots", "1", "2", "3"], "gen does not take --slots; it takes --rounds, --depth or --workers"),
+    (["check", "--rounds", "2", "j"], "check does not take --rounds; it takes no option"),
+    (["run", "-x", "t", "out", "a"], "-x is no option; a file whose name begins with - is given after a word --"),
+    (["run", "--dry-run", "t", "out", "a"], "--dry-run is a word of the launcher, and comes before the command: tiny_tera --dry-run run .."),
+    (["run", "t", "out"], f"a name is missing: {ORDER}, and the names here are t, out"),
+    (["run", "t", "out"] + ["a"] * 65, f"here are 65 captures, and a switch has at most 64 ports: {ORDER}"),
+    (["firm", "t"], "a name is missing: tiny_tera firm [options] TABLE INPUT.., and the names here are t"),
+    (["gen", "1", "2"], "gen has three numbers, and here are 2: tiny_tera gen [options] SEED COUNT PORTS"),
+    (["gen", "-", "2", "2"], "SEED -: it is a number from 0 to 1,000,000,000, written without commas"),
+    (["gen", "1", "4001", "2"], "COUNT 4001: it is a number from 0 to 4,000, written without commas"),
+    (["gen", "1", "2", "65"], "PORTS 65: it is a number from 1 to 64"),
+    (["check"], "check has one file, and here are 0: tiny_tera check FILE"),
+]
+
+# A line of the table, what the program says of it, and the hint.
+FORM = "a line is NETWORK/LENGTH PORTS [LEVEL], as 10.0.1.0/24 1,2 0"
+TABLE = [
+    ("2001:db8::/32 0", "bad line",
+     "2001:db8::/32 is an IPv6 prefix, and only IPv4 is switched; packets without an IPv4 destination go where the line * says"),
+    ("10.0.0.0/24 0 # servers", "bad line", "a comment has a line of its own, which begins with #"),
+    ("10.0.0.0/24 0, 1", "bad line", "ports are joined by commas without blanks: 0,1"),
+    ("10.0.0.0/24 0 ,1", "bad line", "ports are joined by commas without blanks: 0,1"),
+    ("10.0.0.0/24 0 1 1", "bad line", f"behind the ports comes at most the level; several ports are joined by commas; {FORM}"),
+    ("10.0.0.0/24 00", "bad line", "00 has a leading zero"),
+    ("10.0.0.0/24 0-1", "bad line", "'0-1' is no number; ports are listed one by one, as 1,2,3"),
+    ("10.0.0.0/24 eth0", "bad line", "'eth0' is no number of 1 to 3 digits"),
+    ("10.0.0.0/24", "bad line", f"behind the prefix come its ports; {FORM}"),
+    ("10.0.0.1 0", "bad line", "10.0.0.1 has no length: one address is 10.0.0.1/32"),
+    ("10.0.0.0/255.255.255.0 0", "bad line", "10.0.0.0/255.255.255.0 has a mask, and the length is a number from 0 to 32"),
+    ("10.0.0.0/33 0", "bad line", "the length in 10.0.0.0/33 is a number from 0 to 32"),
+    ("10.0.0.0/08 0", "bad line", "08 in 10.0.0.0/08 has a leading zero"),
+    ("10.0.0.256/32 0", "bad line", "10.0.0.256 is no IPv4 address"),
+    ("default 0", "bad line", f"'default' is no IPv4 prefix; {FORM}"),
+    ("10.0.0.0/24 0\r\r", "bad line", "it has a carriage return or another letter that is not shown; end lines with LF or CR LF"),
+    ("10.0.0.1/24 0", "host bits", "bits beyond the length are 0: 10.0.0.0/24"),
+    ("10.0.0.0/24 2", "port 2", "with 2 captures ports are 0 to 1"),
+    ("10.0.0.0/24 0 4", "level", "the level is a number from 0, the best, to 3; several ports are joined by commas"),
+]
+
+# The first capture, what the program says of it, and the hint behind the file's name and port.
+SWAPPED = b"".join(capture(frame())[at:at + 2][::-1] for at in range(0, 100, 2))
+HALF = b"\xa1\xb2\xc3\xd4" + capture(frame())[4:]
+LINK = "and the switch takes Ethernet (1) and raw IP (101)"
+RAW = "capture on one interface, or make raw IP of it"
+CAPTURES = [
+    (b"", "short header, 0 bytes", "is empty; a capture without packets has a header of 24 bytes"),
+    (capture()[:20], "short header, 20 bytes", "ends within its header of 24 bytes"),
+    (b"\x0a\x0d\x0d\x0a" + bytes(28), "bad magic 0a0d0d0a", "is a pcapng file: editcap -F pcap a.pcap a.classic.pcap"),
+    (gzip.compress(capture(frame()), mtime=0), "bad magic 1f8b0800", "is compressed by gzip: zcat a.pcap > a.classic.pcap"),
+    (b"\xfd7zXZ\x00" + bytes(26), "bad magic fd377a58", "is compressed by xz: xzcat a.pcap > a.classic.pcap"),
+    (b"\x28\xb5\x2f\xfd" + bytes(28), "bad magic 28b52ffd", "is compressed by zstd: zstdcat a.pcap > a.classic.pcap"),
+    (b"BZh9" + bytes(28), "bad magic 425a6839", "is compressed by bzip2: bzcat a.pcap > a.classic.pcap"),
+    (SWAPPED, "bad magic c3d4a1b2", "has the bytes of each pair in the wrong order: dd conv=swab if=a.pcap of=a.classic.pcap"),
+    (capture(magic=0xA1B2CD34), "bad magic 34cdb2a1", "is of a variant of pcap with longer headers: editcap -F pcap a.pcap a.classic.pcap"),
+    (bytes(24), "bad magic 00000000", "is no capture"),
+    (capture(version=(2, 3)), "version 2.3", "is not of version 2.4: editcap -F pcap a.pcap a.classic.pcap"),
+    (HALF, "version 512.1024",
+     r"has its magic in one byte order and the rest in the other: (printf '\324\303\262\241'; tail -c +5 a.pcap) > a.classic.pcap"),
+    (capture(link=113), "link type 113",
+     f"is of link type 113 (tcpdump -i any), {LINK}; {RAW}: editcap -F pcap -L -C 16 -T rawip a.pcap a.classic.pcap"),
+    (capture(link=276), "link type 276",
+     f"is of link type 276 (tcpdump -i any), {LINK}; {RAW}: editcap -F pcap -L -C 20 -T rawip a.pcap a.classic.pcap"),
+    (capture(link=228), "link type 228", f"is of link type 228 (raw IPv4), {LINK}: editcap -F pcap -T rawip a.pcap a.classic.pcap"),
+    (capture(link=127), "link type 127", f"is of link type 127 (802.11 with radio headers), {LINK}"),
+    (capture(link=0x14000001), "link type 335544321",
+     "has more in the field of its link type than link type 1 (Ethernet): editcap -F pcap a.pcap a.classic.pcap"),
+    (capture(frame())[:-1], "cut record at 24",
+     "ends within a packet, as one that is still written; to keep the whole packets: editcap -F pcap a.pcap a.classic.pcap"),
+    (capture() + struct.pack("<IIII", 0, 0, 300_000, 300_000), "long record at 24, 300000 bytes",
+     "has a packet of more than 262,144 bytes at byte 24; the file may be damaged there"),
+    (capture() + struct.pack("<IIII", 0, 0, 60 << 24, 60 << 24), "long record at 24, 1006632960 bytes",
+     "has a packet of more than 262,144 bytes at byte 24; its length may be in the wrong byte order"),
+]
+
+
+class Hints(Scene):
+    def setUp(self):
+        super().setUp()
+        self.build()
+
+    def check(self, words, status, said, hint, files=GOOD):
+        """That the launcher adds this hint to this line of the program, and that the program says that line."""
+        with self.subTest(words=words[:8], said=said), tempfile.TemporaryDirectory(dir=self.room) as folder:
+            self.jobs = Path(folder)
+            for name, data in files.items():
+                self.write(name, data)
+            if PROGRAM.is_file():
+                ended = subprocess.run([PROGRAM, *words], cwd=folder, stdin=subprocess.DEVNULL, stdout=subprocess.DEVNULL, stderr=subprocess.PIPE)
+                self.assertEqual((ended.returncode, ended.stderr.decode()), (status, said + "\n"))
+            told = self.launch(*words, SAID=said, STATUS=str(status))
+            self.assertEqual(told.returncode, status)
+            self.assertEqual(told.stderr, f"{said}\nhint: {hint}\n" if hint else f"{said}\n")
+
+    def test_words(self):
+        for words, hint in USAGE:
+            self.check(words, 2, USAGE_LINE, hint)
+
+    def test_lines_of_the_table(self):
+        for line, said, hint in TABLE:
+            files = {**GOOD, "table.txt": f"# a comment\n{line}\n"}
+            self.check(RUN, 4, f"table line 2: {said}", f"line 2 of table.txt: {hint}", files)
+
+    def test_captures(self):
+        for data, said, hint in CAPTURES:
+            self.check(RUN, 4, f"capture 0: {said}", f"a.pcap, the capture of port 0, {hint}", {**GOOD, "a.pcap": data})
+
+    def test_names_of_captures(self):
+        """The name is that of the port, a command can be copied whatever the name is, and the new name is another."""
+        files = {"table.txt": "", "x.pcap": capture(), "my file.pcap.gz": gzip.compress(capture(), mtime=0)}
+        said = "capture 1: bad magic 1f8b0800"
+        hint = "my file.pcap.gz, the capture of port 1, is compressed by gzip: zcat 'my file.pcap.gz' > 'my file.pcap'"
+        self.check(["firm", "table.txt", "x.pcap", "my file.pcap.gz"], 4, said, hint, files)
+
+    def test_repeated_and_too_many_lines(self):
+        files = {**GOOD, "table.txt": "10.0.0.0/24 0\n\n10.0.0.0/24 1\n"}
+        hint = "lines 1 and 3 of table.txt have the same prefix: give all its ports in one line, joined by commas"
+        self.check(RUN, 4, "table line 3: repeats line 1", hint, files)
+        lines = "".join(f"10.{at // 256}.{at % 256}.0/24 0\n" for at in range(4097))
+        self.check(RUN, 4, "table: 4097 lines", "table.txt may have at most 4,096 lines with routes", {**GOOD, "table.txt": lines})
+
+    def test_names_that_are_missing(self):
+        """A capture stands where TABLE or PREFIX is expected."""
+        hint = "a.pcap is a capture, and stands where the table is expected: the words are TABLE PREFIX INPUT.."
+        self.check(["run", "a.pcap", "out", "b.pcap"], 4, "table line 1: bad line", hint)
+        files = {**GOOD, "table.txt": "* 1\n"}
+        hint = "a.pcap is a capture, and stands where PREFIX is expected: the words are TABLE PREFIX INPUT.."
+        self.check(["run", "table.txt", "a.pcap", "b.pcap"], 4, "table line 1: port 1", hint, files)
+        self.check(["firm", "table.txt", "a.pcap"], 4, "table line 1: port 1", "line 1 of table.txt: with 1 capture the only port is 0", files)
+
+    def test_link_types(self):
+        files = {**GOOD, "b.pcap": capture(link=101)}
+        hint = (
+            "a.pcap is Ethernet (1) and b.pcap raw IP (101), and all captures are of one type; of each that is Ethernet:"
+            " editcap -F pcap -L -C 14 -T rawip a.pcap a.classic.pcap"
+        )
+        self.check(RUN, 4, "link types 1 and 101", hint, files)
+
+    def test_files_that_cannot_be_read(self):
+        folder = {**GOOD, "folder/x": ""}
+        self.check(["run", "t", "out", "a.pcap"], 3, "read fault: t", "TABLE: there is no file t")
+        self.check(["run", "table.txt", "out", "a.pcap", "no/b.pcap"], 3, "read fault: no/b.pcap", "the capture of port 1: there is no folder no")
+        self.check(["run", "table.txt", "out", "folder"], 3, "read fault: folder", "the capture of port 0: folder is a folder", folder)
+        self.check(["run", "table.txt", "out", "lan*.pcap"], 3, "read fault: lan*.pcap", "the capture of port 0: no file fits the pattern lan*.pcap")
+        self.check(["check", "j"], 3, "read fault: j", "the journal: there is no file j")
+
+    def test_link_to_nothing_and_a_file_without_permission(self):
+        self.files(table_txt="")
+        os.symlink("gone", self.jobs / "link.pcap")
+        told = self.launch("firm", "table.txt", "link.pcap", SAID="read fault: link.pcap", STATUS="3").stderr
+        self.assertIn("hint: the capture of port 0: link.pcap is a link to a file that is not there\n", told)
+        if os.geteuid():
+            self.jobs.joinpath("table.txt").chmod(0)
+            told = self.launch("firm", "table.txt", "x", SAID="read fault: table.txt", STATUS="3").stderr
+            self.assertIn("hint: TABLE: this user may not read table.txt\n", told)
+
+    def test_files_that_cannot_be_written(self):
+        hint = "there is no folder none; PREFIX is none/out"
+        self.check(["run", "table.txt", "none/out", "a.pcap"], 6, "write fault: none/out.0.pcap", hint)
+        files = {**GOOD, "out.report/x": ""}
+        self.check(["run", "table.txt", "out", "a.pcap"], 6, "write fault: out.report", "out.report is a folder; PREFIX is out", files)
+
+    def test_standard_output(self):
+        told = self.launch("gen", "1", "2", "2", SAID="write fault: standard output", STATUS="6").stderr
+        self.assertEqual(told.splitlines()[1], "hint: standard output is closed or full, or its reader has ended, as head does")
+        told = self.launch("run", "t", "out", "a", SAID="write fault: standard output", STATUS="6").stderr
+        self.assertEqual(told.splitlines()[1], "hint: standard output is closed or full, or its reader has ended, as head does; all files are written")
+
+    def test_too_long(self):
+        long = capture() + bytes(16_777_216 - 23)
+        fix = "to keep its first 1,000 packets: editcap -F pcap -r a.pcap a.classic.pcap 1-1000"
+        hint = f"the capture of port 0 may have at most 16,777,216 bytes; {fix}"
+        self.check(RUN, 4, "too long: a.pcap", hint, {**GOOD, "a.pcap": long})
+        self.check(RUN, 4, "too long: table.txt", "TABLE may have at most 16,777,216 bytes", {**GOOD, "table.txt": b"#" * 16_777_217})
+
+    def test_too_many_slots(self):
+        # 112 packets of 65,520 bytes have 1,171 cells each; 111 of them have 129,981, and 112 of them 131,152.
+        files = {**GOOD, "a.pcap": capture(*[bytes(65_520)] * 112)}
+        hint = (
+            "a port may have at most 131,072 arrival slots, and the packets of a.pcap have 131,152 cells;"
+            " to keep the first that fit: editcap -F pcap -r a.pcap a.classic.pcap 1-111"
+        )
+        self.check(RUN, 4, "too many slots: port 0 has 131152", hint, files)
+        # The last of two packets of two cells comes after 400,000 microseconds: in slot 130,718 at most at a pace of 4.
+        files = {**GOOD, "b.pcap": capture(frame(), frame(), times=[0, 400_000])}
+        hint = "a port may have at most 131,072 arrival slots, and b.pcap lasts longer than so many slots of 2 us: at --pace-us 4 the packets fit"
+        words = ["run", "--pace-us", "2", "table.txt", "out", "a.pcap", "b.pcap"]
+        self.check(words, 4, "too many slots: port 1 has 200002", hint, files)
+
+    def test_too_many_cells(self):
+        # Twice 111 packets of 1,171 cells.
+        files = {"table.txt": "* 0\n", "a.pcap": capture(*[bytes(65_520)] * 111)}
+        hint = (
+            "all packets may have at most 131,072 cells, a multicast one counted at each output: 50 per cent of them fit,"
+            " and editcap -F pcap -r IN OUT 1-K keeps the first K of a capture"
+        )
+        self.check(["run", "table.txt", "out", "a.pcap", "a.pcap"], 4, "too many cells: 259962", hint, files)
+
+    def test_largest_count(self):
+        for count, said in (("4000", "too many cells: 263219"), ("1997", "too many cells: 131137")):
+            self.check(["gen", "1", count, "4"], 4, said, "with SEED 1 and PORTS 4 the largest COUNT is 1996")
+
+    def test_journal_too_long(self):
+        told = self.launch("run", "--journal", "t", "out", "a", SAID="journal too long: 134217729", STATUS="4").stderr
+        self.assertEqual(told.splitlines()[1], "hint: leave out --journal, or run fewer packets: a journal may have at most 134,217,728 bytes")
+
+    def test_journals(self):
+        journal = bytes.fromhex("54544a31020400000000000100000000ff00ff00")
+        other = "check reads a journal, as run --journal writes it"
+        for data, at, hint in (
+            (b"", 0, "j is empty"),
+            (journal[:-1], 19, "j ends at byte 19, before its last slot does"),
+            (capture(), 0, f"j is a capture; {other}"),
+            (b"ports 2\nrounds 4\n", 0, f"j is a report; {other}"),
+            (gzip.compress(journal, mtime=0), 0, "j is compressed by gzip: zcat j > j.classic.pcap"),
+            (journal[:13] + b"\x02" + journal[14:], 13, None),
+        ):
+            self.check(["check", "j"], 4, f"journal: bad at {at}", hint, {"j": data})
+
+    def test_no_hint(self):
+        """Where nothing is known, nothing is said: pipes are not read, and other statuses have no hint."""
+        self.files(table_txt="* 0\n", a_pcap=capture())
+        for words, status, said in (
+            (["firm", "/dev/null", "a.pcap"], "4", "table line 1: bad line"),
+            (["firm", "table.txt", "a.pcap"], "3", "read fault: a.pcap"),
+            (["firm", "table.txt", "a.pcap"], "5", "out of memory"),
+            (["firm", "table.txt", "a.pcap"], "4", "something else"),
+        ):
+            self.assertEqual(self.launch(*words, SAID=said, STATUS=status).stderr, said + "\n")
+
+
+class Letters(Scene):
+    def test_names_stay_in_one_line(self):
+        self.build()
+        told = self.launch("check", "a\nhint: no\x1bA", SAID="read fault: a\nhint: no\x1bA", STATUS="3").stderr
+        self.assertTrue(told.endswith("hint: the journal: there is no file a\\nhint: no\\x1bA\n"), told)
+
+
+if __name__ == "__main__":
+    unittest.main()

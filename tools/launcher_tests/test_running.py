@@ -1,0 +1,74 @@
+"""How the program is started: its words, variables, files and streams, and how it ends."""
+
+import os
+import signal
+import subprocess
+import time
+
+from .scene import Scene
+
+
+class Running(Scene):
+    def setUp(self):
+        super().setUp()
+        self.build()
+        self.notes = self.room / "notes"
+
+    def noted(self, *words, **more):
+        self.assertEqual(self.launch(*words, NOTES=str(self.notes), **more).returncode, 0)
+        return self.notes.read_text().splitlines()
+
+    def test_words(self):
+        words = ["run", "--rounds=2", "two words", "pre fix", "--", "-x", "é", "*"]
+        self.assertEqual(self.noted(*words)[:-1], words)
+        self.assertEqual(self.noted("check", "--", "--help")[:-1], ["check", "--", "--help"])
+
+    def test_word_that_is_no_text(self):
+        variables = {**self.variables, "CODE": 'printf %s "$2"'}
+        ended = subprocess.run([bytes(self.top / "tiny_tera"), b"check", b"\xff\xfe"], env=variables, stdout=subprocess.PIPE)
+        self.assertEqual(ended.stdout, b"\xff\xfesummary\n")
+
+    def test_link_and_folder(self):
+        os.symlink(self.top / "tiny_tera", self.jobs / "switch")
+        ended = subprocess.run(["./switch", "gen", "1", "2", "2"], cwd=self.jobs, env=self.variables, stdout=subprocess.PIPE, stderr=subprocess.STDOUT)
+        self.assertEqual((ended.returncode, ended.stdout), (0, b"summary\n"))
+        self.assertEqual(self.launch("gen", "1", "2", "2", cwd="/").stdout, "summary\n")
+
+    def test_large_pages(self):
+        self.assertEqual(self.noted("gen", "1", "2", "2")[-1], "tunables glibc.malloc.hugetlb=1")
+        self.assertEqual(self.noted("gen", "1", "2", "2", GLIBC_TUNABLES="glibc.malloc.check=1")[-1], "tunables glibc.malloc.check=1")
+        self.assertEqual(self.noted("gen", "1", "2", "2", GLIBC_TUNABLES="")[-1], "tunables ")
+
+    def test_files_that_the_shell_has_opened(self):
+        """As <(zcat IN.gz) gives them."""
+        ours, theirs = os.pipe()
+        os.write(theirs, b"a capture\n")
+        os.close(theirs)
+        ended = self.launch("run", "t", "out", f"/dev/fd/{ours}", CODE='cat "$4"', pass_fds=[ours])
+        os.close(ours)
+        self.assertEqual(ended.stdout, "a capture\nsummary\n")
+
+    def test_status_and_line(self):
+        for status in ("1", "5", "7"):
+            ended = self.launch("check", "j", STATUS=status, SAID="no: slot 4 keeps of card 1")
+            self.assertEqual((ended.returncode, ended.stderr), (int(status), "no: slot 4 keeps of card 1\n"))
+
+    def test_signals(self):
+        self.assertEqual(self.launch("gen", "1", "2", "2", CODE="kill -9 $$").returncode, -signal.SIGKILL)
+        started = self.room / "started"
+        words = [str(self.top / "tiny_tera"), "gen", "1", "2", "2"]
+        ran = subprocess.Popen(words, env={**self.variables, "CODE": f"touch '{started}'; exec sleep 30"}, stdout=subprocess.PIPE)
+        until = time.monotonic() + 20
+        while not started.exists() and time.monotonic() < until:
+            time.sleep(0.02)
+        time.sleep(0.1)
+        ran.terminate()
+        self.assertEqual(ran.wait(20), -signal.SIGTERM)
+        ran.stdout.close()
+
+    def test_closed_streams(self):
+        """What is closed is closed for the program too, and no other file takes its number."""
+        code = f"for n in 0 1; do [ -e /proc/self/fd/$n ] && echo open $n >>'{self.notes}'; done"
+        self.launch("gen", "1", "2", "2", CODE=code, preexec_fn=lambda: os.close(1))
+        self.assertEqual(self.notes.read_text(), "open 0\n")
+        self.assertEqual(self.launch("gen", "1", "2", "2", SAID="x", STATUS="6", preexec_fn=lambda: os.close(2)).returncode, 6)
