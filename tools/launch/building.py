@@ -1,5 +1,6 @@
 """Builds the program, and so proves it, and tells how far that is."""
 
+import fcntl
 import os
 import re
 import shlex
@@ -104,12 +105,24 @@ def _announce(place, changed, below, jobs):
         say(f"at once, in another shell, it runs unproved (a minute, then proved=no): cd {folder} && rt try -- gen 1 2 2")
 
 
-def build(place, changed):
+def build(place):
     """Whether the program is now built and proved from the sources as they are."""
     if not shutil.which("rt"):
         say("the program is to be built, and the toolchain's rt is not in the path")
         return False
     os.makedirs(place.made, exist_ok=True)
+    with open(os.path.join(place.made, "launcher.lock"), "w", encoding="ascii") as alone:
+        try:
+            fcntl.flock(alone, fcntl.LOCK_EX | fcntl.LOCK_NB)
+        except OSError:
+            say("another launcher builds the program: this one waits for it")
+            fcntl.flock(alone, fcntl.LOCK_EX)
+        changed = changes(place)
+        return changed == [] or _build_alone(place, changed)
+
+
+def _build_alone(place, changed):
+    """Builds the program where no other launcher does."""
     below, jobs = needed_crates(place.top), side_by_side()
     _announce(place, changed, below, jobs)
     sources, name = noted_sources(place.top), os.path.join(place.made, "launcher.log")

@@ -1,5 +1,6 @@
 """Hints on captures that are refused: which file it is, and the command that makes one of it that is not."""
 
+import re
 import shlex
 
 from .sources import stamp_of
@@ -23,11 +24,11 @@ MAGICS = (
     (b"\xc3\xd4\xa1\xb2", "has the bytes of each pair in the wrong order", "dd conv=swab if=IN of=OUT"),
     (b"\xb2\xa1\xd4\xc3", "has the bytes of each pair in the wrong order", "dd conv=swab if=IN of=OUT"),
 )
-MAGIC_BYTES = {"little": r"'\324\303\262\241'", "big": r"'\241\262\303\324'"}
+# The magic of a classic capture, in each byte order, in micro- and nanoseconds.
+LITTLE, BIG = (b"\xd4\xc3\xb2\xa1", b"\x4d\x3c\xb2\xa1"), (b"\xa1\xb2\xc3\xd4", b"\xa1\xb2\x3c\x4d")
 VERSION_SWAPPED = (512, 1024)
 HIGHEST_LINK = 0xFFFF
 LONGEST_RECORD = 262_144
-MAX_BYTES = 16_777_216
 
 
 def first_bytes(name, count=6):
@@ -50,18 +51,18 @@ def kind_of(name):
 def is_capture(name):
     """Whether a file begins as a capture, of whatever form."""
     begin = first_bytes(name)
-    classic = (b"\xd4\xc3\xb2\xa1", b"\xa1\xb2\xc3\xd4", b"\x4d\x3c\xb2\xa1", b"\xa1\xb2\x3c\x4d")
-    return begin.startswith(classic + tuple(magic for magic, *_ in MAGICS))
+    return begin.startswith(LITTLE + BIG + tuple(magic for magic, *_ in MAGICS))
 
 
 def converted(command, name):
-    """A command with the name of a file, and one for what it makes."""
+    """A command with the name of a file for IN, and one for what it makes for OUT."""
     new = name
     for end in (".gz", ".xz", ".zst", ".bz2"):
         new = new[:-len(end)] if new.endswith(end) else new
     base = new[:-5] if new.endswith(".pcap") else new[:-7] if new.endswith(".pcapng") else new
     made = new if new != name else f"{base}.classic.pcap"
-    return command.replace("IN", shlex.quote(name), 1).replace("OUT", shlex.quote(made), 1)
+    names = {"IN": shlex.quote(name), "OUT": shlex.quote(made)}
+    return re.sub(r"\b(IN|OUT)\b", lambda it: names[it[0]], command)
 
 
 def to_raw(name, link):
@@ -107,10 +108,8 @@ def _other_order(port, name):
     begin = first_bytes(name)
     if not begin:
         return text
-    order = MAGIC_BYTES["big" if begin[:1] in (b"\xd4", b"\x4d") else "little"]
-    is_nano = begin[:4] in (b"\x4d\x3c\xb2\xa1", b"\xa1\xb2\x3c\x4d")
-    order = order.replace(r"\303\324", r"\074\115").replace(r"\324\303", r"\115\074") if is_nano else order
-    return text + ": " + converted(f"(printf {order}; tail -c +5 IN) > OUT", name)
+    magic = "".join(f"\\{byte:03o}" for byte in reversed(begin[:4]))
+    return text + ": " + converted(f"(printf '{magic}'; tail -c +5 IN) > OUT", name)
 
 
 def on_link(port, name, link):
@@ -124,7 +123,7 @@ def on_link(port, name, link):
 
 
 def on_cut(port, name, at):
-    fix = converted("editcap -F pcap IN OUT", name)
+    fix = converted("tcpdump -r IN -w OUT", name)
     return f"{name}, the capture of port {port}, ends within a packet, as one that is still written; to keep the whole packets: {fix}"
 
 
@@ -147,5 +146,5 @@ def on_two_links(job, first, second):
 
 def _link_of(name):
     begin = first_bytes(name, 24)
-    order = "little" if begin[:1] in (b"\xd4", b"\x4d") else "big"
+    order = "little" if begin[:4] in LITTLE else "big"
     return int.from_bytes(begin[20:24], order) if len(begin) == 24 else None

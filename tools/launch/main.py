@@ -63,8 +63,7 @@ def _help(place, words):
         text = file.read()
     if words[0] in COMMANDS:
         return tell(help_of_command(text, words[0]))
-    manual = place.path("docs", "tiny_tera.1")
-    return tell([*help_lines(text), f"{place.usage} has every option, file and status; so has: man {manual}"])
+    return tell([*help_lines(text), f"{place.usage} has every option, file and status; so has: man {place.manual}"])
 
 
 def _version(place):
@@ -79,9 +78,13 @@ def _version(place):
 def _record(place, name):
     """Notes that the built program was proved from the sources whose sums a file has, one in a line."""
     from .building import kit_line
-    with open(name, encoding="utf-8") as file:
-        lines = [line.rstrip("\n").partition("  ") for line in file]
-    sources.note_build(place, {source: [found, None] for found, _, source in lines}, kit_line())
+    try:
+        with open(name, encoding="utf-8") as file:
+            lines = [line.rstrip("\n").partition("  ") for line in file]
+        sources.note_build(place, {source: [found, None] for found, _, source in lines}, kit_line())
+    except OSError as fault:
+        say(f"the build is not noted: {fault}")
+        return 1
     changed = sources.changes(place)
     for source in changed or []:
         say(f"{source} was changed since its sum was noted, so the program will be proved again")
@@ -102,7 +105,7 @@ def _start(place, words, job, fault):
             # The words would be refused after half an hour of proofs.
             say(f"{fault}")
             return USAGE_FAULT
-        if not _build(place, changed):
+        if not _build(place):
             return 1
     if job and job.inputs and os.isatty(2):
         for line in lines_of_ports(job):
@@ -119,12 +122,12 @@ def _start(place, words, job, fault):
     return status
 
 
-def _build(place, changed):
+def _build(place):
     if place.is_installed:
         say(f"{place.program} is not the program that was installed, so it is not started")
         return False
     from .building import build
-    return build(place, changed)
+    return build(place)
 
 
 def _warn_of_late(job):
@@ -146,5 +149,4 @@ def start(top):
         status = main(top, sys.argv[1:])
     except KeyboardInterrupt:
         status = -2
-    sys.stdout = None  # Flushed already, and maybe closed.
     sys.exit(end_as(status))

@@ -3,7 +3,10 @@
 import json
 import os
 import subprocess
-import sys
+
+
+# From the folder PREFIX/lib/tiny_tera.
+INSTALLED_MANUAL = ("..", "..", "share", "man", "man1", "tiny_tera.1")
 
 
 class Place:
@@ -16,6 +19,7 @@ class Place:
         self.program = os.path.join(self.made, "program" if self.is_installed else "tiny_tera")
         self.record = os.path.join(self.made, "launcher.json")
         self.usage = self.path("docs", "USAGE.md")
+        self.manual = os.path.normpath(self.path(*INSTALLED_MANUAL if self.is_installed else ("docs", "tiny_tera.1")))
 
     def path(self, *parts):
         return os.path.join(self.top, *parts)
@@ -57,24 +61,23 @@ def say(text):
 
 def tell_error(line):
     """Prints a line on standard error; where that is closed or full there is nothing to be done."""
-    try:
-        os.write(2, os.fsencode(shown(line)) + b"\n")
-    except OSError:
-        pass
+    write_all(2, os.fsencode(shown(line)) + b"\n")
 
 
 def tell(lines):
     """Prints lines on standard output, and answers the status."""
+    is_written = write_all(1, b"".join(os.fsencode(shown(line)) + b"\n" for line in lines))
+    return 0 if is_written else 1
+
+
+def write_all(stream, data):
+    """Whether all bytes were written to an open file; the others are left out."""
     try:
-        for line in lines:
-            sys.stdout.write(os.fsencode(shown(line)).decode(errors="replace") + "\n")
-        sys.stdout.flush()
-    except (OSError, AttributeError):
-        # The reader has gone, or standard output is closed.
-        devnull = os.open(os.devnull, os.O_WRONLY)
-        os.dup2(devnull, 1)
-        return 1
-    return 0
+        while data:
+            data = data[os.write(stream, data):]
+    except OSError:
+        return False
+    return True
 
 
 def shown(line):

@@ -4,6 +4,8 @@ import os
 import signal
 import subprocess
 
+from .place import write_all
+
 # The program asks for large pages: fewer of them are touched for the first time, so a run takes less.
 TUNABLES, LARGE_PAGES = "GLIBC_TUNABLES", "glibc.malloc.hugetlb=1"
 HANDED_ON = (signal.SIGTERM, signal.SIGHUP, signal.SIGUSR1, signal.SIGUSR2)
@@ -25,16 +27,8 @@ def run(program, words):
     said = b""
     for piece in iter(lambda: os.read(ran.stderr.fileno(), KEPT), b""):
         said = (said + piece)[:KEPT]
-        _hand_on(piece)
+        write_all(2, piece)
     return ran.wait(), said.decode(errors="surrogateescape")
-
-
-def _hand_on(piece):
-    try:
-        while piece:
-            piece = piece[os.write(2, piece):]
-    except OSError:
-        pass  # Standard error is closed or full, as the program would have found it.
 
 
 def end_as(status):

@@ -39,7 +39,7 @@ def on_bad_line(job, number):
 def _why(line):
     """What is wrong with a line that is not of the form."""
     words = re.split(r"[ \t]+", line.strip(" \t"))
-    if "\r" in line or not line.isprintable() and "\t" not in line:
+    if any(not it.isprintable() and it != "\t" for it in line):
         return "it has a carriage return or another letter that is not shown; end lines with LF or CR LF"
     if "#" in line:
         return "a comment has a line of its own, which begins with #"

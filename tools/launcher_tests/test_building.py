@@ -3,6 +3,7 @@
 import os
 import re
 import shutil
+import subprocess
 import unittest
 from unittest import mock
 
@@ -92,6 +93,15 @@ class Building(Scene):
         self.assertEqual(self.launch("gen", "1", "2", "2").stdout, "summary\n")
         self.assertEqual(self.calls(), ["run -- gen 0 0 1"])
 
+    def test_two_launchers(self):
+        """The second waits for the first, and finds the program built."""
+        words = [str(self.top / "tiny_tera"), "gen", "1", "2", "2"]
+        variables = {**self.variables, "RT_CODE": "sleep 0.5"}
+        both = [subprocess.Popen(words, env=variables, stdout=subprocess.PIPE, stderr=subprocess.PIPE) for _ in range(2)]
+        told = [it.communicate(timeout=60) for it in both]
+        self.assertEqual([out for out, _ in told], [b"summary\n"] * 2)
+        self.assertEqual(self.calls().count("run -- gen 0 0 1"), 1)
+
     def test_build_that_fails(self):
         failed = self.launch("gen", "1", "2", "2", RT_CODE="echo 'error: no proof'; exit 1")
         log = self.top / "crates/tiny_tera/out/launcher.log"
@@ -107,6 +117,7 @@ class Building(Scene):
     def test_wrong_words_build_nothing(self):
         wrong = self.launch("run", "--rounds", "65", "t", "out", "a")
         self.assertEqual((wrong.returncode, wrong.stderr), (2, "tiny_tera: --rounds 65: R is a number from 1 to 64\n"))
+        self.assertEqual(self.launch().returncode, 2)
         self.assertEqual(self.calls(), [])
 
     def test_gate_notes_what_it_proved(self):
@@ -116,6 +127,7 @@ class Building(Scene):
         self.assertEqual(sorted(names), sorted(set(names)))
         self.assertEqual([it for it in names if "beside" in it or "must-fail" in it], [])
         self.write("began", sums)
+        self.assertEqual(self.launch("--record-build", "began").returncode, 1)
         made = self.top / "crates/tiny_tera/out/tiny_tera"
         made.parent.mkdir()
         shutil.copy(self.room / "fake", made)

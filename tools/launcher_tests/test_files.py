@@ -2,6 +2,8 @@
 
 import os
 import pty
+import re
+import subprocess
 
 from .scene import Scene, capture, frame
 
@@ -101,6 +103,21 @@ class Ports(Scene):
             "writes out.0.pcap", "writes out.1.pcap", "writes out.2.pcap", "writes out.3.pcap", "writes out.report, which is there", "writes out.journal",
         ])
         self.assertEqual(self.calls(), [])
+
+    def test_numbers_that_sort(self):
+        """The ways of docs/USAGE.md to name captures so that they come in the order of ports."""
+        for number in range(12):
+            self.write(f"out.{number}.pcap", "")
+            self.write(f"lan.{number:02}.pcap", "")
+        text = (self.top / "docs/USAGE.md").read_text()
+        command = re.search(r"^tiny_tera --dry-run run .*$", text, re.M)[0]
+        for words, name in ((command, "out.{}.pcap"), ("tiny_tera --dry-run run table.txt next lan.*.pcap", "lan.{:02}.pcap")):
+            path = f"{self.top}:{self.variables['PATH']}"
+            told = subprocess.run(
+                ["sh", "-c", words], cwd=self.jobs, env={**self.variables, "PATH": path}, stdout=subprocess.PIPE, universal_newlines=True
+            )
+            found = [line for line in told.stdout.splitlines() if line.startswith("port ")]
+            self.assertEqual(found, [f"port {port}: {name.format(port)}" for port in range(12)])
 
     def test_dry_run_refuses_what_a_run_would(self):
         for words in (["run", "table.txt", "a", "a.pcap", "--slots=1"], ["run", "table.txt", "", "a.pcap"]):

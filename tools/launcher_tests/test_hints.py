@@ -66,6 +66,7 @@ TABLE = [
     ("10.0.0.256/32 0", "bad line", "10.0.0.256 is no IPv4 address"),
     ("default 0", "bad line", f"'default' is no IPv4 prefix; {FORM}"),
     ("10.0.0.0/24 0\r\r", "bad line", "it has a carriage return or another letter that is not shown; end lines with LF or CR LF"),
+    ("10.0.0.0/24\u00a00", "bad line", "it has a carriage return or another letter that is not shown; end lines with LF or CR LF"),
     ("10.0.0.1/24 0", "host bits", "bits beyond the length are 0: 10.0.0.0/24"),
     ("10.0.0.0/24 2", "port 2", "with 2 captures ports are 0 to 1"),
     ("10.0.0.0/24 0 4", "level", "the level is a number from 0, the best, to 3; several ports are joined by commas"),
@@ -90,6 +91,8 @@ CAPTURES = [
     (capture(version=(2, 3)), "version 2.3", "is not of version 2.4: editcap -F pcap a.pcap a.classic.pcap"),
     (HALF, "version 512.1024",
      r"has its magic in one byte order and the rest in the other: (printf '\324\303\262\241'; tail -c +5 a.pcap) > a.classic.pcap"),
+    (b"\xa1\xb2\x3c\x4d" + HALF[4:], "version 512.1024",
+     r"has its magic in one byte order and the rest in the other: (printf '\115\074\262\241'; tail -c +5 a.pcap) > a.classic.pcap"),
     (capture(link=113), "link type 113",
      f"is of link type 113 (tcpdump -i any), {LINK}; {RAW}: editcap -F pcap -L -C 16 -T rawip a.pcap a.classic.pcap"),
     (capture(link=276), "link type 276",
@@ -99,7 +102,7 @@ CAPTURES = [
     (capture(link=0x14000001), "link type 335544321",
      "has more in the field of its link type than link type 1 (Ethernet): editcap -F pcap a.pcap a.classic.pcap"),
     (capture(frame())[:-1], "cut record at 24",
-     "ends within a packet, as one that is still written; to keep the whole packets: editcap -F pcap a.pcap a.classic.pcap"),
+     "ends within a packet, as one that is still written; to keep the whole packets: tcpdump -r a.pcap -w a.classic.pcap"),
     (capture() + struct.pack("<IIII", 0, 0, 300_000, 300_000), "long record at 24, 300000 bytes",
      "has a packet of more than 262,144 bytes at byte 24; the file may be damaged there"),
     (capture() + struct.pack("<IIII", 0, 0, 60 << 24, 60 << 24), "long record at 24, 1006632960 bytes",
@@ -144,6 +147,9 @@ class Hints(Scene):
         said = "capture 1: bad magic 1f8b0800"
         hint = "my file.pcap.gz, the capture of port 1, is compressed by gzip: zcat 'my file.pcap.gz' > 'my file.pcap'"
         self.check(["firm", "table.txt", "x.pcap", "my file.pcap.gz"], 4, said, hint, files)
+        files = {"table.txt": "", "OUT.pcap": b"\x0a\x0d\x0d\x0a" + bytes(28)}
+        hint = "OUT.pcap, the capture of port 0, is a pcapng file: editcap -F pcap OUT.pcap OUT.classic.pcap"
+        self.check(["firm", "table.txt", "OUT.pcap"], 4, "capture 0: bad magic 0a0d0d0a", hint, files)
 
     def test_repeated_and_too_many_lines(self):
         files = {**GOOD, "table.txt": "10.0.0.0/24 0\n\n10.0.0.0/24 1\n"}

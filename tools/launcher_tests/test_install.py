@@ -1,6 +1,7 @@
 """What is installed runs without a toolchain, and is the proved program."""
 
 import hashlib
+import os
 import shutil
 import subprocess
 
@@ -34,7 +35,9 @@ class Install(Scene):
         self.assertEqual((ended.returncode, ended.stdout, ended.stderr), (0, "summary\n", ""))
         version = self.started("--version").stdout.splitlines()
         self.assertEqual(version[1:], [f"proved with {KIT}", f"sha256 {proved}  {self.prefix}/lib/tiny_tera/program"])
-        self.assertIn("usage:\n  tiny_tera run", self.started("--help").stdout)
+        told = self.started("--help").stdout
+        self.assertIn("usage:\n  tiny_tera run", told)
+        self.assertTrue(os.path.isfile(told.rstrip("\n").partition("man ")[2]), told)
         self.assertIn("--rounds R", self.started("run", "--help").stdout)
         for name in ("share/man/man1/tiny_tera.1", "share/tiny_tera/viewer/index.html", "share/tiny_tera/viewer/lib/LICENSE", "share/tiny_tera/LICENSE"):
             self.assertTrue((self.prefix / name).is_file(), name)
