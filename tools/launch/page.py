@@ -31,7 +31,7 @@ def cells_of(row):
 
 def words_of(text):
     """Prose without links and marks."""
-    return LINK.sub(r"\1", text).replace("`", "")
+    return LINK.sub(r"\1", text).replace("`", "").replace("**", "")
 
 
 def synopsis(blocks):
