@@ -19,6 +19,7 @@ pub mod Delivered
 pub mod Fitting
 pub mod Emptied
 pub mod WaitingPackets
+pub mod LineRate
 pub mod RunWindows
 pub mod Driven
 pub mod Finished

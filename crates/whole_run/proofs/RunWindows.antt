@@ -1,8 +1,7 @@
 -- Slots of a run are windows of its schedule, in which a queue waits no longer than the longest service.
-use Rattle.std.proofs.Common.{◌≡◌, ◌∙◌, ℕ, zero, suc, ◌+◌, ◌-◌, ◌<◌, ◌≤◌, List, Option, All, map, take, drop, length, refl, sym, ap, subst, arith, inl, inr}
+use Rattle.std.proofs.Common.{◌≡◌, ◌∙◌, ℕ, zero, suc, ◌+◌, ◌-◌, ◌<◌, ◌≤◌, List, Option, All, map, take, drop, length, refl, sym, ap, subst, arith}
 use Rattle.std.specs.Prelude.{slice_index_or, Any}
 use Rattle.std.specs.List.{range_with_len}
-use Rattle.std.proofs.lemmas.Bool.Decides.{eqb_tells}
 use Rattle.std.proofs.lemmas.List.{drop-map}
 use Rattle.std.proofs.lemmas.List.FromFn.{length-map-range_with_len, get_or-map-range_with_len, take-map-range_with_len}
 use Rattle.rotating_pick.specs.declared.kinds.Kind.{Kind}
@@ -22,12 +21,10 @@ use Rattle.eslip_rounds.proofs.Scheduling.{IsSchedulerBy-decision_of, IsSchedule
 use Rattle.slot_histories.specs.Slots.{slot_rows}
 use Rattle.slot_histories.proofs.PostedRows.{row_of-slot_rows}
 use Rattle.slot_board.specs.Schedules.{decided_under, decided_slot}
-use Rattle.service_bound.specs.Windows.{IsWindowBy, IsWindow, IsClean, IsWithoutMulticast, InFirst, places_after}
-use Rattle.service_bound.specs.Waits.{noted_of, longest_wait, longest_service_by}
+use Rattle.service_bound.specs.Windows.{IsWindowBy, IsWindow, IsClean, IsWithoutMulticast, AreAtLineRate, InFirst, places_after}
+use Rattle.service_bound.specs.Waits.{noted_of, longest_wait, longest_service_at_line_rate}
 use Rattle.service_bound.proofs.PartsOfSchedules.{part_is_window}
-use Rattle.service_bound.proofs.ServedInTime.{served_in_time}
-use Rattle.service_bound.proofs.OneRoundServed.{one_served_in_time}
-use Rattle.service_bound.proofs.WaitsByRounds.{longest_wait-below_service}
+use Rattle.service_bound.proofs.LineRateByRounds.{served_by_rounds_at_line_rate, longest_wait-below_at_line_rate}
 use Rattle.card_core.specs.Plans.{level_of, kind_of, queue_of}
 use Rattle.card_core.proofs.After.{level-queue}
 use Rattle.switch_plan.specs.GoodPlans.{SwitchPlan, IsGood}
@@ -36,6 +33,7 @@ use Rattle.whole_run.specs.Crossings.{queue_to}
 use Rattle.whole_run.specs.Sums.{schedule_under, run_schedule, IsBestUnder, IsBestLevel}
 use Rattle.whole_run.proofs.Base.{good-card}
 use Rattle.whole_run.proofs.FlowCells.{level_to, kind_to}
+use Rattle.whole_run.proofs.LineRate.{at-line_rate}
 use Rattle.whole_run.proofs.RunSchedule.{run-schedule, run-within, run-kept}
 use Rattle.whole_run.proofs.WaitingPackets.{named-waits, waiting-admitted}
 
@@ -48,25 +46,16 @@ drop-range (suc first) a (suc n) few =
     ∙ ap (λ b. range_with_len b (n - first)) (let e : a + 1 + first ≡ a + suc first = omega arith in e)
     ∙ ap (range_with_len (a + suc first)) (let e : n - first ≡ suc n - suc first = omega arith in e)
 
-middle : {X : Type 0} (f : ℕ → X) (first count n : ℕ) → first + count ≤ n → take count (drop first (map f (range_with_len 0 n))) ≡ map f (range_with_len first count)
+pub middle : {X : Type 0} (f : ℕ → X) (first count n : ℕ) → first + count ≤ n → take count (drop first (map f (range_with_len 0 n))) ≡ map f (range_with_len first count)
 middle f first count n few =
     ap (take count) (drop-map f first (range_with_len 0 n) ∙ ap (map f) (drop-range first 0 n (omega arith) ∙ ap (λ a. range_with_len a (n - first)) (let e : 0 + first ≡ first = omega arith in e)))
     ∙ take-map-range_with_len f first (n - first) count (omega arith)
 
-in_first : (P : List Row → Type 0) (f : ℕ → DecidedSlot) (first count : ℕ) → P (f first).rows → InFirst P (map f (range_with_len first count))
+pub in_first : (P : List Row → Type 0) (f : ℕ → DecidedSlot) (first count : ℕ) → P (f first).rows → InFirst P (map f (range_with_len first count))
 in_first P f first zero there = tt
 in_first P f first (suc count) there = there
 
--- ---- a window of as many slots as the longest service serves
-served_by_rounds : (n rounds t level i j : ℕ) (places : Places) (slots : List DecidedSlot) → 0 < rounds → i < n → IsWindow n rounds t level places slots → All (λ slot. IsWithoutMulticast n level slot.rows) slots
-    → InFirst (λ rows. Names (row_of rows i) level Uni j) slots → longest_service_by n rounds ≤ length slots → Any (λ slot. Serves slot.decision.matched i j level Uni) slots
-served_by_rounds n rounds t level i j places slots some inside window alone first long =
-    elim (eqb_tells rounds 1) [
-      | inl one ↦ one_served_in_time n t level i j places slots inside (subst (λ r. IsWindow n r t level places slots) one.1 window) alone first (rw one.0 at long)
-      | inr more ↦ served_in_time n rounds t level i j places slots some inside window alone first (rw more.0 at long)
-    ]
-
-begins : (plan : SwitchPlan) → IsGood plan → (level : ℕ) → level < LEVELS → ArePointing (ports_of plan) level (places_at_first (ports_of plan))
+pub begins : (plan : SwitchPlan) → IsGood plan → (level : ℕ) → level < LEVELS → ArePointing (ports_of plan) level (places_at_first (ports_of plan))
 unfolding places_at_first
 begins plan good level below = (AreAtPorts-at_first (ports_of plan) good.size.some good.size.most).pointing level below
 
@@ -74,13 +63,13 @@ module _ (plan : SwitchPlan) (good : IsGood plan) where
   abbrev slot_at : ℕ → DecidedSlot
   slot_at = decided_slot (setup_for plan) (posts_in plan)
 
-  pub served-in-window : (slots first level i j : ℕ) → level < LEVELS → i < ports_of plan → first + longest_service_by (ports_of plan) plan.rounds ≤ slots
-      → All (λ slot. IsClean (ports_of plan) level slot.rows × IsWithoutMulticast (ports_of plan) level slot.rows) (take (longest_service_by (ports_of plan) plan.rounds) (drop first (run_schedule plan slots)))
+  pub served-in-window : (slots first level i j : ℕ) → level < LEVELS → i < ports_of plan → first + longest_service_at_line_rate (ports_of plan) plan.rounds ≤ slots
+      → All (λ slot. IsClean (ports_of plan) level slot.rows × IsWithoutMulticast (ports_of plan) level slot.rows) (take (longest_service_at_line_rate (ports_of plan) plan.rounds) (drop first (run_schedule plan slots)))
       → Names (posts_in plan i first).row level Uni j
-      → Any (λ slot. Serves slot.decision.matched i j level Uni) (take (longest_service_by (ports_of plan) plan.rounds) (drop first (run_schedule plan slots)))
+      → Any (λ slot. Serves slot.decision.matched i j level Uni) (take (longest_service_at_line_rate (ports_of plan) plan.rounds) (drop first (run_schedule plan slots)))
   served-in-window slots first level i j below inside few quiet named =
       let n = ports_of plan in
-      let count = longest_service_by n plan.rounds in
+      let count = longest_service_at_line_rate n plan.rounds in
       let part = take count (drop first (run_schedule plan slots)) in
       let is : part ≡ map slot_at (range_with_len first count) = middle slot_at first count slots few in
       let window : IsWindow n plan.rounds (0 + first) level (places_after (places_at_first n) (take first (run_schedule plan slots))) part =
@@ -88,7 +77,8 @@ module _ (plan : SwitchPlan) (good : IsGood plan) where
       (λ k d short. (quiet k d short).0) in
       let there : Names (row_of (slot_at first).rows i) level Uni j = subst (λ row. Names row level Uni j) (sym (row_of-slot_rows n (posts_in plan) first i inside)) named in
       let long : length part ≡ count = ap length is ∙ length-map-range_with_len slot_at first count in
-      served_by_rounds n plan.rounds (0 + first) level i j (places_after (places_at_first n) (take first (run_schedule plan slots))) part good.rounds.some inside window (λ k d short. (quiet k d short).1)
+      let gains : AreAtLineRate n level part = subst (AreAtLineRate n level) (sym is) (at-line_rate decision_of plan good level first count) in
+      served_by_rounds_at_line_rate n plan.rounds (0 + first) level i j (places_after (places_at_first n) (take first (run_schedule plan slots))) part good.rounds.some inside window (λ k d short. (quiet k d short).1) gains
       (subst (InFirst (λ rows. Names (row_of rows i) level Uni j)) (sym is) (in_first (λ rows. Names (row_of rows i) level Uni j) slot_at first count there)) (omega arith)
 
 -- ---- where no packet of a better level is admitted, and no multicast packet of the level
@@ -133,7 +123,8 @@ module _ (scheduler : Scheduler) (scheduling : IsScheduler scheduler) (plan : Sw
   pub best-alone : All (λ slot. IsWithoutMulticast (ports_of plan) level slot.rows) (schedule_under scheduler plan slots)
   best-alone = all_slots (IsWithoutMulticast (ports_of plan) level) alone_at
 
-pub waits-short : (plan : SwitchPlan) → IsGood plan → (slots level : ℕ) → IsBestLevel plan slots level → longest_wait (ports_of plan) level (map noted_of (run_schedule plan slots)) < longest_service_by (ports_of plan) plan.rounds
+pub waits-short : (plan : SwitchPlan) → IsGood plan → (slots level : ℕ) → IsBestLevel plan slots level → longest_wait (ports_of plan) level (map noted_of (run_schedule plan slots)) < longest_service_at_line_rate (ports_of plan) plan.rounds
 waits-short plan good slots level best =
-    longest_wait-below_service (ports_of plan) plan.rounds 0 level (places_at_first (ports_of plan)) (run_schedule plan slots) good.size.some good.rounds.some
+    longest_wait-below_at_line_rate (ports_of plan) plan.rounds 0 level (places_at_first (ports_of plan)) (run_schedule plan slots) good.size.some good.rounds.some
     (best-window decision_of IsScheduler-decision_of plan good slots level best AreMoved IsSchedulerBy-decision_of) (best-alone decision_of IsScheduler-decision_of plan good slots level best)
+    (at-line_rate decision_of plan good level 0 slots)

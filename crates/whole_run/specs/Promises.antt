@@ -7,7 +7,7 @@ use Rattle.rotating_pick.specs.declared.limits.TheConstants.{LEVELS}
 use Rattle.slot_match.specs.Rows.{Names}
 use Rattle.slot_match.specs.Matches.{Serves}
 use Rattle.service_bound.specs.Windows.{IsClean, IsWithoutMulticast}
-use Rattle.service_bound.specs.Waits.{noted_of, longest_wait, longest_service_by}
+use Rattle.service_bound.specs.Waits.{noted_of, longest_wait, longest_service_at_line_rate}
 use Rattle.eslip_rounds.specs.Schedulers.{Scheduler}
 use Rattle.eslip_rounds.specs.Decisions.{decision_of}
 use Rattle.slot_histories.specs.Slots.{decision_under}
@@ -36,9 +36,10 @@ DeliversNoOthersUnder scheduler plan slots = (j : ℕ) → All (λ cell. (cell.i
 abbrev pub DeliversNoOthers : SwitchPlan → ℕ → Type 0
 DeliversNoOthers = DeliversNoOthersUnder decision_of
 
--- in how many slots a unicast request is served at the latest, where nothing better is posted
+-- In how many slots a unicast request is served at the latest, where nothing better is posted: the rows of a run are at
+-- line rate, so from three ports on one slot less than for rows at large.
 abbrev pub bound_of : SwitchPlan → ℕ
-bound_of plan = longest_service_by (ports_of plan) plan.rounds
+bound_of plan = longest_service_at_line_rate (ports_of plan) plan.rounds
 
 -- In so many slots in a row in which nothing of a better level and no multicast of the level is posted, a unicast queue
 -- that is posted in the first is served in one of them.

@@ -1,12 +1,22 @@
 //! How long a queue waits in a run, as the contracts of functions that do nothing.
 
 ghost use Rattle.std.specs.Prelude.{ℕ};
+ghost use Rattle.eslip_rounds.specs.Schedulers.{Scheduler};
+ghost use Rattle.service_bound.specs.Windows.{AreAtLineRate};
 ghost use Rattle.switch_plan.specs.GoodPlans.{SwitchPlan, IsGood};
 ghost use Rattle.whole_run.specs.Promises.{ServesWaiting, WaitsAreShort};
+ghost use Rattle.whole_run.specs.Runs.{ports_of};
+ghost use Rattle.whole_run.specs.Sums.{schedule_under};
 
-/// In so many slots of the run in a row as `longest_service()` of `service_bound` says, in which nothing of
-/// a better level and no multicast of the level is posted, a unicast queue that is posted in the first is
-/// served in one of them.
+/// The slots of a run are at line rate, under any scheduler: at most one packet arrives at a port in a slot, so from
+/// one slot to the next each input begins to ask at most one output of a level.
+pub fn runs_are_at_line_rate()
+    ensures { (scheduler : Scheduler) (plan : SwitchPlan) (slots level : ℕ) → IsGood plan → AreAtLineRate (ports_of plan) level (schedule_under scheduler plan slots) }
+{}
+
+/// In so many slots of the run in a row as `longest_service_at_line_rate()` of `service_bound` tells, in which nothing of
+/// a better level and no multicast of the level is posted, a unicast queue that is posted in the first is served in
+/// one of them. From three ports on this is one slot less than `longest_service()` tells.
 pub fn waiting_queues_are_served()
     ensures { (plan : SwitchPlan) (slots : ℕ) → IsGood plan → ServesWaiting plan slots }
 {}
