@@ -21,6 +21,7 @@ pub mod Emptied
 pub mod WaitingPackets
 pub mod LineRate
 pub mod RunWindows
+pub mod RunCompletes
 pub mod Driven
 pub mod Finished
 pub mod Given

@@ -1,11 +1,11 @@
 -- What is promised of a run of so many slots: what it delivers, how long a queue waits, and how many slots it has. What
 -- ends in `Under` is promised of any scheduler.
-use Rattle.std.specs.Prelude.{◌≡◌, ℕ, ◌+◌, ◌<◌, ◌≤◌, [], All, Any, map, take, drop, false}
+use Rattle.std.specs.Prelude.{◌≡◌, ℕ, ◌+◌, ◌*◌, ◌<◌, ◌≤◌, [], All, Any, map, take, drop, false}
 use Rattle.rotating_pick.specs.declared.kinds.Kind.{Kind}
-use Rattle.rotating_pick.specs.declared.kinds.Kind.TheVariants.{Uni}
+use Rattle.rotating_pick.specs.declared.kinds.Kind.TheVariants.{Uni, Multi}
 use Rattle.rotating_pick.specs.declared.limits.TheConstants.{LEVELS}
-use Rattle.slot_match.specs.Rows.{Names}
-use Rattle.slot_match.specs.Matches.{Serves}
+use Rattle.slot_match.specs.Rows.{Names, HasHead}
+use Rattle.slot_match.specs.Matches.{Serves, Completes}
 use Rattle.service_bound.specs.Windows.{IsClean, IsWithoutMulticast}
 use Rattle.service_bound.specs.Waits.{noted_of, longest_wait, longest_service_at_line_rate}
 use Rattle.eslip_rounds.specs.Schedulers.{Scheduler}
@@ -48,6 +48,17 @@ ServesWaiting plan slots = (first level i j : ℕ) → level < LEVELS → i < po
     → All (λ slot. IsClean (ports_of plan) level slot.rows × IsWithoutMulticast (ports_of plan) level slot.rows) (take (bound_of plan) (drop first (run_schedule plan slots)))
     → Names (posts_in plan i first).row level Uni j
     → Any (λ slot. Serves slot.decision.matched i j level Uni) (take (bound_of plan) (drop first (run_schedule plan slots)))
+
+-- In twice as many slots in a row as there are ports, in which nothing of a better level is posted, a multicast head that
+-- is posted in the first completes in one of them, whatever unicast is posted.
+abbrev pub CompletesUnder : Scheduler → SwitchPlan → ℕ → Type 0
+CompletesUnder scheduler plan slots = (first level i j : ℕ) → level < LEVELS → i < ports_of plan → first + 2 * ports_of plan ≤ slots
+    → All (λ slot. IsClean (ports_of plan) level slot.rows) (take (2 * ports_of plan) (drop first (schedule_under scheduler plan slots)))
+    → Names (posts_under scheduler plan i first).row level Multi j
+    → Any (λ slot. HasHead slot.rows level i × Completes slot.rows slot.decision.matched level i) (take (2 * ports_of plan) (drop first (schedule_under scheduler plan slots)))
+
+abbrev pub CompletesMulticast : SwitchPlan → ℕ → Type 0
+CompletesMulticast = CompletesUnder decision_of
 
 -- The longest wait of the best level of all admitted packets is below the bound, where none of that level is multicast.
 abbrev pub WaitsUnder : Scheduler → SwitchPlan → ℕ → ℕ → Type 0

@@ -4,7 +4,7 @@ ghost use Rattle.std.specs.Prelude.{ℕ};
 ghost use Rattle.eslip_rounds.specs.Schedulers.{Scheduler};
 ghost use Rattle.service_bound.specs.Windows.{AreAtLineRate};
 ghost use Rattle.switch_plan.specs.GoodPlans.{SwitchPlan, IsGood};
-ghost use Rattle.whole_run.specs.Promises.{ServesWaiting, WaitsAreShort};
+ghost use Rattle.whole_run.specs.Promises.{CompletesMulticast, ServesWaiting, WaitsAreShort};
 ghost use Rattle.whole_run.specs.Runs.{ports_of};
 ghost use Rattle.whole_run.specs.Sums.{schedule_under};
 
@@ -25,4 +25,10 @@ pub fn waiting_queues_are_served()
 /// that level is multicast.
 pub fn best_level_waits_are_short()
     ensures { (plan : SwitchPlan) (slots : ℕ) → IsGood plan → WaitsAreShort plan slots }
+{}
+
+/// In `2 * n` slots of the run in a row, with `n` ports, in which nothing of a better level is posted, a multicast
+/// head that is posted in the first completes in one of them, whatever unicast is posted.
+pub fn multicast_heads_complete()
+    ensures { (plan : SwitchPlan) (slots : ℕ) → IsGood plan → CompletesMulticast plan slots }
 {}
