@@ -1,8 +1,7 @@
-ghost use Rattle.std.specs.Prelude.{ℕ, ◌≡◌, ◌<◌, ◌↔◌, slice_index, IsTrue};
+ghost use Rattle.std.specs.Prelude.{ℕ, ◌↔◌, IsTrue};
 ghost use Rattle.card_core.specs.Posts.{IsServable, IsOneFor};
 ghost use Rattle.slot_histories.specs.Parts.{IsPartOf};
 ghost use Rattle.rotating_pick.specs.PortSets.{Has};
-ghost use Rattle.slot_match.specs.Rows.{sets_of};
 
 use rotating_pick::{Kind, LEVELS, Ports, is_empty, is_subset, only};
 use slot_match::{Row, Served};
@@ -23,19 +22,8 @@ fn is_part(row: &Row, part: Served) -> bool
     ensures { IsTrue result ↔ IsPartOf row.now part }
 {
     u32::from(part.level) < LEVELS
-        && is_subset(part.outputs, set(row, part.level, part.kind))
+        && is_subset(part.outputs, row.outputs(part.level, part.kind))
         && is_some(part.outputs, part.kind)
-}
-
-// The outputs that the row names at the level with the kind.
-fn set(row: &Row, level: u8, kind: Kind) -> Ports
-    requires { level < LEVELS }
-    ensures { result ≡ slice_index (sets_of row.now kind) level }
-{
-    match kind {
-        Kind::Uni => row.uni[usize::from(level)],
-        Kind::Multi => row.multi[usize::from(level)],
-    }
 }
 
 // Whether there is an output, and for unicast no other.
