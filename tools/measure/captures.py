@@ -45,8 +45,8 @@ def _records(data, order, unit):
         at += length
 
 
-def destination(link, frame):
-    """The address that a frame goes to, as a number, or None where it has none."""
+def addresses(link, frame):
+    """The addresses that a frame comes from and goes to, as numbers, or None where it has none."""
     at = 0
     if link == ETHERNET:
         at, kind = 14, frame[12:14]
@@ -56,7 +56,13 @@ def destination(link, frame):
             return None
     if len(frame) < at + IP_HEADER or frame[at] >> 4 != 4:
         return None
-    return int.from_bytes(frame[at + 16:at + 20], "big")
+    return int.from_bytes(frame[at + 12:at + 16], "big"), int.from_bytes(frame[at + 16:at + 20], "big")
+
+
+def destination(link, frame):
+    """The address that a frame goes to, as a number, or None where it has none."""
+    found = addresses(link, frame)
+    return found[1] if found else None
 
 
 def read_table(text):
@@ -90,6 +96,11 @@ def route(routes, address):
     return routes.get(None)
 
 
+def cells_of(frame):
+    """The number of cells of a packet with this frame."""
+    return -(-(MESSAGE_HEADER + len(frame)) // CELL_PAYLOAD)
+
+
 class OnLine(NamedTuple):
     """A packet on the line of its port: its capture's record, the slot of its time stamp, that of its first cell, and
     its cells. At line pace each time stamp counts as the first slot."""
@@ -104,7 +115,7 @@ def on_line(packets, base, pace_us):
     """The packets of one port as its line brings them, at a pace counted from a time in nanoseconds."""
     free = 0
     for packet in packets:
-        cells = -(-(MESSAGE_HEADER + len(packet.frame)) // CELL_PAYLOAD)
+        cells = cells_of(packet.frame)
         due = (packet.time - base) // (1000 * pace_us) if pace_us else 0
         first = max(free, due)
         free = first + cells
