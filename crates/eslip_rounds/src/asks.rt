@@ -21,6 +21,8 @@ pub(crate) struct Asks {
     pub outputs: Ports,
     /// All rows joined.
     pub named: Row,
+    /// What each row names at one rank, while that is turned into columns.
+    pub sets: [Ports; PORT_COUNT],
 }
 
 impl Asks {
@@ -33,6 +35,7 @@ impl Asks {
             ranks: 0,
             outputs: 0,
             named: Row::empty(),
+            sets: no_sets(),
         }
     }
 
@@ -46,7 +49,15 @@ impl Asks {
     {
         let named = joined(rows);
         let before = self.ranks;
-        self.ranks = fill(n, first_kind, rows, &named, before, &mut self.columns);
+        self.ranks = fill(
+            n,
+            first_kind,
+            rows,
+            &named,
+            before,
+            &mut self.sets,
+            &mut self.columns,
+        );
         self.outputs = named.named();
         self.named = named;
     }
@@ -60,6 +71,7 @@ fn fill(
     rows: &[Row],
     named: &Row,
     before: Ports,
+    sets: &mut [Ports; PORT_COUNT],
     columns: &mut [[Ports; PORT_COUNT]; RANKS],
 ) -> Ports
     requires size { n ≤ MAX_PORTS }
@@ -75,7 +87,7 @@ fn fill(
         let level = level_of(rank);
         let kind = kind_of(first_kind, rank);
         if !is_empty(named.outputs(level, kind)) {
-            gather(n, rows, level, kind, &mut columns[rank as usize]);
+            gather(n, rows, level, kind, sets, &mut columns[rank as usize]);
             ranks = with(ranks, rank);
         } else {
             empty_if(contains(before, rank), rank, columns);
@@ -118,14 +130,20 @@ fn no_sets() -> [Ports; PORT_COUNT]
 }
 
 // Turns the rows' sets of the level and kind into columns.
-fn gather(n: u32, rows: &[Row], level: u8, kind: Kind, columns: &mut [Ports; PORT_COUNT])
+fn gather(
+    n: u32,
+    rows: &[Row],
+    level: u8,
+    kind: Kind,
+    sets: &mut [Ports; PORT_COUNT],
+    columns: &mut [Ports; PORT_COUNT],
+)
     requires size { n ≤ MAX_PORTS }
     requires rows { AreWithin n rows.now }
     requires level_in { level < LEVELS }
     ensures { (i j : ℕ) → Has (slice_index columns.new j) i ↔ ((i < n) × Names (row_of rows.now i) level kind j) }
 {
-    let mut sets = no_sets();
-    collect(n, rows, level, kind, &mut sets);
+    collect(n, rows, level, kind, sets);
     transpose(n, &sets[..n as usize], columns);
 }
 

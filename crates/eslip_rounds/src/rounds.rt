@@ -8,7 +8,7 @@ ghost use Rattle.eslip_rounds.specs.Steps.{column_of, AreAsks, IsStep, AreMade};
 
 use crate::accepts::accept_all;
 use crate::asks::Asks;
-use crate::grants::{no_offers, offer_all, ready_inputs};
+use crate::grants::{Offers, offer_all, ready_inputs};
 use crate::ranks::RANKS;
 use islip_rounds::RoundsUsed;
 use pointer_state::Pointers;
@@ -24,12 +24,14 @@ pub(crate) struct Made {
     pub first_outputs: Ports,
 }
 
-/// Makes the rounds of a slot, whose rows have these columns, and sets `out` to their match.
+/// Makes the rounds of a slot, whose rows have these columns, and sets `out` to their match. What `offers`
+/// held is not read.
 pub(crate) fn make_rounds(
     n: u32,
     rounds: u32,
     first_kind: Kind,
     asks: &Asks,
+    offers: &mut Offers,
     p: &Pointers,
     out: &mut Match,
 ) -> Made
@@ -46,7 +48,7 @@ pub(crate) fn make_rounds(
     ensures whole { IsMatch n out.new }
 {
     *out = Match::new(n);
-    round(n, first_kind, asks, p, out);
+    round(n, first_kind, asks, offers, p, out);
     let first_outputs = difference(all(n), out.free_outputs());
     let mut matched = out.count();
     let mut added = matched;
@@ -54,7 +56,7 @@ pub(crate) fn make_rounds(
     for done in 1..rounds {
         // Once a round adds nothing, no later one would.
         if added > 0 {
-            round(n, first_kind, asks, p, out);
+            round(n, first_kind, asks, offers, p, out);
             let now = out.count();
             added = now.saturating_sub(matched);
             matched = now;
@@ -69,7 +71,14 @@ pub(crate) fn make_rounds(
 
 // One round: the free outputs that any row names grant what they are asked, and the inputs accept of
 // what they are granted.
-fn round(n: u32, first_kind: Kind, asks: &Asks, p: &Pointers, out: &mut Match)
+fn round(
+    n: u32,
+    first_kind: Kind,
+    asks: &Asks,
+    offers: &mut Offers,
+    p: &Pointers,
+    out: &mut Match,
+)
     requires size { n ≤ MAX_PORTS }
     requires ports { p.now.ports ≡ n }
     requires at_ports { AreAtPorts p.now }
@@ -82,7 +91,7 @@ fn round(n: u32, first_kind: Kind, asks: &Asks, p: &Pointers, out: &mut Match)
 {
     let ready = ready_inputs(first_kind, out);
     let asked = intersection(out.free_outputs(), asks.outputs);
-    let mut offers = no_offers();
-    offer_all(n, first_kind, asks, &ready, p, asked, &mut offers);
-    accept_all(n, first_kind, &offers, p, out);
+    offers.granted = 0;
+    offer_all(n, first_kind, asks, &ready, p, asked, offers);
+    accept_all(n, first_kind, offers, p, out);
 }

@@ -7,6 +7,7 @@ ghost use Rattle.eslip_rounds.specs.Steps.{AreRefused};
 ghost use Rattle.eslip_rounds.specs.Decisions.{decision_of};
 
 use crate::asks::Asks;
+use crate::grants::{Offers, no_offers};
 use crate::moves::move_pointers;
 use crate::ranks::preferred_kind;
 use crate::refusals::{Refused, refused_grants};
@@ -55,6 +56,7 @@ pub fn decide(
 #[derive(Drop)]
 pub struct Scratch {
     asks: Asks,
+    offers: Offers,
 }
 
 impl Model for Scratch {
@@ -70,7 +72,10 @@ impl Model for Scratch {
 impl Scratch {
     /// One that no slot has used. Takes no memory.
     pub fn new() -> Scratch {
-        Scratch { asks: Asks::new() }
+        Scratch {
+            asks: Asks::new(),
+            offers: no_offers(),
+        }
     }
 }
 
@@ -105,7 +110,8 @@ pub fn decide_in(
     prove!(p.ports() == n);
     let first_kind = preferred_kind(slot);
     scratch.asks.read(n, first_kind, rows);
-    let made = make_rounds(n, rounds, first_kind, &scratch.asks, p, out);
+    let offers = &mut scratch.offers;
+    let made = make_rounds(n, rounds, first_kind, &scratch.asks, offers, p, out);
     move_pointers(n, rows, &scratch.asks.named, out, made.first_outputs, p);
     made.numbers
 }
@@ -143,7 +149,8 @@ pub fn decide_with_refused(
     let first_kind = preferred_kind(slot);
     let mut asks = Asks::new();
     asks.read(n, first_kind, rows);
-    let made = make_rounds(n, rounds, first_kind, &asks, p, out);
+    let mut offers = no_offers();
+    let made = make_rounds(n, rounds, first_kind, &asks, &mut offers, p, out);
     let refused = refused_grants(n, first_kind, &asks, p, made.first_outputs);
     move_pointers(n, rows, &asks.named, out, made.first_outputs, p);
     (made.numbers, refused)
