@@ -2,7 +2,7 @@
 use Rattle.std.proofs.Common.{◌≡◌, ◌≢◌, ◌∙◌, ℕ, ◌+◌, ◌<◌, ◌≤◌, true, false, List, [], ◌∷◌, ◌++◌, length, refl, sym, ap, subst, arith, inl, inr}
 use Rattle.std.specs.Prelude.{Option, None, if◌then◌else◌}
 use Rattle.std.proofs.lemmas.Bool.{both_ways, cases_lt, ne_eqb}
-use Rattle.std.proofs.lemmas.List.{length_push}
+use Rattle.std.proofs.lemmas.List.{length_push, append-nil}
 use Rattle.slot_match.specs.declared.rows.Row.{Row}
 use Rattle.slot_match.specs.declared.matching.Served.{Served}
 use Rattle.crossbar.specs.declared.cards.Post.{Post as CardPost}
@@ -144,6 +144,7 @@ AfterAct-post i board post =
       setup = refl;
       refused = refl;
       count = length_push board.events (Post i post);
+      goes_on = (Post i post ∷ [], refl);
       others = λ j ne. column-post-other board.setup board.events i j post (λ same. ne (sym same));
       still = λ no. absurd (both_ways true no refl);
     }
@@ -154,6 +155,7 @@ AfterAct-take i board =
       setup = refl;
       refused = refl;
       count = length_push board.events (Take i);
+      goes_on = (Take i ∷ [], refl);
       others = λ j ne. column-take-other board.setup board.events i j (λ same. ne (sym same));
       still = λ no. absurd (both_ways true no refl);
     }
@@ -164,6 +166,7 @@ AfterAct-none i board still =
       setup = refl;
       refused = refl;
       count = omega arith;
+      goes_on = ([], sym (append-nil board.events));
       others = λ j ne. refl;
       still = λ no. (refl, still);
     }

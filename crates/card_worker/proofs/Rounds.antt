@@ -1,8 +1,8 @@
 -- Rounds of the cards' turns at a board's state.
-use Rattle.std.proofs.Common.{◌≡◌, ◌∙◌, ℕ, ◌+◌, ◌*◌, ◌<◌, ◌≤◌, Bool, List, length, set, get_or, refl, sym, ap, subst, arith, inl, inr}
+use Rattle.std.proofs.Common.{◌≡◌, ◌∙◌, ℕ, ◌+◌, ◌*◌, ◌<◌, ◌≤◌, Bool, List, [], ◌++◌, length, set, get_or, refl, sym, ap, subst, arith, inl, inr}
 use Rattle.std.specs.Prelude.{slice_get}
 use Rattle.std.proofs.lemmas.Bool.{cases_eq, cases_lt, both_ways}
-use Rattle.std.proofs.lemmas.List.{length-set, map-set, get_or-map, set-get_or}
+use Rattle.std.proofs.lemmas.List.{length-set, map-set, get_or-map, set-get_or, append-nil, append_assoc}
 use Rattle.slot_histories.specs.declared.events.Event.{Event}
 use Rattle.slot_histories.specs.declared.events.Event.TheVariants.{Decide}
 use Rattle.slot_histories.specs.Events.{Setup, posts_of, takes_of, decides, posted}
@@ -18,7 +18,7 @@ use Rattle.card_core.specs.Plans.{Plan}
 use Rattle.card_worker.specs.declared.hands.Hand.{Hand}
 use Rattle.card_worker.specs.Agreeing.{Agrees}
 use Rattle.card_worker.specs.Trying.{one_if}
-use Rattle.card_worker.specs.Alone.{with_event, plans_of, IsHandOf, AreHandsOf, IsStill, AfterAct, AfterRound, IsOver}
+use Rattle.card_worker.specs.Alone.{with_event, plans_of, IsHandOf, AreHandsOf, GoesOn, IsStill, AfterAct, AfterRound, IsOver}
 use Rattle.card_worker.proofs.Columns.{column-decide}
 use Rattle.card_worker.proofs.Passes.{get-set_same, get-set_other, some_same, one_none}
 
@@ -30,6 +30,14 @@ plans_of-set hands i new old inside same =
     ∙ (ap (set (plans_of hands) i) (same ∙ sym (get_or-map plan hands i old (plan old) inside))
     ∙ set-get_or (plans_of hands) i (plan old))
 
+-- lists that go on from one another
+pub GoesOn-none : (events : List Event) → GoesOn events events
+GoesOn-none events = ([], sym (append-nil events))
+
+pub GoesOn-more : (old mid new : List Event) → GoesOn old mid → GoesOn mid new → GoesOn old new
+GoesOn-more old mid new first next =
+    (first.0 ++ next.0, next.1 ∙ ap (λ events. events ++ next.0) first.1 ∙ append_assoc old first.0 next.0)
+
 pub AfterRound-none : (hands : List Hand) (board : StateValue) → AreHandsOf hands board → AfterRound hands board board 0 0
 AfterRound-none hands board are =
     record {
@@ -37,6 +45,7 @@ AfterRound-none hands board are =
       setup = refl;
       refused = refl;
       count = omega arith;
+      goes_on = GoesOn-none board.events;
       still = λ none. (refl, λ j below. absurd (omega arith));
     }
 
@@ -60,6 +69,7 @@ module _ (hands : List Hand) (old mid new : StateValue) (k made : ℕ) (before :
         setup = act.setup ∙ before.setup;
         refused = act.refused ∙ before.refused;
         count = let a = before.count in let b = act.count in omega arith;
+        goes_on = GoesOn-more old.events mid.events new.events before.goes_on act.goes_on;
         still = λ none.
             let first = before.still (omega arith) in
             let last = act.still (one_none acted (omega arith)) in

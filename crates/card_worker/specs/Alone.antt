@@ -27,6 +27,10 @@ pub record AreHandsOf (hands : List Hand) (state : StateValue) : Type 0 where
 abbrev pub with_event : StateValue → Event → StateValue
 with_event state event = record state { events = state.events ++ event ∷ [] }
 
+-- the events go on from those before
+abbrev pub GoesOn : List Event → List Event → Type 0
+GoesOn old new = (more : List Event) × (new ≡ old ++ more)
+
 -- The card can't act: its slot is not decided where it has posted that, and else it is done or no slot is left.
 pub record IsStill (s : Setup) (i : ℕ) (events : List Event) : Type 0 where
   pub waits : takes_of i events < length (posts_of i events) → decides events ≤ takes_of i events
@@ -37,6 +41,7 @@ pub record AfterAct (i : ℕ) (old new : StateValue) (acted : Bool) : Type 0 whe
   pub setup : new.setup ≡ old.setup
   pub refused : new.refused ≡ old.refused
   pub count : length new.events ≡ length old.events + one_if acted
+  pub goes_on : GoesOn old.events new.events
   pub others : (j : ℕ) → (j ≡ i → ⊥) → column_of old.setup j new.events ≡ column_of old.setup j old.events
   pub still : acted ≡ false → (new.events ≡ old.events) × IsStill old.setup i old.events
 
@@ -46,6 +51,7 @@ pub record AfterRound (hands : List Hand) (old new : StateValue) (k made : ℕ) 
   pub setup : new.setup ≡ old.setup
   pub refused : new.refused ≡ old.refused
   pub count : length new.events ≡ length old.events + made
+  pub goes_on : GoesOn old.events new.events
   pub still : made ≡ 0 → (new.events ≡ old.events) × ((j : ℕ) → j < k → IsStill old.setup j old.events)
 
 -- the card has taken all that it posted, and is done or no slot is left

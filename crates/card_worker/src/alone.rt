@@ -2,16 +2,17 @@ ghost use Rattle.std.specs.Prelude.{◌≡◌, ◌<◌, ◌≤◌, ◌+◌, ◌*
 ghost use Rattle.card_worker.specs.declared.hands.Hand.{Hand};
 ghost use Rattle.slot_histories.specs.Events.{takes_of, posts_of, posted};
 ghost use Rattle.slot_histories.specs.Slots.{is_done_before};
-ghost use Rattle.slot_histories.specs.Legal.{MayTake, MayDecide};
+ghost use Rattle.slot_histories.specs.Legal.{MayTake, MayDecide, IsLegal};
 ghost use Rattle.card_worker.specs.Trying.{one_if};
-ghost use Rattle.card_worker.specs.Alone.{plans_of, IsHandOf, AreHandsOf, AfterAct, AfterRound, IsOver};
+ghost use Rattle.card_worker.specs.Alone.{plans_of, IsHandOf, AreHandsOf, GoesOn, AfterAct, AfterRound, IsOver};
 
 use crate::hands::{Hand, Hands};
 use crate::tries::{forget, give, next_post};
 use slot_board::BoardState;
 
 /// Makes events of the cards and decisions until no more may come. Then each card has taken all that it
-/// posted, and is done or has used all slots. The cards keep their plans. Answers how many events came.
+/// posted, and is done or has used all slots. The cards keep their plans. The events go on from those before,
+/// as one legal list. Answers how many events came.
 pub fn finish_alone(hands: &mut Hands, state: &mut BoardState) -> u64
     requires { AreHandsOf hands.old.items state.old }
     ensures hands { AreHandsOf hands.new.items state.new }
@@ -19,9 +20,13 @@ pub fn finish_alone(hands: &mut Hands, state: &mut BoardState) -> u64
     ensures setup { state.new.setup ≡ state.old.setup }
     ensures refused { state.new.refused ≡ state.old.refused }
     ensures count { length state.new.events ≡ length state.old.events + result }
+    ensures goes_on { GoesOn state.old.events state.new.events }
+    ensures legal { IsLegal state.new.setup state.new.events }
     ensures over { (i : ℕ) → i < state.new.setup.ports → IsOver state.new.setup i state.new.events }
 {
-    finish(hands, state)
+    let events = finish(hands, state);
+    state.legal();
+    events
 }
 
 fn finish(hands: &mut [Hand], state: &mut BoardState) -> u64
@@ -31,6 +36,7 @@ fn finish(hands: &mut [Hand], state: &mut BoardState) -> u64
     ensures setup { state.new.setup ≡ state.old.setup }
     ensures refused { state.new.refused ≡ state.old.refused }
     ensures count { length state.new.events ≡ length state.old.events + result }
+    ensures goes_on { GoesOn state.old.events state.new.events }
     ensures over { (i : ℕ) → i < state.new.setup.ports → IsOver state.new.setup i state.new.events }
 {
     let before = state.events();
@@ -46,6 +52,7 @@ fn round(hands: &mut [Hand], state: &mut BoardState) -> bool
     ensures setup { state.new.setup ≡ state.old.setup }
     ensures refused { state.new.refused ≡ state.old.refused }
     ensures grows { length state.old.events ≤ length state.new.events }
+    ensures goes_on { GoesOn state.old.events state.new.events }
     ensures more { result ≡ true → length state.old.events < length state.new.events }
     ensures most { length state.new.events ≤ (2 * state.new.setup.ports + 1) * state.new.setup.max_slots }
     ensures over { result ≡ false → (i : ℕ) → i < state.new.setup.ports → IsOver state.new.setup i state.new.events }
@@ -80,6 +87,7 @@ fn decide(state: &mut BoardState) -> bool
     ensures setup { state.new.setup ≡ state.old.setup }
     ensures refused { state.new.refused ≡ state.old.refused }
     ensures grows { length state.old.events ≤ length state.new.events }
+    ensures goes_on { GoesOn state.old.events state.new.events }
     ensures more { result ≡ true → length state.old.events < length state.new.events }
     ensures none { result ≡ false → (state.new ≡ state.old) × (MayDecide state.old.setup state.old.events → ⊥) }
 {
