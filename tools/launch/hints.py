@@ -105,8 +105,8 @@ def _on_all_cells(job, cells):
     return f"with SEED {seed} and PORTS {ports} the largest COUNT is {most}"
 
 
-def _on_journal_too_long(job, _):
-    return "leave out --journal, or run fewer packets: a journal may have at most 134,217,728 bytes"
+def _on_output_too_long(job, what):
+    return f"leave out --{what}, or run fewer packets: what it writes may have at most 134,217,728 bytes"
 
 
 def _on_journal(job, at):
@@ -148,6 +148,6 @@ HINTS = (
     (4, r"link types (\d+) and (\d+)", capture_hints.on_two_links),
     (4, r"too many slots: port (\d+) has (\d+)", _of_line(on_slots)),
     (4, r"too many cells: (\d+)", _on_all_cells),
-    (4, r"journal too long: (\d+)", _on_journal_too_long),
+    (4, r"(journal|packets) too long: \d+", _on_output_too_long),
     (4, r"journal: bad at (\d+)", _on_journal),
 )

@@ -68,11 +68,12 @@ def _help(place, words):
 
 def _version(place):
     from .place import read_record
-    record = read_record(place.record)
+    changed, record = sources.changes(place), read_record(place.record)
     found = [f"tiny_tera {place.version()}"]
-    if "program" not in record:
+    if changed is None:
         return [*found, "not built yet, and so not proved"]
-    return [*found, f"proved with {record.get('kit')}", f"sha256 {record['program'][0]}  {place.program}"]
+    found += [f"proved with {record.get('kit')}", f"sha256 {record['program'][0]}  {place.program}"]
+    return found + [f"{name} changed since: it is proved again before it runs" for name in changed[:1]]
 
 
 def _record(place, name):

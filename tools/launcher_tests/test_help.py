@@ -55,7 +55,13 @@ class Help(Scene):
             subprocess.run(["git", "-C", self.top, *words], check=True)
         lines = self.launch("--version").stdout.splitlines()
         self.assertEqual(lines[:2], ["tiny_tera v7", f"proved with {KIT}"])
+        self.assertEqual(len(lines), 3)
         self.assertRegex(lines[2], rf"sha256 [0-9a-f]{{64}}  {re.escape(str(self.top))}/crates/tiny_tera/out/tiny_tera$")
+        (self.top / "crates/lower/src/lib.rt").write_text("// changed\n")
+        lines = self.launch("--version").stdout.splitlines()
+        self.assertEqual((lines[0], lines[3:]), ("tiny_tera v7-dirty", ["crates/lower/src/lib.rt changed since: it is proved again before it runs"]))
+        (self.top / "crates/tiny_tera/out/tiny_tera").write_text("another")
+        self.assertEqual(self.launch("--version").stdout, "tiny_tera v7-dirty\nnot built yet, and so not proved\n")
 
 
 class Words(unittest.TestCase):

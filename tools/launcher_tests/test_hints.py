@@ -241,7 +241,7 @@ class Hints(Scene):
 
     def test_journal_too_long(self):
         told = self.launch("run", "--journal", "t", "out", "a", SAID="journal too long: 134217729", STATUS="4").stderr
-        self.assertEqual(told.splitlines()[1], "hint: leave out --journal, or run fewer packets: a journal may have at most 134,217,728 bytes")
+        self.assertEqual(told.splitlines()[1], "hint: leave out --journal, or run fewer packets: what it writes may have at most 134,217,728 bytes")
 
     def test_journals(self):
         journal = bytes.fromhex("54544a31020400000000000100000000ff00ff00")
