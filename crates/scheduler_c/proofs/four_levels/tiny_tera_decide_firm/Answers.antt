@@ -1,0 +1,9 @@
+use Rattle.std.proofs.Common.{◌∙◌}
+use Rattle.scheduler_c.proofs.Again.{AreInRange-written}
+use Rattle.scheduler_c.proofs.four_levels.tiny_tera_decide_firm.Goals as goal
+
+pub returns-clause-again : goal.returns-clause-again
+returns-clause-again c done =
+    let decided = c.decide_firm-numbers.ensures in
+    let moved = decided.slot.moved in
+    AreInRange-written c.args.n c.decide_firm-numbers.new.p c.put_tables.new.tables decided.at_ports (moved.held.ports ∙ (moved.as_first.ports ∙ c.in-Some.ensures.ports)) c.put_tables.ensures.value

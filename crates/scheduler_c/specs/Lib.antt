@@ -1,0 +1,6 @@
+pub mod Words
+pub mod Numbers
+pub mod OneLevel
+pub mod Rows
+pub mod Feeds
+pub mod FourLevels

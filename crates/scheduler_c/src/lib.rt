@@ -1,0 +1,20 @@
+//! The schedulers of the switch for programs in C and other languages: functions over numbers, tables and
+//! slices, which take no memory and keep nothing between calls.
+//!
+//! C can pass anything, so each function tests what it is passed. It answers 0 and writes what it is for, or
+//! 1 and leaves everything as it was.
+#![tactic(auto)]
+
+mod feeds;
+mod four_levels;
+mod one_level;
+mod rows;
+mod status;
+mod words;
+
+pub use feeds::FeedWords;
+pub use four_levels::{tiny_tera_decide, tiny_tera_decide_firm};
+pub use one_level::tiny_tera_islip_slot;
+pub use rows::RowWords;
+pub use status::tiny_tera_version;
+pub use words::RoundsWords;
