@@ -1,6 +1,6 @@
 -- Words that were copied one by one are those of the whole.
-use Rattle.std.proofs.Common.{◌≡◌, ℕ, ◌<◌, ◌≤◌, ◌==◌, ◌∙◌, false, List, [], Option, None, Some, length, slice_index_or, refl, sym, ap, subst, inl, inr, arith, if◌then◌else◌}
-use Rattle.std.proofs.lemmas.Bool.{ne_eqb, cond-false}
+use Rattle.std.proofs.Common.{◌≡◌, ℕ, ◌<◌, ◌≤◌, ◌==◌, ◌∙◌, false, List, [], Option, None, Some, length, slice_index_or, refl, sym, ap, subst, inl, inr, arith}
+use Rattle.std.proofs.lemmas.Bool.{ne_eqb}
 use Rattle.std.proofs.lemmas.List.{ext_get_or, length-map}
 use Rattle.std.proofs.lemmas.List.Elements.{All-from_get_or}
 use Rattle.std.proofs.Math.ListN.{get_or-map}
@@ -10,7 +10,7 @@ use Rattle.rotating_pick.specs.declared.limits.TheConstants.{LEVELS, MAX_PORTS}
 use Rattle.slot_match.specs.declared.rows.Row.{Row}
 use Rattle.slot_match.specs.declared.matching.Fed.{Fed}
 use Rattle.slot_match.specs.Rows.{row_of, no_row}
-use Rattle.slot_match.specs.Matches.{fed_of, Serves, IsMatch}
+use Rattle.slot_match.specs.Matches.{fed_of, IsMatch}
 use Rattle.scheduler_c.specs.declared.rows.RowWords.{RowWords}
 use Rattle.scheduler_c.specs.declared.feeds.FeedWords.{FeedWords}
 use Rattle.scheduler_c.specs.Rows.{row_from, rows_from}

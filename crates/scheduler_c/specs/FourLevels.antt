@@ -1,7 +1,5 @@
 -- A call for one slot of four levels, by what is passed and by what comes back.
-use Rattle.std.specs.Prelude.{◌≡◌, ℕ, List, Option, length}
-use Rattle.slot_match.specs.declared.rows.Row.{Row}
-use Rattle.slot_match.specs.declared.matching.Fed.{Fed}
+use Rattle.std.specs.Prelude.{◌≡◌, ℕ, List, length}
 use Rattle.slot_match.specs.Rows.{AreWithin}
 use Rattle.pointer_state.specs.declared.caller_tables.PointerTables.{PointerTables}
 use Rattle.pointer_state.specs.CallerTables.{AreInRange, places_from}

@@ -4,3 +4,4 @@ pub mod OneLevel
 pub mod Rows
 pub mod Feeds
 pub mod FourLevels
+pub mod Matches

@@ -1,9 +1,8 @@
-ghost use Rattle.std.specs.Prelude.{◌≡◌, length};
-ghost use Rattle.slot_match.specs.Matches.{IsMatch};
-ghost use Rattle.scheduler_c.specs.Feeds.{AreFeeds, feed_words, kind_word, matched_from};
+ghost use Rattle.std.specs.Prelude.{◌≡◌, ◌<◌, ◌≤◌, ◌↔◌, length, IsTrue, IfSome};
+ghost use Rattle.scheduler_c.specs.Feeds.{IsFeed, AreFeeds, feed_words, feed_from, kind_word, matched_from};
 
 use crate::words::NO_PORT;
-use rotating_pick::Kind;
+use rotating_pick::{Kind, LEVELS, MAX_PORTS};
 use slot_match::{Fed, Match};
 
 /// What feeds an output: the input, the level, and the kind, 0 for unicast and 1 for multicast. All three are
@@ -53,4 +52,43 @@ fn kind_word(kind: Kind) -> u32
         Kind::Uni => 0,
         Kind::Multi => 1,
     }
+}
+
+/// Whether there are words for each of `n` outputs, of a free output or of one of the inputs, a level and a kind.
+pub fn are_feeds(n: u32, feeds: &[FeedWords]) -> bool
+    ensures { IsTrue result ↔ AreFeeds n feeds.now }
+{
+    feeds.len() == n as usize && feeds.iter().all(|words| is_feed(n, words))
+}
+
+// Whether the words are those of a free output, or of one of the `n` inputs, a level and a kind.
+fn is_feed(n: u32, words: &FeedWords) -> bool
+    ensures { IsTrue result ↔ IsFeed n words.now }
+{
+    if words.input == NO_PORT && words.level == NO_PORT && words.kind == NO_PORT {
+        return true;
+    }
+    words.input < n && words.level < LEVELS && words.kind < 2
+}
+
+/// What the words say that feeds an output.
+pub fn feed_from(n: u32, words: &FeedWords) -> Option<Fed>
+    requires size { n ≤ MAX_PORTS }
+    requires feed { IsFeed n words.now }
+    ensures value { result ≡ feed_from words.now }
+    ensures input_in { IfSome result (λ fed. fed.input < n) }
+    ensures level_in { IfSome result (λ fed. fed.level < LEVELS) }
+{
+    if words.input == NO_PORT {
+        return None;
+    }
+    Some(Fed {
+        input: words.input,
+        level: words.level as u8,
+        kind: if words.kind == 0 {
+            Kind::Uni
+        } else {
+            Kind::Multi
+        },
+    })
 }

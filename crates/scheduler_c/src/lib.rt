@@ -7,13 +7,17 @@
 
 mod feeds;
 mod four_levels;
+mod matches;
 mod one_level;
 mod rows;
 mod status;
+#[cfg(test)]
+mod tests;
 mod words;
 
 pub use feeds::FeedWords;
 pub use four_levels::{tiny_tera_decide, tiny_tera_decide_firm};
+pub use matches::tiny_tera_is_maximal;
 pub use one_level::tiny_tera_islip_slot;
 pub use rows::RowWords;
 pub use status::tiny_tera_version;

@@ -1,4 +1,4 @@
-use Rattle.std.proofs.Common.{◌≡◌, ◌∙◌, rules, arith, sym, subst, length}
+use Rattle.std.proofs.Common.{◌∙◌, arith, subst, length}
 use Rattle.slot_match.specs.Matches.{IsMatch}
 use Rattle.scheduler_c.proofs.Copies.{matched_from-each, AreFeeds-each}
 use Rattle.scheduler_c.proofs.feeds.put_feeds.Goals as goal

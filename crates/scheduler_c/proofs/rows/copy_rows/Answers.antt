@@ -1,4 +1,4 @@
-use Rattle.std.proofs.Common.{◌≡◌, ◌∙◌, rules, arith, subst, sym}
+use Rattle.std.proofs.Common.{◌≡◌, ◌∙◌, arith, subst, sym}
 use Rattle.slot_match.specs.Rows.{AreWithin}
 use Rattle.scheduler_c.specs.Rows.{rows_from}
 use Rattle.scheduler_c.proofs.Copies.{rows_from-each}
