@@ -19,6 +19,7 @@ USAGE_LINE = (
 )
 CRATES = "# Crates\nlower:\nupper: lower hex\ntiny_tera: upper\nbeside: lower\n"
 SOURCES = {
+    ".gitignore": "out/\n__pycache__/\n",
     "HANDLES": "Handles allowed: Threads, Wait.\n",
     "crates.txt": CRATES,
     "crates/lower/src/lib.rt": "// lower\n",
