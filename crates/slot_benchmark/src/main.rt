@@ -5,7 +5,7 @@
 
 ghost use Rattle.std.specs.Prelude.{◌<◌, ◌≤◌};
 
-use eslip_rounds::decide;
+use eslip_rounds::{Scratch, decide_in};
 use pointer_state::Pointers;
 use rotating_pick::{LEVELS, MAX_PORTS, MAX_ROUNDS, all, next, with};
 use service_bound::{MAX_NOTED, WaitMeter};
@@ -88,7 +88,14 @@ impl fmt::Display for Load {
 }
 
 // Decides slots one after the other, and answers how many pairs they matched.
-fn decide_batch(load: Load, rounds: u32, rows: &[Row], p: &mut Pointers, out: &mut Match) -> u64
+fn decide_batch(
+    load: Load,
+    rounds: u32,
+    rows: &[Row],
+    p: &mut Pointers,
+    out: &mut Match,
+    scratch: &mut Scratch,
+) -> u64
     requires some { 0 < rounds }
     requires few { rounds ≤ MAX_ROUNDS }
 {
@@ -99,7 +106,7 @@ fn decide_batch(load: Load, rounds: u32, rows: &[Row], p: &mut Pointers, out: &m
     }
     for turn in 0..SLOTS {
         if p.ports() == n && out.ports() == n {
-            let _numbers = decide(n, rounds, load.slot(turn), rows, p, out);
+            let _numbers = decide_in(n, rounds, load.slot(turn), rows, p, out, scratch);
         }
         pairs = pairs.wrapping_add(out.count() as u64);
     }
@@ -119,11 +126,13 @@ fn time_slots<R: Clock + Eprint>(rt: &R, load: Load, n: u32, rounds: u32) -> io:
     }
     let mut p = Pointers::new(n);
     let mut out = Match::new(n);
+    let mut scratch = Scratch::new();
     let mut least = u128::MAX;
     let mut pairs = 0;
     for _batch in 0..BATCHES {
         let begin = Instant::now(rt)?;
-        pairs = decide_batch(load, rounds, &rows[..n as usize], &mut p, &mut out);
+        let rows = &rows[..n as usize];
+        pairs = decide_batch(load, rounds, rows, &mut p, &mut out, &mut scratch);
         let end = Instant::now(rt)?;
         least = least.min(end.duration_since(begin).as_nanos());
     }
@@ -157,10 +166,18 @@ fn time_meter<R: Clock + Eprint>(rt: &R, alloc: Global, n: u32, changing: bool) 
     requires some { 0 < n }
     requires size { n ≤ MAX_PORTS }
 {
-    let rows = [Load::Full.row(n, 0); MAX_PORTS as usize];
+    let full = [Load::Full.row(n, 0); MAX_PORTS as usize];
+    let rows = &full[..n as usize];
     let mut p = Pointers::new(n);
     let mut matched = Match::new(n);
-    let _pairs = decide_batch(Load::Full, 4, &rows[..n as usize], &mut p, &mut matched);
+    let _pairs = decide_batch(
+        Load::Full,
+        4,
+        rows,
+        &mut p,
+        &mut matched,
+        &mut Scratch::new(),
+    );
     let nothing = Match::new(n);
     let mut least = u128::MAX;
     for _batch in 0..BATCHES {
@@ -169,7 +186,7 @@ fn time_meter<R: Clock + Eprint>(rt: &R, alloc: Global, n: u32, changing: bool) 
         };
         let second = if changing { &nothing } else { &matched };
         let begin = Instant::now(rt)?;
-        note_batch(&mut meter, &rows[..n as usize], &matched, second);
+        note_batch(&mut meter, rows, &matched, second);
         let end = Instant::now(rt)?;
         least = least.min(end.duration_since(begin).as_nanos());
     }
