@@ -1,5 +1,6 @@
-ghost use Rattle.std.specs.Prelude.{◌≤◌, IfOk};
+ghost use Rattle.std.specs.Prelude.{◌≤◌, IfOk, length};
 ghost use Rattle.switch_plan.specs.GoodPlans.{switch_plan_of, IsGood};
+ghost use Rattle.whole_run.specs.Promises.{CompletesMulticast, ServesWaiting, WaitsAreShort};
 ghost use Rattle.switch_jobs.specs.Outcomes.{IsOutcome};
 
 use crate::driving::drive_all;
@@ -20,6 +21,10 @@ const PATIENCE: u32 = 64;
 
 /// Runs the plan: takes all memory that this needs, and then makes all slots with a patience of 64. The only
 /// error is want of memory.
+///
+/// While nothing of a better level is posted, a unicast queue that is posted is served within so many slots as
+/// `longest_service_at_line_rate()` of `service_bound` tells, if no multicast of its level is posted either; and a
+/// multicast head that is posted completes within twice as many slots as there are ports.
 pub fn run_job<R: Threads + Sync, G: Gate + Sync>(
     rt: &R,
     alloc: Global,
@@ -29,15 +34,22 @@ pub fn run_job<R: Threads + Sync, G: Gate + Sync>(
     requires { IsGood (switch_plan_of plan) }
     ensures run { IfOk result (λ outcome. IsOutcome (switch_plan_of plan) outcome) }
     ensures tried { IfOk result (λ outcome. 64 ≤ outcome.journal.refused) }
+    ensures serves { IfOk result (λ outcome. ServesWaiting (switch_plan_of plan) (length outcome.journal.slots)) }
+    ensures waits { IfOk result (λ outcome. WaitsAreShort (switch_plan_of plan) (length outcome.journal.slots)) }
+    ensures completes { IfOk result (λ outcome. CompletesMulticast (switch_plan_of plan) (length outcome.journal.slots)) }
 {
     let ready = jobs::ready(alloc, plan)?;
     Ok(run_ready(rt, ready, gate))
 }
 
-/// Makes all slots of the run with a patience of 64. It takes no memory.
+/// Makes all slots of the run with a patience of 64. It takes no memory. Queues are served, and multicast heads
+/// complete, as soon as [`run_job`] says.
 pub fn run_ready<R: Threads + Sync, G: Gate + Sync>(rt: &R, ready: Ready, gate: &G) -> Outcome
     ensures run { IsOutcome ready result }
     ensures tried { 64 ≤ result.journal.refused }
+    ensures serves { ServesWaiting ready (length result.journal.slots) }
+    ensures waits { WaitsAreShort ready (length result.journal.slots) }
+    ensures completes { CompletesMulticast ready (length result.journal.slots) }
 {
     run_ready_with(rt, ready, gate, PATIENCE)
 }
@@ -47,7 +59,8 @@ pub fn run_ready<R: Threads + Sync, G: Gate + Sync>(rt: &R, ready: Ready, gate: 
 /// after `patience` passes in a row without a post or a take. Then the board is closed, and what is left is
 /// made on this thread. The gate is called before each try of a worker. It takes no memory.
 ///
-/// Each card that was due when the board was closed had been refused at least `patience` times.
+/// Each card that was due when the board was closed had been refused at least `patience` times. Queues are served,
+/// and multicast heads complete, as soon as [`run_job`] says.
 pub fn run_ready_with<R: Threads + Sync, G: Gate + Sync>(
     rt: &R,
     ready: Ready,
@@ -56,6 +69,9 @@ pub fn run_ready_with<R: Threads + Sync, G: Gate + Sync>(
 ) -> Outcome
     ensures run { IsOutcome ready result }
     ensures tried { patience ≤ result.journal.refused }
+    ensures serves { ServesWaiting ready (length result.journal.slots) }
+    ensures waits { WaitsAreShort ready (length result.journal.slots) }
+    ensures completes { CompletesMulticast ready (length result.journal.slots) }
 {
     let Ready {
         terms,

@@ -5,3 +5,12 @@ returns-clause-run g c = c.run_ready_with.ensures.run
 
 pub returns-clause-tried : goal.returns-clause-tried
 returns-clause-tried g c = c.run_ready_with.ensures.tried
+
+pub returns-clause-serves : goal.returns-clause-serves
+returns-clause-serves g c = c.run_ready_with.ensures.serves
+
+pub returns-clause-waits : goal.returns-clause-waits
+returns-clause-waits g c = c.run_ready_with.ensures.waits
+
+pub returns-clause-completes : goal.returns-clause-completes
+returns-clause-completes g c = c.run_ready_with.ensures.completes

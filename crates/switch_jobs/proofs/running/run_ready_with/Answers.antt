@@ -6,6 +6,9 @@ use Rattle.card_worker.specs.declared.hands.Group.{Group}
 use Rattle.card_worker.proofs.Removing.{whole_back}
 use Rattle.switch_plan.specs.GoodPlans.{SwitchPlan, IsGood}
 use Rattle.whole_run.specs.Runs.{setup_for}
+use Rattle.whole_run.specs.Promises.{CompletesMulticast, ServesWaiting, WaitsAreShort}
+use Rattle.whole_run.proofs.RunWindows.{served-in-window, waits-short}
+use Rattle.whole_run.proofs.RunCompletes.{heads-complete}
 use Rattle.switch_jobs.specs.declared.outcome.Outcome.{Outcome}
 use Rattle.switch_jobs.specs.Outcomes.{IsOutcome}
 use Rattle.switch_jobs.specs.Readiness.{plan_with, plans_in}
@@ -78,3 +81,24 @@ returns-clause-tried g c =
     let small = c.ranges.patience.fits in
     let waited : HaveWaited c.args.patience _ = back (HaveWaited c.args.patience) c.share-groups.result.len c.drive_all.new.groups c.share-groups.result.items _ c.share-groups.result.ok.0 c.drive_all.auto.groups c.deref_mut.ensures.value c.drive_all.ensures.waited in
     subst (λ (j : JournalValue). c.args.patience ≤ j.refused) (sym c.journal-journal.ensures.journal) (c.end_run-state.ensures.refused c.args.patience (omega arith) waited)
+
+pub returns-clause-serves : goal.returns-clause-serves
+returns-clause-serves g c =
+    let r = c.ready.inside in
+    let plan = plan_with r.terms (plans_in r.members.items) in
+    let slots = length c.journal-journal.result.slots in
+    subst (λ (plan : SwitchPlan). ServesWaiting plan slots) c.ready.view_is (served-in-window plan c.ready.invariant.good slots)
+
+pub returns-clause-waits : goal.returns-clause-waits
+returns-clause-waits g c =
+    let r = c.ready.inside in
+    let plan = plan_with r.terms (plans_in r.members.items) in
+    let slots = length c.journal-journal.result.slots in
+    subst (λ (plan : SwitchPlan). WaitsAreShort plan slots) c.ready.view_is (waits-short plan c.ready.invariant.good slots)
+
+pub returns-clause-completes : goal.returns-clause-completes
+returns-clause-completes g c =
+    let r = c.ready.inside in
+    let plan = plan_with r.terms (plans_in r.members.items) in
+    let slots = length c.journal-journal.result.slots in
+    subst (λ (plan : SwitchPlan). CompletesMulticast plan slots) c.ready.view_is (heads-complete plan c.ready.invariant.good slots)
