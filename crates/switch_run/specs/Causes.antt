@@ -1,7 +1,7 @@
 -- When each answer comes, that one comes where nothing stands against it, and what holds of the run of a command.
 use Rattle.std.specs.Prelude.{◌≡◌, ◌<◌, ◌≤◌, ◌⊎◌, ℕ, true, List, length, Some, None, Ok, Err}
 use Rattle.outside.specs.Contents.{Contents}
-use Rattle.outside.specs.Faults.{ReadOf, BeginOf, WriteOf, ToOut, Rose}
+use Rattle.outside.specs.Faults.{ReadOf, BeginOf, WriteOf, ToOut, NeverFall, Rose}
 use Rattle.outside.specs.WholeFiles.{IsTooLong}
 use Rattle.journal_check.specs.declared.verdict.Verdict.TheVariants as verdict
 use Rattle.journal_check.specs.declared.verdict.JournalFault.TheVariants as journal_fault
@@ -14,6 +14,7 @@ use Rattle.switch_plan.specs.declared.fault.PlanFault.{PlanFault}
 use Rattle.switch_plan.specs.Refusals.{IsRefusal}
 use Rattle.switch_plan.specs.GoodPlans.{SwitchPlan}
 use Rattle.whole_run.specs.Runs.{ports_of}
+use Rattle.whole_run.specs.Promises.{BusySlotsMatch, CompletesMulticast, DeliversAdmitted, DeliversNoOthers, HasFewSlots, ServesWaiting, WaitsAreShort}
 use Rattle.switch_jobs.specs.Outcomes.{summary_of}
 use Rattle.journal_run.specs.RunFiles.{journal_text}
 use Rattle.output_queued.specs.Lines.{ideal, ran}
@@ -125,3 +126,28 @@ JournalIsLawful plan slots = answer_to (journal_text plan slots) ≡ Ok (verdict
 -- Over the whole run both serve as many cells at each output.
 abbrev pub ServesAsMany : SwitchPlan → ℕ → Type 0
 ServesAsMany plan slots = (j : ℕ) → j < ports_of plan → ran (run_matches plan slots) j slots ≡ ideal plan.cards (run_matches plan slots) j slots
+
+-- What is promised of the run of a plan that has so many slots.
+pub record RunPromises (plan : SwitchPlan) (slots : ℕ) : Type 0 where
+  pub delivers : DeliversAdmitted plan slots
+  pub no_others : DeliversNoOthers plan slots
+  pub serves : ServesWaiting plan slots
+  pub waits : WaitsAreShort plan slots
+  pub completes : CompletesMulticast plan slots
+  pub few_slots : HasFewSlots plan slots
+  pub busy_slots : BusySlotsMatch plan
+  pub never_ahead : IsNeverAhead plan slots
+  pub serves_as_many : ServesAsMany plan slots
+  pub journals : JournalIsLawful plan slots
+
+-- The switch theorem: what a command answers with this status, when each answer comes, and what holds of its run.
+pub record SwitchTheorem (c : Command) (status : ℕ) : Type 0 where
+  pub meaning : (ending : Ending) × Answers c status ending
+  pub never_fall : NeverFall c.was c.now
+  pub usage : UsageIsExact c status
+  pub too_long : TooLongIsExact c status
+  pub refusal : RefusalIsExact c status
+  pub journal_too_long : JournalTooLongIsExact c status
+  pub checks : CheckIsExact c status
+  pub complete : IsComplete c status
+  pub runs : (plan : SwitchPlan) (slots : ℕ) → IsRunBy c plan slots → RunPromises plan slots

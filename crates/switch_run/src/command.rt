@@ -2,9 +2,7 @@ ghost use Rattle.std.specs.Prelude.{◌≡◌, ℕ, Some, map, string_bytes, IfE
 ghost use Rattle.outside.specs.Faults.{NeverFall};
 ghost use Rattle.switch_words.specs.Limits.{IsWithinLimits};
 ghost use Rattle.switch_words.specs.Reading.{job_words};
-ghost use Rattle.switch_run.specs.Causes.{Answers, CheckIsExact, IsComplete, IsNeverAhead, IsRunBy, JournalIsLawful, JournalTooLongIsExact, RefusalIsExact, ServesAsMany, TooLongIsExact, UsageIsExact};
-ghost use Rattle.switch_plan.specs.GoodPlans.{SwitchPlan};
-ghost use Rattle.whole_run.specs.Promises.{BusySlotsMatch, DeliversAdmitted, DeliversNoOthers, HasFewSlots, ServesWaiting, WaitsAreShort};
+ghost use Rattle.switch_run.specs.Causes.{SwitchTheorem};
 ghost use Rattle.switch_run.specs.Endings.{IsDone, Means, Stops, command_of};
 ghost use Rattle.job_files.specs.declared.ending.Ending.{Ending};
 
@@ -111,8 +109,9 @@ fn end_of<R: Threads + Sync, F: Files, G: Gate + Sync>(
 ///
 /// At 0 all that is written is that of the run which the words and the bytes that were read have, slot by slot, in
 /// whatever order the threads made it. Of that run: at each output each flow has just its admitted packets, in order
-/// of arrival; a unicast queue that is posted is served within the bound of `longest_service()` of `service_bound`,
-/// where nothing better is posted and no multicast of its level; it has no more slots than the greatest number of
+/// of arrival; a unicast queue that is posted is served within `longest_service_at_line_rate()` slots of `service_bound`,
+/// where nothing better is posted and no multicast of its level; a multicast head completes within twice as many slots
+/// as there are ports, where nothing better is posted; it has no more slots than the greatest number of
 /// arrival slots, the cells of the admitted packets counted for each output, and one; and an ideal switch whose queues
 /// stand at the outputs is never behind it, and serves as many cells in all. A journal that was written is one that a
 /// `check` job finds lawful, and of which it tells the slots and the longest waits that the summary tells.
@@ -126,27 +125,12 @@ pub fn switch_main<R: Threads + Sync, F: Files, G: Gate + Sync>(
     files: &mut F,
     gate: &G,
 ) -> u8
-    ensures meaning { (ending : Ending) × Answers (command_of (map string_bytes words.now) (F.told files.old) (F.told files.new) (F.faults files.old) (F.faults files.new)) result ending }
-    ensures never_fall { NeverFall (F.faults files.old) (F.faults files.new) }
-    ensures usage { UsageIsExact (command_of (map string_bytes words.now) (F.told files.old) (F.told files.new) (F.faults files.old) (F.faults files.new)) result }
-    ensures too_long { TooLongIsExact (command_of (map string_bytes words.now) (F.told files.old) (F.told files.new) (F.faults files.old) (F.faults files.new)) result }
-    ensures refusal { RefusalIsExact (command_of (map string_bytes words.now) (F.told files.old) (F.told files.new) (F.faults files.old) (F.faults files.new)) result }
-    ensures journal_too_long { JournalTooLongIsExact (command_of (map string_bytes words.now) (F.told files.old) (F.told files.new) (F.faults files.old) (F.faults files.new)) result }
-    ensures checks { CheckIsExact (command_of (map string_bytes words.now) (F.told files.old) (F.told files.new) (F.faults files.old) (F.faults files.new)) result }
-    ensures complete { IsComplete (command_of (map string_bytes words.now) (F.told files.old) (F.told files.new) (F.faults files.old) (F.faults files.new)) result }
-    ensures delivers { (plan : SwitchPlan) (slots : ℕ) → IsRunBy (command_of (map string_bytes words.now) (F.told files.old) (F.told files.new) (F.faults files.old) (F.faults files.new)) plan slots → DeliversAdmitted plan slots }
-    ensures no_others { (plan : SwitchPlan) (slots : ℕ) → IsRunBy (command_of (map string_bytes words.now) (F.told files.old) (F.told files.new) (F.faults files.old) (F.faults files.new)) plan slots → DeliversNoOthers plan slots }
-    ensures serves { (plan : SwitchPlan) (slots : ℕ) → IsRunBy (command_of (map string_bytes words.now) (F.told files.old) (F.told files.new) (F.faults files.old) (F.faults files.new)) plan slots → ServesWaiting plan slots }
-    ensures waits { (plan : SwitchPlan) (slots : ℕ) → IsRunBy (command_of (map string_bytes words.now) (F.told files.old) (F.told files.new) (F.faults files.old) (F.faults files.new)) plan slots → WaitsAreShort plan slots }
-    ensures few_slots { (plan : SwitchPlan) (slots : ℕ) → IsRunBy (command_of (map string_bytes words.now) (F.told files.old) (F.told files.new) (F.faults files.old) (F.faults files.new)) plan slots → HasFewSlots plan slots }
-    ensures busy_slots { (plan : SwitchPlan) (slots : ℕ) → IsRunBy (command_of (map string_bytes words.now) (F.told files.old) (F.told files.new) (F.faults files.old) (F.faults files.new)) plan slots → BusySlotsMatch plan }
-    ensures never_ahead { (plan : SwitchPlan) (slots : ℕ) → IsRunBy (command_of (map string_bytes words.now) (F.told files.old) (F.told files.new) (F.faults files.old) (F.faults files.new)) plan slots → IsNeverAhead plan slots }
-    ensures serves_as_many { (plan : SwitchPlan) (slots : ℕ) → IsRunBy (command_of (map string_bytes words.now) (F.told files.old) (F.told files.new) (F.faults files.old) (F.faults files.new)) plan slots → ServesAsMany plan slots }
-    ensures journals { (plan : SwitchPlan) (slots : ℕ) → IsRunBy (command_of (map string_bytes words.now) (F.told files.old) (F.told files.new) (F.faults files.old) (F.faults files.new)) plan slots → JournalIsLawful plan slots }
+    ensures theorem { SwitchTheorem (command_of (map string_bytes words.now) (F.told files.old) (F.told files.new) (F.faults files.old) (F.faults files.new)) result }
 {
     deliveries::admitted_packets_are_delivered();
     waits::waiting_queues_are_served();
     waits::best_level_waits_are_short();
+    waits::multicast_heads_complete();
     ends::runs_end();
     ends::busy_slots_match();
     references::reference_is_never_behind();
