@@ -71,14 +71,7 @@ pub(crate) fn make_rounds(
 
 // One round: the free outputs that any row names grant what they are asked, and the inputs accept of
 // what they are granted.
-fn round(
-    n: u32,
-    first_kind: Kind,
-    asks: &Asks,
-    offers: &mut Offers,
-    p: &Pointers,
-    out: &mut Match,
-)
+fn round(n: u32, first_kind: Kind, asks: &Asks, offers: &mut Offers, p: &Pointers, out: &mut Match)
     requires size { n ≤ MAX_PORTS }
     requires ports { p.now.ports ≡ n }
     requires at_ports { AreAtPorts p.now }

@@ -234,29 +234,34 @@ fn multicast_input_goes_on(rt: HostRuntime) {
     assert_eq!(rt; p.accept(1, 0), 1);
 }
 
-// The match of one round from the first pointers on.
-fn first_match(rt: &impl Abort, n: u32, rows: &[Row], scratch: &mut Scratch) -> Match {
+// What feeds the output after one round from the first pointers on, which matches one pair.
+fn first_fed(
+    rt: &impl Abort,
+    n: u32,
+    rows: &[Row],
+    output: u32,
+    scratch: &mut Scratch,
+) -> Option<Fed> {
     assert!(rt; 0 < n && n <= 3);
+    assert!(rt; output < n);
     assert!(rt; are_within(n, rows));
     let mut p = Pointers::new(n);
     let mut out = Match::new(n);
     let _numbers = decide_in(n, 1, 0, rows, &mut p, &mut out, scratch);
-    out
+    assert_eq!(rt; out.count(), 1);
+    out.fed(output)
 }
 
 #[test]
 fn nothing_of_an_earlier_slot_is_read(rt: HostRuntime) {
     let mut scratch = Scratch::new();
     // All inputs ask all outputs, so each output grants input 0, which takes output 0.
-    let all = first_match(&rt, 3, &[uni(0b111); 3], &mut scratch);
-    assert!(rt; all.fed(0) == u(0));
-    assert_eq!(rt; all.count(), 1);
+    let all = [uni(0b111); 3];
+    assert!(rt; first_fed(&rt, 3, &all, 0, &mut scratch) == u(0));
     // Then input 0 asks nothing, and input 1 output 0.
-    let one = first_match(&rt, 2, &[Row::empty(), uni(0b01)], &mut scratch);
-    assert!(rt; one.fed(0) == u(1));
-    assert_eq!(rt; one.count(), 1);
+    let one = [Row::empty(), uni(0b01)];
+    assert!(rt; first_fed(&rt, 2, &one, 0, &mut scratch) == u(1));
     // Then no rank of the slots before occurs.
-    let heads = first_match(&rt, 2, &[multi(0b10), Row::empty()], &mut scratch);
-    assert!(rt; heads.fed(1) == m(0));
-    assert_eq!(rt; heads.count(), 1);
+    let head = [multi(0b10), Row::empty()];
+    assert!(rt; first_fed(&rt, 2, &head, 1, &mut scratch) == m(0));
 }
