@@ -8,5 +8,7 @@ mod output_files;
 
 pub use ending::{Ending, Written};
 pub use error_lines::{print_line, print_memory, print_usage};
-pub use inputs::{InputFile, Inputs, Reads, input_name, made_inputs, read_inputs, reads_of_firm, reads_of_run};
+pub use inputs::{
+    InputFile, Inputs, Reads, input_name, made_inputs, read_inputs, reads_of_firm, reads_of_run,
+};
 pub use output_files::{JobTexts, OutputFile, put_texts, run_files};

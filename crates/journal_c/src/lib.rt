@@ -8,15 +8,14 @@ ghost use Rattle.std.specs.Prelude.{◌≡◌, ◌≤◌, ◌↔◌, ◌⊎◌, 
 ghost use Rattle.journal_check.specs.Verdicts.{answer_to};
 ghost use Rattle.journal_c.specs.Answers.{Answers};
 
-mod words;
 #[cfg(test)]
 mod tests;
-
-pub use words::VerdictWords;
+mod words;
 
 use crate::words::{bad_words, verdict_words};
 use journal_check::{JournalFault, MAX_JOURNAL_BYTES, check_journal};
 use std::alloc::Global;
+pub use words::VerdictWords;
 
 // What a call answers that did what it is for, that was passed more than it takes, and that had no memory.
 const DONE: u32 = 0;

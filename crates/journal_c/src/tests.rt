@@ -24,7 +24,10 @@ const UNTOLD: VerdictWords = VerdictWords {
 #[test]
 fn lawful_journal_is_told(rt: HostRuntime) {
     let mut verdict = UNTOLD;
-    assert_eq!(rt; tiny_tera_check_journal(rt.alloc(), &EMPTY_SLOT, &mut verdict), 0);
+    assert_eq!(rt;
+        tiny_tera_check_journal(rt.alloc(), &EMPTY_SLOT, &mut verdict),
+        0
+    );
     let wanted = VerdictWords {
         answer: 0,
         number: 1,
@@ -38,7 +41,10 @@ fn lawful_journal_is_told(rt: HostRuntime) {
 #[test]
 fn slot_after_the_end_is_told(rt: HostRuntime) {
     let mut verdict = UNTOLD;
-    assert_eq!(rt; tiny_tera_check_journal(rt.alloc(), &AFTER_END, &mut verdict), 0);
+    assert_eq!(rt;
+        tiny_tera_check_journal(rt.alloc(), &AFTER_END, &mut verdict),
+        0
+    );
     let wanted = VerdictWords {
         answer: 1,
         number: 1,
@@ -52,7 +58,10 @@ fn slot_after_the_end_is_told(rt: HostRuntime) {
 #[test]
 fn cut_file_is_told(rt: HostRuntime) {
     let mut verdict = UNTOLD;
-    assert_eq!(rt; tiny_tera_check_journal(rt.alloc(), &EMPTY_SLOT[..3], &mut verdict), 0);
+    assert_eq!(rt;
+        tiny_tera_check_journal(rt.alloc(), &EMPTY_SLOT[..3], &mut verdict),
+        0
+    );
     let wanted = VerdictWords {
         answer: 2,
         number: 0,

@@ -6,11 +6,9 @@ ghost use Rattle.switch_run.specs.Causes.{SwitchTheorem};
 ghost use Rattle.switch_run.specs.Endings.{IsDone, Means, Stops, command_of};
 ghost use Rattle.job_files.specs.declared.ending.Ending.{Ending};
 
-use job_files::Ending;
-use job_files::{print_line, print_memory, print_usage};
 use crate::job_texts::job_texts;
-use job_files::put_texts;
 use card_worker::Gate;
+use job_files::{Ending, print_line, print_memory, print_usage, put_texts};
 use journal_run::laws as journals;
 use outside::Files;
 use reference_run::laws as references;

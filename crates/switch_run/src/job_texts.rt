@@ -7,13 +7,11 @@ ghost use Rattle.switch_run.specs.Endings.{Stops};
 ghost use Rattle.switch_run.specs.Making.{AreToWrite};
 ghost use Rattle.job_files.specs.OutputFiles.{shown};
 
-use job_files::Ending;
-use job_files::{made_inputs, read_inputs, reads_of_firm, reads_of_run};
 use crate::making::{plan_and_run, plan_and_run_firm};
-use job_files::JobTexts;
 use crate::texts::{run_texts, summary_alone};
 use card_worker::Gate;
 use check_job::{CheckEnding, check_file};
+use job_files::{Ending, JobTexts, made_inputs, read_inputs, reads_of_firm, reads_of_run};
 use outside::Files;
 use std::alloc::Global;
 use std::thread::Threads;

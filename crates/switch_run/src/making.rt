@@ -8,11 +8,10 @@ ghost use Rattle.job_files.specs.FileSteps.{AreOfSize};
 ghost use Rattle.switch_run.specs.Making.{IsFirmRan, IsRan, IsRanOf, StopsPlan};
 ghost use Rattle.switch_run.specs.Switched.{IsPlanned};
 
-use job_files::Ending;
-use job_files::Inputs;
 use crate::reference::{reference_for, reference_lines};
 use card_worker::Gate;
 use firm_run::run_firm;
+use job_files::{Ending, Inputs};
 use pcap_records::Link;
 use rotating_pick::OutOfMemory;
 use slot_report::Summary;

@@ -9,10 +9,9 @@ ghost use Rattle.switch_jobs.specs.Captures.{IsCut};
 ghost use Rattle.switch_run.specs.Making.{AreMade, HaveMessages, IsFirmRan, IsJournalFor, IsRan, StopsJournal, StopsTexts, line_of_card, slots_told, text_or_none};
 ghost use Rattle.job_files.specs.OutputFiles.{shown};
 
-use job_files::Ending;
 use crate::making::EndedRun;
-use job_files::{JobTexts, run_files};
 use card_core::CardOut;
+use job_files::{Ending, JobTexts, run_files};
 use journal_check::{MAX_JOURNAL_BYTES, journal_bytes, journal_len};
 use pcap_records::Link;
 use rotating_pick::{MAX_PORTS, OutOfMemory};
