@@ -4,10 +4,10 @@ use Rattle.std.specs.Prelude.{map, slice_get}
 use Rattle.std.proofs.lemmas.Option.{same_Some}
 use Rattle.card_core.specs.declared.plan.Planned.{Planned}
 use Rattle.card_core.specs.declared.plan.CardPlan.{CardPlan}
-use Rattle.switch_plan.specs.declared.rooms.Rooms.{Rooms}
-use Rattle.switch_plan.specs.Totals.{sizes_for, body_room_for, packet_room_for}
+use Rattle.switch_plan.specs.declared.output_rooms.OutputRoom.{OutputRoom}
 use Rattle.switch_plan.specs.Counting.{packets_of_cards}
 use Rattle.switch_plan.specs.Sizing.{IsSized}
+use Rattle.switch_plan.specs.AtOutputs.{IsRoomOf}
 
 -- the first k cards have the rooms for the packets of all, and the others are as they were
 pub record AreFilled (k : ℕ) (old new : List CardPlan) : Type 0 where
@@ -30,7 +30,8 @@ map_kept f [] k c x is same = refl
 map_kept f (a ∷ xs) zero c x is same = ap (λ b. b ∷ map f xs) (same ∙ sym (ap f (same_Some a c is)))
 map_kept f (a ∷ xs) (suc k) c x is same = ap (λ ys. f a ∷ ys) (map_kept f xs k c x is same)
 
-got_set : {A : Type 0} (xs : List A) (k j : ℕ) (x y : A) → slice_get (set xs k x) j ≡ Some y → ((j ≡ k) × (y ≡ x)) ⊎ ((j ≢ k) × (slice_get xs j ≡ Some y))
+-- what is found where one was written
+pub got_set : {A : Type 0} (xs : List A) (k j : ℕ) (x y : A) → slice_get (set xs k x) j ≡ Some y → ((j ≡ k) × (y ≡ x)) ⊎ ((j ≢ k) × (slice_get xs j ≡ Some y))
 got_set [] k j x y is = absurd (cc)
 got_set (a ∷ xs) zero zero x y is = inl (refl, sym (same_Some x y is))
 got_set (a ∷ xs) zero (suc j) x y is = inr (λ e. absurd (omega arith), is)
@@ -59,11 +60,12 @@ AreFilled-more k old now card with_room before here sized = record {
   ];
 }
 
-pub IsSized-made : (packets : List (List Planned)) (port : ℕ) (card made : CardPlan) (rooms : Rooms) → made ≡ record card { sizes = rooms.sizes; body_room = rooms.body_room; packet_room = rooms.packet_room }
-    → rooms.sizes.items ≡ sizes_for port packets → rooms.body_room ≡ body_room_for port packets → rooms.packet_room ≡ packet_room_for port packets → IsSized packets port card made
-IsSized-made packets port card made rooms is sizes body messages = subst (IsSized packets port card) (sym is) (record {
+-- a card that has its room
+pub IsSized-made : (packets : List (List Planned)) (port : ℕ) (card made : CardPlan) (room : OutputRoom)
+    → made ≡ record card { sizes = room.sizes; body_room = room.bytes; packet_room = room.messages } → IsRoomOf port packets room → IsSized packets port card made
+IsSized-made packets port card made room is rooms = subst (IsSized packets port card) (sym is) (record {
   kept = (refl, refl, refl, refl, refl);
-  sizes = sizes;
-  body = body;
-  messages = messages;
+  sizes = rooms.sizes;
+  body = rooms.bytes;
+  messages = rooms.messages;
 })

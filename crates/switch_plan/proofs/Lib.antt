@@ -8,6 +8,8 @@ pub mod Arriving
 pub mod Summing
 pub mod RoomBounds
 pub mod Flows
+pub mod OnePass
+pub mod AllPorts
 pub mod Filling
 pub mod Checked
 pub mod Totalling

@@ -5,6 +5,7 @@ pub mod Refusals
 pub mod Reading
 pub mod Counting
 pub mod Sizing
+pub mod AtOutputs
 pub mod GoodPlans
 pub mod Cards
 pub mod Checking

@@ -94,8 +94,8 @@ pub(crate) fn packet_room(output: u32, cards: &[CardPlan]) -> u64
     messages
 }
 
-// The flow of a packet among those of its input: an even number for unicast, an odd one for multicast.
-fn flow_of(packet: &Planned) -> usize
+/// The flow of a packet among those of its input: an even number for unicast, an odd one for multicast.
+pub(crate) fn flow_of(packet: &Planned) -> usize
     requires { packet.now.fan ≢ 0 }
     ensures { result ≡ flow_of packet.now }
 {
@@ -131,69 +131,4 @@ pub(crate) fn greatest_messages(output: u32, packets: &[Planned]) -> [u32; FLOWS
         }
     }
     sizes
-}
-
-// The greatest messages of all flows of all inputs to an output.
-fn sizes_for(alloc: Global, output: u32, cards: &[CardPlan]) -> Result<Vec<u32>, OutOfMemory>
-    requires output { output < MAX_PORTS }
-    requires packets { All AreCountable (packets_of_cards cards.now) }
-    ensures { IfOk result (λ sizes. sizes.items ≡ sizes_for output (packets_of_cards cards.now)) }
-{
-    let mut sizes = Vec::new(alloc);
-    for card in cards {
-        sizes.extend_from_slice(&greatest_messages(output, &card.packets))?;
-    }
-    Ok(sizes)
-}
-
-// What comes to an output: the greatest message of each flow, the bytes of all messages and their number.
-#[derive(Drop)]
-struct Rooms {
-    sizes: Vec<u32>,
-    body_room: u32,
-    packet_room: u32,
-}
-
-// The rooms for what comes to an output.
-fn rooms_for(alloc: Global, output: u32, cards: &[CardPlan]) -> Result<Rooms, OutOfMemory>
-    requires output { output < MAX_PORTS }
-    requires few { length cards.now ≤ MAX_PORTS }
-    requires packets { All AreCountable (packets_of_cards cards.now) }
-    requires work { total_work (packets_of_cards cards.now) ≤ most_for (length cards.now) }
-    ensures sizes { IfOk result (λ rooms. rooms.sizes.items ≡ sizes_for output (packets_of_cards cards.now)) }
-    ensures body { IfOk result (λ rooms. rooms.body_room ≡ body_room_for output (packets_of_cards cards.now)) }
-    ensures messages { IfOk result (λ rooms. rooms.packet_room ≡ packet_room_for output (packets_of_cards cards.now)) }
-{
-    let sizes = sizes_for(alloc, output, cards)?;
-    let body_room = body_room(output, cards) as u32;
-    let packet_room = packet_room(output, cards) as u32;
-    Ok(Rooms {
-        sizes,
-        body_room,
-        packet_room,
-    })
-}
-
-// Fills in the rooms of a card.
-fn fill(card: &mut CardPlan, rooms: Rooms)
-    ensures { card.new ≡ record card.old { sizes = rooms.sizes; body_room = rooms.body_room; packet_room = rooms.packet_room } }
-{
-    card.sizes = rooms.sizes;
-    card.body_room = rooms.body_room;
-    card.packet_room = rooms.packet_room;
-}
-
-/// The cards with the rooms for what the packets of all of them bring to their outputs.
-pub(crate) fn with_rooms(alloc: Global, cards: Vec<CardPlan>) -> Result<Vec<CardPlan>, OutOfMemory>
-    requires few { length cards.items ≤ MAX_PORTS }
-    requires packets { All AreCountable (packets_of_cards cards.items) }
-    requires work { total_work (packets_of_cards cards.items) ≤ most_for (length cards.items) }
-    ensures { IfOk result (λ sized. (length sized.items ≡ length cards.items) × ((port : ℕ) (old new : ACardPlan) → slice_get cards.items port ≡ Some old → slice_get sized.items port ≡ Some new → IsSized (packets_of_cards cards.items) port old new)) }
-{
-    let mut cards = cards;
-    for output in 0..cards.len() {
-        let rooms = rooms_for(alloc, output as u32, &cards)?;
-        fill(&mut cards[output], rooms);
-    }
-    Ok(cards)
 }

@@ -1,0 +1,16 @@
+use Rattle.std.proofs.Common.{◌≤◌, length, subst, arith}
+use Rattle.card_core.specs.declared.plan.CardPlan.{CardPlan}
+use Rattle.switch_plan.specs.Counting.{packets_of_cards}
+use Rattle.switch_plan.specs.AtOutputs.{AreRoomsOf}
+use Rattle.switch_plan.proofs.Folding.{take_all, length_map}
+use Rattle.switch_plan.proofs.output_rooms.output_rooms.Goals as goal
+
+pub loop-input-init : goal.loop-input-init
+loop-input-init c = c.in_ok-rooms.ensures
+
+pub returns : goal.returns
+returns c =
+    let cards = c.args.cards.now in
+    let past : length cards ≤ c.loop-input.input = omega arith in
+    let long = length_map (λ (card : CardPlan). card.packets.items) cards in
+    subst (λ ps. AreRoomsOf (length cards) ps c.loop-input.rooms.items) (take_all (packets_of_cards cards) c.loop-input.input (omega arith)) c.loop-input.invariant

@@ -1,0 +1,7 @@
+use Rattle.std.proofs.Common.{length, take}
+use Rattle.switch_plan.specs.Counting.{packets_of_cards}
+use Rattle.switch_plan.specs.AtOutputs.{AreRoomsOf}
+use Rattle.switch_plan.proofs.output_rooms.output_rooms.Given as goal
+
+abbrev pub invariant-loop-input : goal.invariant-loop-input
+invariant-loop-input l = AreRoomsOf (length l.cards) (take l.input (packets_of_cards l.cards)) l.rooms.items

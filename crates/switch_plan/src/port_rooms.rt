@@ -1,0 +1,77 @@
+ghost use Rattle.std.specs.Prelude.{◌≡◌, ℕ, ◌<◌, ◌≤◌, max, slice_index, slice_set};
+ghost use Rattle.switch_plan.specs.Counting.{IsForwardable, AreCountable};
+ghost use Rattle.switch_plan.specs.AtOutputs.{room_at, with_message, with_packet, room_for, AreFew};
+
+use crate::rooms::flow_of;
+use card_core::Planned;
+use cell_cutter::{MAX_MESSAGE_BYTES, MESSAGE_HEADER_BYTES};
+use reassembly::FLOWS_PER_INPUT;
+use rotating_pick::{MAX_PORTS, PORT_COUNT, is_empty, lowest, without};
+
+/// What the packets of a port bring to an output: the greatest message of each flow, the bytes of all
+/// messages and their number.
+#[derive(Clone, Copy)]
+pub(crate) struct PortRoom {
+    pub(crate) sizes: [u32; FLOWS_PER_INPUT],
+    pub(crate) bytes: u64,
+    pub(crate) messages: u64,
+}
+
+/// What the packets of a port bring to each output, found in one pass over them.
+pub(crate) fn port_rooms(packets: &[Planned]) -> [PortRoom; PORT_COUNT]
+    requires { AreCountable packets.now }
+    ensures { (output : ℕ) → output < MAX_PORTS → room_at result output ≡ room_for output packets.now }
+{
+    let none = PortRoom {
+        sizes: [0; FLOWS_PER_INPUT],
+        bytes: 0,
+        messages: 0,
+    };
+    let mut rooms = [none; PORT_COUNT];
+    for packet in packets {
+        add_packet(&mut rooms, packet);
+    }
+    rooms
+}
+
+// Takes a packet into account at each of its outputs.
+fn add_packet(rooms: &mut [PortRoom; PORT_COUNT], packet: &Planned)
+    requires packet { IsForwardable packet.now }
+    requires few { (output : ℕ) → output < MAX_PORTS → AreFew (room_at rooms.old output) }
+    ensures { (output : ℕ) → output < MAX_PORTS → room_at rooms.new output ≡ with_packet output (room_at rooms.old output) packet.now }
+{
+    if is_empty(packet.fan) {
+        return;
+    }
+    let flow = flow_of(packet);
+    let length = MESSAGE_HEADER_BYTES as u32 + packet.len;
+    let mut rest = packet.fan;
+    while let Some(output) = lowest(rest) {
+        rooms[output as usize] = with_message(rooms[output as usize], flow, length);
+        rest = without(rest, output);
+    }
+}
+
+// The room with a message of a flow.
+fn with_message(room: PortRoom, flow: usize, length: u32) -> PortRoom
+    requires few { AreFew room }
+    requires short { length ≤ MAX_MESSAGE_BYTES }
+    ensures { result ≡ with_message flow length room }
+{
+    PortRoom {
+        sizes: with_size(room.sizes, flow, length),
+        bytes: room.bytes + u64::from(length),
+        messages: room.messages + 1,
+    }
+}
+
+// The greatest messages with one of a flow, where there is such a flow.
+fn with_size(sizes: [u32; FLOWS_PER_INPUT], flow: usize, length: u32) -> [u32; FLOWS_PER_INPUT]
+    ensures { result ≡ slice_set sizes flow (max (slice_index sizes flow) length) }
+{
+    let mut sizes = sizes;
+    if flow < FLOWS_PER_INPUT {
+        sizes[flow] = sizes[flow].max(length);
+    }
+    sizes
+}
