@@ -1,3 +1,4 @@
 pub mod Copies
 pub mod Again
 pub mod Pairs
+pub mod Longest

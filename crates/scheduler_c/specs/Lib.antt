@@ -5,3 +5,4 @@ pub mod Rows
 pub mod Feeds
 pub mod FourLevels
 pub mod Matches
+pub mod Waits

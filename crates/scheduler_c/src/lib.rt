@@ -13,6 +13,8 @@ mod rows;
 mod status;
 #[cfg(test)]
 mod tests;
+mod waiting;
+mod waits;
 mod words;
 
 pub use feeds::FeedWords;
@@ -21,4 +23,5 @@ pub use matches::tiny_tera_is_maximal;
 pub use one_level::tiny_tera_islip_slot;
 pub use rows::RowWords;
 pub use status::tiny_tera_version;
+pub use waits::tiny_tera_note_waits;
 pub use words::RoundsWords;

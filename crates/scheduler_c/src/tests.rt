@@ -1,6 +1,6 @@
 use crate::{
     FeedWords, RoundsWords, RowWords, tiny_tera_decide, tiny_tera_decide_firm,
-    tiny_tera_is_maximal, tiny_tera_islip_slot, tiny_tera_version,
+    tiny_tera_is_maximal, tiny_tera_islip_slot, tiny_tera_note_waits, tiny_tera_version,
 };
 use pointer_state::PointerTables;
 use rotating_pick::Ports;
@@ -179,4 +179,55 @@ fn calls_out_of_range_are_refused(rt: HostRuntime) {
         1
     );
     assert_eq!(rt; maximal, 7);
+}
+
+// Two inputs ask one output in two slots, and each is served in one of them. The queue to output 1 is asked once.
+#[test]
+fn waits_are_noted(rt: HostRuntime) {
+    let mut waits = [0; 512];
+    let mut longest = [0; 4];
+    let rows = [unicast(0b11), unicast(0b01)];
+    let feeds = [fed(1, 0), FREE];
+    assert_eq!(rt;
+        tiny_tera_note_waits(2, &rows, &feeds, &mut waits, &mut longest),
+        0
+    );
+    assert_eq!(rt; [waits[0], waits[1], waits[256]], [1, 1, 0]);
+    assert_eq!(rt; longest, [1, 0, 0, 0]);
+    let rows = [unicast(0b01), unicast(0b01)];
+    assert_eq!(rt;
+        tiny_tera_note_waits(2, &rows, &feeds, &mut waits, &mut longest),
+        0
+    );
+    assert_eq!(rt; [waits[0], waits[1], waits[256]], [2, 0, 0]);
+    assert_eq!(rt; longest, [2, 0, 0, 0]);
+    let feeds = [fed(0, 0), FREE];
+    assert_eq!(rt;
+        tiny_tera_note_waits(2, &rows, &feeds, &mut waits, &mut longest),
+        0
+    );
+    assert_eq!(rt; [waits[0], waits[1], waits[256]], [0, 0, 1]);
+    assert_eq!(rt; longest, [2, 0, 0, 0]);
+
+    assert_eq!(rt;
+        tiny_tera_note_waits(3, &rows, &feeds, &mut waits, &mut longest),
+        1
+    );
+    assert_eq!(rt;
+        tiny_tera_note_waits(2, &rows, &feeds, &mut waits[1..], &mut longest),
+        1
+    );
+    assert_eq!(rt;
+        tiny_tera_note_waits(2, &rows, &feeds, &mut waits, &mut longest[1..]),
+        1
+    );
+    assert_eq!(rt; [waits[0], waits[256]], [0, 1]);
+
+    // A wait stands still at the greatest number of a word.
+    waits[256] = NO;
+    assert_eq!(rt;
+        tiny_tera_note_waits(2, &rows, &feeds, &mut waits, &mut longest),
+        0
+    );
+    assert_eq!(rt; [waits[256], longest[0]], [NO, NO]);
 }
