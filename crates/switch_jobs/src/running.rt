@@ -8,7 +8,7 @@ use crate::ending::{end_run, finish_cards, run_is_made};
 use crate::jobs;
 use crate::outcome::Outcome;
 use crate::ready::{Ready, Rooms};
-use crate::sharing::share;
+use crate::sharing::{for_processors, share};
 use crate::summaries::summarize;
 use card_worker::Gate;
 use rotating_pick::OutOfMemory;
@@ -57,7 +57,8 @@ pub fn run_ready<R: Threads + Sync, G: Gate + Sync>(rt: &R, ready: Ready, gate: 
 /// Makes all slots of the run. Its workers drive their cards, each on a thread of its own, in rounds until in
 /// one of them no card posts or takes. In a round a worker makes tries until none of its cards is due, or
 /// after `patience` passes in a row without a post or a take. Then the board is closed, and what is left is
-/// made on this thread. The gate is called before each try of a worker. It takes no memory.
+/// made on this thread. There are no more workers than processors, but two where two are asked for. The gate is
+/// called before each try of a worker. It takes no memory.
 ///
 /// Each card that was due when the board was closed had been refused at least `patience` times. Queues are served,
 /// and multicast heads complete, as soon as [`run_job`] says.
@@ -86,7 +87,7 @@ pub fn run_ready_with<R: Threads + Sync, G: Gate + Sync>(
         outputs,
         meter,
     } = rooms;
-    let mut groups = share(&board, members, groups);
+    let mut groups = share(&board, members, for_processors(rt, groups));
     drive_all(rt, &board, &mut groups, gate, patience);
     let (state, hands) = end_run(board, groups, seats, hands);
     run_is_made(&state, &hands);

@@ -7,6 +7,32 @@ ghost use Rattle.switch_jobs.specs.Sharing.{ArePlanned, AreShared};
 
 use card_worker::{Group, Member, laws};
 use slot_board::Board;
+use std::thread::{Threads, available_parallelism};
+
+// The fewest groups where more are asked for than there are processors, so that several workers meet on each
+// machine.
+const FEWEST_GROUPS: usize = 2;
+
+/// The first of the groups: as many as there are processors, since a worker that has none only makes the
+/// others wait, but two where there are two. All of them where the number of processors is not known.
+pub(crate) fn for_processors<R: Threads>(rt: &R, groups: Vec<Group>) -> Vec<Group>
+    requires some { 0 < length groups.items }
+    requires empty { AreEmptyGroups groups.items }
+    ensures some { 0 < length result.items }
+    ensures empty { AreEmptyGroups result.items }
+    ensures room { (room : ℕ) → HaveRoomFor room groups.items → HaveRoomFor room result.items }
+{
+    let mut groups = groups;
+    groups.truncate(processors(rt).max(FEWEST_GROUPS));
+    groups
+}
+
+fn processors<R: Threads>(rt: &R) -> usize {
+    match available_parallelism(rt) {
+        Ok(count) => count.get(),
+        Err(_) => usize::MAX,
+    }
+}
 
 /// Shares the members of the board among groups that are empty and have room for all: they go to the groups
 /// in turn. It takes no memory.

@@ -3,8 +3,11 @@ use Rattle.slot_histories.specs.Events.{decides}
 use Rattle.slot_board.specs.States.{StateValue, JournalValue}
 use Rattle.card_worker.specs.declared.hands.Hand.{Hand}
 use Rattle.card_worker.specs.declared.hands.Group.{Group}
+use Rattle.card_worker.specs.declared.hands.Member.{Member}
+use Rattle.card_worker.specs.Groups.{AreGroups}
 use Rattle.card_worker.proofs.Removing.{whole_back}
 use Rattle.switch_plan.specs.GoodPlans.{SwitchPlan, IsGood}
+use Rattle.switch_plan.proofs.Folding.{length_map}
 use Rattle.whole_run.specs.Runs.{setup_for}
 use Rattle.whole_run.specs.Promises.{CompletesMulticast, ServesWaiting, WaitsAreShort}
 use Rattle.whole_run.proofs.RunWindows.{served-in-window, waits-short}
@@ -26,6 +29,16 @@ back P k new old slice all same value is = subst P (sym (whole_back k new old al
 run_of : (plan : SwitchPlan) (state : StateValue) (hands slice : List Hand) → slice ≡ hands → ((plan : SwitchPlan) → IsGood plan → state.setup ≡ setup_for plan → AreOfPlans plan.cards slice → IsRunOf plan state slice)
     → IsGood plan → state.setup ≡ setup_for plan → AreOfPlans plan.cards hands → IsRunOf plan state hands
 run_of plan state hands slice same law good setup planned = subst (IsRunOf plan state) same (law plan good setup (subst (AreOfPlans plan.cards) (sym same) planned))
+
+pub share-groups-requires-clause-room : goal.share-groups-requires-clause-room
+share-groups-requires-clause-room g c = λ place group at.
+    let room = c.for_processors.ensures.room _ c.ready.invariant.rooms_are.groups_room place group at in
+    omega (arith, room, length_map (λ (member : Member). member.hand.card.sends.plan) c.ready.inside.members.items)
+
+pub end_run-state-requires-clause-groups : goal.end_run-state-requires-clause-groups
+end_run-state-requires-clause-groups g c =
+    let board = c.ready.inside.board in
+    back (AreGroups board board.seats) c.share-groups.result.len c.drive_all.new.groups c.share-groups.result.items _ c.share-groups.result.ok.0 c.drive_all.auto.groups c.deref_mut.ensures.value c.drive_all.ensures.groups
 
 pub summarize-summary-requires-clause-slots : goal.summarize-summary-requires-clause-slots
 summarize-summary-requires-clause-slots g c =
