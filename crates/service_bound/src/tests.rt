@@ -1,4 +1,4 @@
-use crate::{MAX_NOTED, WaitMeter};
+use crate::{MAX_NOTED, WaitMeter, longest_service_at_line_rate};
 use rotating_pick::{Kind, LEVELS, Ports};
 use slot_match::{Match, Row, are_within};
 use std::alloc::Global;
@@ -360,4 +360,20 @@ fn two_inputs_take_turns(rt: HostRuntime) {
         turn(&rest[..], first),
     ];
     follow(&rt, rt.alloc(), 2, &slots);
+}
+
+// One slot less from three ports on. Two ports keep four and three, and one port needs one.
+#[test]
+fn line_rate_saves_a_slot(rt: HostRuntime) {
+    let services = [
+        (1, 1, 1),
+        (2, 1, 4),
+        (2, 2, 3),
+        (3, 1, 10),
+        (3, 2, 11),
+        (64, 64, 129_087),
+    ];
+    for (n, rounds, slots) in services {
+        assert_eq!(rt; longest_service_at_line_rate(n, rounds), slots);
+    }
 }
