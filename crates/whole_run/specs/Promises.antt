@@ -1,5 +1,5 @@
 -- What is promised of a run of so many slots: what it delivers, how long a queue waits, and how many slots it has. What
--- ends in `Under` is promised of any scheduler.
+-- ends in `Under` says it of any scheduler.
 use Rattle.std.specs.Prelude.{◌≡◌, ℕ, ◌+◌, ◌*◌, ◌<◌, ◌≤◌, [], All, Any, map, take, drop, false}
 use Rattle.rotating_pick.specs.declared.kinds.Kind.{Kind}
 use Rattle.rotating_pick.specs.declared.kinds.Kind.TheVariants.{Uni, Multi}
