@@ -1,0 +1,139 @@
+/* Answers calls in text: each line of standard input has a call's name and its numbers, and the line that answers it the
+ * status and what was written. It is how tools/test_library runs the test vectors through C.
+ *
+ *     islip n rounds asks.. grant.. accept..                 -> status fed.. used grant.. accept..
+ *     decide n rounds slot rows.. grant.. accept.. shared..  -> status feeds.. used grant.. accept.. shared..
+ *     firm   the same
+ *     maximal n rows.. feeds..                               -> status maximal
+ *     waits n rows.. feeds.. waits.. longest..               -> status waits.. longest..
+ *     journal count bytes..                                  -> status verdict
+ */
+#include <stdio.h>
+#include <stdlib.h>
+#include <string.h>
+#include <tiny_tera.h>
+
+enum { PORTS = 64 };
+
+static uint64_t number(void) {
+    unsigned long long value;
+    if (scanf("%llu", &value) != 1) {
+        fprintf(stderr, "rows: a number is missing\n");
+        exit(2);
+    }
+    return value;
+}
+
+static void read_words(uint32_t *words, size_t count) {
+    for (size_t k = 0; k < count; k++) words[k] = number();
+}
+
+static void print_words(const uint32_t *words, size_t count) {
+    for (size_t k = 0; k < count; k++) printf(" %u", words[k]);
+}
+
+static void read_rows(struct tiny_tera_row *rows, uint32_t n) {
+    for (uint32_t i = 0; i < n; i++) {
+        for (int level = 0; level < 4; level++) rows[i].uni[level] = number();
+        for (int level = 0; level < 4; level++) rows[i].multi[level] = number();
+    }
+}
+
+static void print_used(const struct tiny_tera_rounds *used) {
+    printf(" %u %u %u", used->used, used->first, used->last_added);
+}
+
+static uint32_t ports(void) {
+    uint32_t n = number();
+    if (n > PORTS) {
+        fprintf(stderr, "rows: %u ports\n", n);
+        exit(2);
+    }
+    return n;
+}
+
+static void islip(void) {
+    uint64_t asks[PORTS];
+    uint32_t n = ports(), rounds = number(), grant[PORTS], accept[PORTS], fed[PORTS];
+    struct tiny_tera_rounds used = {0};
+    for (uint32_t i = 0; i < n; i++) asks[i] = number();
+    read_words(grant, n);
+    read_words(accept, n);
+    printf("%u", tiny_tera_islip_slot(n, rounds, asks, n, grant, n, accept, n, fed, n, &used));
+    print_words(fed, n);
+    print_used(&used);
+    print_words(grant, n);
+    print_words(accept, n);
+}
+
+static void decide(int firm) {
+    struct tiny_tera_row rows[PORTS];
+    struct tiny_tera_pointers pointers;
+    struct tiny_tera_feed feeds[PORTS];
+    struct tiny_tera_rounds used = {0};
+    uint32_t n = ports(), rounds = number(), slot = number();
+    read_rows(rows, n);
+    read_words(&pointers.grant[0][0], 256);
+    read_words(&pointers.accept[0][0], 256);
+    read_words(pointers.shared, 4);
+    printf("%u", (firm ? tiny_tera_decide_firm : tiny_tera_decide)(n, rounds, slot, rows, n, &pointers, feeds, n, &used));
+    print_words(&feeds[0].input, 3 * n);
+    print_used(&used);
+    print_words(&pointers.grant[0][0], 256);
+    print_words(&pointers.accept[0][0], 256);
+    print_words(pointers.shared, 4);
+}
+
+static void maximal(void) {
+    struct tiny_tera_row rows[PORTS];
+    struct tiny_tera_feed feeds[PORTS];
+    uint32_t n = ports(), answer = 2;
+    read_rows(rows, n);
+    read_words(&feeds[0].input, 3 * n);
+    printf("%u", tiny_tera_is_maximal(n, rows, n, feeds, n, &answer));
+    printf(" %u", answer);
+}
+
+static void waits(void) {
+    static uint32_t words[256 * PORTS];
+    struct tiny_tera_row rows[PORTS];
+    struct tiny_tera_feed feeds[PORTS];
+    uint32_t n = ports(), longest[4];
+    read_rows(rows, n);
+    read_words(&feeds[0].input, 3 * n);
+    read_words(words, 256 * n);
+    read_words(longest, 4);
+    printf("%u", tiny_tera_note_waits(n, rows, n, feeds, n, words, 256 * n, longest, 4));
+    print_words(words, 256 * n);
+    print_words(longest, 4);
+}
+
+static void journal(void) {
+    struct tiny_tera_verdict verdict = {0};
+    size_t count = number();
+    uint8_t *bytes = malloc(count + 1);
+    if (!bytes) exit(1);
+    for (size_t k = 0; k < count; k++) bytes[k] = number();
+    printf("%u", tiny_tera_check_journal(bytes, count, &verdict));
+    print_words(&verdict.answer, 8);
+    free(bytes);
+}
+
+int main(void) {
+    char name[16];
+    while (scanf("%15s", name) == 1) {
+        if (!strcmp(name, "islip")) islip();
+        else if (!strcmp(name, "decide")) decide(0);
+        else if (!strcmp(name, "firm")) decide(1);
+        else if (!strcmp(name, "maximal")) maximal();
+        else if (!strcmp(name, "waits")) waits();
+        else if (!strcmp(name, "journal")) journal();
+        else {
+            fprintf(stderr, "rows: no call is named %s\n", name);
+            return 2;
+        }
+        printf("\n");
+        fflush(stdout);
+    }
+    return 0;
+}
