@@ -25,7 +25,7 @@ check:
 install: install-program install-library
 
 install-program:
-	if [ -x tools/install ]; then tools/install --prefix "$(DESTDIR)$(PREFIX)"; fi
+	DESTDIR="$(DESTDIR)" tools/install "$(PREFIX)"
 
 install-library: library
 	install -d "$(DESTDIR)$(PREFIX)/include" "$(DESTDIR)$(PREFIX)/lib/pkgconfig"
