@@ -21,6 +21,7 @@ use Rattle.switch_jobs.specs.Outcomes.{messages_to, summary_of}
 use Rattle.journal_run.specs.RunFiles.{journal_text}
 use Rattle.reference_run.specs.RunLines.{run_lines}
 use Rattle.firm_run.specs.FirmRuns.{IsFirmRun, HasShortWaits}
+use Rattle.job_files.specs.OutputFiles.{Texts}
 use Rattle.job_files.specs.Jobs.{Wanted, wanted_by, nothing_wanted, pace_in}
 
 -- the number of packets and of cells that come to output j in the first slots

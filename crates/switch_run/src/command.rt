@@ -123,7 +123,7 @@ pub fn switch_main<R: Threads + Sync, F: Files, G: Gate + Sync>(
     files: &mut F,
     gate: &G,
 ) -> u8
-    ensures theorem { SwitchTheorem (command_of (map string_bytes words.now) (F.told files.old) (F.told files.new) (F.faults files.old) (F.faults files.new)) result }
+    ensures { SwitchTheorem (command_of (map string_bytes words.now) (F.told files.old) (F.told files.new) (F.faults files.old) (F.faults files.new)) result }
 {
     deliveries::admitted_packets_are_delivered();
     waits::waiting_queues_are_served();

@@ -2,14 +2,15 @@ use Rattle.std.proofs.Common.{ap, map, string_bytes, ◌∙◌}
 use Rattle.std.specs.Prelude.{Ok}
 use Rattle.eslip_rounds.specs.Decisions.{decision_of}
 use Rattle.eslip_rounds.proofs.Scheduling.{IsScheduler-decision_of}
+use Rattle.switch_run.specs.Causes.{Answers}
 use Rattle.switch_run.specs.Endings.{Command, command_of}
 use Rattle.switch_run.proofs.Answering.{journal_exact, refusal_exact, run_ends, run_good, too_long_exact, usage_exact}
 use Rattle.switch_run.proofs.Completing.{complete}
 use Rattle.switch_run.proofs.Checking.{check_exact}
 use Rattle.switch_run.proofs.command.switch_main.Goals as goal
 
-pub returns-clause-theorem : goal.returns-clause-theorem
-returns-clause-theorem g c =
+pub returns : goal.returns
+returns g c =
     let counts = g.F.Files.faults in
     let contents = g.F.Files.told in
     let files = c.args.files.now in
@@ -17,7 +18,7 @@ returns-clause-theorem g c =
     let command : Command = command_of (map string_bytes c.args.words.now) (contents files) (contents left) (counts files) (counts left) in
     let ending = c.end_of.result in
     let status = c.status.result in
-    let answers = (c.status.ensures, c.end_of.ensures.meaning) in
+    let answers : Answers command status ending = (c.status.ensures, c.end_of.ensures.meaning) in
     record {
       meaning = (ending, answers);
       never_fall = c.end_of.ensures.never_fall;
