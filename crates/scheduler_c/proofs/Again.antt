@@ -5,7 +5,8 @@ use Rattle.pointer_state.specs.declared.caller_tables.PointerTables.{PointerTabl
 use Rattle.pointer_state.specs.CallerTables.{AreInRange, tables_of}
 
 -- the tables that the pointers were written to
-pub AreInRange-written : (n : ℕ) (places : Places) (tables : PointerTables) → AreAtPorts places → places.ports ≡ n → tables ≡ tables_of places → AreInRange n tables
+pub AreInRange-written : (n : ℕ) (places : Places) (tables : PointerTables)
+    → AreAtPorts places → places.ports ≡ n → tables ≡ tables_of places → AreInRange n tables
 AreInRange-written n places tables at_ports ports value =
     let here : AreInRange places.ports (tables_of places) = record { some = at_ports.some; size = at_ports.size; placed = at_ports.pointing } in
     subst (λ m. AreInRange m tables) ports (subst (λ (t : PointerTables). AreInRange places.ports t) (sym value) here)

@@ -21,9 +21,11 @@ abbrev pub no_words : RowWords
 no_words = record { uni = []; multi = [] }
 
 -- rows that were made of the words one by one
-pub rows_from-each : (words : List RowWords) (rows : List Row) → length rows ≡ length words → ((i : ℕ) → i < length words → row_of rows i ≡ row_from (slice_index_or words i no_words)) → rows ≡ rows_from words
+pub rows_from-each : (words : List RowWords) (rows : List Row) → length rows ≡ length words
+    → ((i : ℕ) → i < length words → row_of rows i ≡ row_from (slice_index_or words i no_words)) → rows ≡ rows_from words
 rows_from-each words rows count each =
-    ext_get_or no_row rows (rows_from words) (count ∙ sym (length-map words row_from)) (λ i below. each i (omega (arith, count)) ∙ sym (get_or-map row_from words i no_words))
+    ext_get_or no_row rows (rows_from words) (count ∙ sym (length-map words row_from))
+    (λ i below. each i (omega (arith, count)) ∙ sym (get_or-map row_from words i no_words))
 
 -- the words of a kind are of that kind, and no other number
 kind_from-word : (kind : Kind) → kind_from (kind_word kind) ≡ kind
@@ -46,15 +48,23 @@ IsFeed-words : (n : ℕ) (fed : Option Fed) → ((some : Fed) → fed ≡ Some s
 IsFeed-words n None within = inl refl
 IsFeed-words n (Some fed) within = let here = within fed refl in inr (here.0, here.1, kind_word-below fed.kind)
 
-module _ (n : ℕ) (size : n ≤ MAX_PORTS) (matched : List (Option Fed)) (whole : IsMatch n matched) (feeds : List FeedWords) (count : length feeds ≡ n) (each : (j : ℕ) → j < n → slice_index_or feeds j no_feed ≡ feed_words (fed_of matched j)) where
+module _ (n : ℕ) (size : n ≤ MAX_PORTS) (matched : List (Option Fed)) (whole : IsMatch n matched)
+    (feeds : List FeedWords) (count : length feeds ≡ n)
+    (each : (j : ℕ) → j < n → slice_index_or feeds j no_feed ≡ feed_words (fed_of matched j)) where
   -- words that were written of a match output by output
   pub matched_from-each : matched_from feeds ≡ matched
   matched_from-each =
       ext_get_or None (matched_from feeds) matched (length-map feeds feed_from ∙ (count ∙ sym whole.count)) (λ j below.
-      get_or-map feed_from feeds j no_feed ∙ (ap feed_from (each j (omega (arith, count, length-map feeds feed_from))) ∙ feed_from-words (fed_of matched j) (λ some is. let input_in = whole.input_in some.input j some.level some.kind is in omega arith)))
+      let j_in : j < n = omega (arith, count, length-map feeds feed_from) in
+      let small : (some : Fed) → fed_of matched j ≡ Some some → some.input < MAX_PORTS =
+      λ some is. let input_in = whole.input_in some.input j some.level some.kind is in omega arith in
+      get_or-map feed_from feeds j no_feed ∙ (ap feed_from (each j j_in) ∙ feed_from-words (fed_of matched j) small))
 
   pub AreFeeds-each : AreFeeds n feeds
   AreFeeds-each = record {
     count = count;
-    each = All-from_get_or (IsFeed n) feeds no_feed (λ j below. subst (IsFeed n) (sym (each j (omega (arith, count)))) (IsFeed-words n (fed_of matched j) (λ some is. (whole.input_in some.input j some.level some.kind is, whole.level_in some.input j some.level some.kind is))));
+    each = All-from_get_or (IsFeed n) feeds no_feed (λ j below.
+        let within : (some : Fed) → fed_of matched j ≡ Some some → (some.input < n) × (some.level < LEVELS) =
+        λ some is. (whole.input_in some.input j some.level some.kind is, whole.level_in some.input j some.level some.kind is) in
+        subst (IsFeed n) (sym (each j (omega (arith, count)))) (IsFeed-words n (fed_of matched j) within));
   }

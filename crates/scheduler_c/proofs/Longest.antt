@@ -5,9 +5,11 @@ use Rattle.rotating_pick.specs.declared.limits.TheConstants.{LEVELS, MAX_PORTS}
 use Rattle.scheduler_c.specs.Waits.{IsLongest, word_at}
 
 -- the waits at the first places are as before, and those of one place more are noted
-module _ (level places : ℕ) (old new : List ℕ) (before mid : ℕ) (kept : (k j : ℕ) → k < places → j < MAX_PORTS → word_at new k j ≡ word_at old k j) (was : IsLongest level places old before mid) where
+module _ (level places : ℕ) (old new : List ℕ) (before mid : ℕ)
+    (kept : (k j : ℕ) → k < places → j < MAX_PORTS → word_at new k j ≡ word_at old k j) (was : IsLongest level places old before mid) where
   -- what was reached at an earlier place stands there
-  reached_still : (after : ℕ) → after ≡ mid → (after ≡ before) ⊎ ((k : ℕ) × (j : ℕ) × (k < places + 1) × (k % LEVELS ≡ level) × (j < MAX_PORTS) × (after ≡ word_at new k j))
+  reached_still : (after : ℕ) → after ≡ mid
+      → (after ≡ before) ⊎ ((k : ℕ) × (j : ℕ) × (k < places + 1) × (k % LEVELS ≡ level) × (j < MAX_PORTS) × (after ≡ word_at new k j))
   reached_still after same =
       elim was.reached [
         | inl e ↦ inl (same ∙ e)
@@ -27,7 +29,8 @@ module _ (level places : ℕ) (old new : List ℕ) (before mid : ℕ) (kept : (k
       }
 
   -- a place of the level, whose longest wait is `most`
-  pub IsLongest-here : (most after : ℕ) → places % LEVELS ≡ level → ((j : ℕ) → j < MAX_PORTS → word_at new places j ≤ most) → (most ≡ 0) ⊎ ((j : ℕ) × (j < MAX_PORTS) × (most ≡ word_at new places j)) → after ≡ max mid most → IsLongest level (places + 1) new before after
+  pub IsLongest-here : (most after : ℕ) → places % LEVELS ≡ level → ((j : ℕ) → j < MAX_PORTS → word_at new places j ≤ most)
+      → (most ≡ 0) ⊎ ((j : ℕ) × (j < MAX_PORTS) × (most ≡ word_at new places j)) → after ≡ max mid most → IsLongest level (places + 1) new before after
   IsLongest-here most after here bound reached longer =
       record {
         grown = let grown = was.grown in omega arith;

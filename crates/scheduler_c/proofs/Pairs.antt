@@ -14,7 +14,9 @@ use Rattle.scheduler_c.specs.Feeds.{no_feed, feed_from, matched_from}
 use Rattle.scheduler_c.specs.Matches.{IsReadyFor}
 
 -- `part` has the first outputs of `whole`, and nothing from `output` on, which `whole` feeds by `fed`
-module _ (n : ℕ) (whole part : List (Option Fed)) (output : ℕ) (fed : Fed) (is_match : IsMatch n whole) (here : fed_of whole output ≡ Some fed) (done : (j : ℕ) → j < output → fed_of part j ≡ fed_of whole j) (rest : (j : ℕ) → output ≤ j → fed_of part j ≡ None) where
+module _ (n : ℕ) (whole part : List (Option Fed)) (output : ℕ) (fed : Fed)
+    (is_match : IsMatch n whole) (here : fed_of whole output ≡ Some fed)
+    (done : (j : ℕ) → j < output → fed_of part j ≡ fed_of whole j) (rest : (j : ℕ) → output ≤ j → fed_of part j ≡ None) where
   -- what the part serves is below the output
   below : (i j level : ℕ) (kind : Kind) → Serves part i j level kind → j < output
   below i j level kind serves = elim (cases_lt j output) [ inl is ↦ is | inr above ↦ absurd (none_some (sym (rest j above) ∙ serves)) ] where
@@ -44,7 +46,9 @@ module _ (n : ℕ) (whole part : List (Option Fed)) (output : ℕ) (fed : Fed) (
       ))))
 
 -- an input that is ready may get one free output
-pub MayAdd-single : (n outputs output : ℕ) (matched : List (Option Fed)) (fed : Fed) → ((y : ℕ) → Has outputs y ↔ ((y ≡ output) ⊎ Has 0 y)) → output < n → fed_of matched output ≡ None → IsReadyFor matched fed → MayAdd n matched fed.input outputs fed.level fed.kind
+pub MayAdd-single : (n outputs output : ℕ) (matched : List (Option Fed)) (fed : Fed)
+    → ((y : ℕ) → Has outputs y ↔ ((y ≡ output) ⊎ Has 0 y)) → output < n → fed_of matched output ≡ None → IsReadyFor matched fed
+    → MayAdd n matched fed.input outputs fed.level fed.kind
 MayAdd-single n outputs output matched fed members output_in free ready =
     let single : (j : ℕ) → Has outputs j → j ≡ output = λ j has. elim ((members j).0 has) [ inl e ↦ e | inr none ↦ absurd (no_member-zero j none) ] in
     record {
@@ -59,6 +63,8 @@ pub fed_of-matched_from : (feeds : List FeedWords) (j : ℕ) → fed_of (matched
 fed_of-matched_from feeds j = get_or-map feed_from feeds j no_feed
 
 -- a match that has at each output what the words say is theirs
-pub matched_from-made : (feeds : List FeedWords) (matched : List (Option Fed)) → length matched ≡ length feeds → ((j : ℕ) → j < length feeds → fed_of matched j ≡ feed_from (slice_index_or feeds j no_feed)) → matched ≡ matched_from feeds
+pub matched_from-made : (feeds : List FeedWords) (matched : List (Option Fed)) → length matched ≡ length feeds
+    → ((j : ℕ) → j < length feeds → fed_of matched j ≡ feed_from (slice_index_or feeds j no_feed)) → matched ≡ matched_from feeds
 matched_from-made feeds matched count each =
-    ext_get_or None matched (matched_from feeds) (count ∙ sym (length-map feeds feed_from)) (λ j below. each j (omega (arith, count)) ∙ sym (fed_of-matched_from feeds j))
+    ext_get_or None matched (matched_from feeds) (count ∙ sym (length-map feeds feed_from))
+    (λ j below. each j (omega (arith, count)) ∙ sym (fed_of-matched_from feeds j))

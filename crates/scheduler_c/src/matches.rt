@@ -1,8 +1,8 @@
-ghost use Rattle.std.specs.Prelude.{◌≡◌, ℕ, ◌<◌, ◌≤◌, ◌↔◌, ◌⊎◌, None, Some, length, slice_index_or, IsTrue, IsSome, IfSome};
+ghost use Rattle.std.specs.Prelude.{◌≡◌, ℕ, ◌<◌, ◌≤◌, ◌↔◌, ◌⊎◌, None, Some, length, IsTrue, IsSome, IfSome};
 ghost use Rattle.rotating_pick.specs.declared.limits.TheConstants.{LEVELS};
 ghost use Rattle.slot_match.specs.Matches.{fed_of, IsMatch, IsMaximal};
 ghost use Rattle.scheduler_c.specs.Rows.{rows_from};
-ghost use Rattle.scheduler_c.specs.Feeds.{AreFeeds, matched_from, no_feed, feed_from};
+ghost use Rattle.scheduler_c.specs.Feeds.{AreFeeds, matched_from, feed_from};
 ghost use Rattle.scheduler_c.specs.Matches.{IsMatchCall, IsReadyFor};
 
 use crate::feeds::{FeedWords, are_feeds, feed_from};

@@ -1,4 +1,4 @@
-ghost use Rattle.std.specs.Prelude.{◌≡◌, ◌↔◌, ◌⊎◌, length, IsTrue};
+ghost use Rattle.std.specs.Prelude.{◌≡◌, ◌↔◌, ◌⊎◌, IsTrue};
 ghost use Rattle.scheduler_c.specs.Words.{ArePorts};
 ghost use Rattle.scheduler_c.specs.OneLevel.{IsUniCall, IsUniAnswer};
 

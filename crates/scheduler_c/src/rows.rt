@@ -1,9 +1,9 @@
 ghost use Rattle.std.specs.Prelude.{◌≡◌, ◌<◌, ◌≤◌, ◌↔◌, length, IsTrue};
-ghost use Rattle.slot_match.specs.Rows.{AreWithin};
+ghost use Rattle.slot_match.specs.Rows.{IsOfLevels, AreWithin};
 ghost use Rattle.scheduler_c.specs.Rows.{row_from, rows_from};
 
-use rotating_pick::{LEVEL_COUNT, MAX_PORTS, Ports};
-use slot_match::{Row, are_within};
+use rotating_pick::{LEVEL_COUNT, MAX_PORTS, Ports, is_among, union};
+use slot_match::Row;
 
 /// What one input posts in a slot, each set as bits: bit `j` is for output `j`.
 #[repr(C)]
@@ -16,7 +16,7 @@ pub struct RowWords {
 }
 
 /// Copies the rows, and answers whether there is one for each of `n` inputs and none names an output from `n`
-/// on.
+/// on. It looks at all of them, which takes less time than to stop at the first that does.
 pub fn copy_rows(n: u32, words: &[RowWords], rows: &mut [Row]) -> bool
     requires some { 0 < n }
     requires size { n ≤ MAX_PORTS }
@@ -27,15 +27,19 @@ pub fn copy_rows(n: u32, words: &[RowWords], rows: &mut [Row]) -> bool
     if words.len() != rows.len() {
         return false;
     }
+    let mut named = 0;
     for i in 0..words.len() {
-        rows[i] = row_of(&words[i]);
+        let row = row_of(&words[i]);
+        named = union(named, row.named());
+        rows[i] = row;
     }
-    are_within(n, rows)
+    is_among(n, named)
 }
 
 // The row of these words.
 fn row_of(words: &RowWords) -> Row
-    ensures { result ≡ row_from words.now }
+    ensures value { result ≡ row_from words.now }
+    ensures levels { IsOfLevels result }
 {
     Row {
         uni: words.uni,

@@ -1,9 +1,7 @@
-ghost use Rattle.std.specs.Prelude.{◌≡◌, ℕ, ◌+◌, ◌*◌, ◌/◌, ◌%◌, ◌<◌, ◌≤◌, ◌↔◌, Some, length, slice_index};
+ghost use Rattle.std.specs.Prelude.{◌≡◌, ℕ, ◌*◌, ◌<◌, ◌≤◌, ◌↔◌, length, slice_index};
 ghost use Rattle.rotating_pick.specs.PortSets.{Has};
-ghost use Rattle.rotating_pick.specs.declared.kinds.Kind.TheVariants.{Uni};
-ghost use Rattle.slot_match.specs.Rows.{Names, row_of};
-ghost use Rattle.slot_match.specs.Matches.{Serves};
-ghost use Rattle.scheduler_c.specs.Feeds.{IsFeed, AreFeeds, feed_from, matched_from};
+ghost use Rattle.scheduler_c.specs.Feeds.{IsFeed, AreFeeds, feed_from};
+ghost use Rattle.scheduler_c.specs.Waits.{posted_at, IsFromPlace, IsServedFrom};
 
 use crate::feeds::{FeedWords, feed_from};
 use rotating_pick::{Kind, LEVEL_COUNT, LEVELS, MAX_PORTS, PORT_COUNT, Ports, without};
@@ -17,7 +15,8 @@ pub fn waiting_sets(n: u32, rows: &[Row], feeds: &[FeedWords]) -> [Ports; PLACES
     requires size { n ≤ MAX_PORTS }
     requires rows { length rows.now ≡ n }
     requires feeds { AreFeeds n feeds.now }
-    ensures { (place j : ℕ) → place < LEVELS * n → Has (slice_index result place) j ↔ (Names (row_of rows.now (place / LEVELS)) (place % LEVELS) Uni j × (Serves (matched_from feeds.now) (place / LEVELS) j (place % LEVELS) Uni → ⊥)) }
+    ensures { (place j : ℕ) → place < LEVELS * n
+        → Has (slice_index result place) j ↔ (Has (posted_at rows.now place) j × (IsServedFrom feeds.now place j → ⊥)) }
 {
     let mut sets = posted_sets(rows);
     take_served(n, feeds, &mut sets);
@@ -28,7 +27,7 @@ pub fn waiting_sets(n: u32, rows: &[Row], feeds: &[FeedWords]) -> [Ports; PLACES
 fn posted_sets(rows: &[Row]) -> [Ports; PLACES]
     requires { length rows.now ≤ MAX_PORTS }
     ensures count { length result ≡ 256 }
-    ensures posted { (place : ℕ) → place < LEVELS * length rows.now → slice_index result place ≡ slice_index (row_of rows.now (place / LEVELS)).uni (place % LEVELS) }
+    ensures posted { (place : ℕ) → place < LEVELS * length rows.now → slice_index result place ≡ posted_at rows.now place }
 {
     let mut sets = [0; PLACES];
     for place in 0..LEVEL_COUNT * rows.len() {
@@ -42,7 +41,8 @@ fn take_served(n: u32, feeds: &[FeedWords], sets: &mut [Ports; PLACES])
     requires size { n ≤ MAX_PORTS }
     requires feeds { AreFeeds n feeds.now }
     requires count { length sets.old ≡ 256 }
-    ensures { (place j : ℕ) → place < 256 → Has (slice_index sets.new place) j ↔ (Has (slice_index sets.old place) j × (j < n → Serves (matched_from feeds.now) (place / LEVELS) j (place % LEVELS) Uni → ⊥)) }
+    ensures { (place j : ℕ) → place < 256
+        → Has (slice_index sets.new place) j ↔ (Has (slice_index sets.old place) j × (j < n → IsServedFrom feeds.now place j → ⊥)) }
 {
     for output in 0..n {
         take_output(n, &feeds[output as usize], output, sets);
@@ -55,7 +55,8 @@ fn take_output(n: u32, words: &FeedWords, output: u32, sets: &mut [Ports; PLACES
     requires feed { IsFeed n words.now }
     requires output_in { output < n }
     requires count { length sets.old ≡ 256 }
-    ensures { (place j : ℕ) → place < 256 → Has (slice_index sets.new place) j ↔ (Has (slice_index sets.old place) j × (j ≡ output → feed_from words.now ≡ Some (record { input = place / LEVELS; level = place % LEVELS; kind = Uni }) → ⊥)) }
+    ensures { (place j : ℕ) → place < 256
+        → Has (slice_index sets.new place) j ↔ (Has (slice_index sets.old place) j × (j ≡ output → IsFromPlace (feed_from words.now) place → ⊥)) }
 {
     if let Some(fed) = feed_from(n, words) {
         if let Kind::Uni = fed.kind {

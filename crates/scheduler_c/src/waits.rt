@@ -1,7 +1,7 @@
 ghost use Rattle.std.specs.Prelude.{◌≡◌, ℕ, ◌+◌, ◌*◌, ◌<◌, ◌≤◌, ◌↔◌, ◌⊎◌, ◌==◌, length, slice_index};
 ghost use Rattle.std.specs.Int.{bit_at};
 ghost use Rattle.rotating_pick.specs.declared.limits.TheConstants.{LEVELS};
-ghost use Rattle.scheduler_c.specs.Waits.{IsNoteCall, AreNoted, IsLongest, slot_from, word_at, wait_next};
+ghost use Rattle.scheduler_c.specs.Waits.{IsNoteCall, AreNoted, AreNotedBy, AreLongest, slot_from, word_at, wait_next};
 
 use crate::feeds::{FeedWords, are_feeds};
 use crate::rows::{RowWords, copy_rows};
@@ -26,7 +26,7 @@ pub extern "C" fn tiny_tera_note_waits(
     ensures done { (result ≡ 0) ↔ IsNoteCall n rows.now feeds.now waits.old longest.old }
     ensures status { (result ≡ 0) ⊎ (result ≡ 1) }
     ensures waits { result ≡ 0 → AreNoted n (slot_from rows.now feeds.now) waits.old waits.new }
-    ensures longest { result ≡ 0 → (level : ℕ) → level < LEVELS → IsLongest level (LEVELS * n) waits.new (slice_index longest.old level) (slice_index longest.new level) }
+    ensures longest { result ≡ 0 → AreLongest (LEVELS * n) waits.new longest.old longest.new }
     ensures refused { result ≡ 1 → (waits.new ≡ waits.old) × (longest.new ≡ longest.old) }
 {
     if n == 0 || n > MAX_PORTS || !are_feeds(n, feeds) {
@@ -50,8 +50,8 @@ fn note_all(sets: &[Ports], waits: &mut [u32], longest: &mut [u32])
     requires size { length sets.now ≤ 256 }
     requires waits { length waits.old ≡ 64 * length sets.now }
     requires longest { length longest.old ≡ LEVELS }
-    ensures noted { (place j : ℕ) → place < length sets.now → j < MAX_PORTS → word_at waits.new place j ≡ wait_next (bit_at (slice_index sets.now place) j == 1) (word_at waits.old place j) }
-    ensures longest { (level : ℕ) → level < LEVELS → IsLongest level (length sets.now) waits.new (slice_index longest.old level) (slice_index longest.new level) }
+    ensures noted { AreNotedBy sets.now waits.old waits.new }
+    ensures longest { AreLongest (length sets.now) waits.new longest.old longest.new }
 {
     for place in 0..sets.len() {
         let most = note_place(sets[place], place, waits);

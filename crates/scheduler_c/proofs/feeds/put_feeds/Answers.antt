@@ -10,7 +10,8 @@ returns-clause-matched c =
     let size = ports.size in
     let value = ports.value in
     let whole : IsMatch n c.args.matched.now = subst (λ m. IsMatch m c.args.matched.now) ports.value ports.whole in
-    matched_from-each n (omega arith) c.args.matched.now whole c.loop-output.feeds (c.loop-output.auto.feeds ∙ c.requires) (λ j below. c.loop-output.invariant j (omega (arith, c.loop-output-test.false)))
+    matched_from-each n (omega arith) c.args.matched.now whole c.loop-output.feeds (c.loop-output.auto.feeds ∙ c.requires)
+    (λ j below. c.loop-output.invariant j (omega (arith, c.loop-output-test.false)))
 
 pub returns-clause-feeds : goal.returns-clause-feeds
 returns-clause-feeds c =
@@ -19,4 +20,5 @@ returns-clause-feeds c =
     let size = ports.size in
     let value = ports.value in
     let whole : IsMatch n c.args.matched.now = subst (λ m. IsMatch m c.args.matched.now) ports.value ports.whole in
-    AreFeeds-each n (omega arith) c.args.matched.now whole c.loop-output.feeds (c.loop-output.auto.feeds ∙ c.requires) (λ j below. c.loop-output.invariant j (omega (arith, c.loop-output-test.false)))
+    AreFeeds-each n (omega arith) c.args.matched.now whole c.loop-output.feeds (c.loop-output.auto.feeds ∙ c.requires)
+    (λ j below. c.loop-output.invariant j (omega (arith, c.loop-output-test.false)))

@@ -5,4 +5,5 @@ use Rattle.scheduler_c.proofs.four_levels.tiny_tera_decide.Goals as goal
 pub returns-clause-again : goal.returns-clause-again
 returns-clause-again c done =
     let decided = c.decide-numbers.ensures in
-    AreInRange-written c.args.n c.decide-numbers.new.p c.put_tables.new.tables decided.at_ports (decided.slot.moved.ports ∙ c.in-Some.ensures.ports) c.put_tables.ensures.value
+    let ports = decided.slot.moved.ports ∙ c.in-Some.ensures.ports in
+    AreInRange-written c.args.n c.decide-numbers.new.p c.put_tables.new.tables decided.at_ports ports c.put_tables.ensures.value

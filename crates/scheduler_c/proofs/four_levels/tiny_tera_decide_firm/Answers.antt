@@ -6,4 +6,5 @@ pub returns-clause-again : goal.returns-clause-again
 returns-clause-again c done =
     let decided = c.decide_firm-numbers.ensures in
     let moved = decided.slot.moved in
-    AreInRange-written c.args.n c.decide_firm-numbers.new.p c.put_tables.new.tables decided.at_ports (moved.held.ports ∙ (moved.as_first.ports ∙ c.in-Some.ensures.ports)) c.put_tables.ensures.value
+    let ports = moved.held.ports ∙ (moved.as_first.ports ∙ c.in-Some.ensures.ports) in
+    AreInRange-written c.args.n c.decide_firm-numbers.new.p c.put_tables.new.tables decided.at_ports ports c.put_tables.ensures.value

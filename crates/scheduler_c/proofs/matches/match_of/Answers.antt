@@ -1,8 +1,9 @@
-use Rattle.std.proofs.Common.{◌≡◌, ◌<◌, ◌∙◌, Some, length, ap, arith, refl, sym, subst, slice_index_or}
+use Rattle.std.proofs.Common.{◌≡◌, ℕ, ◌<◌, ◌∙◌, Some, length, ap, arith, refl, sym, subst, slice_index_or}
 use Rattle.std.proofs.lemmas.Bool.{false≢true}
 use Rattle.std.proofs.lemmas.List.{get_or_default}
 use Rattle.slot_match.specs.Matches.{IsMatch}
 use Rattle.scheduler_c.specs.Feeds.{matched_from, no_feed, feed_from}
+use Rattle.scheduler_c.specs.Matches.{IsReadyFor}
 use Rattle.scheduler_c.proofs.Pairs.{ready-in_match, fed_of-matched_from, matched_from-made}
 use Rattle.scheduler_c.proofs.matches.match_of.Goals as goal
 
@@ -16,8 +17,12 @@ returns-then-not-add_pair-clause-some c = (
       let kept = c.loop-output.invariant in
       let count = c.requires.feeds.count in
       let inside : output < length feeds = omega (arith, c.loop-output-test.true) in
-      let read : feed_from (slice_index_or feeds output no_feed) ≡ Some c.in-Some.fed = ap feed_from (get_or_default feeds output no_feed _ inside) ∙ sym c.in-Some.ensures.value in
-      absurd (ready-in_match c.args.n (matched_from feeds) part output c.in-Some.fed whole (fed_of-matched_from feeds output ∙ read) (λ j below. kept.done j below ∙ sym (fed_of-matched_from feeds j)) kept.rest (λ ready. false≢true (c.if-not-add_pair.ensures.ready.1 ready))),
+      let read : feed_from (slice_index_or feeds output no_feed) ≡ Some c.in-Some.fed =
+      ap feed_from (get_or_default feeds output no_feed _ inside) ∙ sym c.in-Some.ensures.value in
+      let here = fed_of-matched_from feeds output ∙ read in
+      let done = λ (j : ℕ) (below : j < output). kept.done j below ∙ sym (fed_of-matched_from feeds j) in
+      let refused = λ (ready : IsReadyFor part c.in-Some.fed). false≢true (c.if-not-add_pair.ensures.ready.1 ready) in
+      absurd (ready-in_match c.args.n (matched_from feeds) part output c.in-Some.fed whole here done kept.rest refused),
 )
 
 pub returns-clause-value : goal.returns-clause-value

@@ -1,7 +1,7 @@
-use Rattle.std.proofs.Common.{◌≡◌, ℕ, ◌+◌, ◌*◌, ◌%◌, ◌<◌, ◌≤◌, ◌==◌, ◌∙◌, length, max, slice_index, slice_set, ap, sym, subst, inl, inr, arith, get_or-set_same, get_or-set_other}
+use Rattle.std.proofs.Common.{◌≡◌, ℕ, ◌+◌, ◌*◌, ◌%◌, ◌<◌, ◌==◌, ◌∙◌, length, max, slice_index, slice_set, ap, sym, subst, inl, inr, arith, get_or-set_same, get_or-set_other}
 use Rattle.std.specs.Int.{bit_at}
 use Rattle.std.proofs.lemmas.Bool.{cases_eq}
-use Rattle.rotating_pick.specs.declared.limits.TheConstants.{LEVELS, MAX_PORTS}
+use Rattle.rotating_pick.specs.declared.limits.TheConstants.{MAX_PORTS}
 use Rattle.scheduler_c.specs.Waits.{IsLongest, word_at, wait_next}
 use Rattle.scheduler_c.proofs.Longest.{IsLongest-here, IsLongest-other}
 use Rattle.scheduler_c.proofs.waits.note_all.Goals as goal
@@ -24,7 +24,9 @@ loop-place-preserved c =
     let inside : place % 4 < length longest = omega arith in
     record {
       noted = λ k j k_in j_in. elim (cases_eq k place) [
-        | inl same ↦ subst (λ m. word_at new m j ≡ wait_next (bit_at (slice_index sets m) j == 1) (word_at old m j)) (sym same) (note.noted j j_in ∙ ap (λ w. wait_next (bit_at (slice_index sets place) j == 1) w) (inv.left (64 * place + j) (omega arith)))
+        | inl same ↦
+            let here = note.noted j j_in ∙ ap (λ w. wait_next (bit_at (slice_index sets place) j == 1) w) (inv.left (64 * place + j) (omega arith)) in
+            subst (λ m. word_at new m j ≡ wait_next (bit_at (slice_index sets m) j == 1) (word_at old m j)) (sym same) here
         | inr apart ↦ keeps k j (omega arith) j_in ∙ inv.noted k j (omega arith) j_in
       ];
       left = λ k k_in. note.others k (inr (omega arith)) ∙ inv.left k (omega arith);
@@ -35,7 +37,8 @@ loop-place-preserved c =
           let was = inv.longest level level_in in
           elim (cases_eq (place % 4) level) [
             | inl same ↦
-                let written : after ≡ greater = ap (λ l. slice_index (slice_set longest (place % 4) greater) l) (sym same) ∙ get_or-set_same longest (place % 4) greater 0 inside in
+                let moved = slice_set longest (place % 4) greater in
+                let written : after ≡ greater = ap (λ l. slice_index moved l) (sym same) ∙ get_or-set_same longest (place % 4) greater 0 inside in
                 let longer : after ≡ max mid most = written ∙ (c.max.ensures ∙ ap (λ l. max (slice_index longest l) most) same) in
                 IsLongest-here level place waits new before mid keeps was most after same note.bound note.reached longer
             | inr other ↦

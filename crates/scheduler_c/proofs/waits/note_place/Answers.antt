@@ -22,8 +22,11 @@ loop-output-preserved c =
     let inside : at < length waits = omega arith in
     let here : word_at new place output ≡ wait = get_or-set_same waits at wait 0 inside in
     let other = λ (k : ℕ) (apart : k ≡ at → ⊥). get_or-set_other waits at k wait 0 apart in
-    let tests : c.contains.result ≡ (bit_at outputs output == 1) = same_from_decides c.contains.result (bit_at outputs output == 1) c.contains.ensures (Decides-eqb (bit_at outputs output) 1) in
-    let is : wait ≡ wait_next (bit_at outputs output == 1) (word_at old place output) = c.wait_next-wait.ensures ∙ (ap (λ b. wait_next b (slice_index waits at)) tests ∙ ap (λ w. wait_next (bit_at outputs output == 1) w) (inv.left at (omega arith))) in
+    let waits_now = bit_at outputs output == 1 in
+    let tests : c.contains.result ≡ waits_now = same_from_decides c.contains.result waits_now c.contains.ensures (Decides-eqb (bit_at outputs output) 1) in
+    let as_told = ap (λ b. wait_next b (slice_index waits at)) tests in
+    let as_first = ap (λ w. wait_next waits_now w) (inv.left at (omega arith)) in
+    let is : wait ≡ wait_next waits_now (word_at old place output) = c.wait_next-wait.ensures ∙ (as_told ∙ as_first) in
     let longer : c.max-longest.result ≡ max c.loop-output.longest wait = c.max-longest.ensures in
     record {
       noted = λ j j_in. elim (cases_eq j output) [
