@@ -32,7 +32,11 @@ fn run(percent: u64, rounds: u32) -> (u64, u64) {
             }
         }
         let feeds = switch.decide(&rows).expect("rows of this switch");
-        for (j, feed) in feeds.iter().enumerate().filter(|(_, feed)| feed.input != NONE) {
+        for (j, feed) in feeds
+            .iter()
+            .enumerate()
+            .filter(|(_, feed)| feed.input != NONE)
+        {
             let i = feed.input as usize;
             waiting[i][j] -= 1;
             left += 1;
@@ -49,7 +53,10 @@ fn main() {
     for rounds in [1, 4] {
         for percent in [50, 90, 99] {
             let (came, left) = run(percent, rounds);
-            println!("rounds {rounds} load {percent} %: {:.2} % of the cells left", 100.0 * left as f64 / came as f64);
+            println!(
+                "rounds {rounds} load {percent} %: {:.2} % of the cells left",
+                100.0 * left as f64 / came as f64
+            );
         }
     }
 }
