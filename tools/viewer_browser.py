@@ -4,6 +4,11 @@ import pathlib
 import shutil
 import time
 
+# Keys, as the browser's driver has them.
+END, HOME, LEFT, UP, RIGHT, DOWN = "\ue010\ue011\ue012\ue013\ue014\ue015"
+ESCAPE = "\ue00c"
+TAB = "\ue004"
+
 PAGE = (pathlib.Path(__file__).resolve().parent.parent / "viewer/index.html").as_uri()
 
 
@@ -49,6 +54,14 @@ class Viewer:
         self.driver.get("about:blank")
         self.driver.get(PAGE + fragment)
 
+    def view_port(self, width, height):
+        """Gives the page a window of exactly so many pixels, as on a phone; 0 by 0 goes back to the window's own."""
+        if width == 0:
+            self.driver.execute_cdp_cmd("Emulation.clearDeviceMetricsOverride", {})
+        else:
+            self.driver.execute_cdp_cmd("Emulation.setDeviceMetricsOverride", {"width": width, "height": height, "deviceScaleFactor": 1, "mobile": False})
+        self.wait("true", "a frame")
+
     def run(self, script, *values):
         return self.driver.execute_script(script, *values)
 
@@ -58,15 +71,37 @@ class Viewer:
     def is_shown(self, name):
         return self.run("return document.getElementById(arguments[0]).checkVisibility()", name)
 
-    def open(self, file):
+    def open(self, *given, field="file"):
+        """Chooses files in a field of the page and waits until all slots have been gone through."""
         self.run("SlotViewer.page.showNotice('')")
-        self.driver.find_element("id", "file").send_keys(str(file))
-        self.wait("document.getElementById('notice').hidden || document.getElementById('notice').innerText.includes('no slot lines')", file)
+        self.driver.find_element("id", field).send_keys("\n".join(str(file) for file in given))
+        self.wait_read(given)
 
-    def open_bytes(self, name, data):
+    def wait_read(self, what):
+        self.wait("document.getElementById('notice').hidden || document.getElementById('notice').innerText.match(/no slot lines|not compared/)", what)
+
+    def open_bytes(self, name, data, field="file"):
         file = self.folder / name
         file.write_bytes(data)
-        self.open(file)
+        self.open(file, field=field)
+
+    def choose(self, name, value):
+        """Chooses an entry of a list, or types into a field."""
+        self.run("const one = document.getElementById(arguments[0]); one.value = arguments[1]; one.dispatchEvent(new Event('change'))", name, value)
+        self.wait("true", "a frame")
+
+    def push(self, name):
+        """Presses a button of the page."""
+        self.run("document.getElementById(arguments[0]).click()", name)
+        self.wait("true", "a frame")
+
+    def lines(self, selector):
+        """The texts of the elements that a selector finds."""
+        return self.run("return Array.from(document.querySelectorAll(arguments[0]), (one) => one.innerText.trim())", selector)
+
+    def place(self, name):
+        """Where an element is in the window: left, top, right, bottom."""
+        return self.run("const box = document.getElementById(arguments[0]).getBoundingClientRect(); return [box.left, box.top, box.right, box.bottom]", name)
 
     def wait(self, condition, what, seconds=240):
         end = time.monotonic() + seconds
@@ -87,6 +122,14 @@ class Viewer:
         element = self.driver.find_element("id", name)
         offset = round(x - element.size["width"] / 2)
         self.actions(self.driver).move_to_element_with_offset(element, offset, 0).click().perform()
+        self.wait("true", "a frame")
+
+    def hover(self, name, x, y):
+        """Moves the mouse to a place of an element, so far from its left upper corner."""
+        self.run("document.getElementById(arguments[0]).scrollIntoView({ block: 'center' })", name)
+        element = self.driver.find_element("id", name)
+        offsets = (round(x - element.size["width"] / 2), round(y - element.size["height"] / 2))
+        self.actions(self.driver).move_to_element_with_offset(element, *offsets).perform()
         self.wait("true", "a frame")
 
     def slot(self):

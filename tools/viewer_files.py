@@ -6,6 +6,8 @@ import struct
 
 ROOT = pathlib.Path(__file__).resolve().parent.parent
 VECTORS = ROOT / "crates/known_answers/data"
+# Files of runs under each of the three schedulers.
+DATA = ROOT / "tests/viewer"
 FREE = b"\xff\x00"
 
 # The heavy run: so many slots of 64 ports, of which so many inputs send in each slot.
@@ -78,9 +80,63 @@ def heavy_slot(turn):
     return rows, [1] * HEAVY_PORTS, match
 
 
+def full_load_journal(ports, cells, matched):
+    """Each queue of level 0 has so many cells from slot 0 on; `matched` has the pairs (input, output) of each
+    slot. A queue is posted until its last cell is served, and a slot in which nothing is posted ends the run."""
+    left = {(source, output): cells for source in range(ports) for output in range(ports)}
+    slots = []
+    for pairs in matched + [[]]:
+        masks = [sum(1 << output for output in range(ports) if left[source, output]) for source in range(ports)]
+        match = [None] * ports
+        for source, output in pairs:
+            match[output] = (source, 0, 0)
+            left[source, output] -= 1
+        slots.append(([{"u0": mask} if mask else {} for mask in masks], [int(mask > 0) for mask in masks], match))
+    return journal_bytes(ports, 1, slots)
+
+
+def full_load_islip(ports=4, cells=4):
+    """Full load under iSLIP, one round. In slot t the pairs have input + output = t, t - ports, t - 2 * ports and so
+    on, as in slot 0 output 0 alone leaves input 0, and each output is one slot behind the one before it from then
+    on: all outputs are matched from slot ports - 1 on. A pair's last cell goes in round `cells` of its turns."""
+    last = 2 * (ports - 1) + (cells - 1) * ports
+    matched = [[] for _ in range(last + 1)]
+    for source in range(ports):
+        for output in range(ports):
+            for turn in range(cells):
+                matched[source + output + turn * ports].append((source, output))
+    return full_load_journal(ports, cells, matched)
+
+
+def full_load_rrm(ports=4, cells=4):
+    """Full load under RRM, one round. All outputs grant the same input, input t mod ports in slot t, which takes
+    the outputs in turn: one pair in each slot."""
+    return full_load_journal(ports, cells, [[(slot % ports, slot // ports % ports)] for slot in range(cells * ports * ports)])
+
+
 def one_slot_journal():
     """Two ports of which none sends: one slot, 20 bytes."""
     return bytes.fromhex("54544a31020400000000000100000000ff00ff00")
+
+
+def steps_journal():
+    """Three ports, two rounds, all pointers at 0: in slot 0 input 0 has a multicast head for outputs 1 and 2, and
+    input 1 asks outputs 0 and 2; in slot 1 input 1 asks output 2 again."""
+    first = ([{"m0": 6}, {"u0": 5}, {}], [1, 1, 0], [(1, 0, 0), (0, 0, 1), (0, 0, 1)])
+    second = ([{}, {"u0": 4}, {}], [0, 1, 0], [None, None, (1, 0, 0)])
+    return journal_bytes(3, 2, [first, second, ([{}] * 3, [0] * 3, [None] * 3)])
+
+
+def turning_journal(ports, slots=8):
+    """In slot t each input asks the t-th output after its own, at one of the four levels, and gets it."""
+    made = []
+    for slot in range(slots):
+        to = [(source + slot) % ports for source in range(ports)]
+        match = [None] * ports
+        for source in range(ports):
+            match[to[source]] = (source, source % 4, 0)
+        made.append(([{f"u{source % 4}": 1 << to[source]} for source in range(ports)], [1] * ports, match))
+    return journal_bytes(ports, 4, made + [([{}] * ports, [0] * ports, [None] * ports)])
 
 
 def two_inputs_report():

@@ -8,9 +8,11 @@
 
     /** What is known of all slots up to `done`. */
     class Analysis {
-        constructor(run) {
+        /** A journal's matches are compared with those of the scheduler of the name `rule`. */
+        constructor(run, rule = "islip") {
             const { ports, slots } = run;
             this.run = run;
+            this.rule = rule;
             /** How many slots the pass has covered. */
             this.done = 0;
             this.fed = new Pyramid(slots, 1, "sum", Uint8Array);
@@ -133,7 +135,7 @@
     /** A generator that fills an analysis slot by slot; it yields its progress. */
     function* analyse(analysis) {
         const { run } = analysis;
-        const walker = run.form === "journal" ? new SlotWalker(run, analysis.checkpoints) : null;
+        const walker = run.form === "journal" ? new SlotWalker(run, analysis.checkpoints, analysis.rule) : null;
         const fedBy = new Uint8Array(run.ports);
         for (let slot = 0; slot < run.slots; slot += 1) {
             noteMatch(analysis, slot, fedBy);

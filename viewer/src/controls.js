@@ -1,10 +1,6 @@
-// What the user does with the page, by mouse and by keys.
+// What the user does with the page's buttons, lists and fields.
 (function (viewer) {
     "use strict";
-
-    const LONG_STEP = 10;
-    const PAGE_STEP = 100;
-    const FIELDS = "input, select, textarea";
 
     const element = (id) => document.getElementById(id);
 
@@ -14,97 +10,103 @@
         list.lastElementChild.before(...options);
     }
 
-    function watchControls(page) {
-        addLevels(element("row-level"));
-        addLevels(element("pointer-level"));
-        element("pointer-level").value = page.crossbar.settings.pointerLevel;
+    function watchSlots(page) {
         const onClick = (id, act) => element(id).addEventListener("click", act);
         onClick("first", () => page.goByUser(0));
         onClick("back", () => page.goByUser(page.slot - 1));
         onClick("play", () => page.togglePlay());
         onClick("forward", () => page.goByUser(page.slot + 1));
-        onClick("last", () => page.goByUser(page.run.slots - 1));
+        onClick("last", () => page.goByUser(page.slots - 1));
+        onClick("step-back", () => page.moveStep(-1));
+        onClick("step-on", () => page.moveStep(1));
+        onClick("whole-slot", () => page.goToStep(null));
         onClick("next-difference", () => page.goToNextDifference());
-        onClick("zoom-in", () => page.timeline.zoomIn());
-        onClick("zoom-out", () => page.timeline.zoomOut());
-        onClick("zoom-all", () => page.timeline.zoomAll());
-        const onChange = (id, act) => element(id).addEventListener("change", () => act(element(id).value));
-        onChange("slot", (value) => /^\d{1,9}$/.test(value) && page.goByUser(Number(value)));
-        onChange("speed", (value) => {
-            page.player.speed = Number(value);
-        });
-        onChange("row-level", (value) => page.set("rowLevel", value));
-        onChange("pointer-level", (value) => page.set("pointerLevel", value));
-        onChange("lanes", (value) => {
-            page.timeline.lanes = value;
-            page.ask("timeline");
-        });
+        onClick("next-unlike", () => page.goToNextOf(page.comparison.differing));
+        element("slot").addEventListener("change", () => page.goToTyped(element("slot").value));
         element("slot").addEventListener("blur", () => page.hasSlots && page.ask("slot"));
     }
 
-    function watchKeys(page) {
-        document.addEventListener("keydown", (event) => {
-            if (event.ctrlKey || event.metaKey || event.altKey || !page.hasSlots) {
-                return;
-            }
-            const isDone = event.target === element("crossbar") ? onCrossbarKey(page, event) : false;
-            if (isDone || onSlotKey(page, event)) {
-                event.preventDefault();
-            }
+    function watchTimeline(page) {
+        const onClick = (id, act) => element(id).addEventListener("click", act);
+        onClick("zoom-in", () => page.timeline.zoomIn());
+        onClick("zoom-out", () => page.timeline.zoomOut());
+        onClick("zoom-all", () => page.timeline.zoomAll());
+        element("speed").addEventListener("change", () => {
+            page.player.speed = Number(element("speed").value);
+        });
+        element("lanes").addEventListener("change", () => {
+            page.timeline.lanes = element("lanes").value;
+            page.ask("timeline");
         });
     }
 
-    /** The arrow keys in the crossbar move the chosen crosspoint. */
-    function onCrossbarKey(page, { key }) {
-        const moves = { ArrowLeft: [0, -1], ArrowRight: [0, 1], ArrowUp: [-1, 0], ArrowDown: [1, 0] };
-        const move = moves[key];
-        if (move === undefined) {
-            return false;
-        }
-        const { ports } = page.run;
-        const place = (value) => Math.max(0, Math.min(ports - 1, value));
-        const { input, output } = page.crossbar.selected || { input: 0, output: 0 };
-        const isFirst = page.crossbar.selected === null;
-        page.select(place(input + (isFirst ? 0 : move[0])), place(output + (isFirst ? 0 : move[1])));
-        return true;
+    /** The lists, fields and buttons of one run. */
+    function watchPane(page, pane) {
+        const part = (name) => pane.element(name);
+        addLevels(part("row-level"));
+        addLevels(part("pointer-level"));
+        part("scheduler").append(...viewer.SCHEDULERS.map(({ name, title }) => new Option(title, name)));
+        const onChange = (name, act) => part(name).addEventListener("change", () => act(part(name).value));
+        onChange("row-level", (value) => pane.set("rowLevel", value));
+        onChange("pointer-level", (value) => pane.set("pointerLevel", value));
+        onChange("squares", (value) => pane.set("squares", value));
+        onChange("scheduler", (value) => page.chooseScheduler(pane, value));
+        part("follow").addEventListener("click", () => followTyped(page, pane));
+        part("save-svg").addEventListener("click", () => viewer.saveSvg(pane));
+        part("save-png").addEventListener("click", () => viewer.savePng(pane));
+        pane.onRule = (name) => page.chooseScheduler(pane, name);
+        pane.onGo = (slot) => page.goByUser(slot);
     }
 
-    /** Keys that go from slot to slot. Those that scroll a page do so only on the time line. */
-    function onSlotKey(page, { key, shiftKey, target }) {
-        if (target.matches(FIELDS)) {
-            return false;
+    function followTyped(page, pane) {
+        const [input, number] = ["follow-input", "follow-packet"].map((name) => pane.element(name).value.trim());
+        const packet = pane.queues.packets.find(Number(input), Number(number));
+        page.tell(packet === null ? `The packets file has no packet ${number} of input ${input}.` : null);
+        if (packet !== null) {
+            pane.follow(packet);
         }
-        const step = shiftKey ? LONG_STEP : 1;
-        const moves = { ArrowLeft: -step, ArrowRight: step };
-        if (target === element("timeline")) {
-            const last = page.run.slots;
-            Object.assign(moves, { ArrowDown: -step, ArrowUp: step });
-            Object.assign(moves, { PageUp: PAGE_STEP, PageDown: -PAGE_STEP, Home: -last, End: last });
-        }
-        if (moves[key] !== undefined) {
-            page.goByUser(page.slot + moves[key]);
-            return true;
-        }
-        if (key === " " && !target.matches("button, summary, .scroll")) {
-            page.togglePlay();
-            return true;
-        }
-        return false;
+    }
+
+    function watchOpening(page) {
+        viewer.watchField(element("file"), (files) => page.open(files));
+        viewer.watchField(element("file-2"), (files) => page.open(files, true));
+        viewer.watchDrops((files, target) => {
+            const second = element("pane-2");
+            page.open(files, second.contains(target) && !second.hidden);
+        });
+        element("close-second").addEventListener("click", () => page.closeSecond());
+        viewer.offerExamples(element("examples"), element("example"), element("open-example"), ({ files }) => page.openExample(files));
+    }
+
+    /** Lays the page out anew where the crossbars' place has changed, and not where only texts below them have. */
+    function watchRoom(page) {
+        let place = "";
+        const observer = new ResizeObserver(() => {
+            const now = `${element("columns").clientWidth} ${element("columns").offsetTop}`;
+            if (now !== place) {
+                place = now;
+                page.ask("layout");
+            }
+        });
+        [element("columns"), document.querySelector("header"), document.querySelector(".controls")].forEach((part) => observer.observe(part));
     }
 
     function watchWindow(page) {
-        new ResizeObserver(() => page.ask("layout")).observe(element("crossbar-frame"));
+        window.addEventListener("resize", () => page.ask("layout"));
+        watchRoom(page);
         viewer.watchTheme(element("theme"), () => page.onTheme());
-        window.addEventListener("hashchange", () => {
-            const slot = viewer.slotOfAddress();
-            if (slot !== null) {
-                page.goByUser(slot);
-            }
-        });
+        window.addEventListener("hashchange", () => page.onAddress());
+    }
+
+    function watchPage(page) {
+        watchSlots(page);
+        watchTimeline(page);
+        page.panes.forEach((pane) => watchPane(page, pane));
+        watchOpening(page);
+        viewer.watchKeys(page);
+        watchWindow(page);
     }
 
     viewer.element = element;
-    viewer.watchControls = watchControls;
-    viewer.watchKeys = watchKeys;
-    viewer.watchWindow = watchWindow;
+    viewer.watchPage = watchPage;
 })(globalThis.SlotViewer = globalThis.SlotViewer || {});

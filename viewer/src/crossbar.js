@@ -2,49 +2,28 @@
 (function (viewer) {
     "use strict";
 
-    const { UNICAST, MULTICAST, LEVELS } = viewer;
+    const { MULTICAST } = viewer;
 
     const MARGIN = { left: 52, right: 8, top: 8, bottom: 40 };
     const LEAST_LABEL_GAP = 15;
     const LEAST_TEXT_CELL = 22;
-    /** A few ports do not fill the page. */
-    const MOST_CELL = 110;
+    /** A crosspoint is never smaller, though the crossbar is then larger than its room. */
+    const LEAST_CELL = 3;
+    const MOST_RADIUS = 26;
     const FULL_CIRCLE = 2 * Math.PI;
-    /** A wait of so many slots has the full tint. */
-    const DARKEST_WAIT = 1024;
     const FONT = "system-ui, 'DejaVu Sans', sans-serif";
 
-    /** How strong the tint of a queue is, from its wait. */
-    function strength(wait) {
-        return 0.16 + 0.54 * Math.min(1, Math.log2(1 + (wait || 0)) / Math.log2(DARKEST_WAIT));
-    }
-
-    /** Small tints of many crosspoints, drawn as one picture. */
-    class Tint {
-        constructor(side, colours) {
-            this.side = side;
-            this.colours = colours.map((colour) => d3.rgb(colour));
-            this.image = new ImageData(side, side);
-        }
-
-        set(x, y, level, alpha) {
-            const { r, g, b } = this.colours[level];
-            this.image.data.set([r, g, b, 255 * alpha], 4 * (y * this.side + x));
-        }
-
-        draw(context, left, top, side) {
-            viewer.stretchImage(context, this.image, left, top, side, side);
-        }
-    }
+    /** What a crossbar is to show; `view` is added for each slot. */
+    const EMPTY_SCENE = { view: null, step: null, onlyHere: [], unlikeWaits: null, followed: null };
 
     class Crossbar {
-        /** `onSelect` is told the input and output of a crosspoint that was chosen by mouse. */
-        constructor(canvas, frame, onSelect) {
+        /** `onSelect` and `onHover` are told the crosspoint under the mouse, the latter also null. */
+        constructor(canvas, onSelect, onHover) {
             this.canvas = canvas;
-            this.frame = frame;
-            this.view = null;
-            this.settings = { rowLevel: "all", pointerLevel: "0" };
-            /** The crosspoint that is described in words, or null. */
+            this.scene = EMPTY_SCENE;
+            /** What is shown of rows and pointers: see viewer.defaultSettings(). */
+            this.settings = viewer.defaultSettings();
+            /** The crosspoint that was chosen, or null. */
             this.selected = null;
             canvas.addEventListener("click", (event) => {
                 const found = this.crosspointAt(event.offsetX, event.offsetY);
@@ -52,36 +31,107 @@
                     onSelect(found.input, found.output);
                 }
             });
+            canvas.addEventListener("mousemove", (event) => onHover(this.crosspointAt(event.offsetX, event.offsetY)));
+            canvas.addEventListener("mouseleave", () => onHover(null));
+        }
+
+        get view() {
+            return this.scene.view;
         }
 
         crosspointAt(x, y) {
+            if (this.view === null) {
+                return null;
+            }
             const output = Math.floor((x - MARGIN.left) / this.cell);
             const input = Math.floor((y - MARGIN.top) / this.cell);
             const { ports } = this.view;
             return output >= 0 && output < ports && input >= 0 && input < ports ? { input, output } : null;
         }
 
-        /** Draws a slot. */
-        draw(view, palette) {
-            this.view = view;
+        /** The side of a crosspoint in a room of pixels. */
+        cellIn(room, ports) {
+            const across = room.width - MARGIN.left - MARGIN.right;
+            const down = room.height - MARGIN.top - MARGIN.bottom;
+            return Math.max(LEAST_CELL, Math.min(across, down) / ports);
+        }
+
+        /** The width of a crossbar in a room of pixels. */
+        widthIn(room, ports) {
+            return this.cellIn(room, ports) * ports + MARGIN.left + MARGIN.right;
+        }
+
+        /** Draws a scene, as large as its room of pixels allows. */
+        draw(scene, palette, room) {
+            this.scene = { ...EMPTY_SCENE, ...scene };
             this.palette = palette;
-            this.cell = Math.min(MOST_CELL, (this.frame.clientWidth - MARGIN.left - MARGIN.right) / view.ports);
-            this.side = this.cell * view.ports;
-            const width = this.side + MARGIN.left + MARGIN.right;
-            this.context = viewer.sizeCanvas(this.canvas, width, this.side + MARGIN.top + MARGIN.bottom);
-            this.context.clearRect(0, 0, width, this.side + MARGIN.top + MARGIN.bottom);
+            this.cell = this.cellIn(room, scene.view.ports);
+            this.side = this.cell * scene.view.ports;
+            this.width = this.side + MARGIN.left + MARGIN.right;
+            this.height = this.side + MARGIN.top + MARGIN.bottom;
+            this.context = viewer.sizeCanvas(this.canvas, this.width, this.height);
+            this.context.clearRect(0, 0, this.width, this.height);
+            this.paint();
+            this.drawSelection();
+        }
+
+        /** The picture of what was drawn last, without the choice, as the text of an SVG file. */
+        svg(title) {
+            const context = new viewer.SvgContext(this.width, this.height);
+            const onCanvas = this.context;
+            this.context = context;
+            this.paint();
+            this.context = onCanvas;
+            return context.text(title, this.palette.paper);
+        }
+
+        paint() {
+            const { view, step, onlyHere, followed } = this.scene;
             this.drawWires();
-            if (view.rows !== null && this.settings.rowLevel !== "none") {
-                this.drawRows();
+            if (followed !== null) {
+                viewer.drawFollowed(this, followed);
             }
-            view.pairs.forEach((pair) => this.drawPath(pair));
-            view.pairs.forEach((pair) => this.drawCrosspoint(pair));
-            view.differing.forEach((output) => this.drawDifference(output));
-            if (view.pointers !== null && this.settings.pointerLevel !== "none") {
-                this.drawPointers(Number(this.settings.pointerLevel));
+            if (step !== null) {
+                viewer.drawStep(this, step);
+            } else {
+                if (this.settings.rowLevel !== "none") {
+                    viewer.drawRows(this);
+                }
+                this.drawMatch(view.pairs);
+                onlyHere.forEach((pair) => this.drawOnlyHere(pair));
+                view.differing.forEach((output) => this.drawDifference(output));
+                if (view.pointers !== null && this.settings.pointerLevel !== "none") {
+                    this.drawPointers(view.pointers, Number(this.settings.pointerLevel));
+                }
             }
             this.drawLabels();
-            this.drawSelection();
+        }
+
+        drawMatch(pairs) {
+            pairs.forEach((pair) => this.drawPath(pair));
+            pairs.forEach((pair) => this.drawCrosspoint(pair));
+        }
+
+        /** Marks a pair that the other run does not have: a second ring around its crosspoint. */
+        drawOnlyHere({ input, output }) {
+            this.context.strokeStyle = this.palette.ink;
+            this.context.lineWidth = Math.max(1, Math.min(3, this.cell / 12));
+            this.circle(this.x(output), this.y(input), Math.max(4, Math.min(MOST_RADIUS * 1.6, this.cell * 0.44)));
+            this.context.stroke();
+        }
+
+        get radius() {
+            return Math.max(2.5, Math.min(MOST_RADIUS, this.cell * 0.3));
+        }
+
+        circle(x, y, radius) {
+            this.context.beginPath();
+            this.context.moveTo(x + radius, y);
+            this.context.arc(x, y, radius, 0, FULL_CIRCLE);
+        }
+
+        diamond(x, y, reach) {
+            this.polygon([[x, y - reach], [x + reach, y], [x, y + reach], [x - reach, y]]);
         }
 
         /** The middle of a port's row or column. */
@@ -109,54 +159,6 @@
             }
         }
 
-        /** Tints what is posted, stronger the longer it waits. Of all levels each has a quarter of the cell. */
-        drawRows() {
-            const isSingle = this.settings.rowLevel !== "all";
-            const levels = isSingle ? [Number(this.settings.rowLevel)] : d3.range(LEVELS);
-            const parts = isSingle ? 1 : 2;
-            const gap = this.cell < LEAST_TEXT_CELL ? 0 : 2;
-            const size = (this.cell - 2 * gap) / parts;
-            const tint = this.cell < LEAST_TEXT_CELL ? new Tint(this.view.ports * parts, this.palette.levels) : null;
-            this.context.font = `${Math.min(13, size * 0.45)}px ${FONT}`;
-            this.view.eachPosted(levels, (input, output, level, kind, wait) => {
-                const column = isSingle ? 0 : level & 1;
-                const row = isSingle ? 0 : level >> 1;
-                if (tint !== null && kind === UNICAST) {
-                    tint.set(output * parts + column, input * parts + row, level, strength(wait));
-                    return;
-                }
-                const x = this.x(output) - this.cell / 2 + gap + column * size;
-                const y = this.y(input) - this.cell / 2 + gap + row * size;
-                this.drawPosted(x, y, size, level, kind, wait);
-            });
-            if (tint !== null) {
-                tint.draw(this.context, MARGIN.left, MARGIN.top, this.side);
-            }
-            this.context.globalAlpha = 1;
-        }
-
-        drawPosted(x, y, size, level, kind, wait) {
-            const { context } = this;
-            context.globalAlpha = strength(wait);
-            if (kind === MULTICAST) {
-                const width = Math.max(1, size / 10);
-                context.globalAlpha = Math.min(1, context.globalAlpha + 0.25);
-                context.strokeStyle = this.palette.levels[level];
-                context.lineWidth = width;
-                context.strokeRect(x + width, y + width, size - 2 * width, size - 2 * width);
-            } else {
-                context.fillStyle = this.palette.levels[level];
-                context.fillRect(x, y, size, size);
-            }
-            if (wait > 0 && size >= LEAST_TEXT_CELL) {
-                context.globalAlpha = 1;
-                context.fillStyle = this.palette.ink;
-                context.textAlign = "left";
-                context.textBaseline = kind === MULTICAST ? "bottom" : "top";
-                context.fillText(wait, x + 4, kind === MULTICAST ? y + size - 4 : y + 4);
-            }
-        }
-
         /** The way of a cell: from its input along the row, then down the column to its output. */
         drawPath({ input, output, level, kind }) {
             const { context } = this;
@@ -173,19 +175,16 @@
 
         /** A closed crosspoint: a disc for unicast, a diamond for multicast, with its level. */
         drawCrosspoint({ input, output, level, kind }) {
-            const { context } = this;
+            const { context, radius } = this;
             const x = this.x(output);
             const y = this.y(input);
-            const radius = Math.max(3, Math.min(14, this.cell * 0.34));
             context.fillStyle = this.palette.levels[level];
             context.strokeStyle = this.palette.paper;
             context.lineWidth = 1.5;
-            context.beginPath();
             if (kind === MULTICAST) {
-                const reach = radius * 1.3;
-                this.polygon([[x, y - reach], [x + reach, y], [x, y + reach], [x - reach, y]]);
+                this.diamond(x, y, radius * 1.3);
             } else {
-                context.arc(x, y, radius, 0, FULL_CIRCLE);
+                this.circle(x, y, radius);
             }
             context.fill();
             context.stroke();
@@ -213,38 +212,54 @@
             context.strokeRect(this.x(output) - this.cell / 2, MARGIN.top, this.cell, this.side);
             if (pair !== null) {
                 context.setLineDash([3, 3]);
-                context.beginPath();
-                context.arc(this.x(output), this.y(pair.input), Math.max(4, this.cell * 0.42), 0, FULL_CIRCLE);
+                this.circle(this.x(output), this.y(pair.input), Math.max(4, this.cell * 0.42));
                 context.stroke();
                 context.setLineDash([]);
             }
         }
 
-        /** Grant pointers point left, to an input; accept pointers down, to an output. */
-        drawPointers(level) {
-            const { pointers, ports } = this.view;
-            const size = Math.max(2.2, Math.min(8, this.cell * 0.2));
-            const edge = this.cell / 2 - (this.cell > LEAST_TEXT_CELL ? 1 : 0);
+        get pointerSize() {
+            return Math.max(2.2, Math.min(13, this.cell * 0.16));
+        }
+
+        /** A grant pointer in the column of its output, which points left at an input. */
+        grantPointer(output, input) {
+            const size = this.pointerSize;
+            const x = this.x(output) - this.cell / 2 + (this.cell > LEAST_TEXT_CELL ? 1 : 0);
+            const y = this.y(input);
+            this.polygon([[x, y], [x + size * 1.3, y - size], [x + size * 1.3, y + size]]);
+        }
+
+        /** An accept pointer in the row of its input, which points down at an output. */
+        acceptPointer(input, output) {
+            const size = this.pointerSize;
+            const x = this.x(output);
+            const y = this.y(input) + this.cell / 2 - (this.cell > LEAST_TEXT_CELL ? 1 : 0);
+            this.polygon([[x, y], [x - size, y - size * 1.3], [x + size, y - size * 1.3]]);
+        }
+
+        sharedPointer(input) {
+            const x = MARGIN.left - 9;
+            const y = this.y(input);
+            this.polygon([[x - 6, y], [x, y - 5], [x + 6, y], [x, y + 5]]);
+        }
+
+        drawPointers(pointers, level) {
+            const { ports } = this.view;
             this.context.fillStyle = this.palette.ink;
             this.context.strokeStyle = this.cell > LEAST_TEXT_CELL ? this.palette.paper : this.palette.ink;
             this.context.lineWidth = this.cell > LEAST_TEXT_CELL ? 1 : 0.5;
             for (let port = 0; port < ports; port += 1) {
-                const grantX = this.x(port) - edge;
-                const grantY = this.y(pointers.grant[level * ports + port]);
-                const base = grantX + size * 1.3;
-                this.triangle([[grantX, grantY], [base, grantY - size], [base, grantY + size]]);
-                const acceptX = this.x(pointers.accept[level * ports + port]);
-                const acceptY = this.y(port) + edge;
-                const top = acceptY - size * 1.3;
-                this.triangle([[acceptX, acceptY], [acceptX - size, top], [acceptX + size, top]]);
+                this.grantPointer(port, pointers.grant[level * ports + port]);
+                this.fillAndStroke();
+                this.acceptPointer(port, pointers.accept[level * ports + port]);
+                this.fillAndStroke();
             }
-            const sharedY = this.y(pointers.shared[level]);
-            const sharedX = MARGIN.left - 9;
-            this.triangle([[sharedX - 6, sharedY], [sharedX, sharedY - 5], [sharedX + 6, sharedY], [sharedX, sharedY + 5]]);
+            this.sharedPointer(pointers.shared[level]);
+            this.fillAndStroke();
         }
 
-        triangle(points) {
-            this.polygon(points);
+        fillAndStroke() {
             this.context.fill();
             this.context.stroke();
         }
@@ -253,7 +268,7 @@
             const { context } = this;
             const step = [1, 2, 4, 8, 16].find((every) => every * this.cell >= LEAST_LABEL_GAP) || 16;
             context.fillStyle = this.palette.faint;
-            context.font = `12px ${FONT}`;
+            context.font = `${this.cell > 60 ? 15 : 12}px ${FONT}`;
             for (let port = 0; port < this.view.ports; port += step) {
                 context.textAlign = "right";
                 context.textBaseline = "middle";
@@ -282,5 +297,8 @@
         }
     }
 
+    /** What is shown of a file until the user chooses otherwise. */
+    viewer.defaultSettings = () => ({ rowLevel: "all", pointerLevel: "0", squares: "waits", scheduler: "islip" });
+    viewer.crossbarLook = { MARGIN, LEAST_TEXT_CELL, FONT };
     viewer.Crossbar = Crossbar;
 })(globalThis.SlotViewer = globalThis.SlotViewer || {});

@@ -20,6 +20,9 @@
             grid: colour("grid"),
             accent: colour("accent"),
             alarm: colour("alarm"),
+            /** The opacity of the tint of a queue that has just come, and of one that has waited long. */
+            leastTint: Number(colour("least-tint")),
+            mostTint: Number(colour("most-tint")),
             levels: [0, 1, 2, 3].map((level) => colour(`level-${level}`)),
             /** Red, green and blue of HEAT_STEPS colours, from none to most. */
             heat: d3.range(HEAT_STEPS).map((step) => d3.rgb(heat(tone(step)))),

@@ -120,6 +120,42 @@
         return outputs;
     }
 
+    const QUEUE_NUMBERS = ["packets", "dropped", "cells", "peak", "slot"];
+
+    /** Reads a line `queue I>J:LK packets P dropped X cells C peak H slot S`, where J is `*` for multicast. */
+    function readQueueLine(cursor, ports) {
+        cursor.pass("queue ");
+        const line = { input: cursor.number("an input", 0, ports - 1), output: null, kind: MULTICAST };
+        cursor.pass(">");
+        if (!cursor.passes("*")) {
+            line.output = cursor.number("an output", 0, ports - 1);
+            line.kind = UNICAST;
+        }
+        cursor.pass(":");
+        line.level = cursor.number("a level", 0, LEVELS - 1);
+        cursor.pass(line.kind === MULTICAST ? "m" : "u");
+        for (const name of QUEUE_NUMBERS) {
+            cursor.pass(` ${name} `);
+            line[name] = cursor.number(`the number after ${name}`, 0, Number.MAX_SAFE_INTEGER);
+        }
+        cursor.passLineEnd();
+        return line;
+    }
+
+    /** Reads the lines of the queues and `deepest`, where a report has them. */
+    function readQueueLines(cursor, ports) {
+        const lines = [];
+        while (startsWith(cursor, "queue ")) {
+            lines.push(readQueueLine(cursor, ports));
+        }
+        if (lines.length > 0 || startsWith(cursor, "d")) {
+            cursor.pass("deepest ");
+            cursor.number("the greatest length of a queue", 0, Number.MAX_SAFE_INTEGER);
+            cursor.passLineEnd();
+        }
+        return lines;
+    }
+
     /** Reads ` I>J:LK` for a J above `last`, and tells J. */
     function readPair(cursor, slot, last, matches) {
         cursor.pass(" ");
@@ -184,7 +220,8 @@
         const summary = readSummary(cursor);
         const { ports, rounds, slots } = summary;
         const outputs = readOutputLines(cursor, ports);
-        const run = { form: "report", ports, rounds, slots, summary, outputs, matches: null, reference: [] };
+        const queues = readQueueLines(cursor, ports);
+        const run = { form: "report", ports, rounds, slots, summary, outputs, queues, matches: null, reference: [] };
         if (startsWith(cursor, "s")) {
             run.matches = new Matches(ports, slots);
             run.used = new Uint8Array(slots);

@@ -1,5 +1,5 @@
-// One slot of the scheduler: unicast by iSLIP with priorities, multicast in the manner of ESLIP.
-// The rules are those of docs/SWITCH.md, under "All levels and both kinds".
+// One slot of a scheduler: unicast with priorities by iSLIP, FIRM or RRM, multicast in the manner of
+// ESLIP. The rules are those of docs/SWITCH.md; src/pointers.js has how the pointers move.
 (function (viewer) {
     "use strict";
 
@@ -10,25 +10,6 @@
     /** The kind that a slot prefers: unicast in even slots, multicast in odd ones. */
     function preferredKind(slot) {
         return slot % 2 === 0 ? UNICAST : MULTICAST;
-    }
-
-    /** The rotating pointers of all outputs and inputs, and the shared ones of multicast. */
-    class Pointers {
-        constructor(ports) {
-            this.ports = ports;
-            /** By level and output: the input from which a unicast grant is chosen. */
-            this.grant = new Uint8Array(LEVELS * ports);
-            /** By level and input: the output from which a unicast accept is chosen. */
-            this.accept = new Uint8Array(LEVELS * ports);
-            /** By level: the input from which all outputs choose a multicast grant. */
-            this.shared = new Uint8Array(LEVELS);
-        }
-
-        copyFrom(other) {
-            this.grant.set(other.grant);
-            this.accept.set(other.accept);
-            this.shared.set(other.shared);
-        }
     }
 
     /** A list of sets of ports, two words each. */
@@ -55,10 +36,16 @@
         }
     }
 
+    const NOTHING = () => {};
+
     class Scheduler {
-        constructor(ports, rounds) {
+        /** `rule` is the name of one of SCHEDULERS. */
+        constructor(ports, rounds, rule = "islip") {
             this.ports = ports;
             this.rounds = rounds;
+            this.rule = rule;
+            /** Told of each round and pointer as a SlotNotes is; null where nobody asks. */
+            this.notes = null;
             /** The match of the slot that was decided last: the input of each output, or FREE. */
             this.inputs = new Uint8Array(ports);
             /** Its levels and kinds, as queueCode() gives them. */
@@ -67,6 +54,9 @@
             this.used = 0;
             this.first = 0;
             this.lastAdded = 0;
+            /** For each output the input of its unicast grant of the first round, or FREE, and its level. */
+            this.firstGrantInputs = new Uint8Array(ports);
+            this.firstGrantLevels = new Uint8Array(ports);
             this.columns = new SetList(QUEUES * ports);
             this.grants = new SetList(QUEUES * ports);
             this.freeInputs = new SetList(1);
@@ -90,13 +80,17 @@
             this.used = 0;
             this.first = 0;
             this.lastAdded = 0;
-            const firstRound = [];
+            this.firstGrantInputs.fill(FREE);
             for (let round = 0; round < this.rounds; round += 1) {
+                this.round = round;
+                this.findEligible();
+                if (this.notes !== null) {
+                    this.notes.beginRound(this, round);
+                }
                 this.grantAll(slot, pointers);
                 const added = this.acceptAll(slot, rows, pointers);
                 if (round === 0) {
                     this.first = added.length;
-                    firstRound.push(...added);
                 }
                 this.lastAdded = added.length;
                 if (added.length === 0) {
@@ -105,7 +99,8 @@
                 }
                 this.used = round + 1;
             }
-            this.movePointers(firstRound, rows, pointers);
+            const note = this.notes === null ? NOTHING : (move) => this.notes.move(move);
+            viewer.movePointers(this, rows, pointers, note);
         }
 
         /** Each input asks an output at the best level that names it, with each kind that does. */
@@ -148,7 +143,6 @@
         grantAll(slot, pointers) {
             this.grants.clear();
             this.granted.clear();
-            this.findEligible();
             const preferred = preferredKind(slot);
             for (let word = 0; word < 2; word += 1) {
                 const outputs = this.freeOutputs.words[word] & this.asked.words[word];
@@ -185,6 +179,13 @@
                     const input = portSets.firstFrom(low, high, from);
                     this.grants.add(queue * this.ports + input, output);
                     this.granted.add(0, input);
+                    if (this.round === 0 && isUnicast) {
+                        this.firstGrantInputs[output] = input;
+                        this.firstGrantLevels[output] = level;
+                    }
+                    if (this.notes !== null) {
+                        this.notes.grant({ output, input, queue, pointer: from, asking: portSets.members(low, high) });
+                    }
                     return;
                 }
             }
@@ -213,9 +214,11 @@
                 if ((low | high) === 0) {
                     continue;
                 }
-                const outputs = kind === MULTICAST
-                    ? portSets.members(low, high)
-                    : [portSets.firstFrom(low, high, pointers.accept[level * this.ports + input])];
+                const pointer = kind === MULTICAST ? null : pointers.accept[level * this.ports + input];
+                const outputs = pointer === null ? portSets.members(low, high) : [portSets.firstFrom(low, high, pointer)];
+                if (this.notes !== null) {
+                    this.notes.accept({ input, outputs, queue, pointer, granting: portSets.members(low, high) });
+                }
                 for (const output of outputs) {
                     this.match(input, output, queue);
                     added.push(output);
@@ -240,48 +243,8 @@
             this.open.add(level, input);
             this.ask(input, queueCode(level, MULTICAST), rows.words[place], rows.words[place + 1]);
         }
-
-        movePointers(firstRound, rows, pointers) {
-            const next = (port) => (port + 1) % this.ports;
-            for (const output of firstRound) {
-                const level = this.queues[output] >> 1;
-                if ((this.queues[output] & 1) === UNICAST) {
-                    const input = this.inputs[output];
-                    pointers.grant[level * this.ports + output] = next(input);
-                    pointers.accept[level * this.ports + input] = next(output);
-                }
-            }
-            for (let level = 0; level < LEVELS; level += 1) {
-                const head = this.firstHead(level, rows, pointers);
-                if (head >= 0 && this.isServedWhole(head, level, rows)) {
-                    pointers.shared[level] = next(head);
-                }
-            }
-        }
-
-        /** The first input from the shared pointer on that posted a multicast head of the level. */
-        firstHead(level, rows, pointers) {
-            for (let step = 0; step < this.ports; step += 1) {
-                const input = (pointers.shared[level] + step) % this.ports;
-                const place = rows.place(input, MULTICAST, level);
-                if ((rows.words[place] | rows.words[place + 1]) !== 0) {
-                    return input;
-                }
-            }
-            return -1;
-        }
-
-        /** Whether all of an input's multicast set of a level was matched to it with that level and kind. */
-        isServedWhole(input, level, rows) {
-            const place = rows.place(input, MULTICAST, level);
-            const queue = queueCode(level, MULTICAST);
-            return portSets.members(rows.words[place], rows.words[place + 1]).every(
-                (output) => this.inputs[output] === input && this.queues[output] === queue,
-            );
-        }
     }
 
     viewer.preferredKind = preferredKind;
-    viewer.Pointers = Pointers;
     viewer.Scheduler = Scheduler;
 })(globalThis.SlotViewer = globalThis.SlotViewer || {});

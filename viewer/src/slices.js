@@ -39,6 +39,23 @@
         });
     }
 
+    /** An act that is done at once with `now`, and with `later` so often at most, the last time too. */
+    function throttled(gap, act) {
+        let timer = null;
+        const now = () => {
+            clearTimeout(timer);
+            timer = null;
+            act();
+        };
+        const later = () => {
+            if (timer === null) {
+                timer = setTimeout(now, gap);
+            }
+        };
+        return { now, later };
+    }
+
+    viewer.throttled = throttled;
     viewer.FileFault = FileFault;
     viewer.runInSlices = runInSlices;
 })(globalThis.SlotViewer = globalThis.SlotViewer || {});

@@ -22,6 +22,11 @@
         return wait === 0 ? "served in this slot" : `waits ${plural(wait, "slot")}`;
     }
 
+    /** The scheduler by which the slot is decided. */
+    function ruleOf(view) {
+        return viewer.schedulerTitle(view.walker.scheduler.rule);
+    }
+
     function waitingText(queues) {
         if (queues.length === 0) {
             return "No queue waits.";
@@ -32,6 +37,9 @@
 
     /** A slot in few words, for a screen reader that steps through them. */
     function briefly(view) {
+        if (view.isEnded) {
+            return `Slot ${view.slot}: the run ended with slot ${view.run.slots - 1}.`;
+        }
         const pairs = view.pairs.length <= MOST_PAIRS_TOLD ? view.pairs.map(pairText) : [];
         const count = `Slot ${view.slot}: ${plural(view.pairs.length, "pair")}`;
         const parts = [pairs.length === 0 ? `${count}.` : `${count}: ${pairs.join("; ")}.`];
@@ -39,9 +47,19 @@
             parts.push(waitingText(view.waiting()));
         }
         if (view.differing.length > 0) {
-            parts.push("The match is not that of the rules.");
+            parts.push(`The match is not that of ${ruleOf(view)}.`);
         }
         return parts.join(" ");
+    }
+
+    /** How many pairs and waits a slot has, in one line. */
+    function inOneLine(view) {
+        if (view.isEnded) {
+            return briefly(view);
+        }
+        const count = `Slot ${view.slot}: ${plural(view.pairs.length, "pair")} of ${view.ports}.`;
+        const waits = view.walker === null ? "" : ` ${waitingText(view.waiting())}`;
+        return `${count}${waits}${view.differing.length > 0 ? ` The match is not that of ${ruleOf(view)}.` : ""}`;
     }
 
     /** A crosspoint in words. */
@@ -65,6 +83,7 @@
                 parts.push(`accept pointer of the input here at level ${accepts.join(", ")}`);
             }
         }
+        parts.push(...viewer.packetsText(view, input, output));
         return `Input ${input}, output ${output}: ${parts.length === 0 ? "nothing" : parts.join("; ")}.`;
     }
 
@@ -73,7 +92,7 @@
         const preferred = KIND_NAMES[viewer.preferredKind(slot)];
         const found = [`${pairs.length} of ${plural(ports, "output")} are fed. The slot prefers ${preferred}.`];
         if (view.used !== null) {
-            const by = run.form === "journal" ? "By the rules " : "";
+            const by = run.form === "journal" ? `By ${ruleOf(view)} ` : "";
             const rounds = view.used === 0
                 ? `none of ${plural(run.rounds, "round")} added a pair.`
                 : `${view.used} of ${plural(run.rounds, "round")} added pairs, `
@@ -125,9 +144,9 @@
         const lines = view.differing.map((output) => {
             const found = view.pairs.find((pair) => pair.output === output) || null;
             const wanted = view.pairByRules(output);
-            return `output ${output}: the journal has ${sideText(found)}; by the rules it is ${sideText(wanted)}`;
+            return `output ${output}: the journal has ${sideText(found)}; by ${ruleOf(view)} it is ${sideText(wanted)}`;
         });
-        root.append("h3").attr("class", "alarm").text("The match is not that of the rules");
+        root.append("h3").attr("class", "alarm").text(`The match is not that of ${ruleOf(view)}`);
         appendList(root, lines, "alarm");
     }
 
@@ -188,15 +207,78 @@
         appendTable(root, `Pointers of level ${level}`, headings, rows);
     }
 
+    /** The step that is shown, in sentences. */
+    function appendStep(root, step) {
+        root.append("h3").text(viewer.stepTitle(step));
+        const lines = viewer.stepLines(step);
+        if (lines.length === 0) {
+            root.append("p").text(viewer.stepHeadline(step));
+        } else {
+            appendList(root.append("div").attr("class", "scroll step-lines").attr("tabindex", 0).attr("role", "region")
+                .attr("aria-label", `Sentences of ${viewer.stepTitle(step)}`), lines);
+        }
+    }
+
+    /** What the other run has in this slot, and this one does not, and the other way round. */
+    function appendComparison(root, { here, there, unlikeWaits }) {
+        root.append("h3").text("Beside the other run");
+        const lines = here.map((pair) => `only here: ${pairText(pair)}`).concat(there.map((pair) => `only there: ${pairText(pair)}`));
+        if (lines.length === 0) {
+            root.append("p").text("Both runs have the same pairs in this slot.");
+        } else {
+            appendList(root, lines);
+        }
+        if (unlikeWaits !== null && unlikeWaits.size > 0) {
+            const waits = (wait) => (wait === null ? "not posted" : String(wait));
+            const rows = [...unlikeWaits.values()].map(({ input, outputs, level, kind, wait, otherWait }) => {
+                return [waits(wait), waits(otherWait), input, outputs.join(", "), level, KIND_NAMES[kind]];
+            });
+            root.append("p").text(`${plural(rows.length, "queue")} ${rows.length === 1 ? "has" : "have"} waited otherwise there:`);
+            appendTable(root, "Waits that differ", ["here", "there", "input", "outputs", "level", "kind"], rows);
+        }
+    }
+
+    /** The parts that can have the focus, as a drawing makes them: by their kind, those of one kind in order. */
+    function focusParts(element) {
+        return Array.from(element.querySelectorAll("summary, .scroll"));
+    }
+
+    function focusName(part) {
+        return part.matches("summary") ? part.textContent.split(",")[0] : part.getAttribute("aria-label").split(" ")[0];
+    }
+
+    /** Draws a part of the page anew; the focus stays on the part of the same name. */
+    function keepFocus(element, draw) {
+        const focused = focusParts(element).find((part) => part === document.activeElement);
+        draw();
+        const again = focused && focusParts(element).find((part) => focusName(part) === focusName(focused));
+        if (again) {
+            again.focus({ preventScroll: true });
+        }
+    }
+
     /** Fills the element with a slot in words; what is folded stays as it was. */
-    function drawSlotText(element, view, pointerLevel) {
-        const root = d3.select(element);
+    function drawSlotText(element, view, shown) {
+        keepFocus(element, () => fillSlotText(d3.select(element), view, shown));
+    }
+
+    function fillSlotText(root, view, { pointerLevel, step, beside, titleId }) {
         const [isRowsOpen, isPointersOpen] = root.selectAll("details").nodes().map((part) => part.open);
         root.selectAll("*").remove();
-        root.append("h2").attr("id", "slot-title").text(`Slot ${view.slot} of 0 to ${view.run.slots - 1}`);
+        root.append("h2").attr("id", titleId).text(`Slot ${view.slot} of 0 to ${view.run.slots - 1}`);
+        if (view.isEnded) {
+            root.append("p").text(`The run ended with slot ${view.run.slots - 1}.`);
+            return;
+        }
+        if (step !== null) {
+            appendStep(root, step);
+        }
         sentences(view).forEach((sentence) => root.append("p").text(sentence));
         if (view.differing.length > 0) {
             appendDifferences(root, view);
+        }
+        if (beside !== null) {
+            appendComparison(root, beside);
         }
         appendMatch(root, view);
         if (view.walker !== null) {
@@ -214,6 +296,7 @@
 
     viewer.plural = plural;
     viewer.briefly = briefly;
+    viewer.inOneLine = inOneLine;
     viewer.describeCrosspoint = describeCrosspoint;
     viewer.appendTable = appendTable;
     viewer.drawSlotText = drawSlotText;

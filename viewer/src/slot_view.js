@@ -7,13 +7,19 @@
     const KIND_NAMES = ["unicast", "multicast"];
 
     class SlotView {
-        /** `walker` is null for a report, or stands at the slot, or stands elsewhere while it cannot. */
-        constructor(run, slot, walker) {
+        /**
+         * `walker` is null for a report, or stands at the slot, or stands elsewhere while it cannot.
+         * `queues` is what the packets file says of the queues, or null.
+         */
+        constructor(run, slot, walker, queues = null) {
             this.run = run;
             this.slot = slot;
             this.ports = run.ports;
+            this.queues = queues;
+            /** Whether the run ended before this slot; beside a longer run it is shown empty. */
+            this.isEnded = slot >= run.slots;
             /** The matched pairs, by rising output. */
-            this.pairs = run.matches.pairs(slot);
+            this.pairs = this.isEnded ? [] : run.matches.pairs(slot);
             this.rows = null;
             /** The pointers from which the slot was decided; null where they are not known. */
             this.pointers = null;
@@ -22,6 +28,9 @@
             this.waitingQueues = null;
             this.used = null;
             this.first = null;
+            if (this.isEnded) {
+                return;
+            }
             if (run.form === "report") {
                 this.used = run.used[slot];
                 this.first = run.first[slot];
@@ -68,6 +77,51 @@
                     }
                 }
             }
+        }
+
+        /** The queues in which cells wait: calls `visit(input, output, level, kind, length)` for each of their outputs. */
+        eachLength(levels, visit) {
+            for (let input = 0; input < this.ports; input += 1) {
+                for (const level of levels) {
+                    for (let output = 0; output < this.ports; output += 1) {
+                        const length = this.lengthOf(input, UNICAST, level, output);
+                        if (length > 0) {
+                            visit(input, output, level, UNICAST, length);
+                        }
+                    }
+                    const length = this.lengthOf(input, MULTICAST, level, null);
+                    this.outputsOfHead(input, level).forEach((output) => visit(input, output, level, MULTICAST, length));
+                }
+            }
+        }
+
+        /** How many cells of a queue wait, by the packets file. */
+        lengthOf(input, kind, level, output) {
+            const queue = this.queues.find(input, kind, level, output);
+            return queue === null ? 0 : queue.length(this.slot);
+        }
+
+        /** The outputs of the first multicast packet of an input and level that waits; what is left of it, where rows are known. */
+        outputsOfHead(input, level) {
+            if (this.rows !== null) {
+                return this.posted(input, MULTICAST, level);
+            }
+            const queue = this.queues.find(input, MULTICAST, level, null);
+            const waiting = queue === null ? [] : queue.waiting(this.slot);
+            return waiting.length === 0 ? [] : waiting[0].packet.outputs;
+        }
+
+        /** The packets of which cells wait at a crosspoint, by rising level and kind; none without a packets file. */
+        packetsAt(input, output) {
+            const found = [];
+            for (let level = 0; this.queues !== null && level < LEVELS; level += 1) {
+                for (const kind of [UNICAST, MULTICAST]) {
+                    const queue = this.queues.find(input, kind, level, output);
+                    const waiting = queue === null ? [] : queue.waiting(this.slot);
+                    found.push(...waiting.filter(({ packet }) => packet.outputs.includes(output)));
+                }
+            }
+            return found;
         }
 
         /** What is posted at a crosspoint. */

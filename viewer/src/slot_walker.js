@@ -42,7 +42,8 @@
     }
 
     class SlotWalker {
-        constructor(journal, checkpoints) {
+        /** `rule` is the name of the scheduler by which the slots are decided. */
+        constructor(journal, checkpoints, rule = "islip") {
             this.journal = journal;
             this.checkpoints = checkpoints;
             this.ports = journal.ports;
@@ -57,7 +58,7 @@
             this.pointers = new Pointers(this.ports);
             this.pointersAfter = new Pointers(this.ports);
             /** Its match and its numbers of rounds are those of the rules for this slot. */
-            this.scheduler = new Scheduler(this.ports, journal.rounds);
+            this.scheduler = new Scheduler(this.ports, journal.rounds, rule);
             this.waits = new Waits(this.ports);
         }
 

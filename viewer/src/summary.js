@@ -26,6 +26,8 @@
     /** What the pass over a journal found so far, in sentences. */
     function verdict(run, analysis) {
         const { differing, failure, done } = analysis;
+        const title = viewer.schedulerTitle(analysis.rule);
+        const by = analysis.rule === "islip" ? "" : ` by ${title}`;
         const found = [];
         if (done < run.slots) {
             found.push(`${done} of ${plural(run.slots, "slot")} are checked.`);
@@ -33,15 +35,16 @@
         if (differing.length > 0) {
             const named = differing.slice(0, MOST_SLOTS_NAMED).join(", ");
             const rest = differing.length > MOST_SLOTS_NAMED ? " and more" : "";
-            found.push(`In ${plural(differing.length, "slot")} the match is not that of the rules: ${named}${rest}.`);
+            found.push(`In ${plural(differing.length, "slot")} the match is not that of ${title}: ${named}${rest}.`);
         } else if (done === run.slots) {
-            found.push("Each match is that of the rules, with all pointers at port 0 before slot 0.");
+            found.push(`Each match is that of ${title}, with all pointers at port 0 before slot 0.`);
         }
         if (failure !== null) {
             const first = `slot ${failure.slot} ${failure.reason}`;
-            found.push(`The journal is not lawful; the first failure, as tiny_tera check tells it, is: ${first}.`);
+            const check = analysis.rule === "islip" ? ", as tiny_tera check tells it," : "";
+            found.push(`The journal is not lawful${by}; the first failure${check} is: ${first}.`);
         } else if (done === run.slots) {
-            found.push("The journal is lawful: requests stay until they are served, and the run ends with the first "
+            found.push(`The journal is lawful${by}: requests stay until they are served, and the run ends with the first `
                 + "slot in which no input has more to come.");
         }
         return found;
@@ -52,6 +55,13 @@
         viewer.appendTable(tables.append("div"), "Summary", ["what", "number"], reportRows(run));
         const outputs = run.outputs.map(({ packets, cells }, output) => [output, packets, cells]);
         viewer.appendTable(tables.append("div"), "Outputs", ["output", "packets", "cells"], outputs);
+        if (run.queues.length > 0) {
+            const queues = run.queues.map(({ input, output, level, kind, packets, dropped, cells, peak, slot }) => {
+                return [input, output === null ? "several" : String(output), level, viewer.KIND_NAMES[kind], packets, dropped, cells, peak, slot];
+            });
+            const headings = ["input", "output", "level", "kind", "packets", "dropped", "cells", "peak", "in slot"];
+            viewer.appendTable(tables.append("div"), "Queues", headings, queues);
+        }
         if (run.reference.length > 0) {
             const lines = run.reference.map(({ ends, runs, lead, extra }, output) => [output, ends, runs, lead, extra]);
             const headings = ["output", "ends", "runs", "lead", "extra"];
@@ -61,10 +71,10 @@
     }
 
     /** Fills the element with the numbers of a run; `analysis` is null where there are no slots to see. */
-    function drawSummary(element, run, analysis) {
+    function drawSummary(element, run, analysis, titleId) {
         const root = d3.select(element);
         root.selectAll("*").remove();
-        root.append("h2").attr("id", "summary-title").text("The run");
+        root.append("h2").attr("id", titleId).text("The run");
         if (run.form === "report") {
             drawReport(root, run);
             return;
@@ -73,5 +83,22 @@
         viewer.appendTable(root, "Summary", ["what", "number"], journalRows(run, analysis));
     }
 
+    /** Whose matches a journal has, in one line; `fitting` names the other schedulers, or is null while that is open. */
+    function rulesLine(run, analysis, fitting) {
+        const title = viewer.schedulerTitle(analysis.rule);
+        const { differing, done } = analysis;
+        if (differing.length === 0) {
+            return done === run.slots ? `Each match is that of ${title}.` : `So far each match is that of ${title}.`;
+        }
+        const found = `In ${plural(differing.length, "slot")} the match is not that of ${title}, the first is slot ${differing[0]}.`;
+        if (fitting === null) {
+            return found;
+        }
+        return fitting.length === 0
+            ? `${found} No other scheduler makes all these matches.`
+            : `${found} All matches are those of ${fitting.map(viewer.schedulerTitle).join(" and of ")}.`;
+    }
+
+    viewer.rulesLine = rulesLine;
     viewer.drawSummary = drawSummary;
 })(globalThis.SlotViewer = globalThis.SlotViewer || {});

@@ -10,6 +10,8 @@
     const OUTPUTS_TOP = 72;
     const LANES_GAP = 10;
     const AXIS_HEIGHT = 24;
+    /** Below the axis: the slots in which two runs differ. */
+    const UNLIKE = { top: 24, height: 8 };
     /** The lanes of all outputs, and of all inputs, are as high as whole pixels for each allow. */
     const LANES_HEIGHT = 80;
     const MOST_LANE_HEIGHT = 16;
@@ -25,6 +27,9 @@
             this.analysis = null;
             this.lanes = "waits";
             this.slot = 0;
+            /** Where another run differs, or null; and the slots of a packet that is followed, or null. */
+            this.comparison = null;
+            this.followed = null;
             /** From slots to pixels of the part that is seen; null before a run is open. */
             this.scale = null;
             const root = d3.select(element);
@@ -61,10 +66,11 @@
             return Math.max(0, Math.min(this.slots - 1, slot));
         }
 
-        /** Shows a run from its first slot to its last. */
-        open(analysis) {
+        /** Shows a run from its first slot to its last, or to that of a longer run beside it. */
+        open(analysis, slots = analysis.run.slots, comparison = null) {
             this.analysis = analysis;
-            this.slots = analysis.run.slots;
+            this.slots = slots;
+            this.comparison = comparison;
             this.scale = null;
             this.layOut();
         }
@@ -77,7 +83,7 @@
             this.lanesHeight = ports * Math.min(MOST_LANE_HEIGHT, Math.floor(LANES_HEIGHT / ports));
             this.inputsTop = OUTPUTS_TOP + this.lanesHeight + LANES_GAP;
             this.bottom = this.inputsTop + this.lanesHeight;
-            this.height = this.bottom + AXIS_HEIGHT;
+            this.height = this.bottom + AXIS_HEIGHT + (this.comparison === null ? 0 : UNLIKE.height + 6);
             this.element.style.height = `${this.height}px`;
             this.svg.attr("width", this.width).attr("height", this.height);
             const extent = [[MARGIN.left, 0], [this.width - MARGIN.right, this.height]];
@@ -154,17 +160,18 @@
             this.drawLanes(context, columns, data.outputs, OUTPUTS_TOP, data);
             this.drawLanes(context, columns, data.inputs, this.inputsTop, data);
             this.drawDifferences(context, columns);
+            this.drawUnlike(context);
+            this.drawFollowed(context);
             this.drawAxis();
             this.drawCursor();
         }
 
         /** For each column of pixels the slots that it shows, as far as they are known. */
-        columns() {
+        columns(most = this.analysis.done) {
             const found = [];
-            const done = this.analysis.done;
             for (let x = MARGIN.left; x < this.width - MARGIN.right; x += 1) {
                 const from = this.clampSlot(Math.floor(this.scale.invert(x)));
-                const to = Math.min(done, Math.max(from + 1, Math.floor(this.scale.invert(x + 1))));
+                const to = Math.min(most, Math.max(from + 1, Math.floor(this.scale.invert(x + 1))));
                 if (from < to) {
                     found.push({ x, from, to });
                 }
@@ -225,6 +232,33 @@
             }
         }
 
+        /** A tick below each column with a slot in which the two runs differ. */
+        drawUnlike(context) {
+            if (this.comparison !== null) {
+                const { differences, slots } = this.comparison;
+                context.fillStyle = this.palette.ink;
+                this.columns(slots).filter(({ from, to }) => differences.over(from, to)[0] > 0)
+                    .forEach(({ x }) => context.fillRect(x, this.bottom + UNLIKE.top, 1, UNLIKE.height));
+            }
+        }
+
+        /** A bracket over the slots in which a packet is in the switch. */
+        drawFollowed(context) {
+            if (this.followed === null) {
+                return;
+            }
+            const place = (slot) => Math.max(MARGIN.left, Math.min(this.width - MARGIN.right, this.scale(slot)));
+            const [left, right] = [place(this.followed[0]), place(this.followed[1] + 1)];
+            context.strokeStyle = this.palette.accent;
+            context.lineWidth = 2;
+            context.beginPath();
+            context.moveTo(left, PAIRS.top);
+            context.lineTo(left, TICKS.top + 1);
+            context.lineTo(right, TICKS.top + 1);
+            context.lineTo(right, PAIRS.top);
+            context.stroke();
+        }
+
         drawAxis() {
             const ticks = Math.max(2, Math.min(12, this.width / 90));
             const slots = this.scale.ticks(ticks).filter(Number.isInteger);
@@ -238,6 +272,9 @@
                 { text: "outputs", y: OUTPUTS_TOP + middle + 4 },
                 { text: "inputs", y: this.inputsTop + middle + 4 },
             ];
+            if (this.comparison !== null) {
+                labels.push({ text: "differ", y: this.bottom + UNLIKE.top + UNLIKE.height });
+            }
             this.labels.selectAll("text").data(labels).join("text")
                 .attr("x", MARGIN.left - 8).attr("y", (label) => label.y).attr("text-anchor", "end")
                 .attr("font-size", 12).attr("fill", "currentColor").text((label) => label.text);

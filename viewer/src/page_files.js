@@ -1,0 +1,200 @@
+// How the page opens files, and goes through the slots of their runs.
+(function (viewer) {
+    "use strict";
+
+    const { element, plural } = viewer;
+
+    Object.assign(viewer.Page.prototype, {
+        /** Shows files, or says why they cannot be shown; what was shown before then stays. */
+        async open(files, isBeside = false, paths = {}) {
+            this.opened += 1;
+            const mine = this.opened;
+            const isCancelled = () => this.opened !== mine;
+            this.showFault(null);
+            this.showNotice(`Reading ${files.map(({ name }) => name).join(" and ")}.`);
+            try {
+                const onProgress = (name, part) => this.showNotice(`Reading ${name}: ${percent(part)}.`);
+                const read = await viewer.readAll(files, onProgress, isCancelled);
+                if (!isCancelled()) {
+                    await this.showAll(viewer.sortFiles(read), isBeside, paths, isCancelled);
+                }
+            } catch (fault) {
+                this.onFault(fault, isCancelled);
+            }
+        },
+
+        onFault(fault, isCancelled) {
+            if (isCancelled()) {
+                return;
+            }
+            this.onAnalysed();
+            this.showFault(`${fault.message}.`);
+            if (!(fault instanceof viewer.FileFault)) {
+                throw fault;
+            }
+        },
+
+        async showAll({ runs, packets }, isBeside, paths, isCancelled) {
+            this.player.stop();
+            const target = isBeside && this.hasSlots && runs.length === 1 ? 1 : 0;
+            const shown = runs.slice(0, 2).map(({ content, name, key }, index) => {
+                const pane = this.panes[target + index];
+                pane.show(content, name, key);
+                return pane;
+            });
+            if (shown.length === 2 && !this.hasSlots) {
+                this.second.close();
+            }
+            if (shown.length > 0) {
+                this.files = target === 0 ? paths : {};
+                this.onRuns(target === 0);
+            }
+            for (const one of packets) {
+                await viewer.attachPackets(this.panes, one, isCancelled);
+            }
+            this.onAnalysed();
+            await Promise.all(shown.map((pane) => pane.analyse(() => this.progress.later())));
+            this.progress.now();
+        },
+
+        /** Opens files from the server, named as an address names them; the first is shown by this scheduler. */
+        async openPaths(paths, scheduler = null) {
+            try {
+                const files = [];
+                for (const path of Object.values(paths)) {
+                    files.push(await viewer.fetchFile(path));
+                }
+                if (this.second.isOpen && paths.beside === undefined) {
+                    this.closeSecond();
+                }
+                await this.open(files, false, paths);
+                if (scheduler !== null && this.first.isJournal) {
+                    await this.chooseScheduler(this.first, scheduler);
+                }
+            } catch (fault) {
+                this.onFault(fault, () => false);
+            }
+        },
+
+        /** Opens an example at its first slot. */
+        async openExample(paths) {
+            viewer.putIntoAddress({ slot: 0, step: null, files: paths });
+            await this.openPaths(paths);
+        },
+
+        /** Opens the files of the address, if it names any. */
+        openAddress() {
+            const { files, scheduler } = viewer.readAddress();
+            if (files.file !== undefined) {
+                this.openPaths(files, scheduler);
+            }
+        },
+
+        /** Follows an address that has changed. */
+        onAddress() {
+            const { slot, step, files } = viewer.readAddress();
+            if (files.file !== undefined && JSON.stringify(files) !== JSON.stringify(this.files)) {
+                this.openAddress();
+            } else if (slot !== null && this.hasSlots) {
+                this.step = this.panes.some((pane) => pane.isJournal) ? step : null;
+                this.goToTyped(String(slot));
+            }
+        },
+
+        /** After the runs that are shown have changed. */
+        onRuns(isFirst) {
+            const { first, second } = this;
+            element("welcome").hidden = true;
+            element("run").hidden = false;
+            const titles = this.panes.filter((pane) => pane.isOpen).map(titleOf);
+            element("file-line").textContent = titles.join(" Beside it ");
+            document.title = `${first.name}${second.isOpen ? ` and ${second.name}` : ""} - Slot viewer`;
+            element("close-second").hidden = !second.isOpen;
+            element("columns").classList.toggle("two", this.openPanes.length === 2);
+            const showAll = (selector, isShown) => document.querySelectorAll(selector).forEach((part) => {
+                part.hidden = !isShown;
+            });
+            showAll(".controls, .columns, .timeline-part", this.hasSlots);
+            showAll(".journal-only", this.panes.some((pane) => pane.isJournal));
+            const canCompare = this.openPanes.length === 2 && first.run.ports === second.run.ports;
+            this.comparison = canCompare ? new viewer.Comparison(first.run, second.run) : null;
+            element("next-difference").hidden = true;
+            element("next-unlike").hidden = !canCompare || this.comparison.differing.length === 0;
+            this.say(titles.join(" "));
+            if (this.hasSlots) {
+                this.showSlots(isFirst);
+            }
+        },
+
+        showSlots(isFirst) {
+            element("timeline").setAttribute("aria-valuemax", this.slots - 1);
+            this.timeline.open(this.first.analysis, this.slots, this.comparison);
+            if (isFirst) {
+                const { slot, step } = viewer.readAddress();
+                this.step = this.first.isJournal ? step : null;
+                this.tell(slot === null ? null : viewer.slotFault(slot, this.slots));
+                this.go(slot === null ? 0 : slot);
+            } else {
+                this.go(this.slot);
+            }
+            this.ask("layout");
+        },
+
+        closeSecond() {
+            this.second.close();
+            this.onRuns(false);
+            this.onAnalysed();
+        },
+
+        /** Decides the slots of a run by another scheduler. */
+        async chooseScheduler(pane, name) {
+            pane.set("scheduler", name);
+            pane.restart();
+            if (pane === this.first) {
+                this.timeline.open(pane.analysis, this.slots, this.comparison);
+            }
+            this.go(this.slot);
+            await pane.analyse(() => this.progress.later());
+            this.progress.now();
+        },
+
+        /** Shows how far the passes over all slots are. */
+        onAnalysed() {
+            const passes = this.openPanes.map(({ analysis, run }) => analysis.done / run.slots);
+            const done = passes.length === 0 ? 1 : d3.min(passes);
+            this.showNotice(done < 1 ? `Going through all slots: ${percent(done)}.` : noticeOf(this.panes));
+            if (!this.hasSlots) {
+                return;
+            }
+            const isDiffering = (pane) => pane.isJournal && pane.analysis.differing.length > 0;
+            element("next-difference").hidden = !this.openPanes.some(isDiffering);
+            this.openPanes.filter((pane) => pane.isJournal).forEach((pane) => {
+                pane.drawSummary();
+                if (pane.view !== null && !pane.view.isComplete && !pane.view.isEnded) {
+                    this.ask("slot");
+                }
+            });
+            this.ask("timeline");
+        },
+    });
+
+    function titleOf({ run, name }) {
+        return `${name}: a ${run.form} of ${plural(run.ports, "port")} and ${plural(run.slots, "slot")}.`;
+    }
+
+    /** What has to be said of the runs that are shown, or null. */
+    function noticeOf(panes) {
+        const bare = panes.find((pane) => pane.isOpen && !pane.hasSlots);
+        if (bare !== undefined) {
+            return `${bare.name} has no slot lines, so there is no slot to see: write them with tiny_tera run --slots.`;
+        }
+        const [first, second] = panes;
+        return second.isOpen && first.run.ports !== second.run.ports
+            ? `The runs have ${first.run.ports} and ${second.run.ports} ports, so their slots are not compared.`
+            : null;
+    }
+
+    function percent(part) {
+        return `${Math.floor(100 * part)} %`;
+    }
+})(globalThis.SlotViewer = globalThis.SlotViewer || {});

@@ -1,0 +1,31 @@
+// How large the crossbars can be, from the room of the window.
+(function (viewer) {
+    "use strict";
+
+    /** Narrower pages have one column: the same width stands in style.css. */
+    const NARROW = window.matchMedia("(max-width: 60rem)");
+    const LEAST_SIDE = 240;
+    const LEAST_TEXT_WIDTH = 400;
+    const GAP = 24;
+    /** Below a crossbar stands what is told of a crosspoint. */
+    const FOOT = 60;
+    const MARGIN = 8;
+
+    /**
+     * The room of each of `count` crossbars in pixels. In a wide page it ends above the window's lower
+     * edge while the page is not scrolled; in a narrow one a crossbar and the controls fill the window.
+     */
+    function crossbarRoom(columns, controls, frame, count) {
+        const width = columns.clientWidth;
+        if (NARROW.matches) {
+            const height = window.innerHeight - controls.offsetHeight - MARGIN;
+            return { width, height: Math.max(LEAST_SIDE, height), isNarrow: true };
+        }
+        const top = frame.getBoundingClientRect().top + window.scrollY;
+        const height = Math.max(LEAST_SIDE, window.innerHeight - top - FOOT);
+        const share = count === 1 ? width - LEAST_TEXT_WIDTH - GAP : (width - GAP * (count - 1)) / count;
+        return { width: Math.max(LEAST_SIDE, share), height, isNarrow: false };
+    }
+
+    viewer.crossbarRoom = crossbarRoom;
+})(globalThis.SlotViewer = globalThis.SlotViewer || {});
