@@ -119,12 +119,18 @@ def one_slot_journal():
     return bytes.fromhex("54544a31020400000000000100000000ff00ff00")
 
 
-def steps_journal():
-    """Three ports, two rounds, all pointers at 0: in slot 0 input 0 has a multicast head for outputs 1 and 2, and
-    input 1 asks outputs 0 and 2; in slot 1 input 1 asks output 2 again."""
-    first = ([{"m0": 6}, {"u0": 5}, {}], [1, 1, 0], [(1, 0, 0), (0, 0, 1), (0, 0, 1)])
-    second = ([{}, {"u0": 4}, {}], [0, 1, 0], [None, None, (1, 0, 0)])
-    return journal_bytes(3, 2, [first, second, ([{}] * 3, [0] * 3, [None] * 3)])
+def steps_journal(rounds=2):
+    """Three ports, two rounds or one, all pointers at 0: in slot 0 input 0 has a multicast head for outputs 1 and
+    2, and input 1 asks outputs 0 and 2. With two rounds the head gets output 2 in the second; with one it gets
+    it in slot 1, which prefers multicast. Input 1 gets output 2 in the slot after the head is complete."""
+    nobody = [None] * 3
+    first = [{"m0": 6}, {"u0": 5}, {}]
+    head_waits = ([{"m0": 4}, {"u0": 4}, {}], [1, 1, 0], [None, None, (0, 0, 1)])
+    last = ([{}, {"u0": 4}, {}], [0, 1, 0], [None, None, (1, 0, 0)])
+    end = ([{}] * 3, [0] * 3, nobody)
+    both = [(first, [1, 1, 0], [(1, 0, 0), (0, 0, 1), (0, 0, 1)]), last, end]
+    one = [(first, [1, 1, 0], [(1, 0, 0), (0, 0, 1), None]), head_waits, last, end]
+    return journal_bytes(3, rounds, both if rounds > 1 else one)
 
 
 def turning_journal(ports, slots=8):

@@ -99,6 +99,28 @@ def test_waits_of_two_runs(viewer):
     expect(viewer.text("crossbar-title") == "rrm.journal", "of a report and a journal of one run the journal is shown")
 
 
+def test_rounds_of_two_runs(viewer):
+    """The same requests with two rounds and with one: a step that one run does not have, and what differs."""
+    viewer.load("#slot=0&step=accept")
+    viewer.open_bytes("two.journal", files.steps_journal(2))
+    viewer.open_bytes("one.journal", files.steps_journal(1), field="file-2")
+    for name in ("summary", "summary-2"):
+        expect("The journal is lawful" in viewer.text(name), viewer.text(name))
+    viewer.press("", ".")
+    expect("Round 2, request" in viewer.text("step-line"), viewer.text("step-line"))
+    said = viewer.text("step-line-2")
+    expect(said == "Slot 0. There is no further round here. Round 1, accept: 2 inputs accept, and 1 grant is refused.", said)
+    for _ in range(3):
+        viewer.press("", ".")
+    expect([viewer.text(name).split(":")[0] for name in ("step-line", "step-line-2")] == ["Slot 0. Pointers"] * 2, viewer.text("step-line-2"))
+    expect("stays at 0: the head of input 0 is not served whole" in viewer.text("slot-text-2"), viewer.text("slot-text-2"))
+    only = [[line for line in viewer.lines(f"#{name} li") if line.startswith("only ")] for name in ("slot-text", "slot-text-2")]
+    pair = "input 0 feeds output 2, level 0, multicast"
+    expect(only == [[f"only here: {pair}"], [f"only there: {pair}"]], f"{only}")
+    expect(viewer.table("Waits that differ") == [["0", "1", "0", "1, 2", "0", "multicast"], ["1", "0", "0", "1, 2", "0", "multicast"]],
+           f"{viewer.table('Waits that differ')}")
+
+
 def packets_rows(name):
     with (files.DATA / f"{name}.packets.csv").open(newline="") as file:
         return list(csv.DictReader(file))

@@ -93,8 +93,15 @@
         return new Map(found.sort((a, b) => size(b) - size(a)));
     }
 
+    /** The same queues with the waits of the other run in the place of this one's; null stays null. */
+    function seenFromThere(unlikeWaits) {
+        const turned = ([key, queue]) => [key, { ...queue, wait: queue.otherWait, otherWait: queue.wait }];
+        return unlikeWaits === null ? null : new Map([...unlikeWaits].map(turned));
+    }
+
     viewer.queueKey = queueKey;
     viewer.Comparison = Comparison;
     viewer.pairsOnlyIn = pairsOnlyIn;
     viewer.waitsThatDiffer = waitsThatDiffer;
+    viewer.seenFromThere = seenFromThere;
 })(globalThis.SlotViewer = globalThis.SlotViewer || {});

@@ -3,7 +3,10 @@
     "use strict";
 
     const { MULTICAST } = viewer;
-    const { MARGIN } = viewer.crossbarLook;
+    const { MARGIN, FONT } = viewer.crossbarLook;
+
+    /** Smaller rings have no level beside them. */
+    const LEAST_RING_WITH_LEVEL = 9;
 
     /** The outline of what is asked: a circle for unicast, a diamond for multicast. */
     function outline(crossbar, { input, output, kind }, size) {
@@ -23,6 +26,19 @@
         outline(crossbar, request, crossbar.radius * 0.9);
         context.stroke();
         context.setLineDash([]);
+        drawLevel(crossbar, request);
+    }
+
+    /** The level of a request, to the right above its ring, so that it is not told by the colour alone. */
+    function drawLevel(crossbar, { input, output, level }) {
+        const { context, palette, radius } = crossbar;
+        if (radius >= LEAST_RING_WITH_LEVEL) {
+            context.fillStyle = palette.ink;
+            context.font = `${Math.min(16, radius * 0.8)}px ${FONT}`;
+            context.textAlign = "left";
+            context.textBaseline = "middle";
+            context.fillText(level, crossbar.x(output) + radius, crossbar.y(input) - radius);
+        }
     }
 
     /** A line from the output up its column to the crosspoint, with an arrow's head, and a dot in the ring. */
@@ -105,6 +121,7 @@
         const isLast = step.name === viewer.LAST_STEP;
         if (isLast) {
             crossbar.drawMatch(step.matched);
+            view.differing.forEach((output) => crossbar.drawDifference(output));
         } else {
             drawRound(crossbar, step);
         }

@@ -47,16 +47,20 @@
             }
         },
 
-        /** What of the slot is in one run alone. */
+        /** What of the slot is in one run alone, and which waits differ. */
         comparePanes() {
-            this.openPanes.forEach((pane) => {
-                const other = this.openPanes.find((one) => one !== pane);
-                pane.beside = this.comparison === null ? null : {
-                    here: viewer.pairsOnlyIn(pane.view, other.view),
-                    there: viewer.pairsOnlyIn(other.view, pane.view),
-                    unlikeWaits: pane.isJournal && other.isJournal ? viewer.waitsThatDiffer(pane.view, other.view) : null,
-                };
-            });
+            const { first, second, comparison } = this;
+            if (comparison === null) {
+                this.panes.forEach((pane) => {
+                    pane.beside = null;
+                });
+                return;
+            }
+            const here = viewer.pairsOnlyIn(first.view, second.view);
+            const there = viewer.pairsOnlyIn(second.view, first.view);
+            const unlikeWaits = first.isJournal && second.isJournal ? viewer.waitsThatDiffer(first.view, second.view) : null;
+            first.beside = { here, there, unlikeWaits };
+            second.beside = { here: there, there: here, unlikeWaits: viewer.seenFromThere(unlikeWaits) };
         },
 
         drawTexts() {
