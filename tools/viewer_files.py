@@ -4,6 +4,8 @@ vector files of the repository."""
 import pathlib
 import struct
 
+from disk.files import RAW_IP, header, packet, record
+
 ROOT = pathlib.Path(__file__).resolve().parent.parent
 VECTORS = ROOT / "crates/known_answers/data"
 # Files of runs under each of the three schedulers.
@@ -143,6 +145,23 @@ def turning_journal(ports, slots=8):
             match[to[source]] = (source, source % 4, 0)
         made.append(([{f"u{source % 4}": 1 << to[source]} for source in range(ports)], [1] * ports, match))
     return journal_bytes(ports, 4, made + [([{}] * ports, [0] * ports, [None] * ports)])
+
+
+def write_job(folder, ports, packets):
+    """Writes a table and captures of so many ports, with packets of one to four cells: three of four are unicast,
+    of all levels, the fourth goes to eight outputs. Gives the words of the job."""
+    lines = [f"10.0.{port}.0/24 {port} {port % 4}\n" for port in range(ports)]
+    lines += [f"10.1.{group}.0/24 {','.join(str(port) for port in range(group % 8, ports, 8))} {group % 4}\n" for group in range(16)]
+    pathlib.Path(folder, "table").write_text("".join(lines))
+    names = [f"in.{port}" for port in range(ports)]
+    for source, name in enumerate(names):
+        made = []
+        for number in range(packets):
+            turn = 7 * source + 11 * number
+            address = (10, 1, turn % 16, 1) if number % 4 == 3 else (10, 0, (turn * turn + number) % ports, 1)
+            made.append(record(packet((20, 60, 100, 200)[turn % 4], address)))
+        pathlib.Path(folder, name).write_bytes(header(RAW_IP) + b"".join(made))
+    return ["table", "out", *names]
 
 
 def two_inputs_report():

@@ -132,8 +132,11 @@ def test_lecture_of_full_load(viewer):
     viewer.press("", ".")
     line = "the grant pointer of output 0, level 0, moves from 3 to 0, one beyond input 3, although the grant was refused"
     expect(line in sentences(viewer), f"{sentences(viewer)}")
+    pairs = "return Array.from({ length: SlotViewer.page.run.slots }, (_, slot) => SlotViewer.page.run.matches.count(slot))"
+    expect(viewer.run(pairs) == [1] * 64 + [0], "one pair in each of 64 slots")
     viewer.load()
     viewer.open(LECTURE / "full_load_islip.journal")
+    expect(viewer.run(pairs) == [1, 2, 3] + [4] * 13 + [3, 2, 1] + [0], f"pairs: {viewer.run(pairs)}")
     expect(viewer.text("rules-line") == "Each match is that of iSLIP.", viewer.text("rules-line"))
     for slot in range(13):
         viewer.run("SlotViewer.page.goByUser(arguments[0])", slot)
@@ -144,12 +147,17 @@ def test_lecture_of_full_load(viewer):
 
 def test_lecture_of_long_waits(viewer):
     """The request that waits nine slots in a run, and ten in a schedule."""
-    for file, slot, wait in ((LONG_WAIT / "expected/out.journal", 12, "9"), (LONG_WAIT / "ten_slots.journal", 13, "10")):
+    for file, slot, wait, granted in ((LONG_WAIT / "expected/out.journal", 12, "9", [0, 0, 1, 1, 0, 2, 2, 2, 0]),
+                                      (LONG_WAIT / "ten_slots.journal", 13, "10", [0, 0, 1, 1, 1, 0, 2, 2, 2, 0])):
         viewer.load(f"#slot={slot}")
         viewer.open(file)
         expect(viewer.table("Queues that wait")[0] == [wait, "0", "0", "0", "unicast"], f"{viewer.table('Queues that wait')}")
         viewer.press("", RIGHT)
         expect(["0", "0", "0", "unicast"] in viewer.table("Matched pairs"), f"{viewer.table('Matched pairs')}")
-        viewer.run("location.hash = '#slot=6&step=accept'")
-        viewer.wait("document.getElementById('step-line').innerText.includes('accept')", "a step")
-        expect(any(line.endswith("refuses output 0") for line in sentences(viewer)), f"{sentences(viewer)}")
+        for slot, source in enumerate(granted, 4):
+            viewer.run("location.hash = `#slot=${arguments[0]}&step=grant`", slot)
+            viewer.wait(f"document.getElementById('step-line').innerText.startsWith('Slot {slot}. Round 1, grant')", "a step")
+            expect(any(line.startswith(f"output 0 grants input {source}: ") for line in sentences(viewer)), f"slot {slot}: {sentences(viewer)}")
+            viewer.press("", ".")
+            is_served = any(line.startswith(f"input {source} accepts output 0") for line in sentences(viewer))
+            expect(is_served == (source > 0 and granted[slot - 3] != source), f"slot {slot}: {sentences(viewer)}")

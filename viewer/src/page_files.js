@@ -118,6 +118,7 @@
             showAll(".journal-only", this.panes.some((pane) => pane.isJournal));
             const canCompare = this.openPanes.length === 2 && first.run.ports === second.run.ports;
             this.comparison = canCompare ? new viewer.Comparison(first.run, second.run) : null;
+            this.panes.forEach((pane) => pane.setBeside(canCompare));
             element("next-difference").hidden = true;
             element("next-unlike").hidden = !canCompare || this.comparison.differing.length === 0;
             this.say(titles.join(" "));

@@ -27,6 +27,8 @@
         /** `onSelect` is told the crosspoint that is chosen, and `onChange` that the run has to be drawn. */
         constructor(suffix, onSelect, onChange) {
             this.suffix = suffix;
+            /** Whether another run is compared with it. */
+            this.isBeside = false;
             this.onChange = onChange;
             buildParts(suffix);
             this.crossbar = new viewer.Crossbar(this.element("crossbar"), onSelect, (found) => this.hover(found));
@@ -79,7 +81,6 @@
             this.crossbar.settings = { ...viewer.defaultSettings(), ...keptSettings.get(key) };
             this.restart();
             this.element("crossbar-title").textContent = name;
-            viewer.drawLegend(this.element("legend"), this.isJournal);
             this.showParts();
             this.showSettings();
         }
@@ -130,6 +131,13 @@
             this.element("pane").hidden = !this.hasSlots;
             this.element("slot-text").hidden = !this.hasSlots;
             this.element("summary").hidden = !this.isOpen;
+            const shown = { hasRows: this.isJournal, isBeside: this.isBeside, hasQueues: this.queues !== null };
+            viewer.drawLegend(this.element("legend"), shown);
+        }
+
+        setBeside(isBeside) {
+            this.isBeside = isBeside;
+            this.showParts();
         }
 
         showSettings() {
