@@ -96,7 +96,7 @@ def test_waits_of_two_runs(viewer):
     viewer.open(files.DATA / "islip.report", field="file-2")
     expect("4 and 3 ports, so their slots are not compared" in viewer.text("notice"), viewer.text("notice"))
     viewer.open(files.DATA / "rrm.journal", files.DATA / "rrm.report")
-    expect(viewer.text("crossbar-title") == "rrm.journal", "of a report and a journal of one run the journal is shown")
+    expect(viewer.text("crossbar-title") == "rrm.journal (first run)", "of a report and a journal of one run the journal is shown")
 
 
 def test_rounds_of_two_runs(viewer):
@@ -165,6 +165,35 @@ def test_queues(viewer):
         viewer.open(files.DATA / f"{name}.report")
         expect(len(viewer.table("Queues")) == len(lines), f"{name}: {viewer.table('Queues')}")
     return f"{count} queues"
+
+
+# Drops files, given as names and hexadecimal digits, on an element.
+DROP = """
+const transfer = new DataTransfer();
+arguments[1].forEach(([name, digits]) => transfer.items.add(new File([Uint8Array.from(digits.match(/../g), (two) => parseInt(two, 16))], name)));
+document.getElementById(arguments[0]).dispatchEvent(new DragEvent("drop", { dataTransfer: transfer, bubbles: true, cancelable: true }));
+"""
+
+
+def drop(viewer, where, *names):
+    viewer.run("SlotViewer.page.showNotice('')")
+    viewer.run(DROP, where, [(name, (files.DATA / name).read_bytes().hex()) for name in names])
+    viewer.wait_read(names)
+
+
+def test_drops(viewer):
+    """Files that are dropped: a packets file with its journal, two runs, and one on the second crossbar."""
+    viewer.load()
+    drop(viewer, "welcome", "firm.packets.csv", "firm.journal")
+    expect(viewer.text("crossbar-title") == "firm.journal" and viewer.is_shown("squares") and not viewer.is_shown("fault"), viewer.text("fault"))
+    drop(viewer, "pane", "islip.journal", "rrm.journal")
+    titles = [viewer.text(name) for name in ("crossbar-title", "crossbar-title-2")]
+    expect(titles == ["islip.journal (first run)", "rrm.journal (second run)"], f"{titles}")
+    drop(viewer, "crossbar-2", "firm.journal")
+    titles = [viewer.text(name) for name in ("crossbar-title", "crossbar-title-2")]
+    expect(titles == ["islip.journal (first run)", "firm.journal (second run)"], f"{titles}")
+    drop(viewer, "pane", "firm.packets.csv")
+    expect(viewer.is_shown("squares-2") and not viewer.is_shown("squares"), "the packets file is beside the run of its name")
 
 
 def test_packets_in_a_queue(viewer):

@@ -80,7 +80,6 @@
             this.crossbar.selected = null;
             this.crossbar.settings = { ...viewer.defaultSettings(), ...keptSettings.get(key) };
             this.restart();
-            this.element("crossbar-title").textContent = name;
             this.showParts();
             this.showSettings();
         }
@@ -137,6 +136,8 @@
 
         setBeside(isBeside) {
             this.isBeside = isBeside;
+            const which = this.suffix === "" ? "first" : "second";
+            this.element("crossbar-title").textContent = isBeside ? `${this.name} (${which} run)` : this.name;
             this.showParts();
         }
 
