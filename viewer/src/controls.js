@@ -78,22 +78,11 @@
         viewer.offerExamples(element("examples"), element("example"), element("open-example"), ({ files }) => page.openExample(files));
     }
 
-    /** Lays the page out anew where the crossbars' place has changed, and not where only texts below them have. */
-    function watchRoom(page) {
-        let place = "";
-        const observer = new ResizeObserver(() => {
-            const now = `${element("columns").clientWidth} ${element("columns").offsetTop}`;
-            if (now !== place) {
-                place = now;
-                page.ask("layout");
-            }
-        });
-        [element("columns"), document.querySelector("header"), document.querySelector(".controls")].forEach((part) => observer.observe(part));
-    }
-
     function watchWindow(page) {
         window.addEventListener("resize", () => page.ask("layout"));
-        watchRoom(page);
+        const parts = document.querySelectorAll("#columns, header, .controls, .pane .title");
+        const frames = page.panes.map((pane) => pane.element("crossbar-frame"));
+        viewer.watchRoom(element("columns"), parts, frames, () => page.ask("layout"));
         viewer.watchTheme(element("theme"), () => page.onTheme());
         window.addEventListener("hashchange", () => page.onAddress());
     }

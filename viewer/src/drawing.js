@@ -28,8 +28,8 @@
         },
 
         layOut() {
-            const frame = element("crossbar-frame");
-            this.room = viewer.crossbarRoom(element("columns"), document.querySelector(".controls"), frame, this.openPanes.length);
+            const frames = this.openPanes.map((pane) => pane.element("crossbar-frame"));
+            this.room = viewer.crossbarRoom(element("columns"), document.querySelector(".controls"), frames);
             const width = this.openPanes.reduce((sum, pane) => sum + pane.crossbar.widthIn(this.room, pane.run.ports), 0);
             element("columns").style.setProperty("--crossbars", `${Math.ceil(width)}px`);
             this.timeline.layOut();

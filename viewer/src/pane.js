@@ -179,7 +179,6 @@
                 unlikeWaits: beside === null ? null : beside.unlikeWaits,
                 followed: waitsAt.length === 0 ? null : { input: followed.input, outputs: waitsAt },
             }, palette, room);
-            this.element("pane").style.width = room.isNarrow ? "" : `${Math.ceil(this.crossbar.width)}px`;
         }
 
         /** The step, or the slot, in one sentence. */
