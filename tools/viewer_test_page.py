@@ -161,6 +161,9 @@ def test_room(viewer):
         expect(min(right - left, bottom - top) >= least, f"{ports} ports in {width} by {height}: {right - left} by {bottom - top}")
         expect(not overflow(viewer), f"{ports} ports in {width} by {height}: the page scrolls sideways")
         sizes.append(f"{ports} ports {round(right - left)}")
+        viewer.run("window.scrollTo(0, document.body.scrollHeight)")
+        expect(viewer.run("return document.querySelector('.controls').getBoundingClientRect().top") == 0, "the controls are not in sight")
+        viewer.run("window.scrollTo(0, 0)")
         viewer.shoot(f"room_{ports}_{width}")
     for ports in (4, 16, 64):
         viewer.load("#slot=3")

@@ -301,6 +301,9 @@ def test_packets_files(viewer):
     expect("rrm.packets.csv is not of a run that is shown: the last cell of packet 1 of input 2 crosses to output 1 in slot 7 by the run, "
            "and in slot 8 by the packets file" in viewer.text("fault"), viewer.text("fault"))
     expect(not viewer.is_shown("squares"), "the file is not beside the run")
+    viewer.open(files.DATA / "firm.journal", files.DATA / "rrm.packets.csv")
+    expect("is not of a run that is shown" in viewer.text("fault") and viewer.run("return SlotViewer.page.first.analysis.done") == 26,
+           f"the run is shown without the file: {viewer.text('fault')}")
     viewer.open(files.DATA / "rrm.journal", field="file-2")
     viewer.open(files.DATA / "rrm.packets.csv")
     expect(not viewer.is_shown("fault") and viewer.is_shown("squares-2") and not viewer.is_shown("squares"), "it is beside the run that it is of")

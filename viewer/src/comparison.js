@@ -4,13 +4,10 @@
 
     const { Pyramid, FREE, UNICAST, MULTICAST, LEVELS } = viewer;
 
-    /** Whether an output is fed alike in a slot; beyond its last slot a run feeds nothing. */
-    function isFedAlike(one, other, slot, output) {
-        const entry = ({ ports, matches, slots }) => {
-            const place = slot * ports + output;
-            return slot >= slots || matches.inputs[place] === FREE ? -1 : 8 * matches.inputs[place] + matches.queues[place];
-        };
-        return entry(one) === entry(other);
+    /** What feeds an output in a slot, as one number; -1 for nothing, as beyond the last slot of a run. */
+    function feedOf({ ports, matches, slots }, slot, output) {
+        const place = slot * ports + output;
+        return slot >= slots || matches.inputs[place] === FREE ? -1 : 8 * matches.inputs[place] + matches.queues[place];
     }
 
     class Comparison {
@@ -22,7 +19,7 @@
             this.differences = new Pyramid(this.slots, 1, "sum", Uint8Array);
             for (let slot = 0; slot < this.slots; slot += 1) {
                 for (let output = 0; output < one.ports; output += 1) {
-                    if (!isFedAlike(one, other, slot, output)) {
+                    if (feedOf(one, slot, output) !== feedOf(other, slot, output)) {
                         this.differing.push(slot);
                         this.differences.set(slot, 0, 1);
                         break;

@@ -34,6 +34,7 @@
             }
         },
 
+        /** Shows runs that were read, and puts packets files beside them; a second run stays where no address names the files. */
         async showAll({ runs, packets }, isBeside, paths, isCancelled) {
             this.player.stop();
             const target = isBeside && this.hasSlots && runs.length === 1 ? 1 : 0;
@@ -42,18 +43,20 @@
                 pane.show(content, name, key);
                 return pane;
             });
-            if (shown.length === 2 && !this.hasSlots) {
+            const isAlone = paths.file !== undefined && paths.beside === undefined;
+            if (isAlone || (shown.length === 2 && !this.hasSlots)) {
                 this.second.close();
             }
             if (shown.length > 0) {
                 this.files = target === 0 ? paths : {};
                 this.onRuns(target === 0);
             }
+            const passes = Promise.all(shown.map((pane) => pane.analyse(() => this.progress.later())));
             for (const one of packets) {
-                await viewer.attachPackets(this.panes, one, isCancelled);
+                await viewer.attachPackets(this.panes, one, isCancelled).catch((fault) => this.onFault(fault, isCancelled));
             }
             this.onAnalysed();
-            await Promise.all(shown.map((pane) => pane.analyse(() => this.progress.later())));
+            await passes;
             this.progress.now();
         },
 
@@ -63,9 +66,6 @@
                 const files = [];
                 for (const path of Object.values(paths)) {
                     files.push(await viewer.fetchFile(path));
-                }
-                if (this.second.isOpen && paths.beside === undefined) {
-                    this.closeSecond();
                 }
                 await this.open(files, false, paths);
                 if (scheduler !== null && this.first.isJournal) {
@@ -118,7 +118,7 @@
             showAll(".journal-only", this.panes.some((pane) => pane.isJournal));
             const canCompare = this.openPanes.length === 2 && first.run.ports === second.run.ports;
             this.comparison = canCompare ? new viewer.Comparison(first.run, second.run) : null;
-            this.panes.forEach((pane) => pane.setBeside(canCompare));
+            this.panes.forEach((pane) => pane.setBeside(second.isOpen, canCompare));
             element("next-difference").hidden = true;
             element("next-unlike").hidden = !canCompare || this.comparison.differing.length === 0;
             this.say(titles.join(" "));
@@ -152,9 +152,10 @@
             pane.set("scheduler", name);
             pane.restart();
             if (pane === this.first) {
-                this.timeline.open(pane.analysis, this.slots, this.comparison);
+                this.timeline.analysis = pane.analysis;
             }
             this.go(this.slot);
+            this.ask("timeline");
             await pane.analyse(() => this.progress.later());
             this.progress.now();
         },

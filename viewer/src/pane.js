@@ -27,7 +27,8 @@
         /** `onSelect` is told the crosspoint that is chosen, and `onChange` that the run has to be drawn. */
         constructor(suffix, onSelect, onChange) {
             this.suffix = suffix;
-            /** Whether another run is compared with it. */
+            /** Whether another run is open, and whether it is compared with this one. */
+            this.isPaired = false;
             this.isBeside = false;
             this.onChange = onChange;
             buildParts(suffix);
@@ -134,11 +135,19 @@
             viewer.drawLegend(this.element("legend"), shown);
         }
 
-        setBeside(isBeside) {
-            this.isBeside = isBeside;
-            const which = this.suffix === "" ? "first" : "second";
-            this.element("crossbar-title").textContent = isBeside ? `${this.name} (${which} run)` : this.name;
+        /** Says whether another run is open, so that this one is the first or the second, and whether they are compared. */
+        setBeside(isPaired, isCompared) {
+            this.isPaired = isPaired;
+            this.isBeside = isCompared;
+            if (this.isOpen) {
+                this.element("crossbar-title").textContent = isPaired ? `${this.name} (${this.place} run)` : this.name;
+                this.drawSummary();
+            }
             this.showParts();
+        }
+
+        get place() {
+            return this.suffix === "" ? "first" : "second";
         }
 
         showSettings() {
@@ -228,7 +237,8 @@
         }
 
         drawSummary() {
-            viewer.drawSummary(this.element("summary"), this.run, this.analysis, `summary-title${this.suffix}`);
+            const heading = { id: `summary-title${this.suffix}`, text: this.isPaired ? `The ${this.place} run` : "The run" };
+            viewer.drawSummary(this.element("summary"), this.run, this.analysis, heading);
             this.drawRules();
         }
 

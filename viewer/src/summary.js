@@ -71,10 +71,10 @@
     }
 
     /** Fills the element with the numbers of a run; `analysis` is null where there are no slots to see. */
-    function drawSummary(element, run, analysis, titleId) {
+    function drawSummary(element, run, analysis, heading) {
         const root = d3.select(element);
         root.selectAll("*").remove();
-        root.append("h2").attr("id", titleId).text("The run");
+        root.append("h2").attr("id", heading.id).text(heading.text);
         if (run.form === "report") {
             drawReport(root, run);
             return;
