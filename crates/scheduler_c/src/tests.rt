@@ -208,25 +208,44 @@ fn waits_are_noted(rt: HostRuntime) {
     );
     assert_eq!(rt; [waits[0], waits[1], waits[256]], [0, 0, 1]);
     assert_eq!(rt; longest, [2, 0, 0, 0]);
+}
 
+// Words of another length than the ports ask for are refused, and nothing is written.
+#[test]
+fn waits_of_other_lengths_are_refused(rt: HostRuntime) {
+    let mut waits = [5; 512];
+    let mut longest = [6; 4];
+    let rows = [unicast(0b11), unicast(0b01)];
+    let feeds = [fed(1, 0), FREE];
     assert_eq!(rt;
         tiny_tera_note_waits(3, &rows, &feeds, &mut waits, &mut longest),
         1
     );
     assert_eq!(rt;
-        tiny_tera_note_waits(2, &rows, &feeds, &mut waits[1..], &mut longest),
+        tiny_tera_note_waits(2, &rows, &feeds, &mut [0; 511], &mut longest),
         1
     );
     assert_eq!(rt;
-        tiny_tera_note_waits(2, &rows, &feeds, &mut waits, &mut longest[1..]),
+        tiny_tera_note_waits(2, &rows, &feeds, &mut waits, &mut [0; 3]),
         1
     );
-    assert_eq!(rt; [waits[0], waits[256]], [0, 1]);
+    assert_eq!(rt; [waits[0], longest[0]], [5, 6]);
+}
 
-    // A wait stands still at the greatest number of a word.
+// A wait stands still at the greatest number of a word.
+#[test]
+fn greatest_wait_stands_still(rt: HostRuntime) {
+    let mut waits = [0; 512];
+    let mut longest = [0; 4];
     waits[256] = NO;
     assert_eq!(rt;
-        tiny_tera_note_waits(2, &rows, &feeds, &mut waits, &mut longest),
+        tiny_tera_note_waits(
+            2,
+            &[unicast(0b01), unicast(0b01)],
+            &[fed(0, 0), FREE],
+            &mut waits,
+            &mut longest
+        ),
         0
     );
     assert_eq!(rt; [waits[256], longest[0]], [NO, NO]);
