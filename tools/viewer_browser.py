@@ -103,7 +103,7 @@ class Viewer:
         """Where an element is in the window: left, top, right, bottom."""
         return self.run("const box = document.getElementById(arguments[0]).getBoundingClientRect(); return [box.left, box.top, box.right, box.bottom]", name)
 
-    def wait(self, condition, what, seconds=240):
+    def wait(self, condition, what, seconds=900):
         end = time.monotonic() + seconds
         while not self.run(f"return Boolean({condition})"):
             expect(time.monotonic() < end, f"{what}: {condition} did not come in {seconds} seconds")
