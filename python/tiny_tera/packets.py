@@ -1,0 +1,31 @@
+"""The packets file of a run, `PREFIX.packets.csv`: what became of each packet, and when it left each of its outputs.
+
+The program does not write such a file yet; this is the form that it is to have. The columns that are wanted, in this
+order: input, packet (its number in the capture of its port, from 0), bytes, cells, state (forwarded, dropped, unrouted
+or oversize), level, kind (u or m), output, arrival, departure and delay (in slots). There is a row for each output of a
+packet; where there is none, or no departure, the fields are empty.
+"""
+
+import pandas
+
+COLUMNS = [
+    "input", "packet", "bytes", "cells", "state", "level", "kind", "output", "arrival", "departure", "delay",
+]
+STATES = ("forwarded", "dropped", "unrouted", "oversize")
+
+
+def read_packets(path):
+    """The rows of a packets file; ValueError where it has another form. Fields that are empty are NA."""
+    try:
+        whole = {name: "Int64" for name in COLUMNS if name not in ("state", "kind")}
+        found = pandas.read_csv(path, dtype={**whole, "state": str, "kind": str})
+    except (ValueError, pandas.errors.ParserError) as fault:
+        raise ValueError(f"no packets file: {fault}") from None
+    if list(found.columns) != COLUMNS:
+        raise ValueError("no packets file: the header is not " + ",".join(COLUMNS))
+    if not found["state"].isin(STATES).all():
+        raise ValueError("no packets file: a state is none of " + ", ".join(STATES))
+    left = found[found["state"] == "forwarded"]
+    if not (left["delay"] == left["departure"] - left["arrival"]).all():
+        raise ValueError("no packets file: a delay is not departure less arrival")
+    return found

@@ -1,0 +1,180 @@
+"""Reads the report of a run: its summary, its outputs and, where it has them, its lines of queues, slots and references."""
+
+from __future__ import annotations
+
+import re
+from typing import NamedTuple, Optional
+
+SUMMARY = (
+    "ports", "rounds", "depth", "slots", "packets", "oversize",
+    "unrouted", "dropped", "forwarded", "copies", "cells",
+)
+LEVELS = 4
+PAIR = re.compile(r"([0-9]+)>([0-9]+):([0-3])([um])")
+QUEUE = re.compile(r"queue ([0-9]+)>([0-9]+|\*):([0-3])([um])")
+
+
+class BadReport(ValueError):
+    """A text is no report; the message names the line, counted from 1."""
+
+
+class Pair(NamedTuple):
+    """One output that is fed in a slot."""
+
+    input: int
+    output: int
+    level: int
+    multicast: bool
+
+
+class Slot(NamedTuple):
+    """One slot line: how many rounds added a pair, what the first matched, and the fed outputs."""
+
+    used: int
+    first: int
+    pairs: list
+
+
+class Reference(NamedTuple):
+    """One output beside an ideal switch whose queues stand at the outputs.
+
+    `ends` is one more than the last slot in which the ideal switch gave out a cell for the output, and
+    `runs` the same of the run; `lead` is the most cells by which it was ahead at the end of a slot, and
+    `extra` the sum of these over all slots.
+    """
+
+    ends: int
+    runs: int
+    lead: int
+    extra: int
+
+
+class Queue(NamedTuple):
+    """What one queue held; `output` is None for multicast, and `slot` is the first one with the peak."""
+
+    input: int
+    output: int
+    level: int
+    packets: int
+    dropped: int
+    cells: int
+    peak: int
+    slot: int
+
+
+class Report(NamedTuple):
+    """A report; `queues`, `slots` and `reference` are None where it has no such lines."""
+
+    summary: dict
+    longest: tuple
+    outputs: list
+    slots: Optional[list]
+    reference: Optional[list]
+    queues: Optional[list] = None
+
+
+def read_report(text):
+    """The report that a text is, else BadReport."""
+    lines = text.splitlines()
+    reader = _Lines(lines)
+    summary = {name: reader.numbers(name, 1)[0] for name in SUMMARY}
+    longest = tuple(reader.numbers("longest", LEVELS))
+    outputs = [reader.output(number) for number in range(summary["ports"])]
+    queues = reader.queues() if reader.next_is("queue") or reader.next_is("deepest") else None
+    slots = None
+    if reader.next_is("slot"):
+        slots = [reader.slot(number) for number in range(summary["slots"])]
+    reference = None
+    if reader.next_is("reference"):
+        reference = [reader.reference(number) for number in range(summary["ports"])]
+    if reader.at < len(lines):
+        raise BadReport(f"line {reader.at + 1}: a line too many")
+    return Report(summary, longest, outputs, slots, reference, queues)
+
+
+class _Lines:
+    """The lines of a report and the place of the next one."""
+
+    def __init__(self, lines):
+        self.lines = lines
+        self.at = 0
+        self.pairs = {}
+
+    def fault(self, what):
+        return BadReport(f"line {self.at}: {what}")
+
+    def next_is(self, name):
+        return self.at < len(self.lines) and self.lines[self.at].startswith(name + " ")
+
+    def words(self):
+        if self.at == len(self.lines):
+            raise BadReport(f"line {self.at + 1}: the report ends early")
+        self.at += 1
+        return self.lines[self.at - 1].split(" ")
+
+    def number(self, word):
+        if not (word.isascii() and word.isdigit()):
+            raise self.fault(f"{word!r} is no number")
+        return int(word)
+
+    def numbers(self, name, count):
+        """The numbers of the line `name` and so many numbers."""
+        words = self.words()
+        if words[0] != name or len(words) != count + 1:
+            raise self.fault(f"expected {name} with {count} numbers")
+        return [self.number(word) for word in words[1:]]
+
+    def named(self, words, names):
+        """The numbers of words of the form name, number, name, number."""
+        if tuple(words[::2]) != names or len(words) != 2 * len(names):
+            raise self.fault("expected " + ", ".join(names))
+        return [self.number(word) for word in words[1::2]]
+
+    def output(self, number):
+        found, packets, cells = self.named(self.words(), ("output", "packets", "cells"))
+        if found != number:
+            raise self.fault(f"expected output {number}")
+        return packets, cells
+
+    def reference(self, number):
+        found, *numbers = self.named(self.words(), ("reference", *Reference._fields))
+        if found != number:
+            raise self.fault(f"expected reference {number}")
+        return Reference(*numbers)
+
+    def slot(self, number):
+        words = self.words()
+        found, used, first = self.named(words[:6], ("slot", "used", "first"))
+        if found != number:
+            raise self.fault(f"expected slot {number}")
+        return Slot(used, first, [self.known_pair(word) for word in words[6:]])
+
+    def known_pair(self, word):
+        """A pair, whose word is taken apart the first time only, since the same ones come in many slots."""
+        if word not in self.pairs:
+            self.pairs[word] = self.pair(word)
+        return self.pairs[word]
+
+    def pair(self, word):
+        found = PAIR.fullmatch(word)
+        if not found:
+            raise self.fault(f"{word!r} is no pair")
+        return Pair(int(found[1]), int(found[2]), int(found[3]), found[4] == "m")
+
+    def queues(self):
+        """The lines of the queues, up to the one that tells the greatest peak."""
+        found = []
+        while self.next_is("queue"):
+            found.append(self.queue())
+        deepest = self.numbers("deepest", 1)[0]
+        if deepest != max((queue.peak for queue in found), default=0):
+            raise self.fault("not the greatest peak")
+        return found
+
+    def queue(self):
+        words = self.words()
+        name = QUEUE.fullmatch(" ".join(words[:2]))
+        if not name or (name[2] == "*") != (name[4] == "m"):
+            raise self.fault("expected a queue")
+        output = None if name[2] == "*" else int(name[2])
+        return Queue(int(name[1]), output, int(name[3]), *self.named(words[2:], Queue._fields[3:]))
