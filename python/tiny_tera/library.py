@@ -1,0 +1,86 @@
+"""Finds and loads the shared object whose functions are proved, and says how each is called."""
+
+from __future__ import annotations
+
+import ctypes
+import os
+from functools import lru_cache
+from pathlib import Path
+
+VERSION = 1
+NAME = "libtiny_tera.so"
+# A path to the shared object, which goes before all other places.
+VARIABLE = "TINY_TERA_LIBRARY"
+
+DONE, REFUSED, NO_MEMORY = 0, 1, 2
+
+_WORD = ctypes.c_uint32
+_ADDRESS = ctypes.c_void_p
+# A slice is passed as the address of its first element and the count of its elements.
+_SLICE = (ctypes.c_void_p, ctypes.c_size_t)
+_SLOT = (_WORD, _WORD, _WORD, *_SLICE, _ADDRESS, *_SLICE, _ADDRESS)
+
+_ARGUMENTS = {
+    "tiny_tera_version": (),
+    "tiny_tera_islip_slot": (_WORD, _WORD, *_SLICE, *_SLICE, *_SLICE, *_SLICE, _ADDRESS),
+    "tiny_tera_decide": _SLOT,
+    "tiny_tera_decide_firm": _SLOT,
+    "tiny_tera_is_maximal": (_WORD, *_SLICE, *_SLICE, _ADDRESS),
+    "tiny_tera_note_waits": (_WORD, *_SLICE, *_SLICE, *_SLICE, *_SLICE),
+    "tiny_tera_check_journal": (*_SLICE, _ADDRESS),
+}
+
+
+class NoLibrary(OSError):
+    """The shared object is not there."""
+
+
+class OtherLibrary(NoLibrary):
+    """The shared object is there, and lacks functions of this version or is of another one."""
+
+
+class Refused(ValueError):
+    """The library refused a call, since a number that it was passed is out of range; nothing has changed."""
+
+
+def places() -> list[str]:
+    """Where the shared object is looked for: the variable TINY_TERA_LIBRARY alone, if it is set; else beside this
+    package, in out/ of the repository that this package stands in, and where the system's loader looks."""
+    if os.environ.get(VARIABLE):
+        return [os.environ[VARIABLE]]
+    package = Path(__file__).resolve().parent
+    files = [package / NAME, package.parent.parent / "out" / NAME]
+    return [*(str(file) for file in files if file.is_file()), f"{NAME}.{VERSION}", NAME]
+
+
+@lru_cache(maxsize=None)
+def load() -> ctypes.CDLL:
+    """The shared object, loaded once, with the types of the arguments of its functions; NoLibrary where there is none."""
+    found = _first()
+    try:
+        for name, arguments in _ARGUMENTS.items():
+            function = getattr(found, name)
+            function.argtypes, function.restype = arguments, _WORD
+    except AttributeError as fault:
+        raise OtherLibrary(f"{found._name} is not of version {VERSION}: {fault}") from None
+    if found.tiny_tera_version() != VERSION:
+        raise OtherLibrary(f"{found._name} is of version {found.tiny_tera_version()} and not {VERSION}")
+    return found
+
+
+def _first() -> ctypes.CDLL:
+    faults = []
+    for place in places():
+        try:
+            return ctypes.CDLL(place)
+        except OSError as fault:
+            faults.append(str(fault))
+    raise NoLibrary("; ".join(faults))
+
+
+def check(status: int) -> None:
+    """Raises Refused or MemoryError where a call answered so."""
+    if status == REFUSED:
+        raise Refused("a number is out of range")
+    if status == NO_MEMORY:
+        raise MemoryError("the library got no memory")
