@@ -56,7 +56,7 @@ class Words(unittest.TestCase):
                     self.assertEqual(status, 2)
                     self.assertIn(told, said.splitlines()[-1])
             status, said = run(TOOLS / "sweep", "--to", folder, "--program", "/bin/false")
-            self.assertEqual((status, said), (1, "tools/sweep: /bin/false without words ends with status 1, not 2\n"))
+            self.assertEqual((status, said), (1, "tools/sweep: /bin/false gen 0 0 1 ends with status 1\n"))
             self.assertFalse(folder.exists())
 
     @unittest.skipIf(lacks("tqdm"), lacks("tqdm"))
@@ -123,7 +123,7 @@ class Sweeps(unittest.TestCase):
         status, told = run(*self.words, "--slots", "300")
         self.assertEqual((status, told.count("\n")), (1, 1))
         self.assertIn("have --slots 200, not 300", told)
-        (self.room / "program").write_text('#!/bin/sh\n[ "$2" = --scheduler ] && exit 3\nexit 2\n')
+        (self.room / "program").write_text('#!/bin/sh\n[ "$2" = --scheduler ] && exit 3\nexit 0\n')
         status, told = run(*self.words, "--schedulers", "islip,rrm")
         self.assertEqual((status, told.count("\n")), (1, 1))
         self.assertIn("--schedulers: the program's command `run` does not have rrm", told)
