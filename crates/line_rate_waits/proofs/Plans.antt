@@ -1,0 +1,107 @@
+-- Plans: slots by the requests that stand in them and the pairs that they serve, all of level 0.
+use Rattle.std.proofs.Common.{◌≡◌, ℕ, zero, suc, ◌<◌, ◌⊎◌, ◌==◌, ◌&&◌, ◌||◌, Bool, false, List, [], ◌∷◌, map, replicate, refl, subst, sym, inl, inr, arith}
+use Rattle.std.specs.Bool.{Decides}
+use Rattle.std.specs.List.{range_with_len}
+use Rattle.std.proofs.lemmas.Bool.Decides.{Decides-eqb, Decides-and, Decides-or}
+use Rattle.std.proofs.lemmas.List.FromFn.{length-map-range_with_len, get_or-map-range_with_len}
+use Rattle.rotating_pick.specs.declared.kinds.Kind.{Kind}
+use Rattle.rotating_pick.specs.declared.kinds.Kind.TheVariants.{Uni, Multi}
+use Rattle.rotating_pick.specs.declared.limits.TheConstants.{LEVELS}
+use Rattle.slot_match.specs.declared.rows.Row.{Row}
+use Rattle.slot_match.specs.Rows.{Names, row_of, no_row, AreWithin}
+use Rattle.slot_match.specs.Parts.{set_of}
+use Rattle.slot_match.proofs.Sets.{Has-set_of}
+use Rattle.service_bound.specs.Windows.{IsClean, IsWithoutMulticast}
+use Rattle.service_bound.proofs.Postings.{nothing_in}
+
+-- an input and an output
+pub record Pair : Type 0 where
+  pub input : ℕ
+  pub output : ℕ
+
+abbrev pub pair : ℕ → ℕ → Pair
+pair i j = record { input = i; output = j }
+
+-- input i and output j are one of the pairs
+abbrev pub In : ℕ → ℕ → List Pair → Type 0
+In i j [] = ⊥
+In i j (p ∷ ps) = ((i ≡ p.input) × (j ≡ p.output)) ⊎ In i j ps
+
+-- whether they are
+abbrev is_in : ℕ → ℕ → List Pair → Bool
+is_in i j [] = false
+is_in i j (p ∷ ps) = (i == p.input && j == p.output) || is_in i j ps
+
+Decides-in : (i j : ℕ) (ps : List Pair) → Decides (is_in i j ps) (In i j ps)
+Decides-in i j [] = (λ e. absurd (cc), λ none. absurd none)
+Decides-in i j (p ∷ ps) =
+    Decides-or (i == p.input && j == p.output) (is_in i j ps) (Decides-and (i == p.input) (j == p.output) (Decides-eqb i p.input) (Decides-eqb j p.output)) (Decides-in i j ps)
+
+-- each of the pairs has P
+abbrev pub Each : (ℕ → ℕ → Type 0) → List Pair → Type 0
+Each P [] = Unit {0}
+Each P (p ∷ ps) = P p.input p.output × Each P ps
+
+-- so a pair of them has it
+pub each : (P : ℕ → ℕ → Type 0) (ps : List Pair) → Each P ps → (i j : ℕ) → In i j ps → P i j
+each P [] all i j is = absurd is
+each P (p ∷ ps) all i j is = elim is [
+  | inl here ↦ subst (λ x. P x j) (sym here.0) (subst (P p.input) (sym here.1) all.0)
+  | inr later ↦ each P ps all.1 i j later
+]
+
+-- A slot: which input asks which output, beside input 0, which asks output 0 in every slot; and which pairs it serves.
+pub record Plan : Type 0 where
+  pub asks : List Pair
+  pub serves : List Pair
+
+-- all requests of the slot
+abbrev pub asked : Plan → List Pair
+asked p = pair 0 0 ∷ p.asks
+
+-- the row of input i
+row_at : ℕ → Plan → ℕ → Row
+row_at n p i = record { uni = set_of n (λ j. is_in i j (asked p)) ∷ replicate 3 0; multi = replicate LEVELS 0 }
+
+-- the rows of the slot
+pub rows_of : ℕ → Plan → List Row
+rows_of n p = map (row_at n p) (range_with_len 0 n)
+
+abbrev AskedAt : ℕ → Plan → ℕ → ℕ → ℕ → Kind → Type 0
+AskedAt n p i j level kind = (level ≡ 0) × (kind ≡ Uni) × (j < n) × In i j (asked p)
+
+asked_at : (n : ℕ) (p : Plan) (i j level : ℕ) (kind : Kind) → Names (row_at n p i) level kind j → AskedAt n p i j level kind
+unfolding row_at
+asked_at n p i j zero Uni named = let has = (Has-set_of n (λ y. is_in i y (asked p)) j).0 named in (refl, refl, has.0, (Decides-in i j (asked p)).0 has.1)
+asked_at n p i j (suc level) Uni named = absurd (nothing_in 3 level j named)
+asked_at n p i j level Multi named = absurd (nothing_in LEVELS level j named)
+
+named_at : (n : ℕ) (p : Plan) (i j : ℕ) → j < n → In i j (asked p) → Names (row_at n p i) 0 Uni j
+unfolding row_at
+named_at n p i j j_in is = (Has-set_of n (λ y. is_in i y (asked p)) j).1 (j_in, (Decides-in i j (asked p)).1 is)
+
+row_is : (n : ℕ) (p : Plan) (i : ℕ) → i < n → row_of (rows_of n p) i ≡ row_at n p i
+unfolding rows_of
+row_is n p i i_in = get_or-map-range_with_len (row_at n p) 0 n i i no_row i_in (omega arith)
+
+-- what a row names is what is asked
+pub posted : (n : ℕ) (p : Plan) (i j level : ℕ) (kind : Kind) → i < n → Names (row_of (rows_of n p) i) level kind j → AskedAt n p i j level kind
+posted n p i j level kind i_in named = asked_at n p i j level kind (subst (λ row. Names row level kind j) (row_is n p i i_in) named)
+
+pub names : (n : ℕ) (p : Plan) (i j : ℕ) → i < n → j < n → In i j (asked p) → Names (row_of (rows_of n p) i) 0 Uni j
+names n p i j i_in j_in is = subst (λ row. Names row 0 Uni j) (sym (row_is n p i i_in)) (named_at n p i j j_in is)
+
+pub AreWithin-rows : (n : ℕ) (p : Plan) → AreWithin n (rows_of n p)
+unfolding rows_of
+AreWithin-rows n p =
+    record {
+      count = length-map-range_with_len (row_at n p) 0 n;
+      ports = λ i i_in level j kind named. (posted n p i j level kind i_in named).2;
+      levels = λ i i_in level j kind named. let at = (posted n p i j level kind i_in named).0 in omega arith;
+    }
+
+pub IsClean-rows : (n : ℕ) (p : Plan) → IsClean n 0 (rows_of n p)
+IsClean-rows n p i better j kind i_in less named = absurd (omega arith)
+
+pub IsWithoutMulticast-rows : (n : ℕ) (p : Plan) → IsWithoutMulticast n 0 (rows_of n p)
+IsWithoutMulticast-rows n p i j i_in named = let kind = (posted n p i j 0 Multi i_in named).1 in absurd (cc)
