@@ -5,7 +5,7 @@ use Rattle.line_rate_waits.proofs.PlannedRuns.{Follows, AreApart}
 use Rattle.line_rate_waits.proofs.Shapes.{takes, ends, passes, crosses, wins, both}
 
 -- one request begins
-one_apart : (i j : ℕ) → Each (AreApart (pair i j ∷ [])) (pair i j ∷ [])
+pub one_apart : (i j : ℕ) → Each (AreApart (pair i j ∷ [])) (pair i j ∷ [])
 one_apart i j = ((λ e. refl, tt), tt)
 
 -- one of input 0 and one of input 1

@@ -1,7 +1,10 @@
 pub mod Plans
 pub mod PlannedSlots
 pub mod PlannedRuns
+pub mod OneRoundRuns
 pub mod Shapes
 pub mod Followings
 pub mod OneRoundFamily
 pub mod Openings
+pub mod FirmSlots
+pub mod FirmFamily

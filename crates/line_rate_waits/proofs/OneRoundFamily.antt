@@ -17,7 +17,8 @@ use Rattle.service_bound.proofs.PostedSlots.{distance-own}
 use Rattle.service_bound.proofs.PostedRuns.{IsSwitch}
 use Rattle.line_rate_waits.proofs.Plans.{Plan}
 use Rattle.line_rate_waits.proofs.PlannedSlots.{decided, step_of, IsSwitch-after}
-use Rattle.line_rate_waits.proofs.PlannedRuns.{Follows, Starts, IsLate, IsLate-before, IsLate-last}
+use Rattle.line_rate_waits.proofs.PlannedRuns.{Follows, Starts}
+use Rattle.line_rate_waits.proofs.OneRoundRuns.{IsLate, IsLate-before, IsLate-last}
 use Rattle.line_rate_waits.proofs.Shapes.{takes, ends, passes, crosses, wins, both, suits_takes, suits_ends, suits_passes, suits_crosses, suits_wins, suits_both}
 use Rattle.line_rate_waits.proofs.Followings.{takes_takes, takes_passes, passes_takes, takes_ends, passes_crosses, takes_crosses, crosses_takes, takes_both, both_crosses, takes_wins, wins_crosses, wins_crosses_zero, crosses_zero_takes}
 
@@ -68,7 +69,7 @@ starts_turns : (P : Plan → Type 0) (n k x f : ℕ) → f < n → P (takes x f)
 starts_turns P n zero x f f_in here = starts_more P x (n - f) f (passes x ∷ downs 0 2 (n - 2) (ends 0 ∷ [])) (omega arith) here
 starts_turns P n (suc k) x f f_in here = starts_more P x (n - f) f (passes x ∷ downs 0 2 (n - 3) (crosses (n - 1) (x + 1) 1 ∷ turns n (x + 1) 1 k)) (omega arith) here
 
-follows_downs : (x a k last : ℕ) (rest : List Plan) → a + suc k ≡ last + 1 → Starts (Follows (takes x last)) rest → Starts (Follows (takes x a)) (downs x (a + 1) k rest)
+pub follows_downs : (x a k last : ℕ) (rest : List Plan) → a + suc k ≡ last + 1 → Starts (Follows (takes x last)) rest → Starts (Follows (takes x a)) (downs x (a + 1) k rest)
 follows_downs x a zero last rest sum starts = let e : last ≡ a = omega arith in subst (λ v. Starts (Follows (takes x v)) rest) e starts
 follows_downs x a (suc k) last rest sum starts = takes_takes x a
 

@@ -13,7 +13,8 @@ use Rattle.service_bound.proofs.PostedRuns.{IsSwitch}
 use Rattle.line_rate_waits.specs.Reached.{ComesLastAtLineRate}
 use Rattle.line_rate_waits.proofs.Plans.{Plan}
 use Rattle.line_rate_waits.proofs.PlannedSlots.{decided, step_of, IsSwitch-after}
-use Rattle.line_rate_waits.proofs.PlannedRuns.{Follows, Starts, IsOneEach, IsLate, Leads, leads_none, leads_before, comes}
+use Rattle.line_rate_waits.proofs.PlannedRuns.{Follows, Starts, IsOneEach, LeadsBy, leads_none, leads_before}
+use Rattle.line_rate_waits.proofs.OneRoundRuns.{IsLate, comes}
 use Rattle.line_rate_waits.proofs.Shapes.{ends, crosses, both, suits_ends}
 use Rattle.line_rate_waits.proofs.Followings.{ends_ends, ends_zero, ends_takes, ends_wins}
 use Rattle.line_rate_waits.proofs.OneRoundFamily.{turns, length-downs, length-all, starts_more, IsBeginning, five, four, three, late_five, late_four, late_three}
@@ -40,7 +41,7 @@ record IsOpened (n : ℕ) (places : Places) (x : ℕ) : Type 0 where
   accepts : (i : ℕ) → i < x → accept_of places i 0 ≡ 1 % n
 
 module _ (n : ℕ) (some : 0 < n) (rest : List Plan) (starts : Starts (Follows (ends 0)) rest) where
-  opens : (k x t : ℕ) (places : Places) → x + k ≡ n → IsOpened n places x → (after : Places) × IsBeginning n after × Leads n t places (openings x k rest) (suc k) after rest
+  opens : (k x t : ℕ) (places : Places) → x + k ≡ n → IsOpened n places x → (after : Places) × IsBeginning n after × LeadsBy n (decided n) t places (openings x k rest) (suc k) after rest
   opens zero x t places sum opened =
       let same : x ≡ n = omega arith in
       let round : x % n ≡ 0 = ap (λ v. v % n) same ∙ mod_once n n (omega arith) (omega arith) ∙ omega arith in
@@ -54,7 +55,7 @@ module _ (n : ℕ) (some : 0 < n) (rest : List Plan) (starts : Starts (Follows (
           fresh = λ i late i_in. step.accept_stays i (λ j is. elim is [ inl s ↦ let e = s.0 in omega arith | inr none ↦ none ]) ∙ opened.accepts i (omega arith) ∙ mod-eq_of_lt (omega arith);
           held = λ yes. step.grant_stays m (λ i is. elim is [ inl s ↦ let e = s.1 in omega arith | inr none ↦ none ]) ∙ opened.others m yes;
         },
-        leads_before n t places (ends 0) rest 0 after rest step starts (leads_none n (t + 1) after rest),
+        leads_before n (decided n) t places (ends 0) rest 0 after rest step.serves starts (leads_none n (decided n) (t + 1) after rest),
       )
   opens (suc k) x t places sum opened =
       let x_in : x < n = omega arith in
@@ -70,7 +71,7 @@ module _ (n : ℕ) (some : 0 < n) (rest : List Plan) (starts : Starts (Follows (
         ];
       } in
       let later = opens k (x + 1) (t + 1) after (omega arith) next in
-      (later.0, later.1, leads_before n t places (ends x) (openings (x + 1) k rest) (suc k) later.0 rest step (follows_openings x k rest) later.2)
+      (later.0, later.1, leads_before n (decided n) t places (ends x) (openings (x + 1) k rest) (suc k) later.0 rest step.serves (follows_openings x k rest) later.2)
 
   IsOpened-at_first : n ≤ MAX_PORTS → IsOpened n (places_at_first n) 0
   unfolding places_at_first

@@ -1,19 +1,20 @@
--- Runs of plans: the slots that some plans make one after the other, and what each leaves to the next.
-use Rattle.std.proofs.Common.{◌≡◌, ℕ, suc, ◌+◌, ◌<◌, ◌⊎◌, ◌∙◌, List, [], ◌∷◌, length, take, drop, All, refl, ap, sym, subst, inl, inr, arith}
+-- Runs of plans: the slots that some plans make one after the other, where `rule` tells what each decides, and what each
+-- leaves to the next.
+use Rattle.std.proofs.Common.{◌≡◌, ℕ, suc, Option, ◌+◌, ◌<◌, ◌⊎◌, ◌∙◌, List, [], ◌∷◌, length, take, drop, All, refl, ap, sym, subst, inl, inr, arith}
 use Rattle.std.proofs.lemmas.List.Elements.{All-nil, All-cons}
 use Rattle.rotating_pick.specs.declared.kinds.Kind.TheVariants.{Uni, Multi}
 use Rattle.slot_match.specs.declared.rows.Row.{Row}
-use Rattle.slot_match.specs.Rows.{Names, row_of, AreWithin}
+use Rattle.slot_match.specs.Rows.{Names, row_of}
+use Rattle.slot_match.specs.declared.matching.Fed.{Fed}
 use Rattle.slot_match.specs.Matches.{Serves}
 use Rattle.slot_match.specs.Keeping.{Keeps}
-use Rattle.pointer_state.specs.Places.{Places, ArePointing, places_at_first}
-use Rattle.eslip_rounds.specs.Schedules.{DecidedSlot, IsSchedule}
-use Rattle.service_bound.specs.Windows.{AreKept, IsClean, IsWithoutMulticast, GainAtMostOne, AreAtLineRate, InFirst, places_after}
-use Rattle.service_bound.specs.Latest.{ServeLast, IsServedLast}
-use Rattle.service_bound.proofs.PostedRuns.{IsSwitch}
-use Rattle.line_rate_waits.specs.Reached.{AskAtMostOne, ComesLastAtLineRate}
-use Rattle.line_rate_waits.proofs.Plans.{Pair, In, Each, each, Plan, asked, rows_of, posted, names, AreWithin-rows, IsClean-rows, IsWithoutMulticast-rows}
-use Rattle.line_rate_waits.proofs.PlannedSlots.{decided, IsStep, slot_decided, IsSwitch-after}
+use Rattle.pointer_state.specs.Places.{Places}
+use Rattle.eslip_rounds.specs.Slots.{Decision}
+use Rattle.eslip_rounds.specs.Schedules.{DecidedSlot}
+use Rattle.service_bound.specs.Windows.{AreKept, GainAtMostOne, AreAtLineRate, InFirst, places_after}
+use Rattle.service_bound.specs.Latest.{ServeLast}
+use Rattle.line_rate_waits.specs.Reached.{AskAtMostOne}
+use Rattle.line_rate_waits.proofs.Plans.{Pair, In, Each, each, Plan, asked, rows_of, posted, names}
 
 -- ---- one slot and the next
 -- a request is served in the slot, or stands in the next one too
@@ -43,13 +44,17 @@ abbrev pub Starts : (Plan → Type 0) → List Plan → Type 0
 Starts P [] = Unit {0}
 Starts P (p ∷ ps) = P p
 
+-- the match serves the pairs of the plan
+abbrev pub AreServed : Plan → List (Option Fed) → Type 0
+AreServed p matched = (i j : ℕ) → In i j p.serves → Serves matched i j 0 Uni
+
 -- the next row keeps the one before
-keeps_on : (n t : ℕ) (places : Places) (p next : Plan) → IsStep n t places p → Follows p next → (i : ℕ) → i < n → Keeps (decided n t places p).matched i (row_of (rows_of n p) i) (row_of (rows_of n next) i)
-keeps_on n t places p next step follows i i_in = record {
+keeps_on : (n : ℕ) (matched : List (Option Fed)) (p next : Plan) → AreServed p matched → Follows p next → (i : ℕ) → i < n → Keeps matched i (row_of (rows_of n p) i) (row_of (rows_of n next) i)
+keeps_on n matched p next serving follows i i_in = record {
   uni = λ level j named left.
       let is = posted n p i j level Uni i_in named in
       elim (each (IsOn p next) (asked p) follows.kept i j is.3) [
-        | inl served ↦ absurd (left (subst (λ l. Serves (decided n t places p).matched i j l Uni) (sym is.0) (step.serves i j served)))
+        | inl served ↦ absurd (left (subst (λ l. Serves matched i j l Uni) (sym is.0) (serving i j served)))
         | inr again ↦ subst (λ l. Names (row_of (rows_of n next) i) l Uni j) (sym is.0) (names n next i j i_in is.2 again)
       ];
   multi = λ level j named left. let kind = (posted n p i j level Multi i_in named).1 in absurd (cc);
@@ -80,117 +85,82 @@ abbrev pub IsOneEach : Plan → Type 0
 IsOneEach p = Each (AreApart (asked p)) (asked p)
 
 -- ---- the slots of some plans
-abbrev pub run : ℕ → ℕ → Places → List Plan → List DecidedSlot
-run n t places [] = []
-run n t places (p ∷ ps) = record { rows = rows_of n p; decision = decided n t places p } ∷ run n (t + 1) (decided n t places p).places ps
+-- what a slot of a plan decides from the pointers before it
+abbrev pub Rule : Type 0
+Rule = ℕ → Places → Plan → Decision
 
-length-run : (n t : ℕ) (places : Places) (ps : List Plan) → length (run n t places ps) ≡ length ps
-length-run n t places [] = refl
-length-run n t places (p ∷ ps) = ap suc (length-run n (t + 1) (decided n t places p).places ps)
+abbrev pub run : ℕ → Rule → ℕ → Places → List Plan → List DecidedSlot
+run n rule t places [] = []
+run n rule t places (p ∷ ps) = record { rows = rows_of n p; decision = rule t places p } ∷ run n rule (t + 1) (rule t places p).places ps
+
+pub length-run : (n : ℕ) (rule : Rule) (t : ℕ) (places : Places) (ps : List Plan) → length (run n rule t places ps) ≡ length ps
+length-run n rule t places [] = refl
+length-run n rule t places (p ∷ ps) = ap suc (length-run n rule (t + 1) (rule t places p).places ps)
 
 -- what all rows of plans have, all slots have
-All-run : (n t : ℕ) (places : Places) (P : List Row → Type 0) → ((p : Plan) → P (rows_of n p)) → (ps : List Plan) → All (λ slot. P slot.rows) (run n t places ps)
-All-run n t places P all [] = All-nil (λ slot. P slot.rows)
-All-run n t places P all (p ∷ ps) =
-    All-cons (λ slot. P slot.rows) (record { rows = rows_of n p; decision = decided n t places p }) (run n (t + 1) (decided n t places p).places ps) (all p) (All-run n (t + 1) (decided n t places p).places P all ps)
-
-IsSchedule-run : (n t : ℕ) (places : Places) (ps : List Plan) → IsSwitch n places → IsSchedule n 1 t places (run n t places ps)
-IsSchedule-run n t places [] switch = tt
-IsSchedule-run n t places (p ∷ ps) switch = (slot_decided n t places p switch, IsSchedule-run n (t + 1) (decided n t places p).places ps (IsSwitch-after n t places p switch))
+pub All-run : (n : ℕ) (rule : Rule) (t : ℕ) (places : Places) (P : List Row → Type 0) → ((p : Plan) → P (rows_of n p)) → (ps : List Plan) → All (λ slot. P slot.rows) (run n rule t places ps)
+All-run n rule t places P all [] = All-nil (λ slot. P slot.rows)
+All-run n rule t places P all (p ∷ ps) =
+    All-cons (λ slot. P slot.rows) (record { rows = rows_of n p; decision = rule t places p }) (run n rule (t + 1) (rule t places p).places ps) (all p) (All-run n rule (t + 1) (rule t places p).places P all ps)
 
 -- requests stay in the run, which is at line rate
-pub record IsKeptRun (n t : ℕ) (places : Places) (ps : List Plan) : Type 0 where
-  pub kept : AreKept n (run n t places ps)
-  pub line : AreAtLineRate n 0 (run n t places ps)
+pub record IsKeptRun (n : ℕ) (rule : Rule) (t : ℕ) (places : Places) (ps : List Plan) : Type 0 where
+  pub kept : AreKept n (run n rule t places ps)
+  pub line : AreAtLineRate n 0 (run n rule t places ps)
 
 -- one slot more in front
-pub IsKeptRun-before : (n t : ℕ) (places : Places) (p : Plan) (ps : List Plan) → IsStep n t places p → Starts (Follows p) ps → IsKeptRun n (t + 1) (decided n t places p).places ps → IsKeptRun n t places (p ∷ ps)
-IsKeptRun-before n t places p [] step follows run_kept = record { kept = (tt, tt); line = (tt, tt) }
-IsKeptRun-before n t places p (next ∷ ps) step follows run_kept =
-    record { kept = (keeps_on n t places p next step follows, run_kept.kept); line = (gains_on n p next follows, run_kept.line) }
+pub IsKeptRun-before : (n : ℕ) (rule : Rule) (t : ℕ) (places : Places) (p : Plan) (ps : List Plan) → AreServed p (rule t places p).matched → Starts (Follows p) ps → IsKeptRun n rule (t + 1) (rule t places p).places ps → IsKeptRun n rule t places (p ∷ ps)
+IsKeptRun-before n rule t places p [] serving follows run_kept = record { kept = (tt, tt); line = (tt, tt) }
+IsKeptRun-before n rule t places p (next ∷ ps) serving follows run_kept =
+    record { kept = (keeps_on n (rule t places p).matched p next serving follows, run_kept.kept); line = (gains_on n p next follows, run_kept.line) }
 
 -- and queue (0, 0) is served in its last slot alone
-pub record IsLate (n t : ℕ) (places : Places) (ps : List Plan) : Type 0 where
-  pub run_kept : IsKeptRun n t places ps
-  pub last : ServeLast 0 0 0 (run n t places ps)
+pub record IsLateBy (n : ℕ) (rule : Rule) (t : ℕ) (places : Places) (ps : List Plan) : Type 0 where
+  pub run_kept : IsKeptRun n rule t places ps
+  pub last : ServeLast 0 0 0 (run n rule t places ps)
 
 -- one slot more in front, which does not serve the queue
-pub IsLate-before : (n t : ℕ) (places : Places) (p : Plan) (ps : List Plan) → IsStep n t places p → Starts (Follows p) ps → (In 0 0 p.serves → ⊥) → IsLate n (t + 1) (decided n t places p).places ps → IsLate n t places (p ∷ ps)
-IsLate-before n t places p [] step follows left late = absurd late.last
-IsLate-before n t places p (next ∷ ps) step follows left late =
-    record { run_kept = IsKeptRun-before n t places p (next ∷ ps) step follows late.run_kept; last = (λ served. left (step.only 0 0 0 Uni served), late.last) }
+pub IsLateBy-before : (n : ℕ) (rule : Rule) (t : ℕ) (places : Places) (p : Plan) (ps : List Plan) → AreServed p (rule t places p).matched → Starts (Follows p) ps → (Serves (rule t places p).matched 0 0 0 Uni → ⊥) → IsLateBy n rule (t + 1) (rule t places p).places ps → IsLateBy n rule t places (p ∷ ps)
+IsLateBy-before n rule t places p [] serving follows left late = absurd late.last
+IsLateBy-before n rule t places p (next ∷ ps) serving follows left late =
+    record { run_kept = IsKeptRun-before n rule t places p (next ∷ ps) serving follows late.run_kept; last = (left, late.last) }
 
 -- the last slot, which serves it
-pub IsLate-last : (n t : ℕ) (places : Places) (p : Plan) → IsStep n t places p → In 0 0 p.serves → IsLate n t places (p ∷ [])
-IsLate-last n t places p step served = record { run_kept = IsKeptRun-before n t places p [] step tt (record { kept = tt; line = tt }); last = step.serves 0 0 served }
-
--- What is late from pointers of a switch is a window in which queue (0, 0) is served in the last slot alone.
-IsServedLast-run : (n t : ℕ) (places : Places) (ps : List Plan) → IsSwitch n places → IsLate n t places ps → IsServedLast n 1 t 0 0 0 places (run n t places ps)
-IsServedLast-run n t places ps switch late =
-    let some : 0 < n = subst (λ m. 0 < m) switch.ports switch.at_ports.some in
-    record {
-      at_ports = switch.at_ports;
-      ports = switch.ports;
-      window = record {
-        pointing = subst (λ m. ArePointing m 0 places) switch.ports (switch.at_ports.pointing 0 (omega arith));
-        schedule = IsSchedule-run n t places ps switch;
-        within = All-run n t places (AreWithin n) (AreWithin-rows n) ps;
-        kept = late.run_kept.kept;
-        clean = All-run n t places (IsClean n 0) (IsClean-rows n) ps;
-      };
-      alone = All-run n t places (IsWithoutMulticast n 0) (IsWithoutMulticast-rows n) ps;
-      posted = All-run n t places (λ rows. Names (row_of rows 0) 0 Uni 0) (λ p. names n p 0 0 some some (inl (refl, refl))) ps;
-      last = late.last;
-    }
+pub IsLateBy-last : (n : ℕ) (rule : Rule) (t : ℕ) (places : Places) (p : Plan) → AreServed p (rule t places p).matched → In 0 0 p.serves → IsLateBy n rule t places (p ∷ [])
+IsLateBy-last n rule t places p serving served = record { run_kept = IsKeptRun-before n rule t places p [] serving tt (record { kept = tt; line = tt }); last = serving 0 0 served }
 
 -- in the first slot each input asks for one output at most, where its plan says so
-opens_run : (n t : ℕ) (places : Places) (ps : List Plan) → Starts IsOneEach ps → InFirst (AskAtMostOne n 0) (run n t places ps)
-opens_run n t places [] one = tt
-opens_run n t places (p ∷ ps) one = asks_one n p one
+pub opens_run : (n : ℕ) (rule : Rule) (t : ℕ) (places : Places) (ps : List Plan) → Starts IsOneEach ps → InFirst (AskAtMostOne n 0) (run n rule t places ps)
+opens_run n rule t places [] one = tt
+opens_run n rule t places (p ∷ ps) one = asks_one n p one
 
 -- ---- the first slots of a run
 -- The slots of `rest`, from the pointers `after` on, follow on the first `count` slots of the run.
-pub record Leads (n t : ℕ) (places : Places) (ps : List Plan) (count : ℕ) (after : Places) (rest : List Plan) : Type 0 where
-  pub slots : drop count (run n t places ps) ≡ run n (t + count) after rest
-  pub left : places_after places (take count (run n t places ps)) ≡ after
-  pub keeping : IsKeptRun n (t + count) after rest → IsKeptRun n t places ps
+pub record LeadsBy (n : ℕ) (rule : Rule) (t : ℕ) (places : Places) (ps : List Plan) (count : ℕ) (after : Places) (rest : List Plan) : Type 0 where
+  pub slots : drop count (run n rule t places ps) ≡ run n rule (t + count) after rest
+  pub left : places_after places (take count (run n rule t places ps)) ≡ after
+  pub keeping : IsKeptRun n rule (t + count) after rest → IsKeptRun n rule t places ps
 
 -- no slot leads to the run itself
-pub leads_none : (n t : ℕ) (places : Places) (ps : List Plan) → Leads n t places ps 0 places ps
-leads_none n t places ps =
+pub leads_none : (n : ℕ) (rule : Rule) (t : ℕ) (places : Places) (ps : List Plan) → LeadsBy n rule t places ps 0 places ps
+leads_none n rule t places ps =
     let same : t ≡ t + 0 = omega arith in
-    record { slots = ap (λ s. run n s places ps) same; left = refl; keeping = λ kept. subst (λ s. IsKeptRun n s places ps) (sym same) kept }
+    record { slots = ap (λ s. run n rule s places ps) same; left = refl; keeping = λ kept. subst (λ s. IsKeptRun n rule s places ps) (sym same) kept }
 
 -- one slot more in front
-pub leads_before : (n t : ℕ) (places : Places) (p : Plan) (ps : List Plan) (count : ℕ) (after : Places) (rest : List Plan) → IsStep n t places p → Starts (Follows p) ps → Leads n (t + 1) (decided n t places p).places ps count after rest → Leads n t places (p ∷ ps) (suc count) after rest
-leads_before n t places p ps count after rest step follows leads =
+pub leads_before : (n : ℕ) (rule : Rule) (t : ℕ) (places : Places) (p : Plan) (ps : List Plan) (count : ℕ) (after : Places) (rest : List Plan) → AreServed p (rule t places p).matched → Starts (Follows p) ps → LeadsBy n rule (t + 1) (rule t places p).places ps count after rest → LeadsBy n rule t places (p ∷ ps) (suc count) after rest
+leads_before n rule t places p ps count after rest serving follows leads =
     let same : t + 1 + count ≡ t + suc count = omega arith in
     record {
-      slots = leads.slots ∙ ap (λ s. run n s after rest) same;
+      slots = leads.slots ∙ ap (λ s. run n rule s after rest) same;
       left = leads.left;
-      keeping = λ kept. IsKeptRun-before n t places p ps step follows (leads.keeping (subst (λ s. IsKeptRun n s after rest) (sym same) kept));
+      keeping = λ kept. IsKeptRun-before n rule t places p ps serving follows (leads.keeping (subst (λ s. IsKeptRun n rule s after rest) (sym same) kept));
     }
 
--- what is late from where the first slots lead comes in a schedule at line rate, from all pointers at port 0 on
-pub comes : (n count : ℕ) (ps : List Plan) (after : Places) (rest : List Plan) → IsSwitch n (places_at_first n) → Starts IsOneEach ps → Leads n 0 (places_at_first n) ps count after rest → IsSwitch n after → IsLate n count after rest
-    → (slots : List DecidedSlot) × ComesLastAtLineRate n 1 count slots × (length (drop count slots) ≡ length rest)
-comes n count ps after rest switch one leads later late =
-    let from = places_at_first n in
-    let slots = run n 0 from ps in
-    let same : 0 + count ≡ count = omega arith in
-    let dropped : drop count slots ≡ run n count after rest = leads.slots ∙ ap (λ s. run n s after rest) same in
-    let all = leads.keeping (subst (λ s. IsKeptRun n s after rest) (sym same) late.run_kept) in
-    let served : IsServedLast n 1 count 0 0 0 after (run n count after rest) = IsServedLast-run n count after rest later late in (
-      slots,
-      record {
-        comes = record {
-          schedule = IsSchedule-run n 0 from ps switch;
-          within = All-run n 0 from (AreWithin n) (AreWithin-rows n) ps;
-          kept = all.kept;
-          last = subst (λ f. IsServedLast n 1 count 0 0 0 f (drop count slots)) (sym leads.left) (subst (λ s. IsServedLast n 1 count 0 0 0 after s) (sym dropped) served);
-        };
-        line_rate = all.line;
-        opens = opens_run n 0 from ps one;
-      },
-      ap length dropped ∙ length-run n count after rest,
-    )
+-- the slots from slot `count` on, where the run begins with slot 0
+pub led : (n : ℕ) (rule : Rule) (from : Places) (ps : List Plan) (count : ℕ) (after : Places) (rest : List Plan) → LeadsBy n rule 0 from ps count after rest → drop count (run n rule 0 from ps) ≡ run n rule count after rest
+led n rule from ps count after rest leads = let same : 0 + count ≡ count = omega arith in leads.slots ∙ ap (λ s. run n rule s after rest) same
+
+-- requests stay in all of the run, which is at line rate
+pub kept_all : (n : ℕ) (rule : Rule) (from : Places) (ps : List Plan) (count : ℕ) (after : Places) (rest : List Plan) → LeadsBy n rule 0 from ps count after rest → IsKeptRun n rule count after rest → IsKeptRun n rule 0 from ps
+kept_all n rule from ps count after rest leads kept = let same : 0 + count ≡ count = omega arith in leads.keeping (subst (λ s. IsKeptRun n rule s after rest) (sym same) kept)

@@ -109,12 +109,18 @@ module _ (n t : ℕ) (p : Plan) (places : Places) (some : 0 < n) (switch : IsSwi
       let less = passed.3 in
       omega arith
 
+  -- an input that is no farther from the pointer of an output that it asks than the others that ask it is granted
+  nearest_granted : (i j : ℕ) → IsPlaced n p i j → AreNear n places p i j → Granted i j
+  nearest_granted i j at nearest =
+      grants_it i j at.1 (record { below = at.0; member = asks_it j i at.0 at.1 at.2; least = λ z z_in named. each (IsNear n places i j) (asked p) nearest z j (asked_is j z z_in named) refl })
+
+  pub grants_nearest : (i j : ℕ) → IsPlaced n p i j → AreNear n places p i j → Grants n t (rows_of n p) places (unmatched n) i j 0 Uni
+  unfolding Granted
+  grants_nearest i j at nearest = nearest_granted i j at nearest
+
   -- a pair of the plan is granted
   granted_it : (i j : ℕ) → In i j p.serves → Granted i j
-  granted_it i j is =
-      let at = each (IsPlaced n p) p.serves suits.placed i j is in
-      let nearest = each (AreNear n places p) p.serves suits.near i j is in
-      grants_it i j at.1 (record { below = at.0; member = asks_it j i at.0 at.1 at.2; least = λ z z_in named. each (IsNear n places i j) (asked p) nearest z j (asked_is j z z_in named) refl })
+  granted_it i j is = nearest_granted i j (each (IsPlaced n p) p.serves suits.placed i j is) (each (AreNear n places p) p.serves suits.near i j is)
 
   -- and accepted
   takes_it : (i j : ℕ) → In i j p.serves → IsFirstFrom n (accept_of places i 0) (Granted i) j
@@ -130,7 +136,7 @@ module _ (n t : ℕ) (p : Plan) (places : Places) (some : 0 < n) (switch : IsSwi
         ];
       }
 
-  served_it : (i j : ℕ) → In i j p.serves → Serves first i j 0 Uni
+  pub served_it : (i j : ℕ) → In i j p.serves → Serves first i j 0 Uni
   served_it i j is =
       let at = each (IsPlaced n p) p.serves suits.placed i j is in
       let met = serves_first i j (granted_it i j is) in
@@ -147,7 +153,7 @@ module _ (n t : ℕ) (p : Plan) (places : Places) (some : 0 < n) (switch : IsSwi
   ]
 
   -- no other pair is served
-  only_it : (i j level : ℕ) (kind : Kind) → Serves first i j level kind → In i j p.serves
+  pub only_it : (i j level : ℕ) (kind : Kind) → Serves first i j level kind → In i j p.serves
   only_it i j level kind s =
       let is = posted n p i j level kind (whole.input_in i j level kind s) (named_first i j level kind s) in
       let served : Serves first i j 0 Uni = subst (λ k. Serves first i j 0 k) is.1 (subst (λ l. Serves first i j l kind) is.0 s) in

@@ -36,7 +36,7 @@ no_step : (n from x : ℕ) → x < n → from ≡ x → distance n from x ≡ 0
 no_step n from x x_in at = ap (λ f. distance n f x) at ∙ distance-own n x x_in
 
 -- and so it is no farther than any other port
-at_first : (n from x v : ℕ) → x < n → from ≡ x → distance n from x ≤ distance n from v
+pub at_first : (n from x v : ℕ) → x < n → from ≡ x → distance n from x ≤ distance n from v
 at_first n from x v x_in at = let none = no_step n from x x_in at in omega arith
 
 -- where output 0 points at another input that asks it, input 0 is passed

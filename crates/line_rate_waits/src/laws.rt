@@ -1,11 +1,12 @@
 //! Laws about the longest waits at line rate, as the contracts of functions that do nothing. They hold of the scheduler's
 //! definitions.
 
-ghost use Rattle.std.specs.Prelude.{◌≡◌, ℕ, ◌+◌, ◌<◌, ◌≤◌, List, length, drop};
+ghost use Rattle.std.specs.Prelude.{◌≡◌, ℕ, ◌+◌, ◌*◌, ◌<◌, ◌≤◌, List, length, drop};
 ghost use Rattle.rotating_pick.specs.declared.limits.TheConstants.{MAX_PORTS};
 ghost use Rattle.eslip_rounds.specs.Schedules.{DecidedSlot};
 ghost use Rattle.service_bound.specs.Waits.{longest_service_in_one_round};
 ghost use Rattle.line_rate_waits.specs.Reached.{ComesLastAtLineRate};
+ghost use Rattle.line_rate_waits.specs.ReachedByFirm.{ComesLastByFirmAtLineRate};
 
 /// With one round the bound at line rate is reached, for three ports or more: in slots at line rate, from all pointers at
 /// port 0 and no requests on, queue (0, 0) at level 0 is posted in every slot from slot `n + 1` on and served in the last
@@ -13,4 +14,12 @@ ghost use Rattle.line_rate_waits.specs.Reached.{ComesLastAtLineRate};
 pub fn one_round_is_reached_at_line_rate()
     ensures { (n : ℕ) → 2 < n → n ≤ MAX_PORTS
         → (slots : List DecidedSlot) × ComesLastAtLineRate n 1 (n + 1) slots × (length (drop (n + 1) slots) + 1 ≡ longest_service_in_one_round n) }
+{}
+
+/// Under the second scheduler, in the manner of FIRM, line rate costs nothing where each slot has one round: for two ports
+/// or more, in slots at line rate, from all pointers at port 0 and no requests on, queue (0, 0) at level 0 is posted in
+/// every slot from slot `n + 1` on and served in the last of these alone, which are `n * n` slots.
+pub fn firm_is_reached_at_line_rate()
+    ensures { (n : ℕ) → 1 < n → n ≤ MAX_PORTS
+        → (slots : List DecidedSlot) × ComesLastByFirmAtLineRate n 1 (n + 1) slots × (length (drop (n + 1) slots) ≡ n * n) }
 {}
