@@ -8,3 +8,9 @@ pub mod OneRoundFamily
 pub mod Openings
 pub mod FirmSlots
 pub mod FirmFamily
+pub mod ManySlots
+pub mod MoreShapes
+pub mod MoreFollowings
+pub mod MoreRoundsFamily
+pub mod MoreLevels
+pub mod MoreOpenings

@@ -59,30 +59,34 @@ pub record Plan : Type 0 where
 abbrev pub asked : Plan → List Pair
 asked p = pair 0 0 ∷ p.asks
 
--- the row of input i
-row_at : ℕ → Plan → ℕ → Row
-row_at n p i = record { uni = set_of n (λ j. is_in i j (asked p)) ∷ replicate 3 0; multi = replicate LEVELS 0 }
+-- the row of input i, where these are the requests
+row_at : ℕ → List Pair → ℕ → Row
+row_at n ps i = record { uni = set_of n (λ j. is_in i j ps) ∷ replicate 3 0; multi = replicate LEVELS 0 }
+
+-- the rows of these requests
+pub rows_in : ℕ → List Pair → List Row
+rows_in n ps = map (row_at n ps) (range_with_len 0 n)
 
 -- the rows of the slot
-pub rows_of : ℕ → Plan → List Row
-rows_of n p = map (row_at n p) (range_with_len 0 n)
+abbrev pub rows_of : ℕ → Plan → List Row
+rows_of n p = rows_in n (asked p)
 
 abbrev AskedAt : ℕ → Plan → ℕ → ℕ → ℕ → Kind → Type 0
 AskedAt n p i j level kind = (level ≡ 0) × (kind ≡ Uni) × (j < n) × In i j (asked p)
 
-asked_at : (n : ℕ) (p : Plan) (i j level : ℕ) (kind : Kind) → Names (row_at n p i) level kind j → AskedAt n p i j level kind
+asked_at : (n : ℕ) (p : Plan) (i j level : ℕ) (kind : Kind) → Names (row_at n (asked p) i) level kind j → AskedAt n p i j level kind
 unfolding row_at
 asked_at n p i j zero Uni named = let has = (Has-set_of n (λ y. is_in i y (asked p)) j).0 named in (refl, refl, has.0, (Decides-in i j (asked p)).0 has.1)
 asked_at n p i j (suc level) Uni named = absurd (nothing_in 3 level j named)
 asked_at n p i j level Multi named = absurd (nothing_in LEVELS level j named)
 
-named_at : (n : ℕ) (p : Plan) (i j : ℕ) → j < n → In i j (asked p) → Names (row_at n p i) 0 Uni j
+named_at : (n : ℕ) (p : Plan) (i j : ℕ) → j < n → In i j (asked p) → Names (row_at n (asked p) i) 0 Uni j
 unfolding row_at
 named_at n p i j j_in is = (Has-set_of n (λ y. is_in i y (asked p)) j).1 (j_in, (Decides-in i j (asked p)).1 is)
 
-row_is : (n : ℕ) (p : Plan) (i : ℕ) → i < n → row_of (rows_of n p) i ≡ row_at n p i
-unfolding rows_of
-row_is n p i i_in = get_or-map-range_with_len (row_at n p) 0 n i i no_row i_in (omega arith)
+row_is : (n : ℕ) (p : Plan) (i : ℕ) → i < n → row_of (rows_of n p) i ≡ row_at n (asked p) i
+unfolding rows_in
+row_is n p i i_in = get_or-map-range_with_len (row_at n (asked p)) 0 n i i no_row i_in (omega arith)
 
 -- what a row names is what is asked
 pub posted : (n : ℕ) (p : Plan) (i j level : ℕ) (kind : Kind) → i < n → Names (row_of (rows_of n p) i) level kind j → AskedAt n p i j level kind
@@ -92,10 +96,10 @@ pub names : (n : ℕ) (p : Plan) (i j : ℕ) → i < n → j < n → In i j (ask
 names n p i j i_in j_in is = subst (λ row. Names row 0 Uni j) (sym (row_is n p i i_in)) (named_at n p i j j_in is)
 
 pub AreWithin-rows : (n : ℕ) (p : Plan) → AreWithin n (rows_of n p)
-unfolding rows_of
+unfolding rows_in
 AreWithin-rows n p =
     record {
-      count = length-map-range_with_len (row_at n p) 0 n;
+      count = length-map-range_with_len (row_at n (asked p)) 0 n;
       ports = λ i i_in level j kind named. (posted n p i j level kind i_in named).2;
       levels = λ i i_in level j kind named. let at = (posted n p i j level kind i_in named).0 in omega arith;
     }

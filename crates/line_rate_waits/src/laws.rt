@@ -4,7 +4,7 @@
 ghost use Rattle.std.specs.Prelude.{◌≡◌, ℕ, ◌+◌, ◌*◌, ◌<◌, ◌≤◌, List, length, drop};
 ghost use Rattle.rotating_pick.specs.declared.limits.TheConstants.{MAX_PORTS};
 ghost use Rattle.eslip_rounds.specs.Schedules.{DecidedSlot};
-ghost use Rattle.service_bound.specs.Waits.{longest_service_in_one_round};
+ghost use Rattle.service_bound.specs.Waits.{longest_service, longest_service_in_one_round};
 ghost use Rattle.line_rate_waits.specs.Reached.{ComesLastAtLineRate};
 ghost use Rattle.line_rate_waits.specs.ReachedByFirm.{ComesLastByFirmAtLineRate};
 
@@ -14,6 +14,12 @@ ghost use Rattle.line_rate_waits.specs.ReachedByFirm.{ComesLastByFirmAtLineRate}
 pub fn one_round_is_reached_at_line_rate()
     ensures { (n : ℕ) → 2 < n → n ≤ MAX_PORTS
         → (slots : List DecidedSlot) × ComesLastAtLineRate n 1 (n + 1) slots × (length (drop (n + 1) slots) + 1 ≡ longest_service_in_one_round n) }
+{}
+
+/// With two rounds or more it is reached too, for four ports or more: by `n * (n * n - n + 2) / 2 - 1` slots.
+pub fn more_rounds_are_reached_at_line_rate()
+    ensures { (n rounds : ℕ) → 3 < n → n ≤ MAX_PORTS → 1 < rounds
+        → (slots : List DecidedSlot) × ComesLastAtLineRate n rounds (n + 1) slots × (length (drop (n + 1) slots) + 1 ≡ longest_service n) }
 {}
 
 /// Under the second scheduler, in the manner of FIRM, line rate costs nothing where each slot has one round: for two ports
