@@ -39,6 +39,7 @@ abbrev turns : ℕ → ℕ → ℕ → List Plan
 turns n x zero = downs 0 1 (n - 1) (ends 0 ∷ [])
 turns n x (suc k) = downs x 1 (n - 1) (hands x (whose (x + 1) k) ∷ turns n (x + 1) k)
 
+-- so many slots are the turns
 length-turns : (n k x : ℕ) → 0 < n → length (turns n x k) ≡ k * n + n
 length-turns n zero x some = let down = length-downs 0 (n - 1) 1 (ends 0 ∷ []) in omega arith
 length-turns n (suc k) x some =
@@ -46,16 +47,20 @@ length-turns n (suc k) x some =
     let rest = length-turns n k (x + 1) some in
     omega arith
 
+-- the sum of the turns as a square
 square-is : (n m : ℕ) → n ≡ m + 1 → m * n + n ≡ n * n
 square-is n m e = rw e (omega arith)
 
+-- so many slots are all turns
 length-family : (n : ℕ) → 0 < n → length (turns n 1 (n - 1)) ≡ n * n
 length-family n some = length-turns n (n - 1) 1 some ∙ square-is n (n - 1) (omega arith)
 
+-- the turns begin with the first output of the first input
 starts_turns : (P : Plan → Type 0) (n k x : ℕ) → 1 < n → P (takes (whose x k) 1) → Starts P (turns n x k)
 starts_turns P n zero x two here = starts_more P 0 (n - 1) 1 (ends 0 ∷ []) (omega arith) here
 starts_turns P n (suc k) x two here = starts_more P x (n - 1) 1 (hands x (whose (x + 1) k) ∷ turns n (x + 1) k) (omega arith) here
 
+-- after the last output of an input
 takes_hands : (x a w : ℕ) → Follows (takes x a) (hands x w)
 takes_hands x a w = record {
   kept = (inr (inl (refl, refl)), (inr (inr (inl (refl, refl))), (inl (inl (refl, refl)), tt)));
@@ -64,6 +69,7 @@ takes_hands x a w = record {
   apart = one_apart w 0;
 }
 
+-- before the first output of the next input
 hands_takes : (x w : ℕ) → Follows (hands x w) (takes w 1)
 hands_takes x w = record {
   kept = (inr (inl (refl, refl)), (inl (inl (refl, refl)), (inr (inr (inl (refl, refl))), tt)));
@@ -72,6 +78,7 @@ hands_takes x w = record {
   apart = one_apart w 1;
 }
 
+-- as the window begins
 ends_hands : (x w : ℕ) → Follows (ends x) (hands 0 w)
 ends_hands x w = record {
   kept = (inr (inl (refl, refl)), (inl (inl (refl, refl)), tt));
@@ -80,6 +87,7 @@ ends_hands x w = record {
   apart = one_apart w 0;
 }
 
+-- output 0 points at the input
 suits_hands : (n : ℕ) (places : Places) (x w : ℕ) → x < n → grant_of places 0 0 ≡ x → Suits n places (hands x w)
 suits_hands n places x w x_in at = record {
   placed = ((x_in, omega arith, inr (inl (refl, refl))), tt);
@@ -96,11 +104,13 @@ record IsTurn (n : ℕ) (places : Places) (x a : ℕ) : Type 0 where
   fresh : (i : ℕ) → i < n → (i ≡ x → ⊥) → (i ≡ 0) ⊎ ((0 < x) × (x < i)) → accept_of places i 0 ≡ 1
 
 module _ (n : ℕ) (two : 1 < n) where
+  -- there are ports
   some : 0 < n
   some = omega arith
 
   -- input x goes down, and output 0 points at it all the while
-  late_downs : (x : ℕ) (rest : List Plan) → x < n → Starts (Follows (takes x (n - 1))) rest → ((t : ℕ) (places : Places) → IsTurn n places x (n - 1 + 1) → IsFirmLate n t places rest)
+  late_downs : (x : ℕ) (rest : List Plan) → x < n → Starts (Follows (takes x (n - 1))) rest
+      → ((t : ℕ) (places : Places) → IsTurn n places x (n - 1 + 1) → IsFirmLate n t places rest)
       → (k a t : ℕ) (places : Places) → 0 < a → a + k ≡ n - 1 + 1 → IsTurn n places x a → IsFirmLate n t places (downs x a k rest)
   late_downs x rest x_in starts then zero a t places some_a sum turn =
       let e : a ≡ n - 1 + 1 = omega arith in
@@ -123,7 +133,8 @@ module _ (n : ℕ) (two : 1 < n) where
       (late_downs x rest x_in starts then k (a + 1) (t + 1) (firm_decided n t places (takes x a)).places (omega arith) (omega arith) next)
 
   -- after the slot in which input x takes output 0, it is the next input's turn
-  next_turn : (k x a t : ℕ) (places : Places) → 0 < x → x + suc k ≡ n → IsTurn n places x a → IsFirmStep n t places (hands x (whose (x + 1) k)) → IsTurn n (firm_decided n t places (hands x (whose (x + 1) k))).places (whose (x + 1) k) 1
+  next_turn : (k x a t : ℕ) (places : Places) → 0 < x → x + suc k ≡ n → IsTurn n places x a → IsFirmStep n t places (hands x (whose (x + 1) k))
+      → IsTurn n (firm_decided n t places (hands x (whose (x + 1) k))).places (whose (x + 1) k) 1
   next_turn zero x a t places some_x sum turn step =
       let round : (x + 1) % n ≡ 0 = mod_once n (x + 1) (omega arith) (omega arith) ∙ omega arith in
       record {
@@ -171,6 +182,7 @@ abbrev openings : ℕ → ℕ → List Plan → List Plan
 openings x zero rest = hands 0 1 ∷ rest
 openings x (suc k) rest = ends x ∷ openings (x + 1) k rest
 
+-- the opening is at line rate
 follows_openings : (x k : ℕ) (rest : List Plan) → Starts (Follows (ends x)) (openings (x + 1) k rest)
 follows_openings x zero rest = ends_hands x 1
 follows_openings x (suc k) rest = ends_ends x
@@ -186,7 +198,9 @@ record IsOpened (n : ℕ) (places : Places) (x : ℕ) : Type 0 where
   accepts : (i : ℕ) → i < x → accept_of places i 0 ≡ 1
 
 module _ (n : ℕ) (two : 1 < n) (rest : List Plan) (starts : Starts (Follows (hands 0 1)) rest) where
-  opens : (k x t : ℕ) (places : Places) → x + k ≡ n → IsOpened n places x → (after : Places) × IsTurn n after 1 1 × LeadsBy n (firm_decided n) t places (openings x k rest) (suc k) after rest
+  -- the opening leads to where the window begins
+  opens : (k x t : ℕ) (places : Places) → x + k ≡ n → IsOpened n places x
+      → (after : Places) × IsTurn n after 1 1 × LeadsBy n (firm_decided n) t places (openings x k rest) (suc k) after rest
   opens zero x t places sum opened =
       let same : x ≡ n = omega arith in
       let some : 0 < n = omega arith in
@@ -223,6 +237,7 @@ module _ (n : ℕ) (two : 1 < n) (rest : List Plan) (starts : Starts (Follows (h
       let later = opens k (x + 1) (t + 1) after (omega arith) next in
       (later.0, later.1, leads_before n (firm_decided n) t places (ends x) (openings (x + 1) k rest) (suc k) later.0 rest step.serves (follows_openings x k rest) later.2)
 
+  -- all pointers are at port 0 at first
   IsOpened-at_first : n ≤ MAX_PORTS → IsOpened n (places_at_first n) 0
   unfolding places_at_first
   IsOpened-at_first size = record {
@@ -232,12 +247,14 @@ module _ (n : ℕ) (two : 1 < n) (rest : List Plan) (starts : Starts (Follows (h
   }
 
 -- so many slots from slot `count` on, which is slot n + 1
-counted : (n count : ℕ) (rest : List Plan) → length rest ≡ n * n → count ≡ n + 1 → (slots : List DecidedSlot) × ComesLastByFirmAtLineRate n 1 count slots × (length (drop count slots) ≡ length rest)
+counted : (n count : ℕ) (rest : List Plan) → length rest ≡ n * n → count ≡ n + 1
+    → (slots : List DecidedSlot) × ComesLastByFirmAtLineRate n 1 count slots × (length (drop count slots) ≡ length rest)
     → (slots : List DecidedSlot) × ComesLastByFirmAtLineRate n 1 (n + 1) slots × (length (drop (n + 1) slots) ≡ n * n)
 counted n count rest long e all = subst (λ m. (slots : List DecidedSlot) × ComesLastByFirmAtLineRate n 1 m slots × (length (drop m slots) ≡ n * n)) e (all.0, all.1, all.2 ∙ long)
 
 -- the turns of all inputs come at line rate
-pub firm_comes_at_line_rate : (n : ℕ) → 1 < n → n ≤ MAX_PORTS → (slots : List DecidedSlot) × ComesLastByFirmAtLineRate n 1 (n + 1) slots × (length (drop (n + 1) slots) ≡ n * n)
+pub firm_comes_at_line_rate : (n : ℕ) → 1 < n → n ≤ MAX_PORTS
+    → (slots : List DecidedSlot) × ComesLastByFirmAtLineRate n 1 (n + 1) slots × (length (drop (n + 1) slots) ≡ n * n)
 firm_comes_at_line_rate n two size =
     let rest = turns n 1 (n - 1) in
     let e : n - 1 ≡ suc (n - 2) = omega arith in

@@ -40,6 +40,7 @@ pub record IsFirmStep (n t : ℕ) (places : Places) (p : Plan) : Type 0 where
 slot_decided : (n t : ℕ) (places : Places) (p : Plan) → IsSwitch n places → IsFirmSlot n 1 t (rows_of n p) places (firm_decided n t places p)
 slot_decided n t places p switch = IsFirmSlot-firm_decision n t (rows_of n p) places (AreWithin-rows n p) switch.at_ports switch.ports 1
 
+-- after the slot the pointers are at ports again
 pub IsSwitch-after_firm : (n t : ℕ) (places : Places) (p : Plan) → IsSwitch n places → IsSwitch n (firm_decided n t places p).places
 IsSwitch-after_firm n t places p switch =
     let moved = (slot_decided n t places p switch).moved in
@@ -49,31 +50,40 @@ IsSwitch-after_firm n t places p switch =
     }
 
 module _ (n t : ℕ) (places : Places) (p : Plan) (some : 0 < n) (switch : IsSwitch n places) (suits : Suits n places p) where
+  -- the slot
   now : IsFirmSlot n 1 t (rows_of n p) places (firm_decided n t places p)
   now = slot_decided n t places p switch
 
+  -- what its first round matches
   First : List (Option Fed)
   First = first_of n now.steps
 
+  -- the slot begins with that round
   begins : BeginsWith n t (rows_of n p) places First (firm_decided n t places p).matched
   unfolding First
   begins = BeginsWith-slot n t (rows_of n p) places AreMovedByFirm 1 (firm_decided n t places p) (omega arith) now
 
+  -- how it moves the pointers
   moves : AreMovedByFirm n t (rows_of n p) First (firm_decided n t places p).matched places (firm_decided n t places p).places
   unfolding First
   moves = now.moved
 
+  -- with one round that is all of the match
   first_is : First ≡ (firm_decided n t places p).matched
   unfolding First
   first_is = one_is_first n now.steps now.count ∙ sym now.result
 
+  -- the first round serves the pairs of the plan
   served : (i j : ℕ) → In i j p.serves → Serves First i j 0 Uni
   served = served_it n t p places some switch suits First begins.opening
 
+  -- and no others
   only : (i j level : ℕ) (kind : Kind) → Serves First i j level kind → In i j p.serves
   only = only_it n t p places some switch suits First begins.opening
 
-  pair_moves : (i j : ℕ) → In i j p.serves → (grant_of (firm_decided n t places p).places j 0 ≡ (i + 1) % n) × (accept_of (firm_decided n t places p).places i 0 ≡ (j + 1) % n)
+  -- a pair moves its two pointers one beyond each other
+  pair_moves : (i j : ℕ) → In i j p.serves
+      → (grant_of (firm_decided n t places p).places j 0 ≡ (i + 1) % n) × (accept_of (firm_decided n t places p).places i 0 ≡ (j + 1) % n)
   pair_moves i j is =
       paired n t (rows_of n p) places (AreWithin-rows n p) switch.at_ports switch.ports First (firm_decided n t places p).matched (firm_decided n t places p).places begins.opening moves i j 0 (served i j is)
 
@@ -89,7 +99,9 @@ module _ (n t : ℕ) (places : Places) (p : Plan) (some : 0 < n) (switch : IsSwi
   }
 
 -- ---- runs
-IsSchedule-run : (n t : ℕ) (places : Places) (ps : List Plan) → IsSwitch n places → IsScheduleBy AreMovedByFirm n 1 t places (run n (firm_decided n) t places ps)
+-- the run is a schedule
+IsSchedule-run : (n t : ℕ) (places : Places) (ps : List Plan) → IsSwitch n places
+    → IsScheduleBy AreMovedByFirm n 1 t places (run n (firm_decided n) t places ps)
 IsSchedule-run n t places [] switch = tt
 IsSchedule-run n t places (p ∷ ps) switch = (slot_decided n t places p switch, IsSchedule-run n (t + 1) (firm_decided n t places p).places ps (IsSwitch-after_firm n t places p switch))
 
@@ -98,7 +110,8 @@ abbrev pub IsFirmLate : ℕ → ℕ → Places → List Plan → Type 0
 IsFirmLate n = IsLateBy n (firm_decided n)
 
 -- one slot more in front, which does not serve the queue
-pub IsFirmLate-before : (n t : ℕ) (places : Places) (p : Plan) (ps : List Plan) → IsFirmStep n t places p → Starts (Follows p) ps → (In 0 0 p.serves → ⊥) → IsFirmLate n (t + 1) (firm_decided n t places p).places ps → IsFirmLate n t places (p ∷ ps)
+pub IsFirmLate-before : (n t : ℕ) (places : Places) (p : Plan) (ps : List Plan) → IsFirmStep n t places p → Starts (Follows p) ps → (In 0 0 p.serves → ⊥)
+    → IsFirmLate n (t + 1) (firm_decided n t places p).places ps → IsFirmLate n t places (p ∷ ps)
 IsFirmLate-before n t places p ps step follows left late = IsLateBy-before n (firm_decided n) t places p ps step.serves follows (λ served. left (step.only 0 0 0 Uni served)) late
 
 -- the last slot, which serves it
@@ -106,7 +119,8 @@ pub IsFirmLate-last : (n t : ℕ) (places : Places) (p : Plan) → IsFirmStep n 
 IsFirmLate-last n t places p step served = IsLateBy-last n (firm_decided n) t places p step.serves served
 
 -- What is late from pointers of a switch is a window in which queue (0, 0) is served in the last slot alone.
-IsServedLast-run : (n t : ℕ) (places : Places) (ps : List Plan) → IsSwitch n places → IsFirmLate n t places ps → IsServedLastByFirm n 1 t 0 0 0 places (run n (firm_decided n) t places ps)
+IsServedLast-run : (n t : ℕ) (places : Places) (ps : List Plan) → IsSwitch n places → IsFirmLate n t places ps
+    → IsServedLastByFirm n 1 t 0 0 0 places (run n (firm_decided n) t places ps)
 IsServedLast-run n t places ps switch late =
     let some : 0 < n = subst (λ m. 0 < m) switch.ports switch.at_ports.some in
     record {
@@ -125,7 +139,8 @@ IsServedLast-run n t places ps switch late =
     }
 
 -- what is late from where the first slots lead comes in a schedule at line rate, from all pointers at port 0 on
-pub firm_comes : (n count : ℕ) (ps : List Plan) (after : Places) (rest : List Plan) → IsSwitch n (places_at_first n) → Starts IsOneEach ps → LeadsBy n (firm_decided n) 0 (places_at_first n) ps count after rest → IsSwitch n after → IsFirmLate n count after rest
+pub firm_comes : (n count : ℕ) (ps : List Plan) (after : Places) (rest : List Plan) → IsSwitch n (places_at_first n) → Starts IsOneEach ps
+    → LeadsBy n (firm_decided n) 0 (places_at_first n) ps count after rest → IsSwitch n after → IsFirmLate n count after rest
     → (slots : List DecidedSlot) × ComesLastByFirmAtLineRate n 1 count slots × (length (drop count slots) ≡ length rest)
 firm_comes n count ps after rest switch one leads later late =
     let from = places_at_first n in

@@ -26,6 +26,7 @@ takes_takes x a = record {
   apart = one_apart x (a + 1);
 }
 
+-- after the last output
 pub takes_passes : (x a : ℕ) → Follows (takes x a) (passes x)
 takes_passes x a = record {
   kept = (inr (inl (refl, refl)), (inr (inr (inl (refl, refl))), (inl (inl (refl, refl)), tt)));
@@ -34,6 +35,7 @@ takes_passes x a = record {
   apart = one_apart 0 1;
 }
 
+-- before output 2
 pub passes_takes : (x : ℕ) → Follows (passes x) (takes 0 2)
 passes_takes x = record {
   kept = (inr (inl (refl, refl)), (inl (inl (refl, refl)), (inl (inr (inl (refl, refl))), tt)));
@@ -42,6 +44,7 @@ passes_takes x = record {
   apart = one_apart 0 2;
 }
 
+-- before the last slot
 pub takes_ends : (a : ℕ) → Follows (takes 0 a) (ends 0)
 takes_ends a = record {
   kept = (inr (inl (refl, refl)), (inr (inl (refl, refl)), (inl (inl (refl, refl)), tt)));
@@ -59,6 +62,7 @@ passes_crosses x y some = record {
   apart = three_apart y (x + 1) (omega arith);
 }
 
+-- in the last slot of input 0 the next input begins to ask output 1
 pub takes_crosses : (a x y : ℕ) → 0 < x → Follows (takes 0 a) (crosses y (x + 1) 1)
 takes_crosses a x y some = record {
   kept = (inr (inl (refl, refl)), (inr (inl (refl, refl)), (inl (inl (refl, refl)), tt)));
@@ -67,6 +71,7 @@ takes_crosses a x y some = record {
   apart = three_apart y (x + 1) (omega arith);
 }
 
+-- and then output 0
 pub crosses_takes : (y x v : ℕ) → Follows (crosses y x v) (takes x v)
 crosses_takes y x v = record {
   kept = (inr (inl (refl, refl)), (inl (inl (refl, refl)), (inl (inr (inl (refl, refl))), (inr (inr (inr (inl (refl, refl)))), tt))));
@@ -84,6 +89,7 @@ ends_ends x = record {
   apart = one_apart (x + 1) 0;
 }
 
+-- input 0 takes output 0 once more
 pub ends_zero : (x : ℕ) → Follows (ends x) (ends 0)
 ends_zero x = record {
   kept = (inr (inl (refl, refl)), (inl (inl (refl, refl)), tt));
@@ -92,6 +98,7 @@ ends_zero x = record {
   apart = tt;
 }
 
+-- the window begins
 pub ends_takes : Follows (ends 0) (takes 0 1)
 ends_takes = record {
   kept = (inr (inl (refl, refl)), (inr (inl (refl, refl)), tt));
@@ -109,6 +116,7 @@ takes_both a y = record {
   apart = two_apart y 2;
 }
 
+-- the request of input 1 for output 2 stands on
 pub both_crosses : (a y : ℕ) → Follows (both a) (crosses y 1 2)
 both_crosses a y = record {
   kept = (inr (inl (refl, refl)), (inl (inl (refl, refl)), (inl (inr (inl (refl, refl))), tt)));
@@ -126,6 +134,7 @@ takes_wins a y = record {
   apart = two_apart y y;
 }
 
+-- the request of input 1 for output 2 stands on
 pub wins_crosses : (a y : ℕ) → Follows (wins a) (crosses y 1 a)
 wins_crosses a y = record {
   kept = (inr (inl (refl, refl)), (inl (inl (refl, refl)), (inr (inr (inr (inr (inl (refl, refl))))), tt)));
@@ -143,6 +152,7 @@ ends_wins y = record {
   apart = two_apart y y;
 }
 
+-- the request of input 1 for output 1 stands on, and it begins to ask output 0
 pub wins_crosses_zero : (y : ℕ) → Follows (wins 1) (crosses y 1 0)
 wins_crosses_zero y = record {
   kept = (inr (inl (refl, refl)), (inl (inl (refl, refl)), (inr (inr (inr (inl (refl, refl)))), tt)));
@@ -151,6 +161,7 @@ wins_crosses_zero y = record {
   apart = two_apart y 0;
 }
 
+-- and then output 2
 pub crosses_zero_takes : (y : ℕ) → Follows (crosses y 1 0) (takes 1 2)
 crosses_zero_takes y = record {
   kept = (inr (inl (refl, refl)), (inl (inl (refl, refl)), (inl (inr (inl (refl, refl))), (inr (inr (inl (refl, refl))), tt))));

@@ -13,4 +13,5 @@ pub mod MoreShapes
 pub mod MoreFollowings
 pub mod MoreRoundsFamily
 pub mod MoreLevels
+pub mod ThreePorts
 pub mod MoreOpenings

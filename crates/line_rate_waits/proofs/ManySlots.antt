@@ -32,9 +32,11 @@ pub record IsManyStep (rounds n t : ℕ) (places : Places) (p : Plan) : Type 0 w
   pub accept_stays : (i : ℕ) → ((j : ℕ) → In i j p.serves → ⊥) → accept_of (decided_in rounds n t places p).places i 0 ≡ accept_of places i 0
 
 -- a slot of the plan, whatever it is
-pub slot_decided_in : (rounds n t : ℕ) (places : Places) (p : Plan) → IsSwitch n places → IsSlot n rounds t (rows_of n p) places (decided_in rounds n t places p)
+pub slot_decided_in : (rounds n t : ℕ) (places : Places) (p : Plan) → IsSwitch n places
+    → IsSlot n rounds t (rows_of n p) places (decided_in rounds n t places p)
 slot_decided_in rounds n t places p switch = IsSlot-decision_of n t (rows_of n p) places (AreWithin-rows n p) switch.at_ports switch.ports rounds
 
+-- after the slot the pointers are at ports again
 pub IsSwitch-after_in : (rounds n t : ℕ) (places : Places) (p : Plan) → IsSwitch n places → IsSwitch n (decided_in rounds n t places p).places
 IsSwitch-after_in rounds n t places p switch =
     record {
@@ -57,23 +59,29 @@ pub record IsSecond (n : ℕ) (places : Places) (p : Plan) (w : ℕ) : Type 0 wh
   pub lone : Each (λ z y. z ≡ w → y ≡ 0) (asked p)
 
 module _ (rounds n t : ℕ) (places : Places) (p : Plan) (some : 0 < n) (switch : IsSwitch n places) (suits : Suits n places p) (some_rounds : 0 < rounds) where
+  -- the slot
   now : IsSlot n rounds t (rows_of n p) places (decided_in rounds n t places p)
   now = slot_decided_in rounds n t places p switch
 
+  -- what its first round matches
   First : List (Option Fed)
   First = first_of n now.steps
 
+  -- the slot begins with that round
   begins : BeginsWith n t (rows_of n p) places First (decided_in rounds n t places p).matched
   unfolding First
   begins = BeginsWith-slot n t (rows_of n p) places AreMoved rounds (decided_in rounds n t places p) some_rounds now
 
+  -- how it moves the pointers
   moves : AreMoved n t (rows_of n p) First (decided_in rounds n t places p).matched places (decided_in rounds n t places p).places
   unfolding First
   moves = now.moved
 
+  -- the first round serves the pairs of the plan
   served : (i j : ℕ) → In i j p.serves → Serves First i j 0 Uni
   served = served_it n t p places some switch suits First begins.opening
 
+  -- and no others
   only : (i j level : ℕ) (kind : Kind) → Serves First i j level kind → In i j p.serves
   only = only_it n t p places some switch suits First begins.opening
 
@@ -87,6 +95,7 @@ module _ (rounds n t : ℕ) (places : Places) (p : Plan) (some : 0 < n) (switch 
     accept_stays = λ i nothing. moves.accept_stays i 0 (λ j s. nothing j (only i j 0 Uni s));
   }
 
+  -- the match is one
   whole : IsMatch n (decided_in rounds n t places p).matched
   whole = IsMatch-slot n rounds t (rows_of n p) places (AreWithin-rows n p) switch.at_ports switch.ports (decided_in rounds n t places p) now
 

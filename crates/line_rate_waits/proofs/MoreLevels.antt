@@ -16,14 +16,17 @@ use Rattle.line_rate_waits.proofs.OneRoundFamily.{downs, starts_more}
 use Rattle.line_rate_waits.proofs.MoreRoundsFamily.{before, before_other, climbs, level, backs, levels, body, starts_sharings, starts_more_sharings, starts_levels, starts_lowers, IsBase, IsLateIn, late_shares, late_level, late_resets}
 
 module _ (rounds n l : ℕ) (two : 1 < rounds) (sum : l + 1 ≡ n) (high : 2 < l) where
+  -- there are ports
   some : 0 < n
   some = omega arith
 
+  -- there are rounds
   some_rounds : 0 < rounds
   some_rounds = omega arith
 
   -- input 0 takes output y
-  pub late_takes : (p low above b y t : ℕ) (places : Places) (rest : List Plan) → 0 < low → 0 < y → y < n → IsBase n places p low above b → accept_of places 0 0 ≡ y → Starts (Follows (takes 0 y)) rest
+  pub late_takes : (p low above b y t : ℕ) (places : Places) (rest : List Plan) → 0 < low → 0 < y → y < n → IsBase n places p low above b
+      → accept_of places 0 0 ≡ y → Starts (Follows (takes 0 y)) rest
       → ((after : Places) → IsBase n after p low above b → accept_of after 0 0 ≡ (y + 1) % n → grant_of after y 0 ≡ 1 → ((j : ℕ) → (j ≡ y → ⊥) → grant_of after j 0 ≡ grant_of places j 0) → IsLateIn rounds n (t + 1) after rest)
       → IsLateIn rounds n t places (takes 0 y ∷ rest)
   late_takes p low above b y t places rest some_low some_y y_in base at starts then =
@@ -67,14 +70,15 @@ module _ (rounds n l : ℕ) (two : 1 < rounds) (sum : l + 1 ≡ n) (high : 2 < l
       then t places (subst (λ v. IsBase n places p v n 2) d base) (at ∙ e) (λ yes. held (omega arith))
   late_backs p w stop rest some_w stop_in starts then (suc k) y t places more all w_in base at held =
       let d : w + suc k ≡ w + k + 1 = omega arith in
-      late_resets rounds n l two sum high p y (w + k) t places (backs w (y + 1) k rest) more (omega arith) (omega arith) (omega arith) (subst (λ v. IsBase n places p v n 2) d base) at held (follows k all)
+      late_resets rounds n l two sum (omega arith) p y (w + k) t places (backs w (y + 1) k rest) more (omega arith) (omega arith) (omega arith) (subst (λ v. IsBase n places p v n 2) d base) at held (follows k all)
       (λ after next at held. late_backs p w stop rest some_w stop_in starts then k (y + 1) (t + 1) after (omega arith) (omega arith) (omega arith) next at held) where
         follows : (k : ℕ) → y + suc k ≡ stop → Starts (Follows (resets y (w + k))) (backs w (y + 1) k rest)
         follows zero all = starts y (w + 0) (omega arith)
         follows (suc k) all = resets_resets y (w + suc k) (y + 1) (w + k) (omega arith)
 
   -- input 0 takes the last output, and input 1 output 2, so that the last input's request for it waits
-  late_readies : (p w t : ℕ) (places : Places) (rest : List Plan) → 1 < w → IsBase n places p w n 2 → accept_of places 0 0 ≡ l → grant_of places 2 0 ≡ 1 → Starts (Follows (readies l)) rest
+  late_readies : (p w t : ℕ) (places : Places) (rest : List Plan) → 1 < w → IsBase n places p w n 2 → accept_of places 0 0 ≡ l → grant_of places 2 0 ≡ 1
+      → Starts (Follows (readies l)) rest
       → ((after : Places) → IsBase n after p w n 2 → IsLateIn rounds n (t + 1) after rest) → IsLateIn rounds n t places (readies l ∷ rest)
   late_readies p w t places rest beyond base at held starts then =
       let it = readies l in
@@ -89,7 +93,8 @@ module _ (rounds n l : ℕ) (two : 1 < rounds) (sum : l + 1 ≡ n) (high : 2 < l
       }))
 
   -- the same while input 2 takes output 1
-  late_readies_too : (p t : ℕ) (places : Places) (rest : List Plan) → IsBase n places p 3 n 2 → accept_of places 0 0 ≡ l → grant_of places 2 0 ≡ 1 → Starts (Follows (readies_too l 2)) rest
+  late_readies_too : (p t : ℕ) (places : Places) (rest : List Plan) → IsBase n places p 3 n 2 → accept_of places 0 0 ≡ l → grant_of places 2 0 ≡ 1
+      → Starts (Follows (readies_too l 2)) rest
       → ((after : Places) → IsBase n after p 2 n 2 → IsLateIn rounds n (t + 1) after rest) → IsLateIn rounds n t places (readies_too l 2 ∷ rest)
   late_readies_too p t places rest base at held starts then =
       let it = readies_too l 2 in
@@ -119,9 +124,9 @@ module _ (rounds n l : ℕ) (two : 1 < rounds) (sum : l + 1 ≡ n) (high : 2 < l
   late_enters p k rest some_p all starts then t places base =
       let u = before p k in
       let narrow : IsBase n places p p l 2 = record { switch = base.switch; grant = base.grant; fresh = λ i i_low i_high. base.fresh i i_low (omega arith) } in
-      late_shares rounds n l two sum high p p l 2 l 2 t places (level l p 2 k rest) (omega arith) (omega arith) (omega arith) (omega arith) (inr (omega arith)) (omega arith) high narrow (base.fresh l (omega arith) (omega arith))
+      late_shares rounds n l two sum (omega arith) p p l 2 l 2 t places (level l p 2 k rest) (omega arith) (omega arith) (omega arith) (omega arith) (inr (omega arith)) (omega arith) high narrow (base.fresh l (omega arith) (omega arith))
       (starts_sharings (Follows (shares l l 2)) l l (2 + 1) (l - (2 + 1)) (closes l l 2 u ∷ climbs l p 2 k (passes p ∷ rest)) (shares_shares l l 2) (shares_closes l l 2 2 u (omega arith) (before_other p k l (omega arith) (sym all))))
-      (λ after next at granted stays. late_level rounds n l two sum high p 2 k rest (omega arith) all (omega arith) high starts then (t + 1) after next at granted)
+      (λ after next at granted stays. late_level rounds n l two sum (omega arith) p 2 k rest (omega arith) all (omega arith) high starts then (t + 1) after next at granted)
 
   -- the slot of input p is followed by slots in which others take output 1
   starts_passes : (p w k : ℕ) (rest : List Plan) → 0 < k → 0 < w → Starts (Follows (passes p)) (backs w 2 k rest)
@@ -156,10 +161,11 @@ module _ (rounds n l : ℕ) (two : 1 < rounds) (sum : l + 1 ≡ n) (high : 2 < l
       t places base
 
   -- all levels
-  late_body : (t : ℕ) (places : Places) → IsBase n places 1 1 l 1 → accept_of places l 0 ≡ 2 → grant_of places 1 0 ≡ (l + 1) % n → IsLateIn rounds n t places (body l)
+  late_body : (t : ℕ) (places : Places) → IsBase n places 1 1 l 1 → accept_of places l 0 ≡ 2 → grant_of places 1 0 ≡ (l + 1) % n
+      → IsLateIn rounds n t places (body l)
   late_body t places base at held =
       let rest = readies_too l 2 ∷ levels l 2 (l - 2) in
-      late_level rounds n l two sum high 1 1 (l - 1) (backs 3 2 (l - 2) rest) (omega arith) (omega arith) (omega arith) (omega arith) (starts_passes 1 3 (l - 2) rest (omega arith) (omega arith))
+      late_level rounds n l two sum (omega arith) 1 1 (l - 1) (backs 3 2 (l - 2) rest) (omega arith) (omega arith) (omega arith) (omega arith) (starts_passes 1 3 (l - 2) rest (omega arith) (omega arith))
       (λ t after next at.
       let e : n ≡ 3 + (l - 2) = omega arith in
       late_backs 2 3 l rest (omega arith) (omega arith) (λ y v stop. resets_readies_too y v l 2 (omega arith) high)
@@ -169,7 +175,8 @@ module _ (rounds n l : ℕ) (two : 1 < rounds) (sum : l + 1 ≡ n) (high : 2 < l
       t places base at held
 
   -- the slot before the levels, in which the last input's request for output 2 waits
-  pub late_crosses : (t : ℕ) (places : Places) → IsBase n places 1 1 l 1 → accept_of places 0 0 ≡ l → distance n (accept_of places l 0) 1 ≤ distance n (accept_of places l 0) 2 → IsLateIn rounds n t places (crosses_by l l ∷ body l)
+  pub late_crosses : (t : ℕ) (places : Places) → IsBase n places 1 1 l 1 → accept_of places 0 0 ≡ l
+      → distance n (accept_of places l 0) 1 ≤ distance n (accept_of places l 0) 2 → IsLateIn rounds n t places (crosses_by l l ∷ body l)
   late_crosses t places base at near =
       let it = crosses_by l l in
       let suits = suits_crosses_by n places l l high (omega arith) (omega arith) (omega arith) at near in

@@ -27,6 +27,7 @@ use Rattle.line_rate_waits.proofs.Followings.{ends_ends, ends_zero, ends_takes}
 use Rattle.line_rate_waits.proofs.MoreFollowings.{takes_both_by, both_by_crosses, takes_wins_by, wins_by_crosses}
 use Rattle.line_rate_waits.proofs.OneRoundFamily.{downs, length-downs, starts_more}
 use Rattle.line_rate_waits.proofs.MoreRoundsFamily.{sharings, goes, before, climbs, level, backs, levels, body, IsBase, IsLateIn}
+use Rattle.line_rate_waits.proofs.ThreePorts.{three, late_three, ends_wins_by}
 use Rattle.line_rate_waits.proofs.MoreLevels.{late_takes, late_lowers, late_crosses}
 
 -- ---- how many slots these are
@@ -34,9 +35,11 @@ length-sharings : (l x k y : ℕ) (rest : List Plan) → length (sharings l x y 
 length-sharings l x zero y rest = omega arith
 length-sharings l x (suc k) y rest = let e = length-sharings l x k (y + 1) rest in omega arith
 
+-- going down
 length-goes : (l x f u : ℕ) (rest : List Plan) → length (goes l x f u rest) ≡ l - (f + 1) + 1 + length rest
 length-goes l x f u rest = let e = length-sharings l x (l - (f + 1)) (f + 1) (closes l x f u ∷ rest) in omega arith
 
+-- the inputs of a level but the last
 length-climbs : (l p f k : ℕ) (rest : List Plan) → length (climbs l p f k rest) ≡ k * (l - (f + 1) + 2) + length rest
 length-climbs l p f zero rest = omega arith
 length-climbs l p f (suc k) rest =
@@ -44,12 +47,14 @@ length-climbs l p f (suc k) rest =
     let more = length-climbs l p f k rest in
     omega arith
 
+-- a level
 length-level : (l p f k : ℕ) (rest : List Plan) → length (level l p f k rest) ≡ l - (f + 1) + 1 + (k * (l - (f + 1) + 2) + (1 + length rest))
 length-level l p f k rest =
     let first = length-goes l l f (before p k) (climbs l p f k (passes p ∷ rest)) in
     let more = length-climbs l p f k (passes p ∷ rest) in
     omega arith
 
+-- the way back
 length-backs : (p k y : ℕ) (rest : List Plan) → length (backs p y k rest) ≡ k + length rest
 length-backs p zero y rest = omega arith
 length-backs p (suc k) y rest = let e = length-backs p k (y + 1) rest in omega arith
@@ -72,12 +77,15 @@ twice_levels m l e more (suc k) p few =
     let later = twice_levels m l e more k (p + 1) (omega arith) in
     omega (arith, one_too, two, three, later)
 
-sum-is : (j l b s : ℕ) → l ≡ j + 2 → b ≡ j + 1 + ((j + 1) * (j + 2) + (1 + (j + (1 + s)))) → 2 * s ≡ 2 * ((j + 1) * (2 * (j + 1) + 1)) + (j + 1) * (j * (j + 1)) + 2 → 2 * (l + b + 1) ≡ (l + 1) * ((l + 1) * (l + 1) - (l + 1) + 2)
+-- their sum, doubled
+sum-is : (j l b s : ℕ) → l ≡ j + 2 → b ≡ j + 1 + ((j + 1) * (j + 2) + (1 + (j + (1 + s))))
+    → 2 * s ≡ 2 * ((j + 1) * (2 * (j + 1) + 1)) + (j + 1) * (j * (j + 1)) + 2 → 2 * (l + b + 1) ≡ (l + 1) * ((l + 1) * (l + 1) - (l + 1) + 2)
 sum-is j l b s el eb es =
     let inner : (l + 1) * (l + 1) - (l + 1) ≡ j * j + 5 * j + 6 = rw el (omega arith) in
     let right : (l + 1) * ((l + 1) * (l + 1) - (l + 1) + 2) ≡ (j + 3) * (j * j + 5 * j + 8) = ap (λ v. (l + 1) * (v + 2)) inner ∙ rw el (omega arith) in
     omega (arith, el, eb, es, right)
 
+-- a number by its double
 halved : (a b : ℕ) → 2 * a ≡ b → a ≡ b / 2
 halved a b e = omega arith
 
@@ -113,6 +121,7 @@ record IsBeginning (n : ℕ) (places : Places) : Type 0 where
   at : accept_of places 0 0 ≡ 1
   others : (m : ℕ) → 0 < m → grant_of places m 0 ≡ 0
 
+-- it is late from the beginning
 late_five : (rounds n l t : ℕ) (places : Places) → 1 < rounds → l + 1 ≡ n → 3 < l → IsBeginning n places → IsLateIn rounds n t places (five l)
 late_five rounds n l t places two sum high begins =
     let it = both_by (l - 1) l in
@@ -134,6 +143,7 @@ late_five rounds n l t places two sum high begins =
     }) last (omega arith)))
     (l - 2) 1 t places (omega arith) (omega arith) begins.base (begins.at ∙ sym (mod-eq_of_lt (omega arith))) (λ none. absurd (omega arith))
 
+-- it is late from the beginning
 late_four : (rounds t : ℕ) (places : Places) → 1 < rounds → IsBeginning 4 places → IsLateIn rounds 4 t places four
 late_four rounds t places two begins =
     let it = wins_by 2 3 in
@@ -165,6 +175,7 @@ starts_openings : (x k : ℕ) (rest : List Plan) → Starts IsOneEach (openings 
 starts_openings x zero rest = ((λ e. refl, (λ e. refl, tt)), ((λ e. refl, (λ e. refl, tt)), tt))
 starts_openings x (suc k) rest = ((λ e. refl, (λ e. refl, tt)), ((λ e. refl, (λ e. refl, tt)), tt))
 
+-- the opening is at line rate
 follows_openings : (x k : ℕ) (rest : List Plan) → Starts (Follows (ends x)) (openings (x + 1) k rest)
 follows_openings x zero rest = ends_zero x
 follows_openings x (suc k) rest = ends_ends x
@@ -176,12 +187,15 @@ record IsOpened (n : ℕ) (places : Places) (x : ℕ) : Type 0 where
   others : (y : ℕ) → 0 < y → grant_of places y 0 ≡ 0
   accepts : (i : ℕ) → i < x → accept_of places i 0 ≡ 1
 
-IsSchedule-run : (rounds n t : ℕ) (places : Places) (ps : List Plan) → IsSwitch n places → IsSchedule n rounds t places (run n (decided_in rounds n) t places ps)
+-- the run is a schedule
+IsSchedule-run : (rounds n t : ℕ) (places : Places) (ps : List Plan) → IsSwitch n places
+    → IsSchedule n rounds t places (run n (decided_in rounds n) t places ps)
 IsSchedule-run rounds n t places [] switch = tt
 IsSchedule-run rounds n t places (p ∷ ps) switch = (slot_decided_in rounds n t places p switch, IsSchedule-run rounds n (t + 1) (decided_in rounds n t places p).places ps (IsSwitch-after_in rounds n t places p switch))
 
 -- What is late from pointers of a switch is a window in which queue (0, 0) is served in the last slot alone.
-IsServedLast-run : (rounds n t : ℕ) (places : Places) (ps : List Plan) → IsSwitch n places → IsLateIn rounds n t places ps → IsServedLast n rounds t 0 0 0 places (run n (decided_in rounds n) t places ps)
+IsServedLast-run : (rounds n t : ℕ) (places : Places) (ps : List Plan) → IsSwitch n places → IsLateIn rounds n t places ps
+    → IsServedLast n rounds t 0 0 0 places (run n (decided_in rounds n) t places ps)
 IsServedLast-run rounds n t places ps switch late =
     let some : 0 < n = subst (λ m. 0 < m) switch.ports switch.at_ports.some in
     let rule = decided_in rounds n in
@@ -201,7 +215,9 @@ IsServedLast-run rounds n t places ps switch late =
     }
 
 module _ (rounds n : ℕ) (two : 1 < rounds) (ports : 1 < n) (rest : List Plan) (starts : Starts (Follows (ends 0)) rest) where
-  opens : (k x t : ℕ) (places : Places) → x + k ≡ n → IsOpened n places x → (after : Places) × IsBeginning n after × LeadsBy n (decided_in rounds n) t places (openings x k rest) (suc k) after rest
+  -- the opening leads to where the window begins
+  opens : (k x t : ℕ) (places : Places) → x + k ≡ n → IsOpened n places x
+      → (after : Places) × IsBeginning n after × LeadsBy n (decided_in rounds n) t places (openings x k rest) (suc k) after rest
   opens zero x t places sum opened =
       let same : x ≡ n = omega arith in
       let round : x % n ≡ 0 = ap (λ v. v % n) same ∙ mod_once n n (omega arith) (omega arith) ∙ omega arith in
@@ -235,6 +251,7 @@ module _ (rounds n : ℕ) (two : 1 < rounds) (ports : 1 < n) (rest : List Plan) 
       let later = opens k (x + 1) (t + 1) after (omega arith) next in
       (later.0, later.1, leads_before n (decided_in rounds n) t places (ends x) (openings (x + 1) k rest) (suc k) later.0 rest step.serves (follows_openings x k rest) later.2)
 
+  -- all pointers are at port 0 at first
   IsOpened-at_first : n ≤ MAX_PORTS → IsOpened n (places_at_first n) 0
   unfolding places_at_first
   IsOpened-at_first size = record {
@@ -245,7 +262,8 @@ module _ (rounds n : ℕ) (two : 1 < rounds) (ports : 1 < n) (rest : List Plan) 
   }
 
   -- what is late from where the openings lead comes in a schedule at line rate, from all pointers at port 0 on
-  late_comes : n ≤ MAX_PORTS → ((t : ℕ) (places : Places) → IsBeginning n places → IsLateIn rounds n t places rest) → (slots : List DecidedSlot) × ComesLastAtLineRate n rounds (suc n) slots × (length (drop (suc n) slots) ≡ length rest)
+  late_comes : n ≤ MAX_PORTS → ((t : ℕ) (places : Places) → IsBeginning n places → IsLateIn rounds n t places rest)
+      → (slots : List DecidedSlot) × ComesLastAtLineRate n rounds (suc n) slots × (length (drop (suc n) slots) ≡ length rest)
   late_comes size lates =
       let from = places_at_first n in
       let rule = decided_in rounds n in
@@ -279,12 +297,15 @@ abbrev Reached : ℕ → ℕ → Type 0
 Reached rounds n = (slots : List DecidedSlot) × ComesLastAtLineRate n rounds (n + 1) slots × (length (drop (n + 1) slots) + 1 ≡ longest_service n)
 
 -- so many slots from slot `count` on, which is slot n + 1
-counted : (rounds n count : ℕ) (rest : List Plan) → length rest + 1 ≡ longest_service n → count ≡ n + 1 → (slots : List DecidedSlot) × ComesLastAtLineRate n rounds count slots × (length (drop count slots) ≡ length rest) → Reached rounds n
+counted : (rounds n count : ℕ) (rest : List Plan) → length rest + 1 ≡ longest_service n → count ≡ n + 1
+    → (slots : List DecidedSlot) × ComesLastAtLineRate n rounds count slots × (length (drop count slots) ≡ length rest) → Reached rounds n
 counted rounds n count rest long e all = subst (λ m. (slots : List DecidedSlot) × ComesLastAtLineRate n rounds m slots × (length (drop m slots) + 1 ≡ longest_service n)) e (all.0, all.1, ap (λ v. v + 1) all.2 ∙ long)
 
+-- so many slots are those of five ports or more
 length-five : (l : ℕ) → 3 < l → length (five l) ≡ l + length (body l)
 length-five l high = let all = length-downs 0 (l - 2) 1 (both_by (l - 1) l ∷ crosses_by l l ∷ body l) in omega arith
 
+-- five ports or more
 five_comes : (rounds n : ℕ) → 1 < rounds → 4 < n → n ≤ MAX_PORTS → Reached rounds n
 five_comes rounds n two high size =
     let l = n - 1 in
@@ -293,12 +314,21 @@ five_comes rounds n two high size =
     let long : length (five l) + 1 ≡ longest_service n = ap (λ v. v + 1) (length-five l (omega arith)) ∙ length-all l (omega arith) ∙ ap longest_service sum in
     counted rounds n (suc n) (five l) long (omega arith) (late_comes rounds n two (omega arith) (five l) starts size (λ t places begins. late_five rounds n l t places two sum (omega arith) begins))
 
+-- four ports
 four_comes : (rounds : ℕ) → 1 < rounds → Reached rounds 4
 four_comes rounds two = counted rounds 4 5 four (length-all 3 (omega arith)) refl (late_comes rounds 4 two (omega arith) four ends_takes (omega arith) (λ t places begins. late_four rounds t places two begins))
 
--- for four ports or more
-pub more_come_at_line_rate : (n rounds : ℕ) → 3 < n → n ≤ MAX_PORTS → 1 < rounds → Reached rounds n
+-- three ports
+three_comes : (rounds : ℕ) → 1 < rounds → Reached rounds 3
+three_comes rounds two =
+    counted rounds 3 4 three refl refl (late_comes rounds 3 two (omega arith) three ends_wins_by (omega arith) (λ t places begins. late_three rounds t places two begins.base begins.at (begins.others 1 (omega arith))))
+
+-- for three ports or more
+pub more_come_at_line_rate : (n rounds : ℕ) → 2 < n → n ≤ MAX_PORTS → 1 < rounds → Reached rounds n
 more_come_at_line_rate n rounds high size two = elim (cases_lt 4 n) [
   | inl more ↦ five_comes rounds n two more size
-  | inr few ↦ let e : 4 ≡ n = omega arith in subst (Reached rounds) e (four_comes rounds two)
+  | inr few ↦ elim (cases_lt 3 n) [
+    | inl more ↦ let e : 4 ≡ n = omega arith in subst (Reached rounds) e (four_comes rounds two)
+    | inr fewer ↦ let e : 3 ≡ n = omega arith in subst (Reached rounds) e (three_comes rounds two)
+  ]
 ]

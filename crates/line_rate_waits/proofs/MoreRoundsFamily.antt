@@ -70,29 +70,36 @@ pub starts_sharings : (P : Plan → Type 0) (l x y k : ℕ) (rest : List Plan) �
 starts_sharings P l x y zero rest here starts = starts
 starts_sharings P l x y (suc k) rest here starts = here
 
+-- where there are some
 pub starts_more_sharings : (P : Plan → Type 0) (l x y k : ℕ) (rest : List Plan) → 0 < k → P (shares l x y) → Starts P (sharings l x y k rest)
 starts_more_sharings P l x y zero rest some here = absurd (omega arith)
 starts_more_sharings P l x y (suc k) rest some here = here
 
+-- the input that goes down next is the one before, if there is any
 before_is : (p k : ℕ) → (before p k ≡ 0) ⊎ (before p k + 1 ≡ p + k)
 before_is p zero = inl refl
 before_is p (suc k) = inr (omega arith)
 
+-- and so another
 pub before_other : (p k x : ℕ) → 0 < p → x ≡ p + k → before p k ≡ x → ⊥
 before_other p k x some e same = elim (before_is p k) [ inl none ↦ omega arith | inr next ↦ omega arith ]
 
+-- at the end of an input's slots comes the next one, or the slot of input p
 starts_climbs : (l p f k x : ℕ) (rest : List Plan) → x ≡ p + k → Starts (Follows (closes l x f (before p k))) (climbs l p f k (passes p ∷ rest))
 starts_climbs l p f zero x rest e = let same : x ≡ p = omega arith in subst (λ v. Follows (closes l x f 0) (passes v)) same (closes_passes l x f)
 starts_climbs l p f (suc k) x rest e = closes_joins l x f (p + k) (omega arith)
 
+-- a level begins with the last input
 pub starts_levels : (P : Plan → Type 0) (l p k : ℕ) → P (shares l l 2) → Starts P (levels l p k)
 starts_levels P l p zero here = here
 starts_levels P l p (suc k) here = here
 
+-- the way back goes on
 starts_backs : (y w p k : ℕ) (rest : List Plan) → 0 < p → Starts (Follows (resets y w)) rest → Starts (Follows (resets y w)) (backs p (y + 1) k rest)
 starts_backs y w p zero rest some starts = starts
 starts_backs y w p (suc k) rest some starts = resets_resets y w (y + 1) (p + k) (omega arith)
 
+-- input 0 goes down, or the rest follows
 pub starts_lowers : (P : Plan → Type 0) (a k : ℕ) (rest : List Plan) → P (takes 0 a) → Starts P rest → Starts P (downs 0 a k rest)
 starts_lowers P a zero rest here starts = starts
 starts_lowers P a (suc k) rest here starts = here
@@ -140,15 +147,18 @@ closing n from x u x_in e how = elim how [
 abbrev pub IsLateIn : ℕ → ℕ → ℕ → Places → List Plan → Type 0
 IsLateIn rounds n = IsLateBy n (decided_in rounds n)
 
-module _ (rounds n l : ℕ) (two : 1 < rounds) (sum : l + 1 ≡ n) (high : 2 < l) where
+module _ (rounds n l : ℕ) (two : 1 < rounds) (sum : l + 1 ≡ n) (high : 1 < l) where
+  -- there are ports
   some : 0 < n
   some = omega arith
 
+  -- there are rounds
   some_rounds : 0 < rounds
   some_rounds = omega arith
 
   -- input x takes output y, and input 0 the last one
-  pub late_shares : (p low above b x y t : ℕ) (places : Places) (rest : List Plan) → 0 < p → p ≤ x → x < n → 0 < low → (x < low) ⊎ (above ≤ x) → 0 < y → y < l → IsBase n places p low above b → accept_of places x 0 ≡ y → Starts (Follows (shares l x y)) rest
+  pub late_shares : (p low above b x y t : ℕ) (places : Places) (rest : List Plan) → 0 < p → p ≤ x → x < n → 0 < low → (x < low) ⊎ (above ≤ x) → 0 < y
+      → y < l → IsBase n places p low above b → accept_of places x 0 ≡ y → Starts (Follows (shares l x y)) rest
       → ((after : Places) → IsBase n after p low above b → accept_of after x 0 ≡ y + 1 → grant_of after y 0 ≡ (x + 1) % n → ((j : ℕ) → (j ≡ y → ⊥) → (j ≡ l → ⊥) → grant_of after j 0 ≡ grant_of places j 0) → IsLateIn rounds n (t + 1) after rest)
       → IsLateIn rounds n t places (shares l x y ∷ rest)
   late_shares p low above b x y t places rest some_p x_above x_in some_low outside some_y y_in base at starts then =
@@ -169,7 +179,8 @@ module _ (rounds n l : ℕ) (two : 1 < rounds) (sum : l + 1 ≡ n) (high : 2 < l
       (λ j not_y not_l. step.grant_stays j (λ i is. elim is [ inl s ↦ not_y s.1 | inr more ↦ elim more [ inl s ↦ not_l s.1 | inr none ↦ none ] ])))
 
   -- input x takes the last output, and input 0 output f
-  late_closes : (p b x f u t : ℕ) (places : Places) (rest : List Plan) → 0 < p → p ≤ x → x < n → 0 < f → f < l → (u ≡ 0) ⊎ (u + 1 ≡ x) → IsBase n places p p x b → accept_of places x 0 ≡ l → grant_of places f 0 ≡ (x + 1) % n → Starts (Follows (closes l x f u)) rest
+  pub late_closes : (p b x f u t : ℕ) (places : Places) (rest : List Plan) → 0 < p → p ≤ x → x < n → 0 < f → f < l → (u ≡ 0) ⊎ (u + 1 ≡ x)
+      → IsBase n places p p x b → accept_of places x 0 ≡ l → grant_of places f 0 ≡ (x + 1) % n → Starts (Follows (closes l x f u)) rest
       → ((after : Places) → IsBase n after p p x b → IsLateIn rounds n (t + 1) after rest) → IsLateIn rounds n t places (closes l x f u ∷ rest)
   late_closes p b x f u t places rest some_p x_above x_in some_f f_in how base at held starts then =
       let it = closes l x f u in
@@ -184,7 +195,8 @@ module _ (rounds n l : ℕ) (two : 1 < rounds) (sum : l + 1 ≡ n) (high : 2 < l
       IsLateBy-before n (decided_in rounds n) t places it rest step.serves starts (left_by_input rounds n t places it some base.switch suits some_rounds f some_f (inr (inl (refl, refl)))) (then after next)
 
   -- input x goes down
-  late_goes : (p x f u : ℕ) (rest : List Plan) → 0 < p → p ≤ x → x < n → 0 < f → f < l → (u ≡ 0) ⊎ (u + 1 ≡ x) → (u ≡ x → ⊥) → Starts (Follows (closes l x f u)) rest
+  late_goes : (p x f u : ℕ) (rest : List Plan) → 0 < p → p ≤ x → x < n → 0 < f → f < l → (u ≡ 0) ⊎ (u + 1 ≡ x) → (u ≡ x → ⊥)
+      → Starts (Follows (closes l x f u)) rest
       → ((t : ℕ) (places : Places) → IsBase n places p p x f → IsLateIn rounds n t places rest)
       → (k y t : ℕ) (places : Places) → f < y → y + k ≡ l → IsBase n places p p x f → accept_of places x 0 ≡ y → grant_of places f 0 ≡ (x + 1) % n → IsLateIn rounds n t places (sharings l x y k (closes l x f u ∷ rest))
   late_goes p x f u rest some_p x_above x_in some_f f_in how other starts then zero y t places above all base at held =
@@ -196,7 +208,8 @@ module _ (rounds n l : ℕ) (two : 1 < rounds) (sum : l + 1 ≡ n) (high : 2 < l
       (stays f (λ e. omega arith) (λ e. omega arith) ∙ held))
 
   -- input x begins to ask, and the input after it is served in the second round
-  late_joins : (p f x t : ℕ) (places : Places) (rest : List Plan) → 0 < p → p ≤ x → x + 1 < n → 0 < f → f < l → IsBase n places p p (x + 1) f → Starts (Follows (joins x f)) rest
+  pub late_joins : (p f x t : ℕ) (places : Places) (rest : List Plan) → 0 < p → p ≤ x → x + 1 < n → 0 < f → f < l → IsBase n places p p (x + 1) f
+      → Starts (Follows (joins x f)) rest
       → ((after : Places) → IsBase n after p p x f → accept_of after x 0 ≡ f + 1 → grant_of after f 0 ≡ (x + 1) % n → IsLateIn rounds n (t + 1) after rest) → IsLateIn rounds n t places (joins x f ∷ rest)
   late_joins p f x t places rest some_p x_above next_in some_f f_in base starts then =
       let it = joins_first x f in
@@ -220,7 +233,8 @@ module _ (rounds n l : ℕ) (two : 1 < rounds) (sum : l + 1 ≡ n) (high : 2 < l
       (then after next (step.accepted x f (inl (refl, refl)) ∙ mod-eq_of_lt (omega arith)) (step.granted x f (inl (refl, refl))))
 
   -- the k inputs from p on go down
-  late_climbs : (p f : ℕ) (rest : List Plan) → 0 < p → 0 < f → f < l → ((t : ℕ) (places : Places) → IsBase n places p p p f → IsLateIn rounds n t places (passes p ∷ rest))
+  late_climbs : (p f : ℕ) (rest : List Plan) → 0 < p → 0 < f → f < l
+      → ((t : ℕ) (places : Places) → IsBase n places p p p f → IsLateIn rounds n t places (passes p ∷ rest))
       → (k t : ℕ) (places : Places) → p + k ≤ l → IsBase n places p p (p + k) f → IsLateIn rounds n t places (climbs l p f k (passes p ∷ rest))
   late_climbs p f rest some_p some_f f_in then zero t places p_in base = let e : p + 0 ≡ p = omega arith in then t places (subst (λ v. IsBase n places p p v f) e base)
   late_climbs p f rest some_p some_f f_in then (suc k) t places p_in base =
@@ -236,7 +250,8 @@ module _ (rounds n l : ℕ) (two : 1 < rounds) (sum : l + 1 ≡ n) (high : 2 < l
       (l - (f + 1)) (f + 1) (t + 1) after (omega arith) (omega arith) next at held)
 
   -- the slot in which input p takes output 0, and input 0 output 1
-  late_passes : (p t : ℕ) (places : Places) (rest : List Plan) → 0 < p → p < n → IsSwitch n places → grant_of places 0 0 ≡ p % n → Starts (Follows (passes p)) rest
+  pub late_passes : (p t : ℕ) (places : Places) (rest : List Plan) → 0 < p → p < n → IsSwitch n places → grant_of places 0 0 ≡ p % n
+      → Starts (Follows (passes p)) rest
       → ((after : Places) → IsBase n after (p + 1) n n 2 → accept_of after 0 0 ≡ 2 → IsLateIn rounds n (t + 1) after rest) → IsLateIn rounds n t places (passes p ∷ rest)
   late_passes p t places rest some_p p_in switch grant starts then =
       let it = passes p in
@@ -260,7 +275,8 @@ module _ (rounds n l : ℕ) (two : 1 < rounds) (sum : l + 1 ≡ n) (high : 2 < l
       (l - (f + 1)) (f + 1) t places (omega arith) (omega arith) base at held
 
   -- input 0 takes output y, and input w output 1
-  pub late_resets : (p y w t : ℕ) (places : Places) (rest : List Plan) → 1 < y → y < l → 0 < w → w < n → IsBase n places p (w + 1) n 2 → accept_of places 0 0 ≡ y → (2 < y → grant_of places 2 0 ≡ 1) → Starts (Follows (resets y w)) rest
+  pub late_resets : (p y w t : ℕ) (places : Places) (rest : List Plan) → 1 < y → y < l → 0 < w → w < n → IsBase n places p (w + 1) n 2
+      → accept_of places 0 0 ≡ y → (2 < y → grant_of places 2 0 ≡ 1) → Starts (Follows (resets y w)) rest
       → ((after : Places) → IsBase n after p w n 2 → accept_of after 0 0 ≡ y + 1 → (2 < y + 1 → grant_of after 2 0 ≡ 1) → IsLateIn rounds n (t + 1) after rest) → IsLateIn rounds n t places (resets y w ∷ rest)
   late_resets p y w t places rest more y_in some_w w_in base at held starts then =
       let it = resets y w in

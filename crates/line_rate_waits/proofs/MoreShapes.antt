@@ -19,6 +19,7 @@ closes l x f u = record { asks = pair x 0 ∷ pair x l ∷ pair 0 f ∷ pair u f
 abbrev pub joins_first : ℕ → ℕ → Plan
 joins_first x f = record { asks = pair x 0 ∷ pair x f ∷ pair (x + 1) 0 ∷ []; serves = pair x f ∷ [] }
 
+-- the same with what the second round serves
 abbrev pub joins : ℕ → ℕ → Plan
 joins x f = record { asks = pair x 0 ∷ pair x f ∷ pair (x + 1) 0 ∷ []; serves = pair x f ∷ pair (x + 1) 0 ∷ [] }
 
@@ -50,7 +51,9 @@ crosses_by y w = record { asks = pair 0 y ∷ pair w 1 ∷ pair w 2 ∷ []; serv
 abbrev pub IsBefore : ℕ → Places → ℕ → ℕ → Type 0
 IsBefore n places x z = distance n (grant_of places 0 0) x < distance n (grant_of places 0 0) z
 
-pub suits_shares : (n : ℕ) (places : Places) (l x y : ℕ) → 0 < x → x < n → 0 < y → y < l → l < n → IsBefore n places x 0 → accept_of places x 0 ≡ y → Suits n places (shares l x y)
+-- input x points at output y, and is before input 0
+pub suits_shares : (n : ℕ) (places : Places) (l x y : ℕ) → 0 < x → x < n → 0 < y → y < l → l < n → IsBefore n places x 0 → accept_of places x 0 ≡ y
+    → Suits n places (shares l x y)
 suits_shares n places l x y some_x x_in some_y y_in l_in before at = record {
   placed = ((x_in, omega arith, inr (inr (inl (refl, refl)))), ((omega arith, l_in, inr (inr (inr (inl (refl, refl))))), tt));
   near = (
@@ -64,7 +67,9 @@ suits_shares n places l x y some_x x_in some_y y_in l_in before at = record {
   done = (inl (l, inr (inl (refl, refl))), (inl (y, inl (refl, refl)), (inl (y, inl (refl, refl)), (inl (l, inr (inl (refl, refl))), tt))));
 }
 
-pub suits_closes : (n : ℕ) (places : Places) (l x f u : ℕ) → 0 < x → x < n → 0 < f → f < l → l < n → IsBefore n places x 0 → accept_of places x 0 ≡ l → distance n (grant_of places f 0) 0 ≤ distance n (grant_of places f 0) u → Suits n places (closes l x f u)
+-- input x points at the last output, and is before input 0
+pub suits_closes : (n : ℕ) (places : Places) (l x f u : ℕ) → 0 < x → x < n → 0 < f → f < l → l < n → IsBefore n places x 0 → accept_of places x 0 ≡ l
+    → distance n (grant_of places f 0) 0 ≤ distance n (grant_of places f 0) u → Suits n places (closes l x f u)
 suits_closes n places l x f u some_x x_in some_f f_in l_in before at choice = record {
   placed = ((x_in, l_in, inr (inr (inl (refl, refl)))), ((omega arith, omega arith, inr (inr (inr (inl (refl, refl))))), tt));
   near = (
@@ -87,7 +92,9 @@ suits_closes n places l x f u some_x x_in some_f f_in l_in before at choice = re
   done = (inl (f, inr (inl (refl, refl))), (inl (l, inl (refl, refl)), (inl (l, inl (refl, refl)), (inl (f, inr (inl (refl, refl))), (inr (inl (0, inr (inl (refl, refl)))), tt)))));
 }
 
-pub suits_joins : (n : ℕ) (places : Places) (x f : ℕ) → x < n → 0 < f → f < n → IsBefore n places x 0 → IsBefore n places x (x + 1) → accept_of places x 0 ≡ f → Suits n places (joins_first x f)
+-- input x points at output f, and is before all others
+pub suits_joins : (n : ℕ) (places : Places) (x f : ℕ) → x < n → 0 < f → f < n → IsBefore n places x 0 → IsBefore n places x (x + 1)
+    → accept_of places x 0 ≡ f → Suits n places (joins_first x f)
 suits_joins n places x f x_in some_f f_in before after at = record {
   placed = ((x_in, f_in, inr (inr (inl (refl, refl)))), tt);
   near = ((λ e. absurd (omega arith), (λ e. absurd (omega arith), (λ e. omega arith, (λ e. absurd (omega arith), tt)))), tt);
@@ -95,7 +102,9 @@ suits_joins n places x f x_in some_f f_in before after at = record {
   done = (inr (inr (x, x_in, inr (inl (refl, refl)), before)), (inl (f, inl (refl, refl)), (inl (f, inl (refl, refl)), (inr (inr (x, x_in, inr (inl (refl, refl)), after)), tt))));
 }
 
-pub second_joins : (n : ℕ) (places : Places) (x f : ℕ) → x + 1 < n → 0 < f → distance n (grant_of places 0 0) (x + 1) ≤ distance n (grant_of places 0 0) 0 → IsSecond n places (joins_first x f) (x + 1)
+-- and the next input is second
+pub second_joins : (n : ℕ) (places : Places) (x f : ℕ) → x + 1 < n → 0 < f
+    → distance n (grant_of places 0 0) (x + 1) ≤ distance n (grant_of places 0 0) 0 → IsSecond n places (joins_first x f) (x + 1)
 second_joins n places x f next_in some_f near = record {
   input_in = next_in;
   asks = inr (inr (inr (inl (refl, refl))));
@@ -105,6 +114,7 @@ second_joins n places x f next_in some_f near = record {
   lone = (λ e. refl, (λ e. refl, (λ e. absurd (omega arith), (λ e. refl, tt))));
 }
 
+-- input 0 points at output y
 pub suits_resets : (n : ℕ) (places : Places) (y w : ℕ) → 1 < y → y < n → 0 < w → w < n → accept_of places 0 0 ≡ y → Suits n places (resets y w)
 suits_resets n places y w more y_in some_w w_in at = record {
   placed = ((omega arith, y_in, inr (inl (refl, refl))), ((w_in, omega arith, inr (inr (inl (refl, refl)))), tt));
@@ -119,6 +129,7 @@ suits_resets n places y w more y_in some_w w_in at = record {
   done = (inl (y, inl (refl, refl)), (inl (y, inl (refl, refl)), (inl (1, inr (inl (refl, refl))), tt)));
 }
 
+-- input 0 points at the last output, and output 2 at input 1
 pub suits_readies : (n : ℕ) (places : Places) (l : ℕ) → 2 < l → l < n → accept_of places 0 0 ≡ l → grant_of places 2 0 ≡ 1 → Suits n places (readies l)
 suits_readies n places l more l_in at granting = record {
   placed = ((omega arith, l_in, inr (inl (refl, refl))), ((omega arith, omega arith, inr (inr (inl (refl, refl)))), tt));
@@ -133,7 +144,9 @@ suits_readies n places l more l_in at granting = record {
   done = (inl (l, inl (refl, refl)), (inl (l, inl (refl, refl)), (inl (2, inr (inl (refl, refl))), (inr (inl (1, inr (inl (refl, refl)))), tt))));
 }
 
-pub suits_readies_too : (n : ℕ) (places : Places) (l w : ℕ) → 2 < l → l < n → 1 < w → w < l → accept_of places 0 0 ≡ l → grant_of places 2 0 ≡ 1 → Suits n places (readies_too l w)
+-- the same
+pub suits_readies_too : (n : ℕ) (places : Places) (l w : ℕ) → 2 < l → l < n → 1 < w → w < l → accept_of places 0 0 ≡ l → grant_of places 2 0 ≡ 1
+    → Suits n places (readies_too l w)
 suits_readies_too n places l w more l_in some_w w_in at granting = record {
   placed = ((omega arith, l_in, inr (inl (refl, refl))), ((omega arith, omega arith, inr (inr (inl (refl, refl)))), ((omega arith, omega arith, inr (inr (inr (inr (inl (refl, refl)))))), tt)));
   near = (
@@ -153,7 +166,9 @@ suits_readies_too n places l w more l_in some_w w_in at granting = record {
   done = (inl (l, inl (refl, refl)), (inl (l, inl (refl, refl)), (inl (2, inr (inl (refl, refl))), (inr (inl (1, inr (inl (refl, refl)))), (inl (1, inr (inr (inl (refl, refl)))), tt)))));
 }
 
-pub suits_both_by : (n : ℕ) (places : Places) (y w : ℕ) → 0 < y → y < n → 2 < n → (y ≡ 2 → ⊥) → 0 < w → w < n → accept_of places 0 0 ≡ y → Suits n places (both_by y w)
+-- input 0 points at output y
+pub suits_both_by : (n : ℕ) (places : Places) (y w : ℕ) → 0 < y → y < n → 2 < n → (y ≡ 2 → ⊥) → 0 < w → w < n → accept_of places 0 0 ≡ y
+    → Suits n places (both_by y w)
 suits_both_by n places y w some y_in more other some_w w_in at = record {
   placed = ((omega arith, y_in, inr (inl (refl, refl))), ((w_in, more, inr (inr (inl (refl, refl)))), tt));
   near = (
@@ -167,7 +182,9 @@ suits_both_by n places y w some y_in more other some_w w_in at = record {
   done = (inl (y, inl (refl, refl)), (inl (y, inl (refl, refl)), (inl (2, inr (inl (refl, refl))), tt)));
 }
 
-pub suits_wins_by : (n : ℕ) (places : Places) (y w : ℕ) → 0 < y → y < n → 0 < w → accept_of places 0 0 ≡ y → grant_of places y 0 ≡ 0 → Suits n places (wins_by y w)
+-- input 0 points at output y, which points at input 0
+pub suits_wins_by : (n : ℕ) (places : Places) (y w : ℕ) → 0 < y → y < n → 0 < w → accept_of places 0 0 ≡ y → grant_of places y 0 ≡ 0
+    → Suits n places (wins_by y w)
 suits_wins_by n places y w some y_in some_w at granting = record {
   placed = ((omega arith, y_in, inr (inl (refl, refl))), tt);
   near = ((λ e. absurd (omega arith), (λ e. omega arith, (λ e. at_first n (grant_of places y 0) 0 w (omega arith) granting, tt))), tt);
@@ -175,7 +192,9 @@ suits_wins_by n places y w some y_in some_w at granting = record {
   done = (inl (y, inl (refl, refl)), (inl (y, inl (refl, refl)), (inr (inl (0, inl (refl, refl))), tt)));
 }
 
-pub suits_crosses_by : (n : ℕ) (places : Places) (y w : ℕ) → 2 < y → y < n → 0 < w → w < n → accept_of places 0 0 ≡ y → distance n (accept_of places w 0) 1 ≤ distance n (accept_of places w 0) 2 → Suits n places (crosses_by y w)
+-- input 0 points at output y, and output 1 is nearer to the other input's pointer than output 2
+pub suits_crosses_by : (n : ℕ) (places : Places) (y w : ℕ) → 2 < y → y < n → 0 < w → w < n → accept_of places 0 0 ≡ y
+    → distance n (accept_of places w 0) 1 ≤ distance n (accept_of places w 0) 2 → Suits n places (crosses_by y w)
 suits_crosses_by n places y w more y_in some_w w_in at accepting = record {
   placed = ((omega arith, y_in, inr (inl (refl, refl))), ((w_in, omega arith, inr (inr (inl (refl, refl)))), tt));
   near = (

@@ -33,10 +33,12 @@ abbrev pub turns : ℕ → ℕ → ℕ → ℕ → List Plan
 turns n x f zero = downs x f (n - f) (passes x ∷ downs 0 2 (n - 2) (ends 0 ∷ []))
 turns n x f (suc k) = downs x f (n - f) (passes x ∷ downs 0 2 (n - 3) (crosses (n - 1) (x + 1) 1 ∷ turns n (x + 1) 1 k))
 
+-- so many slots is going down
 pub length-downs : (x k a : ℕ) (rest : List Plan) → length (downs x a k rest) ≡ k + length rest
 length-downs x zero a rest = omega arith
 length-downs x (suc k) a rest = let e = length-downs x k (a + 1) rest in omega arith
 
+-- so many slots are the turns
 length-turns : (n k x f : ℕ) → 2 < n → length (turns n x f k) ≡ n - f + (n - 1) + k * (n - 1 + (n - 1)) + 1
 length-turns n zero x f two =
     let first = length-downs x (n - f) f (passes x ∷ downs 0 2 (n - 2) (ends 0 ∷ [])) in
@@ -53,6 +55,7 @@ length-turns n (suc k) x f two =
 longest-is : (m n u v : ℕ) → n ≡ m + 2 → u ≡ m + 1 → v ≡ m → u + (v + u + v * (u + u) + 1) + 1 ≡ longest_service_in_one_round n
 longest-is m n u v en eu ev = rw (en, eu, ev) (omega arith)
 
+-- with the slots before the turns
 pub length-all : (n : ℕ) → 2 < n → n - 1 + length (turns n 1 2 (n - 2)) + 1 ≡ longest_service_in_one_round n
 length-all n two = ap (λ l. n - 1 + l + 1) (length-turns n (n - 2) 1 2 two) ∙ longest-is (n - 2) n (n - 1) (n - 2) (omega arith) (omega arith) refl
 
@@ -61,15 +64,19 @@ starts_downs : (P : Plan → Type 0) (x k a : ℕ) (rest : List Plan) → P (tak
 starts_downs P x zero a rest here starts = starts
 starts_downs P x (suc k) a rest here starts = here
 
+-- where there are some
 pub starts_more : (P : Plan → Type 0) (x k a : ℕ) (rest : List Plan) → 0 < k → P (takes x a) → Starts P (downs x a k rest)
 starts_more P x zero a rest some here = absurd (omega arith)
 starts_more P x (suc k) a rest some here = here
 
+-- the turns begin with the first output of the first input
 starts_turns : (P : Plan → Type 0) (n k x f : ℕ) → f < n → P (takes x f) → Starts P (turns n x f k)
 starts_turns P n zero x f f_in here = starts_more P x (n - f) f (passes x ∷ downs 0 2 (n - 2) (ends 0 ∷ [])) (omega arith) here
 starts_turns P n (suc k) x f f_in here = starts_more P x (n - f) f (passes x ∷ downs 0 2 (n - 3) (crosses (n - 1) (x + 1) 1 ∷ turns n (x + 1) 1 k)) (omega arith) here
 
-pub follows_downs : (x a k last : ℕ) (rest : List Plan) → a + suc k ≡ last + 1 → Starts (Follows (takes x last)) rest → Starts (Follows (takes x a)) (downs x (a + 1) k rest)
+-- going down is at line rate
+pub follows_downs : (x a k last : ℕ) (rest : List Plan) → a + suc k ≡ last + 1 → Starts (Follows (takes x last)) rest
+    → Starts (Follows (takes x a)) (downs x (a + 1) k rest)
 follows_downs x a zero last rest sum starts = let e : last ≡ a = omega arith in subst (λ v. Starts (Follows (takes x v)) rest) e starts
 follows_downs x a (suc k) last rest sum starts = takes_takes x a
 
@@ -84,6 +91,7 @@ pub record IsStanding (n : ℕ) (places : Places) (p low x a m g : ℕ) : Type 0
   pub held : 0 < m → grant_of places m 0 ≡ g
 
 module _ (n : ℕ) (two : 2 < n) where
+  -- there are ports
   some : 0 < n
   some = omega arith
 
@@ -131,7 +139,8 @@ module _ (n : ℕ) (two : 2 < n) where
 
   -- The slot in which input 0 takes the last output and input 1 output 1, while one more request waits. The inputs from
   -- `low` on stay, and output 0 does.
-  late_crosses : (p low u v t : ℕ) (places : Places) (rest : List Plan) → 1 < low → 0 < u → (v ≡ n - 1 → ⊥) → (v ≡ 1 → grant_of places 1 0 ≡ 1) → (u ≡ 1 → distance n (accept_of places 1 0) 1 ≤ distance n (accept_of places 1 0) v) → (v ≡ 1) ⊎ (u ≡ 1)
+  late_crosses : (p low u v t : ℕ) (places : Places) (rest : List Plan) → 1 < low → 0 < u → (v ≡ n - 1 → ⊥) → (v ≡ 1 → grant_of places 1 0 ≡ 1)
+      → (u ≡ 1 → distance n (accept_of places 1 0) 1 ≤ distance n (accept_of places 1 0) v) → (v ≡ 1) ⊎ (u ≡ 1)
       → IsSwitch n places → grant_of places 0 0 ≡ p % n → accept_of places 0 0 ≡ n - 1 → ((i : ℕ) → low ≤ i → i < n → accept_of places i 0 ≡ 1) → Starts (Follows (crosses (n - 1) u v)) rest
       → ((places : Places) → IsStanding n places p low 1 2 0 0 → IsLate n (t + 1) places rest) → IsLate n t places (crosses (n - 1) u v ∷ rest)
   late_crosses p low u v t places rest above some_u other granting accepting how switch grant accept fresh starts then =
@@ -156,7 +165,8 @@ module _ (n : ℕ) (two : 2 < n) where
       IsLate-last n t places (ends 0) (step_of n t places (ends 0) some standing.switch (suits_ends n places 0 some (standing.grant ∙ round))) (inl (refl, refl))
 
   -- the turns of input x and the k inputs after it
-  late_turns : (k x f t : ℕ) (places : Places) → 0 < x → x + k + 1 ≡ n → 0 < f → f < n → IsStanding n places x (x + 1) x f 0 0 → IsLate n t places (turns n x f k)
+  late_turns : (k x f t : ℕ) (places : Places) → 0 < x → x + k + 1 ≡ n → 0 < f → f < n → IsStanding n places x (x + 1) x f 0 0
+      → IsLate n t places (turns n x f k)
   late_turns zero x f t places some_x sum some_f f_in standing =
       let back = downs 0 2 (n - 2) (ends 0 ∷ []) in
       let e : x + 1 ≡ n = omega arith in
@@ -212,6 +222,7 @@ four = takes 0 1 ∷ wins 2 ∷ crosses 3 1 2 ∷ turns 4 1 2 2
 abbrev pub three : List Plan
 three = wins 1 ∷ crosses 2 1 0 ∷ turns 3 1 2 1
 
+-- it is late from the beginning
 pub late_five : (n t : ℕ) (places : Places) → 4 < n → IsBeginning n places → IsLate n t places (five n)
 late_five n t places more begins =
     let rest = crosses (n - 1) 1 2 ∷ turns n 1 2 (n - 2) in
@@ -234,7 +245,8 @@ late_five n t places more begins =
     (n - 3) 1 t places (omega arith) (λ none. absurd (omega arith)) (omega arith) (begins 0)
 
 -- where input 1 asks output n - 2 too, which takes input 0
-late_wins : (n y v t : ℕ) (places : Places) → 2 < n → y + 2 ≡ n → (v ≡ n - 1 → ⊥) → (v ≡ 1 → ⊥) → IsStanding n places 1 1 0 y y 0 → Follows (wins y) (crosses (n - 1) 1 v) → Follows (crosses (n - 1) 1 v) (takes 1 2)
+late_wins : (n y v t : ℕ) (places : Places) → 2 < n → y + 2 ≡ n → (v ≡ n - 1 → ⊥) → (v ≡ 1 → ⊥) → IsStanding n places 1 1 0 y y 0
+    → Follows (wins y) (crosses (n - 1) 1 v) → Follows (crosses (n - 1) 1 v) (takes 1 2)
     → IsLate n t places (wins y ∷ crosses (n - 1) 1 v ∷ turns n 1 2 (n - 2))
 late_wins n y v t places two sum other not_one standing first second =
     let suits = suits_wins n places y (omega arith) (omega arith) (omega arith) (standing.accept ∙ mod-eq_of_lt (omega arith)) (standing.held (omega arith)) in
@@ -249,11 +261,13 @@ late_wins n y v t places two sum other not_one standing first second =
     (step.accepted 0 y (inl (refl, refl)) ∙ mod-eq_of_lt (omega arith) ∙ omega arith)
     (λ i late i_in. stays i (omega arith) i_in) second)
 
+-- it is late from the beginning
 pub late_four : (t : ℕ) (places : Places) → IsBeginning 4 places → IsLate 4 t places four
 late_four t places begins =
     late_downs 4 (omega arith) 1 1 0 2 0 1 (wins 2 ∷ crosses 3 1 2 ∷ turns 4 1 2 2) (omega arith) (omega arith) (inl refl) (omega arith) (takes_wins 1 2)
     (λ t places standing. late_wins 4 2 2 t places (omega arith) (omega arith) (λ e. omega arith) (λ e. omega arith) standing (wins_crosses 2 3) (crosses_takes 3 1 2))
     1 1 t places (omega arith) (λ yes. inr (omega arith)) (omega arith) (begins 2)
 
+-- it is late from the beginning
 pub late_three : (t : ℕ) (places : Places) → IsBeginning 3 places → IsLate 3 t places three
 late_three t places begins = late_wins 3 1 0 t places (omega arith) (omega arith) (λ e. omega arith) (λ e. omega arith) (begins 1) (wins_crosses_zero 2) (crosses_zero_takes 2)

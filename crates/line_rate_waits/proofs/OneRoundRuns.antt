@@ -12,6 +12,7 @@ use Rattle.line_rate_waits.proofs.Plans.{In, Plan, names, AreWithin-rows, IsClea
 use Rattle.line_rate_waits.proofs.PlannedSlots.{decided, IsStep, slot_decided, IsSwitch-after}
 use Rattle.line_rate_waits.proofs.PlannedRuns.{Follows, Starts, IsOneEach, run, length-run, All-run, IsLateBy, IsLateBy-before, IsLateBy-last, opens_run, LeadsBy, led, kept_all}
 
+-- the run is a schedule
 IsSchedule-run : (n t : ℕ) (places : Places) (ps : List Plan) → IsSwitch n places → IsSchedule n 1 t places (run n (decided n) t places ps)
 IsSchedule-run n t places [] switch = tt
 IsSchedule-run n t places (p ∷ ps) switch = (slot_decided n t places p switch, IsSchedule-run n (t + 1) (decided n t places p).places ps (IsSwitch-after n t places p switch))
@@ -21,7 +22,8 @@ abbrev pub IsLate : ℕ → ℕ → Places → List Plan → Type 0
 IsLate n = IsLateBy n (decided n)
 
 -- one slot more in front, which does not serve the queue
-pub IsLate-before : (n t : ℕ) (places : Places) (p : Plan) (ps : List Plan) → IsStep n t places p → Starts (Follows p) ps → (In 0 0 p.serves → ⊥) → IsLate n (t + 1) (decided n t places p).places ps → IsLate n t places (p ∷ ps)
+pub IsLate-before : (n t : ℕ) (places : Places) (p : Plan) (ps : List Plan) → IsStep n t places p → Starts (Follows p) ps → (In 0 0 p.serves → ⊥)
+    → IsLate n (t + 1) (decided n t places p).places ps → IsLate n t places (p ∷ ps)
 IsLate-before n t places p ps step follows left late = IsLateBy-before n (decided n) t places p ps step.serves follows (λ served. left (step.only 0 0 0 Uni served)) late
 
 -- the last slot, which serves it
@@ -29,7 +31,8 @@ pub IsLate-last : (n t : ℕ) (places : Places) (p : Plan) → IsStep n t places
 IsLate-last n t places p step served = IsLateBy-last n (decided n) t places p step.serves served
 
 -- What is late from pointers of a switch is a window in which queue (0, 0) is served in the last slot alone.
-IsServedLast-run : (n t : ℕ) (places : Places) (ps : List Plan) → IsSwitch n places → IsLate n t places ps → IsServedLast n 1 t 0 0 0 places (run n (decided n) t places ps)
+IsServedLast-run : (n t : ℕ) (places : Places) (ps : List Plan) → IsSwitch n places → IsLate n t places ps
+    → IsServedLast n 1 t 0 0 0 places (run n (decided n) t places ps)
 IsServedLast-run n t places ps switch late =
     let some : 0 < n = subst (λ m. 0 < m) switch.ports switch.at_ports.some in
     record {
@@ -48,7 +51,8 @@ IsServedLast-run n t places ps switch late =
     }
 
 -- what is late from where the first slots lead comes in a schedule at line rate, from all pointers at port 0 on
-pub comes : (n count : ℕ) (ps : List Plan) (after : Places) (rest : List Plan) → IsSwitch n (places_at_first n) → Starts IsOneEach ps → LeadsBy n (decided n) 0 (places_at_first n) ps count after rest → IsSwitch n after → IsLate n count after rest
+pub comes : (n count : ℕ) (ps : List Plan) (after : Places) (rest : List Plan) → IsSwitch n (places_at_first n) → Starts IsOneEach ps
+    → LeadsBy n (decided n) 0 (places_at_first n) ps count after rest → IsSwitch n after → IsLate n count after rest
     → (slots : List DecidedSlot) × ComesLastAtLineRate n 1 count slots × (length (drop count slots) ≡ length rest)
 comes n count ps after rest switch one leads later late =
     let from = places_at_first n in

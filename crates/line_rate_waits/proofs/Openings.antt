@@ -29,6 +29,7 @@ starts_openings : (x k : ℕ) (rest : List Plan) → Starts IsOneEach (openings 
 starts_openings x zero rest = ((λ e. refl, (λ e. refl, tt)), ((λ e. refl, (λ e. refl, tt)), tt))
 starts_openings x (suc k) rest = ((λ e. refl, (λ e. refl, tt)), ((λ e. refl, (λ e. refl, tt)), tt))
 
+-- the opening is at line rate
 follows_openings : (x k : ℕ) (rest : List Plan) → Starts (Follows (ends x)) (openings (x + 1) k rest)
 follows_openings x zero rest = ends_zero x
 follows_openings x (suc k) rest = ends_ends x
@@ -41,7 +42,9 @@ record IsOpened (n : ℕ) (places : Places) (x : ℕ) : Type 0 where
   accepts : (i : ℕ) → i < x → accept_of places i 0 ≡ 1 % n
 
 module _ (n : ℕ) (some : 0 < n) (rest : List Plan) (starts : Starts (Follows (ends 0)) rest) where
-  opens : (k x t : ℕ) (places : Places) → x + k ≡ n → IsOpened n places x → (after : Places) × IsBeginning n after × LeadsBy n (decided n) t places (openings x k rest) (suc k) after rest
+  -- the opening leads to where the window begins
+  opens : (k x t : ℕ) (places : Places) → x + k ≡ n → IsOpened n places x
+      → (after : Places) × IsBeginning n after × LeadsBy n (decided n) t places (openings x k rest) (suc k) after rest
   opens zero x t places sum opened =
       let same : x ≡ n = omega arith in
       let round : x % n ≡ 0 = ap (λ v. v % n) same ∙ mod_once n n (omega arith) (omega arith) ∙ omega arith in
@@ -73,6 +76,7 @@ module _ (n : ℕ) (some : 0 < n) (rest : List Plan) (starts : Starts (Follows (
       let later = opens k (x + 1) (t + 1) after (omega arith) next in
       (later.0, later.1, leads_before n (decided n) t places (ends x) (openings (x + 1) k rest) (suc k) later.0 rest step.serves (follows_openings x k rest) later.2)
 
+  -- all pointers are at port 0 at first
   IsOpened-at_first : n ≤ MAX_PORTS → IsOpened n (places_at_first n) 0
   unfolding places_at_first
   IsOpened-at_first size = record {
@@ -83,7 +87,8 @@ module _ (n : ℕ) (some : 0 < n) (rest : List Plan) (starts : Starts (Follows (
   }
 
   -- what is late from where the openings lead comes in a schedule from all pointers at port 0
-  late_comes : n ≤ MAX_PORTS → ((t : ℕ) (places : Places) → IsBeginning n places → IsLate n t places rest) → (slots : List DecidedSlot) × ComesLastAtLineRate n 1 (n + 1) slots × (length (drop (n + 1) slots) ≡ length rest)
+  late_comes : n ≤ MAX_PORTS → ((t : ℕ) (places : Places) → IsBeginning n places → IsLate n t places rest)
+      → (slots : List DecidedSlot) × ComesLastAtLineRate n 1 (n + 1) slots × (length (drop (n + 1) slots) ≡ length rest)
   late_comes size late =
       let opened = IsOpened-at_first size in
       let found = opens n 0 0 (places_at_first n) (omega arith) opened in
@@ -96,23 +101,28 @@ module _ (n : ℕ) (some : 0 < n) (rest : List Plan) (starts : Starts (Follows (
 abbrev Reached : ℕ → Type 0
 Reached n = (slots : List DecidedSlot) × ComesLastAtLineRate n 1 (n + 1) slots × (length (drop (n + 1) slots) + 1 ≡ longest_service_in_one_round n)
 
+-- so many slots are those of five ports or more
 length-five : (n : ℕ) → 4 < n → length (five n) ≡ n - 1 + length (turns n 1 2 (n - 2))
 length-five n more = let all = length-downs 0 (n - 3) 1 (both (n - 2) ∷ crosses (n - 1) 1 2 ∷ turns n 1 2 (n - 2)) in omega arith
 
+-- they begin at line rate
 starts_five : (n : ℕ) → 4 < n → Starts (Follows (ends 0)) (five n)
 starts_five n more = starts_more (Follows (ends 0)) 0 (n - 3) 1 (both (n - 2) ∷ crosses (n - 1) 1 2 ∷ turns n 1 2 (n - 2)) (omega arith) ends_takes
 
+-- five ports or more
 five_comes : (n : ℕ) → 4 < n → n ≤ MAX_PORTS → Reached n
 five_comes n more size =
     let found = late_comes n (omega arith) (five n) (starts_five n more) size (λ t places begins. late_five n t places more begins) in
     let long : length (five n) ≡ n - 1 + length (turns n 1 2 (n - 2)) = length-five n more in
     (found.0, found.1, ap (λ l. l + 1) (found.2 ∙ long) ∙ length-all n (omega arith))
 
+-- four ports
 four_comes : Reached 4
 four_comes =
     let found = late_comes 4 (omega arith) four ends_takes (omega arith) late_four in
     (found.0, found.1, ap (λ l. l + 1) found.2 ∙ length-all 4 (omega arith))
 
+-- three ports
 three_comes : Reached 3
 three_comes =
     let found = late_comes 3 (omega arith) three (ends_wins 1) (omega arith) late_three in

@@ -25,6 +25,7 @@ IsOn p next i j = In i j p.serves ⊎ In i j (asked next)
 abbrev pub IsGained : Plan → List Pair → ℕ → ℕ → Type 0
 IsGained p gains i j = In i j (asked p) ⊎ In i j gains
 
+-- two pairs are of two inputs, or are one
 abbrev pub IsApart : ℕ → ℕ → ℕ → ℕ → Type 0
 IsApart i j z y = i ≡ z → j ≡ y
 
@@ -49,7 +50,8 @@ abbrev pub AreServed : Plan → List (Option Fed) → Type 0
 AreServed p matched = (i j : ℕ) → In i j p.serves → Serves matched i j 0 Uni
 
 -- the next row keeps the one before
-keeps_on : (n : ℕ) (matched : List (Option Fed)) (p next : Plan) → AreServed p matched → Follows p next → (i : ℕ) → i < n → Keeps matched i (row_of (rows_of n p) i) (row_of (rows_of n next) i)
+keeps_on : (n : ℕ) (matched : List (Option Fed)) (p next : Plan) → AreServed p matched → Follows p next → (i : ℕ) → i < n
+    → Keeps matched i (row_of (rows_of n p) i) (row_of (rows_of n next) i)
 keeps_on n matched p next serving follows i i_in = record {
   uni = λ level j named left.
       let is = posted n p i j level Uni i_in named in
@@ -89,16 +91,19 @@ IsOneEach p = Each (AreApart (asked p)) (asked p)
 abbrev pub Rule : Type 0
 Rule = ℕ → Places → Plan → Decision
 
+-- the slots of some plans
 abbrev pub run : ℕ → Rule → ℕ → Places → List Plan → List DecidedSlot
 run n rule t places [] = []
 run n rule t places (p ∷ ps) = record { rows = rows_of n p; decision = rule t places p } ∷ run n rule (t + 1) (rule t places p).places ps
 
+-- as many as the plans
 pub length-run : (n : ℕ) (rule : Rule) (t : ℕ) (places : Places) (ps : List Plan) → length (run n rule t places ps) ≡ length ps
 length-run n rule t places [] = refl
 length-run n rule t places (p ∷ ps) = ap suc (length-run n rule (t + 1) (rule t places p).places ps)
 
 -- what all rows of plans have, all slots have
-pub All-run : (n : ℕ) (rule : Rule) (t : ℕ) (places : Places) (P : List Row → Type 0) → ((p : Plan) → P (rows_of n p)) → (ps : List Plan) → All (λ slot. P slot.rows) (run n rule t places ps)
+pub All-run : (n : ℕ) (rule : Rule) (t : ℕ) (places : Places) (P : List Row → Type 0) → ((p : Plan) → P (rows_of n p)) → (ps : List Plan)
+    → All (λ slot. P slot.rows) (run n rule t places ps)
 All-run n rule t places P all [] = All-nil (λ slot. P slot.rows)
 All-run n rule t places P all (p ∷ ps) =
     All-cons (λ slot. P slot.rows) (record { rows = rows_of n p; decision = rule t places p }) (run n rule (t + 1) (rule t places p).places ps) (all p) (All-run n rule (t + 1) (rule t places p).places P all ps)
@@ -109,7 +114,8 @@ pub record IsKeptRun (n : ℕ) (rule : Rule) (t : ℕ) (places : Places) (ps : L
   pub line : AreAtLineRate n 0 (run n rule t places ps)
 
 -- one slot more in front
-pub IsKeptRun-before : (n : ℕ) (rule : Rule) (t : ℕ) (places : Places) (p : Plan) (ps : List Plan) → AreServed p (rule t places p).matched → Starts (Follows p) ps → IsKeptRun n rule (t + 1) (rule t places p).places ps → IsKeptRun n rule t places (p ∷ ps)
+pub IsKeptRun-before : (n : ℕ) (rule : Rule) (t : ℕ) (places : Places) (p : Plan) (ps : List Plan) → AreServed p (rule t places p).matched
+    → Starts (Follows p) ps → IsKeptRun n rule (t + 1) (rule t places p).places ps → IsKeptRun n rule t places (p ∷ ps)
 IsKeptRun-before n rule t places p [] serving follows run_kept = record { kept = (tt, tt); line = (tt, tt) }
 IsKeptRun-before n rule t places p (next ∷ ps) serving follows run_kept =
     record { kept = (keeps_on n (rule t places p).matched p next serving follows, run_kept.kept); line = (gains_on n p next follows, run_kept.line) }
@@ -120,13 +126,16 @@ pub record IsLateBy (n : ℕ) (rule : Rule) (t : ℕ) (places : Places) (ps : Li
   pub last : ServeLast 0 0 0 (run n rule t places ps)
 
 -- one slot more in front, which does not serve the queue
-pub IsLateBy-before : (n : ℕ) (rule : Rule) (t : ℕ) (places : Places) (p : Plan) (ps : List Plan) → AreServed p (rule t places p).matched → Starts (Follows p) ps → (Serves (rule t places p).matched 0 0 0 Uni → ⊥) → IsLateBy n rule (t + 1) (rule t places p).places ps → IsLateBy n rule t places (p ∷ ps)
+pub IsLateBy-before : (n : ℕ) (rule : Rule) (t : ℕ) (places : Places) (p : Plan) (ps : List Plan) → AreServed p (rule t places p).matched
+    → Starts (Follows p) ps → (Serves (rule t places p).matched 0 0 0 Uni → ⊥) → IsLateBy n rule (t + 1) (rule t places p).places ps
+    → IsLateBy n rule t places (p ∷ ps)
 IsLateBy-before n rule t places p [] serving follows left late = absurd late.last
 IsLateBy-before n rule t places p (next ∷ ps) serving follows left late =
     record { run_kept = IsKeptRun-before n rule t places p (next ∷ ps) serving follows late.run_kept; last = (left, late.last) }
 
 -- the last slot, which serves it
-pub IsLateBy-last : (n : ℕ) (rule : Rule) (t : ℕ) (places : Places) (p : Plan) → AreServed p (rule t places p).matched → In 0 0 p.serves → IsLateBy n rule t places (p ∷ [])
+pub IsLateBy-last : (n : ℕ) (rule : Rule) (t : ℕ) (places : Places) (p : Plan) → AreServed p (rule t places p).matched → In 0 0 p.serves
+    → IsLateBy n rule t places (p ∷ [])
 IsLateBy-last n rule t places p serving served = record { run_kept = IsKeptRun-before n rule t places p [] serving tt (record { kept = tt; line = tt }); last = serving 0 0 served }
 
 -- in the first slot each input asks for one output at most, where its plan says so
@@ -148,7 +157,9 @@ leads_none n rule t places ps =
     record { slots = ap (λ s. run n rule s places ps) same; left = refl; keeping = λ kept. subst (λ s. IsKeptRun n rule s places ps) (sym same) kept }
 
 -- one slot more in front
-pub leads_before : (n : ℕ) (rule : Rule) (t : ℕ) (places : Places) (p : Plan) (ps : List Plan) (count : ℕ) (after : Places) (rest : List Plan) → AreServed p (rule t places p).matched → Starts (Follows p) ps → LeadsBy n rule (t + 1) (rule t places p).places ps count after rest → LeadsBy n rule t places (p ∷ ps) (suc count) after rest
+pub leads_before : (n : ℕ) (rule : Rule) (t : ℕ) (places : Places) (p : Plan) (ps : List Plan) (count : ℕ) (after : Places) (rest : List Plan)
+    → AreServed p (rule t places p).matched → Starts (Follows p) ps → LeadsBy n rule (t + 1) (rule t places p).places ps count after rest
+    → LeadsBy n rule t places (p ∷ ps) (suc count) after rest
 leads_before n rule t places p ps count after rest serving follows leads =
     let same : t + 1 + count ≡ t + suc count = omega arith in
     record {
@@ -158,9 +169,11 @@ leads_before n rule t places p ps count after rest serving follows leads =
     }
 
 -- the slots from slot `count` on, where the run begins with slot 0
-pub led : (n : ℕ) (rule : Rule) (from : Places) (ps : List Plan) (count : ℕ) (after : Places) (rest : List Plan) → LeadsBy n rule 0 from ps count after rest → drop count (run n rule 0 from ps) ≡ run n rule count after rest
+pub led : (n : ℕ) (rule : Rule) (from : Places) (ps : List Plan) (count : ℕ) (after : Places) (rest : List Plan)
+    → LeadsBy n rule 0 from ps count after rest → drop count (run n rule 0 from ps) ≡ run n rule count after rest
 led n rule from ps count after rest leads = let same : 0 + count ≡ count = omega arith in leads.slots ∙ ap (λ s. run n rule s after rest) same
 
 -- requests stay in all of the run, which is at line rate
-pub kept_all : (n : ℕ) (rule : Rule) (from : Places) (ps : List Plan) (count : ℕ) (after : Places) (rest : List Plan) → LeadsBy n rule 0 from ps count after rest → IsKeptRun n rule count after rest → IsKeptRun n rule 0 from ps
+pub kept_all : (n : ℕ) (rule : Rule) (from : Places) (ps : List Plan) (count : ℕ) (after : Places) (rest : List Plan)
+    → LeadsBy n rule 0 from ps count after rest → IsKeptRun n rule count after rest → IsKeptRun n rule 0 from ps
 kept_all n rule from ps count after rest leads kept = let same : 0 + count ≡ count = omega arith in leads.keeping (subst (λ s. IsKeptRun n rule s after rest) (sym same) kept)

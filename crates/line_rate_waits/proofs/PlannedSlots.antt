@@ -41,9 +41,11 @@ IsPassed n places p i j = (w : ℕ) × (w < n) × In w j (asked p) × distance n
 abbrev pub IsTaken : ℕ → Places → Plan → ℕ → ℕ → ℕ → ℕ → Type 0
 IsTaken n places p i j z y = z ≡ i → (distance n (accept_of places i 0) j ≤ distance n (accept_of places i 0) y) ⊎ IsPassed n places p i y
 
+-- no input that asks output j is nearer to its pointer than input i
 abbrev pub AreNear : ℕ → Places → Plan → ℕ → ℕ → Type 0
 AreNear n places p i j = Each (IsNear n places i j) (asked p)
 
+-- no output that grants input i is nearer to its pointer than output j
 abbrev pub AreTaken : ℕ → Places → Plan → ℕ → ℕ → Type 0
 AreTaken n places p i j = Each (IsTaken n places p i j) (asked p)
 
@@ -59,42 +61,53 @@ pub record Suits (n : ℕ) (places : Places) (p : Plan) : Type 0 where
   pub done : Each (IsDone n places p) (asked p)
 
 module _ (n t : ℕ) (p : Plan) (places : Places) (some : 0 < n) (switch : IsSwitch n places) (suits : Suits n places p) (first : List (Option Fed)) (opening : IsRound n t (rows_of n p) places (unmatched n) first) where
+  -- level 0 is a level
   level_in : 0 < LEVELS
   level_in = omega arith
 
+  -- its pointers are at ports
   pointing : ArePointing n 0 places
   pointing = subst (λ m. ArePointing m 0 places) switch.ports (switch.at_ports.pointing 0 level_in)
 
+  -- the output grants the input in the first round
   Granted : ℕ → ℕ → Type 0
   Granted i j = Grants n t (rows_of n p) places (unmatched n) i j 0 Uni
 
+  -- the input asks the output
   Asked : ℕ → ℕ → Type 0
   Asked j x = Names (row_of (rows_of n p) x) 0 Uni j
 
+  -- an output grants the first input from its pointer on that asks it
   grants_it : (i j : ℕ) → j < n → IsFirstFrom n (grant_of places j 0) (Asked j) i → Granted i j
   unfolding Granted Asked
   grants_it i j j_in nearest = grants_first n t (rows_of n p) places 0 level_in (IsClean-rows n p) Uni (kind_is_first n t 0 (rows_of n p) first places level_in opening pointing (IsClean-rows n p) (IsWithoutMulticast-rows n p)) i j j_in nearest
 
+  -- and no other
   is_first : (i j : ℕ) → Granted i j → IsFirstFrom n (grant_of places j 0) (Asked j) i
   unfolding Granted Asked
   is_first i j granted = first_granted n t (rows_of n p) places 0 level_in (IsClean-rows n p) Uni (kind_is_first n t 0 (rows_of n p) first places level_in opening pointing (IsClean-rows n p) (IsWithoutMulticast-rows n p)) i j granted
 
+  -- what the plan has is asked
   asks_it : (j i : ℕ) → i < n → j < n → In i j (asked p) → Asked j i
   unfolding Asked
   asks_it j i i_in j_in is = names n p i j i_in j_in is
 
+  -- and nothing else is
   asked_is : (j i : ℕ) → i < n → Asked j i → In i j (asked p)
   unfolding Asked
   asked_is j i i_in named = (posted n p i j 0 Uni i_in named).3
 
+  -- an input that is granted is served by the first such output
   serves_first : (h j : ℕ) → Granted h j → (y : ℕ) × IsFirstFrom n (accept_of places h 0) (Granted h) y × Serves first h y 0 Uni
   unfolding Granted
   serves_first h j granted = served_by_first n t 0 (rows_of n p) first places level_in opening pointing (IsClean-rows n p) (IsWithoutMulticast-rows n p) h j granted.first.below granted
 
+  -- an output that grants is one of the switch
   output_is : (i j : ℕ) → Granted i j → j < n
   unfolding Granted
   output_is i j granted = granted.output_in
 
+  -- what is served was granted
   serves_granted : (i j : ℕ) → Serves first i j 0 Uni → Granted i j
   unfolding Granted
   serves_granted i j served = elim ((opening.pairs i j 0 Uni).0 served) [
@@ -114,6 +127,7 @@ module _ (n t : ℕ) (p : Plan) (places : Places) (some : 0 < n) (switch : IsSwi
   nearest_granted i j at nearest =
       grants_it i j at.1 (record { below = at.0; member = asks_it j i at.0 at.1 at.2; least = λ z z_in named. each (IsNear n places i j) (asked p) nearest z j (asked_is j z z_in named) refl })
 
+  -- the same by its definition
   pub grants_nearest : (i j : ℕ) → IsPlaced n p i j → AreNear n places p i j → Grants n t (rows_of n p) places (unmatched n) i j 0 Uni
   unfolding Granted
   grants_nearest i j at nearest = nearest_granted i j at nearest
@@ -136,6 +150,7 @@ module _ (n t : ℕ) (p : Plan) (places : Places) (some : 0 < n) (switch : IsSwi
         ];
       }
 
+  -- and served
   pub served_it : (i j : ℕ) → In i j p.serves → Serves first i j 0 Uni
   served_it i j is =
       let at = each (IsPlaced n p) p.serves suits.placed i j is in
@@ -143,9 +158,11 @@ module _ (n t : ℕ) (p : Plan) (places : Places) (some : 0 < n) (switch : IsSwi
       let same : met.0 ≡ j = IsFirstFrom-only n (accept_of places i 0) (Granted i) met.0 j (pointing.accept i at.0) met.1 (takes_it i j is) in
       subst (λ y. Serves first i y 0 Uni) same met.2
 
+  -- the match is one
   whole : IsMatch n first
   whole = IsMatch-round n t (rows_of n p) places switch.at_ports switch.ports (unmatched n) first (IsMatch-unmatched n) opening
 
+  -- what is served was asked
   named_first : (i j level : ℕ) (kind : Kind) → Serves first i j level kind → Names (row_of (rows_of n p) i) level kind j
   named_first i j level kind s = elim ((opening.pairs i j level kind).0 s) [
     | inl old ↦ absurd (nobody_at_first n i j level kind old)
@@ -182,6 +199,7 @@ pub record IsStep (n t : ℕ) (places : Places) (p : Plan) : Type 0 where
 pub slot_decided : (n t : ℕ) (places : Places) (p : Plan) → IsSwitch n places → IsSlot n 1 t (rows_of n p) places (decided n t places p)
 slot_decided n t places p switch = IsSlot-decision_of n t (rows_of n p) places (AreWithin-rows n p) switch.at_ports switch.ports 1
 
+-- after the slot the pointers are at ports again
 pub IsSwitch-after : (n t : ℕ) (places : Places) (p : Plan) → IsSwitch n places → IsSwitch n (decided n t places p).places
 IsSwitch-after n t places p switch =
     record {
@@ -190,27 +208,34 @@ IsSwitch-after n t places p switch =
     }
 
 module _ (n t : ℕ) (places : Places) (p : Plan) (some : 0 < n) (switch : IsSwitch n places) (suits : Suits n places p) where
+  -- the slot
   now : IsSlot n 1 t (rows_of n p) places (decided n t places p)
   now = slot_decided n t places p switch
 
+  -- what its first round matches
   First : List (Option Fed)
   First = first_of n now.steps
 
+  -- the slot begins with that round
   begins : BeginsWith n t (rows_of n p) places First (decided n t places p).matched
   unfolding First
   begins = BeginsWith-slot n t (rows_of n p) places AreMoved 1 (decided n t places p) (omega arith) now
 
+  -- how it moves the pointers
   moves : AreMoved n t (rows_of n p) First (decided n t places p).matched places (decided n t places p).places
   unfolding First
   moves = now.moved
 
+  -- with one round that is all of the match
   first_is : First ≡ (decided n t places p).matched
   unfolding First
   first_is = one_is_first n now.steps now.count ∙ sym now.result
 
+  -- the first round serves the pairs of the plan
   served : (i j : ℕ) → In i j p.serves → Serves First i j 0 Uni
   served = served_it n t p places some switch suits First begins.opening
 
+  -- and no others
   only : (i j level : ℕ) (kind : Kind) → Serves First i j level kind → In i j p.serves
   only = only_it n t p places some switch suits First begins.opening
 

@@ -19,6 +19,7 @@ pub record Pair : Type 0 where
   pub input : ℕ
   pub output : ℕ
 
+-- a pair of them
 abbrev pub pair : ℕ → ℕ → Pair
 pair i j = record { input = i; output = j }
 
@@ -32,6 +33,7 @@ abbrev is_in : ℕ → ℕ → List Pair → Bool
 is_in i j [] = false
 is_in i j (p ∷ ps) = (i == p.input && j == p.output) || is_in i j ps
 
+-- the test decides it
 Decides-in : (i j : ℕ) (ps : List Pair) → Decides (is_in i j ps) (In i j ps)
 Decides-in i j [] = (λ e. absurd (cc), λ none. absurd none)
 Decides-in i j (p ∷ ps) =
@@ -71,19 +73,23 @@ rows_in n ps = map (row_at n ps) (range_with_len 0 n)
 abbrev pub rows_of : ℕ → Plan → List Row
 rows_of n p = rows_in n (asked p)
 
+-- the plan has the request, at level 0 as unicast
 abbrev AskedAt : ℕ → Plan → ℕ → ℕ → ℕ → Kind → Type 0
 AskedAt n p i j level kind = (level ≡ 0) × (kind ≡ Uni) × (j < n) × In i j (asked p)
 
+-- what a row names is asked
 asked_at : (n : ℕ) (p : Plan) (i j level : ℕ) (kind : Kind) → Names (row_at n (asked p) i) level kind j → AskedAt n p i j level kind
 unfolding row_at
 asked_at n p i j zero Uni named = let has = (Has-set_of n (λ y. is_in i y (asked p)) j).0 named in (refl, refl, has.0, (Decides-in i j (asked p)).0 has.1)
 asked_at n p i j (suc level) Uni named = absurd (nothing_in 3 level j named)
 asked_at n p i j level Multi named = absurd (nothing_in LEVELS level j named)
 
+-- what is asked a row names
 named_at : (n : ℕ) (p : Plan) (i j : ℕ) → j < n → In i j (asked p) → Names (row_at n (asked p) i) 0 Uni j
 unfolding row_at
 named_at n p i j j_in is = (Has-set_of n (λ y. is_in i y (asked p)) j).1 (j_in, (Decides-in i j (asked p)).1 is)
 
+-- the row of an input of the switch
 row_is : (n : ℕ) (p : Plan) (i : ℕ) → i < n → row_of (rows_of n p) i ≡ row_at n (asked p) i
 unfolding rows_in
 row_is n p i i_in = get_or-map-range_with_len (row_at n (asked p)) 0 n i i no_row i_in (omega arith)
@@ -92,9 +98,11 @@ row_is n p i i_in = get_or-map-range_with_len (row_at n (asked p)) 0 n i i no_ro
 pub posted : (n : ℕ) (p : Plan) (i j level : ℕ) (kind : Kind) → i < n → Names (row_of (rows_of n p) i) level kind j → AskedAt n p i j level kind
 posted n p i j level kind i_in named = asked_at n p i j level kind (subst (λ row. Names row level kind j) (row_is n p i i_in) named)
 
+-- what is asked is named
 pub names : (n : ℕ) (p : Plan) (i j : ℕ) → i < n → j < n → In i j (asked p) → Names (row_of (rows_of n p) i) 0 Uni j
 names n p i j i_in j_in is = subst (λ row. Names row 0 Uni j) (sym (row_is n p i i_in)) (named_at n p i j j_in is)
 
+-- the rows name only ports of the switch
 pub AreWithin-rows : (n : ℕ) (p : Plan) → AreWithin n (rows_of n p)
 unfolding rows_in
 AreWithin-rows n p =
@@ -104,8 +112,10 @@ AreWithin-rows n p =
       levels = λ i i_in level j kind named. let at = (posted n p i j level kind i_in named).0 in omega arith;
     }
 
+-- nothing is better than level 0
 pub IsClean-rows : (n : ℕ) (p : Plan) → IsClean n 0 (rows_of n p)
 IsClean-rows n p i better j kind i_in less named = absurd (omega arith)
 
+-- nothing is multicast
 pub IsWithoutMulticast-rows : (n : ℕ) (p : Plan) → IsWithoutMulticast n 0 (rows_of n p)
 IsWithoutMulticast-rows n p i j i_in named = let kind = (posted n p i j 0 Multi i_in named).1 in absurd (cc)

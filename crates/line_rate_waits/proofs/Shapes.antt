@@ -40,13 +40,15 @@ pub at_first : (n from x v : ℕ) → x < n → from ≡ x → distance n from x
 at_first n from x v x_in at = let none = no_step n from x x_in at in omega arith
 
 -- where output 0 points at another input that asks it, input 0 is passed
-zero_passed : (n : ℕ) (places : Places) (p : Plan) (x : ℕ) → 0 < x → x < n → grant_of places 0 0 ≡ x → In x 0 (asked p) → IsPassed n places p 0 0
+pub zero_passed : (n : ℕ) (places : Places) (p : Plan) (x : ℕ) → 0 < x → x < n → grant_of places 0 0 ≡ x → In x 0 (asked p) → IsPassed n places p 0 0
 zero_passed n places p x some x_in at is =
     let near = no_step n (grant_of places 0 0) x x_in at in
     let far : distance n (grant_of places 0 0) 0 + x ≡ 0 + n = ap (λ f. distance n f 0 + x) at ∙ distance-below n x 0 x_in (omega arith) some in
     (x, x_in, is, omega arith)
 
-pub suits_takes : (n : ℕ) (places : Places) (x y : ℕ) → x < n → 0 < y → y < n → (x ≡ 0) ⊎ ((0 < x) × (grant_of places 0 0 ≡ x)) → accept_of places x 0 ≡ y → Suits n places (takes x y)
+-- input x points at output y, and output 0 at the input if it is not input 0
+pub suits_takes : (n : ℕ) (places : Places) (x y : ℕ) → x < n → 0 < y → y < n → (x ≡ 0) ⊎ ((0 < x) × (grant_of places 0 0 ≡ x))
+    → accept_of places x 0 ≡ y → Suits n places (takes x y)
 suits_takes n places x y x_in some y_in front at = record {
   placed = ((x_in, y_in, inr (inr (inl (refl, refl)))), tt);
   near = ((λ e. absurd (omega arith), (λ e. absurd (omega arith), (λ e. omega arith, tt))), tt);
@@ -60,6 +62,7 @@ suits_takes n places x y x_in some y_in front at = record {
   );
 }
 
+-- output 0 points at the input
 pub suits_ends : (n : ℕ) (places : Places) (x : ℕ) → x < n → grant_of places 0 0 ≡ x → Suits n places (ends x)
 suits_ends n places x x_in at = record {
   placed = ((x_in, omega arith, inr (inl (refl, refl))), tt);
@@ -68,6 +71,7 @@ suits_ends n places x x_in at = record {
   done = (inr (inl (x, inl (refl, refl))), (inl (0, inl (refl, refl)), tt));
 }
 
+-- output 0 points at the input
 pub suits_passes : (n : ℕ) (places : Places) (x : ℕ) → 0 < x → x < n → grant_of places 0 0 ≡ x → Suits n places (passes x)
 suits_passes n places x some x_in at = record {
   placed = ((x_in, omega arith, inr (inl (refl, refl))), ((omega arith, omega arith, inr (inr (inl (refl, refl)))), tt));
@@ -114,6 +118,7 @@ suits_crosses n places y u v more y_in some other at granting accepting how = re
   );
 }
 
+-- input 0 points at output y, which points at input 0
 pub suits_wins : (n : ℕ) (places : Places) (y : ℕ) → 0 < y → y < n → 1 < n → accept_of places 0 0 ≡ y → grant_of places y 0 ≡ 0 → Suits n places (wins y)
 suits_wins n places y some y_in more at granting = record {
   placed = ((omega arith, y_in, inr (inl (refl, refl))), tt);
@@ -122,6 +127,7 @@ suits_wins n places y some y_in more at granting = record {
   done = (inl (y, inl (refl, refl)), (inl (y, inl (refl, refl)), (inr (inl (0, inl (refl, refl))), tt)));
 }
 
+-- input 0 points at output y
 pub suits_both : (n : ℕ) (places : Places) (y : ℕ) → 0 < y → y < n → 2 < n → (y ≡ 2 → ⊥) → accept_of places 0 0 ≡ y → Suits n places (both y)
 suits_both n places y some y_in more other at = record {
   placed = ((omega arith, y_in, inr (inl (refl, refl))), ((omega arith, more, inr (inr (inl (refl, refl)))), tt));

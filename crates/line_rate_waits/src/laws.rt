@@ -16,9 +16,9 @@ pub fn one_round_is_reached_at_line_rate()
         → (slots : List DecidedSlot) × ComesLastAtLineRate n 1 (n + 1) slots × (length (drop (n + 1) slots) + 1 ≡ longest_service_in_one_round n) }
 {}
 
-/// With two rounds or more it is reached too, for four ports or more: by `n * (n * n - n + 2) / 2 - 1` slots.
+/// With two rounds or more it is reached too, by `n * (n * n - n + 2) / 2 - 1` slots.
 pub fn more_rounds_are_reached_at_line_rate()
-    ensures { (n rounds : ℕ) → 3 < n → n ≤ MAX_PORTS → 1 < rounds
+    ensures { (n rounds : ℕ) → 2 < n → n ≤ MAX_PORTS → 1 < rounds
         → (slots : List DecidedSlot) × ComesLastAtLineRate n rounds (n + 1) slots × (length (drop (n + 1) slots) + 1 ≡ longest_service n) }
 {}
 
