@@ -120,7 +120,8 @@ module _ (n : ℕ) (two : 1 < n) where
       let front : (x ≡ 0) ⊎ ((0 < x) × (grant_of places 0 0 ≡ x)) = elim (cases_lt 0 x) [ inl more ↦ inr (more, turn.grant) | inr none ↦ inl (omega arith) ] in
       let suits = suits_takes n places x a x_in some_a a_in front (turn.accept ∙ mod-eq_of_lt a_in) in
       let step = firm_step_of n t places (takes x a) some turn.switch suits in
-      let near : (v : ℕ) → distance n (grant_of places 0 0) x ≤ distance n (grant_of places 0 0) v = λ v. at_first n (grant_of places 0 0) x v x_in turn.grant in
+      let near : (v : ℕ) → distance n (grant_of places 0 0) x ≤ distance n (grant_of places 0 0) v = λ v. at_first n
+      (grant_of places 0 0) x v x_in turn.grant in
       let nearest : AreNear n places (takes x a) x 0 = (λ e. near 0, (λ e. near x, (λ e. near x, tt))) in
       let next : IsTurn n (firm_decided n t places (takes x a)).places x (a + 1) = record {
         switch = IsSwitch-after_firm n t places (takes x a) turn.switch;
@@ -162,7 +163,8 @@ module _ (n : ℕ) (two : 1 < n) where
   late_turns : (k x t : ℕ) (places : Places) → 0 < x → x + k ≡ n → IsTurn n places (whose x k) 1 → IsFirmLate n t places (turns n x k)
   late_turns zero x t places some_x sum turn =
       late_downs 0 (ends 0 ∷ []) some (takes_ends (n - 1))
-      (λ t places turn. IsFirmLate-last n t places (ends 0) (firm_step_of n t places (ends 0) some turn.switch (suits_ends n places 0 some turn.grant)) (inl (refl, refl)))
+      (λ t places turn. IsFirmLate-last n t places (ends 0) (firm_step_of n t places (ends 0) some turn.switch (suits_ends n places 0 some turn.grant))
+      (inl (refl, refl)))
       (n - 1) 1 t places (omega arith) (omega arith) turn
   late_turns (suc k) x t places some_x sum turn =
       let x_in : x < n = omega arith in
@@ -208,7 +210,8 @@ module _ (n : ℕ) (two : 1 < n) (rest : List Plan) (starts : Starts (Follows (h
       let it = hands 0 1 in
       let step = firm_step_of n t places it some opened.switch (suits_hands n places 0 1 some (opened.grant ∙ round)) in
       let after = (firm_decided n t places it).places in
-      let stays : (i : ℕ) → 0 < i → i < n → accept_of after i 0 ≡ 1 = λ i more i_in. step.accept_stays i (λ j is. elim is [ inl s ↦ let e = s.0 in omega arith | inr none ↦ none ]) ∙ opened.accepts i (omega arith) in
+      let stays : (i : ℕ) → 0 < i → i < n → accept_of after i 0 ≡ 1 = λ i more i_in. step.accept_stays i
+      (λ j is. elim is [ inl s ↦ let e = s.0 in omega arith | inr none ↦ none ]) ∙ opened.accepts i (omega arith) in
       let first : accept_of after 0 0 ≡ 1 = step.accepted 0 0 (inl (refl, refl)) ∙ mod-eq_of_lt two in (
         after,
         record {
@@ -266,4 +269,5 @@ firm_comes_at_line_rate n two size =
     let late = late_turns n two (n - 1) 1 (suc n) found.0 (omega arith) (omega arith) (subst (λ w. IsTurn n found.0 w 1) (sym whose_is) turn) in
     let d : n ≡ suc (n - 1) = omega arith in
     let one : Starts IsOneEach (openings 0 n rest) = subst (λ k. Starts IsOneEach (openings 0 k rest)) (sym d) (starts_openings 0 (n - 1) rest) in
-    counted n (suc n) rest (length-family n (omega arith)) (omega arith) (firm_comes n (suc n) (openings 0 n rest) found.0 rest opened.switch one found.2 turn.switch late)
+    counted n (suc n) rest (length-family n (omega arith)) (omega arith)
+    (firm_comes n (suc n) (openings 0 n rest) found.0 rest opened.switch one found.2 turn.switch late)

@@ -85,7 +85,8 @@ module _ (n t : ℕ) (places : Places) (p : Plan) (some : 0 < n) (switch : IsSwi
   pair_moves : (i j : ℕ) → In i j p.serves
       → (grant_of (firm_decided n t places p).places j 0 ≡ (i + 1) % n) × (accept_of (firm_decided n t places p).places i 0 ≡ (j + 1) % n)
   pair_moves i j is =
-      paired n t (rows_of n p) places (AreWithin-rows n p) switch.at_ports switch.ports First (firm_decided n t places p).matched (firm_decided n t places p).places begins.opening moves i j 0 (served i j is)
+      paired n t (rows_of n p) places (AreWithin-rows n p) switch.at_ports switch.ports First (firm_decided n t places p).matched
+      (firm_decided n t places p).places begins.opening moves i j 0 (served i j is)
 
   -- where the pointers suit the plan
   pub firm_step_of : IsFirmStep n t places p

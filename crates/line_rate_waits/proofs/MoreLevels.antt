@@ -39,7 +39,8 @@ module _ (rounds n l : ℕ) (two : 1 < rounds) (sum : l + 1 ≡ n) (high : 2 < l
         grant = step.grant_stays 0 (λ i is. elim is [ inl s ↦ let e = s.1 in omega arith | inr none ↦ none ]) ∙ base.grant;
         fresh = λ i i_low i_high. step.accept_stays i (λ j is. elim is [ inl s ↦ let e = s.0 in omega arith | inr none ↦ none ]) ∙ base.fresh i i_low i_high;
       } in
-      IsLateBy-before n (decided_in rounds n) t places it rest step.serves starts (left_by_input rounds n t places it some base.switch suits some_rounds y some_y (inl (refl, refl)))
+      IsLateBy-before n (decided_in rounds n) t places it rest step.serves starts
+      (left_by_input rounds n t places it some base.switch suits some_rounds y some_y (inl (refl, refl)))
       (then after next (step.accepted 0 y (inl (refl, refl))) (step.granted 0 y (inl (refl, refl)) ∙ mod-eq_of_lt (omega arith))
       (λ j other. step.grant_stays j (λ i is. elim is [ inl s ↦ other s.1 | inr none ↦ none ])))
 
@@ -51,7 +52,8 @@ module _ (rounds n l : ℕ) (two : 1 < rounds) (sum : l + 1 ≡ n) (high : 2 < l
       let e : y ≡ stop = omega arith in then t places base (at ∙ ap (λ v. v % n) e) (λ more. held (omega arith))
   late_lowers p low above b stop rest some_low stop_in starts then (suc k) y t places some_y all base at held =
       late_takes p low above b y t places (downs 0 (y + 1) k rest) some_low some_y (omega arith) base (at ∙ mod-eq_of_lt (omega arith)) (follows k all)
-      (λ after next at granted stays. late_lowers p low above b stop rest some_low stop_in starts then k (y + 1) (t + 1) after (omega arith) (omega arith) next at
+      (λ after next at granted stays. late_lowers p low above b stop rest some_low stop_in starts then k (y + 1) (t + 1) after (omega arith)
+      (omega arith) next at
       (λ yes. elim (cases_lt 2 y) [
         | inl later ↦ stays 2 (λ e. omega arith) ∙ held later
         | inr now ↦ let same : y ≡ 2 = omega arith in subst (λ v. grant_of after v 0 ≡ 1) same granted
@@ -70,7 +72,8 @@ module _ (rounds n l : ℕ) (two : 1 < rounds) (sum : l + 1 ≡ n) (high : 2 < l
       then t places (subst (λ v. IsBase n places p v n 2) d base) (at ∙ e) (λ yes. held (omega arith))
   late_backs p w stop rest some_w stop_in starts then (suc k) y t places more all w_in base at held =
       let d : w + suc k ≡ w + k + 1 = omega arith in
-      late_resets rounds n l two sum (omega arith) p y (w + k) t places (backs w (y + 1) k rest) more (omega arith) (omega arith) (omega arith) (subst (λ v. IsBase n places p v n 2) d base) at held (follows k all)
+      late_resets rounds n l two sum (omega arith) p y (w + k) t places (backs w (y + 1) k rest) more (omega arith) (omega arith) (omega arith)
+      (subst (λ v. IsBase n places p v n 2) d base) at held (follows k all)
       (λ after next at held. late_backs p w stop rest some_w stop_in starts then k (y + 1) (t + 1) after (omega arith) (omega arith) (omega arith) next at held) where
         follows : (k : ℕ) → y + suc k ≡ stop → Starts (Follows (resets y (w + k))) (backs w (y + 1) k rest)
         follows zero all = starts y (w + 0) (omega arith)
@@ -85,7 +88,8 @@ module _ (rounds n l : ℕ) (two : 1 < rounds) (sum : l + 1 ≡ n) (high : 2 < l
       let suits = suits_readies n places l high (omega arith) at held in
       let step = many_step_of rounds n t places it some base.switch suits some_rounds in
       let after = (decided_in rounds n t places it).places in
-      IsLateBy-before n (decided_in rounds n) t places it rest step.serves starts (left_by_input rounds n t places it some base.switch suits some_rounds l (omega arith) (inl (refl, refl)))
+      IsLateBy-before n (decided_in rounds n) t places it rest step.serves starts
+      (left_by_input rounds n t places it some base.switch suits some_rounds l (omega arith) (inl (refl, refl)))
       (then after (record {
         switch = IsSwitch-after_in rounds n t places it base.switch;
         grant = step.grant_stays 0 (λ i is. elim is [ inl s ↦ let e = s.1 in omega arith | inr more ↦ elim more [ inl s ↦ let e = s.1 in omega arith | inr none ↦ none ] ]) ∙ base.grant;
@@ -101,7 +105,8 @@ module _ (rounds n l : ℕ) (two : 1 < rounds) (sum : l + 1 ≡ n) (high : 2 < l
       let suits = suits_readies_too n places l 2 high (omega arith) (omega arith) high at held in
       let step = many_step_of rounds n t places it some base.switch suits some_rounds in
       let after = (decided_in rounds n t places it).places in
-      IsLateBy-before n (decided_in rounds n) t places it rest step.serves starts (left_by_input rounds n t places it some base.switch suits some_rounds l (omega arith) (inl (refl, refl)))
+      IsLateBy-before n (decided_in rounds n) t places it rest step.serves starts
+      (left_by_input rounds n t places it some base.switch suits some_rounds l (omega arith) (inl (refl, refl)))
       (then after (record {
         switch = IsSwitch-after_in rounds n t places it base.switch;
         grant = step.grant_stays 0 (λ i is. elim is [
@@ -124,9 +129,11 @@ module _ (rounds n l : ℕ) (two : 1 < rounds) (sum : l + 1 ≡ n) (high : 2 < l
   late_enters p k rest some_p all starts then t places base =
       let u = before p k in
       let narrow : IsBase n places p p l 2 = record { switch = base.switch; grant = base.grant; fresh = λ i i_low i_high. base.fresh i i_low (omega arith) } in
-      late_shares rounds n l two sum (omega arith) p p l 2 l 2 t places (level l p 2 k rest) (omega arith) (omega arith) (omega arith) (omega arith) (inr (omega arith)) (omega arith) high narrow (base.fresh l (omega arith) (omega arith))
+      late_shares rounds n l two sum (omega arith) p p l 2 l 2 t places (level l p 2 k rest) (omega arith) (omega arith) (omega arith) (omega arith)
+      (inr (omega arith)) (omega arith) high narrow (base.fresh l (omega arith) (omega arith))
       (starts_sharings (Follows (shares l l 2)) l l (2 + 1) (l - (2 + 1)) (closes l l 2 u ∷ climbs l p 2 k (passes p ∷ rest)) (shares_shares l l 2) (shares_closes l l 2 2 u (omega arith) (before_other p k l (omega arith) (sym all))))
-      (λ after next at granted stays. late_level rounds n l two sum (omega arith) p 2 k rest (omega arith) all (omega arith) high starts then (t + 1) after next at granted)
+      (λ after next at granted stays. late_level rounds n l two sum (omega arith) p 2 k rest (omega arith) all (omega arith) high starts then
+      (t + 1) after next at granted)
 
   -- the slot of input p is followed by slots in which others take output 1
   starts_passes : (p w k : ℕ) (rest : List Plan) → 0 < k → 0 < w → Starts (Follows (passes p)) (backs w 2 k rest)
@@ -142,7 +149,8 @@ module _ (rounds n l : ℕ) (two : 1 < rounds) (sum : l + 1 ≡ n) (high : 2 < l
       let same : p + 1 ≡ n = omega arith in
       let round : n % n ≡ 0 = mod_once n n (omega arith) (omega arith) ∙ omega arith in
       let suits = suits_ends n places 0 some (next.grant ∙ ap (λ v. v % n) same ∙ round) in
-      IsLateBy-last n (decided_in rounds n) t places (ends 0) (many_step_of rounds n t places (ends 0) some next.switch suits some_rounds).serves (inl (refl, refl)))
+      IsLateBy-last n (decided_in rounds n) t places (ends 0) (many_step_of rounds n t places (ends 0) some next.switch suits some_rounds).serves
+      (inl (refl, refl)))
       (l - 1) 2 t after (omega arith) (omega arith) next (at ∙ sym (mod-eq_of_lt (omega arith))) (λ none. absurd (omega arith)))
       t places base
   late_levels (suc k) p t places more all base =
@@ -151,7 +159,8 @@ module _ (rounds n l : ℕ) (two : 1 < rounds) (sum : l + 1 ≡ n) (high : 2 < l
       late_enters p (suc k) (backs (p + 1) 2 (suc k) back) more all (starts_passes p (p + 1) (suc k) back (omega arith) (omega arith))
       (λ t after next at.
       let e : n ≡ p + 1 + suc k = omega arith in
-      late_backs (p + 1) (p + 1) (2 + suc k) back (omega arith) (omega arith) (λ y v stop. starts_lowers (Follows (resets y v)) (2 + suc k) (l - (2 + suc k)) later (resets_takes y v (2 + suc k)) (resets_readies y v l (omega arith)))
+      late_backs (p + 1) (p + 1) (2 + suc k) back (omega arith) (omega arith)
+      (λ y v stop. starts_lowers (Follows (resets y v)) (2 + suc k) (l - (2 + suc k)) later (resets_takes y v (2 + suc k)) (resets_readies y v l (omega arith)))
       (λ t places next at held. late_lowers (p + 1) (p + 1) n 2 l later (omega arith) (omega arith) (λ a e. takes_readies a l (omega arith))
       (λ t places next at held. late_readies (p + 1) (p + 1) t places (levels l (p + 1) k) (omega arith) next (at ∙ mod-eq_of_lt (omega arith)) (held high)
       (starts_levels (Follows (readies l)) l (p + 1) k (readies_shares l))
@@ -165,11 +174,13 @@ module _ (rounds n l : ℕ) (two : 1 < rounds) (sum : l + 1 ≡ n) (high : 2 < l
       → IsLateIn rounds n t places (body l)
   late_body t places base at held =
       let rest = readies_too l 2 ∷ levels l 2 (l - 2) in
-      late_level rounds n l two sum (omega arith) 1 1 (l - 1) (backs 3 2 (l - 2) rest) (omega arith) (omega arith) (omega arith) (omega arith) (starts_passes 1 3 (l - 2) rest (omega arith) (omega arith))
+      late_level rounds n l two sum (omega arith) 1 1 (l - 1) (backs 3 2 (l - 2) rest) (omega arith) (omega arith) (omega arith) (omega arith)
+      (starts_passes 1 3 (l - 2) rest (omega arith) (omega arith))
       (λ t after next at.
       let e : n ≡ 3 + (l - 2) = omega arith in
       late_backs 2 3 l rest (omega arith) (omega arith) (λ y v stop. resets_readies_too y v l 2 (omega arith) high)
-      (λ t places next at held. late_readies_too 2 t places (levels l 2 (l - 2)) next at (held high) (starts_levels (Follows (readies_too l 2)) l 2 (l - 2) (readies_too_shares l 2))
+      (λ t places next at held. late_readies_too 2 t places (levels l 2 (l - 2)) next at (held high)
+      (starts_levels (Follows (readies_too l 2)) l 2 (l - 2) (readies_too_shares l 2))
       (λ after next. late_levels (l - 2) 2 (t + 1) after (omega arith) (omega arith) next))
       (l - 2) 2 t after (omega arith) (omega arith) (omega arith) (subst (λ v. IsBase n after 2 v n 2) e next) at (λ none. absurd (omega arith)))
       t places base at held

@@ -102,9 +102,12 @@ length-all l high =
     let wide : l - (1 + 1) + 2 ≡ j + 2 = omega arith in
     let count : l - 1 ≡ j + 1 = omega arith in
     let long : length (body l) ≡ j + 1 + ((j + 1) * (j + 2) + (1 + length (backs 3 2 j rest))) =
-    first ∙ ap (λ v. v + ((l - 1) * (l - (1 + 1) + 2) + (1 + length (backs 3 2 j rest)))) down ∙ ap (λ v. j + 1 + ((l - 1) * v + (1 + length (backs 3 2 j rest)))) wide ∙ ap (λ v. j + 1 + (v * (j + 2) + (1 + length (backs 3 2 j rest)))) count in
-    let eb : length (body l) ≡ j + 1 + ((j + 1) * (j + 2) + (1 + (j + (1 + length (levels l 2 j))))) = long ∙ ap (λ v. j + 1 + ((j + 1) * (j + 2) + (1 + v))) second in
-    halved (l + length (body l) + 1) ((l + 1) * ((l + 1) * (l + 1) - (l + 1) + 2)) (sum-is j l (length (body l)) (length (levels l 2 j)) el eb (twice_levels (j + 1) l (omega arith) (omega arith) j 2 (omega arith)))
+    first ∙ ap (λ v. v + ((l - 1) * (l - (1 + 1) + 2) + (1 + length (backs 3 2 j rest)))) down ∙ ap
+    (λ v. j + 1 + ((l - 1) * v + (1 + length (backs 3 2 j rest)))) wide ∙ ap (λ v. j + 1 + (v * (j + 2) + (1 + length (backs 3 2 j rest)))) count in
+    let eb : length (body l) ≡ j + 1 + ((j + 1) * (j + 2) + (1 + (j + (1 + length (levels l 2 j))))) = long ∙ ap
+    (λ v. j + 1 + ((j + 1) * (j + 2) + (1 + v))) second in
+    halved (l + length (body l) + 1) ((l + 1) * ((l + 1) * (l + 1) - (l + 1) + 2))
+    (sum-is j l (length (body l)) (length (levels l 2 j)) el eb (twice_levels (j + 1) l (omega arith) (omega arith) j 2 (omega arith)))
 
 -- ---- the slots before the levels
 -- the window of five ports or more
@@ -128,14 +131,18 @@ late_five rounds n l t places two sum high begins =
     let rest = crosses_by l l ∷ body l in
     late_lowers rounds n l two sum (omega arith) 1 1 n 1 (l - 1) (it ∷ rest) (omega arith) (omega arith) (λ a e. takes_both_by a (l - 1) l (omega arith))
     (λ t places base at held.
-    let suits = suits_both_by n places (l - 1) l (omega arith) (omega arith) (omega arith) (λ e. omega arith) (omega arith) (omega arith) (at ∙ mod-eq_of_lt (omega arith)) in
+    let suits = suits_both_by n places (l - 1) l (omega arith) (omega arith) (omega arith) (λ e. omega arith) (omega arith) (omega arith)
+    (at ∙ mod-eq_of_lt (omega arith)) in
     let step = many_step_of rounds n t places it (omega arith) base.switch suits (omega arith) in
     let after = (decided_in rounds n t places it).places in
     let three : accept_of after l 0 ≡ 3 = step.accepted l 2 (inr (inl (refl, refl))) ∙ mod-eq_of_lt (omega arith) in
-    let near : distance n (accept_of after l 0) 1 + 3 ≡ 1 + n = ap (λ f. distance n f 1 + 3) three ∙ distance-below n 3 1 (omega arith) (omega arith) (omega arith) in
-    let far : distance n (accept_of after l 0) 2 + 3 ≡ 2 + n = ap (λ f. distance n f 2 + 3) three ∙ distance-below n 3 2 (omega arith) (omega arith) (omega arith) in
+    let near : distance n (accept_of after l 0) 1 + 3 ≡ 1 + n = ap (λ f. distance n f 1 + 3) three ∙ distance-below n 3 1 (omega arith) (omega arith)
+    (omega arith) in
+    let far : distance n (accept_of after l 0) 2 + 3 ≡ 2 + n = ap (λ f. distance n f 2 + 3) three ∙ distance-below n 3 2 (omega arith) (omega arith)
+    (omega arith) in
     let last : accept_of after 0 0 ≡ l = step.accepted 0 (l - 1) (inl (refl, refl)) ∙ mod-eq_of_lt (omega arith) ∙ omega arith in
-    IsLateBy-before n (decided_in rounds n) t places it rest step.serves (both_by_crosses (l - 1) l l (omega arith)) (left_by_input rounds n t places it (omega arith) base.switch suits (omega arith) (l - 1) (omega arith) (inl (refl, refl)))
+    IsLateBy-before n (decided_in rounds n) t places it rest step.serves (both_by_crosses (l - 1) l l (omega arith))
+    (left_by_input rounds n t places it (omega arith) base.switch suits (omega arith) (l - 1) (omega arith) (inl (refl, refl)))
     (late_crosses rounds n l two sum (omega arith) (t + 1) after (record {
       switch = IsSwitch-after_in rounds n t places it base.switch;
       grant = step.grant_stays 0 (λ i is. elim is [ inl s ↦ let e = s.1 in omega arith | inr more ↦ elim more [ inl s ↦ let e = s.1 in omega arith | inr none ↦ none ] ]) ∙ base.grant;
@@ -148,16 +155,19 @@ late_four : (rounds t : ℕ) (places : Places) → 1 < rounds → IsBeginning 4 
 late_four rounds t places two begins =
     let it = wins_by 2 3 in
     let rest = crosses_by 3 3 ∷ body 3 in
-    late_takes rounds 4 3 two refl (omega arith) 1 1 4 1 1 t places (it ∷ rest) (omega arith) (omega arith) (omega arith) begins.base begins.at (takes_wins_by 1 2 3 (omega arith))
+    late_takes rounds 4 3 two refl (omega arith) 1 1 4 1 1 t places (it ∷ rest) (omega arith) (omega arith) (omega arith) begins.base begins.at
+    (takes_wins_by 1 2 3 (omega arith))
     (λ before base at granted stays.
     let zero_at : grant_of before 2 0 ≡ 0 = stays 2 (λ e. omega arith) ∙ begins.others 2 (omega arith) in
     let suits = suits_wins_by 4 before 2 3 (omega arith) (omega arith) (omega arith) at zero_at in
     let step = many_step_of rounds 4 (t + 1) before it (omega arith) base.switch suits (omega arith) in
     let after = (decided_in rounds 4 (t + 1) before it).places in
-    let fresh : (i : ℕ) → 1 ≤ i → i < 4 → accept_of after i 0 ≡ 1 = λ i i_low i_high. step.accept_stays i (λ j is. elim is [ inl s ↦ let e = s.0 in omega arith | inr none ↦ none ]) ∙ base.fresh i i_low i_high in
+    let fresh : (i : ℕ) → 1 ≤ i → i < 4 → accept_of after i 0 ≡ 1 = λ i i_low i_high. step.accept_stays i
+    (λ j is. elim is [ inl s ↦ let e = s.0 in omega arith | inr none ↦ none ]) ∙ base.fresh i i_low i_high in
     let near : distance 4 (accept_of after 3 0) 1 ≡ 0 = ap (λ f. distance 4 f 1) (fresh 3 (omega arith) (omega arith)) ∙ distance-own 4 1 (omega arith) in
     let last : accept_of after 0 0 ≡ 3 = step.accepted 0 2 (inl (refl, refl)) in
-    IsLateBy-before 4 (decided_in rounds 4) (t + 1) before it rest step.serves (wins_by_crosses 3 3 (omega arith)) (left_by_input rounds 4 (t + 1) before it (omega arith) base.switch suits (omega arith) 2 (omega arith) (inl (refl, refl)))
+    IsLateBy-before 4 (decided_in rounds 4) (t + 1) before it rest step.serves (wins_by_crosses 3 3 (omega arith))
+    (left_by_input rounds 4 (t + 1) before it (omega arith) base.switch suits (omega arith) 2 (omega arith) (inl (refl, refl)))
     (late_crosses rounds 4 3 two refl (omega arith) (t + 1 + 1) after (record {
       switch = IsSwitch-after_in rounds 4 (t + 1) before it base.switch;
       grant = step.grant_stays 0 (λ i is. elim is [ inl s ↦ let e = s.1 in omega arith | inr none ↦ none ]) ∙ base.grant;
@@ -221,7 +231,8 @@ module _ (rounds n : ℕ) (two : 1 < rounds) (ports : 1 < n) (rest : List Plan) 
   opens zero x t places sum opened =
       let same : x ≡ n = omega arith in
       let round : x % n ≡ 0 = ap (λ v. v % n) same ∙ mod_once n n (omega arith) (omega arith) ∙ omega arith in
-      let step = many_step_of rounds n t places (ends 0) (omega arith) opened.switch (suits_ends n places 0 (omega arith) (opened.grant ∙ round)) (omega arith) in
+      let step = many_step_of rounds n t places (ends 0) (omega arith) opened.switch (suits_ends n places 0 (omega arith) (opened.grant ∙ round))
+      (omega arith) in
       let after = (decided_in rounds n t places (ends 0)).places in (
         after,
         record {
@@ -237,7 +248,8 @@ module _ (rounds n : ℕ) (two : 1 < rounds) (ports : 1 < n) (rest : List Plan) 
       )
   opens (suc k) x t places sum opened =
       let x_in : x < n = omega arith in
-      let step = many_step_of rounds n t places (ends x) (omega arith) opened.switch (suits_ends n places x x_in (opened.grant ∙ mod-eq_of_lt x_in)) (omega arith) in
+      let step = many_step_of rounds n t places (ends x) (omega arith) opened.switch (suits_ends n places x x_in (opened.grant ∙ mod-eq_of_lt x_in))
+      (omega arith) in
       let after = (decided_in rounds n t places (ends x)).places in
       let next : IsOpened n after (x + 1) = record {
         switch = IsSwitch-after_in rounds n t places (ends x) opened.switch;
@@ -312,7 +324,8 @@ five_comes rounds n two high size =
     let sum : l + 1 ≡ n = omega arith in
     let starts = starts_more (Follows (ends 0)) 0 (l - 2) 1 (both_by (l - 1) l ∷ crosses_by l l ∷ body l) (omega arith) ends_takes in
     let long : length (five l) + 1 ≡ longest_service n = ap (λ v. v + 1) (length-five l (omega arith)) ∙ length-all l (omega arith) ∙ ap longest_service sum in
-    counted rounds n (suc n) (five l) long (omega arith) (late_comes rounds n two (omega arith) (five l) starts size (λ t places begins. late_five rounds n l t places two sum (omega arith) begins))
+    counted rounds n (suc n) (five l) long (omega arith)
+    (late_comes rounds n two (omega arith) (five l) starts size (λ t places begins. late_five rounds n l t places two sum (omega arith) begins))
 
 -- four ports
 four_comes : (rounds : ℕ) → 1 < rounds → Reached rounds 4

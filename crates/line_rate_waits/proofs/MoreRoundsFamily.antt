@@ -163,7 +163,8 @@ module _ (rounds n l : ℕ) (two : 1 < rounds) (sum : l + 1 ≡ n) (high : 1 < l
       → IsLateIn rounds n t places (shares l x y ∷ rest)
   late_shares p low above b x y t places rest some_p x_above x_in some_low outside some_y y_in base at starts then =
       let it = shares l x y in
-      let suits = suits_shares n places l x y (omega arith) x_in some_y y_in (omega arith) (ahead n (grant_of places 0 0) p x base.grant some_p x_above x_in) at in
+      let suits = suits_shares n places l x y (omega arith) x_in some_y y_in (omega arith)
+      (ahead n (grant_of places 0 0) p x base.grant some_p x_above x_in) at in
       let step = many_step_of rounds n t places it some base.switch suits some_rounds in
       let after = (decided_in rounds n t places it).places in
       let next : IsBase n after p low above b = record {
@@ -174,7 +175,8 @@ module _ (rounds n l : ℕ) (two : 1 < rounds) (sum : l + 1 ≡ n) (high : 1 < l
           | inr more ↦ elim more [ inl s ↦ let e = s.0 in omega arith | inr none ↦ none ]
         ]) ∙ base.fresh i i_low i_high;
       } in
-      IsLateBy-before n (decided_in rounds n) t places it rest step.serves starts (left_by_input rounds n t places it some base.switch suits some_rounds l (omega arith) (inr (inl (refl, refl))))
+      IsLateBy-before n (decided_in rounds n) t places it rest step.serves starts
+      (left_by_input rounds n t places it some base.switch suits some_rounds l (omega arith) (inr (inl (refl, refl))))
       (then after next (step.accepted x y (inl (refl, refl)) ∙ mod-eq_of_lt (omega arith)) (step.granted x y (inl (refl, refl)))
       (λ j not_y not_l. step.grant_stays j (λ i is. elim is [ inl s ↦ not_y s.1 | inr more ↦ elim more [ inl s ↦ not_l s.1 | inr none ↦ none ] ])))
 
@@ -184,7 +186,8 @@ module _ (rounds n l : ℕ) (two : 1 < rounds) (sum : l + 1 ≡ n) (high : 1 < l
       → ((after : Places) → IsBase n after p p x b → IsLateIn rounds n (t + 1) after rest) → IsLateIn rounds n t places (closes l x f u ∷ rest)
   late_closes p b x f u t places rest some_p x_above x_in some_f f_in how base at held starts then =
       let it = closes l x f u in
-      let suits = suits_closes n places l x f u (omega arith) x_in some_f f_in (omega arith) (ahead n (grant_of places 0 0) p x base.grant some_p x_above x_in) at (closing n (grant_of places f 0) x u x_in held how) in
+      let suits = suits_closes n places l x f u (omega arith) x_in some_f f_in (omega arith)
+      (ahead n (grant_of places 0 0) p x base.grant some_p x_above x_in) at (closing n (grant_of places f 0) x u x_in held how) in
       let step = many_step_of rounds n t places it some base.switch suits some_rounds in
       let after = (decided_in rounds n t places it).places in
       let next : IsBase n after p p x b = record {
@@ -192,7 +195,8 @@ module _ (rounds n l : ℕ) (two : 1 < rounds) (sum : l + 1 ≡ n) (high : 1 < l
         grant = step.grant_stays 0 (λ i is. elim is [ inl s ↦ let e = s.1 in omega arith | inr more ↦ elim more [ inl s ↦ let e = s.1 in omega arith | inr none ↦ none ] ]) ∙ base.grant;
         fresh = λ i i_low i_high. step.accept_stays i (λ j is. elim is [ inl s ↦ let e = s.0 in omega arith | inr more ↦ elim more [ inl s ↦ let e = s.0 in omega arith | inr none ↦ none ] ]) ∙ base.fresh i i_low i_high;
       } in
-      IsLateBy-before n (decided_in rounds n) t places it rest step.serves starts (left_by_input rounds n t places it some base.switch suits some_rounds f some_f (inr (inl (refl, refl)))) (then after next)
+      IsLateBy-before n (decided_in rounds n) t places it rest step.serves starts
+      (left_by_input rounds n t places it some base.switch suits some_rounds f some_f (inr (inl (refl, refl)))) (then after next)
 
   -- input x goes down
   late_goes : (p x f u : ℕ) (rest : List Plan) → 0 < p → p ≤ x → x < n → 0 < f → f < l → (u ≡ 0) ⊎ (u + 1 ≡ x) → (u ≡ x → ⊥)
@@ -202,9 +206,11 @@ module _ (rounds n l : ℕ) (two : 1 < rounds) (sum : l + 1 ≡ n) (high : 1 < l
   late_goes p x f u rest some_p x_above x_in some_f f_in how other starts then zero y t places above all base at held =
       late_closes p f x f u t places rest some_p x_above x_in some_f f_in how base (at ∙ omega arith) held starts (λ after next. then (t + 1) after next)
   late_goes p x f u rest some_p x_above x_in some_f f_in how other starts then (suc k) y t places above all base at held =
-      late_shares p p x f x y t places (sharings l x (y + 1) k (closes l x f u ∷ rest)) some_p x_above x_in some_p (inr (omega arith)) (omega arith) (omega arith) base at
+      late_shares p p x f x y t places (sharings l x (y + 1) k (closes l x f u ∷ rest)) some_p x_above x_in some_p (inr (omega arith)) (omega arith)
+      (omega arith) base at
       (starts_sharings (Follows (shares l x y)) l x (y + 1) k (closes l x f u ∷ rest) (shares_shares l x y) (shares_closes l x y f u (omega arith) other))
-      (λ after next at granted stays. late_goes p x f u rest some_p x_above x_in some_f f_in how other starts then k (y + 1) (t + 1) after (omega arith) (omega arith) next at
+      (λ after next at granted stays. late_goes p x f u rest some_p x_above x_in some_f f_in how other starts then k (y + 1) (t + 1) after (omega arith)
+      (omega arith) next at
       (stays f (λ e. omega arith) (λ e. omega arith) ∙ held))
 
   -- input x begins to ask, and the input after it is served in the second round
@@ -214,7 +220,8 @@ module _ (rounds n l : ℕ) (two : 1 < rounds) (sum : l + 1 ≡ n) (high : 1 < l
   late_joins p f x t places rest some_p x_above next_in some_f f_in base starts then =
       let it = joins_first x f in
       let from = grant_of places 0 0 in
-      let suits = suits_joins n places x f (omega arith) some_f (omega arith) (ahead n from p x base.grant some_p x_above (omega arith)) (ahead_next n from p x base.grant x_above next_in) (base.fresh x x_above (omega arith)) in
+      let suits = suits_joins n places x f (omega arith) some_f (omega arith) (ahead n from p x base.grant some_p x_above (omega arith))
+      (ahead_next n from p x base.grant x_above next_in) (base.fresh x x_above (omega arith)) in
       let after_it = ahead n from p (x + 1) base.grant some_p (omega arith) next_in in
       let step = many_step_of rounds n t places it some base.switch suits some_rounds in
       let second = served_second rounds n t places it some base.switch suits some_rounds (x + 1) (second_joins n places x f next_in some_f (omega arith)) two in
@@ -258,7 +265,8 @@ module _ (rounds n l : ℕ) (two : 1 < rounds) (sum : l + 1 ≡ n) (high : 1 < l
       let suits = suits_passes n places p some_p p_in (grant ∙ mod-eq_of_lt p_in) in
       let step = many_step_of rounds n t places it some switch suits some_rounds in
       let after = (decided_in rounds n t places it).places in
-      IsLateBy-before n (decided_in rounds n) t places it rest step.serves starts (left_by_input rounds n t places it some switch suits some_rounds 1 (omega arith) (inr (inl (refl, refl))))
+      IsLateBy-before n (decided_in rounds n) t places it rest step.serves starts
+      (left_by_input rounds n t places it some switch suits some_rounds 1 (omega arith) (inr (inl (refl, refl))))
       (then after (record { switch = IsSwitch-after_in rounds n t places it switch; grant = step.granted p 0 (inl (refl, refl)); fresh = λ i i_low i_high. absurd (omega arith) })
       (step.accepted 0 1 (inr (inl (refl, refl))) ∙ mod-eq_of_lt (omega arith)))
 
@@ -268,7 +276,8 @@ module _ (rounds n l : ℕ) (two : 1 < rounds) (sum : l + 1 ≡ n) (high : 1 < l
       → (t : ℕ) (places : Places) → IsBase n places p p l f → accept_of places l 0 ≡ f + 1 → grant_of places f 0 ≡ (l + 1) % n → IsLateIn rounds n t places (level l p f k rest)
   late_level p f k rest some_p all some_f f_in starts then t places base at held =
       let how : (before p k ≡ 0) ⊎ (before p k + 1 ≡ l) = elim (before_is p k) [ inl none ↦ inl none | inr next ↦ inr (omega arith) ] in
-      late_goes p l f (before p k) (climbs l p f k (passes p ∷ rest)) some_p (omega arith) (omega arith) some_f f_in how (before_other p k l some_p (sym all)) (starts_climbs l p f k l rest (sym all))
+      late_goes p l f (before p k) (climbs l p f k (passes p ∷ rest)) some_p (omega arith) (omega arith) some_f f_in how
+      (before_other p k l some_p (sym all)) (starts_climbs l p f k l rest (sym all))
       (λ t places next. late_climbs p f rest some_p some_f f_in
       (λ t places next. late_passes p t places rest some_p (omega arith) next.switch next.grant starts (λ after last zero_at. then (t + 1) after last zero_at))
       k t places (omega arith) (subst (λ v. IsBase n places p p v f) (sym all) next))
@@ -295,5 +304,6 @@ module _ (rounds n l : ℕ) (two : 1 < rounds) (sum : l + 1 ≡ n) (high : 1 < l
         | inl later ↦ step.grant_stays 2 (λ i is. elim is [ inl s ↦ let e = s.1 in omega arith | inr more ↦ elim more [ inl s ↦ let e = s.1 in omega arith | inr none ↦ none ] ]) ∙ held later
         | inr now ↦ let same : y ≡ 2 = omega arith in subst (λ v. grant_of after v 0 ≡ 1) same (step.granted 0 y (inl (refl, refl)) ∙ mod-eq_of_lt (omega arith))
       ] in
-      IsLateBy-before n (decided_in rounds n) t places it rest step.serves starts (left_by_input rounds n t places it some base.switch suits some_rounds y (omega arith) (inl (refl, refl)))
+      IsLateBy-before n (decided_in rounds n) t places it rest step.serves starts
+      (left_by_input rounds n t places it some base.switch suits some_rounds y (omega arith) (inl (refl, refl)))
       (then after next (step.accepted 0 y (inl (refl, refl)) ∙ mod-eq_of_lt (omega arith)) held_on)

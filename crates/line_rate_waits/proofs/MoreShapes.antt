@@ -61,7 +61,13 @@ suits_shares n places l x y some_x x_in some_y y_in l_in before at = record {
     ((λ e. absurd (omega arith), (λ e. absurd (omega arith), (λ e. absurd (omega arith), (λ e. omega arith, tt)))), tt),
   );
   taken = (
-    (λ e. inl (at_first n (accept_of places x 0) y 0 (omega arith) at), (λ e. inl (at_first n (accept_of places x 0) y 0 (omega arith) at), (λ e. inl (omega arith), (λ e. inl (at_first n (accept_of places x 0) y l (omega arith) at), tt)))),
+    (
+      λ e. inl (at_first n (accept_of places x 0) y 0 (omega arith) at),
+      (
+        λ e. inl (at_first n (accept_of places x 0) y 0 (omega arith) at),
+        (λ e. inl (omega arith), (λ e. inl (at_first n (accept_of places x 0) y l (omega arith) at), tt)),
+      ),
+    ),
     ((λ e. inr (x, x_in, inr (inl (refl, refl)), before), (λ e. absurd (omega arith), (λ e. absurd (omega arith), (λ e. inl (omega arith), tt)))), tt),
   );
   done = (inl (l, inr (inl (refl, refl))), (inl (y, inl (refl, refl)), (inl (y, inl (refl, refl)), (inl (l, inr (inl (refl, refl))), tt))));
@@ -157,7 +163,10 @@ suits_readies_too n places l w more l_in some_w w_in at granting = record {
     ),
   );
   taken = (
-    (λ e. inl (at_first n (accept_of places 0 0) l 0 l_in at), (λ e. inl (omega arith), (λ e. absurd (omega arith), (λ e. absurd (omega arith), (λ e. absurd (omega arith), tt))))),
+    (
+      λ e. inl (at_first n (accept_of places 0 0) l 0 l_in at),
+      (λ e. inl (omega arith), (λ e. absurd (omega arith), (λ e. absurd (omega arith), (λ e. absurd (omega arith), tt)))),
+    ),
     (
       (λ e. absurd (omega arith), (λ e. absurd (omega arith), (λ e. inl (omega arith), (λ e. absurd (omega arith), (λ e. absurd (omega arith), tt))))),
       ((λ e. absurd (omega arith), (λ e. absurd (omega arith), (λ e. absurd (omega arith), (λ e. absurd (omega arith), (λ e. inl (omega arith), tt))))), tt),

@@ -162,7 +162,8 @@ module _ (n : ℕ) (two : 2 < n) where
   late_ends : (t : ℕ) (places : Places) → IsStanding n places n n 0 (n - 1 + 1) 1 1 → IsLate n t places (ends 0 ∷ [])
   late_ends t places standing =
       let round : n % n ≡ 0 = mod_once n n (omega arith) (omega arith) ∙ omega arith in
-      IsLate-last n t places (ends 0) (step_of n t places (ends 0) some standing.switch (suits_ends n places 0 some (standing.grant ∙ round))) (inl (refl, refl))
+      IsLate-last n t places (ends 0) (step_of n t places (ends 0) some standing.switch (suits_ends n places 0 some (standing.grant ∙ round)))
+      (inl (refl, refl))
 
   -- the turns of input x and the k inputs after it
   late_turns : (k x f t : ℕ) (places : Places) → 0 < x → x + k + 1 ≡ n → 0 < f → f < n → IsStanding n places x (x + 1) x f 0 0
@@ -171,7 +172,8 @@ module _ (n : ℕ) (two : 2 < n) where
       let back = downs 0 2 (n - 2) (ends 0 ∷ []) in
       let e : x + 1 ≡ n = omega arith in
       late_downs x (x + 1) x 0 0 (n - 1) (passes x ∷ back) (omega arith) (omega arith) (inr (some_x, refl)) (omega arith) (takes_passes x (n - 1))
-      (λ t places standing. late_passes x (n - 1 + 1) t places back some_x (omega arith) standing (starts_more (Follows (passes x)) 0 (n - 2) 2 (ends 0 ∷ []) (omega arith) (passes_takes x))
+      (λ t places standing. late_passes x (n - 1 + 1) t places back some_x (omega arith) standing
+      (starts_more (Follows (passes x)) 0 (n - 2) 2 (ends 0 ∷ []) (omega arith) (passes_takes x))
       (λ places standing. late_downs (x + 1) (x + 1) 0 1 1 (n - 1) (ends 0 ∷ []) some (omega arith) (inl refl) (omega arith) (takes_ends (n - 1))
       (λ t places standing. late_ends t places (subst (λ v. IsStanding n places v v 0 (n - 1 + 1) 1 1) e standing))
       (n - 2) 2 (t + 1) places (omega arith) (λ yes. inl (omega arith)) (omega arith) standing))
@@ -181,9 +183,11 @@ module _ (n : ℕ) (two : 2 < n) where
       let rest = crosses (n - 1) (x + 1) 1 ∷ later in
       let back = downs 0 2 (n - 3) rest in
       late_downs x (x + 1) x 0 0 (n - 1) (passes x ∷ back) (omega arith) (omega arith) (inr (some_x, refl)) (omega arith) (takes_passes x (n - 1))
-      (λ t places standing. late_passes x (n - 1 + 1) t places back some_x (omega arith) standing (starts_downs (Follows (passes x)) 0 (n - 3) 2 rest (passes_takes x) (passes_crosses x (n - 1) some_x))
+      (λ t places standing. late_passes x (n - 1 + 1) t places back some_x (omega arith) standing
+      (starts_downs (Follows (passes x)) 0 (n - 3) 2 rest (passes_takes x) (passes_crosses x (n - 1) some_x))
       (λ places standing. late_downs (x + 1) (x + 1) 0 1 1 (n - 2) rest some (omega arith) (inl refl) (omega arith) (takes_crosses (n - 2) x (n - 1) some_x)
-      (λ t places standing. late_crosses (x + 1) (x + 1) (x + 1) 1 t places later (omega arith) (omega arith) (λ e. omega arith) (λ e. standing.held (omega arith)) (λ e. absurd (omega arith)) (inl refl)
+      (λ t places standing. late_crosses (x + 1) (x + 1) (x + 1) 1 t places later (omega arith) (omega arith) (λ e. omega arith)
+      (λ e. standing.held (omega arith)) (λ e. absurd (omega arith)) (inl refl)
       standing.switch standing.grant (standing.accept ∙ mod-eq_of_lt (omega arith) ∙ omega arith) standing.fresh
       (starts_turns (Follows (crosses (n - 1) (x + 1) 1)) n k (x + 1) 1 (omega arith) (crosses_takes (n - 1) (x + 1) 1))
       (λ places standing. late_turns k (x + 1) 1 (t + 1) places (omega arith) (omega arith) (omega arith) (omega arith)
@@ -202,7 +206,8 @@ module _ (n : ℕ) (two : 2 < n) where
       → IsSwitch n places → grant_of places 0 0 ≡ 1 % n → accept_of places 0 0 ≡ n - 1 → ((i : ℕ) → 2 ≤ i → i < n → accept_of places i 0 ≡ 1) → Follows (crosses (n - 1) 1 v) (takes 1 2)
       → IsLate n t places (crosses (n - 1) 1 v ∷ turns n 1 2 (n - 2))
   late_first v t places other not_one near switch grant accept fresh follows =
-      late_crosses 1 2 1 v t places (turns n 1 2 (n - 2)) (omega arith) (omega arith) other (λ e. absurd (not_one e)) (λ e. near) (inr refl) switch grant accept fresh
+      late_crosses 1 2 1 v t places (turns n 1 2 (n - 2)) (omega arith) (omega arith) other (λ e. absurd (not_one e)) (λ e. near)
+      (inr refl) switch grant accept fresh
       (starts_turns (Follows (crosses (n - 1) 1 v)) n (n - 2) 1 2 two follows)
       (λ places standing. late_turns (n - 2) 1 2 (t + 1) places (omega arith) (omega arith) (omega arith) two standing)
 
@@ -229,12 +234,15 @@ late_five n t places more begins =
     let it = both (n - 2) in
     late_downs n (omega arith) 1 1 0 0 0 (n - 3) (it ∷ rest) (omega arith) (omega arith) (inl refl) (omega arith) (takes_both (n - 3) (n - 2))
     (λ t places standing.
-    let suits = suits_both n places (n - 2) (omega arith) (omega arith) (omega arith) (λ e. omega arith) (standing.accept ∙ mod-eq_of_lt (omega arith) ∙ omega arith) in
+    let suits = suits_both n places (n - 2) (omega arith) (omega arith) (omega arith) (λ e. omega arith)
+    (standing.accept ∙ mod-eq_of_lt (omega arith) ∙ omega arith) in
     let step = step_of n t places it (omega arith) standing.switch suits in
     let after = (decided n t places it).places in
     let at : accept_of after 1 0 ≡ 3 = step.accepted 1 2 (inr (inl (refl, refl))) ∙ mod-eq_of_lt (omega arith) in
-    let near : distance n (accept_of after 1 0) 1 + 3 ≡ 1 + n = ap (λ f. distance n f 1 + 3) at ∙ distance-below n 3 1 (omega arith) (omega arith) (omega arith) in
-    let far : distance n (accept_of after 1 0) 2 + 3 ≡ 2 + n = ap (λ f. distance n f 2 + 3) at ∙ distance-below n 3 2 (omega arith) (omega arith) (omega arith) in
+    let near : distance n (accept_of after 1 0) 1 + 3 ≡ 1 + n = ap (λ f. distance n f 1 + 3) at ∙ distance-below n 3 1 (omega arith) (omega arith)
+    (omega arith) in
+    let far : distance n (accept_of after 1 0) 2 + 3 ≡ 2 + n = ap (λ f. distance n f 2 + 3) at ∙ distance-below n 3 2 (omega arith) (omega arith)
+    (omega arith) in
     IsLate-before n t places it rest step (both_crosses (n - 2) (n - 1))
     (λ is. elim is [ inl s ↦ let e = s.1 in omega arith | inr later ↦ elim later [ inl s ↦ let e = s.0 in omega arith | inr none ↦ none ] ])
     (late_first n (omega arith) 2 (t + 1) after (λ e. omega arith) (λ e. omega arith) (omega arith) (IsSwitch-after n t places it standing.switch)
@@ -252,7 +260,8 @@ late_wins n y v t places two sum other not_one standing first second =
     let suits = suits_wins n places y (omega arith) (omega arith) (omega arith) (standing.accept ∙ mod-eq_of_lt (omega arith)) (standing.held (omega arith)) in
     let step = step_of n t places (wins y) (omega arith) standing.switch suits in
     let after = (decided n t places (wins y)).places in
-    let stays : (i : ℕ) → 1 ≤ i → i < n → accept_of after i 0 ≡ 1 = λ i late i_in. step.accept_stays i (λ j is. elim is [ inl s ↦ let e = s.0 in omega arith | inr none ↦ none ]) ∙ standing.fresh i late i_in in
+    let stays : (i : ℕ) → 1 ≤ i → i < n → accept_of after i 0 ≡ 1 = λ i late i_in. step.accept_stays i
+    (λ j is. elim is [ inl s ↦ let e = s.0 in omega arith | inr none ↦ none ]) ∙ standing.fresh i late i_in in
     let near : distance n (accept_of after 1 0) 1 ≡ 0 = ap (λ f. distance n f 1) (stays 1 (omega arith) (omega arith)) ∙ distance-own n 1 (omega arith) in
     IsLate-before n t places (wins y) (crosses (n - 1) 1 v ∷ turns n 1 2 (n - 2)) step first
     (λ is. elim is [ inl s ↦ let e = s.1 in omega arith | inr none ↦ none ])
@@ -265,7 +274,8 @@ late_wins n y v t places two sum other not_one standing first second =
 pub late_four : (t : ℕ) (places : Places) → IsBeginning 4 places → IsLate 4 t places four
 late_four t places begins =
     late_downs 4 (omega arith) 1 1 0 2 0 1 (wins 2 ∷ crosses 3 1 2 ∷ turns 4 1 2 2) (omega arith) (omega arith) (inl refl) (omega arith) (takes_wins 1 2)
-    (λ t places standing. late_wins 4 2 2 t places (omega arith) (omega arith) (λ e. omega arith) (λ e. omega arith) standing (wins_crosses 2 3) (crosses_takes 3 1 2))
+    (λ t places standing. late_wins 4 2 2 t places (omega arith) (omega arith) (λ e. omega arith) (λ e. omega arith) standing (wins_crosses 2 3)
+    (crosses_takes 3 1 2))
     1 1 t places (omega arith) (λ yes. inr (omega arith)) (omega arith) (begins 2)
 
 -- it is late from the beginning

@@ -37,7 +37,8 @@ is_in i j (p ∷ ps) = (i == p.input && j == p.output) || is_in i j ps
 Decides-in : (i j : ℕ) (ps : List Pair) → Decides (is_in i j ps) (In i j ps)
 Decides-in i j [] = (λ e. absurd (cc), λ none. absurd none)
 Decides-in i j (p ∷ ps) =
-    Decides-or (i == p.input && j == p.output) (is_in i j ps) (Decides-and (i == p.input) (j == p.output) (Decides-eqb i p.input) (Decides-eqb j p.output)) (Decides-in i j ps)
+    Decides-or (i == p.input && j == p.output) (is_in i j ps) (Decides-and (i == p.input) (j == p.output) (Decides-eqb i p.input) (Decides-eqb j p.output))
+    (Decides-in i j ps)
 
 -- each of the pairs has P
 abbrev pub Each : (ℕ → ℕ → Type 0) → List Pair → Type 0

@@ -67,7 +67,10 @@ suits_leaves places granting = record {
   taken = (
     (λ e. absurd (omega arith), (λ e. inl (omega arith), (λ e. absurd (omega arith), (λ e. absurd (omega arith), tt)))),
     (
-      (λ e. inr (zero_passed 3 places leaves 1 (omega arith) (omega arith) granting (inr (inl (refl, refl)))), (λ e. absurd (omega arith), (λ e. inl (omega arith), (λ e. absurd (omega arith), tt)))),
+      (
+        λ e. inr (zero_passed 3 places leaves 1 (omega arith) (omega arith) granting (inr (inl (refl, refl)))),
+        (λ e. absurd (omega arith), (λ e. inl (omega arith), (λ e. absurd (omega arith), tt))),
+      ),
       ((λ e. absurd (omega arith), (λ e. absurd (omega arith), (λ e. absurd (omega arith), (λ e. inl (omega arith), tt)))), tt),
     ),
   );
@@ -155,7 +158,8 @@ late_last rounds t places two base at =
     let switch = IsSwitch-after_in rounds 3 t places it base.switch in
     let grant : grant_of after 0 0 ≡ 0 = step.grant_stays 0 (λ i is. elim is [ inl s ↦ let e = s.1 in omega arith | inr none ↦ none ]) ∙ base.grant in
     let ending = many_step_of rounds 3 (t + 1) after (ends 0) (omega arith) switch (suits_ends 3 after 0 (omega arith) grant) (omega arith) in
-    IsLateBy-before 3 (decided_in rounds 3) t places it (ends 0 ∷ []) step.serves (takes_ends 2) (left_by_input rounds 3 t places it (omega arith) base.switch suits (omega arith) 2 (omega arith) (inl (refl, refl)))
+    IsLateBy-before 3 (decided_in rounds 3) t places it (ends 0 ∷ []) step.serves (takes_ends 2)
+    (left_by_input rounds 3 t places it (omega arith) base.switch suits (omega arith) 2 (omega arith) (inl (refl, refl)))
     (IsLateBy-last 3 (decided_in rounds 3) (t + 1) after (ends 0) ending.serves (inl (refl, refl)))
 
 -- the slot in which input 2 takes output 1 while its request for output 2 waits, and those after it
@@ -172,9 +176,11 @@ late_returns rounds t places two switch grant at granting other =
       grant = step.grant_stays 0 (λ i is. elim is [ inl s ↦ let e = s.1 in omega arith | inr more ↦ elim more [ inl s ↦ let e = s.1 in omega arith | inr none ↦ none ] ]) ∙ grant;
       fresh = λ i i_low i_high. absurd (omega arith);
     } in
-    IsLateBy-before 3 (decided_in rounds 3) t places it (closes 2 2 1 0 ∷ later) step.serves returns_closes (left_by_input rounds 3 t places it (omega arith) switch suits (omega arith) 2 (omega arith) (inl (refl, refl)))
+    IsLateBy-before 3 (decided_in rounds 3) t places it (closes 2 2 1 0 ∷ later) step.serves returns_closes
+    (left_by_input rounds 3 t places it (omega arith) switch suits (omega arith) 2 (omega arith) (inl (refl, refl)))
     (late_closes rounds 3 2 two refl (omega arith) 2 2 2 1 0 (t + 1) after later (omega arith) (omega arith) (omega arith) (omega arith) (omega arith) (inl refl) next (step.accepted 2 1 (inr (inl (refl, refl)))) (step.granted 2 1 (inr (inl (refl, refl)))) (closes_passes 2 2 1)
-    (λ after base. late_passes rounds 3 2 two refl (omega arith) 2 (t + 1 + 1) after (takes 0 2 ∷ ends 0 ∷ []) (omega arith) (omega arith) base.switch base.grant (passes_takes 2)
+    (λ after base. late_passes rounds 3 2 two refl (omega arith) 2 (t + 1 + 1) after (takes 0 2 ∷ ends 0 ∷ []) (omega arith)
+    (omega arith) base.switch base.grant (passes_takes 2)
     (λ after base at. late_last rounds (t + 1 + 1 + 1) after two base at)))
 
 -- the slot in which input 1 takes output 0, and those after it
@@ -200,10 +206,13 @@ late_meets rounds t places two base at =
       grant = step.grant_stays 0 (λ i is. elim is [ inl s ↦ let e = s.1 in omega arith | inr more ↦ elim more [ inl s ↦ let e = s.1 in omega arith | inr none ↦ none ] ]) ∙ base.grant;
       fresh = λ i i_low i_high. step.accept_stays i (λ j is. elim is [ inl s ↦ let e = s.0 in omega arith | inr more ↦ elim more [ inl s ↦ let e = s.0 in omega arith | inr none ↦ none ] ]) ∙ base.fresh i i_low (omega arith);
     } in
-    IsLateBy-before 3 (decided_in rounds 3) t places it falls step.serves meets_closes (left_by_input rounds 3 t places it (omega arith) base.switch suits (omega arith) 2 (omega arith) (inl (refl, refl)))
+    IsLateBy-before 3 (decided_in rounds 3) t places it falls step.serves meets_closes
+    (left_by_input rounds 3 t places it (omega arith) base.switch suits (omega arith) 2 (omega arith) (inl (refl, refl)))
     (late_closes rounds 3 2 two refl (omega arith) 1 1 2 1 1 (t + 1) after (joins 1 1 ∷ closes 2 1 1 0 ∷ rest_of) (omega arith) (omega arith) (omega arith) (omega arith) (omega arith) (inr refl) next (step.accepted 2 1 (inr (inl (refl, refl)))) (step.granted 2 1 (inr (inl (refl, refl)))) (closes_joins 2 2 1 1 refl)
-    (λ after base. late_joins rounds 3 2 two refl (omega arith) 1 1 1 (t + 1 + 1) after (closes 2 1 1 0 ∷ rest_of) (omega arith) (omega arith) (omega arith) (omega arith) (omega arith) base (joins_closes 2 1 1 0 (omega arith) (λ e. omega arith))
-    (λ after base at held. late_closes rounds 3 2 two refl (omega arith) 1 1 1 1 0 (t + 1 + 1 + 1) after rest_of (omega arith) (omega arith) (omega arith) (omega arith) (omega arith) (inl refl) base at held closes_leaves
+    (λ after base. late_joins rounds 3 2 two refl (omega arith) 1 1 1 (t + 1 + 1) after (closes 2 1 1 0 ∷ rest_of) (omega arith) (omega arith) (omega arith)
+    (omega arith) (omega arith) base (joins_closes 2 1 1 0 (omega arith) (λ e. omega arith))
+    (λ after base at held. late_closes rounds 3 2 two refl (omega arith) 1 1 1 1 0 (t + 1 + 1 + 1) after rest_of (omega arith) (omega arith) (omega arith)
+    (omega arith) (omega arith) (inl refl) base at held closes_leaves
     (λ after base. late_leaves rounds (t + 1 + 1 + 1 + 1) after two base.switch base.grant))))
 
 -- where output 0 and all inputs point at port 1, and output 1 at port 0
@@ -214,11 +223,13 @@ late_three rounds t places two base at zero_at =
     let suits = suits_wins_by 3 places 1 2 (omega arith) (omega arith) (omega arith) at zero_at in
     let step = many_step_of rounds 3 t places first (omega arith) base.switch suits (omega arith) in
     let after = (decided_in rounds 3 t places first).places in
-    let fresh : (i : ℕ) → 1 ≤ i → i < 3 → accept_of after i 0 ≡ 1 = λ i i_low i_high. step.accept_stays i (λ j is. elim is [ inl s ↦ let e = s.0 in omega arith | inr none ↦ none ]) ∙ base.fresh i i_low i_high in
+    let fresh : (i : ℕ) → 1 ≤ i → i < 3 → accept_of after i 0 ≡ 1 = λ i i_low i_high. step.accept_stays i
+    (λ j is. elim is [ inl s ↦ let e = s.0 in omega arith | inr none ↦ none ]) ∙ base.fresh i i_low i_high in
     let next : IsBase 3 after 1 1 3 1 = record {
       switch = IsSwitch-after_in rounds 3 t places first base.switch;
       grant = step.grant_stays 0 (λ i is. elim is [ inl s ↦ let e = s.1 in omega arith | inr none ↦ none ]) ∙ base.grant;
       fresh = fresh;
     } in
-    IsLateBy-before 3 (decided_in rounds 3) t places first (meets ∷ falls) step.serves wins_meets (left_by_input rounds 3 t places first (omega arith) base.switch suits (omega arith) 1 (omega arith) (inl (refl, refl)))
+    IsLateBy-before 3 (decided_in rounds 3) t places first (meets ∷ falls) step.serves wins_meets
+    (left_by_input rounds 3 t places first (omega arith) base.switch suits (omega arith) 1 (omega arith) (inl (refl, refl)))
     (late_meets rounds (t + 1) after two next (step.accepted 0 1 (inl (refl, refl))))
