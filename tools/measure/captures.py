@@ -45,8 +45,8 @@ def _records(data, order, unit):
         at += length
 
 
-def destination(link, frame):
-    """The address that a frame goes to, as a number, or None where it has none."""
+def addresses(link, frame):
+    """The addresses that a frame comes from and goes to, as numbers, or None where it has none."""
     at = 0
     if link == ETHERNET:
         at, kind = 14, frame[12:14]
@@ -56,7 +56,13 @@ def destination(link, frame):
             return None
     if len(frame) < at + IP_HEADER or frame[at] >> 4 != 4:
         return None
-    return int.from_bytes(frame[at + 16:at + 20], "big")
+    return int.from_bytes(frame[at + 12:at + 16], "big"), int.from_bytes(frame[at + 16:at + 20], "big")
+
+
+def destination(link, frame):
+    """The address that a frame goes to, as a number, or None where it has none."""
+    found = addresses(link, frame)
+    return found[1] if found else None
 
 
 def read_table(text):

@@ -1,18 +1,27 @@
 """Makes traffic by a seed: captures of packets of one cell each, their table, and their arrivals.
 
-`uniform`: in each slot a packet comes to each input with the probability of the load, for any output
-with the same probability. `bursty`: each input is on and off by turns. On, a packet comes in each slot,
-all of one burst for the same output, which is any with the same probability. Bursts have a mean length;
-the lengths of bursts (from 1) and of pauses (from 0) are geometric, and the mean pause makes the load.
+In `uniform`, `diagonal`, `log-diagonal` and `hot-spot` traffic a packet comes to each input in each slot with the
+probability of the load, whatever came before (independent Bernoulli arrivals); they differ in where it goes.
+
+- `uniform`: to any of N outputs with the same probability, 1/N.
+- `diagonal`: from input i to output i with probability 2/3, to output i + 1 modulo N with 1/3.
+- `log-diagonal`: from input i to output i + d modulo N with 2^(N-1-d) / (2^N - 1): each further output gets half as much.
+- `hot-spot`: to output 0 with the probability of the hot share, else to any output with the same probability.
+- `bursty`: each input is on and off by turns (a Markov chain of two states). On, a packet comes in each slot, all of
+  one burst for the same output, which is any with the same probability. Bursts have a mean length; the lengths of
+  bursts (from 1) and of pauses (from 0) are geometric, and the mean pause makes the load.
 """
 
 import random
 import struct
+from bisect import bisect
+from functools import lru_cache
+from itertools import accumulate
 from pathlib import Path
 
 from .arrivals import Arrival, write_arrivals
 
-KINDS = ("uniform", "bursty")
+KINDS = ("uniform", "bursty", "diagonal", "log-diagonal", "hot-spot")
 PACE_US = 1  # Microseconds of a slot: the time stamps count slots.
 MAX_PORTS = 64
 HALVED_ABOVE = 32  # Over so many ports a run takes half as many cells.
@@ -30,14 +39,21 @@ def most_slots(ports):
     return (MAX_CELLS // 2 if ports > HALVED_ABOVE else MAX_CELLS) // ports
 
 
-def make_arrivals(kind, load, burst, ports, slots, seed):
+def most_load(kind, ports, hot):
+    """The greatest load with which no output gets over a cell per slot in the mean."""
+    return 1 / (hot * ports + 1 - hot) if kind == "hot-spot" else 1.0
+
+
+def make_arrivals(kind, load, burst, hot, ports, slots, seed):
     """The packets that come in so many slots, in the order of slots and then of inputs.
 
-    Load is over 0 and at most 1, burst the mean burst in packets, at least 1. The slots are counted
-    from the first in which a packet comes. The same words give the same packets.
+    Load is over 0 and at most 1, burst the mean burst in packets, at least 1, hot the share of packets that
+    go to the hot spot. The slots are counted from the first in which a packet comes. The same words give the
+    same packets.
     """
-    numbers = random.Random(f"{kind} {load} {burst} {ports} {slots} {seed}")
-    sources = [_source(kind, numbers, load, burst, ports) for _ in range(ports)]
+    own = f" {hot:g}" if kind == "hot-spot" else ""
+    numbers = random.Random(f"{kind} {load} {burst} {ports} {slots} {seed}{own}")
+    sources = [_source(kind, numbers, card, load, burst, hot, ports) for card in range(ports)]
     found = []
     for slot in range(slots):
         for card, source in enumerate(sources):
@@ -48,11 +64,26 @@ def make_arrivals(kind, load, burst, ports, slots, seed):
     return [packet._replace(slot=packet.slot - first) for packet in found]
 
 
-def _source(kind, numbers, load, burst, ports):
-    """For each slot the output of the packet that comes, or None."""
+def _source(kind, numbers, card, load, burst, hot, ports):
+    """For each slot the output of the packet that comes to an input, or None."""
     if kind == "uniform":
         return _uniform(numbers, load, ports)
-    return _bursty(numbers, load, burst, ports)
+    if kind == "bursty":
+        return _bursty(numbers, load, burst, ports)
+    return _weighted(numbers, load, shares(kind, card, hot, ports))
+
+
+def shares(kind, card, hot, ports):
+    """For each output the share of the packets of an input that go there."""
+    if kind == "log-diagonal":
+        by_distance = [2 ** (ports - 1 - distance) / (2**ports - 1) for distance in range(ports)]
+    elif kind == "diagonal" and ports > 1:
+        by_distance = [2 / 3, 1 / 3] + [0] * (ports - 2)
+    elif kind == "hot-spot":
+        return [(hot if output == 0 else 0) + (1 - hot) / ports for output in range(ports)]
+    else:
+        by_distance = [1] + [0] * (ports - 1)
+    return [by_distance[(output - card) % ports] for output in range(ports)]
 
 
 def _below(numbers, limit):
@@ -63,6 +94,13 @@ def _below(numbers, limit):
 def _uniform(numbers, load, ports):
     while True:
         yield _below(numbers, ports) if numbers.random() < load else None
+
+
+def _weighted(numbers, load, weights):
+    limits = list(accumulate(weights))
+    last = max(output for output, weight in enumerate(weights) if weight)
+    while True:
+        yield min(bisect(limits, numbers.random()), last) if numbers.random() < load else None
 
 
 def _bursty(numbers, load, burst, ports):
@@ -85,12 +123,19 @@ def _bursty(numbers, load, burst, ports):
 
 def write_traffic(folder, arrivals, ports):
     """Writes a folder: the captures 00.pcap and so on of the ports, table.txt and arrivals.csv."""
+    by_input = [[] for _ in range(ports)]
+    for packet in arrivals:
+        by_input[packet.input].append(packet)
+    table = "".join(f"10.0.{output}.0/24 {output}\n" for output in range(ports))
+    write_folder(folder, [_capture(packets) for packets in by_input], table, arrivals)
+
+
+def write_folder(folder, captures, table, arrivals):
+    """Writes captures, in the order of ports, a table and a list of arrivals to a folder, which is made."""
     folder = Path(folder)
     folder.mkdir(parents=True, exist_ok=True)
-    for card, name in enumerate(capture_names(ports)):
-        packets = [packet for packet in arrivals if packet.input == card]
-        (folder / name).write_bytes(_capture(packets))
-    table = "".join(f"10.0.{output}.0/24 {output}\n" for output in range(ports))
+    for name, data in zip(capture_names(len(captures)), captures):
+        (folder / name).write_bytes(data)
     (folder / "table.txt").write_text(table)
     with open(folder / "arrivals.csv", "w", newline="") as file:
         write_arrivals(file, arrivals)
@@ -102,17 +147,23 @@ def capture_names(ports):
 
 
 def _capture(packets):
-    """The bytes of a classic pcap file, little-endian, with time stamps in microseconds."""
-    header = struct.pack("<IHHIIII", 0xA1B2C3D4, 2, 4, 0, 0, SNAP_LENGTH, LINK_RAW_IP)
-    return header + b"".join(map(_record, packets))
+    """The bytes of a classic pcap file of these packets."""
+    records = ((packet.slot * PACE_US, _ip_header(packet.input, packet.outputs[0])) for packet in packets)
+    return capture_bytes(LINK_RAW_IP, records)
 
 
-def _record(packet):
-    seconds, micros = divmod(packet.slot * PACE_US, SECOND_US)
-    header = _ip_header(packet.input, packet.outputs[0])
-    return struct.pack("<IIII", seconds, micros, HEADER_BYTES, HEADER_BYTES) + header
+def capture_bytes(link, records):
+    """The bytes of a classic pcap file, little-endian; a record is its time in microseconds and its frame."""
+    header = struct.pack("<IHHIIII", 0xA1B2C3D4, 2, 4, 0, 0, SNAP_LENGTH, link)
+    return header + b"".join(_record(time, frame) for time, frame in records)
 
 
+def _record(time, frame):
+    seconds, micros = divmod(time, SECOND_US)
+    return struct.pack("<IIII", seconds, micros, len(frame), len(frame)) + frame
+
+
+@lru_cache(maxsize=None)
 def _ip_header(card, output):
     source, destination = bytes([10, 1, card, 1]), bytes([10, 0, output, 1])
     words = struct.pack(">BBHHHBBH", 0x45, 0, HEADER_BYTES, 0, 0, 64, PROTOCOL, 0) + source + destination

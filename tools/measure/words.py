@@ -1,0 +1,67 @@
+"""Words of the tools: lists of numbers with ranges, and numbers within their limits, as types of argparse.
+
+A word that is refused is told with what it may be.
+"""
+
+import argparse
+
+MOST_NUMBERS = 10_000  # Of one list.
+
+
+def whole(low, high):
+    """The type of a whole number from `low` to `high`."""
+
+    def read(word):
+        if not (word.isascii() and word.isdigit() and low <= int(word) <= high):
+            raise argparse.ArgumentTypeError(f"{word!r} is not a whole number from {low} to {high}")
+        return int(word)
+
+    return read
+
+
+def share(word):
+    """A number over 0 and at most 1, as a load."""
+    try:
+        number = float(word)
+    except ValueError:
+        number = 0.0
+    if not 0 < number <= 1:
+        raise argparse.ArgumentTypeError(f"{word!r} is not a number over 0 and at most 1")
+    return number
+
+
+def numbers(low, high):
+    """The type of a list such as 1-10 or 1,3,5-7, whose numbers are from `low` to `high`."""
+    one = whole(low, high)
+
+    def part(word):
+        first, dash, last = word.partition("-")
+        if not dash:
+            return [one(word)]
+        begin, end = one(first), one(last)
+        if end < begin:
+            raise argparse.ArgumentTypeError(f"{word!r} falls")
+        if end - begin >= MOST_NUMBERS:
+            raise argparse.ArgumentTypeError(f"{word!r} has over {MOST_NUMBERS} numbers")
+        return list(range(begin, end + 1))
+
+    def read(word):
+        return [number for piece in word.split(",") for number in part(piece)]
+
+    return read
+
+
+def joined(lists):
+    """The numbers of several lists, each once, in rising order."""
+    return sorted({number for found in lists for number in found})
+
+
+def ranges(found):
+    """A list of numbers as text that `numbers` reads: 1-10, or 1,3,5-7."""
+    parts = []
+    for number in sorted(set(found)):
+        if parts and parts[-1][1] == number - 1:
+            parts[-1][1] = number
+        else:
+            parts.append([number, number])
+    return ",".join(str(first) if first == last else f"{first}-{last}" for first, last in parts)
