@@ -1,5 +1,6 @@
-"""Reads the report of a run: its summary, its outputs and, where it has them, its lines of slots and references."""
+"""Reads the report of a run: its summary, its outputs and, where it has them, its lines of queues, slots and references."""
 
+import re
 from typing import NamedTuple
 
 SUMMARY = (
@@ -7,6 +8,8 @@ SUMMARY = (
     "unrouted", "dropped", "forwarded", "copies", "cells",
 )
 LEVELS = 4
+PAIR = re.compile(r"([0-9]+)>([0-9]+):([0-3])([um])")
+QUEUE = re.compile(r"queue ([0-9]+)>([0-9]+|\*):([0-3])([um])")
 
 
 class BadReport(ValueError):
@@ -44,14 +47,28 @@ class Reference(NamedTuple):
     extra: int
 
 
+class Queue(NamedTuple):
+    """What one queue held; `output` is None for multicast, and `slot` is the first one with the peak."""
+
+    input: int
+    output: int
+    level: int
+    packets: int
+    dropped: int
+    cells: int
+    peak: int
+    slot: int
+
+
 class Report(NamedTuple):
-    """A report; `slots` and `reference` are None where it has no such lines."""
+    """A report; `queues`, `slots` and `reference` are None where it has no such lines."""
 
     summary: dict
     longest: tuple
     outputs: list
     slots: list
     reference: list
+    queues: list = None
 
 
 def read_report(text):
@@ -61,6 +78,7 @@ def read_report(text):
     summary = {name: reader.numbers(name, 1)[0] for name in SUMMARY}
     longest = tuple(reader.numbers("longest", LEVELS))
     outputs = [reader.output(number) for number in range(summary["ports"])]
+    queues = reader.queues() if reader.next_is("queue") or reader.next_is("deepest") else None
     slots = None
     if reader.next_is("slot"):
         slots = [reader.slot(number) for number in range(summary["slots"])]
@@ -69,7 +87,7 @@ def read_report(text):
         reference = [reader.reference(number) for number in range(summary["ports"])]
     if reader.at < len(lines):
         raise BadReport(f"line {reader.at + 1}: a line too many")
-    return Report(summary, longest, outputs, slots, reference)
+    return Report(summary, longest, outputs, slots, reference, queues)
 
 
 class _Lines:
@@ -78,6 +96,7 @@ class _Lines:
     def __init__(self, lines):
         self.lines = lines
         self.at = 0
+        self.pairs = {}
 
     def fault(self, what):
         return BadReport(f"line {self.at}: {what}")
@@ -126,11 +145,34 @@ class _Lines:
         found, used, first = self.named(words[:6], ("slot", "used", "first"))
         if found != number:
             raise self.fault(f"expected slot {number}")
-        return Slot(used, first, [self.pair(word) for word in words[6:]])
+        return Slot(used, first, [self.known_pair(word) for word in words[6:]])
+
+    def known_pair(self, word):
+        """A pair, whose word is taken apart the first time only, since the same ones come in many slots."""
+        if word not in self.pairs:
+            self.pairs[word] = self.pair(word)
+        return self.pairs[word]
 
     def pair(self, word):
-        input_port, arrow, rest = word.partition(">")
-        output_port, colon, queue = rest.partition(":")
-        if not (arrow and colon and len(queue) == 2 and queue[0] in "0123" and queue[1] in "um"):
+        found = PAIR.fullmatch(word)
+        if not found:
             raise self.fault(f"{word!r} is no pair")
-        return Pair(self.number(input_port), self.number(output_port), int(queue[0]), queue[1] == "m")
+        return Pair(int(found[1]), int(found[2]), int(found[3]), found[4] == "m")
+
+    def queues(self):
+        """The lines of the queues, up to the one that tells the greatest peak."""
+        found = []
+        while self.next_is("queue"):
+            found.append(self.queue())
+        deepest = self.numbers("deepest", 1)[0]
+        if deepest != max((queue.peak for queue in found), default=0):
+            raise self.fault("not the greatest peak")
+        return found
+
+    def queue(self):
+        words = self.words()
+        name = QUEUE.fullmatch(" ".join(words[:2]))
+        if not name or (name[2] == "*") != (name[4] == "m"):
+            raise self.fault("expected a queue")
+        output = None if name[2] == "*" else int(name[2])
+        return Queue(int(name[1]), output, int(name[3]), *self.named(words[2:], Queue._fields[3:]))
