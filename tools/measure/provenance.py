@@ -1,0 +1,56 @@
+"""Where tables and figures come from: the commit, the commands and the seeds, as comment lines and as a text."""
+
+import subprocess
+import textwrap
+from pathlib import Path
+from typing import NamedTuple
+
+TOP = Path(__file__).resolve().parent.parent.parent
+UNKNOWN = "unknown"
+LINE = 150  # Letters of a line under a figure.
+
+
+class Provenance(NamedTuple):
+    """The commits whose program and tools made something, the commands that did it, and further lines."""
+
+    commits: tuple
+    commands: tuple
+    notes: tuple = ()
+
+    def lines(self):
+        """Each commit, command and note, on a line of its own."""
+        commits = [f"commit {name}" for name in self.commits]
+        return [*commits, *(f"command {words}" for words in self.commands), *self.notes]
+
+    def text(self):
+        """The same as a paragraph under a figure."""
+        return "\n".join(part for line in self.lines() for part in textwrap.wrap(line, LINE))
+
+
+def read_lines(lines):
+    """The provenance that these lines tell."""
+    commits, commands, notes = [], [], []
+    for line in lines:
+        name, _, rest = line.partition(" ")
+        if name == "commit":
+            commits.append(rest)
+        elif name == "command":
+            commands.append(rest)
+        else:
+            notes.append(line)
+    return Provenance(tuple(commits), tuple(commands), tuple(notes))
+
+
+def commit():
+    """The commit of the repository, with a + where tracked code differs from it; `unknown` without git."""
+    try:
+        name = _git("rev-parse", "--short=12", "HEAD")
+        changed = _git("status", "--porcelain", "--untracked-files=no", "--", "crates", "tools", "crates.txt")
+    except (OSError, subprocess.CalledProcessError):
+        return UNKNOWN
+    return name + "+" if changed else name
+
+
+def _git(*words):
+    ended = subprocess.run(["git", "-C", str(TOP), *words], capture_output=True, text=True, check=True)
+    return ended.stdout.strip()
