@@ -17,15 +17,22 @@ DOTS_PER_INCH = 120
 COLOURS = ("#0072b2", "#d55e00", "#009e73", "#cc79a7", "#56b4e9", "#e69f00")
 MARKERS = ("o", "s", "^", "D", "v", "P")
 PLAIN = StrMethodFormatter("{x:g}")  # As 0.01, and not as a power of ten.
+KINDS = ("uniform", "bursty", "diagonal", "log-diagonal", "hot-spot", "trace")  # The order of the parts.
+PARTS_OF_A_ROW = 3
 WINDOWS = 200  # Slots are averaged over so many windows.
 
 
-def save(figure, folder, name):
-    """Writes NAME.png and NAME.svg in a folder, which is made where it is missing, and prints their names."""
+def save(figure, folder, name, told):
+    """Writes NAME.png and NAME.svg in a folder, which is made where it is missing, and prints their names.
+
+    What `told` says of where the figure comes from stands under it and in the files' descriptions.
+    """
+    figure.supxlabel(told.text(), x=0.01, horizontalalignment="left", fontsize=6)
     Path(folder).mkdir(parents=True, exist_ok=True)
     for form in FORMATS:
         file = Path(folder) / f"{name}.{form}"
-        stamp = {"Date": None} if form == "svg" else None
+        stamp = {"Date": None} if form == "svg" else {}
+        stamp["Description"] = "\n".join(told.lines())
         figure.savefig(file, format=form, dpi=DOTS_PER_INCH, metadata=stamp)
         print(file)
     pyplot.close(figure)
@@ -47,10 +54,19 @@ def _plain_log(axes):
 
 def waits_figure(title, counts):
     """For each level, the share of services before which the queue had waited at least so many slots."""
-    figure, axes = _one(title, "wait of a unicast queue (slots)", "share of cells served after at least this wait")
-    for level, count in enumerate(counts):
-        if count:
-            axes.step(*_at_least(count), where="pre", color=COLOURS[level], label=f"level {level}")
+    levels = {level: count for level, count in enumerate(counts) if count}
+    return _shares_figure(title, levels, "wait of a unicast queue (slots)", "share of cells served after at least this wait")
+
+
+def delays_figure(title, counts):
+    """For each level, the share of packets that had at least this delay, at each of their outputs."""
+    return _shares_figure(title, counts, "delay of a packet (slots)", "share of packets with at least this delay")
+
+
+def _shares_figure(title, counts, across, up):
+    figure, axes = _one(title, across, up)
+    for level, count in counts.items():
+        axes.step(*_at_least(count), where="pre", color=COLOURS[level], label=f"level {level}")
     _plain_log(axes)
     axes.set_xlim(left=0)
     axes.xaxis.set_major_locator(MaxNLocator(integer=True))
@@ -127,27 +143,81 @@ def load_figure(title, runs):
     return figure
 
 
-def sweep_figure(curves, ports, burst):
-    """Mean delay over offered load, one part for each kind of traffic and one line for each number of rounds."""
-    kinds = sorted({kind for kind, _ in curves}, reverse=True)
+def save_sweep(points, told, folder):
+    """Draws the figures of a sweep's points: `delays` where loads are below full, `throughput` under full load."""
+    below, full = points[points["load"] < 1], points[points["load"] == 1]
+    for ports, part in below.groupby("ports"):
+        name = "delays" if below["ports"].nunique() == 1 else f"delays_{ports}_ports"
+        save(sweep_figure(part, ports), folder, name, told)
+    if len(full):
+        save(throughput_figure(full), folder, "throughput", told)
+
+
+def _line_name(scheduler, rounds, schedulers):
+    name = "1 round" if rounds == 1 else f"{rounds} rounds"
+    return name if schedulers == ["islip"] else f"{scheduler}, {name}"
+
+
+def _lines(points):
+    """For each scheduler and number of rounds its name, its style and its points, in rising order."""
+    schedulers = sorted(points["scheduler"].unique())
+    for number, ((scheduler, rounds), part) in enumerate(points.groupby(["scheduler", "rounds"])):
+        style = {"marker": MARKERS[number % len(MARKERS)], "color": COLOURS[number % len(COLOURS)]}
+        yield part, {"label": _line_name(scheduler, rounds, schedulers), "capsize": 3, "markersize": 4, **style}
+
+
+def _bars(half_widths):
+    """The half widths of intervals, or None where none is known, as with one seed."""
+    return None if half_widths.isna().all() else half_widths
+
+
+def sweep_figure(points, ports):
+    """Mean delay over offered load with its intervals, a part for each kind of traffic, beside the output-queued switch."""
+    kinds = [kind for kind in KINDS if kind in set(points["kind"])]
+    rows = -(-len(kinds) // PARTS_OF_A_ROW)
+    across = min(len(kinds), PARTS_OF_A_ROW)
     figure, parts = pyplot.subplots(
-        1, len(kinds), figsize=(5 * len(kinds), 4.5), sharey=True, squeeze=False, layout="constrained"
+        rows, across, figsize=(5 * across, 4.7 * rows), sharey=True, squeeze=False, layout="constrained"
     )
-    for axes, kind in zip(parts[0], kinds):
-        lines = sorted((rounds, points) for (found, rounds), points in curves.items() if found == kind)
-        for number, (rounds, points) in enumerate(lines):
-            axes.plot(
-                *zip(*points),
-                marker=MARKERS[number % len(MARKERS)],
-                color=COLOURS[number % len(COLOURS)],
-                label="1 round" if rounds == 1 else f"{rounds} rounds",
-            )
-        bursts = f", mean burst {burst} cells" if kind == "bursty" else ""
-        axes.set_title(f"{kind} traffic, {ports} ports{bursts}")
+    for axes, kind in zip(parts.flat, kinds):
+        found = points[points["kind"] == kind]
+        for part, style in _lines(found):
+            axes.errorbar(part["load"], part["mean_delay"], yerr=_bars(part["half_width"]), **style)
+        _ideal_lines(axes, found)
+        axes.set_title(f"{kind} traffic, {ports} ports")
         axes.set_xlabel("offered load (cells per input and slot)")
         _plain_log(axes)
         axes.set_xlim(0, 1)
         axes.grid(alpha=0.3, which="both")
-        axes.legend(loc="upper left")
-    parts[0][0].set_ylabel("mean delay of a cell (slots)")
+        axes.legend(loc="upper left", fontsize=8)
+    for axes in parts.flat[len(kinds):]:
+        axes.set_visible(False)
+    for row in parts:
+        row[0].set_ylabel("mean delay of a packet (slots)")
+    return figure
+
+
+def _ideal_lines(axes, points):
+    """The output-queued switch on the same packets, and its formula, where there are any."""
+    ideal = points.drop_duplicates("load").dropna(subset=["output_queued"])
+    if len(ideal):
+        axes.errorbar(
+            ideal["load"], ideal["output_queued"], yerr=_bars(ideal["output_queued_half_width"]),
+            color="black", linestyle="--", marker="x", capsize=3, markersize=4, label="output-queued, same packets",
+        )
+    known = points.drop_duplicates("load").dropna(subset=["formula"])
+    if len(known):
+        axes.plot(known["load"], known["formula"], color="grey", linestyle=":", label="output-queued, formula")
+
+
+def throughput_figure(points):
+    """Throughput under full load over ports with its intervals, a line for each number of rounds."""
+    kinds = ", ".join(sorted(points["kind"].unique()))
+    figure, axes = _one(f"{kinds} traffic, load 1", "ports", "throughput (cells per output and slot)")
+    for part, style in _lines(points):
+        axes.errorbar(part["ports"], part["throughput"], yerr=_bars(part["throughput_half_width"]), **style)
+    axes.set_xscale("log", base=2)
+    ports = sorted(points["ports"].unique())
+    axes.set_xticks(ports, labels=[str(number) for number in ports])
+    axes.legend(loc="lower left")
     return figure

@@ -1,33 +1,43 @@
-"""The result of one run of a sweep, as a row of its table, and the table read again."""
+"""The result of one run of a sweep: its words, and the delays of its packets."""
 
-import csv
-from collections import defaultdict
+from statistics import fmean
 from typing import NamedTuple
 
-from .arrivals import delays
+from .arrivals import delays, output_queued_delays
 
-# Of the arrival slots, the parts at the begin and at the end whose cells are not measured: the queues
-# fill up first, and at the end nothing comes behind the last cells.
+# Of the arrival slots, the parts at the begin and at the end whose packets are not measured: the queues
+# fill up first, and at the end nothing comes behind the last packets.
 LEFT_OUT_FIRST = 0.2
 LEFT_OUT_LAST = 0.1
+PLACES = 4
+
+
+class Words(NamedTuple):
+    """The words of a run: the load in cells per input and slot, the mean burst in cells."""
+
+    kind: str
+    ports: int
+    load: float
+    scheduler: str
+    rounds: int
+    seed: int
+    commit: str
 
 
 class Result(NamedTuple):
-    """A row. Loads are cells per input and slot; delays and waits are in slots.
+    """What a run gave. Loads are cells per input and slot; delays and waits are in slots.
 
-    The measured cells are those that came in the middle of the run. `mean_first_half` and
+    The measured packets are those that came in the middle of the run. `mean_first_half` and
     `mean_second_half` are over the halves of these slots: they differ where queues still grew.
+    `output_queued` is the mean delay of the same packets in a switch whose queues stand at the outputs
+    (None where packets have several cells), `throughput` the cells per output and slot that crossed in
+    the measured slots.
     """
 
-    kind: str
-    load: float
-    rounds: int
-    seed: int
-    burst: int
-    ports: int
     arrival_slots: int
     slots: int
     cells: int
+    dropped: int
     came_load: float
     measured: int
     mean_delay: float
@@ -36,77 +46,68 @@ class Result(NamedTuple):
     delay_99: int
     longest_delay: int
     longest_wait: int
+    output_queued: float
+    throughput: float
 
 
-def mean(delays_of_cells):
-    """The mean of delays, to four places."""
-    return round(sum(delays_of_cells) / len(delays_of_cells), 4)
+class Span(NamedTuple):
+    """The measured slots: from `first` on and before `last`, and the middle between them."""
+
+    first: float
+    middle: float
+    last: float
 
 
-def measure(words, report, arrivals):
-    """The result of a run with these words (kind, load, seed, burst), its report and its arrivals."""
+def measured_span(arrivals):
+    """The measured slots of a run with these arrivals."""
+    slots = max((packet.slot for packet in arrivals), default=0) + 1
+    first, last = slots * LEFT_OUT_FIRST, slots * (1 - LEFT_OUT_LAST)
+    return Span(first, (first + last) / 2, last)
+
+
+def measure(report, arrivals):
+    """The result of a run with this report and these arrivals; ValueError where they do not fit."""
     summary = report.summary
     if report.slots is None:
         raise ValueError("the report has no slot lines")
-    if summary["dropped"] or summary["cells"] != sum(packet.cells for packet in arrivals):
-        raise ValueError("the run is not that of the arrivals, or it dropped packets")
-    found = delays(arrivals, report.slots)
-    arrival_slots = max((packet.slot for packet in arrivals), default=0) + 1
-    first, last = arrival_slots * LEFT_OUT_FIRST, arrival_slots * (1 - LEFT_OUT_LAST)
-    middle = (first + last) / 2
-    early = [delay for came, delay in found if first <= came < middle]
-    late = [delay for came, delay in found if middle <= came < last]
+    found = delays(arrivals, report)
+    span = measured_span(arrivals)
+    early = [delay for came, delay in found if span.first <= came < span.middle]
+    late = [delay for came, delay in found if span.middle <= came < span.last]
     if not (early and late):
-        raise ValueError("no cell came in the measured slots")
+        raise ValueError("no packet came in the measured slots")
     measured = sorted(early + late)
+    arrival_slots = arrivals[-1].slot + 1
     return Result(
-        kind=words.kind,
-        load=words.load,
-        rounds=summary["rounds"],
-        seed=words.seed,
-        burst=words.burst,
-        ports=summary["ports"],
         arrival_slots=arrival_slots,
         slots=summary["slots"],
         cells=summary["cells"],
-        came_load=round(summary["cells"] / (summary["ports"] * arrival_slots), 4),
+        dropped=summary["dropped"],
+        came_load=round(sum(packet.cells for packet in arrivals) / (summary["ports"] * arrival_slots), PLACES),
         measured=len(measured),
-        mean_delay=mean(measured),
-        mean_first_half=mean(early),
-        mean_second_half=mean(late),
+        mean_delay=round(fmean(measured), PLACES),
+        mean_first_half=round(fmean(early), PLACES),
+        mean_second_half=round(fmean(late), PLACES),
         delay_99=measured[len(measured) * 99 // 100],
         longest_delay=measured[-1],
-        longest_wait=report.longest[0],
+        longest_wait=max(report.longest),
+        output_queued=output_queued_mean(report, arrivals, span),
+        throughput=throughput(report, span),
     )
 
 
-def write_results(file, results):
-    """Writes a table of results to an open text file."""
-    writer = csv.writer(file, lineterminator="\n")
-    writer.writerow(Result._fields)
-    writer.writerows(results)
+def output_queued_mean(report, arrivals, span):
+    """The mean delay of the measured packets in the ideal switch; None where it is not that of the run's reference.
 
-
-def read_results(file):
-    """The results of a table, from an open text file."""
-    types = Result.__annotations__
-    return [
-        Result(**{name: types[name](value) for name, value in row.items()})
-        for row in csv.DictReader(file)
-    ]
-
-
-def curves(results):
-    """For each kind and number of rounds, the pairs of load and mean delay, in rising order of loads.
-
-    Runs of the same load and other seeds are one point: the mean over all their measured cells.
+    That is where packets are dropped, which the ideal switch then does not get, or have several cells or outputs.
     """
-    sums = defaultdict(lambda: [0, 0.0])
-    for result in results:
-        point = sums[(result.kind, result.rounds, result.load)]
-        point[0] += result.measured
-        point[1] += result.measured * result.mean_delay
-    found = defaultdict(list)
-    for (kind, rounds, load), (cells, total) in sorted(sums.items()):
-        found[(kind, rounds)].append((load, total / cells))
-    return dict(found)
+    if report.summary["dropped"] or any(packet.cells > 1 or len(packet.outputs) > 1 for packet in arrivals):
+        return None
+    ideal = output_queued_delays(arrivals)
+    return round(fmean(delay for came, delay in ideal if span.first <= came < span.last), PLACES)
+
+
+def throughput(report, span):
+    """The cells per output and slot that crossed in the measured slots."""
+    crossed = [len(slot.pairs) for number, slot in enumerate(report.slots) if span.first <= number < span.last]
+    return round(fmean(crossed) / report.summary["ports"], PLACES)
