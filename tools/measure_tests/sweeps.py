@@ -1,0 +1,163 @@
+"""Tests of tools/sweep: its words, its folder, its tables, and how it fails, stops and goes on."""
+
+import os
+import signal
+import subprocess
+import sys
+import tempfile
+import time
+import unittest
+from pathlib import Path
+
+from measure import report
+
+from .common import PROGRAM, TOOLS, lacks, run
+
+MODULES = ("snakemake", "pandas", "scipy", "matplotlib", "tqdm")
+SMALL = ["--kinds", "bursty", "--loads", "0.5", "--rounds", "1,2", "--seeds", "1", "--ports", "4", "--slots", "200"]
+# Words that no job can have, and what is told of them.
+BAD_WORDS = [
+    (["--loads", "1.5"], "'1.5' is not a number over 0 and at most 1"),
+    (["--loads", "0"], "'0' is not a number over 0 and at most 1"),
+    (["--rounds", "65"], "'65' is not a whole number from 1 to 64"),
+    (["--seeds", "3-1"], "'3-1' falls"),
+    (["--ports", "0"], "'0' is not a whole number from 1 to 64"),
+    (["--slots", "8193"], "--slots: 8193 is over 8192, the most with 16 ports"),
+    (["--slots", "1025", "--ports", "2,64"], "--slots: 1025 is over 1024, the most with 64 ports"),
+    (["--burst", "0"], "'0' is not a whole number from 1"),
+    (["--cores", "0"], "'0' is not a whole number from 1"),
+    (["--schedulers", "pim"], "'pim' is none of islip,firm,rrm"),
+    (["--kinds", "trace"], "--kinds trace and --trace go together"),
+    (["--kinds", "hot-spot", "--loads", "0.7"], "--loads: 0.7 is over 0.571, the most with kind hot-spot"),
+]
+# The program, but for runs of two rounds while the file `broken` is there, and slow while `slow` is.
+SCRIPT = """\
+#!/bin/sh
+case " $* " in *" --rounds 2 "*) [ -e {folder}/broken ] && exit 9;; esac
+[ -e {folder}/slow ] && [ "$1" = run ] && touch {folder}/began && sleep 30
+mkdir {folder}/busy 2>/dev/null || touch {folder}/overlap
+{program} "$@"
+status=$?
+rmdir {folder}/busy 2>/dev/null
+exit $status
+"""
+
+
+class Words(unittest.TestCase):
+    @unittest.skipIf(lacks(*MODULES), lacks(*MODULES))
+    def test_words_are_tested_before_a_job_begins(self):
+        with tempfile.TemporaryDirectory() as name:
+            folder = Path(name, "sweep")
+            for words, told in BAD_WORDS:
+                with self.subTest(words=words):
+                    status, said = run(TOOLS / "sweep", "--to", folder, "--program", "/bin/false", *words)
+                    self.assertEqual(status, 2)
+                    self.assertIn(told, said.splitlines()[-1])
+            status, said = run(TOOLS / "sweep", "--to", folder, "--program", "/bin/false")
+            self.assertEqual((status, said), (1, "tools/sweep: /bin/false without words ends with status 1, not 2\n"))
+            self.assertFalse(folder.exists())
+
+    @unittest.skipIf(lacks("tqdm"), lacks("tqdm"))
+    def test_progress_counts_runs(self):
+        """Of the jobs that Snakemake tells, only the runs count, and one that is tried again is named."""
+        from measure.engine import Progress
+
+        progress = Progress()
+        lines = ["run  2  1  1", "traffic  1  1  1", "rule traffic:", "    output: a/traffic, b", "    jobid: 4", "Finished job 4."]
+        lines += ["rule run:", "    output: a/x.json, a/x.report", "    jobid: 1", "rule run:", "    output: a/y.json", "    jobid: 2"]
+        lines += ["Finished job 2."]
+        self.assertEqual([progress.read(line) for line in lines], [None] * len(lines))
+        self.assertEqual((progress.done, progress.total), (1, 2))
+        self.assertEqual(progress.read("Trying to restart job 1."), "a/x.json")
+
+
+@unittest.skipIf(lacks(*MODULES), lacks(*MODULES))
+@unittest.skipUnless(PROGRAM.exists(), "the program is not built")
+class Sweeps(unittest.TestCase):
+    def setUp(self):
+        room = tempfile.TemporaryDirectory()
+        self.addCleanup(room.cleanup)
+        self.room = Path(room.name)
+        self.folder = self.room / "sweep"
+        script = self.room / "program"
+        script.write_text(SCRIPT.format(folder=self.room, program=PROGRAM))
+        script.chmod(0o755)
+        self.words = [TOOLS / "sweep", "--to", self.folder, "--program", script, *SMALL]
+
+    def rows(self, name="runs"):
+        from measure.tables import read_table
+
+        return read_table(self.folder / f"{name}.csv")
+
+    def test_fails_goes_on_and_grows(self):
+        """A job that fails is tried again and told; the same words go on; other words add runs to the same tables."""
+        (self.room / "broken").touch()
+        status, told = run(*self.words, "--journals", "--cores", "1")
+        again = "tools/sweep: failed, and is tried again: bursty-ports-4-load-0.5-seed-1/islip-rounds-2.json"
+        self.assertEqual((status, told.splitlines()[0]), (1, again))
+        self.assertEqual(len(told.splitlines()), 2, told)
+        self.assertIn("Error in rule run", (self.folder / "snakemake.log").read_text())
+        first = self.folder / "bursty-ports-4-load-0.5-seed-1/islip-rounds-1.report"
+        self.assertFalse((self.folder / "runs.csv").exists())
+        kept = first.stat().st_mtime_ns
+        (self.room / "broken").unlink()
+        status, told = run(*self.words, "--journals", "--cores", "1")
+        self.assertEqual(status, 0, told)
+        self.assertEqual((first.stat().st_mtime_ns, (self.room / "overlap").exists()), (kept, False))
+        self.check_journal(first)
+        # Another seed, which leaves the first in the tables; its interval needs both.
+        status, told = run(*self.words, "--journals", "--seeds", "5")
+        self.assertEqual((status, first.stat().st_mtime_ns), (0, kept), told)
+        runs, provenance = self.rows()
+        self.assertEqual(runs[["rounds", "seed"]].values.tolist(), [[1, 1], [1, 5], [2, 1], [2, 5]])
+        self.assertEqual((len(provenance.commands), provenance.notes[0]), (2, "seeds 1,5"))
+        points, same = self.rows("points")
+        self.assertEqual((points["seeds"].tolist(), same), (["1,5", "1,5"], provenance))
+        self.assertTrue(points["half_width"].gt(0).all())
+        self.check_refusals()
+
+    def check_refusals(self):
+        """Runs that cannot stand in the folder's tables are refused, and a scheduler that the program does not have."""
+        status, told = run(*self.words, "--slots", "300")
+        self.assertEqual((status, told.count("\n")), (1, 1))
+        self.assertIn("have --slots 200, not 300", told)
+        (self.room / "program").write_text('#!/bin/sh\n[ "$2" = --scheduler ] && exit 3\nexit 2\n')
+        status, told = run(*self.words, "--schedulers", "islip,rrm")
+        self.assertEqual((status, told), (1, "tools/sweep: --schedulers: the program's command `run` does not have rrm\n"))
+
+    def check_journal(self, report_file):
+        """The journal that the program wrote beside a report is lawful, and its waits are drawn."""
+        words = [PROGRAM, "check", report_file.with_suffix(".journal")]
+        checked = subprocess.run(words, stdout=subprocess.PIPE, text=True)
+        slots = report.read_report(report_file.read_text()).summary["slots"]
+        self.assertEqual((checked.returncode, checked.stdout.splitlines()[:2]), (0, ["yes", f"slots {slots}"]))
+        status, told = run(TOOLS / "plot", report_file)
+        self.assertEqual(status, 0, told)
+        for figure in ("waits", "waiting", "reference"):
+            self.assertTrue(report_file.with_suffix(f".{figure}.png").exists(), told)
+
+    def test_interrupt_ends_in_one_line(self):
+        (self.room / "slow").touch()
+        process = subprocess.Popen([sys.executable, *map(str, self.words)], stderr=subprocess.PIPE, text=True)
+        until = time.monotonic() + 60
+        while not (self.room / "began").exists() and time.monotonic() < until:
+            time.sleep(0.1)
+        process.send_signal(signal.SIGINT)
+        told = process.communicate(timeout=60)[1]
+        line = f"tools/sweep: stopped with 0 of 2 runs done; the same command goes on in {self.folder}\n"
+        self.assertEqual((process.returncode, told), (130, line))
+        (self.room / "slow").unlink()
+        status, told = run(*self.words)
+        self.assertEqual((status, len(self.rows()[0])), (0, 2), told)
+
+    def test_profile_and_trace(self):
+        """The profile of two hosts runs a sweep of a trace, which is split into ports."""
+        example = TOOLS.parent / "examples/two_inputs"
+        words = [*self.words, "--kinds", "trace", "--ports", "2", "--rounds", "2", "--trace", example / "a.pcap", example / "b.pcap"]
+        status, told = run(*words, "--", "--profile", os.path.relpath(TOOLS / "profiles/hosts"))
+        log = self.folder / "hosts.log"
+        self.assertEqual(status, 0, told + (log.read_text() if log.exists() else ""))
+        self.assertIn("rule run", log.read_text())
+        runs, provenance = self.rows()
+        self.assertEqual((runs["kind"].tolist(), runs["ports"].tolist()), (["trace"], [2]))
+        self.assertIn("--trace a.pcap b.pcap", provenance.commands[0])

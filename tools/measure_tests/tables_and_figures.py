@@ -1,0 +1,164 @@
+"""Tests of the words, the tables with their intervals and where they come from, and the figures."""
+
+import argparse
+import math
+import tempfile
+import unittest
+from pathlib import Path
+
+from measure import words
+from measure.provenance import Provenance, read_lines
+
+from .common import ARRIVALS, DATA, JOURNAL, REPORT, TOOLS, lacks, run
+
+TOLD = Provenance(("abc",), ("tools/sweep --small",), ("seeds 1-3",))
+
+
+class Words(unittest.TestCase):
+    def test_lists(self):
+        seeds = words.numbers(0, 99)
+        self.assertEqual(words.joined([seeds("1-3,7"), seeds("2"), seeds("10")]), [1, 2, 3, 7, 10])
+        self.assertEqual(words.ranges([7, 1, 2, 3, 10, 11]), "1-3,7,10-11")
+        for wrong in ("", "a", "3-1", "1-", "-1", "100", "1-100", "1,,2"):
+            self.assertRaises(argparse.ArgumentTypeError, seeds, wrong)
+
+    def test_shares(self):
+        self.assertEqual((words.share("1"), words.share("0.05")), (1.0, 0.05))
+        for wrong in ("0", "1.5", "-0.5", "nan", "x"):
+            self.assertRaises(argparse.ArgumentTypeError, words.share, wrong)
+
+    def test_lines(self):
+        self.assertEqual(read_lines(TOLD.lines()), TOLD)
+
+
+def runs_of(*means, **words_of_runs):
+    """A table of runs with these mean delays, one for each seed."""
+    import pandas
+
+    from measure.tables import COLUMNS
+
+    common = {
+        "kind": "uniform", "ports": 16, "load": 0.5, "scheduler": "islip", "rounds": 2, "commit": "abc",
+        "mean_first_half": 2.0, "mean_second_half": 3.0, "output_queued": 0.5, "throughput": 0.5, **words_of_runs,
+    }
+    rows = [{**common, "seed": seed, "mean_delay": mean} for seed, mean in enumerate(means, 1)]
+    return pandas.DataFrame(rows, columns=COLUMNS)
+
+
+@unittest.skipIf(lacks("pandas", "scipy"), lacks("pandas", "scipy"))
+class Tables(unittest.TestCase):
+    def test_interval_by_hand(self):
+        """Means 1, 2, 3: a deviation of 1, and 4.3027 is Student's t of two degrees of freedom for 95 per cent."""
+        from measure.tables import points
+
+        (point,) = points(runs_of(1.0, 2.0, 3.0)).to_dict("records")
+        self.assertEqual((point["mean_delay"], point["seeds"], point["runs"]), (2.0, "1-3", 3))
+        self.assertAlmostEqual(point["half_width"], 4.3027 / math.sqrt(3), places=3)
+        self.assertAlmostEqual(point["relative_half_width"], 4.3027 / math.sqrt(3) / 2, places=3)
+        self.assertEqual((point["growth"], point["output_queued_half_width"]), (0.5, 0.0))
+        # Half of the mean is the deviation: t / sqrt(n) is at most 0.1 from 387 on, where t is 1.966.
+        self.assertEqual(point["seeds_for_5_percent"], "387")
+
+    def test_one_seed_has_no_interval(self):
+        from measure.tables import points
+
+        (point,) = points(runs_of(2.0)).to_dict("records")
+        self.assertTrue(math.isnan(point["half_width"]))
+        self.assertEqual(point["seeds_for_5_percent"], "")
+
+    def test_formula(self):
+        """(N-1)/N * p / (2(1-p)) for uniform traffic below full load, and no value elsewhere."""
+        from measure.tables import formula
+
+        self.assertAlmostEqual(formula("uniform", 16, 0.5), 0.46875)
+        self.assertAlmostEqual(formula("uniform", 16, 0.9), 4.21875)
+        for kind, load in (("bursty", 0.5), ("diagonal", 0.5), ("uniform", 1.0)):
+            self.assertTrue(math.isnan(formula(kind, 16, load)))
+
+    def test_tables_are_read_again(self):
+        from measure.tables import points, read_table, write_table
+
+        with tempfile.TemporaryDirectory() as name:
+            path = Path(name, "points.csv")
+            found = points(runs_of(1.0, 2.0))
+            write_table(path, found, TOLD)
+            self.assertTrue(path.read_text().startswith("# commit abc\n# command tools/sweep --small\n# seeds 1-3\nkind,"))
+            read, told = read_table(path)
+            self.assertEqual((list(read.columns), told), (list(found.columns), TOLD))
+            self.assertEqual(read["mean_delay"].tolist(), [1.5])
+
+
+@unittest.skipIf(lacks("matplotlib", "pandas"), lacks("matplotlib", "pandas"))
+class Figures(unittest.TestCase):
+    def test_figures_of_runs(self):
+        with tempfile.TemporaryDirectory() as name:
+            folder = Path(name)
+            reports = [folder / "one.report", folder / "two.report"]
+            for report_file in reports:
+                report_file.write_text(REPORT)
+                report_file.with_suffix(".journal").write_bytes(JOURNAL)
+            (folder / "arrivals.csv").write_text(ARRIVALS)
+            names = ["one.waits", "one.waiting", "one.matched", "one.reference"]
+            self.check_drawn(names, folder, reports[:1])
+            self.check_drawn(["load"], folder, reports)
+            self.assertTrue("one.report: SHA-256" in (folder / "figures/one.waiting.svg").read_text())
+
+    def test_figures_with_a_packets_file(self):
+        """Delays are drawn, and the waiting cells without a list of arrivals, since the file has them."""
+        with tempfile.TemporaryDirectory() as name:
+            for suffix in ("report", "journal", "packets.csv"):
+                Path(name, f"out.{suffix}").write_bytes((DATA / f"all_flags_islip.{suffix}").read_bytes())
+            names = [f"out.{figure}" for figure in ("waits", "waiting", "matched", "reference", "delays")]
+            self.check_drawn(names, Path(name), [Path(name, "out.report")])
+
+    def test_arrivals_of_another_pace_are_refused(self):
+        """The list of a run at one pace is not drawn with the report of a run at another."""
+        with tempfile.TemporaryDirectory() as name:
+            report_file = Path(name, "one.report")
+            report_file.write_text(REPORT)
+            header, *lines = ARRIVALS.splitlines()
+            later = [",".join([str(2 * int(line.split(",")[0])), *line.split(",")[1:]]) for line in lines]
+            Path(name, "arrivals.csv").write_text("\n".join([header, *later, ""]))
+            status, told = run(TOOLS / "plot", report_file)
+            self.assertEqual((status, told.count("\n"), list(Path(name).glob("*.png"))), (1, 1, []))
+            self.assertIn("not the arrivals of", told)
+
+    def test_faults_are_told(self):
+        with tempfile.TemporaryDirectory() as name:
+            report_file = Path(name, "one.report")
+            cut = report_file.with_suffix(".journal")
+            report_file.write_text(REPORT)
+            cut.write_bytes(JOURNAL[:-1])
+            told = f"tools/plot: {cut}: bad at {len(JOURNAL) - 1}\n"
+            self.assertEqual(run(TOOLS / "plot", report_file), (1, told))
+            report_file.write_text(REPORT[:40])
+            status, told = run(TOOLS / "plot", report_file)
+            self.assertEqual(status, 1)
+            self.assertTrue(told.startswith(f"tools/plot: {report_file}: line 5: "), told)
+            status, told = run(TOOLS / "plot", "--sweep", report_file)
+            self.assertEqual((status, told.count("\n")), (1, 1), told)
+
+    @unittest.skipIf(lacks("scipy"), lacks("scipy"))
+    def test_figures_of_a_sweep(self):
+        """A table of points has the figures of delay and of throughput, which say where they come from."""
+        import pandas
+
+        from measure.tables import points, write_table
+
+        with tempfile.TemporaryDirectory() as name:
+            folder = Path(name)
+            kinds = [runs_of(1.0, 2.0, kind=kind, load=load) for kind in ("uniform", "bursty", "hot-spot", "trace") for load in (0.2, 0.5)]
+            full = [runs_of(9.0, 9.5, load=1.0, ports=ports, throughput=0.8) for ports in (2, 4)]
+            write_table(folder / "points.csv", points(pandas.concat([*kinds, *full])), TOLD)
+            self.check_drawn(["delays", "throughput"], folder, ["--sweep", folder / "points.csv"])
+            for figure in ("delays", "throughput"):
+                drawn = (folder / f"figures/{figure}.svg").read_text()
+                for line in TOLD.lines():
+                    self.assertTrue(line in drawn, line)
+
+    def check_drawn(self, names, folder, words_of_plot):
+        status, told = run(TOOLS / "plot", "--to", folder / "figures", *words_of_plot)
+        self.assertEqual(status, 0, told)
+        expected = {str(folder / f"figures/{name}.{form}") for name in names for form in ("png", "svg")}
+        self.assertEqual(set(told.split()), expected)
+        self.assertTrue(all(Path(made).stat().st_size > 1000 for made in expected))
