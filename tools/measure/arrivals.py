@@ -36,10 +36,13 @@ def read_arrivals(file):
     rows = csv.reader(file)
     if next(rows, None) != HEADER:
         raise ValueError("the first line is not " + ",".join(HEADER))
-    return [
-        Arrival(int(slot), int(card), tuple(map(int, outputs.split())), int(level), int(cells))
-        for slot, card, outputs, level, cells in rows
-    ]
+    known = {}  # The fan-outs, of which there are few.
+    found = []
+    for slot, card, outputs, level, cells in rows:
+        if outputs not in known:
+            known[outputs] = tuple(map(int, outputs.split()))
+        found.append(Arrival(int(slot), int(card), known[outputs], int(level), int(cells)))
+    return found
 
 
 class Misfit(ValueError):
@@ -71,7 +74,7 @@ class _Queues:
         for output in packet.outputs:
             self.came[output][packet.slot] += packet.cells
         for left in range(packet.cells, 0, -1):
-            queue.append((packet.slot, left == 1, set(packet.outputs)))
+            queue.append((packet.slot, left == 1, packet.outputs if place is not None else set(packet.outputs)))
 
     def serve(self, number, pair):
         """Takes a copy for one output from the head of its queue: its arrival slot, and whether it is a last cell."""
@@ -79,8 +82,9 @@ class _Queues:
         if not queue or pair.output not in queue[0][2]:
             raise Misfit(f"slot {number} feeds output {pair.output} from input {pair.input}, where no cell waits for it")
         came, last, outputs = queue[0]
-        outputs.remove(pair.output)
-        if not outputs:
+        if pair.multicast:
+            outputs.remove(pair.output)
+        if not (pair.multicast and outputs):
             queue.popleft()
             self.waiting -= 1
         return came, last
