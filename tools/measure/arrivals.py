@@ -9,6 +9,7 @@ import csv
 from collections import defaultdict, deque
 from typing import NamedTuple
 
+LEVELS = 4
 HEADER = ["slot", "input", "outputs", "level", "cells"]
 
 
@@ -62,6 +63,8 @@ class _Queues:
         self.waiting = 0
         self.dropped = 0
         self.came = defaultdict(lambda: defaultdict(int))
+        self.waits = defaultdict(int)
+        self.longest = [0] * LEVELS
 
     def admit(self, packet):
         """Lets a packet in, whole, where it fits."""
@@ -105,6 +108,17 @@ class _Queues:
             if (tuple(unicast), tuple(multicast)) != (post.unicast, post.multicast):
                 raise Misfit(f"input {card} asked in slot {number} for other outputs than its cells are for")
 
+    def count_waits(self, slot):
+        """Counts, for each unicast queue that asks, the slots in a row in which it is not matched."""
+        served = {(pair.input, pair.output, pair.level) for pair in slot.pairs if not pair.multicast}
+        for card, queues in self.inputs.items():
+            for (place, level), queue in queues.items():
+                if place is None or not queue:
+                    continue
+                name = (card, place, level)
+                self.waits[name] = 0 if name in served else self.waits[name] + 1
+                self.longest[level] = max(self.longest[level], self.waits[name])
+
     def check_match(self, number, slot, rounds):
         """Whether the scheduler can have made this match of what waits; Misfit where not.
 
@@ -136,7 +150,8 @@ def cells_waiting(arrivals, report, journal=None):
 
     Cells that come in the slot count, those that it serves do not; a multicast cell counts once. Misfit
     where the arrivals cannot be those of the run: another table, other captures or another pace. What is
-    compared are the slot lines, the reference lines where there are any, and the journal where it is given.
+    compared are the slot lines and the longest waits, the reference lines where there are any, and the journal
+    where it is given.
     """
     queues = _Queues(report.summary["depth"])
     coming = _by_slot(arrivals, report.slots)
@@ -148,10 +163,13 @@ def cells_waiting(arrivals, report, journal=None):
         if posts:
             queues.check_posts(number, posts[number])
         queues.check_match(number, slot, report.summary["rounds"])
+        queues.count_waits(slot)
         for pair in slot.pairs:
             queues.serve(number, pair)
         waiting.append(queues.waiting)
     _check_end(queues, len(arrivals), report)
+    if tuple(queues.longest) != report.longest:
+        raise Misfit(f"the longest waits are {queues.longest}, and not those of the report")
     return waiting
 
 

@@ -106,17 +106,19 @@ class Files(unittest.TestCase):
         for name, came in wrong.items():
             with self.subTest(name):
                 self.assertRaises(arrivals.Misfit, arrivals.cells_waiting, came, bare)
-        # The second packet of this input comes a slot earlier, behind the first: only the ideal switch shows it.
+        # The second packet of this input comes a slot earlier, behind the first: the longest wait shows it, and the ideal switch.
         slots = [pairs_slot(0, 0), pairs_slot(0, 0), pairs_slot(0, 1), report.Slot(0, 0, [])]
         summary = {"depth": 9, "rounds": 1, "forwarded": 2, "dropped": 0}
         ends = [report.Reference(2, 2, 0, 0), report.Reference(3, 3, 0, 0)]
         one = arrivals.Arrival(0, 0, (0,), 0, 2)
         other = arrivals.Arrival(2, 0, (1,), 0, 1)
-        fits = told._replace(summary=summary, slots=slots, reference=ends)
+        fits = told._replace(summary=summary, longest=(0,) * 4, slots=slots, reference=ends)
         self.assertEqual(arrivals.cells_waiting([one, other], fits), [1, 0, 0, 0])
         moved = [one, other._replace(slot=1)]
-        self.assertEqual(arrivals.cells_waiting(moved, fits._replace(reference=None)), [1, 1, 0, 0])
-        self.assertRaises(arrivals.Misfit, arrivals.cells_waiting, moved, fits)
+        bare = fits._replace(reference=None, longest=(1, 0, 0, 0))
+        self.assertEqual(arrivals.cells_waiting(moved, bare), [1, 1, 0, 0])
+        for wrong in (fits._replace(reference=None), bare._replace(reference=ends)):
+            self.assertRaises(arrivals.Misfit, arrivals.cells_waiting, moved, wrong)
 
     def test_delays(self):
         served = {slot: card for card, slot in TURNS}
