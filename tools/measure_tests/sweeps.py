@@ -30,9 +30,11 @@ BAD_WORDS = [
     (["--kinds", "trace"], "--kinds trace and --trace go together"),
     (["--kinds", "hot-spot", "--loads", "0.7"], "--loads: 0.7 is over 0.571, the most with kind hot-spot"),
 ]
-# The program, but for runs of two rounds while the file `broken` is there, and slow while `slow` is.
+# The program, but for runs of two rounds while the file `broken` is there, and slow while `slow` is. It takes the
+# name of a scheduler, and runs its own.
 SCRIPT = """\
 #!/bin/sh
+set -- $(echo "$*" | sed 's/--scheduler [a-z]*//')
 case " $* " in *" --rounds 2 "*) [ -e {folder}/broken ] && exit 9;; esac
 [ -e {folder}/slow ] && [ "$1" = run ] && touch {folder}/began && sleep 30
 mkdir {folder}/busy 2>/dev/null || touch {folder}/overlap
@@ -148,8 +150,10 @@ class Sweeps(unittest.TestCase):
         line = f"tools/sweep: stopped with 0 of 2 runs done; the same command goes on in {self.folder}\n"
         self.assertEqual((process.returncode, told), (130, line))
         (self.room / "slow").unlink()
-        status, told = run(*self.words)
-        self.assertEqual((status, len(self.rows()[0])), (0, 2), told)
+        # The same words, and another scheduler that the program has here.
+        status, told = run(*self.words, "--schedulers", "islip,firm")
+        self.assertEqual(status, 0, told)
+        self.assertEqual(self.rows("points")[0]["scheduler"].tolist(), ["firm", "firm", "islip", "islip"])
 
     def test_profile_and_trace(self):
         """The profile of two hosts runs a sweep of a trace, which is split into ports."""
