@@ -19,6 +19,7 @@ MARKERS = ("o", "s", "^", "D", "v", "P")
 PLAIN = StrMethodFormatter("{x:g}")  # As 0.01, and not as a power of ten.
 KINDS = ("uniform", "bursty", "diagonal", "log-diagonal", "hot-spot", "trace")  # The order of the parts.
 PARTS_OF_A_ROW = 3
+BARS = "bars: 95 per cent intervals of the mean over the seeds, by Student's t"
 WINDOWS = 200  # Slots are averaged over so many windows.
 
 
@@ -145,6 +146,7 @@ def load_figure(title, runs):
 
 def save_sweep(points, told, folder):
     """Draws the figures of a sweep's points: `delays` where loads are below full, `throughput` under full load."""
+    told = told._replace(notes=(*told.notes, BARS))
     below, full = points[points["load"] < 1], points[points["load"] == 1]
     for ports, part in below.groupby("ports"):
         name = "delays" if below["ports"].nunique() == 1 else f"delays_{ports}_ports"

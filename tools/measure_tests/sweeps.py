@@ -26,7 +26,7 @@ BAD_WORDS = [
     (["--slots", "1025", "--ports", "2,64"], "--slots: 1025 is over 1024, the most with 64 ports"),
     (["--burst", "0"], "'0' is not a whole number from 1"),
     (["--cores", "0"], "'0' is not a whole number from 1"),
-    (["--schedulers", "pim"], "'pim' is none of islip,firm,rrm"),
+    (["--schedulers", "islip,"], "'islip,' is no list of names"),
     (["--kinds", "trace"], "--kinds trace and --trace go together"),
     (["--kinds", "hot-spot", "--loads", "0.7"], "--loads: 0.7 is over 0.571, the most with kind hot-spot"),
 ]
