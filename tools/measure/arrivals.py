@@ -191,15 +191,20 @@ def _check_reference(came, report):
         for pair in slot.pairs:
             crossed[pair.output].add(number)
     for output, told in enumerate(report.reference):
-        waiting = lead = most = extra = ends = 0
-        for number in range(len(report.slots)):
-            waiting += came[output].get(number, 0)
-            if waiting:
-                waiting, lead, ends = waiting - 1, lead + 1, number + 1
-            lead -= number in crossed[output]
-            most, extra = max(most, lead), extra + lead
-        if (ends, max(crossed[output], default=-1) + 1, most, extra) != tuple(told):
+        if _reference(came[output], crossed[output], len(report.slots)) != tuple(told):
             raise Misfit(f"output {output} of the ideal switch gives out these packets at other times")
+
+
+def _reference(came, crossed, slots):
+    """The numbers of an output's reference line: from the cells that come in each slot, and the slots that feed it."""
+    waiting = lead = most = extra = ends = 0
+    for number in range(slots):
+        waiting += came.get(number, 0)
+        if waiting:
+            waiting, lead, ends = waiting - 1, lead + 1, number + 1
+        lead -= number in crossed
+        most, extra = max(most, lead), extra + lead
+    return ends, max(crossed, default=-1) + 1, most, extra
 
 
 def delays(arrivals, report):
