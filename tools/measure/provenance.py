@@ -24,7 +24,7 @@ class Provenance(NamedTuple):
 
     def text(self):
         """The same as a paragraph under a figure."""
-        return "\n".join(part for line in self.lines() for part in textwrap.wrap(line, LINE))
+        return "\n".join(part for line in self.lines() for part in textwrap.wrap(line, LINE, break_on_hyphens=False))
 
 
 def read_lines(lines):

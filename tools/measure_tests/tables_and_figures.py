@@ -101,7 +101,8 @@ class Figures(unittest.TestCase):
             names = ["one.waits", "one.waiting", "one.matched", "one.reference"]
             self.check_drawn(names, folder, reports[:1])
             self.check_drawn(["load"], folder, reports)
-            self.assertTrue("one.report: SHA-256" in (folder / "figures/one.waiting.svg").read_text())
+            drawn = (folder / "figures/one.waiting.svg").read_text()
+            self.assertTrue("/one.report" in drawn and "SHA-256" in drawn)
 
     def test_figures_with_a_packets_file(self):
         """Delays are drawn, and the waiting cells without a list of arrivals, since the file has them."""
