@@ -2,7 +2,8 @@
 
 A list is a CSV file with the header `slot,input,outputs,level,cells` and a line for each packet, in
 the order of slots: the slot in which it has arrived, its port, the outputs of its fan-out parted by
-blanks, its level, and its number of cells.
+blanks, its level, and its number of cells. It is read with Python's own library, since each job of a
+sweep reads one, and pandas takes longer to load than that.
 """
 
 import csv

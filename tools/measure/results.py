@@ -65,12 +65,15 @@ def measured_span(arrivals):
     return Span(first, (first + last) / 2, last)
 
 
-def measure(report, arrivals):
-    """The result of a run with this report and these arrivals; ValueError where they do not fit."""
+def measure(report, arrivals, found=None):
+    """The result of a run with this report and these arrivals; ValueError where they do not fit.
+
+    The delays are those that are `found`, as in a packets file, else they are taken from the slot lines.
+    """
     summary = report.summary
     if report.slots is None:
         raise ValueError("the report has no slot lines")
-    found = delays(arrivals, report)
+    found = found or delays(arrivals, report)
     span = measured_span(arrivals)
     early = [delay for came, delay in found if span.first <= came < span.middle]
     late = [delay for came, delay in found if span.middle <= came < span.last]

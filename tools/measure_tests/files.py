@@ -1,12 +1,13 @@
 """Tests of what reads the program's files, and of waiting cells, waits and delays."""
 
 import io
+import json
 import unittest
 from collections import Counter
 
-from measure import arrivals, journal, report, waits
+from measure import arrivals, journal, report, results, waits
 
-from .common import ARRIVALS, DATA, JOURNAL, REPORT, TOOLS, lacks
+from .common import ARRIVALS, DATA, JOURNAL, REPORT, TOOLS, lacks, run
 
 # Journals of one slot, and the offset of the first field that is wrong or cut.
 BAD_JOURNALS = [
@@ -145,8 +146,12 @@ class Files(unittest.TestCase):
         came = packets.arrivals_of_packets(found)
         self.assertEqual((len(came), sum(packet.cells for packet in came)), (17, 38))
         self.assertEqual(sorted(arrivals.delays(came, told)), sorted(packets.packet_delays(found)))
+        self.assertEqual(results.measure(told, came), results.measure(told, came, packets.packet_delays(found)))
         with_posts = journal.read_journal((DATA / "all_flags_islip.journal").read_bytes())
         self.assertEqual(arrivals.cells_waiting(came, told, with_posts)[:3], [0, 2, 4])
+        words = ["--kind", "trace", "--load", "0.5", "--seed", "1"]
+        status, result = run(TOOLS / "delays", DATA / "all_flags_islip.report", DATA / "all_flags_islip.packets.csv", *words)
+        self.assertEqual((status, json.loads(result)["dropped"]), (0, 1), result)
         states = packets.read_packets(DATA / "packets_of_all_states.packets.csv")
         self.assertEqual(packets.packet_delays(states), [(1177, 0), (2, 1), (2, 1), (2, 1), (3, 1), (3, 1), (3, 1)])
         self.assertEqual(packets.delay_counts(states), {0: Counter({1: 6, 0: 1})})
