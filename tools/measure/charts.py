@@ -209,7 +209,8 @@ def _ideal_lines(axes, points):
         )
     known = points.drop_duplicates("load").dropna(subset=["formula"])
     if len(known):
-        axes.plot(known["load"], known["formula"], color="grey", linestyle=":", label="output-queued, formula")
+        # Broad and behind the others, since the curve of the same packets lies upon it.
+        axes.plot(known["load"], known["formula"], color="#cccccc", linewidth=6, zorder=0, label="output-queued, formula")
 
 
 def throughput_figure(points):
