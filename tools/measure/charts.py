@@ -185,7 +185,8 @@ def sweep_figure(points, ports):
         found = points[points["kind"] == kind]
         for part, style in _lines(found):
             axes.errorbar(part["load"], part["mean_delay"], yerr=_bars(part["half_width"]), **style)
-        _ideal_lines(axes, found)
+        _ideal_line(axes, found, "load", "output_queued")
+        _formula_line(axes, found)
         axes.set_title(f"{kind} traffic, {ports} ports")
         axes.set_xlabel("offered load (cells per input and slot)")
         _plain_log(axes)
@@ -199,14 +200,17 @@ def sweep_figure(points, ports):
     return figure
 
 
-def _ideal_lines(axes, points):
-    """The output-queued switch on the same packets, and its formula, where there are any."""
-    ideal = points.drop_duplicates("load").dropna(subset=["output_queued"])
+def _ideal_line(axes, points, across, name):
+    """The output-queued switch on the same packets, where it is known."""
+    ideal = points.drop_duplicates(across).dropna(subset=[name]).sort_values(across)
     if len(ideal):
         axes.errorbar(
-            ideal["load"], ideal["output_queued"], yerr=_bars(ideal["output_queued_half_width"]),
-            color="black", linestyle="--", marker="x", capsize=3, markersize=4, label="output-queued, same packets",
+            ideal[across], ideal[name], yerr=_bars(ideal[f"{name}_half_width"]), color="black", linestyle="--",
+            marker="x", capsize=3, markersize=4, label="output-queued, same packets",
         )
+
+
+def _formula_line(axes, points):
     known = points.drop_duplicates("load").dropna(subset=["formula"])
     if len(known):
         # Broad and behind the others, since the curve of the same packets lies upon it.
@@ -219,6 +223,7 @@ def throughput_figure(points):
     figure, axes = _one(f"{kinds} traffic, load 1", "ports", "throughput (cells per output and slot)")
     for part, style in _lines(points):
         axes.errorbar(part["ports"], part["throughput"], yerr=_bars(part["throughput_half_width"]), **style)
+    _ideal_line(axes, points, "ports", "output_queued_throughput")
     axes.set_xscale("log", base=2)
     ports = sorted(points["ports"].unique())
     axes.set_xticks(ports, labels=[str(number) for number in ports])

@@ -1,5 +1,6 @@
 """The result of one run of a sweep: its words, and the delays of its packets."""
 
+from math import ceil
 from statistics import fmean
 from typing import NamedTuple
 
@@ -31,7 +32,7 @@ class Result(NamedTuple):
     `mean_second_half` are over the halves of these slots: they differ where queues still grew.
     `output_queued` is the mean delay of the same packets in a switch whose queues stand at the outputs
     (None where packets have several cells), `throughput` the cells per output and slot that crossed in
-    the measured slots.
+    the measured slots, `output_queued_throughput` those that the other switch gave out.
     """
 
     arrival_slots: int
@@ -48,6 +49,7 @@ class Result(NamedTuple):
     longest_wait: int
     output_queued: float
     throughput: float
+    output_queued_throughput: float
 
 
 class Span(NamedTuple):
@@ -80,6 +82,7 @@ def measure(report, arrivals, found=None):
     if not (early and late):
         raise ValueError("no packet came in the measured slots")
     measured = sorted(early + late)
+    ideal_delay, ideal_throughput = output_queued(report, arrivals, span)
     arrival_slots = arrivals[-1].slot + 1
     return Result(
         arrival_slots=arrival_slots,
@@ -94,20 +97,24 @@ def measure(report, arrivals, found=None):
         delay_99=measured[len(measured) * 99 // 100],
         longest_delay=measured[-1],
         longest_wait=max(report.longest),
-        output_queued=output_queued_mean(report, arrivals, span),
+        output_queued=ideal_delay,
         throughput=throughput(report, span),
+        output_queued_throughput=ideal_throughput,
     )
 
 
-def output_queued_mean(report, arrivals, span):
-    """The mean delay of the measured packets in the ideal switch; None where it is not that of the run's reference.
+def output_queued(report, arrivals, span):
+    """The mean delay of the measured packets in the ideal switch, and its throughput; None twice where they are unknown.
 
     That is where packets are dropped, which the ideal switch then does not get, or have several cells or outputs.
     """
     if report.summary["dropped"] or any(packet.cells > 1 or len(packet.outputs) > 1 for packet in arrivals):
-        return None
+        return None, None
     ideal = output_queued_delays(arrivals)
-    return round(fmean(delay for came, delay in ideal if span.first <= came < span.last), PLACES)
+    mean = fmean(delay for came, delay in ideal if span.first <= came < span.last)
+    left = sum(span.first <= came + delay < span.last for came, delay in ideal)
+    slots = ceil(span.last) - ceil(span.first)
+    return round(mean, PLACES), round(left / slots / report.summary["ports"], PLACES)
 
 
 def throughput(report, span):

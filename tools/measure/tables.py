@@ -97,6 +97,8 @@ def _point(words, runs):
         "formula": formula(words["kind"], words["ports"], words["load"]),
         "throughput": runs["throughput"].mean(),
         "throughput_half_width": half_width(runs["throughput"]),
+        "output_queued_throughput": runs["output_queued_throughput"].mean(),
+        "output_queued_throughput_half_width": half_width(runs["output_queued_throughput"].dropna()),
     }
     rounded = {name: round(number, PLACES) for name, number in numbers.items()}
     needed = seeds_needed(runs["mean_delay"])

@@ -135,6 +135,10 @@ class Files(unittest.TestCase):
         """Three packets for output 0 in one slot leave in three; the one that comes then waits for the last of them."""
         came = [arrivals.Arrival(slot, card, (output,), 0, 1) for slot, card, output in ((0, 0, 0), (0, 1, 0), (0, 2, 0), (1, 0, 0), (1, 1, 1))]
         self.assertEqual(arrivals.output_queued_delays(came), [(0, 0), (0, 1), (0, 2), (1, 2), (1, 0)])
+        told = report.Report({"ports": 3, "dropped": 0}, (0,) * 4, [], [], None)
+        # Of slots 1 to 3 all packets come in slot 1, with delays 2 and 0; four cells leave, of nine that three outputs can give out.
+        self.assertEqual(results.output_queued(told, came, results.Span(0.5, 2, 3.5)), (1.0, round(4 / 9, 4)))
+        self.assertEqual(results.output_queued(told, [came[0]._replace(cells=2)], results.Span(0, 1, 2)), (None, None))
 
     @unittest.skipIf(lacks("pandas"), lacks("pandas"))
     def test_packets_file(self):

@@ -39,7 +39,8 @@ def runs_of(*means, **words_of_runs):
 
     common = {
         "kind": "uniform", "ports": 16, "load": 0.5, "scheduler": "islip", "rounds": 2, "commit": "abc",
-        "mean_first_half": 2.0, "mean_second_half": 3.0, "output_queued": 0.5, "throughput": 0.5, **words_of_runs,
+        "mean_first_half": 2.0, "mean_second_half": 3.0, "output_queued": 0.5, "throughput": 0.5,
+        "output_queued_throughput": 0.6, **words_of_runs,
     }
     rows = [{**common, "seed": seed, "mean_delay": mean} for seed, mean in enumerate(means, 1)]
     return pandas.DataFrame(rows, columns=COLUMNS)
