@@ -71,7 +71,7 @@ class Traffic(unittest.TestCase):
             with open(folder / "arrivals.csv", newline="") as file:
                 listed = arrivals.read_arrivals(file)
             self.assertEqual(len(listed), len(frames))
-            self.assertEqual(sum(packet.cells for packet in listed), sum(trace.cells_of(frame.data) for frame in frames))
+            self.assertEqual(sum(packet.cells for packet in listed), sum(captures.cells_of(frame.data) for frame in frames))
 
     def test_stretched(self):
         """Four packets of one cell, two ports, half load: four slots; the times keep their proportions."""
