@@ -1,0 +1,33 @@
+-- One slot under round-robin matching: a slot as the first scheduler makes it, but for where grants move grant pointers.
+use Rattle.std.specs.Prelude.{◌≡◌, ℕ, ◌+◌, ◌%◌, List, Option}
+use Rattle.rotating_pick.specs.Rotation.{IsFirstFrom}
+use Rattle.rotating_pick.specs.declared.kinds.Kind.TheVariants.{Uni}
+use Rattle.slot_match.specs.declared.rows.Row.{Row}
+use Rattle.slot_match.specs.declared.matching.Fed.{Fed}
+use Rattle.slot_match.specs.Rows.{HasHead}
+use Rattle.slot_match.specs.Matches.{unmatched, Serves, Completes}
+use Rattle.pointer_state.specs.Places.{Places, grant_of, accept_of, shared_of}
+use Rattle.eslip_rounds.specs.Rounds.{Grants}
+use Rattle.eslip_rounds.specs.Slots.{Decision, IsSlotBy}
+
+-- in the first round of slot t output j grants input i as unicast of the level
+abbrev pub IsGrantedFirst : ℕ → ℕ → List Row → Places → ℕ → ℕ → ℕ → Type 0
+IsGrantedFirst n t rows places i j level = Grants n t rows places (unmatched n) i j level Uni
+
+-- The pointers after a slot, of which `first_match` is the match after the first round. Each unicast grant of the first
+-- round moves the output's grant pointer one beyond the input, accepted or not. All else is as in the first scheduler:
+-- the unicast pairs of the first round move the inputs' accept pointers one beyond the outputs, and the shared pointer of
+-- a level moves one beyond the first input from it on that posted a multicast head, where that head completes. All other
+-- pointers stay.
+pub record AreMovedByRrm (n t : ℕ) (rows : List Row) (first_match matched : List (Option Fed)) (before after : Places) : Type 0 where
+  pub ports : after.ports ≡ before.ports
+  pub granted : (i j level : ℕ) → IsGrantedFirst n t rows before i j level → grant_of after j level ≡ (i + 1) % n
+  pub grant_stays : (j level : ℕ) → ((i : ℕ) → IsGrantedFirst n t rows before i j level → ⊥) → grant_of after j level ≡ grant_of before j level
+  pub accepted : (i j level : ℕ) → Serves first_match i j level Uni → accept_of after i level ≡ (j + 1) % n
+  pub accept_stays : (i level : ℕ) → ((j : ℕ) → Serves first_match i j level Uni → ⊥) → accept_of after i level ≡ accept_of before i level
+  pub passed : (i level : ℕ) → IsFirstFrom n (shared_of before level) (HasHead rows level) i → Completes rows matched level i → shared_of after level ≡ (i + 1) % n
+  pub shared_stays : (level : ℕ) → ((i : ℕ) → IsFirstFrom n (shared_of before level) (HasHead rows level) i → Completes rows matched level i → ⊥) → shared_of after level ≡ shared_of before level
+
+-- slot t decides this
+abbrev pub IsRrmSlot : ℕ → ℕ → ℕ → List Row → Places → Decision → Type 0
+IsRrmSlot = IsSlotBy AreMovedByRrm
