@@ -66,14 +66,14 @@ module _ (n t level : ℕ) (rows : List Row) (places : Places) (first : List (Op
   accepted_first : (i j : ℕ) → Serves first i j level Uni → Accepts n t rows places (unmatched n) i j level Uni
   accepted_first i j served = elim ((opening.pairs i j level Uni).0 served) [ inl old ↦ absurd (nobody_at_first n i j level Uni old) | inr new ↦ new ]
 
-  served_at : (i j : ℕ) → j < n → Serves first i j level Uni → grant_of places j level ≡ i
+  pub served_at : (i j : ℕ) → j < n → Serves first i j level Uni → grant_of places j level ≡ i
   served_at i j j_in served =
       let there = level_in j j_in in
       let accepted = accepted_first i j served in
       IsFirstFrom-only n (grant_of places j level) (λ x. Names (row_of rows x) level Uni j) (grant_of places j level) i (pointing.grant j j_in) (is_first j j_in)
       (first_granted n t rows places level there load.clean Uni (unicast_first there) i j accepted.taken.member)
 
-  served_once : (i j k : ℕ) → Serves first i j level Uni → Serves first i k level Uni → j ≡ k
+  pub served_once : (i j k : ℕ) → Serves first i j level Uni → Serves first i k level Uni → j ≡ k
   served_once i j k served also =
       let one = accepted_first i j served in
       let other = accepted_first i k also in

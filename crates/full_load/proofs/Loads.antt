@@ -1,5 +1,5 @@
 -- Slots of full load there are, as many as one wants, from any pointers of a switch.
-use Rattle.std.proofs.Common.{◌≡◌, ℕ, zero, suc, ◌+◌, ◌-◌, ◌^◌, ◌<◌, ◌∙◌, List, [], ◌∷◌, length, replicate, slice_index, slice_set, refl, sym, ap, subst, inl, inr, arith, get_or-set_same, get_or-set_other}
+use Rattle.std.proofs.Common.{◌≡◌, ℕ, zero, suc, ◌+◌, ◌-◌, ◌^◌, ◌<◌, ◌∙◌, List, [], ◌∷◌, Option, length, replicate, slice_index, slice_set, refl, sym, ap, subst, inl, inr, arith, get_or-set_same, get_or-set_other}
 use Rattle.std.proofs.lemmas.Bool.{cases_eq, cases_lt}
 use Rattle.std.proofs.lemmas.List.{get_or-replicate, length-replicate}
 use Rattle.std.proofs.lemmas.List.Elements.{All-nil, All-cons}
@@ -9,13 +9,13 @@ use Rattle.rotating_pick.specs.declared.kinds.Kind.{Kind}
 use Rattle.rotating_pick.specs.declared.kinds.Kind.TheVariants.{Uni, Multi}
 use Rattle.rotating_pick.specs.declared.limits.TheConstants.{LEVELS}
 use Rattle.slot_match.specs.declared.rows.Row.{Row}
+use Rattle.slot_match.specs.declared.matching.Fed.{Fed}
 use Rattle.slot_match.specs.Rows.{Names, row_of, no_row, AreWithin}
 use Rattle.pointer_state.specs.Places.{Places, AreAtPorts, ArePointing}
 use Rattle.eslip_rounds.specs.Schedules.{DecidedSlot}
-use Rattle.eslip_rounds.specs.Decisions.{decision_of}
-use Rattle.eslip_rounds.proofs.Settling.{IsSlot-decision_of, AreAtPorts-decision_of}
+use Rattle.eslip_rounds.specs.Schedulers.{Scheduler, IsSchedulerBy, IsScheduler}
 use Rattle.service_bound.proofs.Postings.{nothing_in}
-use Rattle.full_load.specs.FullLoad.{IsFullLoad, IsFullyLoaded}
+use Rattle.full_load.specs.FullLoad.{IsFullLoad, IsFullyLoadedBy}
 
 -- a row with all of n outputs at one level
 abbrev row_at : ℕ → ℕ → Row
@@ -57,35 +57,35 @@ module _ (n level : ℕ) (level_in : level < LEVELS) where
     clean = λ i better j kind i_in less named. let at = (named_in i better j kind i_in named).0 in absurd (omega arith);
   }
 
-  -- a slot of full load, before others
-  loaded_cons : (rounds t : ℕ) (places : Places) (slots : List DecidedSlot) → AreAtPorts places → places.ports ≡ n
-      → let decision = decision_of n rounds t (rows_at n level) places in
-      IsFullyLoaded n rounds (t + 1) level decision.places slots
-      → IsFullyLoaded n rounds t level places (record { rows = rows_at n level; decision = decision } ∷ slots)
-  loaded_cons rounds t places slots at_ports ports later =
-      let slot : DecidedSlot = record { rows = rows_at n level; decision = decision_of n rounds t (rows_at n level) places } in
-      record {
-        pointing = subst (λ m. ArePointing m level places) ports (at_ports.pointing level level_in);
-        schedule = (IsSlot-decision_of n t (rows_at n level) places AreWithin-rows at_ports ports rounds, later.schedule);
-        within = All-cons (λ x. AreWithin n x.rows) slot slots AreWithin-rows later.within;
-        load = All-cons (λ x. IsFullLoad n level x.rows) slot slots IsFullLoad-rows later.load;
-      }
+  module _ (Moves : ℕ → ℕ → List Row → List (Option Fed) → List (Option Fed) → Places → Places → Type 0) (scheduler : Scheduler) (by : IsSchedulerBy Moves scheduler) (stays : IsScheduler scheduler) where
+    -- a slot of full load, before others
+    loaded_cons : (rounds t : ℕ) (places : Places) (slots : List DecidedSlot) → AreAtPorts places → places.ports ≡ n
+        → let decision = scheduler n rounds t (rows_at n level) places in
+        IsFullyLoadedBy Moves n rounds (t + 1) level decision.places slots
+        → IsFullyLoadedBy Moves n rounds t level places (record { rows = rows_at n level; decision = decision } ∷ slots)
+    loaded_cons rounds t places slots at_ports ports later =
+        let slot : DecidedSlot = record { rows = rows_at n level; decision = scheduler n rounds t (rows_at n level) places } in
+        record {
+          pointing = subst (λ m. ArePointing m level places) ports (at_ports.pointing level level_in);
+          schedule = (by n rounds t (rows_at n level) places AreWithin-rows at_ports ports, later.schedule);
+          within = All-cons (λ x. AreWithin n x.rows) slot slots AreWithin-rows later.within;
+          load = All-cons (λ x. IsFullLoad n level x.rows) slot slots IsFullLoad-rows later.load;
+        }
 
-  -- so many slots from slot t on
-  pub loads : (rounds count t : ℕ) (places : Places) → AreAtPorts places → places.ports ≡ n
-      → (slots : List DecidedSlot) × IsFullyLoaded n rounds t level places slots × (length slots ≡ count)
-  loads rounds zero t places at_ports ports =
-      let none : IsFullyLoaded n rounds t level places [] = record {
-        pointing = subst (λ m. ArePointing m level places) ports (at_ports.pointing level level_in);
-        schedule = tt;
-        within = All-nil (λ slot. AreWithin n slot.rows);
-        load = All-nil (λ slot. IsFullLoad n level slot.rows);
-      } in
-      ([], none, refl)
-  loads rounds (suc count) t places at_ports ports =
-      let decision = decision_of n rounds t (rows_at n level) places in
-      let decided = IsSlot-decision_of n t (rows_at n level) places AreWithin-rows at_ports ports rounds in
-      let later_ports = AreAtPorts-decision_of n t (rows_at n level) places AreWithin-rows at_ports ports rounds in
-      let rest = loads rounds count (t + 1) decision.places later_ports (decided.moved.ports ∙ ports) in
-      let slot : DecidedSlot = record { rows = rows_at n level; decision = decision } in
-      (slot ∷ rest.0, loaded_cons rounds t places rest.0 at_ports ports rest.1, ap suc rest.2)
+    -- so many slots from slot t on
+    pub loads : (rounds count t : ℕ) (places : Places) → AreAtPorts places → places.ports ≡ n
+        → (slots : List DecidedSlot) × IsFullyLoadedBy Moves n rounds t level places slots × (length slots ≡ count)
+    loads rounds zero t places at_ports ports =
+        let none : IsFullyLoadedBy Moves n rounds t level places [] = record {
+          pointing = subst (λ m. ArePointing m level places) ports (at_ports.pointing level level_in);
+          schedule = tt;
+          within = All-nil (λ slot. AreWithin n slot.rows);
+          load = All-nil (λ slot. IsFullLoad n level slot.rows);
+        } in
+        ([], none, refl)
+    loads rounds (suc count) t places at_ports ports =
+        let decision = scheduler n rounds t (rows_at n level) places in
+        let later_ports = (stays n rounds t (rows_at n level) places AreWithin-rows at_ports ports).moved in
+        let rest = loads rounds count (t + 1) decision.places later_ports.0 (later_ports.1 ∙ ports) in
+        let slot : DecidedSlot = record { rows = rows_at n level; decision = decision } in
+        (slot ∷ rest.0, loaded_cons rounds t places rest.0 at_ports ports rest.1, ap suc rest.2)

@@ -5,10 +5,12 @@ use Rattle.slot_match.specs.declared.rows.Row.{Row}
 use Rattle.slot_match.specs.declared.matching.Fed.{Fed}
 use Rattle.slot_match.specs.Rows.{Names, row_of, AreWithin}
 use Rattle.slot_match.specs.Matches.{Serves}
-use Rattle.pointer_state.specs.Places.{Places, ArePointing}
+use Rattle.pointer_state.specs.Places.{Places, ArePointing, grant_of}
 use Rattle.islip_rounds.specs.Numbers.{matched_count}
-use Rattle.eslip_rounds.specs.Schedules.{DecidedSlot, IsSchedule}
+use Rattle.eslip_rounds.specs.Slots.{AreMoved}
+use Rattle.eslip_rounds.specs.Schedules.{DecidedSlot, IsScheduleBy}
 use Rattle.service_bound.specs.Windows.{IsClean, IsWithoutMulticast}
+use Rattle.rrm_rounds.specs.Slots.{AreMovedByRrm}
 
 -- every row names every output as unicast of the level, none as multicast of it, and none at a better level
 pub record IsFullLoad (n level : ℕ) (rows : List Row) : Type 0 where
@@ -16,12 +18,25 @@ pub record IsFullLoad (n level : ℕ) (rows : List Row) : Type 0 where
   pub alone : IsWithoutMulticast n level rows
   pub clean : IsClean n level rows
 
--- Slots from slot t on, decided from these pointers, of which those of the level are at ports, each of full load.
-pub record IsFullyLoaded (n rounds t level : ℕ) (places : Places) (slots : List DecidedSlot) : Type 0 where
+-- Slots from slot t on, decided from these pointers, of which those of the level are at ports, each of full load, where
+-- `Moves` says how pointers move.
+pub record IsFullyLoadedBy (Moves : ℕ → ℕ → List Row → List (Option Fed) → List (Option Fed) → Places → Places → Type 0) (n rounds t level : ℕ) (places : Places) (slots : List DecidedSlot) : Type 0 where
   pub pointing : ArePointing n level places
-  pub schedule : IsSchedule n rounds t places slots
+  pub schedule : IsScheduleBy Moves n rounds t places slots
   pub within : All (λ slot. AreWithin n slot.rows) slots
   pub load : All (λ slot. IsFullLoad n level slot.rows) slots
+
+-- the same where pointers move as those of iSLIP do
+abbrev pub IsFullyLoaded : ℕ → ℕ → ℕ → ℕ → Places → List DecidedSlot → Type 0
+IsFullyLoaded = IsFullyLoadedBy AreMoved
+
+-- the same where they move as those of round-robin matching do
+abbrev pub IsFullyLoadedByRrm : ℕ → ℕ → ℕ → ℕ → Places → List DecidedSlot → Type 0
+IsFullyLoadedByRrm = IsFullyLoadedBy AreMovedByRrm
+
+-- the grant pointers of all outputs are at one port
+abbrev pub AreTogether : ℕ → ℕ → Places → Type 0
+AreTogether n level places = (j k : ℕ) → j < n → k < n → grant_of places j level ≡ grant_of places k level
 
 -- every output has an input, and every input has an output, as unicast of the level
 pub record IsFullMatch (n level : ℕ) (matched : List (Option Fed)) : Type 0 where
