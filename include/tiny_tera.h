@@ -123,6 +123,17 @@ uint32_t tiny_tera_decide_firm(
     struct tiny_tera_feed *feeds, size_t feeds_len,
     struct tiny_tera_rounds *used);
 
+/* The same by round-robin matching, from which iSLIP starts: a unicast grant of the first round moves the output's grant
+ * pointer one beyond the input, whether or not the input accepted. A queue may be left unserved for ever by it. */
+uint32_t tiny_tera_decide_rrm(
+    uint32_t n,
+    uint32_t rounds,
+    uint32_t slot,
+    const struct tiny_tera_row *rows, size_t rows_len,
+    struct tiny_tera_pointers *pointers,
+    struct tiny_tera_feed *feeds, size_t feeds_len,
+    struct tiny_tera_rounds *used);
+
 /* Whether a match is maximal for these rows: no free input asks a free output, and no input that is matched as
  * multicast asks a free output as multicast of the same level. The match may come from any scheduler; words that are no
  * match are refused: an input that is matched twice, but for several outputs of one multicast head.

@@ -50,6 +50,9 @@ class ByCtypes:
     def firm(self, *arguments):
         return self.decide(*arguments, function="tiny_tera_decide_firm")
 
+    def rrm(self, *arguments):
+        return self.decide(*arguments, function="tiny_tera_decide_rrm")
+
     def maximal(self, n, rows, feeds):
         answer, size = u32([2]), ctypes.c_size_t(n)
         return [self.library.tiny_tera_is_maximal(n, u64(rows), size, u32(feeds), size, answer), *answer]
@@ -187,6 +190,19 @@ def longest_rows(ask, name):
             yield f"{n} ports, {rounds} rounds, slot {slot}", [0, slot == slots - 1], [answer[0], answer[1] == 0]
 
 
+def rrm_rows(ask):
+    """Two ports with all queues full, one round: the two grant pointers go round together, one pair in each slot."""
+    rows, pointers = [3, *[0] * 7] * 2, [0] * 516
+    for slot, (output, port, accepts) in enumerate([(0, 0, (1, 0)), (0, 1, (1, 1)), (1, 0, (0, 1)), (1, 1, (0, 0)), (0, 0, (1, 0))]):
+        feeds, at = [NONE] * 6, (slot + 1) % 2
+        feeds[3 * output : 3 * output + 3] = [port, 0, 0]
+        after = [0] * 516
+        after[:2], after[256:258] = (at, at), accepts
+        answer = ask("rrm", 2, 1, slot, rows, pointers)
+        pointers = answer[-516:]
+        yield f"slot {slot}", [0, *feeds, 1, 1, 1, *after], answer
+
+
 def verdict_of(text):
     """The words of an answer in the text of the vectors."""
     words = text[2:].replace(",", " ").split()
@@ -229,6 +245,8 @@ def all_rows(ask):
     for name, rows in FILES.items():
         for row in rows(ask, name):
             yield name, *row
+    for row in rrm_rows(ask):
+        yield "round-robin matching", *row
     for row in journal_rows(ask):
         yield JOURNALS.name, *row
 

@@ -3,7 +3,7 @@
  *
  *     islip n rounds asks.. grant.. accept..                 -> status fed.. used grant.. accept..
  *     decide n rounds slot rows.. grant.. accept.. shared..  -> status feeds.. used grant.. accept.. shared..
- *     firm   the same
+ *     firm   the same, and so rrm
  *     maximal n rows.. feeds..                               -> status maximal
  *     waits n rows.. feeds.. waits.. longest..               -> status waits.. longest..
  *     journal count bytes..                                  -> status verdict
@@ -66,7 +66,11 @@ static void islip(void) {
     print_words(accept, n);
 }
 
-static void decide(int firm) {
+typedef uint32_t decision(uint32_t n, uint32_t rounds, uint32_t slot, const struct tiny_tera_row *rows, size_t rows_len,
+                          struct tiny_tera_pointers *pointers, struct tiny_tera_feed *feeds, size_t feeds_len,
+                          struct tiny_tera_rounds *used);
+
+static void decide(decision *by) {
     struct tiny_tera_row rows[PORTS];
     struct tiny_tera_pointers pointers;
     struct tiny_tera_feed feeds[PORTS];
@@ -76,7 +80,7 @@ static void decide(int firm) {
     read_words(&pointers.grant[0][0], 256);
     read_words(&pointers.accept[0][0], 256);
     read_words(pointers.shared, 4);
-    printf("%u", (firm ? tiny_tera_decide_firm : tiny_tera_decide)(n, rounds, slot, rows, n, &pointers, feeds, n, &used));
+    printf("%u", by(n, rounds, slot, rows, n, &pointers, feeds, n, &used));
     print_words(&feeds[0].input, 3 * n);
     print_used(&used);
     print_words(&pointers.grant[0][0], 256);
@@ -123,8 +127,9 @@ int main(void) {
     char name[16];
     while (scanf("%15s", name) == 1) {
         if (!strcmp(name, "islip")) islip();
-        else if (!strcmp(name, "decide")) decide(0);
-        else if (!strcmp(name, "firm")) decide(1);
+        else if (!strcmp(name, "decide")) decide(tiny_tera_decide);
+        else if (!strcmp(name, "firm")) decide(tiny_tera_decide_firm);
+        else if (!strcmp(name, "rrm")) decide(tiny_tera_decide_rrm);
         else if (!strcmp(name, "maximal")) maximal();
         else if (!strcmp(name, "waits")) waits();
         else if (!strcmp(name, "journal")) journal();

@@ -106,6 +106,18 @@ def test_full_load():
     assert scheduler.slot == 4 and scheduler.rounds_used() == (1, 3, 3)
 
 
+def test_round_robin_matching():
+    """Two ports, all queues full, one round: the grant pointers stay together, and each slot has one pair."""
+    scheduler = Scheduler(2, rounds=1, rule="rrm")
+    scheduler.rows[:, UNICAST, 0] = 0b11
+    slots = []
+    for _ in range(5):
+        scheduler.decide()
+        slots.append(scheduler.pairs())
+        assert len(set(scheduler.pointers.grant[0, :2].tolist())) == 1
+    assert slots == [[(0, 0)], [(1, 0)], [(0, 1)], [(1, 1)], [(0, 0)]]
+
+
 def test_multicast():
     """One head for all outputs leaves at once; of two heads that share an output the first leaves whole."""
     scheduler = Scheduler(3, rounds=1)

@@ -25,6 +25,7 @@ _ARGUMENTS = {
     "tiny_tera_islip_slot": (_WORD, _WORD, *_SLICE, *_SLICE, *_SLICE, *_SLICE, _ADDRESS),
     "tiny_tera_decide": _SLOT,
     "tiny_tera_decide_firm": _SLOT,
+    "tiny_tera_decide_rrm": _SLOT,
     "tiny_tera_is_maximal": (_WORD, *_SLICE, *_SLICE, _ADDRESS),
     "tiny_tera_note_waits": (_WORD, *_SLICE, *_SLICE, *_SLICE, *_SLICE),
     "tiny_tera_check_journal": (*_SLICE, _ADDRESS),

@@ -24,7 +24,9 @@ NONE = 0xFFFFFFFF
 #: What feeds an output: input, level and kind (UNICAST or MULTICAST); all three are NONE where it is free.
 FEED = numpy.dtype([("input", numpy.uint32), ("level", numpy.uint32), ("kind", numpy.uint32)])
 
-RULES = ("islip", "firm")
+# By each rule of the pointers the library's function that decides a slot.
+_CALLS = {"islip": "tiny_tera_decide", "firm": "tiny_tera_decide_firm", "rrm": "tiny_tera_decide_rrm"}
+RULES = tuple(_CALLS)
 
 _SLOT_NUMBERS = 1 << 32
 _BITS = numpy.arange(MAX_PORTS, dtype=numpy.uint64)
@@ -127,7 +129,8 @@ def decide(rows: ArrayLike, pointers: Pointers, slot: int, rounds: int = 4, rule
     rows      uint64 of shape (n, 2, 4), as of `new_rows`
     pointers  changed to where they are after the slot
     slot      its number; even slots prefer unicast and odd ones multicast
-    rule      "islip", or "firm": a refused unicast grant of the first round moves its pointer to that input
+    rule      where a refused unicast grant of the first round moves its pointer: "islip" nowhere, "firm" to that input,
+              "rrm" one beyond it
 
     Refused where a number is out of range; then nothing has changed. A Scheduler is faster, slot after slot.
     """
@@ -158,7 +161,7 @@ class Scheduler:
         self._pointers = Pointers() if pointers is None else pointers
         self._feeds = numpy.full(ports, NONE, dtype=FEED)
         self._used = numpy.zeros(3, dtype=numpy.uint32)
-        self._call = load().tiny_tera_decide if rule == "islip" else load().tiny_tera_decide_firm
+        self._call = getattr(load(), _CALLS[rule])
         # These arrays stay as long as the scheduler, so their addresses are taken once.
         self._words = self._pointers.words
         rows, feeds = self._rows.ctypes.data, self._feeds.ctypes.data

@@ -3,6 +3,7 @@ ghost use Rattle.slot_match.specs.Matches.{IsMatch, IsMaximal};
 ghost use Rattle.pointer_state.specs.CallerTables.{AreInRange, places_from};
 ghost use Rattle.eslip_rounds.specs.Slots.{IsSlot};
 ghost use Rattle.firm_rounds.specs.Slots.{IsFirmSlot};
+ghost use Rattle.rrm_rounds.specs.Slots.{IsRrmSlot};
 ghost use Rattle.scheduler_c.specs.Rows.{rows_from};
 ghost use Rattle.scheduler_c.specs.Feeds.{AreFeeds, matched_from};
 ghost use Rattle.scheduler_c.specs.FourLevels.{IsCall, decision_from};
@@ -15,6 +16,7 @@ use eslip_rounds::decide;
 use firm_rounds::decide_firm;
 use pointer_state::{PointerTables, Pointers};
 use rotating_pick::PORT_COUNT;
+use rrm_rounds::decide_rrm;
 use slot_match::{Match, Row};
 
 /// Decides slot number `slot` of a switch of `n` ports in `rounds` rounds, each from 1 to 64, over four levels,
@@ -98,6 +100,48 @@ pub extern "C" fn tiny_tera_decide_firm(
     }
     let mut matched = Match::new(n);
     let numbers = decide_firm(n, rounds, slot, posted, &mut places, &mut matched);
+    places.put_tables(pointers);
+    put_feeds(&matched, feeds);
+    *used = rounds_words(numbers);
+    DONE
+}
+
+/// The same by round-robin matching, whose outputs point one beyond the input that they granted, accepted or not.
+#[unsafe(no_mangle)]
+pub extern "C" fn tiny_tera_decide_rrm(
+    n: u32,
+    rounds: u32,
+    slot: u32,
+    rows: &[RowWords],
+    pointers: &mut PointerTables,
+    feeds: &mut [FeedWords],
+    used: &mut RoundsWords,
+) -> u32
+    // It answers 0 exactly where this may be passed, and else 1.
+    ensures done { (result ≡ 0) ↔ IsCall n rounds rows.now pointers.old feeds.old }
+    ensures status { (result ≡ 0) ⊎ (result ≡ 1) }
+    ensures slot { result ≡ 0 → IsRrmSlot n rounds slot (rows_from rows.now) (places_from n pointers.old) (decision_from n feeds.new used.new pointers.new) }
+    ensures feeds { result ≡ 0 → AreFeeds n feeds.new × IsMatch n (matched_from feeds.new) }
+    ensures again { result ≡ 0 → AreInRange n pointers.new }
+
+    // The match is maximal where the last round of all added nothing, and where there are n rounds.
+    ensures unused { result ≡ 0 → used.new.last_added ≡ 0 → IsMaximal n (rows_from rows.now) (matched_from feeds.new) }
+    ensures enough { result ≡ 0 → n ≤ rounds → IsMaximal n (rows_from rows.now) (matched_from feeds.new) }
+    ensures refused { result ≡ 1 → (pointers.new ≡ pointers.old) × (feeds.new ≡ feeds.old) × (used.new ≡ used.old) }
+{
+    if !is_size(n, rounds) || feeds.len() != n as usize {
+        return REFUSED;
+    }
+    let Some(mut places) = Pointers::from_tables(n, pointers) else {
+        return REFUSED;
+    };
+    let mut posted = [Row::empty(); PORT_COUNT];
+    let posted = &mut posted[..n as usize];
+    if !copy_rows(n, rows, posted) {
+        return REFUSED;
+    }
+    let mut matched = Match::new(n);
+    let numbers = decide_rrm(n, rounds, slot, posted, &mut places, &mut matched);
     places.put_tables(pointers);
     put_feeds(&matched, feeds);
     *used = rounds_words(numbers);

@@ -18,7 +18,7 @@ mod waits;
 mod words;
 
 pub use feeds::FeedWords;
-pub use four_levels::{tiny_tera_decide, tiny_tera_decide_firm};
+pub use four_levels::{tiny_tera_decide, tiny_tera_decide_firm, tiny_tera_decide_rrm};
 pub use matches::tiny_tera_is_maximal;
 pub use one_level::tiny_tera_islip_slot;
 pub use rows::RowWords;

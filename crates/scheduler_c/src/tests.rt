@@ -1,6 +1,7 @@
 use crate::{
     FeedWords, RoundsWords, RowWords, tiny_tera_decide, tiny_tera_decide_firm,
-    tiny_tera_is_maximal, tiny_tera_islip_slot, tiny_tera_note_waits, tiny_tera_version,
+    tiny_tera_decide_rrm, tiny_tera_is_maximal, tiny_tera_islip_slot, tiny_tera_note_waits,
+    tiny_tera_version,
 };
 use pointer_state::PointerTables;
 use rotating_pick::Ports;
@@ -79,20 +80,21 @@ fn full_load_of_three(rt: HostRuntime) {
     }
 }
 
-// Output 0 grants input 1, which takes output 1. Under the second scheduler output 0 then points to input 1.
+// Output 0 grants input 1, which takes output 1. Output 0 then points where it did under iSLIP, to input 1 under the
+// second scheduler, and one beyond it under round-robin matching.
 #[test]
-fn refused_grant_points_to_its_input(rt: HostRuntime) {
+fn refused_grant_moves_by_the_scheduler(rt: HostRuntime) {
     let rows = [unicast(0), unicast(0b011), unicast(0b001)];
     let mut before = AT_ZERO;
     before.accept[0][1] = 1;
-    for (firm, place) in [(false, 0), (true, 1)] {
+    for place in 0..3u32 {
         let mut pointers = before;
         let mut feeds = [FREE; 3];
         let mut used = NO_ROUNDS;
-        let status = if firm {
-            tiny_tera_decide_firm(3, 1, 2, &rows, &mut pointers, &mut feeds, &mut used)
-        } else {
-            tiny_tera_decide(3, 1, 2, &rows, &mut pointers, &mut feeds, &mut used)
+        let status = match place {
+            0 => tiny_tera_decide(3, 1, 2, &rows, &mut pointers, &mut feeds, &mut used),
+            1 => tiny_tera_decide_firm(3, 1, 2, &rows, &mut pointers, &mut feeds, &mut used),
+            _ => tiny_tera_decide_rrm(3, 1, 2, &rows, &mut pointers, &mut feeds, &mut used),
         };
         assert_eq!(rt; status, 0);
         assert!(rt; feeds == [FREE, fed(1, 0), FREE]);
@@ -148,6 +150,10 @@ fn calls_out_of_range_are_refused(rt: HostRuntime) {
         );
         assert_eq!(rt;
             tiny_tera_decide_firm(n, rounds, 0, &rows, &mut pointers, &mut feeds, &mut used),
+            1
+        );
+        assert_eq!(rt;
+            tiny_tera_decide_rrm(n, rounds, 0, &rows, &mut pointers, &mut feeds, &mut used),
             1
         );
     }
