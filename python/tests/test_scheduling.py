@@ -191,6 +191,6 @@ def test_arrays_of_another_form():
     for rows in (numpy.zeros((2, 4, 2), dtype=numpy.uint64), numpy.zeros(16, dtype=numpy.uint64)):
         with pytest.raises(ValueError):
             scheduling.decide(rows, Pointers(), 0)
-    for wrong in ((0, 4, "islip"), (65, 4, "islip"), (4, 4, "rrm")):
+    for wrong in ((0, 4, "islip"), (65, 4, "islip"), (4, 4, "other")):
         with pytest.raises(ValueError):
             Scheduler(*wrong)
