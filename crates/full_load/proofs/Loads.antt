@@ -57,7 +57,8 @@ module _ (n level : ℕ) (level_in : level < LEVELS) where
     clean = λ i better j kind i_in less named. let at = (named_in i better j kind i_in named).0 in absurd (omega arith);
   }
 
-  module _ (Moves : ℕ → ℕ → List Row → List (Option Fed) → List (Option Fed) → Places → Places → Type 0) (scheduler : Scheduler) (by : IsSchedulerBy Moves scheduler) (stays : IsScheduler scheduler) where
+  module _ (Moves : ℕ → ℕ → List Row → List (Option Fed) → List (Option Fed) → Places → Places → Type 0) (scheduler : Scheduler)
+      (by : IsSchedulerBy Moves scheduler) (stays : IsScheduler scheduler) where
     -- a slot of full load, before others
     loaded_cons : (rounds t : ℕ) (places : Places) (slots : List DecidedSlot) → AreAtPorts places → places.ports ≡ n
         → let decision = scheduler n rounds t (rows_at n level) places in

@@ -64,10 +64,12 @@ module _ (n rounds t level : ℕ) (some : 0 < rounds) (places : Places) (slot : 
     load = All-tail (λ x. IsFullLoad n level x.rows) slot slots loaded.load;
   }
 
-  pub same_after : (j k : ℕ) → j < n → k < n → grant_of places j level ≡ grant_of places k level → grant_of slot.decision.places j level ≡ grant_of slot.decision.places k level
+  pub same_after : (j k : ℕ) → j < n → k < n → grant_of places j level ≡ grant_of places k level
+      → grant_of slot.decision.places j level ≡ grant_of slot.decision.places k level
   same_after j k j_in k_in same = turned j j_in ∙ (ap (λ g. (g + 1) % n) same ∙ sym (turned k k_in))
 
-  pub differ_after : (j k : ℕ) → j < n → k < n → (grant_of places j level ≡ grant_of places k level → ⊥) → grant_of slot.decision.places j level ≡ grant_of slot.decision.places k level → ⊥
+  pub differ_after : (j k : ℕ) → j < n → k < n → (grant_of places j level ≡ grant_of places k level → ⊥)
+      → grant_of slot.decision.places j level ≡ grant_of slot.decision.places k level → ⊥
   differ_after j k j_in k_in differ same =
       let turns : (grant_of places j level + 1) % n ≡ (grant_of places k level + 1) % n = sym (turned j j_in) ∙ (same ∙ turned k k_in) in
       differ (one_beyond_same n (grant_of places j level) (grant_of places k level) (loaded.pointing.grant j j_in) (loaded.pointing.grant k k_in) turns)
@@ -80,7 +82,8 @@ module _ (n rounds t level : ℕ) (some : 0 < rounds) (places : Places) (slot : 
       elim ((begins.opening.pairs i j other kind).0 served) [
         | inl old ↦ absurd (nobody_at_first n i j other kind old)
         | inr accepted ↦
-            let grants : Grants n t slot.rows places (unmatched n) i j other kind = taken_from kind n (accept_of places i other) (λ z. Grants n t slot.rows places (unmatched n) i z other kind) j accepted.taken in
+            let grants : Grants n t slot.rows places (unmatched n) i j other kind = taken_from kind n (accept_of places i other)
+            (λ z. Grants n t slot.rows places (unmatched n) i z other kind) j accepted.taken in
             let i_in : i < n = grants.first.below in
             let asks = asks_at_first n slot.rows i j other kind grants.first.member in
             let same : other ≡ level = elim (cases_lt other level) [
@@ -92,7 +95,9 @@ module _ (n rounds t level : ℕ) (some : 0 < rounds) (places : Places) (slot : 
             ] in
             let P : ℕ → Kind → Type 0 = λ l k. Serves first i j l k in
             let at_level : Serves first i j level kind = subst (λ l. P l kind) same served in
-            let alike : Uni ≡ kind = kind_alone n t level slot.rows first places (level_in n t level slot.rows places first begins.opening loaded.pointing within load j j_in) begins.opening loaded.pointing load.clean load.alone kind i j i_in (subst (λ l. Names (row_of slot.rows i) l kind j) same asks.named) in
+            let alike : Uni ≡ kind = kind_alone n t level slot.rows first places
+            (level_in n t level slot.rows places first begins.opening loaded.pointing within load j j_in) begins.opening loaded.pointing load.clean
+            load.alone kind i j i_in (subst (λ l. Names (row_of slot.rows i) l kind j) same asks.named) in
             (j_in, subst (P level) (sym alike) at_level)
       ]
 
@@ -102,13 +107,16 @@ module _ (n rounds t level : ℕ) (some : 0 < rounds) (places : Places) (slot : 
     one_first =
         let there = level_in n t level slot.rows places first begins.opening loaded.pointing within load 0 ports in
         let input : ℕ = grant_of places 0 level in
-        let met = served_by_first n t level slot.rows first places there begins.opening loaded.pointing load.clean load.alone input 0 (loaded.pointing.grant 0 ports) (granted 0 ports) in
+        let met = served_by_first n t level slot.rows first places there begins.opening loaded.pointing load.clean load.alone input 0
+        (loaded.pointing.grant 0 ports) (granted 0 ports) in
         count_one first met.0 (record { input = input; level = level; kind = Uni }) met.2
         (λ j fed is.
         let pair = as_level fed.input j fed.level fed.kind is in
-        let at : grant_of places j level ≡ fed.input = served_at n t level slot.rows places first begins.opening loaded.pointing within load fed.input j pair.0 pair.1 in
+        let at : grant_of places j level ≡ fed.input = served_at n t level slot.rows places first begins.opening loaded.pointing within load fed.input j
+        pair.0 pair.1 in
         let same : fed.input ≡ input = sym at ∙ together j 0 pair.0 ports in
-        served_once n t level slot.rows places first begins.opening loaded.pointing within load input j met.0 (subst (λ i. Serves first i j level Uni) same pair.1) met.2)
+        served_once n t level slot.rows places first begins.opening loaded.pointing within load input j met.0
+        (subst (λ i. Serves first i j level Uni) same pair.1) met.2)
 
     pub one_added : slot.decision.numbers.first ≡ 1
     one_added =
@@ -130,7 +138,8 @@ module _ (n rounds level : ℕ) (some : 0 < rounds) where
     abbrev AreSame : DecidedSlot → Type 0
     AreSame slot = grant_of slot.decision.places j level ≡ grant_of slot.decision.places k level
 
-    pub stay_together : (t : ℕ) (places : Places) (slots : List DecidedSlot) → IsFullyLoadedByRrm n rounds t level places slots → grant_of places j level ≡ grant_of places k level → All AreSame slots
+    pub stay_together : (t : ℕ) (places : Places) (slots : List DecidedSlot) → IsFullyLoadedByRrm n rounds t level places slots
+        → grant_of places j level ≡ grant_of places k level → All AreSame slots
     stay_together t places [] loaded same = All-nil AreSame
     stay_together t places (slot ∷ slots) loaded same =
         let after = same_after n rounds t level some places slot slots loaded j k j_in k_in same in
@@ -139,7 +148,8 @@ module _ (n rounds level : ℕ) (some : 0 < rounds) where
     abbrev AreApart : DecidedSlot → Type 0
     AreApart slot = grant_of slot.decision.places j level ≡ grant_of slot.decision.places k level → ⊥
 
-    pub stay_apart : (t : ℕ) (places : Places) (slots : List DecidedSlot) → IsFullyLoadedByRrm n rounds t level places slots → (grant_of places j level ≡ grant_of places k level → ⊥) → All AreApart slots
+    pub stay_apart : (t : ℕ) (places : Places) (slots : List DecidedSlot) → IsFullyLoadedByRrm n rounds t level places slots
+        → (grant_of places j level ≡ grant_of places k level → ⊥) → All AreApart slots
     stay_apart t places [] loaded differ = All-nil AreApart
     stay_apart t places (slot ∷ slots) loaded differ =
         let after = differ_after n rounds t level some places slot slots loaded j k j_in k_in differ in
@@ -149,22 +159,26 @@ module _ (n rounds level : ℕ) (some : 0 < rounds) where
   abbrev pub HasOneFirst : DecidedSlot → Type 0
   HasOneFirst slot = slot.decision.numbers.first ≡ 1
 
-  pub one_for_ever : 0 < n → (t : ℕ) (places : Places) (slots : List DecidedSlot) → IsFullyLoadedByRrm n rounds t level places slots → AreTogether n level places → All HasOneFirst slots
+  pub one_for_ever : 0 < n → (t : ℕ) (places : Places) (slots : List DecidedSlot) → IsFullyLoadedByRrm n rounds t level places slots
+      → AreTogether n level places → All HasOneFirst slots
   one_for_ever ports t places [] loaded together = All-nil HasOneFirst
   one_for_ever ports t places (slot ∷ slots) loaded together =
       All-cons HasOneFirst slot slots (one_added n rounds t level some places slot slots loaded ports together)
-      (one_for_ever ports (t + 1) slot.decision.places slots (loaded_after n rounds t level some places slot slots loaded) (together_after n rounds t level some places slot slots loaded ports together))
+      (one_for_ever ports (t + 1) slot.decision.places slots (loaded_after n rounds t level some places slot slots loaded)
+      (together_after n rounds t level some places slot slots loaded ports together))
 
 -- and of one round there is no other
 abbrev pub HasOne : DecidedSlot → Type 0
 HasOne slot = matched_count slot.decision.matched ≡ 1
 
-pub one_pair_for_ever : (n t level : ℕ) → 0 < n → (places : Places) (slots : List DecidedSlot) → IsFullyLoadedByRrm n 1 t level places slots → AreTogether n level places → All HasOne slots
+pub one_pair_for_ever : (n t level : ℕ) → 0 < n → (places : Places) (slots : List DecidedSlot) → IsFullyLoadedByRrm n 1 t level places slots
+    → AreTogether n level places → All HasOne slots
 one_pair_for_ever n t level ports places [] loaded together = All-nil HasOne
 one_pair_for_ever n t level ports places (slot ∷ slots) loaded together =
     let some : 0 < 1 = omega arith in
     All-cons HasOne slot slots (one_in_all n 1 t level some places slot slots loaded ports together refl)
-    (one_pair_for_ever n (t + 1) level ports slot.decision.places slots (loaded_after n 1 t level some places slot slots loaded) (together_after n 1 t level some places slot slots loaded ports together))
+    (one_pair_for_ever n (t + 1) level ports slot.decision.places slots (loaded_after n 1 t level some places slot slots loaded)
+    (together_after n 1 t level some places slot slots loaded ports together))
 
 -- before the first slot all are at port 0
 pub together_at_first : (n level : ℕ) → AreTogether n level (places_at_first n)
@@ -175,10 +189,12 @@ together_at_first n level j k j_in k_in = place_of-at_first level j ∙ sym (pla
 counts_of : (n level : ℕ) (slots : List DecidedSlot) → All (IsFullSlot n level) slots → All (λ slot. matched_count slot.decision.matched ≡ n) slots
 counts_of n level [] full = All-nil (λ slot. matched_count slot.decision.matched ≡ n)
 counts_of n level (slot ∷ slots) full =
-    All-cons (λ x. matched_count x.decision.matched ≡ n) slot slots (All-head (IsFullSlot n level) slot slots full).count (counts_of n level slots (All-tail (IsFullSlot n level) slot slots full))
+    All-cons (λ x. matched_count x.decision.matched ≡ n) slot slots (All-head (IsFullSlot n level) slot slots full).count
+    (counts_of n level slots (All-tail (IsFullSlot n level) slot slots full))
 
 -- what the two schedulers match
-pub pairs_of_both : (n t level : ℕ) (slots others : List DecidedSlot) → 0 < n → IsFullyLoaded n 1 t level (places_at_first n) slots → IsFullyLoadedByRrm n 1 t level (places_at_first n) others
+pub pairs_of_both : (n t level : ℕ) (slots others : List DecidedSlot) → 0 < n → IsFullyLoaded n 1 t level (places_at_first n) slots
+    → IsFullyLoadedByRrm n 1 t level (places_at_first n) others
     → All (λ slot. matched_count slot.decision.matched ≡ n) (drop (n - 1) slots) × All HasOne others
 pairs_of_both n t level slots others ports loaded also = (
   counts_of n level (drop (n - 1) slots) (filled_at_last n 1 t level (places_at_first n) slots (omega arith) loaded),

@@ -20,7 +20,8 @@ pub record IsFullLoad (n level : ℕ) (rows : List Row) : Type 0 where
 
 -- Slots from slot t on, decided from these pointers, of which those of the level are at ports, each of full load, where
 -- `Moves` says how pointers move.
-pub record IsFullyLoadedBy (Moves : ℕ → ℕ → List Row → List (Option Fed) → List (Option Fed) → Places → Places → Type 0) (n rounds t level : ℕ) (places : Places) (slots : List DecidedSlot) : Type 0 where
+pub record IsFullyLoadedBy (Moves : ℕ → ℕ → List Row → List (Option Fed) → List (Option Fed) → Places → Places → Type 0) (n rounds t level : ℕ)
+    (places : Places) (slots : List DecidedSlot) : Type 0 where
   pub pointing : ArePointing n level places
   pub schedule : IsScheduleBy Moves n rounds t places slots
   pub within : All (λ slot. AreWithin n slot.rows) slots
