@@ -1,8 +1,7 @@
 -- The pointers and the decision that are computed are those of the definition.
-use Rattle.std.proofs.Common.{◌≡◌, ℕ, ◌<◌, ◌∙◌, List, Option, None, Some, map, refl, sym, ap, subst, arith}
+use Rattle.std.proofs.Common.{◌≡◌, ℕ, ◌∙◌, List, Option, None, Some, map, sym, ap, subst, arith}
 use Rattle.std.specs.Bool.{Decides}
 use Rattle.rotating_pick.specs.declared.kinds.Kind.TheVariants.{Uni}
-use Rattle.rotating_pick.specs.declared.limits.TheConstants.{LEVELS}
 use Rattle.rotating_pick.proofs.First.{IsFirstFrom-only}
 use Rattle.slot_match.specs.declared.rows.Row.{Row}
 use Rattle.slot_match.specs.declared.matching.Fed.{Fed}
@@ -30,10 +29,12 @@ module _ (n t : ℕ) (rows : List Row) (before : Places) (within : AreWithin n r
   pub grants_once : (i x j level : ℕ) → IsGrantedFirst n t rows before i j level → IsGrantedFirst n t rows before x j level → i ≡ x
   grants_once i x j level g h =
       IsFirstFrom-only n (grant_of before j level) (λ y. Requests rows (unmatched n) y j level Uni) i x
-      (from_in n t rows before (unmatched n) (IsMatch-unmatched n) at_ports ports_are j level Uni g.output_in (level_asked rows (unmatched n) i j level Uni g.first.member)) g.first h.first
+      (from_in n t rows before (unmatched n) (IsMatch-unmatched n) at_ports ports_are j level Uni g.output_in
+      (level_asked rows (unmatched n) i j level Uni g.first.member)) g.first h.first
 
   -- the test says whether an output grants an input
-  Decides-granted : (i j level : ℕ) → Decides (is_fed i level Uni (fed_of (map (granted n t rows before (unmatched n)) (ports n)) j)) (IsGrantedFirst n t rows before i j level)
+  Decides-granted : (i j level : ℕ)
+      → Decides (is_fed i level Uni (fed_of (map (granted n t rows before (unmatched n)) (ports n)) j)) (IsGrantedFirst n t rows before i j level)
   Decides-granted i j level =
       let grant = fed_of (map (granted n t rows before (unmatched n)) (ports n)) j in
       let serves = Serves-granted n t rows before (unmatched n) (IsMatch-unmatched n) at_ports ports_are i j level Uni in
@@ -47,13 +48,15 @@ module _ (n t : ℕ) (rows : List Row) (before : Places) (within : AreWithin n r
   finds_granted : (i j level : ℕ) → IsGrantedFirst n t rows before i j level → granted_by level j ≡ Some i
   unfolding granted_by
   finds_granted i j level g =
-      finds_port (λ x. is_fed x level Uni (fed_of (map (granted n t rows before (unmatched n)) (ports n)) j)) n i g.first.below ((Decides-granted i j level).1 g)
+      finds_port (λ x. is_fed x level Uni (fed_of (map (granted n t rows before (unmatched n)) (ports n)) j)) n i g.first.below
+      ((Decides-granted i j level).1 g)
       (λ y e. grants_once y i j level ((Decides-granted y j level).0 e) g)
 
   finds_nobody : (j level : ℕ) → ((i : ℕ) → IsGrantedFirst n t rows before i j level → ⊥) → granted_by level j ≡ None
   unfolding granted_by
   finds_nobody j level nobody =
-      finds_no_port (λ x. is_fed x level Uni (fed_of (map (granted n t rows before (unmatched n)) (ports n)) j)) n (λ y e. nobody y ((Decides-granted y j level).0 e))
+      finds_no_port (λ x. is_fed x level Uni (fed_of (map (granted n t rows before (unmatched n)) (ports n)) j)) n
+      (λ y e. nobody y ((Decides-granted y j level).0 e))
 
   grant_at : ℕ → ℕ → ℕ
   grant_at level j = moved_by n (granted_by level j) (grant_of before j level)
@@ -69,7 +72,8 @@ module _ (n t : ℕ) (rows : List Row) (before : Places) (within : AreWithin n r
         record {
           ports = as_first.ports;
           granted = λ i j level g.
-              table_at grant_at level j (level_asked rows (unmatched n) i j level Uni g.first.member) (let j_in = g.output_in in let size = at_ports.size in omega arith)
+              table_at grant_at level j (level_asked rows (unmatched n) i j level Uni g.first.member)
+              (let j_in = g.output_in in let size = at_ports.size in omega arith)
               ∙ ap (λ o. moved_by n o (grant_of before j level)) (finds_granted i j level g);
           grant_stays = λ j level nobody.
               table_stays grant_at before.grant at_ports.grant_table level j (ap (λ o. moved_by n o (grant_of before j level)) (finds_nobody j level nobody));
@@ -109,4 +113,5 @@ module _ (n t : ℕ) (rows : List Row) (before : Places) (within : AreWithin n r
   -- every decision of the slot is the one that is computed
   pub rrm_decision-only : (rounds : ℕ) (a : Decision) → AreAtPorts a.places → IsRrmSlot n rounds t rows before a → a ≡ rrm_decision n rounds t rows before
   rrm_decision-only rounds a a_in slot =
-      IsRrmSlot-only n t rows before within at_ports ports_are rounds a (rrm_decision n rounds t rows before) a_in (AreAtPorts-rrm_decision rounds) slot (IsRrmSlot-rrm_decision rounds)
+      IsRrmSlot-only n t rows before within at_ports ports_are rounds a (rrm_decision n rounds t rows before) a_in (AreAtPorts-rrm_decision rounds) slot
+      (IsRrmSlot-rrm_decision rounds)

@@ -1,5 +1,5 @@
 -- A slot leaves no choice: one place for each pointer.
-use Rattle.std.proofs.Common.{◌≡◌, ℕ, ◌<◌, ◌∙◌, List, Option, length, sym, inl, inr, arith}
+use Rattle.std.proofs.Common.{◌≡◌, ℕ, ◌∙◌, List, Option, length, sym, inl, inr}
 use Rattle.std.proofs.lemmas.Bool.{cases_eq}
 use Rattle.slot_match.specs.declared.rows.Row.{Row}
 use Rattle.slot_match.specs.declared.matching.Fed.{Fed}
@@ -12,7 +12,8 @@ use Rattle.rrm_rounds.specs.Slots.{AreMovedByRrm, IsRrmSlot}
 
 module _ (n t : ℕ) (rows : List Row) (before : Places) (within : AreWithin n rows) (at_ports : AreAtPorts before) (ports : before.ports ≡ n) where
   -- a pointer that differs was moved by nothing, and so it stayed
-  AreAlike-moved : (first_match matched : List (Option Fed)) (a b : Places) → AreMovedByRrm n t rows first_match matched before a → AreMovedByRrm n t rows first_match matched before b → AreAlike a b
+  AreAlike-moved : (first_match matched : List (Option Fed)) (a b : Places) → AreMovedByRrm n t rows first_match matched before a
+      → AreMovedByRrm n t rows first_match matched before b → AreAlike a b
   AreAlike-moved first_match matched a b r s =
       record {
         ports = r.ports ∙ sym s.ports;
@@ -36,8 +37,10 @@ module _ (n t : ℕ) (rows : List Row) (before : Places) (within : AreWithin n r
         ];
       }
 
-  pub AreMovedByRrm-only : (first_match matched : List (Option Fed)) → length first_match ≡ n → (a b : Places) → AreAtPorts a → AreAtPorts b → AreMovedByRrm n t rows first_match matched before a → AreMovedByRrm n t rows first_match matched before b → a ≡ b
+  pub AreMovedByRrm-only : (first_match matched : List (Option Fed)) → length first_match ≡ n → (a b : Places) → AreAtPorts a → AreAtPorts b
+      → AreMovedByRrm n t rows first_match matched before a → AreMovedByRrm n t rows first_match matched before b → a ≡ b
   AreMovedByRrm-only first_match matched size a b x y r s = Places-same a b x y (AreAlike-moved first_match matched a b r s)
 
-  pub IsRrmSlot-only : (rounds : ℕ) (a b : Decision) → AreAtPorts a.places → AreAtPorts b.places → IsRrmSlot n rounds t rows before a → IsRrmSlot n rounds t rows before b → a ≡ b
+  pub IsRrmSlot-only : (rounds : ℕ) (a b : Decision) → AreAtPorts a.places → AreAtPorts b.places → IsRrmSlot n rounds t rows before a
+      → IsRrmSlot n rounds t rows before b → a ≡ b
   IsRrmSlot-only rounds = IsSlotBy-only n rounds t rows before within at_ports ports AreMovedByRrm AreMovedByRrm-only

@@ -15,7 +15,8 @@ AreBeyond-none n P places nobody =
     }
 
 -- the same is passed
-pub AreBeyond-along : (n : ℕ) (P Q : ℕ → ℕ → ℕ → Type 0) (before after : Places) → ((i j level : ℕ) → P i j level ↔ Q i j level) → AreBeyond n P before after → AreBeyond n Q before after
+pub AreBeyond-along : (n : ℕ) (P Q : ℕ → ℕ → ℕ → Type 0) (before after : Places) → ((i j level : ℕ) → P i j level ↔ Q i j level)
+    → AreBeyond n P before after → AreBeyond n Q before after
 AreBeyond-along n P Q before after same beyond =
     record {
       ports = beyond.ports;
@@ -26,7 +27,8 @@ AreBeyond-along n P Q before after same beyond =
     }
 
 -- one more output k, which passes input a at one level
-pub AreBeyond-next : (n : ℕ) (P : ℕ → ℕ → ℕ → Type 0) (a k at : ℕ) (first before after : Places) → ((i level : ℕ) → P i k level → ⊥) → AreBeyond n P first before → after.ports ≡ before.ports → grant_of after k at ≡ (a + 1) % n
+pub AreBeyond-next : (n : ℕ) (P : ℕ → ℕ → ℕ → Type 0) (a k at : ℕ) (first before after : Places) → ((i level : ℕ) → P i k level → ⊥)
+    → AreBeyond n P first before → after.ports ≡ before.ports → grant_of after k at ≡ (a + 1) % n
     → ((j other : ℕ) → (j ≡ k → other ≡ at → ⊥) → grant_of after j other ≡ grant_of before j other)
     → ((i other : ℕ) → accept_of after i other ≡ accept_of before i other) → ((other : ℕ) → shared_of after other ≡ shared_of before other)
     → AreBeyond n (λ i j level. P i j level ⊎ ((i ≡ a) × (j ≡ k) × (level ≡ at))) first after

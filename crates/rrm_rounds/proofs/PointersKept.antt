@@ -1,5 +1,5 @@
 -- After a slot the pointers of the level are at ports again, and the shared pointer has passed the first head that completed.
-use Rattle.std.proofs.Common.{ℕ, ◌+◌, ◌%◌, ◌<◌, List, Option, inl, inr, arith}
+use Rattle.std.proofs.Common.{ℕ, ◌+◌, inl, inr, arith}
 use Rattle.std.proofs.lemmas.Bool.{cases_lt}
 use Rattle.std.proofs.lemmas.Nat.{mod_below}
 use Rattle.rotating_pick.specs.Rotation.{IsFirstFrom}

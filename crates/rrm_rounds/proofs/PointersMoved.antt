@@ -11,23 +11,28 @@ use Rattle.slot_match.proofs.Pairs.{Serves-decides}
 use Rattle.pointer_state.specs.Places.{Places, AreAtPorts}
 use Rattle.eslip_rounds.specs.Rounds.{Accepts, IsRound}
 use Rattle.eslip_rounds.specs.Slots.{AreMoved, IsRefused}
-use Rattle.rrm_rounds.specs.Slots.{IsGrantedFirst, AreMovedByRrm}
+use Rattle.rrm_rounds.specs.Slots.{AreMovedByRrm}
 use Rattle.rrm_rounds.specs.SlotSteps.{AreBeyond}
 use Rattle.rrm_rounds.proofs.Computed.{grants_once}
 
 -- what the first round matched was accepted
-pub accepted_first : (n t : ℕ) (rows : List Row) (before : Places) (first_match : List (Option Fed)) → IsRound n t rows before (unmatched n) first_match → (i j level : ℕ) → Serves first_match i j level Uni → Accepts n t rows before (unmatched n) i j level Uni
-accepted_first n t rows before first_match round i j level served = elim ((round.pairs i j level Uni).0 served) [ inl old ↦ absurd (nobody_at_first n i j level Uni old) | inr accepts ↦ accepts ]
+accepted_first : (n t : ℕ) (rows : List Row) (before : Places) (first_match : List (Option Fed)) → IsRound n t rows before (unmatched n) first_match
+    → (i j level : ℕ) → Serves first_match i j level Uni → Accepts n t rows before (unmatched n) i j level Uni
+accepted_first n t rows before first_match round i j level served = elim ((round.pairs i j level Uni).0 served)
+    [ inl old ↦ absurd (nobody_at_first n i j level Uni old) | inr accepts ↦ accepts ]
 
-pub AreMovedByRrm-beyond : (n t : ℕ) (rows : List Row) (before : Places) → AreWithin n rows → AreAtPorts before → before.ports ≡ n → (first_match matched : List (Option Fed)) (moved after : Places) → IsRound n t rows before (unmatched n) first_match
-    → AreMoved n t rows first_match matched before moved → AreBeyond n (IsRefused n t rows before) moved after → AreMovedByRrm n t rows first_match matched before after
+pub AreMovedByRrm-beyond : (n t : ℕ) (rows : List Row) (before : Places) → AreWithin n rows → AreAtPorts before → before.ports ≡ n
+    → (first_match matched : List (Option Fed)) (moved after : Places) → IsRound n t rows before (unmatched n) first_match
+    → AreMoved n t rows first_match matched before moved → AreBeyond n (IsRefused n t rows before) moved after
+    → AreMovedByRrm n t rows first_match matched before after
 AreMovedByRrm-beyond n t rows before within at_ports ports first_match matched moved after round as_first beyond =
     let accepts = accepted_first n t rows before first_match round in
     record {
       ports = beyond.ports ∙ as_first.ports;
       granted = λ i j level granted. elim (Serves-decides first_match i j level Uni) [
         | inl served ↦
-            beyond.stays j level (λ x refused. refused.1 (subst (λ y. Accepts n t rows before (unmatched n) y j level Uni) (grants_once n t rows before within at_ports ports i x j level granted refused.0) (accepts i j level served)))
+            beyond.stays j level (λ x refused. refused.1 (subst (λ y. Accepts n t rows before (unmatched n) y j level Uni)
+            (grants_once n t rows before within at_ports ports i x j level granted refused.0) (accepts i j level served)))
             ∙ as_first.granted i j level served
         | inr none ↦ beyond.passed i j level (granted, λ taken. none ((round.pairs i j level Uni).1 (inr taken)))
       ];

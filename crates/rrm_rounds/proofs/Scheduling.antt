@@ -10,5 +10,6 @@ IsSchedulerBy-rrm_decision n rounds t rows places within at_ports ports = IsRrmS
 
 pub IsScheduler-rrm_decision : IsScheduler rrm_decision
 IsScheduler-rrm_decision n rounds t rows places within at_ports ports =
-    IsSlotBy-moved StayAtPorts n rounds t rows places (rrm_decision n rounds t rows places) (IsRrmSlot-rrm_decision n t rows places within at_ports ports rounds)
+    IsSlotBy-moved StayAtPorts n rounds t rows places (rrm_decision n rounds t rows places)
+    (IsRrmSlot-rrm_decision n t rows places within at_ports ports rounds)
     (λ first_match moved. (AreAtPorts-rrm_decision n t rows places within at_ports ports rounds, moved.ports))

@@ -1,5 +1,5 @@
 -- From all pointers at port 0 the slots of those postings go on for ever, and queue (1, 0) is never served.
-use Rattle.std.proofs.Common.{◌≡◌, ℕ, zero, suc, ◌+◌, ◌-◌, ◌<◌, ◌≤◌, List, [], ◌∷◌, length, All, refl, ap, inl, inr, arith}
+use Rattle.std.proofs.Common.{◌≡◌, ℕ, zero, suc, ◌+◌, ◌-◌, ◌<◌, ◌≤◌, List, [], ◌∷◌, length, refl, ap, inl, arith}
 use Rattle.std.proofs.lemmas.List.Elements.{All-nil, All-cons}
 use Rattle.rotating_pick.specs.declared.kinds.Kind.TheVariants.{Uni}
 use Rattle.rotating_pick.specs.declared.limits.TheConstants.{MAX_PORTS}
@@ -10,8 +10,7 @@ use Rattle.pointer_state.proofs.Moves.{AreAtPorts-at_first}
 use Rattle.pointer_state.proofs.Tables.{place_of-at_first}
 use Rattle.eslip_rounds.specs.Schedules.{DecidedSlot}
 use Rattle.service_bound.specs.Windows.{IsClean, IsWithoutMulticast, AreKept, AreAtLineRate}
-use Rattle.service_bound.proofs.Postings.{rows_of, names, AreWithin-rows, IsClean-rows, IsWithoutMulticast-rows}
-use Rattle.rrm_rounds.specs.Slots.{AreMovedByRrm}
+use Rattle.service_bound.proofs.Postings.{names, AreWithin-rows, IsClean-rows, IsWithoutMulticast-rows}
 use Rattle.rrm_rounds.specs.Starving.{IsStarved}
 use Rattle.rrm_rounds.proofs.StarvingSlots.{beside, slot_at, IsTurn, slot_decided, pointing, left, turn_after, keeps, gains_one}
 
@@ -26,12 +25,14 @@ length-run n rounds t places b zero = refl
 length-run n rounds t places b (suc count) = ap suc (length-run n rounds (t + 1) (slot_at n rounds t places b).decision.places (3 - b) count)
 
 module _ (n rounds : ℕ) (some : 0 < rounds) (more : 2 < n) where
-  kept : (t b count : ℕ) (places : Places) → IsTurn n places b → (later : ℕ) (rest : Places) → AreKept n (run n rounds later rest (3 - b) count) → AreKept n (slot_at n rounds t places b ∷ run n rounds later rest (3 - b) count)
+  kept : (t b count : ℕ) (places : Places) → IsTurn n places b → (later : ℕ) (rest : Places) → AreKept n (run n rounds later rest (3 - b) count)
+      → AreKept n (slot_at n rounds t places b ∷ run n rounds later rest (3 - b) count)
   unfolding run
   kept t b zero places ready later rest on = (tt, on)
   kept t b (suc count) places ready later rest on = (keeps n rounds t b places some more ready (3 - b), on)
 
-  paced : (t b count : ℕ) (places : Places) (later : ℕ) (rest : Places) → AreAtLineRate n 0 (run n rounds later rest (3 - b) count) → AreAtLineRate n 0 (slot_at n rounds t places b ∷ run n rounds later rest (3 - b) count)
+  paced : (t b count : ℕ) (places : Places) (later : ℕ) (rest : Places) → AreAtLineRate n 0 (run n rounds later rest (3 - b) count)
+      → AreAtLineRate n 0 (slot_at n rounds t places b ∷ run n rounds later rest (3 - b) count)
   unfolding run
   paced t b zero places later rest on = (tt, on)
   paced t b (suc count) places later rest on = (gains_one n b (3 - b) more, on)
@@ -65,17 +66,23 @@ module _ (n rounds : ℕ) (some : 0 < rounds) (more : 2 < n) where
         };
         alone = All-cons (λ x. IsWithoutMulticast n 0 x.rows) slot slots (IsWithoutMulticast-rows n (beside b)) rest.alone;
         paced = paced t b count places (t + 1) slot.decision.places rest.paced;
-        posted = All-cons (λ x. Names (row_of x.rows 1) 0 Uni 0) slot slots (names n (beside b) 1 0 (omega arith) (omega arith) (inl (refl, inl refl))) rest.posted;
+        posted = All-cons (λ x. Names (row_of x.rows 1) 0 Uni 0) slot slots (names n (beside b) 1 0 (omega arith) (omega arith) (inl (refl, inl refl)))
+            rest.posted;
         never = All-cons (λ x. Serves x.decision.matched 1 0 0 Uni → ⊥) slot slots (left n rounds t b places some more ready) rest.never;
       }
 
 -- as many slots as one wants
-pub starves : (n rounds t count : ℕ) → 3 ≤ n → n ≤ MAX_PORTS → 0 < rounds → (slots : List DecidedSlot) × IsStarved n rounds t 1 0 0 (places_at_first n) slots × (length slots ≡ count)
+pub starves : (n rounds t count : ℕ) → 3 ≤ n → n ≤ MAX_PORTS → 0 < rounds
+    → (slots : List DecidedSlot) × IsStarved n rounds t 1 0 0 (places_at_first n) slots × (length slots ≡ count)
 unfolding places_at_first
 starves n rounds t count three size some =
     let ready : IsTurn n (places_at_first n) 1 = record {
       at_ports = AreAtPorts-at_first n (omega arith) size;
       ports = refl;
       turn = inl (refl, inl (place_of-at_first 0 0));
-    } in
-    (run n rounds t (places_at_first n) 1 count, starved n rounds some (omega arith) count t 1 (places_at_first n) ready, length-run n rounds t (places_at_first n) 1 count)
+    } in (
+      run n rounds t (places_at_first n) 1 count,
+      starved n rounds some (omega arith) count t 1 (places_at_first n) ready,
+      length-run n rounds t
+          (places_at_first n) 1 count,
+    )

@@ -1,18 +1,15 @@
 -- Slots in which input 0 asks output 0, and input 1 asks output 0 and one beside it, by turns 1 and 2: whenever output 0
 -- grants input 1, input 1 takes output 2, and output 0 goes on to others.
-use Rattle.std.proofs.Common.{◌≡◌, ℕ, ◌+◌, ◌-◌, ◌%◌, ◌<◌, ◌≤◌, ◌⊎◌, ◌∙◌, List, Option, refl, ap, sym, subst, inl, inr, arith}
+use Rattle.std.proofs.Common.{◌≡◌, ℕ, ◌+◌, ◌-◌, ◌<◌, ◌≤◌, ◌⊎◌, ◌∙◌, List, Option, refl, ap, sym, subst, inl, inr, arith}
 use Rattle.std.proofs.Math.Nat.{mod-eq_of_lt}
-use Rattle.rotating_pick.specs.Rotation.{distance, IsFirstFrom}
+use Rattle.rotating_pick.specs.Rotation.{distance}
 use Rattle.rotating_pick.specs.declared.kinds.Kind.TheVariants.{Uni, Multi}
-use Rattle.rotating_pick.specs.declared.limits.TheConstants.{LEVELS}
-use Rattle.slot_match.specs.declared.rows.Row.{Row}
 use Rattle.slot_match.specs.declared.matching.Fed.{Fed}
 use Rattle.slot_match.specs.Rows.{Names, row_of}
-use Rattle.slot_match.specs.Matches.{unmatched, Serves, IsMatch}
+use Rattle.slot_match.specs.Matches.{unmatched, Serves}
 use Rattle.slot_match.specs.Keeping.{Keeps}
 use Rattle.slot_match.proofs.Kept.{IsMatch-unmatched}
 use Rattle.pointer_state.specs.Places.{Places, AreAtPorts, ArePointing, grant_of, accept_of}
-use Rattle.eslip_rounds.specs.Slots.{Decision}
 use Rattle.eslip_rounds.specs.Schedules.{DecidedSlot}
 use Rattle.eslip_rounds.proofs.Matching.{IsMatch-round}
 use Rattle.service_bound.specs.Windows.{GainAtMostOne}
@@ -67,15 +64,6 @@ zero_before_one n from more at = elim at [
 ]
 
 module _ (n rounds t b : ℕ) (places : Places) (some : 0 < rounds) (more : 2 < n) (ready : IsTurn n places b) where
-  p : Posting
-  p = beside b
-
-  rows : List Row
-  rows = rows_of n (beside b)
-
-  decided : Decision
-  decided = rrm_decision n rounds t (rows_of n (beside b)) places
-
   pub slot_decided : IsRrmSlot n rounds t (rows_of n (beside b)) places (rrm_decision n rounds t (rows_of n (beside b)) places)
   slot_decided = IsRrmSlot-rrm_decision n t (rows_of n (beside b)) places (AreWithin-rows n (beside b)) ready.at_ports ready.ports rounds
 
@@ -89,7 +77,8 @@ module _ (n rounds t b : ℕ) (places : Places) (some : 0 < rounds) (more : 2 < 
   pointing = subst (λ m. ArePointing m 0 places) ready.ports (ready.at_ports.pointing 0 (omega arith))
 
   unicast_first : IsFirstKind n t (rows_of n (beside b)) 0 Uni
-  unicast_first = kind_is_first n t 0 (rows_of n (beside b)) first places (omega arith) begins.opening pointing (IsClean-rows n (beside b)) (IsWithoutMulticast-rows n (beside b))
+  unicast_first = kind_is_first n t 0 (rows_of n (beside b)) first places (omega arith) begins.opening pointing (IsClean-rows n (beside b))
+      (IsWithoutMulticast-rows n (beside b))
 
   abbrev Granted : ℕ → ℕ → Type 0
   Granted i j = IsGrantedFirst n t (rows_of n (beside b)) places i j 0
@@ -99,7 +88,8 @@ module _ (n rounds t b : ℕ) (places : Places) (some : 0 < rounds) (more : 2 < 
   named_by i j i_in named = asked_by b i j (posted n (beside b) i j 0 Uni i_in named).3
 
   grants_it : (i j : ℕ) → i < n → j < n → IsPosted (beside b) i j
-      → ((z : ℕ) → z < n → Names (row_of (rows_of n (beside b)) z) 0 Uni j → distance n (grant_of places j 0) i ≤ distance n (grant_of places j 0) z) → Granted i j
+      → ((z : ℕ) → z < n → Names (row_of (rows_of n (beside b)) z) 0 Uni j → distance n (grant_of places j 0) i ≤ distance n (grant_of places j 0) z)
+      → Granted i j
   grants_it i j i_in j_in is least =
       grants_first n t (rows_of n (beside b)) places 0 (omega arith) (IsClean-rows n (beside b)) Uni unicast_first i j j_in
       (record { below = i_in; member = names n (beside b) i j i_in j_in is; least = least })
@@ -127,7 +117,8 @@ module _ (n rounds t b : ℕ) (places : Places) (some : 0 < rounds) (more : 2 < 
 
   not_both : (grant_of places 0 0 ≡ 0) ⊎ (grant_of places 0 0 ≡ 2) → Granted 1 0 → ⊥
   not_both at granted =
-      let once : (x y : ℕ) → Granted x 0 → Granted y 0 → x ≡ y = λ x y. grants_once n t (rows_of n (beside b)) places (AreWithin-rows n (beside b)) ready.at_ports ready.ports x y 0 0 in
+      let once : (x y : ℕ) → Granted x 0 → Granted y 0 → x ≡ y = λ x y. grants_once n t (rows_of n (beside b)) places (AreWithin-rows n (beside b))
+      ready.at_ports ready.ports x y 0 0 in
       let same = once 1 0 granted (zero_grants_zero at) in
       omega (arith, same)
 
@@ -139,7 +130,8 @@ module _ (n rounds t b : ℕ) (places : Places) (some : 0 < rounds) (more : 2 < 
   -- input 1 takes the output beside
   takes : Serves first 1 b 0 Uni
   takes =
-      let met = served_by_first n t 0 (rows_of n (beside b)) first places (omega arith) begins.opening pointing (IsClean-rows n (beside b)) (IsWithoutMulticast-rows n (beside b)) 1 b (omega arith) beside_grants in
+      let met = served_by_first n t 0 (rows_of n (beside b)) first places (omega arith) begins.opening pointing (IsClean-rows n (beside b))
+      (IsWithoutMulticast-rows n (beside b)) 1 b (omega arith) beside_grants in
       let y : ℕ = met.0 in
       let granted : Granted 1 y = met.1.member in
       let asks = first_granted n t (rows_of n (beside b)) places 0 (omega arith) (IsClean-rows n (beside b)) Uni unicast_first 1 y granted in
@@ -192,7 +184,8 @@ module _ (n rounds t b : ℕ) (places : Places) (some : 0 < rounds) (more : 2 < 
       }
 
   -- what is not served is posted again
-  pub keeps : (c i : ℕ) → i < n → Keeps (rrm_decision n rounds t (rows_of n (beside b)) places).matched i (row_of (rows_of n (beside b)) i) (row_of (rows_of n (beside c)) i)
+  pub keeps : (c i : ℕ) → i < n
+      → Keeps (rrm_decision n rounds t (rows_of n (beside b)) places).matched i (row_of (rows_of n (beside b)) i) (row_of (rows_of n (beside c)) i)
   keeps c i i_in = record {
     uni = λ level j named none.
         let is = posted n (beside b) i j level Uni i_in named in

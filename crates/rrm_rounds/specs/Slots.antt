@@ -25,8 +25,10 @@ pub record AreMovedByRrm (n t : ℕ) (rows : List Row) (first_match matched : Li
   pub grant_stays : (j level : ℕ) → ((i : ℕ) → IsGrantedFirst n t rows before i j level → ⊥) → grant_of after j level ≡ grant_of before j level
   pub accepted : (i j level : ℕ) → Serves first_match i j level Uni → accept_of after i level ≡ (j + 1) % n
   pub accept_stays : (i level : ℕ) → ((j : ℕ) → Serves first_match i j level Uni → ⊥) → accept_of after i level ≡ accept_of before i level
-  pub passed : (i level : ℕ) → IsFirstFrom n (shared_of before level) (HasHead rows level) i → Completes rows matched level i → shared_of after level ≡ (i + 1) % n
-  pub shared_stays : (level : ℕ) → ((i : ℕ) → IsFirstFrom n (shared_of before level) (HasHead rows level) i → Completes rows matched level i → ⊥) → shared_of after level ≡ shared_of before level
+  pub passed : (i level : ℕ) → IsFirstFrom n (shared_of before level) (HasHead rows level) i → Completes rows matched level i
+      → shared_of after level ≡ (i + 1) % n
+  pub shared_stays : (level : ℕ) → ((i : ℕ) → IsFirstFrom n (shared_of before level) (HasHead rows level) i → Completes rows matched level i → ⊥)
+      → shared_of after level ≡ shared_of before level
 
 -- slot t decides this
 abbrev pub IsRrmSlot : ℕ → ℕ → ℕ → List Row → Places → Decision → Type 0

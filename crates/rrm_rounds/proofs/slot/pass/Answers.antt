@@ -10,7 +10,8 @@ pub loop-j-init : goal.loop-j-init
 loop-j-init c =
     record {
       left = λ y has. has;
-      passed = AreBeyond-none c.args.n (λ i y level. Tells c.args.refused.now i y level × (Has c.args.refused.now.outputs y → ⊥)) c.args.p.now (λ i y level p. p.1 p.0.0);
+      passed = AreBeyond-none c.args.n (λ i y level. Tells c.args.refused.now i y level × (Has c.args.refused.now.outputs y → ⊥)) c.args.p.now
+          (λ i y level p. p.1 p.0.0);
       at_ports = c.requires.at_ports;
     }
 
@@ -42,11 +43,13 @@ loop-j-preserved c =
                   inr (sym told.1, same, sym told.2)
             ],
           ))
-          (AreBeyond-next c.args.n P a j at c.args.p.now c.loop-j.p c.held.new.self (λ i level p. p.1 waits) known.passed c.held.ensures.ports (c.held.ensures.grant ∙ c.next.ensures.value) c.held.ensures.grants c.held.ensures.accepts c.held.ensures.shared);
+          (AreBeyond-next c.args.n P a j at c.args.p.now c.loop-j.p c.held.new.self (λ i level p. p.1 waits) known.passed c.held.ensures.ports
+          (c.held.ensures.grant ∙ c.next.ensures.value) c.held.ensures.grants c.held.ensures.accepts c.held.ensures.shared);
       at_ports = c.held.ensures.at_ports;
     }
 
 pub returns-clause-passed : goal.returns-clause-passed
 returns-clause-passed c =
     let empty = c.in_default.ensures.none.0 refl in
-    AreBeyond-along c.args.n (λ i y level. Tells c.args.refused.now i y level × (Has c.loop-j.rest y → ⊥)) (Tells c.args.refused.now) c.args.p.now c.loop-j.p (λ i y level. (λ p. p.0, λ tells. (tells, zero-has c.loop-j.rest y empty))) c.loop-j.invariant.passed
+    AreBeyond-along c.args.n (λ i y level. Tells c.args.refused.now i y level × (Has c.loop-j.rest y → ⊥)) (Tells c.args.refused.now) c.args.p.now
+    c.loop-j.p (λ i y level. (λ p. p.0, λ tells. (tells, zero-has c.loop-j.rest y empty))) c.loop-j.invariant.passed
