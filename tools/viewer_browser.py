@@ -53,6 +53,7 @@ class Viewer:
         self.driver.set_window_rect(0, 0, width, height)
         self.driver.get("about:blank")
         self.driver.get(PAGE + fragment)
+        self.wait("globalThis.SlotViewer && SlotViewer.page", "the page, which first loads the proved scheduler")
 
     def view_port(self, width, height):
         """Gives the page a window of exactly so many pixels, as on a phone; 0 by 0 goes back to the window's own."""

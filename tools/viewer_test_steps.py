@@ -87,6 +87,30 @@ def test_steps_beside_the_journal(viewer):
     expect("The match is not that of iSLIP" in viewer.text("slot-text"), viewer.text("slot-text"))
 
 
+BY_PROVED = "Each slot is decided by the proved scheduler."
+BY_SCRIPT = "Each slot is decided by a script, not proved: "
+
+
+def test_who_decides(viewer):
+    """The proved scheduler decides where the browser runs it, and else a script; the page says which, and both make the same matches."""
+    journal = files.steps_journal()
+    viewer.load()
+    expect(viewer.run("return SlotViewer.provedModule !== null"), "the browser does not run the proved scheduler")
+    viewer.open_bytes("steps.journal", journal)
+    expect(viewer.text("decided-by") == BY_PROVED, viewer.text("decided-by"))
+    viewer.press("", ".")
+    expect(viewer.text("decided-by") == f"{BY_PROVED} Its steps are told by a script, which makes the same match.", viewer.text("decided-by"))
+    viewer.run("SlotViewer.page.first.walker.scheduler.inputs.fill(255)")
+    viewer.run("SlotViewer.page.go(0)")
+    viewer.wait("true", "a frame")
+    expect("which makes another match" in viewer.text("decided-by"), viewer.text("decided-by"))
+    viewer.load()
+    viewer.run("SlotViewer.provedModule = null")
+    viewer.open_bytes("steps.journal", journal)
+    expect(viewer.text("decided-by").startswith(f"{BY_SCRIPT}this browser does not run"), viewer.text("decided-by"))
+    expect(viewer.text("rules-line") == "Each match is that of iSLIP.", viewer.text("rules-line"))
+
+
 def choose_rule(viewer, title):
     viewer.wait("document.querySelector('#rules-line button')", "a button for a scheduler that fits")
     expect(viewer.lines("#rules-line button") == [f"Choose {title}"], f"{viewer.text('rules-line')}")

@@ -110,5 +110,8 @@
         },
     });
 
-    viewer.page = new viewer.Page();
+    viewer.loadModule().then((module) => {
+        viewer.provedModule = module;
+        viewer.page = new viewer.Page();
+    });
 })(globalThis.SlotViewer = globalThis.SlotViewer || {});

@@ -2,7 +2,7 @@
 (function (viewer) {
     "use strict";
 
-    const { Rows, Pointers, Scheduler, FREE } = viewer;
+    const { Rows, Pointers, FREE } = viewer;
 
     const SLOTS_A_STEP = 16;
 
@@ -23,7 +23,7 @@
     function* fits(journal, rule) {
         const rows = new Rows(journal.ports);
         const pointers = new Pointers(journal.ports);
-        const made = new Scheduler(journal.ports, journal.rounds, rule);
+        const made = viewer.makeDecider(journal.ports, journal.rounds, rule);
         for (let slot = 0; slot < journal.slots; slot += 1) {
             journal.readRows(slot, rows);
             made.decide(slot, rows, pointers);

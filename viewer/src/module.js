@@ -78,23 +78,25 @@
             const { module, ports } = this;
             // Both have for each input the sets of unicast and then of multicast, by level, the low word first.
             module.rows.set(rows.words);
-            this.eachPointer(pointers, (at, table, place) => { module.pointers[at] = table[place]; });
+            this.eachTable(pointers, (words, table) => words.set(table));
             if (!module.decide(this.rule, ports, this.rounds, slot)) {
                 throw new RangeError(`slot ${slot} was refused: a row or a pointer is beyond the ports`);
             }
-            this.eachPointer(pointers, (at, table, place) => { table[place] = module.pointers[at]; });
+            this.eachTable(pointers, (words, table) => table.set(words));
             this.readMatch();
         }
 
-        /** Calls `move` with the place of each pointer in the module, and its table and place here. */
-        eachPointer(pointers, move) {
+        /** Calls `move` with the words of each level's pointers in the module, and with the same pointers here. */
+        eachTable(pointers, move) {
+            const { ports } = this;
+            const words = this.module.pointers;
             for (let level = 0; level < LEVELS; level += 1) {
-                for (let port = 0; port < this.ports; port += 1) {
-                    move(MAX_PORTS * level + port, pointers.grant, this.ports * level + port);
-                    move(TABLE_WORDS + MAX_PORTS * level + port, pointers.accept, this.ports * level + port);
-                }
-                move(2 * TABLE_WORDS + level, pointers.shared, level);
+                const start = MAX_PORTS * level;
+                const [from, to] = [ports * level, ports * (level + 1)];
+                move(words.subarray(start, start + ports), pointers.grant.subarray(from, to));
+                move(words.subarray(TABLE_WORDS + start, TABLE_WORDS + start + ports), pointers.accept.subarray(from, to));
             }
+            move(words.subarray(2 * TABLE_WORDS, POINTER_WORDS), pointers.shared);
         }
 
         readMatch() {
@@ -120,14 +122,19 @@
         }
     }
 
+    /** Whether the module decides slots of this rule. */
+    function isProved(module, rule) {
+        return module !== null && rule in CALLS;
+    }
+
     /** The proved scheduler where there is a module that has this rule, and else the one by script. */
     function makeScheduler(module, ports, rounds, rule = "islip") {
-        const isProved = module !== null && rule in CALLS;
-        return isProved ? new ModuleScheduler(module, ports, rounds, rule) : new viewer.Scheduler(ports, rounds, rule);
+        return isProved(module, rule) ? new ModuleScheduler(module, ports, rounds, rule) : new viewer.Scheduler(ports, rounds, rule);
     }
 
     viewer.MAX_ROUNDS = MAX_ROUNDS;
     viewer.ModuleScheduler = ModuleScheduler;
     viewer.loadModule = loadModule;
+    viewer.isProved = isProved;
     viewer.makeScheduler = makeScheduler;
 })(globalThis.SlotViewer = globalThis.SlotViewer || {});

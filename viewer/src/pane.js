@@ -214,6 +214,7 @@
             const { pointerLevel } = this.crossbar.settings;
             viewer.drawSlotText(this.element("slot-text"), view, { pointerLevel, step, beside, titleId: `slot-title${this.suffix}` });
             this.element("step-line").textContent = this.headline();
+            this.element("decided-by").textContent = this.isJournal ? viewer.decidedHere(this.analysis.rule, this.steps) : "";
             const told = step === null ? viewer.briefly(view) : this.headline();
             this.element("crossbar").setAttribute("aria-label", `Crossbar. ${told} Arrow keys choose a crosspoint.`);
             this.drawCrosspoint();

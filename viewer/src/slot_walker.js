@@ -3,7 +3,7 @@
 (function (viewer) {
     "use strict";
 
-    const { Rows, Pointers, Scheduler, Waits, FREE } = viewer;
+    const { Rows, Pointers, Waits, FREE } = viewer;
 
     const CHECKPOINT_BYTES = 32 * 1024 * 1024;
     const LEAST_SPACING = 64;
@@ -58,7 +58,7 @@
             this.pointers = new Pointers(this.ports);
             this.pointersAfter = new Pointers(this.ports);
             /** Its match and its numbers of rounds are those of the rules for this slot. */
-            this.scheduler = new Scheduler(this.ports, journal.rounds, rule);
+            this.scheduler = viewer.makeDecider(this.ports, journal.rounds, rule);
             this.waits = new Waits(this.ports);
         }
 

@@ -112,7 +112,13 @@
         made.decide(walker.slot, walker.rows, after);
         const last = { name: LAST_STEP, phase: LAST_STEP, round: null, rule: made.rule, matched: pairsOf(made), moves: notes.moves, after };
         last.later = laterPairs(notes.rounds, last.matched);
+        last.isSame = isSameMatch(made, scheduler);
         return notes.rounds.flatMap(stepsOfRound).concat(last);
+    }
+
+    /** Whether two schedulers decided the same match. */
+    function isSameMatch(one, other) {
+        return one.inputs.every((input, output) => input === other.inputs[output] && one.queues[output] === other.queues[output]);
     }
 
     /** The pairs that rounds after the first added. */
