@@ -68,8 +68,8 @@ def test_rounds(page):
 
 
 def test_rules(page):
-    """Outputs 0 and 1 grant input 1, which takes output 0: under FIRM alone output 1 points to input 1 then."""
-    for rule, after in (("islip", "0"), ("firm", "0 to 1")):
+    """Outputs 0 and 1 grant input 1, which takes output 0: then output 1 points on to 0, to input 1 under FIRM, to 2 under RRM."""
+    for rule, after in (("islip", "0"), ("firm", "0 to 1"), ("rrm", "0 to 2")):
         page.load()
         page.set("ports", 3)
         page.set("rule", rule)
@@ -133,7 +133,7 @@ const told = (model) => JSON.stringify(model.history.map(({ rounds, inputs, afte
 const differing = [];
 for (let run = 0; run < 40; run += 1) {
     const models = [new kinds(module), new kinds(null)];
-    const { rules } = models[1];
+    const rules = SlotViewer.SCHEDULERS.map(({ name }) => name);
     models.forEach((model) => {
         model.resize(1 + run % 9);
         model.setRounds(1 + run % 4);

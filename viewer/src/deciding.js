@@ -15,10 +15,8 @@
         if (viewer.isProved(viewer.provedModule, rule)) {
             return "Each slot is decided by the proved scheduler.";
         }
-        const why = viewer.provedModule === null
-            ? "this browser does not run the proved scheduler, which needs 64-bit WebAssembly memory"
-            : `the proved module has no ${viewer.schedulerTitle(rule)}`;
-        return `Each slot is decided by a script, not proved: ${why}.`;
+        return "Each slot is decided by a script, not proved: this browser does not run the proved scheduler, which needs "
+            + "64-bit WebAssembly memory.";
     }
 
     /** Who decides the slot, and whether the steps that a script tells end in the same match, in sentences. */

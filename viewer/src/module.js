@@ -20,7 +20,7 @@
     const VERSION = 1;
 
     /** The module's calls by the names of the schedulers. */
-    const CALLS = { islip: "tiny_tera_decide", firm: "tiny_tera_decide_firm" };
+    const CALLS = { islip: "tiny_tera_decide", firm: "tiny_tera_decide_firm", rrm: "tiny_tera_decide_rrm" };
 
     /** Grows a memory by one page, and answers how many it had; older engines take the number of pages as a plain one. */
     function grow(memory) {

@@ -2,9 +2,8 @@
 (function (viewer) {
     "use strict";
 
-    const { Playground, Grid, PATTERNS } = viewer;
+    const { Playground, Grid, PATTERNS, SCHEDULERS } = viewer;
 
-    const TITLES = { islip: "iSLIP", firm: "FIRM" };
     const MANY_SLOTS = 20;
 
     const by = (id) => document.getElementById(id);
@@ -13,10 +12,10 @@
         constructor(module) {
             this.model = new Playground(module);
             this.grid = new Grid(by("crossbar-frame"), (input, output) => this.toggle(input, output), (input, output) => this.look(input, output));
-            d3.select("#rule").selectAll("option").data(this.model.rules).join("option").attr("value", (rule) => rule).text((rule) => TITLES[rule]);
+            d3.select("#rule").selectAll("option").data(SCHEDULERS).join("option").attr("value", ({ name }) => name).text(({ title }) => title);
             d3.select("#pattern").selectAll("option").data(Object.keys(PATTERNS)).join("option").attr("value", (name) => name)
                 .text((name) => PATTERNS[name].title);
-            by("decided-by").textContent = decidedBy(module, this.model.rules);
+            by("decided-by").textContent = decidedBy(module);
             this.listen();
             viewer.watchTheme(by("theme"), () => {});
             this.draw();
@@ -82,12 +81,10 @@
     }
 
     /** Who decides, in words for the page. */
-    function decidedBy(module, rules) {
-        if (module !== null) {
-            return "Each slot is decided by the proved scheduler.";
-        }
-        const without = rules.includes("firm") ? "" : ", which has iSLIP alone";
-        return `This browser does not run the proved scheduler, which needs 64-bit WebAssembly memory: each slot is decided by a script${without}, not proved.`;
+    function decidedBy(module) {
+        return module === null
+            ? "This browser does not run the proved scheduler, which needs 64-bit WebAssembly memory: each slot is decided by a script, not proved."
+            : "Each slot is decided by the proved scheduler.";
     }
 
     viewer.loadModule().then((module) => {

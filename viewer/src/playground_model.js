@@ -21,8 +21,6 @@
         /** `module` is what loadModule() gave. */
         constructor(module) {
             this.module = module;
-            /** The names of the schedulers that can decide here. */
-            this.rules = module !== null || viewer.SCHEDULERS !== undefined ? ["islip", "firm"] : ["islip"];
             this.rule = "islip";
             this.rounds = 1;
             /** Whether a request goes off when it is served; else its queue never runs empty. */
