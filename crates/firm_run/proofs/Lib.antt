@@ -5,3 +5,4 @@ pub mod MadeSlots
 pub mod SlotSteps
 pub mod Leavings
 pub mod Numbers
+mod Promised

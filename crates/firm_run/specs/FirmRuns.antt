@@ -6,7 +6,8 @@ use Rattle.switch_plan.specs.GoodPlans.{SwitchPlan}
 use Rattle.whole_run.specs.Runs.{ports_of}
 use Rattle.whole_run.specs.Ends.{IsLengthUnder}
 use Rattle.whole_run.specs.Sums.{IsBestUnder}
-use Rattle.switch_jobs.specs.Outcomes.{summary_under}
+use Rattle.whole_run.specs.Promises.{ArrivalsComeFirst, BusySlotsMatchUnder, CompletesUnder, DeliversUnder, DeliversNoOthersUnder, HasFewSlotsUnder, ServesUnder, WaitsUnder}
+use Rattle.switch_jobs.specs.Outcomes.{summary_under, CountsPacketsOnce}
 
 -- these are the numbers of the plan's run, to its end
 pub record IsFirmRun (plan : SwitchPlan) (summary : Summary) : Type 0 where
@@ -17,3 +18,17 @@ pub record IsFirmRun (plan : SwitchPlan) (summary : Summary) : Type 0 where
 -- Where none of the best level of all admitted packets is multicast, its longest wait is below N * N slots.
 abbrev pub HasShortWaits : SwitchPlan → Summary → Type 0
 HasShortWaits plan summary = (level : ℕ) → IsBestUnder firm_decision plan summary.slots level → slice_index summary.longest level < ports_of plan * ports_of plan
+
+-- What is promised of a plan's run under the second scheduler that has so many slots: what it delivers, that all packets
+-- arrive before its end and are counted once, within how many slots a unicast queue is served and a multicast head
+-- completes, how long waits are, how many slots it has, and that no busy slot is without a match.
+pub record FirmPromises (plan : SwitchPlan) (slots : ℕ) : Type 0 where
+  pub delivers : DeliversUnder firm_decision plan slots
+  pub no_others : DeliversNoOthersUnder firm_decision plan slots
+  pub arrivals : ArrivalsComeFirst plan slots
+  pub counts : CountsPacketsOnce (summary_under firm_decision plan slots)
+  pub serves : ServesUnder firm_decision plan slots (ports_of plan * ports_of plan)
+  pub waits : WaitsUnder firm_decision plan slots (ports_of plan * ports_of plan)
+  pub completes : CompletesUnder firm_decision plan slots
+  pub few_slots : HasFewSlotsUnder firm_decision plan slots
+  pub busy_slots : BusySlotsMatchUnder firm_decision plan

@@ -2,6 +2,7 @@
 //! at the board.
 #![tactic(auto)]
 
+pub mod laws;
 mod leaving;
 mod posting;
 mod running;

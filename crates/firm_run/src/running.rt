@@ -1,6 +1,6 @@
 ghost use Rattle.std.specs.Prelude.{IfOk};
 ghost use Rattle.switch_plan.specs.GoodPlans.{switch_plan_of, IsGood};
-ghost use Rattle.firm_run.specs.FirmRuns.{IsFirmRun, HasShortWaits};
+ghost use Rattle.firm_run.specs.FirmRuns.{IsFirmRun, HasShortWaits, FirmPromises};
 
 use crate::leaving::finish_cards;
 use crate::switch::Switch;
@@ -15,11 +15,12 @@ use switch_plan::Plan;
 /// memory first. The only error is want of memory.
 ///
 /// Where no admitted packet of the best level of all is multicast, that level's longest wait is below N * N
-/// slots, N being the number of ports.
+/// slots, N being the number of ports. What else holds of the run, [`crate::laws::runs_are_as_promised`] says.
 pub fn run_firm(alloc: Global, plan: Plan) -> Result<Summary, OutOfMemory>
     requires { IsGood (switch_plan_of plan) }
     ensures run { IfOk result (λ summary. IsFirmRun (switch_plan_of plan) summary) }
     ensures waits { IfOk result (λ summary. HasShortWaits (switch_plan_of plan) summary) }
+    ensures promises { IfOk result (λ summary. FirmPromises (switch_plan_of plan) summary.slots) }
 {
     let terms = terms_of(&plan);
     let ports = plan.cards.len();

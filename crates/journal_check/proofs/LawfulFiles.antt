@@ -57,23 +57,23 @@ none_or : {X : Type 0} (a b : Option X) → (option_or a b ≡ None) ↔ ((a ≡
 none_or None b = (λ e. (refl, e), λ p. p.1)
 none_or (Some x) b = (λ e. absurd (cc), λ p. absurd (let h = p.0 in cc))
 
-none_map : {X Y : Type 0} (f : X → Y) (o : Option X) → (option_map f o ≡ None) ↔ (o ≡ None)
+pub none_map : {X Y : Type 0} (f : X → Y) (o : Option X) → (option_map f o ≡ None) ↔ (o ≡ None)
 none_map f None = (λ e. refl, λ e. refl)
 none_map f (Some x) = (λ e. absurd (cc), λ e. absurd (cc))
 
 not_true : (b : Bool) → b ≡ false → not b ≡ true
 not_true b e = ap not e
 
-from_not : (b : Bool) → not b ≡ false → b ≡ true
+pub from_not : (b : Bool) → not b ≡ false → b ≡ true
 from_not true e = refl
 from_not false e = absurd (cc)
 
-not_from : (b : Bool) → b ≡ true → not b ≡ false
+pub not_from : (b : Bool) → b ≡ true → not b ≡ false
 not_from b e = ap not e
 
 -- ---- alike
 
-Decides-alike : (a b : Option Fed) → Decides (is_alike a b) (a ≡ b)
+pub Decides-alike : (a b : Option Fed) → Decides (is_alike a b) (a ≡ b)
 Decides-alike None None = (λ e. refl, λ e. refl)
 Decides-alike None (Some b) = (λ e. absurd (cc), λ e. absurd (cc))
 Decides-alike (Some a) None = (λ e. absurd (cc), λ e. absurd (cc))
@@ -113,11 +113,11 @@ module _ (n : ℕ) where
         λ same. mapped.1 (none.1 (λ j below. not_from (is_alike (fed_of matched j) (fed_of decided j)) ((Decides-alike (fed_of matched j) (fed_of decided j)).1 (ap (λ (xs : List (Option Fed)). fed_of xs j) same)))),
       )
 
-  going_on : (b : Bool) → ((if b then None else Some AfterEnd) ≡ None) ↔ (b ≡ true)
+  pub going_on : (b : Bool) → ((if b then None else Some AfterEnd) ≡ None) ↔ (b ≡ true)
   going_on true = (λ e. refl, λ e. refl)
   going_on false = (λ e. absurd (cc), λ e. absurd (cc))
 
-  lacks_none : (rows : List Row) (more : List Bool) (i : ℕ) → (lacks_more rows more i ≡ false) ↔ (IsEmptyRow (row_of rows i) ⊎ (slice_index_or more i false ≡ true))
+  pub lacks_none : (rows : List Row) (more : List Bool) (i : ℕ) → (lacks_more rows more i ≡ false) ↔ (IsEmptyRow (row_of rows i) ⊎ (slice_index_or more i false ≡ true))
   lacks_none rows more i =
       let tells = Decides-is_empty (row_of rows i) in
       let m = slice_index_or more i false in

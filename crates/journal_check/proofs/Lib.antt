@@ -18,3 +18,5 @@ pub mod Written
 pub mod Flags
 pub mod NumbersSpelled
 pub mod FilesSpelled
+mod FirstFailures
+mod Exact

@@ -4,3 +4,4 @@ pub mod Texts
 pub mod Lawful
 pub mod Verdicts
 pub mod Steps
+pub mod Failures

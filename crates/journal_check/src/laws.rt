@@ -16,7 +16,10 @@ ghost use Rattle.board_state.specs.Boards.{IsSetup, IsFinished, board_journal};
 ghost use Rattle.journal_check.specs.Files.{JournalFile, journal_in};
 ghost use Rattle.journal_check.specs.Texts.{IsFile, HaveLevels, file_of, file_text};
 ghost use Rattle.journal_check.specs.Lawful.{first_failure, decided_slots, IsLawful};
+ghost use Rattle.journal_check.specs.declared.verdict.Reason.{Reason};
+ghost use Rattle.journal_check.specs.declared.verdict.Verdict.TheVariants.{Yes, No};
 ghost use Rattle.journal_check.specs.Verdicts.{yes_on, answer_to};
+ghost use Rattle.journal_check.specs.Failures.{AreLawful, AreNotLawful};
 
 /// What is spelled of a file is read again: just that file. What is read is what a file can tell, and bytes
 /// are read as no file but the one that they spell, so no file has a second spelling.
@@ -29,6 +32,14 @@ pub fn files_are_their_texts()
 /// A file has no failure exactly where it is lawful.
 pub fn files_without_failure_are_lawful()
     ensures { (file : JournalFile) → IsFile file → (first_failure file ≡ None) ↔ IsLawful file }
+{}
+
+/// The answer to bytes says exactly what they are: yes where they are those of a lawful file, with the number of its
+/// slots and the longest waits of its schedule; and no where they are those of a file of which this slot is the first
+/// that may not follow what is before it, for this reason, which is the first that there is.
+pub fn answers_are_exact()
+    ensures yes { (bytes : List ℕ) (slots : ℕ) (longest : List ℕ) → All (λ b. b < 256) bytes → (answer_to bytes ≡ Ok (Yes slots longest)) ↔ AreLawful bytes slots longest }
+    ensures no { (bytes : List ℕ) (slot : ℕ) (reason : Reason) → All (λ b. b < 256) bytes → (answer_to bytes ≡ Ok (No slot reason)) ↔ AreNotLawful bytes slot reason }
 {}
 
 /// The slots of a lawful file are a schedule from slot 0 and all pointers at port 0 on, of rows that name

@@ -3,3 +3,4 @@ pub mod Matches
 pub mod Ended
 pub mod Told
 pub mod ToldInputs
+mod Delayed

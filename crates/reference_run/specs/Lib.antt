@@ -1,2 +1,3 @@
 pub mod RunLines
 pub mod Meeting
+pub mod Promises

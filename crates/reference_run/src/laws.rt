@@ -9,6 +9,7 @@ ghost use Rattle.output_queued.specs.Ideal.{total};
 ghost use Rattle.output_queued.specs.Switches.{comes};
 ghost use Rattle.output_queued.specs.Lines.{ideal, ran, rises, line_of};
 ghost use Rattle.reference_run.specs.RunLines.{run_matches};
+ghost use Rattle.reference_run.specs.Promises.{EndsNoLater, ExtraIsDelays};
 ghost use Rattle.reference_run.specs.Meeting.{IsReferenceOf, run_rows};
 
 /// The slots of a run may be noted one after the other, to its end.
@@ -38,4 +39,11 @@ pub fn whole_runs_serve_the_same()
     ensures ends { (plan : SwitchPlan) (slots j : ℕ) → IsGood plan → IsLength plan slots → j < ports_of plan → (line_of plan.cards (run_matches plan slots) j).ends ≤ (line_of plan.cards (run_matches plan slots) j).runs }
     ensures delays { (plan : SwitchPlan) (slots j : ℕ) → IsGood plan → IsLength plan slots → j < ports_of plan
         → (line_of plan.cards (run_matches plan slots) j).extra + sum (rises (ideal plan.cards (run_matches plan slots) j) slots) ≡ sum (rises (ran (run_matches plan slots) j) slots) }
+{}
+
+/// At each output the ideal switch ends no later than the run; the run feeds no cell earlier than the ideal switch
+/// gives out the one of the same number; and the extra is the sum of these delays.
+pub fn lines_tell_the_delays()
+    ensures ends { (plan : SwitchPlan) (slots : ℕ) → IsGood plan → IsLength plan slots → EndsNoLater plan slots }
+    ensures delays { (plan : SwitchPlan) (slots : ℕ) → IsGood plan → IsLength plan slots → ExtraIsDelays plan slots }
 {}

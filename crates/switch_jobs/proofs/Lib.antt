@@ -8,3 +8,5 @@ pub mod Leaving
 mod Made
 pub mod Limits
 pub mod Finishing
+pub mod Counted
+mod Departing

@@ -4,3 +4,4 @@ pub mod Journals
 pub mod Readiness
 pub mod Sharing
 pub mod Ending
+pub mod Departures

@@ -1,6 +1,6 @@
 -- What the run of a plan leaves: its journal, what each output got, and its numbers. What ends in `under` is of any
 -- scheduler; the other names are of the scheduler of the board.
-use Rattle.std.specs.Prelude.{◌≡◌, ℕ, List, map, length, Some, slice_get}
+use Rattle.std.specs.Prelude.{◌≡◌, ℕ, ◌+◌, List, map, length, Some, slice_get}
 use Rattle.std.specs.List.{sum_by, range_with_len, concat}
 use Rattle.rotating_pick.specs.declared.limits.TheConstants.{LEVELS}
 use Rattle.service_bound.specs.Waits.{noted_of, longest_wait}
@@ -68,6 +68,10 @@ summary_under scheduler plan slots = record {
 
 abbrev pub summary_of : SwitchPlan → ℕ → Summary
 summary_of = summary_under decision_of
+
+-- Every packet is counted once: as too long, as one without a route, as dropped or as forwarded.
+abbrev pub CountsPacketsOnce : Summary → Type 0
+CountsPacketsOnce summary = summary.packets ≡ summary.oversize + summary.unrouted + summary.dropped + summary.forwarded
 
 -- what a run of so many slots leaves at port j: what came to its output, and how its own packets fared
 pub record IsOutputUnder (scheduler : Scheduler) (plan : SwitchPlan) (slots j : ℕ) (out : CardOut) : Type 0 where

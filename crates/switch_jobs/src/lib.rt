@@ -5,6 +5,7 @@ mod captures;
 mod driving;
 mod ending;
 pub mod jobs;
+pub mod laws;
 mod meters;
 mod outcome;
 mod ready;

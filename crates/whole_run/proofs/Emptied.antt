@@ -84,7 +84,8 @@ empty_is : (b : Bool) → not b ≡ false → b ≡ true
 empty_is true is = refl
 empty_is false is = absurd (cc)
 
-module _ (scheduler : Scheduler) (scheduling : IsScheduler scheduler) (plan : SwitchPlan) (good : IsGood plan) where
+-- in the last slot no port says that more is to come
+module _ (scheduler : Scheduler) (plan : SwitchPlan) where
   no_more : (i t : ℕ) → i < ports_of plan → is_done_at (ports_of plan) (posts_under scheduler plan) t ≡ true → (posts_under scheduler plan i t).more ≡ true → ⊥
   no_more i t inside done more =
       let posts = slot_posts (ports_of plan) (posts_under scheduler plan) t in
@@ -95,14 +96,15 @@ module _ (scheduler : Scheduler) (scheduling : IsScheduler scheduler) (plan : Sw
       let both : true ≡ false = sym done ∙ all in
       absurd (cc)
 
-  last_more : (i t : ℕ) → i < ports_of plan → is_done_at (ports_of plan) (posts_under scheduler plan) t ≡ true → (posts_under scheduler plan i t).more ≡ false
+  pub last_more : (i t : ℕ) → i < ports_of plan → is_done_at (ports_of plan) (posts_under scheduler plan) t ≡ true → (posts_under scheduler plan i t).more ≡ false
   last_more i t inside done = lacks (posts_under scheduler plan i t).more (no_more i t inside done)
 
+module _ (scheduler : Scheduler) (scheduling : IsScheduler scheduler) (plan : SwitchPlan) (good : IsGood plan) where
   pub last_row : (i t : ℕ) → i < ports_of plan → is_done_at (ports_of plan) (posts_under scheduler plan) t ≡ true → IsEmptyRow (row_at (card_at plan i) (parts_under scheduler plan i (suc t)) t)
   last_row i t inside done =
       let card = card_at plan i in
       let row = row_at card (parts_under scheduler plan i t) t in
-      let more = or_parts (list_any (λ packet. nat_lt t packet.arrival) card.packets) (not (is_empty row)) (last_more i t inside done) in
+      let more = or_parts (list_any (λ packet. nat_lt t packet.arrival) card.packets) (not (is_empty row)) (last_more scheduler plan i t inside done) in
       subst IsEmptyRow (sym (row_at-same scheduler plan i t (suc t) (omega arith))) ((Decides-is_empty row).0 (empty_is (is_empty row) more.1))
 
   pub all_delivered : (i j level : ℕ) (kind : Kind) (t : ℕ) → i < ports_of plan → j < ports_of plan → level < LEVELS → is_done_at (ports_of plan) (posts_under scheduler plan) t ≡ true

@@ -18,6 +18,7 @@ pub mod OfFlows
 pub mod Delivered
 pub mod Fitting
 pub mod Emptied
+pub mod Arrivals
 pub mod WaitingPackets
 pub mod LineRate
 pub mod RunWindows

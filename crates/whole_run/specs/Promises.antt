@@ -16,9 +16,13 @@ use Rattle.card_core.specs.Plans.{message_of}
 use Rattle.card_core.specs.Deliveries.{messages_from}
 use Rattle.switch_plan.specs.Totals.{greatest_slots}
 use Rattle.switch_plan.specs.GoodPlans.{SwitchPlan, packets_in}
-use Rattle.whole_run.specs.Runs.{ports_of, setup_for, card_at, posts_under, posts_in}
+use Rattle.whole_run.specs.Runs.{ports_of, setup_for, card_at, posts_under}
 use Rattle.whole_run.specs.Crossings.{cells_under, admitted_under}
-use Rattle.whole_run.specs.Sums.{total_under, schedule_under, run_schedule, IsBestUnder}
+use Rattle.whole_run.specs.Sums.{total_under, schedule_under, IsBestUnder}
+
+-- All packets arrive before the run's end, so that what is said of the first slots is said of every packet.
+abbrev pub ArrivalsComeFirst : SwitchPlan → ℕ → Type 0
+ArrivalsComeFirst plan slots = (i : ℕ) → i < ports_of plan → All (λ packet. packet.arrival < slots) (card_at plan i).packets
 
 -- At each output the messages of each flow are those of the admitted packets of that input, level and kind with the
 -- output in their fan-out, in order of arrival.
@@ -43,11 +47,14 @@ bound_of plan = longest_service_at_line_rate (ports_of plan) plan.rounds
 
 -- In so many slots in a row in which nothing of a better level and no multicast of the level is posted, a unicast queue
 -- that is posted in the first is served in one of them.
+abbrev pub ServesUnder : Scheduler → SwitchPlan → ℕ → ℕ → Type 0
+ServesUnder scheduler plan slots bound = (first level i j : ℕ) → level < LEVELS → i < ports_of plan → first + bound ≤ slots
+    → All (λ slot. IsClean (ports_of plan) level slot.rows × IsWithoutMulticast (ports_of plan) level slot.rows) (take bound (drop first (schedule_under scheduler plan slots)))
+    → Names (posts_under scheduler plan i first).row level Uni j
+    → Any (λ slot. Serves slot.decision.matched i j level Uni) (take bound (drop first (schedule_under scheduler plan slots)))
+
 abbrev pub ServesWaiting : SwitchPlan → ℕ → Type 0
-ServesWaiting plan slots = (first level i j : ℕ) → level < LEVELS → i < ports_of plan → first + bound_of plan ≤ slots
-    → All (λ slot. IsClean (ports_of plan) level slot.rows × IsWithoutMulticast (ports_of plan) level slot.rows) (take (bound_of plan) (drop first (run_schedule plan slots)))
-    → Names (posts_in plan i first).row level Uni j
-    → Any (λ slot. Serves slot.decision.matched i j level Uni) (take (bound_of plan) (drop first (run_schedule plan slots)))
+ServesWaiting plan slots = ServesUnder decision_of plan slots (bound_of plan)
 
 -- In twice as many slots in a row as there are ports, in which nothing of a better level is posted, a multicast head that
 -- is posted in the first completes in one of them, whatever unicast is posted.

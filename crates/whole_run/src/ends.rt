@@ -4,7 +4,7 @@ ghost use Rattle.std.specs.Prelude.{◌≡◌, ℕ, ◌≤◌};
 ghost use Rattle.eslip_rounds.specs.Schedulers.{Scheduler, IsScheduler};
 ghost use Rattle.switch_plan.specs.GoodPlans.{SwitchPlan, IsGood};
 ghost use Rattle.whole_run.specs.Ends.{IsLengthUnder};
-ghost use Rattle.whole_run.specs.Promises.{BusySlotsMatchUnder, HasFewSlotsUnder};
+ghost use Rattle.whole_run.specs.Promises.{ArrivalsComeFirst, BusySlotsMatchUnder, HasFewSlotsUnder};
 
 /// A slot in which some port posts a row that is not empty matches a pair.
 pub fn busy_slots_match()
@@ -21,4 +21,9 @@ pub fn runs_end()
 /// A run has one length.
 pub fn lengths_are_one()
     ensures { (scheduler : Scheduler) (plan : SwitchPlan) (a b : ℕ) → IsLengthUnder scheduler plan a → IsLengthUnder scheduler plan b → a ≡ b }
+{}
+
+/// All packets arrive before the run ends.
+pub fn arrivals_come_first()
+    ensures { (scheduler : Scheduler) (plan : SwitchPlan) (slots : ℕ) → IsLengthUnder scheduler plan slots → ArrivalsComeFirst plan slots }
 {}

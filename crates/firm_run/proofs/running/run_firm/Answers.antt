@@ -17,6 +17,7 @@ use Rattle.switch_jobs.specs.Journals.{HaveSums, summary_with}
 use Rattle.firm_run.specs.FirmRuns.{IsFirmRun, HasShortWaits}
 use Rattle.firm_run.specs.Standing.{IsBefore}
 use Rattle.firm_run.proofs.Numbers.{count-all, sums, numbers-are, short}
+use Rattle.firm_run.proofs.Promised.{promises-of}
 use Rattle.firm_run.proofs.running.run_firm.Goals as goal
 
 pub make-requires-clause-good : goal.make-requires-clause-good
@@ -115,3 +116,6 @@ returns-clause-waits c =
     subst (λ p. HasShortWaits p summary) same (λ level best.
     subst (λ xs. slice_index xs level < ports_of plan * ports_of plan) (sym longest_are)
     (short terms cards good slots switch run.1 run.2 outputs left longest c.longest_of-longest.ensures level (subst (λ k. IsBestUnder firm_decision plan k level) slots_are best)))
+
+pub returns-clause-promises : goal.returns-clause-promises
+returns-clause-promises c = promises-of (switch_plan_of c.args.plan) c.requires c.sum_up.result.slots (returns-clause-run c).ends
