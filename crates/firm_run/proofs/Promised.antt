@@ -45,15 +45,19 @@ module _ (plan : SwitchPlan) (good : IsGood plan) (slots : ℕ) where
       (run-schedule firm_decision IsScheduler-firm_decision plan good AreMovedByFirm IsSchedulerBy-firm_decision slots)
       (run-within firm_decision IsScheduler-firm_decision plan good slots) (run-kept firm_decision IsScheduler-firm_decision plan good slots)
       (λ k d short. (quiet k d short).0) in
-      let there : Names (row_of (slot first).rows i) level Uni j = subst (λ row. Names row level Uni j) (sym (row_of-slot_rows n (posts_under firm_decision plan) first i inside)) named in
+      let there : Names (row_of (slot first).rows i) level Uni j = subst (λ row. Names row level Uni j)
+      (sym (row_of-slot_rows n (posts_under firm_decision plan) first i inside)) named in
       let long : length part ≡ count = ap length is ∙ length-map-range_with_len slot first count in
-      firm_served_in_time n plan.rounds (0 + first) level i j (places_after (places_at_first n) (take first all)) part good.rounds.some inside window (λ k d short. (quiet k d short).1)
-      (subst (InFirst (λ rows. Names (row_of rows i) level Uni j)) (sym is) (in_first (λ rows. Names (row_of rows i) level Uni j) slot first count there)) (omega (arith, long))
+      firm_served_in_time n plan.rounds (0 + first) level i j (places_after (places_at_first n) (take first all)) part good.rounds.some inside window
+      (λ k d short. (quiet k d short).1)
+      (subst (InFirst (λ rows. Names (row_of rows i) level Uni j)) (sym is)
+      (in_first (λ rows. Names (row_of rows i) level Uni j) slot first count there)) (omega (arith, long))
 
   -- no wait of the best level is longer
   firm-waits : WaitsUnder firm_decision plan slots (ports_of plan * ports_of plan)
   firm-waits level best =
-      firm_longest_wait (ports_of plan) plan.rounds 0 level (places_at_first (ports_of plan)) (schedule_under firm_decision plan slots) good.size.some good.rounds.some
+      firm_longest_wait (ports_of plan) plan.rounds 0 level (places_at_first (ports_of plan))
+      (schedule_under firm_decision plan slots) good.size.some good.rounds.some
       (best-window firm_decision IsScheduler-firm_decision plan good slots level best AreMovedByFirm IsSchedulerBy-firm_decision)
       (best-alone firm_decision IsScheduler-firm_decision plan good slots level best)
 
@@ -65,7 +69,8 @@ module _ (plan : SwitchPlan) (good : IsGood plan) (slots : ℕ) where
     counts = counted-once firm_decision plan slots good ends;
     serves = firm-serves;
     waits = firm-waits;
-    completes = heads-complete_by AreMovedByFirm firm_decision plan IsScheduler-firm_decision IsSchedulerBy-firm_decision (firm_keep (ports_of plan)) (firm_pass (ports_of plan)) good slots;
+    completes = heads-complete_by AreMovedByFirm firm_decision plan IsScheduler-firm_decision IsSchedulerBy-firm_decision (firm_keep (ports_of plan))
+        (firm_pass (ports_of plan)) good slots;
     few_slots = run_bound firm_decision IsScheduler-firm_decision plan good slots ends;
     busy_slots = λ i t inside busy. busy_matches firm_decision IsScheduler-firm_decision plan good i t inside busy;
   }

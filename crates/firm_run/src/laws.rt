@@ -16,8 +16,10 @@ ghost use Rattle.firm_run.specs.FirmRuns.{FirmPromises};
 /// The slots of the run are a schedule of the second scheduler, from slot 0 and all pointers at port 0 on, of rows that
 /// name none but the switch's ports and are kept until they are served.
 pub fn slots_are_a_schedule()
-    ensures schedule { (plan : SwitchPlan) (slots : ℕ) → IsGood plan → IsScheduleBy AreMovedByFirm (ports_of plan) plan.rounds 0 (places_at_first (ports_of plan)) (schedule_under firm_decision plan slots) }
-    ensures within { (plan : SwitchPlan) (slots : ℕ) → IsGood plan → All (λ slot. AreWithin (ports_of plan) slot.rows) (schedule_under firm_decision plan slots) }
+    ensures schedule { (plan : SwitchPlan) (slots : ℕ) → IsGood plan
+        → IsScheduleBy AreMovedByFirm (ports_of plan) plan.rounds 0 (places_at_first (ports_of plan)) (schedule_under firm_decision plan slots) }
+    ensures within { (plan : SwitchPlan) (slots : ℕ) → IsGood plan
+        → All (λ slot. AreWithin (ports_of plan) slot.rows) (schedule_under firm_decision plan slots) }
     ensures kept { (plan : SwitchPlan) (slots : ℕ) → IsGood plan → AreKept (ports_of plan) (schedule_under firm_decision plan slots) }
 {}
 

@@ -3,7 +3,6 @@ use Rattle.std.proofs.Common.{◌≡◌, ◌↔◌, ◌∙◌, ℕ, ◌+◌, ◌
 use Rattle.std.specs.List.{range_with_len}
 use Rattle.rotating_pick.specs.declared.limits.TheConstants.{LEVELS}
 use Rattle.slot_match.specs.declared.matching.Fed.{Fed}
-use Rattle.eslip_rounds.specs.Schedules.{DecidedSlot}
 use Rattle.service_bound.specs.Waits.{NotedSlot, noted_of as noted_of_decided, longest_wait}
 use Rattle.journal_check.specs.declared.verdict.Reason.{Reason}
 use Rattle.journal_check.specs.declared.verdict.Failure.{Failure}
@@ -11,7 +10,7 @@ use Rattle.journal_check.specs.declared.verdict.JournalFault.{JournalFault}
 use Rattle.journal_check.specs.declared.verdict.Verdict.{Verdict}
 use Rattle.journal_check.specs.declared.verdict.Verdict.TheVariants.{Yes, No}
 use Rattle.journal_check.specs.Files.{FileSlot, JournalFile, rows_of, journal_in}
-use Rattle.journal_check.specs.Texts.{IsFile, file_text}
+use Rattle.journal_check.specs.Texts.{IsFile}
 use Rattle.journal_check.specs.Lawful.{Before, at_first, decided_in, after_slot, decided_from, decided_slots, MayFollowAll, first_failure, IsLawful}
 use Rattle.journal_check.specs.Verdicts.{noted_of, longest_waits, verdict_by, answer_by, answer_to}
 use Rattle.journal_check.specs.Failures.{schedule_waits, AreLawful, AreNotLawful}
@@ -22,7 +21,8 @@ use Rattle.journal_check.proofs.LawfulFiles.{file_failure, lawful_answer}
 use Rattle.journal_check.proofs.FirstFailures.{failure, file_fails}
 
 -- ---- the waits of a lawful file are those of its schedule
-noted_alike : (n rounds t : ℕ) (before : Before) (slots : List FileSlot) → MayFollowAll n rounds t before slots → map noted_of_decided (decided_from n rounds t before.places slots) ≡ map noted_of slots
+noted_alike : (n rounds t : ℕ) (before : Before) (slots : List FileSlot) → MayFollowAll n rounds t before slots
+    → map noted_of_decided (decided_from n rounds t before.places slots) ≡ map noted_of slots
 unfolding after_slot
 noted_alike n rounds t before [] lawful = refl
 noted_alike n rounds t before (slot ∷ slots) lawful =
@@ -41,17 +41,22 @@ waits_are file lawful =
 abbrev answer : Verdict → Result Verdict JournalFault
 answer verdict = Ok verdict
 
-yes_told : (bytes : List ℕ) (file : JournalFile) → All (λ b. b < 256) bytes → journal_in bytes ≡ Ok file → (slots : ℕ) (longest : List ℕ) (f : Option Failure) → first_failure file ≡ f → answer (verdict_by file f) ≡ answer (Yes slots longest) → AreLawful bytes slots longest
+yes_told : (bytes : List ℕ) (file : JournalFile) → All (λ b. b < 256) bytes → journal_in bytes ≡ Ok file
+    → (slots : ℕ) (longest : List ℕ) (f : Option Failure) → first_failure file ≡ f → answer (verdict_by file f) ≡ answer (Yes slots longest)
+    → AreLawful bytes slots longest
 yes_told bytes file small is slots longest None none e =
     let good : IsFile file = told_is_file bytes file is in
     let lawful : IsLawful file = (file_failure file good).0 none in
     let same : Yes (length file.slots) (longest_waits file) ≡ Yes slots longest = cc in
     let count : length file.slots ≡ slots = cc in
     let waits : longest_waits file ≡ longest = cc in
-    record { file = file; good = good; spelled = told_is_spelled bytes file small is; lawful = lawful; count = sym count; waits = sym waits ∙ waits_are file lawful }
+    record { file = file; good = good; spelled = told_is_spelled bytes file small is; lawful = lawful; count = sym count; waits = sym waits
+    ∙ waits_are file lawful }
 yes_told bytes file small is slots longest (Some f) fails e = absurd (cc)
 
-no_told : (bytes : List ℕ) (file : JournalFile) → All (λ b. b < 256) bytes → journal_in bytes ≡ Ok file → (at : ℕ) (reason : Reason) (f : Option Failure) → first_failure file ≡ f → answer (verdict_by file f) ≡ answer (No at reason) → AreNotLawful bytes at reason
+no_told : (bytes : List ℕ) (file : JournalFile) → All (λ b. b < 256) bytes → journal_in bytes ≡ Ok file
+    → (at : ℕ) (reason : Reason) (f : Option Failure) → first_failure file ≡ f → answer (verdict_by file f) ≡ answer (No at reason)
+    → AreNotLawful bytes at reason
 no_told bytes file small is at reason None none e = absurd (cc)
 no_told bytes file small is at reason (Some f) fails e =
     let good : IsFile file = told_is_file bytes file is in
@@ -61,15 +66,18 @@ no_told bytes file small is at reason (Some f) fails e =
     let first : first_failure file ≡ Some (failure at reason) = fails ∙ ap (λ k. Some (failure k f.reason)) slot ∙ ap (λ r. Some (failure at r)) why in
     record { file = file; good = good; spelled = told_is_spelled bytes file small is; first = (file_fails file good at reason).0 first }
 
-yes_read : (bytes : List ℕ) → All (λ b. b < 256) bytes → (slots : ℕ) (longest : List ℕ) (r : Result JournalFile ℕ) → journal_in bytes ≡ r → answer_by r ≡ answer (Yes slots longest) → AreLawful bytes slots longest
+yes_read : (bytes : List ℕ) → All (λ b. b < 256) bytes → (slots : ℕ) (longest : List ℕ) (r : Result JournalFile ℕ) → journal_in bytes ≡ r
+    → answer_by r ≡ answer (Yes slots longest) → AreLawful bytes slots longest
 yes_read bytes small slots longest (Ok file) is e = yes_told bytes file small is slots longest (first_failure file) refl e
 yes_read bytes small slots longest (Err at) is e = absurd (cc)
 
-no_read : (bytes : List ℕ) → All (λ b. b < 256) bytes → (at : ℕ) (reason : Reason) (r : Result JournalFile ℕ) → journal_in bytes ≡ r → answer_by r ≡ answer (No at reason) → AreNotLawful bytes at reason
+no_read : (bytes : List ℕ) → All (λ b. b < 256) bytes → (at : ℕ) (reason : Reason) (r : Result JournalFile ℕ) → journal_in bytes ≡ r
+    → answer_by r ≡ answer (No at reason) → AreNotLawful bytes at reason
 no_read bytes small at reason (Ok file) is e = no_told bytes file small is at reason (first_failure file) refl e
 no_read bytes small at reason (Err bad) is e = absurd (cc)
 
-pub yes_exact : (bytes : List ℕ) (slots : ℕ) (longest : List ℕ) → All (λ b. b < 256) bytes → (answer_to bytes ≡ Ok (Yes slots longest)) ↔ AreLawful bytes slots longest
+pub yes_exact : (bytes : List ℕ) (slots : ℕ) (longest : List ℕ) → All (λ b. b < 256) bytes
+    → (answer_to bytes ≡ Ok (Yes slots longest)) ↔ AreLawful bytes slots longest
 unfolding answer_to
 yes_exact bytes slots longest small = (
   yes_read bytes small slots longest (journal_in bytes) refl,

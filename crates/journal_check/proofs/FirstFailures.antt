@@ -1,5 +1,5 @@
 -- The first failure of a file is the first slot that may not follow, with the first reason for it.
-use Rattle.std.proofs.Common.{◌≡◌, ◌↔◌, ℕ, zero, suc, ◌+◌, ◌-◌, ◌<◌, ◌≤◌, ◌⊎◌, ◌∙◌, not, Bool, true, false, List, [], ◌∷◌, length, map, Option, None, Some, All, refl, sym, ap, subst, inl, inr, arith, if◌then◌else◌}
+use Rattle.std.proofs.Common.{◌≡◌, ◌↔◌, ℕ, zero, suc, ◌+◌, ◌-◌, ◌<◌, ◌≤◌, ◌⊎◌, ◌∙◌, Bool, true, false, List, [], ◌∷◌, Option, None, Some, All, refl, sym, ap, subst, inl, inr, arith, if◌then◌else◌}
 use Rattle.std.specs.List.{find, range_with_len}
 use Rattle.std.specs.Option.{option_map, option_or}
 use Rattle.std.proofs.lemmas.Bool.{cases_Bool, cases_eq, cond-true, cond-false}
@@ -57,7 +57,8 @@ finds test a (suc n) k is =
           ∙ finds test (a + 1) n k (record { low = omega arith; high = omega arith; holds = is.holds; none = λ i from less. is.none i (omega arith) less })
     ]
 
-first_is : (n : ℕ) (test : ℕ → Bool) (Holds : ℕ → Type 0) → ((i : ℕ) → i < n → (test i ≡ false) ↔ Holds i) → (k : ℕ) → (first_of n test ≡ Some k) ↔ IsFirstWithout n Holds k
+first_is : (n : ℕ) (test : ℕ → Bool) (Holds : ℕ → Type 0) → ((i : ℕ) → i < n → (test i ≡ false) ↔ Holds i) → (k : ℕ)
+    → (first_of n test ≡ Some k) ↔ IsFirstWithout n Holds k
 first_is n test Holds tells k = (
   λ e.
       let is = found test 0 n k e in
@@ -117,7 +118,8 @@ module _ (n rounds t : ℕ) (before : Before) (slot : FileSlot) (rows : AreRows 
   tells_keeps : (i : ℕ) → i < n → (breaks n before.matched before.rows (rows_of slot) i ≡ false) ↔ KeepsRow before slot i
   tells_keeps i below =
       let kept = keeps_rest n (served_of before.matched i) (row_of before.rows i) (row_of (rows_of slot) i) in
-      let tells = Decides-keeps_rest n (served_of before.matched i) (row_of before.rows i) (rows.within i below) (rows.levels i below) (row_of (rows_of slot) i) in
+      let tells = Decides-keeps_rest n (served_of before.matched i) (row_of before.rows i) (rows.within i below) (rows.levels i below)
+      (row_of (rows_of slot) i) in
       (λ e. tells.0 (from_not kept e), λ h. not_from kept (tells.1 h))
 
   tells_fed : (j : ℕ) → j < n → (differs slot.matched decided j ≡ false) ↔ IsFedAsDecided n rounds t before slot j
@@ -126,7 +128,8 @@ module _ (n rounds t : ℕ) (before : Before) (slot : FileSlot) (rows : AreRows 
       let tells = Decides-alike (fed_of slot.matched j) (fed_of decided j) in
       (λ e. tells.0 (from_not alike e), λ h. not_from alike (tells.1 h))
 
-  all_below : (test : ℕ → Bool) (Holds : ℕ → Type 0) (f : ℕ → Reason) → ((i : ℕ) → i < n → (test i ≡ false) ↔ Holds i) → (option_map f (first_of n test) ≡ None) ↔ HoldsBelow n Holds
+  all_below : (test : ℕ → Bool) (Holds : ℕ → Type 0) (f : ℕ → Reason) → ((i : ℕ) → i < n → (test i ≡ false) ↔ Holds i)
+      → (option_map f (first_of n test) ≡ None) ↔ HoldsBelow n Holds
   all_below test Holds f tells = (
     λ e i below. (tells i below).0 ((none_of n test).0 ((none_map f (first_of n test)).0 e) i below),
     λ all. (none_map f (first_of n test)).1 ((none_of n test).1 (λ i below. (tells i below).1 (all i below))),
@@ -153,20 +156,24 @@ module _ (n rounds t : ℕ) (before : Before) (slot : FileSlot) (rows : AreRows 
   by_more : (r : Reason) → before.going ≡ true → more_reason ≡ Some r → FailsBy n rounds t before slot r
   by_more r going e =
       let made = some_map More (first_of n (lacks_more (rows_of slot) (mores_of slot))) r e in
-      subst (FailsBy n rounds t before slot) made.made (going, (first_is n (lacks_more (rows_of slot) (mores_of slot)) (HasMore slot) tells_more made.k).0 made.is)
+      subst (FailsBy n rounds t before slot) made.made
+      (going, (first_is n (lacks_more (rows_of slot) (mores_of slot)) (HasMore slot) tells_more made.k).0 made.is)
 
   by_keeps : (r : Reason) → before.going ≡ true → HoldsBelow n (HasMore slot) → option_or keeps_reason None ≡ Some r → FailsBy n rounds t before slot r
   by_keeps r going more e = elim (some_or keeps_reason None r e) [
     | inl is ↦
         let made = some_map Keeps (first_of n (breaks n before.matched before.rows (rows_of slot))) r is in
-        subst (FailsBy n rounds t before slot) made.made (going, more, (first_is n (breaks n before.matched before.rows (rows_of slot)) (KeepsRow before slot) tells_keeps made.k).0 made.is)
+        subst (FailsBy n rounds t before slot) made.made
+        (going, more, (first_is n (breaks n before.matched before.rows (rows_of slot)) (KeepsRow before slot) tells_keeps made.k).0 made.is)
     | inr nothing ↦ absurd (let never = nothing.some in cc)
   ]
 
-  by_output : (r : Reason) → before.going ≡ true → HoldsBelow n (HasMore slot) → HoldsBelow n (KeepsRow before slot) → output_reason ≡ Some r → FailsBy n rounds t before slot r
+  by_output : (r : Reason) → before.going ≡ true → HoldsBelow n (HasMore slot) → HoldsBelow n (KeepsRow before slot) → output_reason ≡ Some r
+      → FailsBy n rounds t before slot r
   by_output r going more keeps e =
       let made = some_map Output (first_of n (differs slot.matched decided)) r e in
-      subst (FailsBy n rounds t before slot) made.made (going, more, keeps, (first_is n (differs slot.matched decided) (IsFedAsDecided n rounds t before slot) tells_fed made.k).0 made.is)
+      subst (FailsBy n rounds t before slot) made.made
+      (going, more, keeps, (first_is n (differs slot.matched decided) (IsFedAsDecided n rounds t before slot) tells_fed made.k).0 made.is)
 
   by_posts : (r : Reason) → post_failure n before (rows_of slot) (mores_of slot) ≡ Some r → FailsBy n rounds t before slot r
   unfolding post_failure
@@ -180,7 +187,8 @@ module _ (n rounds t : ℕ) (before : Before) (slot : FileSlot) (rows : AreRows 
         ]
   ]
 
-  posts_hold : post_failure n before (rows_of slot) (mores_of slot) ≡ None → (before.going ≡ true) × HoldsBelow n (HasMore slot) × HoldsBelow n (KeepsRow before slot)
+  posts_hold : post_failure n before (rows_of slot) (mores_of slot) ≡ None
+      → (before.going ≡ true) × HoldsBelow n (HasMore slot) × HoldsBelow n (KeepsRow before slot)
   unfolding post_failure
   posts_hold e =
       let first = none_parts end_reason (option_or more_reason (option_or keeps_reason None)) e in
@@ -204,18 +212,23 @@ module _ (n rounds t : ℕ) (before : Before) (slot : FileSlot) (rows : AreRows 
   unfolding failure_in output_failure post_failure
   reason_is AfterEnd ends =
       let is : end_reason ≡ Some AfterEnd = ap (λ (b : Bool). if b then None else Some AfterEnd) ends in
-      or_first (option_or end_reason (option_or more_reason (option_or keeps_reason None))) output_reason AfterEnd (or_first end_reason (option_or more_reason (option_or keeps_reason None)) AfterEnd is)
+      or_first (option_or end_reason (option_or more_reason (option_or keeps_reason None))) output_reason AfterEnd
+      (or_first end_reason (option_or more_reason (option_or keeps_reason None)) AfterEnd is)
   reason_is (More i) fails =
-      let is : more_reason ≡ Some (More i) = ap (option_map More) ((first_is n (lacks_more (rows_of slot) (mores_of slot)) (HasMore slot) tells_more i).1 fails.1) in
+      let is : more_reason ≡ Some (More i) = ap (option_map More)
+      ((first_is n (lacks_more (rows_of slot) (mores_of slot)) (HasMore slot) tells_more i).1 fails.1) in
       or_first (option_or end_reason (option_or more_reason (option_or keeps_reason None))) output_reason (More i)
-      (or_second end_reason (option_or more_reason (option_or keeps_reason None)) (More i) ((going_on n before.going).1 fails.0) (or_first more_reason (option_or keeps_reason None) (More i) is))
+      (or_second end_reason (option_or more_reason (option_or keeps_reason None)) (More i) ((going_on n before.going).1 fails.0)
+      (or_first more_reason (option_or keeps_reason None) (More i) is))
   reason_is (Keeps i) fails =
-      let is : keeps_reason ≡ Some (Keeps i) = ap (option_map Keeps) ((first_is n (breaks n before.matched before.rows (rows_of slot)) (KeepsRow before slot) tells_keeps i).1 fails.2) in
+      let is : keeps_reason ≡ Some (Keeps i) = ap (option_map Keeps)
+      ((first_is n (breaks n before.matched before.rows (rows_of slot)) (KeepsRow before slot) tells_keeps i).1 fails.2) in
       or_first (option_or end_reason (option_or more_reason (option_or keeps_reason None))) output_reason (Keeps i)
       (or_second end_reason (option_or more_reason (option_or keeps_reason None)) (Keeps i) ((going_on n before.going).1 fails.0)
       (or_second more_reason (option_or keeps_reason None) (Keeps i) (more_none.1 fails.1) (or_first keeps_reason None (Keeps i) is)))
   reason_is (Output j) fails =
-      let is : output_reason ≡ Some (Output j) = ap (option_map Output) ((first_is n (differs slot.matched decided) (IsFedAsDecided n rounds t before slot) tells_fed j).1 fails.3) in
+      let is : output_reason ≡ Some (Output j) = ap (option_map Output)
+      ((first_is n (differs slot.matched decided) (IsFedAsDecided n rounds t before slot) tells_fed j).1 fails.3) in
       or_second (option_or end_reason (option_or more_reason (option_or keeps_reason None))) output_reason (Output j)
       (both_none end_reason (option_or more_reason (option_or keeps_reason None)) ((going_on n before.going).1 fails.0)
       (both_none more_reason (option_or keeps_reason None) (more_none.1 fails.1) (both_none keeps_reason None (keeps_none.1 fails.2) refl))) is where
@@ -227,14 +240,16 @@ module _ (n rounds t : ℕ) (before : Before) (slot : FileSlot) (rows : AreRows 
 abbrev pub failure : ℕ → Reason → Failure
 failure at reason = record { slot = at; reason = reason }
 
-end_is : (b : Bool) (t at : ℕ) (r : Reason) → ((if b then Some (failure (t - 1) NoEnd) else None) ≡ Some (failure at r)) ↔ ((b ≡ true) × (at ≡ t - 1) × (r ≡ NoEnd))
+end_is : (b : Bool) (t at : ℕ) (r : Reason)
+    → ((if b then Some (failure (t - 1) NoEnd) else None) ≡ Some (failure at r)) ↔ ((b ≡ true) × (at ≡ t - 1) × (r ≡ NoEnd))
 end_is true t at r = (
   λ e. let same : failure (t - 1) NoEnd ≡ failure at r = cc in (refl, sym (ap (λ (f : Failure). f.slot) same), sym (ap (λ (f : Failure). f.reason) same)),
   λ p. ap (λ k. Some (failure k NoEnd)) (sym p.1) ∙ ap (λ q. Some (failure at q)) (sym p.2),
 )
 end_is false t at r = (λ e. absurd (cc), λ p. absurd (let never = p.0 in cc))
 
-module _ (n rounds t : ℕ) (before : Before) (slot : FileSlot) (slots : List FileSlot) (good : IsGood n before) (file : IsFileSlot n slot) (at : ℕ) (r : Reason) where
+module _ (n rounds t : ℕ) (before : Before) (slot : FileSlot) (slots : List FileSlot) (good : IsGood n before) (file : IsFileSlot n slot) (at : ℕ)
+    (r : Reason) where
   abbrev later : Option Failure
   later = failure_from n rounds (t + 1) (after_slot n rounds t before slot) slots
 
@@ -265,15 +280,18 @@ module _ (n rounds t : ℕ) (before : Before) (slot : FileSlot) (slots : List Fi
   )
 
 module _ (n rounds : ℕ) where
-  pub fails_from : (t : ℕ) (before : Before) (slots : List FileSlot) → IsGood n before → All (IsFileSlot n) slots → (at : ℕ) (r : Reason) → (failure_from n rounds t before slots ≡ Some (failure at r)) ↔ FailsFirst n rounds t before slots at r
+  pub fails_from : (t : ℕ) (before : Before) (slots : List FileSlot) → IsGood n before → All (IsFileSlot n) slots → (at : ℕ) (r : Reason)
+      → (failure_from n rounds t before slots ≡ Some (failure at r)) ↔ FailsFirst n rounds t before slots at r
   fails_from t before [] good each at r = end_is before.going t at r
   fails_from t before (slot ∷ slots) good each at r =
       let file : IsFileSlot n slot = each 0 slot (omega arith) in
       let rest : All (IsFileSlot n) slots = λ k d below. each (suc k) d (omega arith) in
       let sound = sound_slot n rounds t before slot good file in
-      by_reason n rounds t before slot slots good file at r (failure_in n rounds t before slot) refl (no_failure n rounds t before slot good.rows file.outputs sound.matches.count)
+      by_reason n rounds t before slot slots good file at r (failure_in n rounds t before slot) refl
+      (no_failure n rounds t before slot good.rows file.outputs sound.matches.count)
       (λ follows. fails_from (t + 1) (after_slot n rounds t before slot) slots (good_after n rounds t before slot good file follows.decided) rest at r)
 
 pub file_fails : (file : JournalFile) → IsFile file → (at : ℕ) (r : Reason) → (first_failure file ≡ Some (failure at r)) ↔ IsFirstFailure file at r
 unfolding first_failure IsFirstFailure
-file_fails file good at r = fails_from file.ports file.rounds 0 (at_first file.ports) file.slots (good_at_first file.ports good.ports_some good.ports_few) good.slots at r
+file_fails file good at r =
+    fails_from file.ports file.rounds 0 (at_first file.ports) file.slots (good_at_first file.ports good.ports_some good.ports_few) good.slots at r

@@ -117,7 +117,8 @@ module _ (n : ℕ) where
   going_on true = (λ e. refl, λ e. refl)
   going_on false = (λ e. absurd (cc), λ e. absurd (cc))
 
-  pub lacks_none : (rows : List Row) (more : List Bool) (i : ℕ) → (lacks_more rows more i ≡ false) ↔ (IsEmptyRow (row_of rows i) ⊎ (slice_index_or more i false ≡ true))
+  pub lacks_none : (rows : List Row) (more : List Bool) (i : ℕ)
+      → (lacks_more rows more i ≡ false) ↔ (IsEmptyRow (row_of rows i) ⊎ (slice_index_or more i false ≡ true))
   lacks_none rows more i =
       let tells = Decides-is_empty (row_of rows i) in
       let m = slice_index_or more i false in

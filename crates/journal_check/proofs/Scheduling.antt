@@ -1,9 +1,11 @@
 -- The slots of lawful files are schedules of rows that are kept.
-use Rattle.std.proofs.Common.{◌≡◌, ℕ, suc, ◌+◌, ◌*◌, ◌<◌, ◌≤◌, ◌==◌, ◌∙◌, false, List, [], ◌∷◌, length, map, take, drop, All, Any, Option, refl, sym, ap, subst, inl, inr, arith}
+use Rattle.std.proofs.Common.{◌≡◌, ℕ, zero, suc, ◌+◌, ◌-◌, ◌*◌, ◌/◌, ◌<◌, ◌≤◌, ◌==◌, ◌∙◌, false, List, [], ◌∷◌, length, map, take, drop, All, Any, Option, refl, sym, ap, subst, inl, inr, arith}
 use Rattle.std.proofs.lemmas.Bool.{cases_eq, cases_Bool, cond-true, cond-false, eq-eqb}
 use Rattle.std.proofs.lemmas.Bool.Decides.{Decides-eqb}
-use Rattle.std.proofs.lemmas.List.Elements.{All-cons}
-use Rattle.rotating_pick.specs.declared.kinds.Kind.TheVariants.{Uni}
+use Rattle.std.proofs.lemmas.List.Elements.{All-cons, All-head, All-take, All-drop}
+use Rattle.std.proofs.Math.Nat.{mul-le-mul_left}
+use Rattle.rotating_pick.specs.declared.kinds.Kind.{Kind}
+use Rattle.rotating_pick.specs.declared.kinds.Kind.TheVariants.{Uni, Multi}
 use Rattle.rotating_pick.specs.declared.limits.TheConstants.{LEVELS}
 use Rattle.slot_match.specs.declared.matching.Fed.{Fed}
 use Rattle.slot_match.specs.Rows.{Names, row_of, HasHead, AreWithin}
@@ -86,6 +88,21 @@ served_by n rounds t level i j places slots some below window alone named long =
       not_equal : (x : ℕ) → (x ≡ 1 → ⊥) → (x == 1) ≡ false
       not_equal x apart = elim (cases_Bool (x == 1)) [ inl e ↦ absurd (apart ((Decides-eqb x 1).0 e)) | inr e ↦ e ]
 
+-- a bound is some slots
+half_some : (n x : ℕ) → 0 < n → 2 ≤ x → 0 < n * x / 2
+half_some n x some two = let scaled : n * 2 ≤ n * x = mul-le-mul_left n two in omega (arith, scaled)
+
+one_some : (n : ℕ) → 0 < n → 0 < longest_service_in_one_round n
+one_some zero some = absurd (omega arith)
+one_some (suc m) some = omega arith
+
+longest_some : (n rounds : ℕ) → 0 < n → 0 < longest_service_by n rounds
+longest_some n rounds some = elim (cases_Bool (rounds == 1)) [
+  | inl one ↦ subst (λ k. 0 < k) (sym (cond-true (rounds == 1) (longest_service_in_one_round n) (longest_service n) one)) (one_some n some)
+  | inr more ↦ subst (λ k. 0 < k) (sym (cond-false (rounds == 1) (longest_service_in_one_round n) (longest_service n) more))
+      (half_some n (n * n - n + 2) some (omega arith))
+]
+
 module _ (file : JournalFile) (good : IsFile file) (lawful : IsLawful file) where
   pub file_schedule : IsSchedule file.ports file.rounds 0 (places_at_first file.ports) (decided_slots file)
   unfolding IsLawful decided_slots at_first
@@ -103,14 +120,39 @@ module _ (file : JournalFile) (good : IsFile file) (lawful : IsLawful file) wher
   window level first count level_in clean =
       part_is_window file.ports file.rounds 0 level first count (places_at_first file.ports) (decided_slots file) good.ports_some (pointing_at_first file.ports level good.ports_some good.ports_few level_in) file_schedule file_all_within file_kept clean
 
-  pub unicast_in_time : (level first count i j : ℕ) → level < LEVELS → i < file.ports → All (λ slot. IsClean file.ports level slot.rows) (take count (drop first (decided_slots file)))
+  -- what the rows of some slots name is of a level of the switch
+  first_in : (P : DecidedSlot → Type 0) (first count : ℕ) → All P (decided_slots file) → All P (take count (drop first (decided_slots file)))
+  first_in P first count all = All-take P count (drop first (decided_slots file)) (All-drop P first (decided_slots file) all)
+
+  level_named : (level i j : ℕ) (kind : Kind) (part : List DecidedSlot) → i < file.ports
+      → All (λ (slot : DecidedSlot). AreWithin file.ports slot.rows) part → 0 < length part
+      → InFirst (λ rows. Names (row_of rows i) level kind j) part → level < LEVELS
+  level_named level i j kind [] below within some named = absurd (omega arith)
+  level_named level i j kind (slot ∷ part) below within some named =
+      (All-head (λ (slot : DecidedSlot). AreWithin file.ports slot.rows) slot part within).levels i below level j kind named
+
+  level_of_head : (level i : ℕ) (part : List DecidedSlot) → i < file.ports → All (λ (slot : DecidedSlot). AreWithin file.ports slot.rows) part
+      → 0 < length part → InFirst (λ rows. HasHead rows level i) part → level < LEVELS
+  level_of_head level i [] below within some head = absurd (omega arith)
+  level_of_head level i (slot ∷ part) below within some head =
+      (All-head (λ (slot : DecidedSlot). AreWithin file.ports slot.rows) slot part within).levels i below level head.0 Multi head.1
+
+  pub unicast_in_time : (level first count i j : ℕ) → i < file.ports
+      → All (λ slot. IsClean file.ports level slot.rows) (take count (drop first (decided_slots file)))
       → All (λ slot. IsWithoutMulticast file.ports level slot.rows) (take count (drop first (decided_slots file))) → InFirst (λ rows. Names (row_of rows i) level Uni j) (take count (drop first (decided_slots file)))
       → longest_service_by file.ports file.rounds ≤ length (take count (drop first (decided_slots file))) → Any (λ slot. Serves slot.decision.matched i j level Uni) (take count (drop first (decided_slots file)))
-  unicast_in_time level first count i j level_in below clean alone named long =
+  unicast_in_time level first count i j below clean alone named long =
+      let some = longest_some file.ports file.rounds good.ports_some in
+      let level_in = level_named level i j Uni (take count (drop first (decided_slots file))) below
+      (first_in (λ (slot : DecidedSlot). AreWithin file.ports slot.rows) first count file_all_within) (omega (arith, some, long)) named in
       served_by file.ports file.rounds (0 + first) level i j (places_after (places_at_first file.ports) (take first (decided_slots file))) (take count (drop first (decided_slots file))) good.rounds_some below (window level first count level_in clean) alone named long
 
-  pub multicast_in_time : (level first count i : ℕ) → level < LEVELS → i < file.ports → All (λ slot. IsClean file.ports level slot.rows) (take count (drop first (decided_slots file)))
+  pub multicast_in_time : (level first count i : ℕ) → i < file.ports
+      → All (λ slot. IsClean file.ports level slot.rows) (take count (drop first (decided_slots file)))
       → InFirst (λ rows. HasHead rows level i) (take count (drop first (decided_slots file))) → 2 * file.ports ≤ length (take count (drop first (decided_slots file)))
       → Any (λ slot. HasHead slot.rows level i × Completes slot.rows slot.decision.matched level i) (take count (drop first (decided_slots file)))
-  multicast_in_time level first count i level_in below clean head long =
+  multicast_in_time level first count i below clean head long =
+      let some = good.ports_some in
+      let level_in = level_of_head level i (take count (drop first (decided_slots file))) below
+      (first_in (λ (slot : DecidedSlot). AreWithin file.ports slot.rows) first count file_all_within) (omega (arith, some, long)) head in
       completes_in_time file.ports file.rounds (0 + first) level i (places_after (places_at_first file.ports) (take first (decided_slots file))) (take count (drop first (decided_slots file))) good.rounds_some below (window level first count level_in clean) head long

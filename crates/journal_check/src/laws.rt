@@ -1,8 +1,7 @@
-//! Laws of journal files, as the contracts of functions that do nothing.
+//! Laws of journal files, as the contracts of functions that do nothing, but for one that goes over a journal.
 
 ghost use Rattle.std.specs.Prelude.{◌≡◌, ℕ, ◌+◌, ◌*◌, ◌<◌, ◌≤◌, ◌↔◌, Ok, None, List, All, Any, length, take, drop, map};
 ghost use Rattle.rotating_pick.specs.declared.kinds.Kind.TheVariants.{Uni};
-ghost use Rattle.rotating_pick.specs.declared.limits.TheConstants.{LEVELS};
 ghost use Rattle.slot_match.specs.Rows.{Names, row_of, HasHead, AreWithin};
 ghost use Rattle.slot_match.specs.Matches.{Serves, Completes};
 ghost use Rattle.pointer_state.specs.Places.{places_at_first};
@@ -21,6 +20,9 @@ ghost use Rattle.journal_check.specs.declared.verdict.Verdict.TheVariants.{Yes, 
 ghost use Rattle.journal_check.specs.Verdicts.{yes_on, answer_to};
 ghost use Rattle.journal_check.specs.Failures.{AreLawful, AreNotLawful};
 
+use crate::writing::journal_len;
+use board_state::Journal;
+
 /// What is spelled of a file is read again: just that file. What is read is what a file can tell, and bytes
 /// are read as no file but the one that they spell, so no file has a second spelling.
 pub fn files_are_their_texts()
@@ -38,8 +40,10 @@ pub fn files_without_failure_are_lawful()
 /// slots and the longest waits of its schedule; and no where they are those of a file of which this slot is the first
 /// that may not follow what is before it, for this reason, which is the first that there is.
 pub fn answers_are_exact()
-    ensures yes { (bytes : List ℕ) (slots : ℕ) (longest : List ℕ) → All (λ b. b < 256) bytes → (answer_to bytes ≡ Ok (Yes slots longest)) ↔ AreLawful bytes slots longest }
-    ensures no { (bytes : List ℕ) (slot : ℕ) (reason : Reason) → All (λ b. b < 256) bytes → (answer_to bytes ≡ Ok (No slot reason)) ↔ AreNotLawful bytes slot reason }
+    ensures yes { (bytes : List ℕ) (slots : ℕ) (longest : List ℕ) → All (λ b. b < 256) bytes
+        → (answer_to bytes ≡ Ok (Yes slots longest)) ↔ AreLawful bytes slots longest }
+    ensures no { (bytes : List ℕ) (slot : ℕ) (reason : Reason) → All (λ b. b < 256) bytes
+        → (answer_to bytes ≡ Ok (No slot reason)) ↔ AreNotLawful bytes slot reason }
 {}
 
 /// The slots of a lawful file are a schedule from slot 0 and all pointers at port 0 on, of rows that name
@@ -56,13 +60,13 @@ pub fn lawful_files_are_schedules()
 /// `longest_service` slots, where there is no multicast of its level, and a multicast head that is
 /// posted in the first completes in one of the first `2 * n`.
 pub fn lawful_files_keep_the_bounds()
-    ensures unicast { (file : JournalFile) (level first count i j : ℕ) → IsFile file → IsLawful file → level < LEVELS → i < file.ports
+    ensures unicast { (file : JournalFile) (level first count i j : ℕ) → IsFile file → IsLawful file → i < file.ports
         → All (λ slot. IsClean file.ports level slot.rows) (take count (drop first (decided_slots file)))
         → All (λ slot. IsWithoutMulticast file.ports level slot.rows) (take count (drop first (decided_slots file)))
         → InFirst (λ rows. Names (row_of rows i) level Uni j) (take count (drop first (decided_slots file)))
         → longest_service_by file.ports file.rounds ≤ length (take count (drop first (decided_slots file)))
         → Any (λ slot. Serves slot.decision.matched i j level Uni) (take count (drop first (decided_slots file))) }
-    ensures multicast { (file : JournalFile) (level first count i : ℕ) → IsFile file → IsLawful file → level < LEVELS → i < file.ports
+    ensures multicast { (file : JournalFile) (level first count i : ℕ) → IsFile file → IsLawful file → i < file.ports
         → All (λ slot. IsClean file.ports level slot.rows) (take count (drop first (decided_slots file)))
         → InFirst (λ rows. HasHead rows level i) (take count (drop first (decided_slots file)))
         → 2 * file.ports ≤ length (take count (drop first (decided_slots file)))
@@ -77,3 +81,13 @@ pub fn journals_are_lawful()
     ensures answer { (s : Setup) (events : List Event) → IsSetup s → IsLegal s events → IsFinished (record { setup = s; events = events })
         → HaveLevels (file_of (board_journal (record { setup = s; events = events }))) → answer_to (file_text (file_of (board_journal (record { setup = s; events = events })))) ≡ Ok (yes_on (file_of (board_journal (record { setup = s; events = events })))) }
 {}
+
+/// The same of a journal that a board has handed out, of which the rows need not be told to have all levels: its bytes
+/// are answered yes. It goes over the slots once, and takes no memory.
+pub fn finished_journals_are_lawful(journal: &Journal)
+    ensures { (s : Setup) (events : List Event) → IsSetup s → IsLegal s events → IsFinished (record { setup = s; events = events })
+        → journal.now ≡ board_journal (record { setup = s; events = events })
+        → answer_to (file_text (file_of journal.now)) ≡ Ok (yes_on (file_of journal.now)) }
+{
+    let _len = journal_len(journal);
+}

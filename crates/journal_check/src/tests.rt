@@ -1,3 +1,4 @@
+use crate::laws::finished_journals_are_lawful;
 use crate::{JournalFault, Reason, Verdict, check_journal, journal_bytes, journal_len};
 use board_state::BoardState;
 use crossbar::Post;
@@ -143,6 +144,7 @@ fn journal_is_written(rt: HostRuntime) -> Result<(), Fail> {
     }
     let journal = board.journal();
     assert!(rt; journal.slots() > 0);
+    finished_journals_are_lawful(&journal);
     let len = journal_len(&journal);
     assert!(rt; len == 20);
     let bytes = journal_bytes(rt.alloc(), &journal)?;

@@ -26,19 +26,22 @@ none_left [] none = tt
 none_left (x ∷ xs) none = absurd (omega arith)
 
 -- what remains of the first count's rises is behind those that wait for the second's
-module _ (a : ℕ) (xs ys : List ℕ) (now next now' next' : ℕ) (on : (waits : List ℕ) → AreBelow (a + 1) waits → length waits + next' ≡ next → AreNoEarlier (waits ++ xs) ys) where
+module _ (a : ℕ) (xs ys : List ℕ) (now next now' next' : ℕ)
+    (on : (waits : List ℕ) → AreBelow (a + 1) waits → length waits + next' ≡ next → AreNoEarlier (waits ++ xs) ys) where
   pushed : (waits : List ℕ) → AreBelow a waits → length waits + 1 + next' ≡ next → AreNoEarlier (waits ++ a ∷ xs) ys
   pushed waits below count =
       let long = length_push waits a in
       subst (λ zs. AreNoEarlier zs ys) (append_assoc waits (a ∷ []) xs) (on (waits ++ a ∷ []) (below_push a waits below) (omega (arith, long, count)))
 
-  one_slot : (p q : Bool) (waits : List ℕ) → AreBelow a waits → length waits + now' ≡ now → next ≡ now + (if p then 1 else 0) → next' ≡ now' + (if q then 1 else 0) → next' ≤ next
+  one_slot : (p q : Bool) (waits : List ℕ) → AreBelow a waits → length waits + now' ≡ now → next ≡ now + (if p then 1 else 0)
+      → next' ≡ now' + (if q then 1 else 0) → next' ≤ next
       → AreNoEarlier (waits ++ (if p then a ∷ xs else xs)) (if q then a ∷ ys else ys)
   one_slot true true [] below count rise rise' behind = (omega arith, on [] tt (omega (arith, count, rise, rise')))
   one_slot true true (x ∷ waits) below count rise rise' behind = (omega (arith, below.0), pushed waits below.1 (omega (arith, count, rise, rise')))
   one_slot true false waits below count rise rise' behind = pushed waits below (omega (arith, count, rise, rise'))
   one_slot false true [] below count rise rise' behind = absurd (omega (arith, count, rise, rise', behind))
-  one_slot false true (x ∷ waits) below count rise rise' behind = (omega (arith, below.0), on waits (below_more a waits below.1) (omega (arith, count, rise, rise')))
+  one_slot false true (x ∷ waits) below count rise rise' behind =
+      (omega (arith, below.0), on waits (below_more a waits below.1) (omega (arith, count, rise, rise')))
   one_slot false false waits below count rise rise' behind = on waits (below_more a waits below) (omega (arith, count, rise, rise'))
 
 -- a count rises by one or stays
@@ -51,16 +54,19 @@ rise_is f up one a =
     let low = up a in
     let high = one a in
     elim (cases_lt (f a) (f (suc a))) [
-      | inl less ↦ let risen : step_of (nat_lt (f a) (f (suc a))) ≡ 1 = ap step_of (lt-ltb (f a) (f (suc a)) less) in omega (arith, same, low, high, less, risen)
+      | inl less ↦ let risen : step_of (nat_lt (f a) (f (suc a))) ≡ 1 = ap step_of (lt-ltb (f a) (f (suc a)) less) in omega
+          (arith, same, low, high, less, risen)
       | inr le ↦ let still : step_of (nat_lt (f a) (f (suc a))) ≡ 0 = ap step_of (le-ltb (f a) (f (suc a)) le) in omega (arith, same, low, high, le, still)
     ]
 
-module _ (first second : ℕ → ℕ) (up : (t : ℕ) → first t ≤ first (suc t)) (up' : (t : ℕ) → second t ≤ second (suc t)) (one : (t : ℕ) → first (suc t) ≤ first t + 1) (one' : (t : ℕ) → second (suc t) ≤ second t + 1) where
+module _ (first second : ℕ → ℕ) (up : (t : ℕ) → first t ≤ first (suc t)) (up' : (t : ℕ) → second t ≤ second (suc t))
+    (one : (t : ℕ) → first (suc t) ≤ first t + 1) (one' : (t : ℕ) → second (suc t) ≤ second t + 1) where
   -- the slots from a on in which a count rose
   abbrev rises_from : (ℕ → ℕ) → ℕ → ℕ → List ℕ
   rises_from f a n = filter (λ u. nat_lt (f u) (f (suc u))) (range_with_len a n)
 
-  from_slot : (n a : ℕ) (waits : List ℕ) → AreBelow a waits → length waits + second a ≡ first a → ((t : ℕ) → a ≤ t → t ≤ a + n → second t ≤ first t) → first (a + n) ≡ second (a + n) → AreNoEarlier (waits ++ rises_from first a n) (rises_from second a n)
+  from_slot : (n a : ℕ) (waits : List ℕ) → AreBelow a waits → length waits + second a ≡ first a → ((t : ℕ) → a ≤ t → t ≤ a + n → second t ≤ first t)
+      → first (a + n) ≡ second (a + n) → AreNoEarlier (waits ++ rises_from first a n) (rises_from second a n)
   from_slot zero a waits below count behind same =
       let end : a + 0 ≡ a = omega arith in
       let f = ap first end in
@@ -69,10 +75,13 @@ module _ (first second : ℕ → ℕ) (up : (t : ℕ) → first t ≤ first (suc
   from_slot (suc n) a waits below count behind same =
       let end : a + 1 + n ≡ a + suc n = omega arith in
       one_slot a (rises_from first (a + 1) n) (rises_from second (a + 1) n) (first a) (first (a + 1)) (second a) (second (a + 1))
-      (λ more lower counted. from_slot n (a + 1) more lower counted (λ t from to. behind t (omega (arith, from)) (omega (arith, to))) (ap first end ∙ same ∙ sym (ap second end)))
-      (nat_lt (first a) (first (suc a))) (nat_lt (second a) (second (suc a))) waits below count (rise_is first up one a) (rise_is second up' one' a) (behind (a + 1) (omega arith) (omega arith))
+      (λ more lower counted. from_slot n (a + 1) more lower counted (λ t from to. behind t (omega (arith, from)) (omega (arith, to)))
+      (ap first end ∙ same ∙ sym (ap second end)))
+      (nat_lt (first a) (first (suc a))) (nat_lt (second a) (second (suc a))) waits below count (rise_is first up one a) (rise_is second up' one' a)
+      (behind (a + 1) (omega arith) (omega arith))
 
-  pub no_earlier : (n : ℕ) → first 0 ≡ 0 → second 0 ≡ 0 → ((t : ℕ) → t ≤ n → second t ≤ first t) → first n ≡ second n → AreNoEarlier (rises_from first 0 n) (rises_from second 0 n)
+  pub no_earlier : (n : ℕ) → first 0 ≡ 0 → second 0 ≡ 0 → ((t : ℕ) → t ≤ n → second t ≤ first t) → first n ≡ second n
+      → AreNoEarlier (rises_from first 0 n) (rises_from second 0 n)
   no_earlier n start start' behind same =
       let end : 0 + n ≡ n = omega arith in
       from_slot n 0 [] tt (omega (arith, start, start')) (λ t from to. behind t (omega (arith, to))) (ap first end ∙ same ∙ sym (ap second end))

@@ -1,5 +1,5 @@
 -- Every packet of a run is counted once.
-use Rattle.std.proofs.Common.{◌≡◌, ◌∙◌, ℕ, ◌+◌, ◌≤◌, ◌<◌, ◌==◌, ◌&&◌, not, nat_lt, Bool, true, false, List, [], ◌∷◌, All, map, length, sum_by, count_by, if◌then◌else◌, refl, ap, arith}
+use Rattle.std.proofs.Common.{◌≡◌, ◌∙◌, ℕ, ◌+◌, ◌<◌, ◌==◌, ◌&&◌, not, nat_lt, Bool, true, false, List, [], ◌∷◌, All, map, length, sum_by, count_by, if◌then◌else◌, refl, ap, arith}
 use Rattle.std.specs.List.{range_with_len}
 use Rattle.std.proofs.lemmas.Bool.{lt-ltb}
 use Rattle.std.proofs.lemmas.List.{length-map}
@@ -32,7 +32,8 @@ one_of_two false aside is = absurd (cc)
 
 module _ (t : ℕ) where
   -- each packet of a port that arrives in time goes somewhere or nowhere
-  port_counted : (packets : List Planned) → All (λ packet. packet.arrival < t) packets → count_by (λ packet. nat_lt packet.arrival t && is_routed packet) packets + count_by is_aside packets ≡ length packets
+  port_counted : (packets : List Planned) → All (λ packet. packet.arrival < t) packets
+      → count_by (λ packet. nat_lt packet.arrival t && is_routed packet) packets + count_by is_aside packets ≡ length packets
   port_counted [] all = refl
   port_counted (p ∷ ps) all =
       let early : p.arrival < t = All-head (λ (packet : Planned). packet.arrival < t) p ps all in
@@ -45,7 +46,8 @@ module _ (t : ℕ) where
 -- ---- sums over all ports
 module _ (plan : SwitchPlan) (good : IsGood plan) where
   packets-are : packets_in plan ≡ map (λ i. (card_at plan i).packets) (range_with_len 0 (ports_of plan))
-  packets-are = fill_by_all (λ i. (card_at plan i).packets) (packets_in plan) (ports_of plan) [] (length-map plan.cards (λ (card : CardPlan). card.packets)) (λ i inside. packets-at plan good i inside)
+  packets-are = fill_by_all (λ i. (card_at plan i).packets) (packets_in plan) (ports_of plan) []
+      (length-map plan.cards (λ (card : CardPlan). card.packets)) (λ i inside. packets-at plan good i inside)
 
   sum_of_ports : (f : List Planned → ℕ) → sum_by f (packets_in plan) ≡ over_ports plan (λ i. f (card_at plan i).packets)
   sum_of_ports f = ap (sum_by f) packets-are ∙ sum_by-map f (λ i. (card_at plan i).packets) (range_with_len 0 (ports_of plan))
@@ -70,8 +72,10 @@ module _ (scheduler : Scheduler) (plan : SwitchPlan) (slots : ℕ) (good : IsGoo
   unfolding summary_under
   counted-once =
       let ports = range_with_len 0 (ports_of plan) in
-      let most = sum_range-le (λ i. counted_at i + aside_at i) all_at 0 (ports_of plan) (λ i from below. let is = port_is i (omega arith) in omega (arith, is)) in
-      let least = sum_range-le all_at (λ i. counted_at i + aside_at i) 0 (ports_of plan) (λ i from below. let is = port_is i (omega arith) in omega (arith, is)) in
+      let most = sum_range-le (λ i. counted_at i + aside_at i) all_at 0 (ports_of plan)
+      (λ i from below. let is = port_is i (omega arith) in omega (arith, is)) in
+      let least = sum_range-le all_at (λ i. counted_at i + aside_at i) 0 (ports_of plan)
+      (λ i from below. let is = port_is i (omega arith) in omega (arith, is)) in
       let split = sum_add counted_at aside_at ports in
       let parts = sum_add (admitted_count scheduler plan slots) (dropped_count scheduler plan slots) ports in
       let packets = sum_of_ports plan good length in

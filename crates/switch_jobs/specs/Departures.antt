@@ -56,7 +56,8 @@ pub record AreDepartures (scheduler : Scheduler) (plan : SwitchPlan) (slots j : 
   pub messages : map (λ departure. departure.message) departures ≡ messages_under scheduler plan j slots
   pub order : map (λ departure. departure.slot) departures ≡ last_slots scheduler plan j slots
   pub endings : All (IsEnding scheduler plan j) departures
-  pub flows : (i level : ℕ) (kind : Kind) → i < ports_of plan → level < LEVELS → messages_in i level kind departures ≡ map (message_of (card_at plan i)) (admitted_under scheduler plan j i level kind slots)
+  pub flows : (i level : ℕ) (kind : Kind) → i < ports_of plan → level < LEVELS
+      → messages_in i level kind departures ≡ map (message_of (card_at plan i)) (admitted_under scheduler plan j i level kind slots)
   pub no_others : All (λ departure. (departure.input < ports_of plan) × (departure.level < LEVELS)) departures
 
 -- The messages of each output's capture are those of its flows, in the order of the slots in which their last cells cross.

@@ -54,14 +54,12 @@ pub fn run_ready<R: Threads + Sync, G: Gate + Sync>(rt: &R, ready: Ready, gate: 
     run_ready_with(rt, ready, gate, PATIENCE)
 }
 
-/// Makes all slots of the run. Its workers drive their cards, each on a thread of its own, in rounds until in
-/// one of them no card posts or takes. In a round a worker makes tries until none of its cards is due, or
-/// after `patience` passes in a row without a post or a take. Then the board is closed, and what is left is
-/// made on this thread. There are no more workers than processors, but two where two are asked for. The gate is
-/// called before each try of a worker. It takes no memory.
+/// Makes all slots of the run: workers drive their cards, each on a thread of its own, then the board is closed, and
+/// what is left is made on this thread. How the slots are shared between the two is not promised, but that each card
+/// that was due when the board was closed had been refused at least `patience` times. There are no more workers than
+/// processors, but two where two are asked for. The gate is called before each try of a worker. It takes no memory.
 ///
-/// Each card that was due when the board was closed had been refused at least `patience` times. Queues are served,
-/// and multicast heads complete, as soon as [`run_job`] says.
+/// Queues are served, and multicast heads complete, as soon as [`run_job`] says.
 pub fn run_ready_with<R: Threads + Sync, G: Gate + Sync>(
     rt: &R,
     ready: Ready,

@@ -1,5 +1,5 @@
 -- In the slot that ends a run no packet is to arrive any more.
-use Rattle.std.proofs.Common.{◌≡◌, ◌∙◌, ℕ, ◌<◌, not, nat_lt, Bool, true, false, slice_index_or, sym, arith, inl, inr}
+use Rattle.std.proofs.Common.{◌≡◌, ◌∙◌, ℕ, not, nat_lt, Bool, true, false, slice_index_or, sym, arith, inl, inr}
 use Rattle.std.specs.List.{list_any}
 use Rattle.std.proofs.lemmas.Bool.{cases_lt, lt-ltb, or_parts}
 use Rattle.std.proofs.lemmas.List.Folds.{list_any_at}
@@ -8,7 +8,7 @@ use Rattle.slot_histories.specs.Tests.{is_empty}
 use Rattle.card_core.specs.declared.plan.Planned.{Planned}
 use Rattle.card_core.specs.Posts.{row_at}
 use Rattle.switch_plan.specs.GoodPlans.{SwitchPlan}
-use Rattle.whole_run.specs.Runs.{ports_of, card_at, parts_under}
+use Rattle.whole_run.specs.Runs.{card_at, parts_under}
 use Rattle.whole_run.specs.Ends.{IsLengthUnder}
 use Rattle.whole_run.specs.Promises.{ArrivalsComeFirst}
 use Rattle.whole_run.proofs.Emptied.{last_more}

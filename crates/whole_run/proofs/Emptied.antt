@@ -96,7 +96,8 @@ module _ (scheduler : Scheduler) (plan : SwitchPlan) where
       let both : true ≡ false = sym done ∙ all in
       absurd (cc)
 
-  pub last_more : (i t : ℕ) → i < ports_of plan → is_done_at (ports_of plan) (posts_under scheduler plan) t ≡ true → (posts_under scheduler plan i t).more ≡ false
+  pub last_more : (i t : ℕ) → i < ports_of plan → is_done_at (ports_of plan) (posts_under scheduler plan) t ≡ true
+      → (posts_under scheduler plan i t).more ≡ false
   last_more i t inside done = lacks (posts_under scheduler plan i t).more (no_more i t inside done)
 
 module _ (scheduler : Scheduler) (scheduling : IsScheduler scheduler) (plan : SwitchPlan) (good : IsGood plan) where

@@ -49,7 +49,8 @@ bound_of plan = longest_service_at_line_rate (ports_of plan) plan.rounds
 -- that is posted in the first is served in one of them.
 abbrev pub ServesUnder : Scheduler → SwitchPlan → ℕ → ℕ → Type 0
 ServesUnder scheduler plan slots bound = (first level i j : ℕ) → level < LEVELS → i < ports_of plan → first + bound ≤ slots
-    → All (λ slot. IsClean (ports_of plan) level slot.rows × IsWithoutMulticast (ports_of plan) level slot.rows) (take bound (drop first (schedule_under scheduler plan slots)))
+    → All (λ slot. IsClean (ports_of plan) level slot.rows × IsWithoutMulticast (ports_of plan) level slot.rows)
+    (take bound (drop first (schedule_under scheduler plan slots)))
     → Names (posts_under scheduler plan i first).row level Uni j
     → Any (λ slot. Serves slot.decision.matched i j level Uni) (take bound (drop first (schedule_under scheduler plan slots)))
 

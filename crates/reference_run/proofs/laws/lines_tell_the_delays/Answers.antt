@@ -15,7 +15,8 @@ pub returns-clause-ends : goal.returns-clause-ends
 unfolding line_of
 returns-clause-ends c plan slots good end j inside =
     let ms = run_matches plan slots in
-    ends_first (ideal plan.cards ms j) (ran ms j) (length ms) (given-up (comes plan.cards ms j)) (ran-up ms j) (ran-behind plan.cards ms (run-cards plan good) (run-served plan good slots) j)
+    ends_first (ideal plan.cards ms j) (ran ms j) (length ms) (given-up (comes plan.cards ms j)) (ran-up ms j)
+    (ran-behind plan.cards ms (run-cards plan good) (run-served plan good slots) j)
     (sym (ran-ideal plan.cards ms (run-cards plan good) (run-served plan good slots) j (run-emptied plan good slots end) inside))
 
 pub returns-clause-delays : goal.returns-clause-delays
@@ -27,11 +28,14 @@ returns-clause-delays c plan slots good end j inside =
     let up = given-up (comes plan.cards ms j) in
     let one = given-one (comes plan.cards ms j) in
     let behind = ran-behind plan.cards ms (run-cards plan good) (run-served plan good slots) j in
-    let same : first (length ms) ≡ second (length ms) = sym (ran-ideal plan.cards ms (run-cards plan good) (run-served plan good slots) j (run-emptied plan good slots end) inside) in
+    let same : first (length ms) ≡ second (length ms) = sym
+    (ran-ideal plan.cards ms (run-cards plan good) (run-served plan good slots) j (run-emptied plan good slots end) inside) in
     let later : AreNoEarlier (slots_given plan slots j) (slots_fed plan slots j) =
-    subst (λ n. AreNoEarlier (rises (ideal plan.cards (run_matches plan slots) j) n) (rises (ran (run_matches plan slots) j) n)) (matches-long plan slots) (no_earlier first second up (ran-up ms j) one (ran-one ms j) (length ms) refl refl behind same) in
+    subst (λ n. AreNoEarlier (rises (ideal plan.cards (run_matches plan slots) j) n) (rises (ran (run_matches plan slots) j) n))
+    (matches-long plan slots) (no_earlier first second up (ran-up ms j) one (ran-one ms j) (length ms) refl refl behind same) in
     let sums : (run_line plan slots j).extra + sum (slots_given plan slots j) ≡ sum (slots_fed plan slots j) =
-    subst (λ n. (line_of plan.cards (run_matches plan slots) j).extra + sum (rises (ideal plan.cards (run_matches plan slots) j) n) ≡ sum (rises (ran (run_matches plan slots) j) n)) (matches-long plan slots)
+    subst (λ n. (line_of plan.cards (run_matches plan slots) j).extra + sum (rises (ideal plan.cards (run_matches plan slots) j) n) ≡ sum
+    (rises (ran (run_matches plan slots) j) n)) (matches-long plan slots)
     (delays_are first second refl refl up (ran-up ms j) one (ran-one ms j) (length ms) behind same) in
     let delays = delays_sum (slots_given plan slots j) (slots_fed plan slots j) later in
     record { later = later; extra = omega (arith, sums, delays) }
