@@ -50,8 +50,15 @@ yes_told bytes file small is slots longest None none e =
     let same : Yes (length file.slots) (longest_waits file) ≡ Yes slots longest = cc in
     let count : length file.slots ≡ slots = cc in
     let waits : longest_waits file ≡ longest = cc in
-    record { file = file; good = good; spelled = told_is_spelled bytes file small is; lawful = lawful; count = sym count; waits = sym waits
-    ∙ waits_are file lawful }
+    record {
+      file = file;
+      good = good;
+      spelled = told_is_spelled bytes file small is;
+      lawful = lawful;
+      count = sym count;
+      waits = sym waits
+          ∙ waits_are file lawful;
+    }
 yes_told bytes file small is slots longest (Some f) fails e = absurd (cc)
 
 no_told : (bytes : List ℕ) (file : JournalFile) → All (λ b. b < 256) bytes → journal_in bytes ≡ Ok file
