@@ -1,0 +1,8 @@
+mod Lengths
+mod Rooms
+mod SameCards
+mod Deepest
+mod Depths
+mod SamePosts
+mod SameRuns
+mod Sized
