@@ -39,7 +39,8 @@ module _ (depth : ℕ) (plan : SwitchPlan) where
   abbrev Found : ℕ → CardPlan → Type 0
   Found i card = (mine : CardPlan) × (slice_get plan.cards i ≡ Some mine) × (card_with_depth depth mine ≡ card)
 
-  found_by : (i : ℕ) (card : CardPlan) (mine : Option CardPlan) → slice_get plan.cards i ≡ mine → option_map (card_with_depth depth) mine ≡ Some card → Found i card
+  found_by : (i : ℕ) (card : CardPlan) (mine : Option CardPlan) → slice_get plan.cards i ≡ mine
+      → option_map (card_with_depth depth) mine ≡ Some card → Found i card
   found_by i card None is there = absurd (cc)
   found_by i card (Some mine) is there = (mine, is, same_Some (card_with_depth depth mine) card there)
 

@@ -5,4 +5,5 @@ mod Deepest
 mod Depths
 mod SamePosts
 mod SameRuns
+mod GreatestDepth
 mod Sized

@@ -1,7 +1,7 @@
 //! Laws about the runs of plans that differ in the depth of their queues alone, as the contracts of functions that do
 //! nothing.
 
-ghost use Rattle.std.specs.Prelude.{ℕ, ◌<◌, ◌≤◌, List};
+ghost use Rattle.std.specs.Prelude.{◌≡◌, ℕ, ◌<◌, ◌≤◌, List};
 ghost use Rattle.eslip_rounds.specs.Schedulers.{Scheduler};
 ghost use Rattle.voq_banks.specs.declared.limits.TheConstants.{MAX_DEPTH};
 ghost use Rattle.forward_table.specs.declared.route_lines.RouteLine.{RouteLine};
@@ -9,13 +9,19 @@ ghost use Rattle.switch_words.specs.declared.job.Settings.{Settings};
 ghost use Rattle.switch_plan.specs.Traffic.{CaptureFile};
 ghost use Rattle.switch_plan.specs.GoodPlans.{SwitchPlan, IsGood, IsPlanOf};
 ghost use Rattle.whole_run.specs.Ends.{IsLengthUnder};
-ghost use Rattle.buffer_sizing.specs.Sizing.{with_depth, IsSized};
+ghost use Rattle.buffer_sizing.specs.Sizing.{with_depth, DropsNothing, IsSized};
 
 /// The sizing theorem, under any scheduler: where the run of a plan drops nothing, with each depth from the cells of its
 /// deepest queue, and 1, to the greatest depth there is the run is the same and drops nothing; with each smaller depth the
 /// run drops a packet.
 pub fn runs_are_sized()
     ensures { (scheduler : Scheduler) (plan : SwitchPlan) (slots : ℕ) → IsGood plan → IsLengthUnder scheduler plan slots → IsSized scheduler plan slots }
+{}
+
+/// With queues of the greatest depth no run drops anything, under any scheduler: all packets of a plan have no more cells. So
+/// one run with that depth, which a job has where its settings say no other, tells the depth that is needed.
+pub fn greatest_depth_drops_nothing()
+    ensures { (scheduler : Scheduler) (plan : SwitchPlan) (slots : ℕ) → IsGood plan → plan.depth ≡ MAX_DEPTH → DropsNothing scheduler plan slots }
 {}
 
 /// A plan with queues of another depth is a plan that a job can be run by.
