@@ -2,6 +2,7 @@
 
 import collections
 import csv
+import re
 
 import viewer_files as files
 from viewer_browser import END, LEFT, RIGHT, expect
@@ -164,7 +165,29 @@ def test_queues(viewer):
             count += 1
         viewer.open(files.DATA / f"{name}.report")
         expect(len(viewer.table("Queues")) == len(lines), f"{name}: {viewer.table('Queues')}")
+        deepest = str(max(words["peak"] for words in lines.values()))
+        expect(["cells in the deepest queue", deepest] in viewer.table("Summary"), f"{name}: {viewer.table('Summary')}")
+    report = (files.DATA / "firm.report").read_text()
+    found = viewer.run(READ_REPORTS, [report, report.replace("deepest 8", "deepest 7"), report.replace("deepest 8\n", "")])
+    expect(found[0] == 8 and all(isinstance(one, str) and one.startswith("line 24: ") for one in found[1:]), f"{found}")
+    # Without a queue the line stands alone.
+    alone = re.sub(r"queue .*\n", "", report).replace("deepest 8", "deepest 0")
+    expect(viewer.run(READ_REPORTS, [alone]) == [0], "a report without queues")
     return f"{count} queues"
+
+
+# What each text of a report tells of the deepest queue, or why it is none.
+READ_REPORTS = """
+const finish = (generator) => { let step; do { step = generator.next(); } while (!step.done); return step.value; };
+return arguments[0].map((text) => {
+    try {
+        return finish(SlotViewer.readReport(new TextEncoder().encode(text))).deepest;
+    } catch (fault) {
+        if (!(fault instanceof SlotViewer.FileFault)) { throw fault; }
+        return fault.message;
+    }
+});
+"""
 
 
 # Drops files, given as names and hexadecimal digits, on an element.

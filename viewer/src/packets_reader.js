@@ -99,13 +99,13 @@
                 fault(line, "the row does not follow the one before");
             }
             this.ports = Math.max(this.ports, row.input + 1, (output || 0) + 1);
+            const outputs = output === undefined ? [] : [output];
+            const departures = departure === undefined ? [] : [departure];
             if (isMore) {
-                last.outputs.push(output);
-                last.departures.push(departure);
+                last.outputs.push(...outputs);
+                last.departures.push(...departures);
             } else {
                 const { input, packet, bytes, cells, state, level, kind, arrival } = row;
-                const outputs = output === undefined ? [] : [output];
-                const departures = departure === undefined ? [] : [departure];
                 this.list.push({ input, packet, bytes, cells, state, level, kind, arrival, outputs, departures });
             }
         }

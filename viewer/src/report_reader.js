@@ -142,18 +142,20 @@
         return line;
     }
 
-    /** Reads the lines of the queues and `deepest`, where a report has them. */
+    /** Reads the lines of the queues and `deepest`, where a report has them; else `deepest` is null. */
     function readQueueLines(cursor, ports) {
-        const lines = [];
+        const queues = [];
         while (startsWith(cursor, "queue ")) {
-            lines.push(readQueueLine(cursor, ports));
+            queues.push(readQueueLine(cursor, ports));
         }
-        if (lines.length > 0 || startsWith(cursor, "d")) {
+        let deepest = null;
+        if (queues.length > 0 || startsWith(cursor, "d")) {
+            const greatest = queues.reduce((most, { peak }) => Math.max(most, peak), 0);
             cursor.pass("deepest ");
-            cursor.number("the greatest length of a queue", 0, Number.MAX_SAFE_INTEGER);
+            deepest = cursor.number("the greatest peak of a queue", greatest, greatest);
             cursor.passLineEnd();
         }
-        return lines;
+        return { queues, deepest };
     }
 
     /** Reads ` I>J:LK` for a J above `last`, and tells J. */
@@ -220,8 +222,8 @@
         const summary = readSummary(cursor);
         const { ports, rounds, slots } = summary;
         const outputs = readOutputLines(cursor, ports);
-        const queues = readQueueLines(cursor, ports);
-        const run = { form: "report", ports, rounds, slots, summary, outputs, queues, matches: null, reference: [] };
+        const { queues, deepest } = readQueueLines(cursor, ports);
+        const run = { form: "report", ports, rounds, slots, summary, outputs, queues, deepest, matches: null, reference: [] };
         if (startsWith(cursor, "s")) {
             run.matches = new Matches(ports, slots);
             run.used = new Uint8Array(slots);

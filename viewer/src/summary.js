@@ -9,9 +9,10 @@
         + "a cell for the output (ends), and in which the run fed the output (runs), 0 where there was none; the most cells by "
         + "which it was ahead at the end of a slot (lead), and the sum of these over all slots (extra).";
 
-    function reportRows({ summary }) {
+    function reportRows({ summary, deepest }) {
         const rows = Object.entries(summary).filter(([name]) => name !== "longest");
-        return rows.concat(summary.longest.map((wait, level) => [`longest wait of level ${level}`, wait]));
+        const waits = summary.longest.map((wait, level) => [`longest wait of level ${level}`, wait]);
+        return rows.concat(waits, deepest === null ? [] : [["cells in the deepest queue", deepest]]);
     }
 
     function journalRows(run, analysis) {
