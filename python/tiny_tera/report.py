@@ -50,16 +50,25 @@ class Reference(NamedTuple):
 
 
 class Queue(NamedTuple):
-    """What one queue held; `output` is None for multicast, and `slot` is the first one with the peak."""
+    """What one queue held; `output` is None for multicast, and `slot` is the first one with the peak.
+
+    `packets` were for the queue, of which `dropped` did not fit; `cells` are those of the others. Both the peak
+    and its slot are 0 where nothing was admitted.
+    """
 
     input: int
-    output: int
+    output: Optional[int]
     level: int
     packets: int
     dropped: int
     cells: int
     peak: int
     slot: int
+
+    @property
+    def name(self) -> str:
+        """The queue as the report names it: 0>1:2u, or 0>*:2m for multicast."""
+        return f"{self.input}>*:{self.level}m" if self.output is None else f"{self.input}>{self.output}:{self.level}u"
 
 
 class Report(NamedTuple):
@@ -71,6 +80,11 @@ class Report(NamedTuple):
     slots: Optional[list]
     reference: Optional[list]
     queues: Optional[list] = None
+
+    @property
+    def deepest(self) -> Optional[int]:
+        """The greatest peak of all queues, 0 where there is no queue; None where the report does not tell the queues."""
+        return None if self.queues is None else max((queue.peak for queue in self.queues), default=0)
 
 
 def read_report(text):
@@ -166,8 +180,7 @@ class _Lines:
         found = []
         while self.next_is("queue"):
             found.append(self.queue())
-        deepest = self.numbers("deepest", 1)[0]
-        if deepest != max((queue.peak for queue in found), default=0):
+        if self.numbers("deepest", 1)[0] != max((queue.peak for queue in found), default=0):
             raise self.fault("not the greatest peak")
         return found
 

@@ -239,9 +239,10 @@ class Hints(Scene):
         for count, said in (("4000", "too many cells: 263219"), ("1997", "too many cells: 131137")):
             self.check(["gen", "1", count, "4"], 4, said, "with SEED 1 and PORTS 4 the largest COUNT is 1996")
 
-    def test_journal_too_long(self):
-        told = self.launch("run", "--journal", "t", "out", "a", SAID="journal too long: 134217729", STATUS="4").stderr
-        self.assertEqual(told.splitlines()[1], "hint: leave out --journal, or run fewer packets: what it writes may have at most 134,217,728 bytes")
+    def test_outputs_too_long(self):
+        for what in ("journal", "packets"):
+            told = self.launch("run", "t", "out", "a", SAID=f"{what} too long: 134217729", STATUS="4").stderr
+            self.assertEqual(told.splitlines()[1], f"hint: leave out --{what}, or run fewer packets: what it writes may have at most 134,217,728 bytes")
 
     def test_journals(self):
         journal = bytes.fromhex("54544a31020400000000000100000000ff00ff00")
