@@ -9,18 +9,23 @@ use Rattle.journal_check.specs.declared.verdict.Reason.{Reason}
 use Rattle.journal_check.specs.Verdicts.{answer_to}
 use Rattle.check_job.specs.Checks.{HasAnswer, IsTooLong as IsTooLongToCheck}
 use Rattle.check_job.specs.declared.ending.CheckEnding.TheVariants as check_ending
-use Rattle.switch_words.specs.Reading.{JobWords, run, gen, check, firm, RunWords}
+use Rattle.switch_words.specs.Reading.{JobWords, run, gen, check, firm, RunWords, FirmWords}
 use Rattle.switch_plan.specs.declared.fault.PlanFault.{PlanFault}
 use Rattle.switch_plan.specs.Refusals.{IsRefusal}
 use Rattle.switch_plan.specs.GoodPlans.{SwitchPlan}
+use Rattle.firm_rounds.specs.Decisions.{firm_decision}
 use Rattle.whole_run.specs.Runs.{ports_of}
-use Rattle.whole_run.specs.Promises.{BusySlotsMatch, CompletesMulticast, DeliversAdmitted, DeliversNoOthers, HasFewSlots, ServesWaiting, WaitsAreShort}
-use Rattle.switch_jobs.specs.Outcomes.{summary_of}
+use Rattle.whole_run.specs.Ends.{IsLengthUnder}
+use Rattle.whole_run.specs.Promises.{ArrivalsComeFirst, BusySlotsMatch, CompletesMulticast, DeliversAdmitted, DeliversNoOthers, HasFewSlots, ServesWaiting, WaitsAreShort}
+use Rattle.switch_jobs.specs.Outcomes.{summary_of, CountsPacketsOnce}
+use Rattle.switch_jobs.specs.Departures.{InterleavesFlows}
 use Rattle.journal_run.specs.RunFiles.{journal_text}
 use Rattle.output_queued.specs.Lines.{ideal, ran}
 use Rattle.reference_run.specs.RunLines.{run_matches}
+use Rattle.reference_run.specs.Promises.{EndsNoLater, ExtraIsDelays}
+use Rattle.firm_run.specs.FirmRuns.{FirmPromises}
 use Rattle.job_files.specs.Jobs.{ReadWords, reads_of, pace_in, input_name, IsInput, RunsSwitch}
-use Rattle.switch_run.specs.Switched.{IsLongJournal, IsRunOf}
+use Rattle.switch_run.specs.Switched.{IsLongJournal, IsPlanned, IsRunOf}
 use Rattle.job_files.specs.Inputs.{EarlierFit, AreInputs}
 use Rattle.job_files.specs.OutputFiles.{output_name, report_name, journal_name}
 use Rattle.switch_run.specs.Endings.{Command, Means}
@@ -131,6 +136,9 @@ ServesAsMany plan slots = (j : ℕ) → j < ports_of plan → ran (run_matches p
 pub record RunPromises (plan : SwitchPlan) (slots : ℕ) : Type 0 where
   pub delivers : DeliversAdmitted plan slots
   pub no_others : DeliversNoOthers plan slots
+  pub arrivals : ArrivalsComeFirst plan slots
+  pub interleaves : InterleavesFlows plan slots
+  pub counts : CountsPacketsOnce (summary_of plan slots)
   pub serves : ServesWaiting plan slots
   pub waits : WaitsAreShort plan slots
   pub completes : CompletesMulticast plan slots
@@ -138,7 +146,19 @@ pub record RunPromises (plan : SwitchPlan) (slots : ℕ) : Type 0 where
   pub busy_slots : BusySlotsMatch plan
   pub never_ahead : IsNeverAhead plan slots
   pub serves_as_many : ServesAsMany plan slots
+  pub ends_no_later : EndsNoLater plan slots
+  pub delays : ExtraIsDelays plan slots
   pub journals : JournalIsLawful plan slots
+
+-- the run under the second scheduler of the `firm` job that the words mean
+pub record IsFirmRunBy (c : Command) (plan : SwitchPlan) (slots : ℕ) : Type 0 where
+  pub job : FirmWords
+  pub table : List ℕ
+  pub captures : List (List ℕ)
+  pub words : c.job ≡ Some (firm job)
+  pub inputs : AreInputs (firm job) c.old table captures
+  pub planned : IsPlanned job.settings table captures plan
+  pub ends : IsLengthUnder firm_decision plan slots
 
 -- The switch theorem: what a command answers with this status, when each answer comes, and what holds of its run.
 pub record SwitchTheorem (c : Command) (status : ℕ) : Type 0 where
@@ -151,3 +171,4 @@ pub record SwitchTheorem (c : Command) (status : ℕ) : Type 0 where
   pub checks : CheckIsExact c status
   pub complete : IsComplete c status
   pub runs : (plan : SwitchPlan) (slots : ℕ) → IsRunBy c plan slots → RunPromises plan slots
+  pub firm_runs : (plan : SwitchPlan) (slots : ℕ) → IsFirmRunBy c plan slots → FirmPromises plan slots

@@ -8,12 +8,14 @@ ghost use Rattle.job_files.specs.declared.ending.Ending.{Ending};
 
 use crate::job_texts::job_texts;
 use card_worker::Gate;
+use firm_run::laws as second_runs;
 use job_files::{Ending, print_line, print_memory, print_usage, put_texts};
 use journal_run::laws as journals;
 use outside::Files;
 use reference_run::laws as references;
 use std::alloc::Global;
 use std::thread::Threads;
+use switch_jobs::laws as numbers;
 use switch_words::{Job, WordsFault, read_words};
 use whole_run::{deliveries, ends, waits};
 
@@ -107,12 +109,15 @@ fn end_of<R: Threads + Sync, F: Files, G: Gate + Sync>(
 ///
 /// At 0 all that is written is that of the run which the words and the bytes that were read have, slot by slot, in
 /// whatever order the threads made it. Of that run: at each output each flow has just its admitted packets, in order
-/// of arrival; a unicast queue that is posted is served within `longest_service_at_line_rate()` slots of `service_bound`,
-/// where nothing better is posted and no multicast of its level; a multicast head completes within twice as many slots
-/// as there are ports, where nothing better is posted; it has no more slots than the greatest number of
-/// arrival slots, the cells of the admitted packets counted for each output, and one; and an ideal switch whose queues
-/// stand at the outputs is never behind it, and serves as many cells in all. A journal that was written is one that a
-/// `check` job finds lawful, and of which it tells the slots and the longest waits that the summary tells.
+/// of arrival, and the messages of its capture are in the order of the slots in which their last cells crossed; every
+/// packet arrives before the run's end and is counted once; a unicast queue that is posted is served within
+/// `longest_service_at_line_rate()` slots of `service_bound`, where nothing better is posted and no multicast of its
+/// level; a multicast head completes within twice as many slots as there are ports, where nothing better is posted; it
+/// has no more slots than the greatest number of arrival slots, the cells of the admitted packets counted for each
+/// output, and one; and an ideal switch whose queues stand at the outputs is never behind it, serves as many cells in
+/// all, and ends no later. A journal that was written is one that a `check` job finds lawful, and of which it tells the
+/// slots and the longest waits that the summary tells. Of the run of a `firm` job the like holds under the second
+/// scheduler.
 ///
 /// At 2 to 5 and at 7 every file is as before. Each status but 0 gives one line to standard error; where a call
 /// of that is refused, the rest of the line is left out, and the status stays.
@@ -131,8 +136,13 @@ pub fn switch_main<R: Threads + Sync, F: Files, G: Gate + Sync>(
     waits::multicast_heads_complete();
     ends::runs_end();
     ends::busy_slots_match();
+    ends::arrivals_come_first();
+    numbers::packets_are_counted_once();
+    numbers::flows_are_interleaved();
     references::reference_is_never_behind();
     references::whole_runs_serve_the_same();
+    references::lines_tell_the_delays();
+    second_runs::runs_are_as_promised();
     journals::journals_of_runs_are_lawful();
     end_of(rt, alloc, words, files, gate).status()
 }

@@ -36,6 +36,9 @@ returns g c =
           record {
             delivers = c.admitted_packets_are_delivered.ensures.flows decision_of plan slots IsScheduler-decision_of good ends;
             no_others = c.admitted_packets_are_delivered.ensures.no_others decision_of plan slots IsScheduler-decision_of good;
+            arrivals = c.arrivals_come_first.ensures decision_of plan slots ends;
+            interleaves = c.flows_are_interleaved.ensures decision_of plan slots IsScheduler-decision_of good ends;
+            counts = c.packets_are_counted_once.ensures decision_of plan slots good ends;
             serves = c.waiting_queues_are_served.ensures plan slots good;
             waits = c.best_level_waits_are_short.ensures plan slots good;
             completes = c.multicast_heads_complete.ensures plan slots good;
@@ -43,6 +46,9 @@ returns g c =
             busy_slots = c.busy_slots_match.ensures decision_of plan IsScheduler-decision_of good;
             never_ahead = λ j t. c.reference_is_never_behind.ensures plan slots j t good;
             serves_as_many = λ j. c.whole_runs_serve_the_same.ensures.count plan slots j good ends;
+            ends_no_later = c.lines_tell_the_delays.ensures.ends plan slots good ends;
+            delays = c.lines_tell_the_delays.ensures.delays plan slots good ends;
             journals = lawful.answer plan slots good ends ∙ ap Ok (lawful.numbers plan slots);
           };
+      firm_runs = λ plan slots is. c.runs_are_as_promised.ensures plan slots is.planned.good is.ends;
     }
