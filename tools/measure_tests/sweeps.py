@@ -141,7 +141,12 @@ class Sweeps(unittest.TestCase):
 
     def test_interrupt_ends_in_one_line(self):
         (self.room / "slow").touch()
-        process = subprocess.Popen([sys.executable, *map(str, self.words)], stderr=subprocess.PIPE, text=True)
+        # A shell in the background ignores the interrupt, and what it starts inherits that.
+        def heed_interrupt():
+            signal.signal(signal.SIGINT, signal.SIG_DFL)
+
+        words = [sys.executable, *map(str, self.words)]
+        process = subprocess.Popen(words, stderr=subprocess.PIPE, text=True, preexec_fn=heed_interrupt)
         until = time.monotonic() + 300
         while not (self.room / "began").exists() and time.monotonic() < until:
             time.sleep(0.1)
