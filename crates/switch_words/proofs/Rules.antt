@@ -11,7 +11,8 @@ use Rattle.clap.specs.declared.builder.value_parser.Reading.TheVariants.{AsWritt
 use Rattle.clap.specs.declared.parser.matches.ValueSource.TheVariants.{CommandLine}
 use Rattle.switch_words.specs.declared.options.Command.{Command}
 use Rattle.switch_words.specs.declared.options.Command.TheVariants.{Run, Gen, Check, Firm}
-use Rattle.switch_words.specs.Options.{Setting, rounds, depth, workers, pace_us, Flag, slots, journal, reference, Switch, value, flag, option_of}
+use Rattle.switch_words.specs.Options.{Setting, rounds, depth, workers, pace_us, Switch, value, flag, option_of}
+use Rattle.switch_words.specs.Options.{Flag, slots, journal, reference, queues, packets}
 use Rattle.switch_words.specs.Lines.{Lookup, first_text, flag_arg, flags_for, is_true_text, lookup_in, names_arg, option_arg, options_for, parts_in}
 use Rattle.switch_words.specs.Parts.{Parts, is_given, set_flag, set_text, text_in, with_flag, with_names, with_text}
 use Rattle.switch_words.proofs.Rows.{has_row-lookup, lookup-with, put, tells, without-none}
@@ -28,6 +29,8 @@ abbrev pub flag_id : Flag → Text
 flag_id slots = codes "slots"
 flag_id journal = codes "journal"
 flag_id reference = codes "reference"
+flag_id queues = codes "queues"
+flag_id packets = codes "packets"
 
 abbrev pub option_rule : Text → Rule
 option_rule id = filled (option_arg id)
@@ -85,22 +88,31 @@ met_flag : (command : Command) (f : Flag) → IsMet (rules_for command) (flag_id
 met_flag Run slots = refl
 met_flag Run journal = refl
 met_flag Run reference = refl
+met_flag Run queues = refl
+met_flag Run packets = refl
 met_flag Gen slots = refl
 met_flag Gen journal = refl
 met_flag Gen reference = refl
+met_flag Gen queues = refl
+met_flag Gen packets = refl
 met_flag Check slots = refl
 met_flag Check journal = refl
 met_flag Check reference = refl
+met_flag Check queues = refl
+met_flag Check packets = refl
 met_flag Firm slots = refl
 met_flag Firm journal = refl
 met_flag Firm reference = refl
+met_flag Firm queues = refl
+met_flag Firm packets = refl
 
 -- a name is that of an option, or of none
 data Named (name : Text) : Type 0 where
   setting : (s : Setting) → id_of s ≡ name → Named name
   switch : (f : Flag) → flag_id f ≡ name → Named name
-  unknown : bytes_eq (codes "rounds") name ≡ false → bytes_eq (codes "depth") name ≡ false → bytes_eq (codes "workers") name ≡ false → bytes_eq (codes "pace-us") name ≡ false
-      → bytes_eq (codes "slots") name ≡ false → bytes_eq (codes "journal") name ≡ false → bytes_eq (codes "reference") name ≡ false → Named name
+  unknown : bytes_eq (codes "rounds") name ≡ false → bytes_eq (codes "depth") name ≡ false → bytes_eq (codes "workers") name ≡ false
+      → bytes_eq (codes "pace-us") name ≡ false → bytes_eq (codes "slots") name ≡ false → bytes_eq (codes "journal") name ≡ false → bytes_eq (codes "reference") name ≡ false
+      → bytes_eq (codes "queues") name ≡ false → bytes_eq (codes "packets") name ≡ false → Named name
 
 is_text : (a b : Text) → bytes_eq a b ≡ true → a ≡ b
 is_text a b h = (bytes_eq-Decides a b).0 h
@@ -120,7 +132,13 @@ named name = elim (tells (bytes_eq (codes "rounds") name)) [
             | inl h ↦ switch journal (is_text _ _ h)
             | inr g ↦ elim (tells (bytes_eq (codes "reference") name)) [
               | inl h ↦ switch reference (is_text _ _ h)
-              | inr k ↦ unknown a b d e f g k
+              | inr k ↦ elim (tells (bytes_eq (codes "queues") name)) [
+                | inl h ↦ switch queues (is_text _ _ h)
+                | inr m ↦ elim (tells (bytes_eq (codes "packets") name)) [
+                  | inl h ↦ switch packets (is_text _ _ h)
+                  | inr n ↦ unknown a b d e f g k m n
+                ]
+              ]
             ]
           ]
         ]
@@ -130,18 +148,19 @@ named name = elim (tells (bytes_eq (codes "rounds") name)) [
 ]
 
 -- no command has an option of another name
-none_met : (command : Command) (name : Text) → bytes_eq (codes "rounds") name ≡ false → bytes_eq (codes "depth") name ≡ false → bytes_eq (codes "workers") name ≡ false
-    → bytes_eq (codes "pace-us") name ≡ false → bytes_eq (codes "slots") name ≡ false → bytes_eq (codes "journal") name ≡ false → bytes_eq (codes "reference") name ≡ false
-    → IsMet (rules_for command) name (option_of command name)
-none_met Run name a b d e f g k = rw (a, b, d, e, f, g, k) (rw (a, b, d, e, f, g, k) refl)
-none_met Gen name a b d e f g k = rw (a, b, d, e, f, g, k) (rw (a, b, d) refl)
-none_met Check name a b d e f g k = rw (a, b, d, e, f, g, k) refl
-none_met Firm name a b d e f g k = rw (a, b, d, e, f, g, k) (rw (a, b, e) refl)
+none_met : (command : Command) (name : Text)
+    → bytes_eq (codes "rounds") name ≡ false → bytes_eq (codes "depth") name ≡ false → bytes_eq (codes "workers") name ≡ false
+    → bytes_eq (codes "pace-us") name ≡ false → bytes_eq (codes "slots") name ≡ false → bytes_eq (codes "journal") name ≡ false
+    → bytes_eq (codes "reference") name ≡ false → bytes_eq (codes "queues") name ≡ false → bytes_eq (codes "packets") name ≡ false → IsMet (rules_for command) name (option_of command name)
+none_met Run name a b d e f g k m n = rw (a, b, d, e, f, g, k, m, n) (rw (a, b, d, e, f, g, k, m, n) refl)
+none_met Gen name a b d e f g k m n = rw (a, b, d, e, f, g, k, m, n) (rw (a, b, d) refl)
+none_met Check name a b d e f g k m n = rw (a, b, d, e, f, g, k, m, n) refl
+none_met Firm name a b d e f g k m n = rw (a, b, d, e, f, g, k, m, n) (rw (a, b, e) refl)
 
 long_met : (command : Command) (name : Text) → Named name → IsMet (rules_for command) name (option_of command name)
 long_met command name (setting s is) = subst (λ (n : Text). IsMet (rules_for command) n (option_of command n)) is (met_value command s)
 long_met command name (switch f is) = subst (λ (n : Text). IsMet (rules_for command) n (option_of command n)) is (met_flag command f)
-long_met command name (unknown a b d e f g k) = none_met command name a b d e f g k
+long_met command name (unknown a b d e f g k m n) = none_met command name a b d e f g k m n
 
 pub has_rules : (command : Command) → HasRules command (rules_for command)
 has_rules Run = record { short = λ x. refl; place = refl; by_id = refl; long = λ name. long_met Run name (named name) }
@@ -172,20 +191,30 @@ value_apart : (s : Setting) (f : Flag) → bytes_eq (id_of s) (flag_id f) ≡ fa
 value_apart rounds slots = refl
 value_apart rounds journal = refl
 value_apart rounds reference = refl
+value_apart rounds queues = refl
+value_apart rounds packets = refl
 value_apart depth slots = refl
 value_apart depth journal = refl
 value_apart depth reference = refl
+value_apart depth queues = refl
+value_apart depth packets = refl
 value_apart workers slots = refl
 value_apart workers journal = refl
 value_apart workers reference = refl
+value_apart workers queues = refl
+value_apart workers packets = refl
 value_apart pace_us slots = refl
 value_apart pace_us journal = refl
 value_apart pace_us reference = refl
+value_apart pace_us queues = refl
+value_apart pace_us packets = refl
 
 names_apart : (f : Flag) → bytes_eq (codes "names") (flag_id f) ≡ false
 names_apart slots = refl
 names_apart journal = refl
 names_apart reference = refl
+names_apart queues = refl
+names_apart packets = refl
 
 -- what is put at another id leaves a flag as it is
 flag_stays : (id : Text) (vs : List Text) (lookup : Lookup) (f : Flag) → IsSound lookup → bytes_eq id (flag_id f) ≡ false
@@ -221,17 +250,23 @@ is_given-parts_in : (f : Flag) (lookup : Lookup) → is_given (parts_in lookup).
 is_given-parts_in slots lookup = refl
 is_given-parts_in journal lookup = refl
 is_given-parts_in reference lookup = refl
+is_given-parts_in queues lookup = refl
+is_given-parts_in packets lookup = refl
 
 parts_in-put_flag : (f : Flag) (lookup : Lookup) → parts_in (put (flag_id f) (codes "true" ∷ []) lookup) ≡ record (parts_in lookup) { flags = set_flag (parts_in lookup).flags f }
 parts_in-put_flag slots lookup = refl
 parts_in-put_flag journal lookup = refl
 parts_in-put_flag reference lookup = refl
+parts_in-put_flag queues lookup = refl
+parts_in-put_flag packets lookup = refl
 
 -- the default of a flag says what no flag says
 pub parts_in-put_default : (f : Flag) (lookup : Lookup) → lookup (flag_id f) ≡ None → parts_in (put (flag_id f) (codes "false" ∷ []) lookup) ≡ parts_in lookup
 parts_in-put_default slots lookup none = rw none refl
 parts_in-put_default journal lookup none = rw none refl
 parts_in-put_default reference lookup none = rw none refl
+parts_in-put_default queues lookup none = rw none refl
+parts_in-put_default packets lookup none = rw none refl
 
 text_in-parts_in : (s : Setting) (lookup : Lookup) → text_in (parts_in lookup) s ≡ first_text (lookup (id_of s))
 text_in-parts_in rounds lookup = refl

@@ -28,7 +28,7 @@ options_for Check = []
 options_for Firm = codes "rounds" ∷ codes "depth" ∷ codes "pace-us" ∷ []
 
 abbrev pub flags_for : Command → List Text
-flags_for Run = codes "slots" ∷ codes "journal" ∷ codes "reference" ∷ []
+flags_for Run = codes "slots" ∷ codes "journal" ∷ codes "reference" ∷ codes "queues" ∷ codes "packets" ∷ []
 flags_for Gen = []
 flags_for Check = []
 flags_for Firm = []
@@ -73,6 +73,8 @@ parts_in lookup = record {
     slots = is_true_text (first_text (lookup (codes "slots")));
     journal = is_true_text (first_text (lookup (codes "journal")));
     reference = is_true_text (first_text (lookup (codes "reference")));
+    queues = is_true_text (first_text (lookup (codes "queues")));
+    packets = is_true_text (first_text (lookup (codes "packets")));
   };
   names = unwrap_or (lookup (codes "names")) [];
 }

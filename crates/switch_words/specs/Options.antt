@@ -9,7 +9,7 @@ pub data Setting : Type 0 where
 
 -- an option without a value
 pub data Flag : Type 0 where
-  slots journal reference : Flag
+  slots journal reference queues packets : Flag
 
 pub data Switch : Type 0 where
   value : Setting → Switch
@@ -34,7 +34,9 @@ option_named name =
     else (if bytes_eq (codes "slots") name then Some (flag slots)
     else (if bytes_eq (codes "journal") name then Some (flag journal)
     else (if bytes_eq (codes "reference") name then Some (flag reference)
-    else None))))))
+    else (if bytes_eq (codes "queues") name then Some (flag queues)
+    else (if bytes_eq (codes "packets") name then Some (flag packets)
+    else None))))))))
 
 -- whether a command has an option
 abbrev pub is_option_of : Command → Switch → Bool

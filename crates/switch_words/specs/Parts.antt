@@ -3,7 +3,8 @@ use Rattle.std.specs.Prelude.{ℕ, Bool, true, false, is_some, ◌==◌, ◌++�
 use Rattle.std.specs.List.{list_any, before_first, after_first}
 use Rattle.switch_words.specs.declared.options.Command.{Command}
 use Rattle.switch_words.specs.declared.options.Flags.{Flags}
-use Rattle.switch_words.specs.Options.{Setting, rounds, depth, workers, pace_us, Flag, slots, journal, reference, Switch, value, flag, option_of}
+use Rattle.switch_words.specs.Options.{Setting, rounds, depth, workers, pace_us, Switch, value, flag, option_of}
+use Rattle.switch_words.specs.Options.{Flag, slots, journal, reference, queues, packets}
 
 -- the texts that the options have, which flags were given, and the names
 pub record Parts : Type 0 where
@@ -21,7 +22,7 @@ no_parts = record {
   depth = None;
   workers = None;
   pace_us = None;
-  flags = record { slots = false; journal = false; reference = false };
+  flags = record { slots = false; journal = false; reference = false; queues = false; packets = false };
   names = [];
 }
 
@@ -48,12 +49,16 @@ abbrev pub is_given : Flags → Flag → Bool
 is_given flags slots = flags.slots
 is_given flags journal = flags.journal
 is_given flags reference = flags.reference
+is_given flags queues = flags.queues
+is_given flags packets = flags.packets
 
 -- with this flag
 abbrev pub set_flag : Flags → Flag → Flags
 set_flag flags slots = record flags { slots = true }
 set_flag flags journal = record flags { journal = true }
 set_flag flags reference = record flags { reference = true }
+set_flag flags queues = record flags { queues = true }
+set_flag flags packets = record flags { packets = true }
 
 -- with a flag that was not given before
 abbrev pub with_flag : Parts → Flag → Option Parts

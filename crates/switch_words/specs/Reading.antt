@@ -1,5 +1,6 @@
 -- The reading of a list of words: the job that it means.
-use Rattle.std.specs.Prelude.{ℕ, Bool, ◌&&◌, nat_le, if◌then◌else◌, List, [], ◌∷◌, length, map, Option, None, Some, option_and_then, option_map, string_bytes, unwrap_or}
+use Rattle.std.specs.Prelude.{ℕ, Bool, ◌&&◌, nat_le, if◌then◌else◌, List, [], ◌∷◌, length, map, string_bytes}
+use Rattle.std.specs.Prelude.{Option, None, Some, option_and_then, option_map, unwrap_or}
 use Rattle.rotating_pick.specs.declared.limits.TheConstants.{MAX_PORTS, MAX_ROUNDS}
 use Rattle.line_pace.specs.declared.pace.TheConstants.{MAX_SLOT_MICROS}
 use Rattle.voq_banks.specs.declared.limits.TheConstants.{MAX_DEPTH}
@@ -39,6 +40,8 @@ pub record RunWords : Type 0 where
   pub slots : Bool
   pub journal : Bool
   pub reference : Bool
+  pub queues : Bool
+  pub packets : Bool
   pub table : List ℕ
   pub prefix : List ℕ
   pub inputs : List (List ℕ)
@@ -61,6 +64,8 @@ run_with settings flags (table ∷ prefix ∷ names) =
       slots = flags.slots;
       journal = flags.journal;
       reference = flags.reference;
+      queues = flags.queues;
+      packets = flags.packets;
       table = table;
       prefix = prefix;
       inputs = inputs;
@@ -116,6 +121,8 @@ run_words r = record {
   slots = r.slots;
   journal = r.journal;
   reference = r.reference;
+  queues = r.queues;
+  packets = r.packets;
   table = string_bytes r.table;
   prefix = string_bytes r.prefix;
   inputs = map string_bytes r.inputs.items;

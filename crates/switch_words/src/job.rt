@@ -22,6 +22,10 @@ pub struct RunJob {
     pub journal: bool,
     /// Whether the report compares each output with the output-queued reference.
     pub reference: bool,
+    /// Whether the report tells of each queue how long it was.
+    pub queues: bool,
+    /// Whether the packets file is written: when each packet left.
+    pub packets: bool,
     /// The name of the table's file.
     pub table: String,
     /// What the names of all files that are written begin with.

@@ -13,6 +13,8 @@
 //! --slots       report each slot                run
 //! --journal     write the journal               run
 //! --reference   compare each output with the output-queued reference   run
+//! --queues      report how long each queue was  run
+//! --packets     write when each packet left     run
 //! ```
 #![tactic(auto)]
 

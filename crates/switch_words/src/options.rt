@@ -21,6 +21,8 @@ pub(crate) struct Flags {
     pub(crate) slots: bool,
     pub(crate) journal: bool,
     pub(crate) reference: bool,
+    pub(crate) queues: bool,
+    pub(crate) packets: bool,
 }
 
 impl Command {
@@ -64,7 +66,7 @@ impl Command {
         ensures { map (λ id. id.now) result.now ≡ flags_for self }
     {
         match self {
-            Command::Run => &["slots", "journal", "reference"],
+            Command::Run => &["slots", "journal", "reference", "queues", "packets"],
             Command::Gen | Command::Check | Command::Firm => &[],
         }
     }

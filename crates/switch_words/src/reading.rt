@@ -1,6 +1,7 @@
 ghost use Rattle.std.specs.Prelude.{◌≡◌, codes, Some, None, Err, drop, map, ok_or, option_map, string_bytes, vec_len, IfOk, IfSome};
 ghost use Rattle.switch_words.specs.Parts.{no_parts, parts_from};
-ghost use Rattle.switch_words.specs.Reading.{number_given, settings_of, inputs_in, run_with, firm_with, check_with, gen_with, run_words, firm_words, job_words, job_with, reading_of};
+ghost use Rattle.switch_words.specs.Reading.{number_given, settings_of, inputs_in, run_with, firm_with, check_with, gen_with};
+ghost use Rattle.switch_words.specs.Reading.{run_words, firm_words, job_words, job_with, reading_of};
 ghost use Rattle.switch_words.specs.Limits.{AreWithinLimits, IsUpTo, IsRunWithinLimits, IsGenWithinLimits, IsFirmWithinLimits, IsWithinLimits};
 ghost use Rattle.switch_words.specs.Lines.{first_text, is_true_text, lookup_of, parts_of};
 
@@ -111,6 +112,8 @@ fn flags(matches: &ArgMatches<'_>) -> Flags
         slots: has_flag(matches, "slots"),
         journal: has_flag(matches, "journal"),
         reference: has_flag(matches, "reference"),
+        queues: has_flag(matches, "queues"),
+        packets: has_flag(matches, "packets"),
     }
 }
 
@@ -157,6 +160,8 @@ fn run_job(
         slots: flags.slots,
         journal: flags.journal,
         reference: flags.reference,
+        queues: flags.queues,
+        packets: flags.packets,
         inputs: inputs(alloc, names)?,
         table: String::from_str(alloc, table)?,
         prefix: String::from_str(alloc, prefix)?,

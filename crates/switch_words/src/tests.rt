@@ -55,12 +55,31 @@ fn words_of_a_made_input(rt: HostRuntime) -> Result<(), Fail> {
 #[test]
 fn words_with_flags(rt: HostRuntime) -> Result<(), Fail> {
     let rows = [
-        ("run --journal t out a", (false, true, false)),
-        ("run t out a --reference --slots", (true, false, true)),
+        (
+            "run --journal t out a",
+            (false, true, false),
+            (false, false),
+        ),
+        (
+            "run t out a --reference --slots",
+            (true, false, true),
+            (false, false),
+        ),
+        (
+            "run --packets t out a",
+            (false, false, false),
+            (false, true),
+        ),
+        (
+            "run t --queues out a --journal",
+            (false, true, false),
+            (true, false),
+        ),
     ];
-    for (line, flags) in rows {
+    for (line, flags, measures) in rows {
         let run = run_job(rt.alloc(), line)?;
         assert_eq!(rt; (run.slots, run.journal, run.reference), flags);
+        assert_eq!(rt; (run.queues, run.packets), measures);
     }
     Ok(())
 }
@@ -102,6 +121,11 @@ fn other_words(rt: HostRuntime) -> Result<(), Fail> {
         "gen 1 2 65",
         "gen --journal 1 2 2",
         "run --journal --journal t out a",
+        "run --queues --queues t out a",
+        "run --packets=1 t out a",
+        "gen --queues 1 2 2",
+        "check --packets f",
+        "firm --queues t a",
         "check f g",
         "check --rounds 2 f",
         "firm t",
