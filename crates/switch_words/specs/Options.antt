@@ -1,5 +1,5 @@
 -- The commands and their options.
-use Rattle.std.specs.Prelude.{ℕ, Bool, true, false, if◌then◌else◌, List, Option, None, Some, option_and_then, bytes_eq, codes}
+use Rattle.std.specs.Prelude.{ℕ, Bool, true, false, if◌then◌else◌, List, [], ◌∷◌, Option, None, Some, option_and_then, bytes_eq, codes}
 use Rattle.switch_words.specs.declared.options.Command.{Command}
 use Rattle.switch_words.specs.declared.options.Command.TheVariants.{Run, Gen, Check, Firm}
 
@@ -23,6 +23,11 @@ command_named word =
     else (if bytes_eq word (codes "check") then Some Check
     else (if bytes_eq word (codes "firm") then Some Firm
     else None)))
+
+-- the command that the first of a list of words names
+abbrev pub command_in : List (List ℕ) → Option Command
+command_in [] = None
+command_in (first ∷ rest) = command_named first
 
 -- the option of a name
 abbrev pub option_named : List ℕ → Option Switch

@@ -1,4 +1,5 @@
 ghost use Rattle.std.specs.Prelude.{◌≡◌, codes, Some, None, Err, drop, map, ok_or, option_map, string_bytes, vec_len, IfOk, IfSome};
+ghost use Rattle.switch_words.specs.Options.{command_in};
 ghost use Rattle.switch_words.specs.Parts.{no_parts, parts_from};
 ghost use Rattle.switch_words.specs.Reading.{number_given, settings_of, inputs_in, run_with, firm_with, check_with, gen_with};
 ghost use Rattle.switch_words.specs.Reading.{run_words, firm_words, job_words, job_with, reading_of};
@@ -26,11 +27,12 @@ use voq_banks::MAX_DEPTH;
 /// `Usage` comes exactly where the words give no job, want of memory aside: there is no such command,
 /// a word is refused, the command lacks an option, an option is repeated, a flag has a value, a value is
 /// no number within its limits, or there are more or fewer names. `OutOfMemory` may come in place of
-/// any answer.
+/// any answer but that there is no such command.
 #[tactic(auto, unfolding(crate::specs::Reading::reading_of))]
 pub fn read_words(alloc: Global, words: &[String]) -> Result<Job, WordsFault>
     ensures job { IfOk result (λ job. reading_of (map string_bytes words.now) ≡ Some (job_words job)) }
     ensures usage { result ≡ Err WordsFault.Usage → reading_of (map string_bytes words.now) ≡ None }
+    ensures no_command { command_in (map string_bytes words.now) ≡ None → result ≡ Err WordsFault.Usage }
     ensures limits { IfOk result IsWithinLimits }
 {
     let [first, ..] = words else {
