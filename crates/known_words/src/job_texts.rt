@@ -17,12 +17,23 @@ fn run_text(alloc: Global, job: &RunJob) -> Result<String, AllocError> {
     let slots = u32::from(job.slots);
     let journal = u32::from(job.journal);
     let reference = u32::from(job.reference);
+    let measures = measures_text(job);
     let table = job.table.as_str();
     let prefix = job.prefix.as_str();
     let inputs = list_text(alloc, job.inputs.as_slice())?;
     format!(in alloc;
-        "run {settings} slots={slots} journal={journal} reference={reference} table={table:?} prefix={prefix:?} inputs={inputs}"
+        "run {settings} slots={slots} journal={journal} reference={reference}{measures} table={table:?} prefix={prefix:?} inputs={inputs}"
     )
+}
+
+// What is measured of queues and packets: rows with neither flag do not name them.
+fn measures_text(job: &RunJob) -> &'static str {
+    match (job.queues, job.packets) {
+        (false, false) => "",
+        (true, false) => " queues=1",
+        (false, true) => " packets=1",
+        (true, true) => " queues=1 packets=1",
+    }
 }
 
 fn gen_text(alloc: Global, job: &GenJob) -> Result<String, AllocError> {
