@@ -97,7 +97,7 @@ impl Block {
             Some(slots) => Some(slots.journal()),
             None => None,
         };
-        made(report_text(alloc, &summary, outputs, journal.as_ref()))
+        made(report_text(alloc, &summary, outputs, "", journal.as_ref()))
     }
 
     // The next line of the text, which a line feed ends.

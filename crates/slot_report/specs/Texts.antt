@@ -7,6 +7,7 @@ use Rattle.islip_rounds.specs.declared.numbers.RoundsUsed.{RoundsUsed}
 use Rattle.slot_match.specs.declared.matching.Fed.{Fed}
 use Rattle.slot_histories.specs.Answers.{JournalSlot}
 use Rattle.board_state.specs.Boards.{JournalValue}
+use Rattle.slot_report.specs.Lines.{lines_text}
 use Rattle.slot_report.specs.declared.summary.OutLine.{OutLine}
 use Rattle.slot_report.specs.declared.summary.Summary.{Summary}
 
@@ -65,6 +66,6 @@ abbrev pub slots_of : Option JournalValue → List JournalSlot
 slots_of None = []
 slots_of (Some journal) = journal.slots
 
--- the report: the summary, a line for each output, and a line for each of these slots
-unfoldable pub report_lines : Summary → List OutLine → List JournalSlot → List (List (List ℕ))
-report_lines s outputs slots = summary_lines s ++ map_with_place output_line outputs ++ map_with_place journal_line slots
+-- the report: the summary, a line for each output, these further lines, and a line for each of these slots
+unfoldable pub report_bytes : Summary → List OutLine → List ℕ → List JournalSlot → List ℕ
+report_bytes s outputs more slots = lines_text (summary_lines s ++ map_with_place output_line outputs) ++ more ++ lines_text (map_with_place journal_line slots)

@@ -2,7 +2,7 @@ ghost use Rattle.std.specs.Prelude.{◌≡◌, ◌∷◌, ◌++◌, ◌≤◌, l
 ghost use Rattle.std.specs.Option.{option_copied};
 ghost use Rattle.slot_report.specs.Lines.{line_text, lines_text};
 ghost use Rattle.slot_report.specs.Pieces.{count_line};
-ghost use Rattle.slot_report.specs.Texts.{map_with_place, output_line, report_lines, slots_of, summary_lines};
+ghost use Rattle.slot_report.specs.Texts.{map_with_place, output_line, report_bytes, slots_of, summary_lines};
 
 use crate::lines::Word::{Name, Number};
 use crate::lines::put_line;
@@ -85,23 +85,28 @@ pub fn summary_text(alloc: Global, summary: &Summary) -> Result<String, OutOfMem
     Ok(text)
 }
 
-/// The report of a run: the summary, a line for each of the outputs, 64 at most, and a line for each
+/// The report of a run: the summary, a line for each of the outputs, 64 at most, these further lines, and a line for each
 /// decided slot where a journal is given. The only error is want of memory.
 ///
-/// Memory is taken once, before the first line: nothing that was written is copied.
+/// The text is sized before the first line.
 pub fn report_text(
     alloc: Global,
     summary: &Summary,
     outputs: &[OutLine],
+    more: &str,
     slots: Option<&Journal>,
 ) -> Result<String, OutOfMemory>
     requires { length outputs.now ≤ MAX_PORTS }
-    ensures { IfOk result (λ text. string_bytes text ≡ lines_text (report_lines summary.now outputs.now (slots_of (option_copied slots.entry)))) }
+    ensures { IfOk result (λ text. string_bytes text ≡ report_bytes summary.now outputs.now more.now (slots_of (option_copied slots.entry))) }
 {
-    let bytes = SUMMARY_BYTES + OUTPUT_BYTES * outputs.len();
-    let mut text = String::with_capacity(alloc, bytes.saturating_add(slots_bytes(slots)))?;
+    let lines = SUMMARY_BYTES + OUTPUT_BYTES * outputs.len();
+    let bytes = lines
+        .saturating_add(more.len())
+        .saturating_add(slots_bytes(slots));
+    let mut text = String::with_capacity(alloc, bytes)?;
     put_summary(&mut text, summary)?;
     put_outputs(&mut text, outputs)?;
+    text.push_str(more)?;
     put_slots(&mut text, slots)?;
     Ok(text)
 }

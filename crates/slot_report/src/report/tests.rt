@@ -35,7 +35,7 @@ fn one_packet_crosses(rt: HostRuntime) -> Result<(), Fail> {
             cells: 2,
         },
     ];
-    let report = report_text(rt.alloc(), &summary, &outputs, None)?;
+    let report = report_text(rt.alloc(), &summary, &outputs, "", None)?;
     assert_eq!(rt; report.as_str().strip_prefix(SUMMARY), Some(OUTPUTS));
     Ok(())
 }
