@@ -24,6 +24,10 @@ IsQueue ports (OfLevel level) = level < LEVELS
 abbrev pub queues_of : ℕ → List Queue
 queues_of ports = flat_map (λ j. map (OfOutput j) (range_with_len 0 LEVELS)) (range_with_len 0 ports) ++ map OfLevel (range_with_len 0 LEVELS)
 
+-- how many queues there are
+abbrev pub count_of : ℕ → ℕ
+count_of ports = LEVELS * ports + LEVELS
+
 -- the place of a queue in that list
 abbrev pub place_of : ℕ → Queue → ℕ
 place_of ports (OfOutput j level) = LEVELS * j + level

@@ -1,8 +1,9 @@
 -- The run of a switch over its plan, slot by slot: what each card posts, what each slot decides, and its journal.
 -- What ends in `under` is of any scheduler; the other names are of the scheduler of the board.
-use Rattle.std.specs.Prelude.{ℕ, zero, suc, List, [], ◌∷◌, ◌++◌, map, length, Option, slice_index_or}
+use Rattle.std.specs.Prelude.{◌≡◌, ◌<◌, ℕ, zero, suc, List, [], ◌∷◌, ◌++◌, map, length, Option, slice_index_or}
 use Rattle.std.specs.List.{range_with_len}
 use Rattle.slot_match.specs.declared.rows.Row.{Row}
+use Rattle.slot_match.specs.declared.matching.Fed.{Fed}
 use Rattle.slot_match.specs.declared.matching.Served.{Served}
 use Rattle.slot_match.specs.Parts.{served_of}
 use Rattle.pointer_state.specs.Places.{Places, places_at_first}
@@ -12,10 +13,10 @@ use Rattle.eslip_rounds.specs.Decisions.{decision_of}
 use Rattle.crossbar.specs.declared.cards.Post.{Post}
 use Rattle.crossbar.specs.declared.cards.Taken.{Taken}
 use Rattle.slot_histories.specs.Events.{Setup}
-use Rattle.slot_histories.specs.Slots.{taken_under}
+use Rattle.slot_histories.specs.Slots.{decision_under, taken_under}
 use Rattle.slot_histories.specs.Answers.{JournalSlot, journal_slot}
 use Rattle.card_core.specs.Plans.{Plan}
-use Rattle.card_core.specs.Posts.{row_at, post_at}
+use Rattle.card_core.specs.Posts.{row_at, post_at, IsServable}
 use Rattle.switch_plan.specs.GoodPlans.{SwitchPlan}
 
 -- how many ports the switch has
@@ -84,3 +85,9 @@ takings_under scheduler plan i slots = map (taken_under scheduler (setup_for pla
 
 abbrev pub run_takings : SwitchPlan → ℕ → ℕ → List Taken
 run_takings = takings_under decision_of
+
+-- These are the posts of slot t, by port, and its match, which serves each port nothing or a part of its row.
+pub record IsSlotUnder (scheduler : Scheduler) (plan : SwitchPlan) (t : ℕ) (posts : List Post) (matched : List (Option Fed)) : Type 0 where
+  pub posts_are : posts ≡ map (λ i. posts_under scheduler plan i t) (range_with_len 0 (ports_of plan))
+  pub matched_is : matched ≡ (decision_under scheduler (setup_for plan) (posts_under scheduler plan) t).matched
+  pub servable : (i : ℕ) → i < ports_of plan → IsServable (posts_under scheduler plan i t).row (served_of matched i)

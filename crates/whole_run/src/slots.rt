@@ -1,6 +1,7 @@
 //! What holds of each slot of a run under any scheduler, as the contracts of functions that do nothing.
 
-ghost use Rattle.std.specs.Prelude.{◌≡◌, ℕ, ◌+◌, ◌<◌, List, All, Some};
+ghost use Rattle.std.specs.Prelude.{◌≡◌, ℕ, ◌+◌, ◌<◌, List, All, Some, map};
+ghost use Rattle.std.specs.List.{range_with_len};
 ghost use Rattle.cell_cutter.specs.declared.cell.Cell.{Cell};
 ghost use Rattle.slot_match.specs.declared.matching.Fed.{Fed};
 ghost use Rattle.slot_match.specs.Matches.{fed_of};
@@ -9,13 +10,24 @@ ghost use Rattle.pointer_state.specs.Places.{places_at_first};
 ghost use Rattle.eslip_rounds.specs.Schedules.{IsSchedule};
 ghost use Rattle.eslip_rounds.specs.Schedulers.{Scheduler, IsScheduler};
 ghost use Rattle.service_bound.specs.Windows.{AreKept};
-ghost use Rattle.slot_histories.specs.Slots.{served_under, crossed_under, decision_under, row_before, served_before_under};
+ghost use Rattle.slot_histories.specs.Slots.{served_under, crossed_under, decision_under, places_under, row_before, served_before_under};
 ghost use Rattle.slot_histories.specs.Legal.{IsAccepted};
 ghost use Rattle.slot_histories.specs.Parts.{IsCellOf};
 ghost use Rattle.card_core.specs.Posts.{IsServable};
 ghost use Rattle.switch_plan.specs.GoodPlans.{SwitchPlan, IsGood};
-ghost use Rattle.whole_run.specs.Runs.{ports_of, setup_for, posts_under};
+ghost use Rattle.whole_run.specs.Runs.{ports_of, setup_for, before_under, decision_in, parts_under, posts_under};
 ghost use Rattle.whole_run.specs.Sums.{schedule_under, run_schedule};
+
+/// What a run decides slot by slot follows from its posts alone, as on a board: the pointers before a slot, the slot's
+/// decision, and what a port was served before it.
+pub fn slots_follow_from_the_posts()
+    ensures places { (scheduler : Scheduler) (plan : SwitchPlan) (t : ℕ)
+        → (before_under scheduler plan t).places ≡ places_under scheduler (setup_for plan) (posts_under scheduler plan) t }
+    ensures decision { (scheduler : Scheduler) (plan : SwitchPlan) (t : ℕ)
+        → decision_in scheduler plan (before_under scheduler plan t) t ≡ decision_under scheduler (setup_for plan) (posts_under scheduler plan) t }
+    ensures served { (scheduler : Scheduler) (plan : SwitchPlan) (i t : ℕ)
+        → parts_under scheduler plan i t ≡ map (served_under scheduler (setup_for plan) (posts_under scheduler plan) i) (range_with_len 0 t) }
+{}
 
 /// Each post of a run is one that a board accepts.
 pub fn posts_are_accepted()

@@ -1,0 +1,5 @@
+pub mod Places
+pub mod Lengths
+pub mod NextPackets
+pub mod Entering
+pub mod Leaving
