@@ -21,7 +21,7 @@ use Rattle.switch_plan.specs.GoodPlans.{SwitchPlan, IsGood, packets_in}
 use Rattle.whole_run.specs.Runs.{ports_of, card_at, no_plan, parts_under}
 use Rattle.whole_run.proofs.Base.{good-card}
 use Rattle.buffer_sizing.specs.Sizing.{DropsNothing}
-use Rattle.buffer_sizing.proofs.Lengths.{cells_count}
+use Rattle.queue_lengths.proofs.Lengths.{cells_count}
 use Rattle.buffer_sizing.proofs.Rooms.{HasRooms}
 use Rattle.buffer_sizing.proofs.SameCards.{drops_none}
 

@@ -1,4 +1,3 @@
-mod Lengths
 mod Rooms
 mod SameCards
 mod Deepest

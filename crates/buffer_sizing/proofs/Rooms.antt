@@ -13,7 +13,8 @@ use Rattle.card_core.specs.Queues.{Passed, is_routed, fits, coming, before, is_a
 use Rattle.card_core.proofs.Passing.{arriving-there, kept-before}
 use Rattle.card_core.proofs.Arriving.{is_queue-refl}
 use Rattle.queue_lengths.specs.Lengths.{IsQueue, length_in}
-use Rattle.buffer_sizing.proofs.Lengths.{arrival_count, cells_count}
+use Rattle.queue_lengths.proofs.Lengths.{arrival_count, cells_count}
+use Rattle.queue_lengths.proofs.Places.{IsQueue-packet}
 
 -- each packet that arrives in one of the first slots and goes anywhere has room in its queue, were it of this depth
 pub record HasRooms (depth : ℕ) (plan : Plan) (served : List (Option Served)) (slots : ℕ) : Type 0 where
@@ -54,20 +55,6 @@ module _ (plan : Plan) (served : List (Option Served)) where
         let s = before plan (queue_of p) served t in
         leb-true (length s.entered - s.left + size_of p) plan.depth (admitted_each slots none t k p below arrives routed);
   }
-
--- ---- the queue of a packet is one of the switch
-queue_if : (ports j level : ℕ) (b : Bool) → (b ≡ true → j < ports) → level < LEVELS → IsQueue ports (if b then OfOutput j level else OfLevel level)
-queue_if ports j level true inside below = (inside refl, below)
-queue_if ports j level false inside below = below
-
-pub IsQueue-packet : (ports bytes : ℕ) (p : Planned) → IsPlanned ports bytes p → IsQueue ports (queue_of p)
-IsQueue-packet ports bytes p planned =
-    let port = last_port MAX_PORTS p.fan in
-    queue_if ports port p.level (p.fan == 2 ^ port)
-    (λ one.
-    let is : p.fan ≡ 2 ^ port = eqb-true p.fan (2 ^ port) one in
-    Has-lt ports p.fan port planned.fan (subst (λ fan. Has fan port) (sym is) (bit_at-pow_same port)))
-    planned.level
 
 -- ---- where no queue is longer
 came_count : (routed mine fit : Bool) (k size fan : ℕ) → routed ≡ true → mine ≡ true → fit ≡ true

@@ -10,7 +10,7 @@ use Rattle.whole_run.specs.Ends.{IsLengthUnder}
 use Rattle.whole_run.proofs.Base.{good-card}
 use Rattle.whole_run.proofs.FirstDone.{one_length}
 use Rattle.buffer_sizing.specs.Sizing.{with_depth, deepest_under, DropsNothing, IsSized}
-use Rattle.buffer_sizing.proofs.Lengths.{in_few}
+use Rattle.queue_lengths.proofs.Lengths.{in_few}
 use Rattle.buffer_sizing.proofs.Deepest.{deepest_within}
 use Rattle.buffer_sizing.proofs.Depths.{IsGood-depth, own_depth_again}
 use Rattle.buffer_sizing.proofs.SameRuns.{IsSameRun-depth, DropsNothing-depth, deepest_run}
