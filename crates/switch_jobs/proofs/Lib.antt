@@ -9,4 +9,4 @@ mod Made
 pub mod Limits
 pub mod Finishing
 pub mod Counted
-mod Departing
+pub mod Departing

@@ -1,0 +1,8 @@
+mod Filtered
+mod FlowEnds
+mod Leaving
+mod InOrder
+mod LastCells
+mod Earlier
+mod Earliest
+mod Copies
