@@ -1,0 +1,191 @@
+-- The numbers of all queues of an input, with the packet that arrives in a slot.
+use Rattle.std.proofs.Common.{◌≡◌, ◌≢◌, ◌∙◌, ℕ, zero, suc, ◌+◌, ◌*◌, ◌/◌, ◌%◌, ◌^◌, ◌<◌, ◌≤◌, ◌==◌, ◌&&◌, not, Bool, true, false, List, [], ◌∷◌, ◌++◌, length, Option, Some, None, slice_index, slice_index_or, slice_set, refl, sym, ap, subst, arith, inl, inr, if◌then◌else◌}
+use Rattle.std.specs.Option.{option_map}
+use Rattle.std.proofs.lemmas.Bool.{cases_eq, cases_lt, cases_Bool, eq-eqb, eqb-true, lt-ltb, le-ltb, and_parts}
+use Rattle.std.proofs.lemmas.Grind.{get_or-set_at}
+use Rattle.std.proofs.lemmas.List.{get_or-set_other, length-set}
+use Rattle.std.proofs.lemmas.Nat.Bits.{bit_at-pow_same}
+use Rattle.std.proofs.lemmas.Option.{same_Some}
+use Rattle.rotating_pick.specs.PortSets.{Has}
+use Rattle.rotating_pick.proofs.Bits.{Has-lt}
+use Rattle.slot_match.specs.declared.matching.Served.{Served}
+use Rattle.card_core.specs.declared.plan.Planned.{Planned}
+use Rattle.card_core.specs.Plans.{Plan, Queue, OfOutput, OfLevel, IsGoodPlan, IsPlanned, is_queue, queue_of, size_of, arriving, last_port}
+use Rattle.card_core.specs.Queues.{is_routed, is_admitted, enters}
+use Rattle.card_core.proofs.Passing.{arriving-there, is_queue-same}
+use Rattle.card_core.proofs.Arriving.{is_queue-refl}
+use Rattle.card_core.proofs.Taking.{one_slot}
+use Rattle.switch_plan.proofs.Summing.{cells_forwarded}
+use Rattle.queue_lengths.specs.declared.counting.Arrival.{Arrival}
+use Rattle.queue_lengths.specs.Counters.{Counters, CountBefore, CountIn, arrival_in}
+use Rattle.queue_lengths.specs.Lengths.{IsQueue, count_of, place_of, is_for, length_in}
+use Rattle.queue_measures.specs.declared.numbers.QueueNumbers.{QueueNumbers}
+use Rattle.queue_measures.specs.Noting.{IsNoted, no_numbers, numbers_so_far}
+use Rattle.queue_measures.specs.Steps.{with_packet, with_arrivals, queue_at, IsSmall, MayCount}
+use Rattle.queue_measures.proofs.SoFar.{so_far, so_far-first, so_far-step, now_few, is_coming_for, numbers-stay, numbers-with}
+
+-- ---- queues and places
+pub place-same : (ports : ℕ) (q r : Queue) → IsQueue ports q → IsQueue ports r → place_of ports q ≡ place_of ports r → q ≡ r
+place-same ports (OfOutput j l) (OfOutput k m) mine yours same = let a : j ≡ k = omega (arith, mine.0, mine.1, yours.0, yours.1, same) in let b : l ≡ m = omega (arith, mine.1, yours.1, same) in cc
+place-same ports (OfOutput j l) (OfLevel m) mine yours same = absurd (omega (arith, mine.0, mine.1, yours, same))
+place-same ports (OfLevel l) (OfOutput k m) mine yours same = absurd (omega (arith, mine, yours.0, yours.1, same))
+place-same ports (OfLevel l) (OfLevel m) mine yours same = let b : l ≡ m = omega arith in cc
+
+pub place-inside : (ports : ℕ) (q : Queue) → IsQueue ports q → place_of ports q < count_of ports
+place-inside ports (OfOutput j l) mine = omega (arith, mine.0, mine.1)
+place-inside ports (OfLevel l) mine = omega (arith, mine)
+
+pub at-place : (ports place : ℕ) → place < count_of ports → IsQueue ports (queue_at ports place) × (place_of ports (queue_at ports place) ≡ place)
+at-place ports place inside =
+    let rest : place % 4 < 4 = omega arith in
+    let whole : 4 * (place / 4) + place % 4 ≡ place = omega arith in
+    elim (cases_lt (place / 4) ports) [
+      | inl less ↦ rw (lt-ltb (place / 4) ports less) ((less, rest), whole)
+      | inr le ↦ rw (le-ltb (place / 4) ports le) (rest, omega arith)
+    ]
+
+-- ---- how small the numbers are
+so_far-few : (test : Planned → Bool) (weight : Planned → ℕ) (most : ℕ) (plan : Plan) → IsGoodPlan plan → ((p : Planned) → IsPlanned plan.ports (length plan.bytes) p → test p ≡ true → weight p ≤ most) → (t : ℕ) → so_far test weight t plan.packets ≤ t * most
+so_far-few test weight most plan good few zero = let none = so_far-first test weight plan.packets in omega arith
+so_far-few test weight most plan good few (suc t) =
+    let before = so_far-few test weight most plan good few t in
+    let step = so_far-step test weight t 0 plan.packets good.rising in
+    let now = now_few test weight most (arriving plan t) (λ k p is passes. let there = arriving-there 0 plan.packets t k p is in few p (good.packets there.0 p there.2) passes) in
+    omega (arith, before, step, now)
+
+routed-somewhere : (fan : ℕ) → not (fan == 0) ≡ true → fan ≢ 0
+routed-somewhere fan routed none = let e = eq-eqb fan 0 none in absurd cc
+
+numbers-small : (plan : Plan) → IsGoodPlan plan → (served : List (Option Served)) (q : Queue) (t : ℕ) → t < 131072 → IsSmall (numbers_so_far plan served t q)
+numbers-small plan good served q t early =
+    let packets = so_far-few (is_for q) (λ p. 1) 1 plan good (λ p planned passes. omega arith) t in
+    let dropped = so_far-few (λ p. is_for q p && not (is_admitted plan served p.arrival p)) (λ p. 1) 1 plan good (λ p planned passes. omega arith) t in
+    let cells = so_far-few (enters plan q served) size_of 1171 plan good
+    (λ p planned passes. cells_forwarded p.len (planned.forwarded (routed-somewhere p.fan (and_parts (is_routed p) (is_queue q (queue_of p)) (and_parts (is_for q p) (is_admitted plan served p.arrival p) passes).0).0))) t in
+    record {
+      packets = omega arith;
+      dropped = omega arith;
+      cells = omega arith;
+    }
+
+-- ---- the packet that arrives
+fits-chosen : (ports fan j level : ℕ) (b : Bool) → b ≡ (fan == 2 ^ j) → fan < 2 ^ ports → level < 4 → IsQueue ports (if b then OfOutput j level else OfLevel level)
+fits-chosen ports fan j level true is among small =
+    let power : fan ≡ 2 ^ j = eqb-true fan (2 ^ j) (sym is) in
+    (Has-lt ports fan j among (subst (λ set. Has set j) (sym power) (bit_at-pow_same j)), small)
+fits-chosen ports fan j level false is among small = small
+
+pub queue-fits : (plan : Plan) (p : Planned) → IsPlanned plan.ports (length plan.bytes) p → IsQueue plan.ports (queue_of p)
+queue-fits plan p planned = fits-chosen plan.ports p.fan (last_port 64 p.fan) p.level (p.fan == 2 ^ last_port 64 p.fan) refl planned.fan planned.level
+
+module _ (plan : Plan) (good : IsGoodPlan plan) (served : List (Option Served)) (numbers : List QueueNumbers) (count : length numbers ≡ count_of plan.ports)
+    (are : (q : Queue) → IsQueue plan.ports q → slice_index_or numbers (place_of plan.ports q) no_numbers ≡ numbers_so_far plan served (length served) q)
+    (long : List ℕ) (lengths : length long ≡ count_of plan.ports) where
+  abbrev here : ℕ
+  here = length served
+
+  abbrev told : ℕ × Planned → Arrival
+  told p = record { number = p.0; packet = p.1; admitted = is_routed p.1 && is_admitted plan served here p.1 }
+
+  small-at : here < 131072 → (place : ℕ) → place < count_of plan.ports → IsSmall (slice_index_or numbers place no_numbers)
+  small-at early place inside =
+      let it = at-place plan.ports place inside in
+      let q = queue_at plan.ports place in
+      subst IsSmall (sym (ap (λ n. slice_index_or numbers n no_numbers) (sym it.1) ∙ are q it.0)) (numbers-small plan good served q here early)
+
+  may-of : (arrives : Option (ℕ × Planned)) (arrival : Arrival) → arriving plan here ≡ arrives → option_map told arrives ≡ Some arrival → MayCount plan.ports long numbers arrival
+  may-of None arrival is mapped = absurd cc
+  may-of (Some (k, p)) arrival is mapped =
+      let there = arriving-there 0 plan.packets here k p is in
+      let planned = good.packets there.0 p there.2 in
+      let packet : p ≡ arrival.packet = ap (λ (a : Arrival). a.packet) (same_Some (told (k, p)) arrival mapped) in
+      record {
+        size = good.size;
+        lengths = lengths;
+        count = count;
+        level = subst (λ (r : Planned). r.level < 4) packet planned.level;
+        fan = subst (λ (r : Planned). r.fan < 2 ^ plan.ports) packet planned.fan;
+        forwarded = subst (λ (r : Planned). r.fan ≢ 0 → r.len ≤ 65535) packet planned.forwarded;
+        small = small-at (omega (arith, planned.early, there.3));
+      }
+
+  pub may-count : (arrival : Arrival) → arrival_in plan served here ≡ Some arrival → MayCount plan.ports long numbers arrival
+  may-count arrival is = may-of (arriving plan here) arrival refl is
+
+  module _ (part : Option Served) (are_long : (q : Queue) → IsQueue plan.ports q → slice_index long (place_of plan.ports q) ≡ length_in plan q served here) where
+    abbrev after : Queue → QueueNumbers
+    after q = numbers_so_far plan (served ++ part ∷ []) (suc here) q
+
+    abbrev place_for : Planned → ℕ
+    place_for p = place_of plan.ports (queue_of p)
+
+    abbrev changed : Planned → QueueNumbers
+    changed p = with_packet here (size_of p) (is_routed p && is_admitted plan served here p) (slice_index long (place_for p)) (slice_index_or numbers (place_for p) no_numbers)
+
+    others : (q : Queue) (k : ℕ) (p : Planned) → IsQueue plan.ports q → arriving plan here ≡ Some (k, p) → is_for q p ≡ false → slice_index_or numbers (place_of plan.ports q) no_numbers ≡ after q
+    others q k p mine is not_for = are q mine ∙ sym (numbers-stay plan good served part q (ap (is_coming_for q) is ∙ not_for))
+
+    own : (k : ℕ) (p : Planned) → IsQueue plan.ports (queue_of p) → arriving plan here ≡ Some (k, p) → is_routed p ≡ true → changed p ≡ after (queue_of p)
+    own k p mine is routed =
+        let for_it : is_for (queue_of p) p ≡ true = rw (routed, is_queue-refl (queue_of p)) refl in
+        ap (λ b. with_packet here (size_of p) (b && is_admitted plan served here p) (slice_index long (place_for p)) (slice_index_or numbers (place_for p) no_numbers)) routed
+        ∙ ap (λ n. with_packet here (size_of p) (is_admitted plan served here p) n (slice_index_or numbers (place_for p) no_numbers)) (are_long (queue_of p) mine)
+        ∙ ap (with_packet here (size_of p) (is_admitted plan served here p) (length_in plan (queue_of p) served here)) (are (queue_of p) mine)
+        ∙ sym (numbers-with plan good served part (queue_of p) k p is for_it)
+
+    is_other : (q : Queue) (p : Planned) → place_of plan.ports q ≢ place_for p → is_for q p ≡ false
+    is_other q p differ = elim (cases_Bool (is_for q p)) [
+      | inl hit ↦ absurd (differ (ap (place_of plan.ports) (is_queue-same q (queue_of p) (and_parts (is_routed p) (is_queue q (queue_of p)) hit).1)))
+      | inr miss ↦ miss
+    ]
+
+    routed-at : (q : Queue) (k : ℕ) (p : Planned) → IsQueue plan.ports q → arriving plan here ≡ Some (k, p) → is_routed p ≡ true → slice_index_or (slice_set numbers (place_for p) (changed p)) (place_of plan.ports q) no_numbers ≡ after q
+    routed-at q k p mine is routed =
+        let there = arriving-there 0 plan.packets here k p is in
+        let its = queue-fits plan p (good.packets there.0 p there.2) in
+        let inside = place-inside plan.ports (queue_of p) its in
+        elim (cases_eq (place_of plan.ports q) (place_for p)) [
+          | inl same ↦ get_or-set_at numbers (place_for p) (place_of plan.ports q) (changed p) no_numbers same (omega arith) ∙ own k p its is routed ∙ ap after (sym (place-same plan.ports q (queue_of p) mine its same))
+          | inr differ ↦ get_or-set_other numbers (place_for p) (place_of plan.ports q) (changed p) no_numbers differ ∙ others q k p mine is (is_other q p differ)
+        ]
+
+    counted-of : (arrives : Option (ℕ × Planned)) → arriving plan here ≡ arrives → (q : Queue) → IsQueue plan.ports q → slice_index_or (with_arrivals plan.ports here long (option_map told arrives) numbers) (place_of plan.ports q) no_numbers ≡ after q
+    counted-of None is q mine = are q mine ∙ sym (numbers-stay plan good served part q (ap (is_coming_for q) is))
+    counted-of (Some (k, p)) is q mine = elim (cases_Bool (is_routed p)) [
+      | inl routed ↦ ap (λ b. slice_index_or (if b then slice_set numbers (place_for p) (changed p) else numbers) (place_of plan.ports q) no_numbers) routed ∙ routed-at q k p mine is routed
+      | inr not_routed ↦ ap (λ b. slice_index_or (if b then slice_set numbers (place_for p) (changed p) else numbers) (place_of plan.ports q) no_numbers) not_routed ∙ others q k p mine is (ap (λ b. b && is_queue q (queue_of p)) not_routed)
+    ]
+
+    pub counted : (q : Queue) → IsQueue plan.ports q → slice_index_or (with_arrivals plan.ports here long (arrival_in plan served here) numbers) (place_of plan.ports q) no_numbers ≡ after q
+    counted q mine = counted-of (arriving plan here) refl q mine
+
+either : (b : Bool) (numbers : List QueueNumbers) (place : ℕ) (x : QueueNumbers) → length (if b then slice_set numbers place x else numbers) ≡ length numbers
+either true numbers place x = length-set numbers place x
+either false numbers place x = refl
+
+-- as many queues as before
+pub with_arrivals-count : (ports slot : ℕ) (long : List ℕ) (arrival : Option Arrival) (numbers : List QueueNumbers) → length (with_arrivals ports slot long arrival numbers) ≡ length numbers
+with_arrivals-count ports slot long None numbers = refl
+with_arrivals-count ports slot long (Some arrival) numbers = either (is_routed arrival.packet) numbers (place_of ports (queue_of arrival.packet)) _
+
+-- ---- an input that has noted a slot
+module _ (plan : Plan) (served : List (Option Served)) (counters : Counters) (numbers : List QueueNumbers) (noted : IsNoted plan (record { counters = counters; numbers = numbers }) served)
+    (ports slot : ℕ) (now : length served ≡ slot) (size : plan.ports ≡ ports) (new : Counters) (counts : CountIn plan new served) (arrival : Option Arrival) (comes : arrival ≡ arrival_in plan served slot) where
+  comes-here : arrival ≡ arrival_in plan served (length served)
+  comes-here = comes ∙ ap (arrival_in plan served) (sym now)
+
+  pub noted-may : (packet : Arrival) → arrival ≡ Some packet → MayCount ports new.lengths numbers packet
+  noted-may packet is = subst (λ n. MayCount n new.lengths numbers packet) size (may-count plan noted.counts.good served numbers noted.count noted.numbers new.lengths counts.count packet (sym comes-here ∙ is))
+
+  pub noted-next : (part : Option Served) (later : List QueueNumbers) (after : Counters) → later ≡ with_arrivals ports slot new.lengths arrival numbers → CountBefore plan after (served ++ part ∷ []) → IsNoted plan (record { counters = after; numbers = later }) (served ++ part ∷ [])
+  noted-next part later after are before =
+      let same : later ≡ with_arrivals plan.ports (length served) new.lengths (arrival_in plan served (length served)) numbers =
+      are ∙ ap (λ n. with_arrivals n slot new.lengths arrival numbers) (sym size) ∙ ap (λ t. with_arrivals plan.ports t new.lengths arrival numbers) (sym now)
+      ∙ ap (λ a. with_arrivals plan.ports (length served) new.lengths a numbers) comes-here in
+      record {
+        counts = before;
+        count = ap length are ∙ with_arrivals-count ports slot new.lengths arrival numbers ∙ noted.count;
+        numbers = λ q mine. ap (λ (ns : List QueueNumbers). slice_index_or ns (place_of plan.ports q) no_numbers) same
+            ∙ counted plan noted.counts.good served numbers noted.count noted.numbers new.lengths counts.count part counts.lengths q mine
+            ∙ ap (λ t. numbers_so_far plan (served ++ part ∷ []) t q) (sym (one_slot served part));
+      }

@@ -1,0 +1,5 @@
+pub mod SoFar
+pub mod Counting
+pub mod Slots
+pub mod Report
+pub mod Sums

@@ -1,0 +1,14 @@
+use Rattle.std.proofs.Common.{◌≡◌, ℕ, ◌+◌, ◌<◌, ◌≤◌, length, slice_index_or}
+use Rattle.eslip_rounds.specs.Schedulers.{Scheduler}
+use Rattle.switch_plan.specs.GoodPlans.{SwitchPlan}
+use Rattle.whole_run.specs.Runs.{card_at, parts_under, IsSlotUnder}
+use Rattle.queue_measures.specs.Noting.{HasNoted, IsNoted, no_input}
+use Rattle.queue_measures.proofs.measures.QueueMeasures.note.Given as goal
+
+abbrev pub invariant-loop-i : goal.invariant-loop-i
+invariant-loop-i l = record {
+  long : length l.self-inside.inputs.items ≡ length l.fn.self;
+  noted : (scheduler : Scheduler) (plan : SwitchPlan) → HasNoted scheduler plan l.fn.self l.slot → IsSlotUnder scheduler plan l.slot l.posts l.matched
+      → (i : ℕ) → i < l.i → IsNoted (card_at plan i) (slice_index_or l.self-inside.inputs.items i no_input) (parts_under scheduler plan i (l.slot + 1));
+  left : (i : ℕ) → l.i ≤ i → slice_index_or l.self-inside.inputs.items i no_input ≡ slice_index_or l.fn.self i no_input;
+}
