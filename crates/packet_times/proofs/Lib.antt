@@ -1,0 +1,9 @@
+mod Places
+mod Arriving
+mod Served
+mod Noted
+mod Texts
+mod Told
+mod Counted
+mod Walked
+mod Rowing

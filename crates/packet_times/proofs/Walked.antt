@@ -1,0 +1,242 @@
+-- The packets of an input, one after the other: what of each is counted, and its departures.
+use Rattle.std.proofs.Common.{◌≡◌, ◌≢◌, ◌∙◌, ℕ, ◌+◌, ◌*◌, ◌^◌, ◌<◌, ◌≤◌, ◌==◌, ◌&&◌, nat_lt, Bool, true, false, List, [], length, take, Some, slice_get, slice_index, slice_index_or, refl, sym, ap, subst, arith, inl, inr, replicate, length-take, if◌then◌else◌}
+use Rattle.std.specs.Prelude.{count_by}
+use Rattle.std.proofs.lemmas.Bool.{cases_eq, eqb-true, eq-eqb, lt-ltb}
+use Rattle.std.proofs.lemmas.List.{get_or_default, length-replicate}
+use Rattle.std.proofs.lemmas.List.Sums.{count_by-le-length, count_by_more_yes, count_by_more_no}
+use Rattle.std.proofs.lemmas.Nat.Bits.{bit_at-pow_other}
+use Rattle.std.proofs.lemmas.Option.{get_or_from_slice_get, slice_get-get_or}
+use Rattle.rotating_pick.specs.PortSets.{Has}
+use Rattle.rotating_pick.specs.declared.kinds.Kind.{Kind}
+use Rattle.rotating_pick.specs.declared.kinds.Kind.TheVariants.{Uni, Multi}
+use Rattle.rotating_pick.specs.declared.limits.TheConstants.{LEVELS, MAX_PORTS}
+use Rattle.eslip_rounds.specs.Schedulers.{Scheduler}
+use Rattle.slot_histories.specs.Tests.{has}
+use Rattle.card_core.specs.declared.plan.Planned.{Planned}
+use Rattle.card_core.specs.Plans.{Queue, OfOutput, OfLevel, IsPlanned, is_queue, queue_of, level_of, kind_of, last_port, no_packet}
+use Rattle.card_core.proofs.Arriving.{is_queue-refl}
+use Rattle.card_core.proofs.Ascending.{some_lt}
+use Rattle.card_core.proofs.Passing.{is_queue-same}
+use Rattle.card_core.proofs.Plenty.{few_packets}
+use Rattle.switch_plan.specs.GoodPlans.{SwitchPlan, IsGood}
+use Rattle.whole_run.specs.Runs.{ports_of, card_at, parts_under}
+use Rattle.whole_run.specs.Promises.{ArrivalsComeFirst}
+use Rattle.whole_run.specs.Crossings.{queue_to}
+use Rattle.whole_run.proofs.Base.{good-card, served-length}
+use Rattle.packet_departures.specs.Departures.{Flow, flow_of, ends_of, goes_by, earlier_by, departure_under}
+use Rattle.packet_times.specs.declared.going.TheConstants.{MOST_FLOWS}
+use Rattle.packet_times.specs.declared.walk.Outcome.{Outcome}
+use Rattle.packet_times.specs.Noting.{Input, Times, no_input, IsFlow, IsNoted, flow_place, kind_place, was_admitted, HasNoted}
+use Rattle.packet_times.specs.Walking.{own_place, one_more, IsCounted, HasGone, IsOutcome}
+use Rattle.packet_times.proofs.Places.{kind_few, kind_same}
+use Rattle.packet_times.proofs.Noted.{get_or-replicate}
+use Rattle.packet_times.proofs.Told.{admitted-at}
+
+-- ---- the queue of a packet
+level-if : (b : Bool) (j level : ℕ) → level_of (if b then OfOutput j level else OfLevel level) ≡ level
+level-if true j level = refl
+level-if false j level = refl
+
+pub queue-level : (p : Planned) → level_of (queue_of p) ≡ p.level
+queue-level p = level-if (p.fan == 2 ^ last_port MAX_PORTS p.fan) (last_port MAX_PORTS p.fan) p.level
+
+only-bit : (k j : ℕ) → Has (2 ^ k) j → j ≡ k
+only-bit k j is = elim (cases_eq j k) [
+  | inl e ↦ e
+  | inr ne ↦ let none = bit_at-pow_other k j ne in absurd (omega (arith, none, is))
+]
+
+own-if : (b : Bool) (fan last level j : ℕ) → (b ≡ true → fan ≡ 2 ^ last) → Has fan j
+    → queue_to j level (kind_of (if b then OfOutput last level else OfLevel level)) ≡ (if b then OfOutput last level else OfLevel level)
+own-if true fan last level j is member = ap (λ k. OfOutput k level) (only-bit last j (subst (λ f. Has f j) (is refl) member))
+own-if false fan last level j is member = refl
+
+own-queue : (p : Planned) (j : ℕ) → Has p.fan j → queue_to j p.level (kind_of (queue_of p)) ≡ queue_of p
+own-queue p j member =
+    let last = last_port MAX_PORTS p.fan in
+    own-if (p.fan == 2 ^ last) p.fan last p.level j (λ e. eqb-true p.fan (2 ^ last) e) member
+
+level-to : (j level : ℕ) (kind : Kind) → level_of (queue_to j level kind) ≡ level
+level-to j level Uni = refl
+level-to j level Multi = refl
+
+kind-to : (j level : ℕ) (kind : Kind) → kind_of (queue_to j level kind) ≡ kind
+kind-to j level Uni = refl
+kind-to j level Multi = refl
+
+-- ---- whether a packet goes by a flow
+goes-parts : (a b c d : Bool) → (a && b && c) && d ≡ true → (b ≡ true) × (d ≡ true)
+goes-parts true true true true e = (refl, refl)
+goes-parts true true true false e = absurd (cc)
+goes-parts true true false d e = absurd (cc)
+goes-parts true false c d e = absurd (cc)
+goes-parts false b c d e = absurd (cc)
+
+goes-all : (a b c d : Bool) → a && c ≡ true → b ≡ true → d ≡ true → (a && b && c) && d ≡ true
+goes-all true true true true e f g = refl
+goes-all a b c false e f g = absurd (cc)
+goes-all a false c d e f g = absurd (cc)
+goes-all true b false d e f g = absurd (cc)
+goes-all false b c d e f g = absurd (cc)
+
+goes-none : (a b c d : Bool) → a && c ≡ false → (a && b && c) && d ≡ false
+goes-none true true true d e = absurd (cc)
+goes-none true true false d e = refl
+goes-none true false c d e = refl
+goes-none false b c d e = refl
+
+not-both : (b : Bool) → b ≡ true → b ≡ false → ⊥
+not-both true e f = absurd (cc)
+not-both false e f = absurd (cc)
+
+-- ---- one packet more
+module _ (scheduler : Scheduler) (plan : SwitchPlan) (slots k : ℕ) (p : Planned) (good : IsGood plan) where
+  module _ (flow : Flow) (is : IsFlow (ports_of plan) flow) (at : slice_get (card_at plan flow.input).packets k ≡ Some p) where
+    packets : List Planned
+    packets = (card_at plan flow.input).packets
+
+    test : Planned → Bool
+    test = goes_by scheduler plan slots flow
+
+    inside : k < length (card_at plan flow.input).packets
+    inside = some_lt (card_at plan flow.input).packets k p at
+
+    here : slice_index_or (card_at plan flow.input).packets k no_packet ≡ p
+    here = get_or_from_slice_get (card_at plan flow.input).packets k p no_packet at
+
+    more-yes : goes_by scheduler plan slots flow p ≡ true → earlier_by scheduler plan slots flow (k + 1) ≡ earlier_by scheduler plan slots flow k + 1
+    more-yes goes = count_by_more_yes (goes_by scheduler plan slots flow) (card_at plan flow.input).packets k no_packet inside (ap (goes_by scheduler plan slots flow) here ∙ goes)
+
+    more-no : goes_by scheduler plan slots flow p ≡ false → earlier_by scheduler plan slots flow (k + 1) ≡ earlier_by scheduler plan slots flow k
+    more-no goes = count_by_more_no (goes_by scheduler plan slots flow) (card_at plan flow.input).packets k no_packet inside (ap (goes_by scheduler plan slots flow) here ∙ goes)
+
+    few : earlier_by scheduler plan slots flow k ≤ 131072
+    few =
+        let most = few_packets (card_at plan flow.input) (good-card plan good flow.input is.input).good in
+        let count = count_by-le-length (goes_by scheduler plan slots flow) (take k (card_at plan flow.input).packets) in
+        let long = length-take k (card_at plan flow.input).packets in
+        omega (arith, most, count, long)
+
+    counted-one : (n : ℕ) → n ≤ 131072 → one_more n ≡ n + 1
+    counted-one n low = rw (lt-ltb n 4294967295 (omega arith)) refl
+
+    module _ (counts new : List ℕ) (was : slice_index counts (own_place flow.output flow.level flow.kind) ≡ earlier_by scheduler plan slots flow k)
+        (admitted : was_admitted (card_at plan flow.input) (parts_under scheduler plan flow.input slots) p ≡ true) (counted : IsCounted p.fan p.level (kind_of (queue_of p)) MAX_PORTS counts new) where
+      step-yes : goes_by scheduler plan slots flow p ≡ true → slice_index new (own_place flow.output flow.level flow.kind) ≡ earlier_by scheduler plan slots flow (k + 1)
+      step-yes goes =
+          let both = goes-parts _ (is_queue (queue_to flow.output flow.level flow.kind) (queue_of p)) _ (has p.fan flow.output) goes in
+          let same = is_queue-same (queue_to flow.output flow.level flow.kind) (queue_of p) (both.0) in
+          let level : flow.level ≡ p.level = sym (level-to flow.output flow.level flow.kind) ∙ ap level_of same ∙ queue-level p in
+          let kind : flow.kind ≡ kind_of (queue_of p) = sym (kind-to flow.output flow.level flow.kind) ∙ ap kind_of same in
+          let place : own_place flow.output flow.level flow.kind ≡ own_place flow.output p.level (kind_of (queue_of p)) =
+          ap (λ l. own_place flow.output l flow.kind) level ∙ ap (own_place flow.output p.level) kind in
+          let size = good.size.most in
+          let output = is.output in
+          let more = counted.here flow.output (omega (arith, size, output)) (eqb-true _ 1 (both.1)) in
+          ap (slice_index new) place
+          ∙ more
+          ∙ ap (λ n. one_more (slice_index counts n)) (sym place)
+          ∙ ap one_more was
+          ∙ counted-one (earlier_by scheduler plan slots flow k) few
+          ∙ sym (more-yes goes)
+
+      step-no : goes_by scheduler plan slots flow p ≡ false → slice_index new (own_place flow.output flow.level flow.kind) ≡ earlier_by scheduler plan slots flow (k + 1)
+      step-no goes =
+          counted.others (own_place flow.output flow.level flow.kind)
+          (λ j less member at.
+          let a = kind_few flow.kind in
+          let b = kind_few (kind_of (queue_of p)) in
+          let low = is.level in
+          let planned = (good-card plan good flow.input is.input).good.packets k p at' in
+          let below = planned.level in
+          let output : flow.output ≡ j = omega (arith, a, b, low, below, at) in
+          let level : flow.level ≡ p.level = omega (arith, a, b, low, below, at) in
+          let kind = kind_same flow.kind (kind_of (queue_of p)) (omega (arith, a, b, low, below, at)) in
+          let queue : queue_to flow.output flow.level flow.kind ≡ queue_of p =
+          ap (λ o. queue_to o flow.level flow.kind) output ∙ ap (λ l. queue_to j l flow.kind) level ∙ ap (queue_to j p.level) kind ∙ own-queue p j member in
+          let there : has p.fan flow.output ≡ true = ap (has p.fan) output ∙ eq-eqb _ 1 member in
+          let goes' = goes-all _ (is_queue (queue_to flow.output flow.level flow.kind) (queue_of p)) _ (has p.fan flow.output) admitted (ap (λ q. is_queue q (queue_of p)) queue ∙ is_queue-refl (queue_of p)) there in
+          not-both (goes_by scheduler plan slots flow p) goes' goes)
+          ∙ was
+          ∙ sym (more-no goes) where
+            at' : slice_get (card_at plan flow.input).packets k ≡ Some p
+            at' = at
+
+      step-of : (b : Bool) → goes_by scheduler plan slots flow p ≡ b → slice_index new (own_place flow.output flow.level flow.kind) ≡ earlier_by scheduler plan slots flow (k + 1)
+      step-of true e = step-yes e
+      step-of false e = step-no e
+
+  module _ (input : ℕ) (counts : List ℕ) (at : slice_get (card_at plan input).packets k ≡ Some p) (was : HasGone scheduler plan slots input k counts) where
+    pub gone-more : (new : List ℕ) → was_admitted (card_at plan input) (parts_under scheduler plan input slots) p ≡ true → IsCounted p.fan p.level (kind_of (queue_of p)) MAX_PORTS counts new
+        → HasGone scheduler plan slots input (k + 1) new
+    gone-more new admitted counted = record {
+      long = counted.long ∙ was.long;
+      each = λ flow is e.
+          step-of flow is (subst (λ i. slice_get (card_at plan i).packets k ≡ Some p) (sym e) at) counts new (was.each flow is e)
+          (subst (λ i. was_admitted (card_at plan i) (parts_under scheduler plan i slots) p ≡ true) (sym e) admitted) counted (goes_by scheduler plan slots flow p) refl;
+    }
+
+    pub gone-same : was_admitted (card_at plan input) (parts_under scheduler plan input slots) p ≡ false → HasGone scheduler plan slots input (k + 1) counts
+    gone-same dropped = record {
+      long = was.long;
+      each = λ flow is e.
+          let none = subst (λ i. was_admitted (card_at plan i) (parts_under scheduler plan i slots) p ≡ false) (sym e) dropped in
+          was.each flow is e
+          ∙ sym (more-no flow is (subst (λ i. slice_get (card_at plan i).packets k ≡ Some p) (sym e) at) (goes-none _ (is_queue (queue_to flow.output flow.level flow.kind) (queue_of p)) _ (has p.fan flow.output) none));
+    }
+
+pub gone-first : (scheduler : Scheduler) (plan : SwitchPlan) (slots input : ℕ) → HasGone scheduler plan slots input 0 (replicate MOST_FLOWS 0)
+gone-first scheduler plan slots input = record {
+  long = length-replicate {A = ℕ} MOST_FLOWS 0;
+  each = λ flow is e. get_or-replicate {A = ℕ} MOST_FLOWS (own_place flow.output flow.level flow.kind) 0;
+}
+
+-- ---- the departures of a packet
+module _ (scheduler : Scheduler) (plan : SwitchPlan) (slots : ℕ) (times : Times) (noted : HasNoted scheduler plan times slots) where
+  pub few-inputs : length times.inputs ≤ MAX_PORTS
+  few-inputs = let few = noted.good.size.most in let long = noted.count in omega (arith, few, long)
+
+  module _ (outcome : Outcome) (is : IsOutcome scheduler plan slots outcome) where
+    pub planned-is : IsPlanned (ports_of plan) (length (card_at plan outcome.input).bytes) outcome.packet
+    planned-is =
+        let card = good-card plan noted.good outcome.input is.input in
+        subst (λ n. IsPlanned n (length (card_at plan outcome.input).bytes) outcome.packet) card.ports (card.good.packets outcome.number outcome.packet is.packet)
+
+    pub departure-is : (output : ℕ) (counts : List ℕ) (kind : Kind) → kind ≡ kind_of (queue_of outcome.packet) → output < ports_of plan → HasGone scheduler plan slots outcome.input outcome.number counts
+        → slice_get (slice_index_or times.ends (flow_place (ports_of plan) (record { input = outcome.input; output = output; level = outcome.packet.level; kind = kind })) []) (slice_index counts (own_place output outcome.packet.level kind))
+        ≡ departure_under scheduler plan slots outcome.input output outcome.number outcome.packet
+    departure-is output counts kind same inside gone =
+        let flow = flow_of outcome.input output outcome.packet in
+        let low : level_of (queue_of outcome.packet) < LEVELS = subst (λ l. l < LEVELS) (sym (queue-level outcome.packet)) planned-is.level in
+        let flows : IsFlow (ports_of plan) flow = record { input = is.input; output = inside; level = low } in
+        ap (λ (l : ℕ). slice_get (slice_index_or times.ends (flow_place (ports_of plan) (record { input = outcome.input; output = output; level = l; kind = kind })) []) (slice_index counts (own_place output l kind))) (sym (queue-level outcome.packet))
+        ∙ ap (λ (k : Kind). slice_get (slice_index_or times.ends (flow_place (ports_of plan) (record { input = outcome.input; output = output; level = flow.level; kind = k })) []) (slice_index counts (own_place output flow.level k))) same
+        ∙ ap (λ (ends : List ℕ). slice_get ends (slice_index counts (own_place output flow.level flow.kind))) (noted.ends flow flows)
+        ∙ ap (slice_get (ends_of scheduler plan flow slots)) (gone.each flow flows refl)
+
+  -- ---- an input of the times
+  module _ (input : ℕ) where
+    pub few-own : input < ports_of plan → length (card_at plan input).packets ≤ 131072
+    few-own inside = few_packets (card_at plan input) (good-card plan noted.good input inside).good
+
+    module _ (own : Input) (inside : input < ports_of plan) (mine : own ≡ slice_index_or times.inputs input own) where
+      own-noted : IsNoted (card_at plan input) own (parts_under scheduler plan input slots)
+      own-noted =
+          subst (λ (x : Input). IsNoted (card_at plan input) x (parts_under scheduler plan input slots)) (get_or_default times.inputs input no_input own (let count = noted.count in omega (arith, count, inside)) ∙ sym mine) (noted.each input inside)
+
+      pub own-packets : own.counters.packets ≡ (card_at plan input).packets
+      own-packets = own-noted.counts.packets
+
+      pub own-admitted : ArrivalsComeFirst plan slots → (k : ℕ) (admitted : Bool) → k < length (card_at plan input).packets → admitted ≡ slice_index_or own.admitted k false
+          → admitted ≡ was_admitted (card_at plan input) (parts_under scheduler plan input slots) (slice_index_or (card_at plan input).packets k no_packet)
+      own-admitted come k admitted low is =
+          is ∙ admitted-at (card_at plan input) own (parts_under scheduler plan input slots) own-noted
+          (λ j less. let early = come input inside j no_packet less in let long = served-length scheduler plan input slots in omega (arith, early, long)) k low
+
+      pub own-outcome : ArrivalsComeFirst plan slots → (k : ℕ) (admitted : Bool) → k < length (card_at plan input).packets → admitted ≡ slice_index_or own.admitted k false
+          → IsOutcome scheduler plan slots (record { input = input; number = k; packet = slice_index_or (card_at plan input).packets k no_packet; admitted = admitted })
+      own-outcome come k admitted low is = record {
+        input = inside;
+        packet = slice_get-get_or (card_at plan input).packets k no_packet low;
+        admitted = own-admitted come k admitted low is;
+      }

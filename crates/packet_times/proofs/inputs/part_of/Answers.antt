@@ -1,0 +1,6 @@
+use Rattle.std.proofs.Common.{arith}
+use Rattle.packet_times.proofs.Served.{served-past}
+use Rattle.packet_times.proofs.inputs.part_of.Goals as goal
+
+pub returns-else-input-ports : goal.returns-else-input-ports
+returns-else-input-ports c = served-past c.ports.result c.args.matched.now c.ports.ensures.whole c.args.input (let no = c.if-input-ports.false in omega arith)

@@ -1,0 +1,5 @@
+pub mod Rows
+pub mod Noting
+pub mod Steps
+pub mod Fields
+pub mod Walking

@@ -1,0 +1,46 @@
+ghost use Rattle.std.specs.Prelude.{◌≡◌, ◌<◌, length};
+ghost use Rattle.rotating_pick.specs.declared.limits.TheConstants.{LEVELS, MAX_PORTS};
+ghost use Rattle.card_core.specs.Plans.{kind_of as queue_kind, queue_of};
+ghost use Rattle.packet_times.specs.Walking.{own_place, with_one, IsCounted};
+
+use crate::rows::kind_of;
+use card_core::Planned;
+use reassembly::FLOWS_PER_INPUT;
+use rotating_pick::{Kind, MAX_PORTS, contains};
+
+/// How many flows an input has at most.
+pub(crate) const MOST_FLOWS: usize = 512;
+
+/// The place of a flow among those of its input.
+pub(crate) fn place_of_own(output: u32, level: u8, kind: Kind) -> usize
+    requires { output < MAX_PORTS }
+    ensures { result ≡ own_place output level kind }
+{
+    let kind = match kind {
+        Kind::Uni => 0,
+        Kind::Multi => 1,
+    };
+    FLOWS_PER_INPUT * output as usize + 2 * level as usize + kind
+}
+
+// Counts one more at a place, if there is one.
+fn count_one(counts: &mut [u32], place: usize)
+    ensures { counts.new ≡ with_one counts.old place }
+{
+    if place < counts.len() {
+        counts[place] = counts[place].saturating_add(1);
+    }
+}
+
+/// Counts a packet at its flow to each of its outputs.
+pub(crate) fn count_packet(counts: &mut [u32], packet: &Planned)
+    ensures { packet.now.level < LEVELS → length counts.old ≡ MOST_FLOWS
+        → IsCounted packet.now.fan packet.now.level (queue_kind (queue_of packet.now)) MAX_PORTS counts.old counts.new }
+{
+    let kind = kind_of(packet.fan);
+    for output in 0..MAX_PORTS {
+        if contains(packet.fan, output) {
+            count_one(counts, place_of_own(output, packet.level, kind));
+        }
+    }
+}

@@ -1,0 +1,125 @@
+ghost use Rattle.std.specs.Prelude.{◌≡◌, ◌∷◌, ℕ, List, Option, map, decimal};
+ghost use Rattle.cell_cutter.specs.Messages.{cells_of_packet};
+ghost use Rattle.slot_match.specs.declared.matching.Served.{Served};
+ghost use Rattle.card_core.specs.Plans.{Plan, queue_of, queue_for, kind_of as queue_kind};
+ghost use Rattle.slot_report.specs.Texts.{letter_of};
+ghost use Rattle.packet_times.specs.Noting.{was_admitted};
+ghost use Rattle.packet_times.specs.Rows.{departure_text, delay_text, routed_row, aside_row, state_of as packet_state};
+ghost use Rattle.packet_times.specs.Fields.{field_text};
+
+use crate::fields::{FIELDS, Field, name_of};
+use crate::state::PacketState;
+use card_core::Planned;
+use cell_cutter::{MAX_FORWARDED_BYTES, MESSAGE_HEADER_BYTES, PAYLOAD_BYTES};
+use rotating_pick::{Kind, Ports, only};
+
+// How many cells a packet of so many bytes has, also one that is too long to be forwarded.
+fn size_of(len: u32) -> u64
+    ensures { result ≡ cells_of_packet len }
+{
+    (MESSAGE_HEADER_BYTES as u64 + u64::from(len)).div_ceil(PAYLOAD_BYTES as u64)
+}
+
+// The letter of a kind.
+fn letter(kind: Kind) -> &'static str
+    ensures { result.now ≡ letter_of kind }
+{
+    match kind {
+        Kind::Uni => "u",
+        Kind::Multi => "m",
+    }
+}
+
+// A number that may be missing.
+fn number_or_empty(number: Option<u32>) -> Field<'static>
+    ensures { field_text result ≡ departure_text number }
+{
+    match number {
+        Some(number) => Field::Number(u64::from(number)),
+        None => Field::Empty,
+    }
+}
+
+// How many slots after its arrival a packet departed.
+fn delay_of(arrival: u32, departure: Option<u32>) -> Option<u32>
+    ensures { departure_text result ≡ delay_text arrival departure }
+{
+    match departure {
+        Some(slot) => Some(slot.saturating_sub(arrival)),
+        None => None,
+    }
+}
+
+/// The fields of the row of a packet to an output, after the input's number.
+pub(crate) fn routed_fields(
+    number: u32,
+    packet: &Planned,
+    state: PacketState,
+    kind: Kind,
+    output: u32,
+    departure: Option<u32>,
+) -> [Field<'static>; FIELDS]
+    ensures { (input : ℕ) → kind ≡ queue_kind (queue_of packet.now) → decimal input ∷ map field_text result ≡ routed_row input number packet.now state output departure }
+{
+    [
+        Field::Number(u64::from(number)),
+        Field::Number(u64::from(packet.len)),
+        Field::Number(size_of(packet.len)),
+        Field::Name(name_of(state)),
+        Field::Number(u64::from(packet.level)),
+        Field::Name(letter(kind)),
+        Field::Number(u64::from(output)),
+        Field::Number(u64::from(packet.arrival)),
+        number_or_empty(departure),
+        number_or_empty(delay_of(packet.arrival, departure)),
+    ]
+}
+
+/// The fields of the row of a packet that goes nowhere, after the input's number.
+pub(crate) fn aside_fields(
+    number: u32,
+    packet: &Planned,
+    state: PacketState,
+) -> [Field<'static>; FIELDS]
+    ensures { (input : ℕ) → decimal input ∷ map field_text result ≡ aside_row input number packet.now state }
+{
+    [
+        Field::Number(u64::from(number)),
+        Field::Number(u64::from(packet.len)),
+        Field::Number(size_of(packet.len)),
+        Field::Name(name_of(state)),
+        Field::Empty,
+        Field::Empty,
+        Field::Empty,
+        Field::Number(u64::from(packet.arrival)),
+        Field::Empty,
+        Field::Empty,
+    ]
+}
+
+/// The kind of a packet with this fan-out: unicast where it has one port.
+pub(crate) fn kind_of(fan: Ports) -> Kind
+    ensures { (level : ℕ) → result ≡ queue_kind (queue_for fan level) }
+{
+    match only(fan) {
+        Some(_) => Kind::Uni,
+        None => Kind::Multi,
+    }
+}
+
+/// What became of a packet, which was admitted or not.
+pub(crate) fn state_of(packet: &Planned, admitted: bool) -> PacketState
+    ensures { (plan : Plan) (served : List (Option Served)) → admitted ≡ was_admitted plan served packet.now → result ≡ packet_state plan served packet.now }
+{
+    if packet.fan == 0 {
+        if packet.len > MAX_FORWARDED_BYTES as u32 {
+            PacketState::Oversize
+        } else {
+            PacketState::Unrouted
+        }
+    } else if admitted {
+        PacketState::Forwarded
+    } else {
+        PacketState::Dropped
+    }
+}

@@ -1,0 +1,119 @@
+ghost use Rattle.std.specs.Prelude.{◌≡◌, ◌+◌, ◌≤◌, ℕ, length, IfOk, OnOk, string_bytes};
+ghost use Rattle.rotating_pick.specs.declared.limits.TheConstants.{MAX_PORTS};
+ghost use Rattle.eslip_rounds.specs.Schedulers.{Scheduler};
+ghost use Rattle.switch_plan.specs.GoodPlans.{SwitchPlan, IsGood, switch_plan_of};
+ghost use Rattle.whole_run.specs.Runs.{ports_of, IsSlotUnder};
+ghost use Rattle.whole_run.specs.Promises.{ArrivalsComeFirst};
+ghost use Rattle.packet_times.specs.Rows.{packets_text_under};
+ghost use Rattle.packet_times.specs.Noting.{HasNoted};
+
+use crate::ends::{FlowEnds, no_ends, note_ends};
+use crate::inputs::{Input, inputs_of, note_inputs};
+use crossbar::Post;
+use rotating_pick::{MAX_PORTS, OutOfMemory};
+use slot_match::{Fed, Match};
+use std::alloc::{AllocError, Global};
+use std::marker::Model;
+use switch_plan::Plan;
+
+// The first line of the packets file.
+const HEADER: &str = "input,packet,bytes,cells,state,level,kind,output,arrival,departure,delay\n";
+
+/// When the packets of a run leave, noted slot by slot.
+#[derive(Drop)]
+pub struct PacketTimes {
+    pub(crate) inputs: Vec<Input>,
+    // The ends of each flow, by its place.
+    pub(crate) ends: Vec<FlowEnds>,
+    // What fed each output in the slot before.
+    feeds: Vec<Option<Fed>>,
+}
+
+impl Model for PacketTimes {
+    ghost use Rattle.packet_times.specs.Noting.{Times};
+
+    ghost Value = { Times };
+
+    ghost view = { λ t. record { inputs = t.inputs.items; ends = t.ends.items; matched = t.feeds.items } };
+}
+
+impl PacketTimes {
+    /// The times of a plan that is good, before slot 0. Want of memory is the only error.
+    pub fn make(alloc: Global, plan: &Plan) -> Result<PacketTimes, OutOfMemory>
+        requires { IsGood (switch_plan_of plan.now) }
+        ensures { IfOk result (λ times. (scheduler : Scheduler) → HasNoted scheduler (switch_plan_of plan.now) times 0) }
+    {
+        let inputs = inputs_of(alloc, plan)?;
+        let ends = no_ends(alloc, plan.cards.len() as u32)?;
+        let feeds = Vec::with_capacity(alloc, plan.cards.len())?;
+        Ok(PacketTimes {
+            inputs,
+            ends,
+            feeds,
+        })
+    }
+
+    /// Notes the next slot of the run, from slot 0 on: what its ports posted, and its match. Want of memory is the only
+    /// error.
+    pub fn note(&mut self, slot: u32, posts: &[Post], matched: &Match) -> Result<(), OutOfMemory>
+        requires { (scheduler : Scheduler) × (plan : SwitchPlan) × HasNoted scheduler plan self.old slot × IsSlotUnder scheduler plan slot posts.now matched.now }
+        ensures { (scheduler : Scheduler) (plan : SwitchPlan) → HasNoted scheduler plan self.old slot → IsSlotUnder scheduler plan slot posts.now matched.now
+            → OnOk result (HasNoted scheduler plan self.new (slot + 1)) }
+    {
+        let ports = self.inputs.len() as u32;
+        note_ends(&mut self.ends, ports, slot, posts, &self.feeds)?;
+        note_inputs(&mut self.inputs, slot, posts, matched)?;
+        keep_feeds(&mut self.feeds, matched)?;
+        Ok(())
+    }
+
+    /// How many ports the switch has, no more than 64.
+    pub(crate) fn ports(&self) -> u32
+        ensures most { result ≤ MAX_PORTS }
+        ensures within { result ≤ length self.now.inputs }
+        ensures value { length self.now.inputs ≤ MAX_PORTS → result ≡ length self.now.inputs }
+        ensures all { (scheduler : Scheduler) (plan : SwitchPlan) (slots : ℕ) → HasNoted scheduler plan self.now slots → result ≡ ports_of plan }
+    {
+        self.inputs.len().min(MAX_PORTS as usize) as u32
+    }
+
+    /// How many bytes the packets file has, of a run of which so many slots were noted, and by whose end all packets have
+    /// arrived. It makes the rows of one input at a time. Want of memory is the only error.
+    pub fn len(&self, alloc: Global) -> Result<u64, OutOfMemory>
+        ensures { (scheduler : Scheduler) (plan : SwitchPlan) (slots : ℕ) → HasNoted scheduler plan self.now slots → ArrivalsComeFirst plan slots
+            → IfOk result (λ len. len ≡ length (packets_text_under scheduler plan slots)) }
+    {
+        let mut len = HEADER.len() as u64;
+        let mut rows = String::new(alloc);
+        for input in 0..self.ports() {
+            rows.clear();
+            self.put_input(&mut rows, input)?;
+            // No run has rows of so many bytes that the sum does not fit.
+            len = len.checked_add(rows.len() as u64).ok_or(OutOfMemory)?;
+        }
+        Ok(len)
+    }
+
+    /// The packets file of that run. Want of memory is the only error.
+    pub fn text(&self, alloc: Global) -> Result<String, OutOfMemory>
+        ensures { (scheduler : Scheduler) (plan : SwitchPlan) (slots : ℕ) → HasNoted scheduler plan self.now slots → ArrivalsComeFirst plan slots
+            → IfOk result (λ text. string_bytes text ≡ packets_text_under scheduler plan slots) }
+    {
+        let mut text = String::from_str(alloc, HEADER)?;
+        for input in 0..self.ports() {
+            self.put_input(&mut text, input)?;
+        }
+        Ok(text)
+    }
+}
+
+// Keeps what feeds each output in the match.
+fn keep_feeds(feeds: &mut Vec<Option<Fed>>, matched: &Match) -> Result<(), AllocError>
+    ensures { OnOk result (feeds.new.items ≡ matched.now) }
+{
+    feeds.clear();
+    for output in 0..matched.ports() {
+        feeds.push(matched.fed(output))?;
+    }
+    Ok(())
+}
