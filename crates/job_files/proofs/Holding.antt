@@ -2,13 +2,13 @@
 use Rattle.std.proofs.Common.{◌≡◌, ◌≢◌, ◌<◌, ◌≤◌, ◌+◌, ◌^◌, ℕ, zero, suc, List, [], ◌∷◌, ◌++◌, length, get_or, Option, Some, None, refl, sym, ◌∙◌, ap, arith, length-append}
 use Rattle.std.specs.Prelude.{All, IfSome, option_map, codes, decimal}
 use Rattle.std.proofs.lemmas.Fmt.{decimal_injective}
-use Rattle.std.proofs.lemmas.List.{append_cancel_left, append_cancel_right}
+use Rattle.std.proofs.lemmas.List.{append_cancel_left, append_cancel_right, get_or-append-add}
 use Rattle.std.proofs.lemmas.List.Elements.{All-head, All-tail}
 use Rattle.outside.specs.Contents.{Contents, append_out, begin_file}
 use Rattle.outside.specs.WholeFiles.{NamedBytes, put_file}
 use Rattle.outside.proofs.Effects.{file-append_file-begin_file, file-append_file-other, file-begin_file-other}
 use Rattle.switch_words.specs.Reading.{JobWords, run, gen, check, firm, RunWords}
-use Rattle.job_files.specs.OutputFiles.{Texts, HoldsTexts, files_from, journal_files, journal_name, output_name, report_name, put_files, put_texts, run_files}
+use Rattle.job_files.specs.OutputFiles.{Texts, HoldsTexts, files_from, journal_files, journal_name, output_name, packets_files, packets_name, report_name, put_files, put_texts, run_files}
 
 -- ---- names
 
@@ -47,6 +47,32 @@ output_is_no_journal : (prefix : List ℕ) (j : ℕ) → output_name prefix j �
 output_is_no_journal prefix j same =
     let dotted : codes "." ++ (decimal j ++ codes ".pcap") ≡ codes "." ++ codes "journal" = append_cancel_left prefix _ _ same in
     ends_no_journal (decimal j) (append_cancel_left (codes ".") _ _ dotted)
+
+report_is_no_packets : (prefix : List ℕ) → report_name prefix ≢ packets_name prefix
+report_is_no_packets prefix same =
+    let names : codes ".report" ≡ codes ".packets.csv" = append_cancel_left prefix _ _ same in
+    let second = ap (λ xs. get_or xs 1 0) names in
+    omega (arith, second)
+
+journal_is_no_packets : (prefix : List ℕ) → journal_name prefix ≢ packets_name prefix
+journal_is_no_packets prefix same =
+    let names : codes ".journal" ≡ codes ".packets.csv" = append_cancel_left prefix _ _ same in
+    let second = ap (λ xs. get_or xs 1 0) names in
+    omega (arith, second)
+
+ends_no_packets : (digits : List ℕ) → digits ++ codes ".pcap" ≡ codes "packets.csv" → ⊥
+ends_no_packets digits same =
+    let long : length digits ≡ 6 = omega (arith, ap length same, length-append digits (codes ".pcap")) in
+    let last : 112 ≡ get_or (codes "packets.csv") (length digits + 4) 0 =
+    sym (get_or-append-add digits (codes ".pcap") 4 0) ∙ ap (λ xs. get_or xs (length digits + 4) 0) same in
+    let clash : 112 ≡ 118 = last ∙ ap (λ n. get_or (codes "packets.csv") (n + 4) 0) long in
+    absurd (omega (arith, clash))
+
+-- no output has the name of the packets file
+output_is_no_packets : (prefix : List ℕ) (j : ℕ) → output_name prefix j ≢ packets_name prefix
+output_is_no_packets prefix j same =
+    let dotted : codes "." ++ (decimal j ++ codes ".pcap") ≡ codes "." ++ codes "packets.csv" = append_cancel_left prefix _ _ same in
+    ends_no_packets (decimal j) (append_cancel_left (codes ".") _ _ dotted)
 
 -- ---- files that are put
 
@@ -107,8 +133,17 @@ report_of r texts = record { name = report_name r.prefix; bytes = texts.report }
 abbrev after_report : RunWords → Texts → Contents → Contents
 after_report r texts c = put_file (put_files (files_from r.prefix 0 texts.outputs) c) (report_of r texts)
 
-file_after : (r : RunWords) (texts : Texts) (c : Contents) (name : List ℕ) → (put_texts (run r) texts c).file name ≡ (put_files (journal_files r.prefix texts.journal) (after_report r texts c)).file name
-file_after r texts c name = ap (λ (d : Contents). d.file name) (put_append (files_from r.prefix 0 texts.outputs) (report_of r texts ∷ journal_files r.prefix texts.journal) c)
+-- and the journal
+abbrev after_journal : RunWords → Texts → Contents → Contents
+after_journal r texts c = put_files (journal_files r.prefix texts.journal) (after_report r texts c)
+
+file_after : (r : RunWords) (texts : Texts) (c : Contents) (name : List ℕ)
+    → (put_texts (run r) texts c).file name ≡ (put_files (packets_files r.prefix texts.packets) (after_journal r texts c)).file name
+file_after r texts c name =
+    let journal = journal_files r.prefix texts.journal in
+    let packets = packets_files r.prefix texts.packets in
+    ap (λ (d : Contents). d.file name) (put_append (files_from r.prefix 0 texts.outputs) (report_of r texts ∷ (journal ++ packets)) c)
+    ∙ ap (λ (d : Contents). d.file name) (put_append journal packets (after_report r texts c))
 
 -- the journal's file leaves the others
 journal_leaves : (prefix : List ℕ) (journal : Option (List ℕ)) (c : Contents) (name : List ℕ) → name ≢ journal_name prefix → (put_files (journal_files prefix journal) c).file name ≡ c.file name
@@ -117,12 +152,21 @@ journal_leaves prefix (Some bytes) c name other =
     file-append_file-other (journal_name prefix) bytes name (begin_file (journal_name prefix) c) other
     ∙ file-begin_file-other (journal_name prefix) name c other
 
+-- so does the packets file
+packets_leave : (prefix : List ℕ) (packets : Option (List ℕ)) (c : Contents) (name : List ℕ) → name ≢ packets_name prefix
+    → (put_files (packets_files prefix packets) c).file name ≡ c.file name
+packets_leave prefix None c name other = refl
+packets_leave prefix (Some bytes) c name other =
+    file-append_file-other (packets_name prefix) bytes name (begin_file (packets_name prefix) c) other
+    ∙ file-begin_file-other (packets_name prefix) name c other
+
 output_held : (r : RunWords) (texts : Texts) (c : Contents) (j : ℕ) → length texts.outputs ≤ 2 ^ 64 → j < length texts.outputs → (put_texts (run r) texts c).file (output_name r.prefix j) ≡ Some (get_or texts.outputs j [])
 output_held r texts c j fits within =
     let n : 0 + j ≡ j = omega arith in
     let files = put_files (files_from r.prefix 0 texts.outputs) c in
     let other = output_is_no_report r.prefix j in
     file_after r texts c (output_name r.prefix j)
+    ∙ packets_leave r.prefix texts.packets (after_journal r texts c) (output_name r.prefix j) (output_is_no_packets r.prefix j)
     ∙ journal_leaves r.prefix texts.journal (after_report r texts c) (output_name r.prefix j) (output_is_no_journal r.prefix j)
     ∙ file-append_file-other (report_name r.prefix) texts.report (output_name r.prefix j) (begin_file (report_name r.prefix) files) other
     ∙ file-begin_file-other (report_name r.prefix) (output_name r.prefix j) files other
@@ -131,14 +175,23 @@ output_held r texts c j fits within =
 report_held : (r : RunWords) (texts : Texts) (c : Contents) → (put_texts (run r) texts c).file (report_name r.prefix) ≡ Some texts.report
 report_held r texts c =
     file_after r texts c (report_name r.prefix)
+    ∙ packets_leave r.prefix texts.packets (after_journal r texts c) (report_name r.prefix) (report_is_no_packets r.prefix)
     ∙ journal_leaves r.prefix texts.journal (after_report r texts c) (report_name r.prefix) (report_is_no_journal r.prefix)
     ∙ file-append_file-begin_file (report_name r.prefix) texts.report (put_files (files_from r.prefix 0 texts.outputs) c)
 
 journal_held : (r : RunWords) (texts : Texts) (c : Contents) (bytes : List ℕ) → texts.journal ≡ Some bytes → (put_texts (run r) texts c).file (journal_name r.prefix) ≡ Some bytes
 journal_held r texts c bytes is =
     file_after r texts c (journal_name r.prefix)
+    ∙ packets_leave r.prefix texts.packets (after_journal r texts c) (journal_name r.prefix) (journal_is_no_packets r.prefix)
     ∙ ap (λ (journal : Option (List ℕ)). (put_files (journal_files r.prefix journal) (after_report r texts c)).file (journal_name r.prefix)) is
     ∙ file-append_file-begin_file (journal_name r.prefix) bytes (after_report r texts c)
+
+packets_held : (r : RunWords) (texts : Texts) (c : Contents) (bytes : List ℕ) → texts.packets ≡ Some bytes
+    → (put_texts (run r) texts c).file (packets_name r.prefix) ≡ Some bytes
+packets_held r texts c bytes is =
+    file_after r texts c (packets_name r.prefix)
+    ∙ ap (λ (packets : Option (List ℕ)). (put_files (packets_files r.prefix packets) (after_journal r texts c)).file (packets_name r.prefix)) is
+    ∙ file-append_file-begin_file (packets_name r.prefix) bytes (after_journal r texts c)
 
 same_run : (r s : RunWords) → run r ≡ run s → s ≡ r
 same_run r s same = cc
@@ -149,6 +202,7 @@ holds_alone job texts c other = record {
   outputs = λ s j is within. absurd (other s is);
   report = λ s is. absurd (other s is);
   journal = λ s bytes is found. absurd (other s is);
+  packets = λ s bytes is found. absurd (other s is);
   others = λ name none. refl;
   out = refl;
   err = refl;
@@ -168,6 +222,7 @@ holds (run r) texts c fits = record {
   outputs = λ s j is within. rw (same_run r s is) (output_held r texts c j fits within);
   report = λ s is. rw (same_run r s is) (report_held r texts c);
   journal = λ s bytes is found. rw (same_run r s is) (journal_held r texts c bytes found);
+  packets = λ s bytes is found. rw (same_run r s is) (packets_held r texts c bytes found);
   others = λ name other. others_put (run_files r.prefix texts) c name other;
   out = ap (λ out. out ++ texts.summary) (out_put (run_files r.prefix texts) c);
   err = err_put (run_files r.prefix texts) c;

@@ -1,6 +1,6 @@
 -- The files that a run writes, one after the other.
-use Rattle.std.proofs.Common.{◌≡◌, ◌<◌, ◌+◌, ℕ, suc, List, [], ◌∷◌, ◌++◌, map, take, length, get_or, Option, Some, None, inl, inr, refl, sym, ◌∙◌, ap, subst, arith}
-use Rattle.std.specs.Prelude.{Result, Ok, Err, is_err, is_ok, true, false, if◌then◌else◌, option_map, string_bytes}
+use Rattle.std.proofs.Common.{◌≡◌, ◌<◌, ◌≤◌, ◌+◌, ℕ, suc, List, [], ◌∷◌, ◌++◌, map, take, length, get_or, Option, Some, None, inl, inr, refl, sym, ◌∙◌, ap, subst, arith}
+use Rattle.std.specs.Prelude.{Result, Ok, Err, is_err, is_ok, Bool, true, false, ◌&&◌, ◌==◌, if◌then◌else◌, option_map, string_bytes}
 use Rattle.std.proofs.lemmas.List.{get_or-map, length-map, map_push}
 use Rattle.std.proofs.lemmas.Bool.{cases_lt, le-ltb, lt-ltb}
 use Rattle.std.proofs.lemmas.Bool.Decides.{eqb_tells}
@@ -11,9 +11,10 @@ use Rattle.outside.specs.WholeFiles.{NamedBytes, Puts, StopsAt, put_file}
 use Rattle.outside.proofs.Counting.{NeverFall-refl}
 use Rattle.outside.proofs.Putting.{StopsAt-wider}
 use Rattle.outside.proofs.Effects.{option_map-option_map}
-use Rattle.job_files.specs.OutputFiles.{files_from, nameless, output_name, put_files, shown}
+use Rattle.job_files.specs.OutputFiles.{files_from, nameless, output_name, packets_place, put_files, shown}
 use Rattle.job_files.specs.FileSteps.{StopsAtPlace, StopsPutting, written_at}
 use Rattle.job_files.specs.declared.output_files.OutputFile.{OutputFile}
+use Rattle.job_files.specs.declared.ending.Written.TheVariants.{Journal, Packets}
 use Rattle.job_files.proofs.Holding.{length-files_from}
 
 -- a call on one of the files failed
@@ -72,13 +73,35 @@ puts_of r f name bytes a d o new name_is bytes_is puts =
     subst (λ (n : List ℕ). Puts r (record { name = n; bytes = f.bytes }) a d o new) name_is
     (subst (λ (bs : List ℕ). Puts r (record { name = name; bytes = bs }) a d o new) bytes_is puts)
 
--- a call on the file at a place, after so many outputs, was refused
-pub stops_at_place : (outputs : ℕ) (files : List NamedBytes) (text : List ℕ) (place : ℕ) (old told : Option Contents) (was now : Place → ℕ) → place < length files
-    → StopsAt (get_or files place nameless) was now (option_map (put_files (take place files)) old) told → StopsPutting outputs files text (written_at place outputs) old was now told
-stops_at_place outputs files text place old told was now within stops = elim (cases_lt place outputs) [
-  | inl before ↦ rw (lt-ltb place outputs before) (before, record { within = within; stops = stops })
-  | inr after ↦ elim (eqb_tells place outputs) [
-    | inl same ↦ rw (le-ltb place outputs after, same.0) (subst (λ (n : ℕ). StopsAtPlace files n old was now told) same.1 (record { within = within; stops = stops }))
-    | inr other ↦ let differs = other.1 in rw (le-ltb place outputs after, other.0) (place, omega (arith, after, differs), record { within = within; stops = stops })
-  ]
+-- a call on a file after the report's was refused
+stops_later : (outputs : ℕ) (with_journal : Bool) (files : List NamedBytes) (text : List ℕ) (place : ℕ) (old told : Option Contents) (was now : Place → ℕ)
+    → outputs < place → StopsAtPlace files place old was now told
+    → StopsPutting outputs with_journal files text (if with_journal && (place == outputs + 1) then Journal else Packets) old was now told
+stops_later outputs false files text place old told was now after stops = (place, omega (arith, after), stops)
+stops_later outputs true files text place old told was now after stops = elim (eqb_tells place (outputs + 1)) [
+  | inl same ↦ rw same.0 (refl, subst (λ (n : ℕ). StopsAtPlace files n old was now told) same.1 stops)
+  | inr other ↦ let differs = other.1 in rw other.0 (place, omega (arith, after, differs), stops)
 ]
+
+-- a call on the file at a place, after so many outputs, was refused
+pub stops_at_place : (outputs : ℕ) (with_journal : Bool) (files : List NamedBytes) (text : List ℕ) (place : ℕ)
+    → (old told : Option Contents) (was now : Place → ℕ) → place < length files → StopsAt (get_or files place nameless) was now (option_map (put_files (take place files)) old) told
+    → StopsPutting outputs with_journal files text (written_at place outputs with_journal) old was now told
+stops_at_place outputs with_journal files text place old told was now within stops =
+    let at : StopsAtPlace files place old was now told = record { within = within; stops = stops } in
+    elim (cases_lt place outputs) [
+      | inl before ↦ rw (lt-ltb place outputs before) (before, at)
+      | inr after ↦ elim (eqb_tells place outputs) [
+        | inl same ↦ rw (le-ltb place outputs after, same.0) (subst (λ (n : ℕ). StopsAtPlace files n old was now told) same.1 at)
+        | inr other ↦ let differs = other.1 in
+            rw (le-ltb place outputs after, other.0) (stops_later outputs with_journal files text place old told was now (omega (arith, after, differs)) at)
+      ]
+    ]
+
+-- where no file stands after the packets file, it is the packets file that was being written
+pub packets_at_its_place : (outputs : ℕ) (with_journal : Bool) (files : List NamedBytes) (text : List ℕ) (old told : Option Contents) (was now : Place → ℕ)
+    → length files ≤ packets_place outputs with_journal + 1 → StopsPutting outputs with_journal files text Packets old was now told
+    → StopsAtPlace files (packets_place outputs with_journal) old was now told
+packets_at_its_place outputs with_journal files text old told was now few stops =
+    let same : stops.0 ≡ packets_place outputs with_journal = omega (arith, few, stops.1, stops.2.within) in
+    subst (λ (n : ℕ). StopsAtPlace files n old was now told) same stops.2

@@ -6,7 +6,7 @@ use Rattle.outside.proofs.Counting.{NeverFall-refl, Rose-wider}
 use Rattle.job_files.specs.Jobs.{ReadWords, input_name}
 use Rattle.job_files.specs.FileSteps.{StopsReading}
 use Rattle.job_files.specs.declared.ending.Ending.{Ending}
-use Rattle.job_files.specs.declared.ending.Ending.TheVariants.{Done, Usage, ReadFault, TooLong, Refused, JournalTooLong, OutOfMemory, WriteFault, Checked}
+use Rattle.job_files.specs.declared.ending.Ending.TheVariants.{Done, Usage, ReadFault, TooLong, Refused, JournalTooLong, PacketsTooLong, OutOfMemory, WriteFault, Checked}
 
 -- a wider span of calls stops a reading as well
 StopsReading-wider : (r : ReadWords) (old : Option Contents) (a b c d : Place → ℕ) (ending : Ending) → NeverFall a b → NeverFall c d → StopsReading r old b c ending → StopsReading r old a d ending
@@ -16,6 +16,7 @@ StopsReading-wider r old a b c d (ReadFault input) start end stops = (stops.0, s
 StopsReading-wider r old a b c d (TooLong input) start end stops = stops
 StopsReading-wider r old a b c d (Refused fault) start end stops = stops
 StopsReading-wider r old a b c d (JournalTooLong size) start end stops = stops
+StopsReading-wider r old a b c d (PacketsTooLong size) start end stops = stops
 StopsReading-wider r old a b c d OutOfMemory start end stops = stops
 StopsReading-wider r old a b c d (WriteFault written) start end stops = stops
 StopsReading-wider r old a b c d (Checked ending) start end stops = stops

@@ -8,13 +8,13 @@ use Rattle.check_job.specs.declared.ending.CheckEnding.{CheckEnding}
 use Rattle.check_job.specs.declared.ending.CheckEnding.TheVariants as check_ending
 use Rattle.switch_words.specs.Reading.{JobWords, run, gen, check, firm}
 use Rattle.job_files.specs.Jobs.{input_name, run_reads, firm_reads}
-use Rattle.job_files.specs.OutputFiles.{output_name, report_name, journal_name}
+use Rattle.job_files.specs.OutputFiles.{output_name, report_name, journal_name, packets_name}
 use Rattle.job_files.specs.RefusalLines.{memory_line, refusal_line}
 use Rattle.job_files.specs.declared.inputs.InputFile.{InputFile}
 use Rattle.job_files.specs.declared.ending.Written.{Written}
-use Rattle.job_files.specs.declared.ending.Written.TheVariants.{Output, Report, Journal, StandardOutput}
+use Rattle.job_files.specs.declared.ending.Written.TheVariants.{Output, Report, Journal, Packets, StandardOutput}
 use Rattle.job_files.specs.declared.ending.Ending.{Ending}
-use Rattle.job_files.specs.declared.ending.Ending.TheVariants.{Done, Usage, ReadFault, TooLong, Refused, JournalTooLong, OutOfMemory, WriteFault, Checked}
+use Rattle.job_files.specs.declared.ending.Ending.TheVariants.{Done, Usage, ReadFault, TooLong, Refused, JournalTooLong, PacketsTooLong, OutOfMemory, WriteFault, Checked}
 
 -- the line where the words are not those of a job
 abbrev pub usage_line : List ℕ
@@ -36,6 +36,7 @@ abbrev pub name_in_run : List ℕ → Written → List ℕ
 name_in_run prefix (Output port) = output_name prefix port
 name_in_run prefix Report = report_name prefix
 name_in_run prefix Journal = journal_name prefix
+name_in_run prefix Packets = packets_name prefix
 name_in_run prefix StandardOutput = codes "standard output"
 
 -- the name of what is written where there are no files
@@ -43,6 +44,7 @@ abbrev pub name_without_files : Written → List ℕ
 name_without_files (Output port) = []
 name_without_files Report = []
 name_without_files Journal = []
+name_without_files Packets = []
 name_without_files StandardOutput = codes "standard output"
 
 -- the name of what a job writes; only `run` writes files
@@ -55,6 +57,10 @@ name_written (firm f) written = name_without_files written
 -- the line where a journal has more bytes than a journal file may have
 abbrev pub journal_line : ℕ → List ℕ
 journal_line size = concat (codes "journal too long: " ∷ decimal size ∷ codes "\n" ∷ [])
+
+-- and where a packets file has more bytes than it may have
+abbrev pub packets_line : ℕ → List ℕ
+packets_line size = concat (codes "packets too long: " ∷ decimal size ∷ codes "\n" ∷ [])
 
 -- the parts of a line that say why a journal is not lawful
 abbrev pub reason_parts : Reason → List (List ℕ)
@@ -89,6 +95,7 @@ line_of job (ReadFault input) = named_line (codes "read fault: ") (name_read job
 line_of job (TooLong input) = named_line (codes "too long: ") (name_read job input)
 line_of job (Refused fault) = refusal_line fault
 line_of job (JournalTooLong size) = journal_line size
+line_of job (PacketsTooLong size) = packets_line size
 line_of job OutOfMemory = memory_line
 line_of job (WriteFault written) = named_line (codes "write fault: ") (name_written job written)
 line_of job (Checked ending) = checked_line job ending

@@ -23,18 +23,20 @@ with_workers workers (gen g) = gen (record g { settings = settings_with workers 
 with_workers workers (check file) = check file
 with_workers workers (firm f) = firm (record f { settings = settings_with workers f.settings })
 
--- what a run is to tell beside its captures, the report's numbers and the summary: a line for each slot, the journal, and
--- the lines of the output-queued reference
+-- what a run is to tell beside its captures, the report's numbers and the summary: a line for each slot, the journal, the
+-- lines of the output-queued reference, the lines of the queues, and the packets file
 pub record Wanted : Type 0 where
   pub slots : Bool
   pub journal : Bool
   pub reference : Bool
+  pub queues : Bool
+  pub packets : Bool
 
 abbrev pub wanted_by : RunWords → Wanted
-wanted_by r = record { slots = r.slots; journal = r.journal; reference = r.reference }
+wanted_by r = record { slots = r.slots; journal = r.journal; reference = r.reference; queues = r.queues; packets = r.packets }
 
 abbrev pub nothing_wanted : Wanted
-nothing_wanted = record { slots = false; journal = false; reference = false }
+nothing_wanted = record { slots = false; journal = false; reference = false; queues = false; packets = false }
 
 -- the names of the files that a job reads: the table, and the capture of each port
 pub record ReadWords : Type 0 where

@@ -1,16 +1,18 @@
--- What a job writes: the file of each output, the report and the journal, and then the summary to standard output.
-use Rattle.std.specs.Prelude.{◌≡◌, ◌≢◌, ◌+◌, ◌<◌, ℕ, List, [], ◌∷◌, ◌++◌, length, slice_index_or, Option, Some, None, All, codes, decimal, string_bytes}
+-- What a job writes: the file of each output, the report, the journal and the packets file, and then the summary to standard output.
+use Rattle.std.specs.Prelude.{◌≡◌, ◌≢◌, ◌+◌, ◌<◌, ℕ, Bool, if◌then◌else◌, List, [], ◌∷◌, ◌++◌, length, slice_index_or, Option, Some, None, All, codes, decimal, string_bytes}
 use Rattle.std.specs.List.{fold}
 use Rattle.outside.specs.Contents.{Contents, append_out}
 use Rattle.outside.specs.WholeFiles.{NamedBytes, put_file}
 use Rattle.switch_words.specs.Reading.{JobWords, run, gen, check, firm, RunWords}
 use Rattle.job_files.specs.declared.output_files.OutputFile.{OutputFile}
 
--- The texts that a job makes: the capture of each output, the report, the journal where it is wanted, and the summary.
+-- The texts that a job makes: the capture of each output, the report, the journal and the packets file where they are
+-- wanted, and the summary.
 pub record Texts : Type 0 where
   pub outputs : List (List ℕ)
   pub report : List ℕ
   pub journal : Option (List ℕ)
+  pub packets : Option (List ℕ)
   pub summary : List ℕ
 
 -- no name and no bytes
@@ -33,6 +35,10 @@ report_name prefix = prefix ++ codes ".report"
 abbrev pub journal_name : List ℕ → List ℕ
 journal_name prefix = prefix ++ codes ".journal"
 
+-- and of the packets file: `PREFIX.packets.csv`
+abbrev pub packets_name : List ℕ → List ℕ
+packets_name prefix = prefix ++ codes ".packets.csv"
+
 -- the files of the outputs from output j on, in order
 abbrev pub files_from : List ℕ → ℕ → List (List ℕ) → List NamedBytes
 files_from prefix j [] = []
@@ -43,9 +49,24 @@ abbrev pub journal_files : List ℕ → Option (List ℕ) → List NamedBytes
 journal_files prefix None = []
 journal_files prefix (Some bytes) = record { name = journal_name prefix; bytes = bytes } ∷ []
 
--- the files of a run, in order: the outputs, then the report, and then the journal
+-- the packets file, where there is one
+abbrev pub packets_files : List ℕ → Option (List ℕ) → List NamedBytes
+packets_files prefix None = []
+packets_files prefix (Some bytes) = record { name = packets_name prefix; bytes = bytes } ∷ []
+
+-- the files of these bytes, in order: the outputs, then the report, then the journal where there is one, and then the
+-- packets file where there is one
+abbrev pub files_in_order : List ℕ → List (List ℕ) → List ℕ → Option (List ℕ) → Option (List ℕ) → List NamedBytes
+files_in_order prefix outputs report journal packets =
+    files_from prefix 0 outputs ++ record { name = report_name prefix; bytes = report } ∷ (journal_files prefix journal ++ packets_files prefix packets)
+
+-- the files of a run, in this order
 abbrev pub run_files : List ℕ → Texts → List NamedBytes
-run_files prefix texts = files_from prefix 0 texts.outputs ++ record { name = report_name prefix; bytes = texts.report } ∷ journal_files prefix texts.journal
+run_files prefix texts = files_in_order prefix texts.outputs texts.report texts.journal texts.packets
+
+-- the place of the packets file, after so many outputs: the report stands between, and the journal where there is one
+abbrev pub packets_place : ℕ → Bool → ℕ
+packets_place outputs with_journal = outputs + 1 + (if with_journal then 1 else 0)
 
 -- the files that a job writes, in order: none but for `run`
 abbrev pub files_of : JobWords → Texts → List NamedBytes
@@ -62,12 +83,13 @@ put_files files c = fold put_file c files
 abbrev pub put_texts : JobWords → Texts → Contents → Contents
 put_texts job texts c = append_out texts.summary (put_files (files_of job texts) c)
 
--- Each output of a run stands whole in the file of its number, and the report and the journal in theirs; every other file
--- holds what it held. Standard output was given the summary, and standard error nothing.
+-- Each output of a run stands whole in the file of its number, and the report, the journal and the packets file in theirs;
+-- every other file holds what it held. Standard output was given the summary, and standard error nothing.
 pub record HoldsTexts (job : JobWords) (texts : Texts) (before after : Contents) : Type 0 where
   pub outputs : (r : RunWords) (j : ℕ) → job ≡ run r → j < length texts.outputs → after.file (output_name r.prefix j) ≡ Some (slice_index_or texts.outputs j [])
   pub report : (r : RunWords) → job ≡ run r → after.file (report_name r.prefix) ≡ Some texts.report
   pub journal : (r : RunWords) (bytes : List ℕ) → job ≡ run r → texts.journal ≡ Some bytes → after.file (journal_name r.prefix) ≡ Some bytes
+  pub packets : (r : RunWords) (bytes : List ℕ) → job ≡ run r → texts.packets ≡ Some bytes → after.file (packets_name r.prefix) ≡ Some bytes
   pub others : (name : List ℕ) → All (λ file. file.name ≢ name) (files_of job texts) → after.file name ≡ before.file name
   pub out : after.out ≡ before.out ++ texts.summary
   pub err : after.err ≡ before.err

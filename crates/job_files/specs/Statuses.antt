@@ -3,7 +3,7 @@ use Rattle.std.specs.Prelude.{ℕ}
 use Rattle.check_job.specs.declared.ending.CheckEnding.{CheckEnding}
 use Rattle.check_job.specs.declared.ending.CheckEnding.TheVariants as check_ending
 use Rattle.job_files.specs.declared.ending.Ending.{Ending}
-use Rattle.job_files.specs.declared.ending.Ending.TheVariants.{Done, Usage, ReadFault, TooLong, Refused, JournalTooLong, OutOfMemory, WriteFault, Checked}
+use Rattle.job_files.specs.declared.ending.Ending.TheVariants.{Done, Usage, ReadFault, TooLong, Refused, JournalTooLong, PacketsTooLong, OutOfMemory, WriteFault, Checked}
 
 -- the exit status of each ending of a check
 abbrev pub check_status : CheckEnding → ℕ
@@ -23,6 +23,7 @@ status_of (ReadFault input) = 3
 status_of (TooLong input) = 4
 status_of (Refused fault) = 4
 status_of (JournalTooLong size) = 4
+status_of (PacketsTooLong size) = 4
 status_of OutOfMemory = 5
 status_of (WriteFault written) = 6
 status_of (Checked ending) = check_status ending

@@ -14,6 +14,8 @@ pub enum Written {
     Report,
     /// The journal's file.
     Journal,
+    /// The packets file.
+    Packets,
     StandardOutput,
 }
 
@@ -32,6 +34,8 @@ pub enum Ending {
     Refused(PlanFault),
     /// The run's journal has this many bytes, more than a journal file may have.
     JournalTooLong(u64),
+    /// The packets file would have this many bytes, more than it may have.
+    PacketsTooLong(u64),
     OutOfMemory,
     /// A call on what was being written was refused.
     WriteFault(Written),
@@ -48,7 +52,10 @@ impl Ending {
             Ending::Done => 0,
             Ending::Usage => 2,
             Ending::ReadFault(_) => 3,
-            Ending::TooLong(_) | Ending::Refused(_) | Ending::JournalTooLong(_) => 4,
+            Ending::TooLong(_)
+            | Ending::Refused(_)
+            | Ending::JournalTooLong(_)
+            | Ending::PacketsTooLong(_) => 4,
             Ending::OutOfMemory => 5,
             Ending::WriteFault(_) => 6,
             Ending::Checked(ending) => check_status(ending),

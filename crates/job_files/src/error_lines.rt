@@ -282,6 +282,10 @@ fn print_write_fault<F: Files>(files: &mut F, job: &Job, written: Written)
             let prefix = Text(job.prefix.as_str());
             give_parts(files, &[what, prefix, Text(".journal"), end]);
         }
+        (Job::Run(job), Written::Packets) => {
+            let prefix = Text(job.prefix.as_str());
+            give_parts(files, &[what, prefix, Text(".packets.csv"), end]);
+        }
         (_, Written::StandardOutput) => give_parts(files, &[what, Text("standard output"), end]),
         (Job::Gen(_) | Job::Check(_) | Job::Firm(_), _) => give_parts(files, &[what, end]),
     }
@@ -367,6 +371,10 @@ pub fn print_line<F: Files>(files: &mut F, job: &Job, ending: Ending)
         Ending::JournalTooLong(size) => {
             let size = Number(size);
             give_parts(files, &[Text("journal too long: "), size, Text("\n")]);
+        }
+        Ending::PacketsTooLong(size) => {
+            let size = Number(size);
+            give_parts(files, &[Text("packets too long: "), size, Text("\n")]);
         }
         Ending::OutOfMemory => print_memory(files),
         Ending::WriteFault(written) => print_write_fault(files, job, written),

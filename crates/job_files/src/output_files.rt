@@ -5,7 +5,7 @@ ghost use Rattle.outside.specs.Faults.{NeverFall};
 ghost use Rattle.outside.specs.WholeFiles.{Puts, StopsAt};
 ghost use Rattle.switch_plan.specs.Reading.{bytes_of_files};
 ghost use Rattle.job_files.specs.FileSteps.{StopsPutting, written_at};
-ghost use Rattle.job_files.specs.OutputFiles.{files_from, journal_files, journal_name, nameless, put_files, report_name, shown};
+ghost use Rattle.job_files.specs.OutputFiles.{files_from, files_in_order, journal_name, nameless, packets_name, put_files, report_name, shown};
 
 use crate::ending::Written;
 use outside::{Failed, Files, put_out, put_whole};
@@ -22,9 +22,11 @@ pub struct OutputFile {
 /// What a job writes.
 #[derive(Drop)]
 pub struct JobTexts {
-    /// How many of the files are captures of outputs. They are the first; then come the report's and, where it is
-    /// wanted, the journal's.
+    /// How many of the files are captures of outputs. They are the first; then come the report's and, where they are
+    /// wanted, the journal's and the packets file.
     pub outputs: usize,
+    /// Whether the journal's file is among them.
+    pub with_journal: bool,
     /// The files, in order.
     pub files: Vec<OutputFile>,
     /// What standard output is given after them.
@@ -63,26 +65,40 @@ fn journal_file(alloc: Global, prefix: &str, bytes: Vec<u8>) -> Result<OutputFil
     Ok(OutputFile { name, bytes })
 }
 
-/// The files of a run, in order: the captures of the outputs, `PREFIX.j.pcap`, the report, `PREFIX.report`, and the
-/// journal where there is one, `PREFIX.journal`. The only error is want of memory.
+// The packets file, `PREFIX.packets.csv`.
+fn packets_file(alloc: Global, prefix: &str, packets: String) -> Result<OutputFile, AllocError>
+    ensures { IfOk result (λ file. shown file ≡ record { name = packets_name prefix.now; bytes = string_bytes packets }) }
+{
+    let name = format!(in alloc; "{prefix}.packets.csv")?;
+    Ok(OutputFile {
+        name,
+        bytes: packets.into_bytes(),
+    })
+}
+
+/// The files of a run, in order: the captures of the outputs, `PREFIX.j.pcap`, the report, `PREFIX.report`, the journal
+/// where there is one, `PREFIX.journal`, and the packets file where there is one, `PREFIX.packets.csv`. The only error
+/// is want of memory.
 pub fn run_files(
     alloc: Global,
     prefix: &str,
     captures: Vec<Vec<u8>>,
     report: String,
     journal: Option<Vec<u8>>,
+    packets: Option<String>,
 ) -> Result<Vec<OutputFile>, AllocError>
-    ensures { IfOk result (λ files. map shown files.items ≡ files_from prefix.now 0 (bytes_of_files captures) ++ record { name = report_name prefix.now; bytes = string_bytes report } ∷ journal_files prefix.now (option_map (λ b. b.items) journal)) }
+    ensures { IfOk result (λ files. map shown files.items
+        ≡ files_in_order prefix.now (bytes_of_files captures) (string_bytes report) (option_map (λ b. b.items) journal) (option_map string_bytes packets)) }
 {
     let mut files = named(alloc, prefix, captures)?;
     files.push(report_file(alloc, prefix, report)?)?;
-    match journal {
-        Some(bytes) => {
-            files.push(journal_file(alloc, prefix, bytes)?)?;
-            Ok(files)
-        }
-        None => Ok(files),
+    if let Some(bytes) = journal {
+        files.push(journal_file(alloc, prefix, bytes)?)?;
     }
+    if let Some(packets) = packets {
+        files.push(packets_file(alloc, prefix, packets)?)?;
+    }
+    Ok(files)
 }
 
 // Begins the file and gives it all its bytes.
@@ -95,10 +111,11 @@ fn put_file<F: Files>(files: &mut F, file: &OutputFile) -> Result<(), Failed>
 
 // Begins and writes each file, in order; else the place of the first of which a call failed.
 fn put_all<F: Files>(files: &mut F, output_files: &[OutputFile]) -> Result<(), u32>
-    requires { length output_files.now ≤ MAX_PORTS + 2 }
+    requires { length output_files.now ≤ MAX_PORTS + 3 }
     ensures ok { OnOk result (F.told files.new ≡ option_map (put_files (map shown output_files.now)) (F.told files.old)) }
     ensures place { IfErr result (λ place. place < length output_files.now) }
-    ensures err { IfErr result (λ place. StopsAt (slice_index_or (map shown output_files.now) place nameless) (F.faults files.old) (F.faults files.new) (option_map (put_files (take place (map shown output_files.now))) (F.told files.old)) (F.told files.new)) }
+    ensures err { IfErr result (λ place. StopsAt (slice_index_or (map shown output_files.now) place nameless) (F.faults files.old) (F.faults files.new)
+        (option_map (put_files (take place (map shown output_files.now))) (F.told files.old)) (F.told files.new)) }
     ensures never_fall { NeverFall (F.faults files.old) (F.faults files.new) }
 {
     for (place, file) in output_files.iter().enumerate() {
@@ -109,30 +126,34 @@ fn put_all<F: Files>(files: &mut F, output_files: &[OutputFile]) -> Result<(), u
     Ok(())
 }
 
-// What is written at a place, after so many outputs.
-fn written_at(place: u32, outputs: usize) -> Written
-    ensures { result ≡ written_at place outputs }
+// What is written at a place, after so many outputs, with or without a journal.
+fn written_at(place: u32, outputs: usize, with_journal: bool) -> Written
+    ensures { result ≡ written_at place outputs with_journal }
 {
     let place_among_files = place as usize;
     if place_among_files < outputs {
         Written::Output(place)
     } else if place_among_files == outputs {
         Written::Report
-    } else {
+    } else if with_journal && place_among_files == outputs + 1 {
         Written::Journal
+    } else {
+        Written::Packets
     }
 }
 
 /// Writes the files, one after the other, and then gives the summary to standard output; else what was being
 /// written when a call failed. It takes no memory.
 pub fn put_texts<F: Files>(files: &mut F, texts: &JobTexts) -> Result<(), Written>
-    requires { length texts.now.files.items ≤ MAX_PORTS + 2 }
-    ensures ok { OnOk result (F.told files.new ≡ option_map (λ c. append_out (string_bytes texts.now.summary) (put_files (map shown texts.now.files.items) c)) (F.told files.old)) }
-    ensures err { IfErr result (λ written. StopsPutting texts.now.outputs (map shown texts.now.files.items) (string_bytes texts.now.summary) written (F.told files.old) (F.faults files.old) (F.faults files.new) (F.told files.new)) }
+    requires { length texts.now.files.items ≤ MAX_PORTS + 3 }
+    ensures ok { OnOk result (F.told files.new
+        ≡ option_map (λ c. append_out (string_bytes texts.now.summary) (put_files (map shown texts.now.files.items) c)) (F.told files.old)) }
+    ensures err { IfErr result (λ written. StopsPutting texts.now.outputs texts.now.with_journal (map shown texts.now.files.items)
+        (string_bytes texts.now.summary) written (F.told files.old) (F.faults files.old) (F.faults files.new) (F.told files.new)) }
     ensures never_fall { NeverFall (F.faults files.old) (F.faults files.new) }
 {
     if let Err(place) = put_all(files, texts.files.as_slice()) {
-        return Err(written_at(place, texts.outputs));
+        return Err(written_at(place, texts.outputs, texts.with_journal));
     }
     match put_out(files, texts.summary.as_str().as_bytes()) {
         Ok(()) => Ok(()),

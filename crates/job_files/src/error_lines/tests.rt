@@ -31,6 +31,8 @@ fn job(alloc: Global) -> Result<Job, AllocError> {
         slots: false,
         journal: true,
         reference: false,
+        queues: false,
+        packets: false,
         table: String::from_str(alloc, "the table")?,
         prefix: String::from_str(alloc, "to")?,
         inputs: input_names(alloc)?,
@@ -88,12 +90,20 @@ fn endings_print_their_lines(rt: HostRuntime) -> Result<(), test::Fail> {
             "write fault: to.journal\n",
         ),
         (
+            Ending::WriteFault(Written::Packets),
+            "write fault: to.packets.csv\n",
+        ),
+        (
             Ending::WriteFault(Written::StandardOutput),
             "write fault: standard output\n",
         ),
         (
             Ending::JournalTooLong(134_217_729),
             "journal too long: 134217729\n",
+        ),
+        (
+            Ending::PacketsTooLong(134_217_730),
+            "packets too long: 134217730\n",
         ),
         (
             Ending::Refused(PlanFault::MixedLink {

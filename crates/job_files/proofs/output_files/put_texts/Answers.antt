@@ -11,4 +11,10 @@ returns-in-Err-clause-err g c =
     let files = map shown items in
     let stops = rw same at c.in-Err.ensures.err in
     let within : c.in-Err.place < length files = omega (arith, c.in-Err.ensures.place, ap length same, length-map items shown) in
-    rw c.written_at.ensures (stops_at_place c.args.texts.now.outputs files (string_bytes c.args.texts.now.summary) c.in-Err.place (g.F.Files.told c.args.files.now) (g.F.Files.told c.put_all.new.files) (g.F.Files.faults c.args.files.now) (g.F.Files.faults c.put_all.new.files) within stops)
+    let texts = c.args.texts.now in
+    let contents = g.F.Files.told in
+    let counts = g.F.Files.faults in
+    let old = c.args.files.now in
+    let new = c.put_all.new.files in
+    rw c.written_at.ensures
+    (stops_at_place texts.outputs texts.with_journal files (string_bytes texts.summary) c.in-Err.place (contents old) (contents new) (counts old) (counts new) within stops)
