@@ -18,7 +18,8 @@ use Rattle.switch_run.specs.Endings.{Command, IsMade, IsStopped, Stops}
 use Rattle.job_files.specs.ErrorLines.{line_of}
 use Rattle.job_files.specs.LineParts.{GivesLine}
 use Rattle.job_files.specs.declared.ending.Ending.{Ending}
-use Rattle.job_files.specs.declared.ending.Ending.TheVariants.{Done, Usage, ReadFault, TooLong, Refused, JournalTooLong, OutOfMemory, WriteFault, Checked}
+use Rattle.job_files.specs.declared.ending.Ending.TheVariants.{Done, Usage, ReadFault, TooLong, Refused, JournalTooLong, PacketsTooLong, OutOfMemory}
+use Rattle.job_files.specs.declared.ending.Ending.TheVariants.{WriteFault, Checked}
 use Rattle.switch_run.proofs.Answering.{no_job, no_reads, same_job, stops_here}
 
 -- ---- the file has one answer
@@ -35,7 +36,8 @@ yes_is_no_bad slots at longest h = cc
 no_is_no_bad : (slot at : ℕ) (reason : Reason) → ◌≡◌ {A = Result Verdict JournalFault} (Ok (verdict.No slot reason)) (Err (journal_fault.Bad at)) → ⊥
 no_is_no_bad slot at reason h = cc
 
-yes_is_no_no : (slots slot : ℕ) (longest : List ℕ) (reason : Reason) → ◌≡◌ {A = Result Verdict JournalFault} (Ok (verdict.Yes slots longest)) (Ok (verdict.No slot reason)) → ⊥
+yes_is_no_no : (slots slot : ℕ) (longest : List ℕ) (reason : Reason)
+    → ◌≡◌ {A = Result Verdict JournalFault} (Ok (verdict.Yes slots longest)) (Ok (verdict.No slot reason)) → ⊥
 yes_is_no_no slots slot longest reason h = cc
 
 bad_once : (a b : ℕ) → ◌≡◌ {A = Result Verdict JournalFault} (Err (journal_fault.Bad a)) (Err (journal_fault.Bad b)) → a ≡ b
@@ -55,14 +57,16 @@ module _ (c : Command) (file : List ℕ) (contents : Contents) (is : IsCheckable
 
   -- how the check of this file ended
   means : (e : CheckEnding) → (s : IsStopped c (Checked e)) → MeansCheck file (Some contents) s.told c.was c.now e
-  means e s = let stops = here (Checked e) s in subst (λ (name : List ℕ). MeansCheck name (Some contents) s.told c.was c.now e) (same_file stops.file stops.is_check) stops.means
+  means e s = let stops = here (Checked e) s in
+      subst (λ (name : List ℕ). MeansCheck name (Some contents) s.told c.was c.now e) (same_file stops.file stops.is_check) stops.means
 
   -- memory ran out in the check
   out : (status : ℕ) → Answers c status (Checked check_ending.OutOfMemory) → Answers c status OutOfMemory
   out status a =
       let s = a.1 in
       let told : s.told ≡ c.old = means check_ending.OutOfMemory s ∙ sym is.told in
-      let line = subst (λ (job : JobWords). GivesLine (line_of job (Checked check_ending.OutOfMemory)) s.told c.new _ _) (same_job c (check file) s.job is.words s.words) s.line in
+      let line = subst (λ (job : JobWords). GivesLine (line_of job (Checked check_ending.OutOfMemory)) s.told c.new _ _)
+      (same_job c (check file) s.job is.words s.words) s.line in
       (a.0, subst (λ (o : Option Contents). GivesLine _ o c.new _ _) told line)
 
   -- a check ends as one, or memory ran out
@@ -78,18 +82,21 @@ module _ (c : Command) (file : List ℕ) (contents : Contents) (is : IsCheckable
   ends status (TooLong input) a = let stops = here (TooLong input) a.1 in absurd (no_reads (check file) file stops.0.words refl stops.0.reads)
   ends status (Refused fault) a = let stops = here (Refused fault) a.1 in absurd stops.0.inputs
   ends status (JournalTooLong size) a = let stops = here (JournalTooLong size) a.1 in absurd stops.0.inputs
+  ends status (PacketsTooLong size) a = let stops = here (PacketsTooLong size) a.1 in absurd stops.0.inputs
   ends status OutOfMemory a = inr refl
   ends status (WriteFault written) a = let stops = here (WriteFault written) a.1 in absurd stops.made.inputs
   ends status (Checked e) a = inl (e, refl)
 
   -- so what holds of each end of a check holds of the command
-  of_ends : (status : ℕ) (ending wanted : Ending) → Answers c status ending → ((e : CheckEnding) → Answers c status (Checked e) → AnswersUnlessOut c status wanted) → AnswersUnlessOut c status wanted
+  of_ends : (status : ℕ) (ending wanted : Ending) → Answers c status ending
+      → ((e : CheckEnding) → Answers c status (Checked e) → AnswersUnlessOut c status wanted) → AnswersUnlessOut c status wanted
   of_ends status ending wanted a each = elim (ends status ending a) [
     | inl checked ↦ each checked.0 (subst (λ (n : Ending). Answers c status n) checked.1 a)
     | inr memory ↦ inr (subst (λ (n : Ending). Answers c status n) memory a)
   ]
 
-  too_long_end : (status : ℕ) → IsTooLong contents file → (e : CheckEnding) → Answers c status (Checked e) → AnswersUnlessOut c status (Checked check_ending.TooLong)
+  too_long_end : (status : ℕ) → IsTooLong contents file → (e : CheckEnding) → Answers c status (Checked e)
+      → AnswersUnlessOut c status (Checked check_ending.TooLong)
   too_long_end status long check_ending.Yes a = let m = means check_ending.Yes a.1 in absurd (long_has_none file contents _ m.1.answer long)
   too_long_end status long (check_ending.No slot reason) a = let m = means (check_ending.No slot reason) a.1 in absurd (long_has_none file contents _ m.0 long)
   too_long_end status long (check_ending.Bad at) a = let m = means (check_ending.Bad at) a.1 in absurd (long_has_none file contents _ m.0 long)
@@ -98,34 +105,45 @@ module _ (c : Command) (file : List ℕ) (contents : Contents) (is : IsCheckable
   too_long_end status long check_ending.OutOfMemory a = inr (out status a)
   too_long_end status long check_ending.OutFault a = let m = means check_ending.OutFault a.1 in absurd (long_has_none file contents _ m.2.answer long)
 
-  bad_end : (status at : ℕ) → HasAnswer file (Err (journal_fault.Bad at)) contents → (e : CheckEnding) → Answers c status (Checked e) → AnswersUnlessOut c status (Checked (check_ending.Bad at))
+  bad_end : (status at : ℕ) → HasAnswer file (Err (journal_fault.Bad at)) contents → (e : CheckEnding) → Answers c status (Checked e)
+      → AnswersUnlessOut c status (Checked (check_ending.Bad at))
   bad_end status at has check_ending.Yes a = let m = means check_ending.Yes a.1 in absurd (yes_is_no_bad _ _ _ (answers_once file contents _ _ m.1.answer has))
-  bad_end status at has (check_ending.No slot reason) a = let m = means (check_ending.No slot reason) a.1 in absurd (no_is_no_bad _ _ _ (answers_once file contents _ _ m.0 has))
+  bad_end status at has (check_ending.No slot reason) a = let m = means (check_ending.No slot reason) a.1 in
+      absurd (no_is_no_bad _ _ _ (answers_once file contents _ _ m.0 has))
   bad_end status at has (check_ending.Bad found) a =
       let m = means (check_ending.Bad found) a.1 in
       inl (subst (λ (n : ℕ). Answers c status (Checked (check_ending.Bad n))) (bad_once found at (answers_once file contents _ _ m.0 has)) a)
   bad_end status at has check_ending.TooLong a = let m = means check_ending.TooLong a.1 in absurd (long_has_none file contents _ has m.0)
   bad_end status at has check_ending.ReadFault a = let m = means check_ending.ReadFault a.1 in absurd (is.reads m.0)
   bad_end status at has check_ending.OutOfMemory a = inr (out status a)
-  bad_end status at has check_ending.OutFault a = let m = means check_ending.OutFault a.1 in absurd (yes_is_no_bad _ _ _ (answers_once file contents _ _ m.2.answer has))
+  bad_end status at has check_ending.OutFault a = let m = means check_ending.OutFault a.1 in
+      absurd (yes_is_no_bad _ _ _ (answers_once file contents _ _ m.2.answer has))
 
-  no_end : (status slot : ℕ) (reason : Reason) → HasAnswer file (Ok (verdict.No slot reason)) contents → (e : CheckEnding) → Answers c status (Checked e) → AnswersUnlessOut c status (Checked (check_ending.No slot reason))
-  no_end status slot reason has check_ending.Yes a = let m = means check_ending.Yes a.1 in absurd (yes_is_no_no _ _ _ _ (answers_once file contents _ _ m.1.answer has))
+  no_end : (status slot : ℕ) (reason : Reason) → HasAnswer file (Ok (verdict.No slot reason)) contents → (e : CheckEnding) → Answers c status (Checked e)
+      → AnswersUnlessOut c status (Checked (check_ending.No slot reason))
+  no_end status slot reason has check_ending.Yes a = let m = means check_ending.Yes a.1 in
+      absurd (yes_is_no_no _ _ _ _ (answers_once file contents _ _ m.1.answer has))
   no_end status slot reason has (check_ending.No other why) a =
       let m = means (check_ending.No other why) a.1 in
       let same = no_once other slot why reason (answers_once file contents _ _ m.0 has) in
-      inl (subst (λ (r : Reason). Answers c status (Checked (check_ending.No slot r))) same.1 (subst (λ (n : ℕ). Answers c status (Checked (check_ending.No n why))) same.0 a))
-  no_end status slot reason has (check_ending.Bad at) a = let m = means (check_ending.Bad at) a.1 in absurd (no_is_no_bad _ _ _ (answers_once file contents _ _ has m.0))
+      inl (subst (λ (r : Reason). Answers c status (Checked (check_ending.No slot r))) same.1
+      (subst (λ (n : ℕ). Answers c status (Checked (check_ending.No n why))) same.0 a))
+  no_end status slot reason has (check_ending.Bad at) a = let m = means (check_ending.Bad at) a.1 in
+      absurd (no_is_no_bad _ _ _ (answers_once file contents _ _ has m.0))
   no_end status slot reason has check_ending.TooLong a = let m = means check_ending.TooLong a.1 in absurd (long_has_none file contents _ has m.0)
   no_end status slot reason has check_ending.ReadFault a = let m = means check_ending.ReadFault a.1 in absurd (is.reads m.0)
   no_end status slot reason has check_ending.OutOfMemory a = inr (out status a)
-  no_end status slot reason has check_ending.OutFault a = let m = means check_ending.OutFault a.1 in absurd (yes_is_no_no _ _ _ _ (answers_once file contents _ _ m.2.answer has))
+  no_end status slot reason has check_ending.OutFault a = let m = means check_ending.OutFault a.1 in
+      absurd (yes_is_no_no _ _ _ _ (answers_once file contents _ _ m.2.answer has))
 
-  yes_end : (status slots : ℕ) (longest : List ℕ) → HasAnswer file (Ok (verdict.Yes slots longest)) contents → (Rose (c.was ToOut) (c.now ToOut) → ⊥) → (e : CheckEnding) → Answers c status (Checked e)
+  yes_end : (status slots : ℕ) (longest : List ℕ) → HasAnswer file (Ok (verdict.Yes slots longest)) contents → (Rose (c.was ToOut) (c.now ToOut) → ⊥)
+      → (e : CheckEnding) → Answers c status (Checked e)
       → AnswersUnlessOut c status (Checked check_ending.Yes)
   yes_end status slots longest has free check_ending.Yes a = inl a
-  yes_end status slots longest has free (check_ending.No slot reason) a = let m = means (check_ending.No slot reason) a.1 in absurd (yes_is_no_no _ _ _ _ (answers_once file contents _ _ has m.0))
-  yes_end status slots longest has free (check_ending.Bad at) a = let m = means (check_ending.Bad at) a.1 in absurd (yes_is_no_bad _ _ _ (answers_once file contents _ _ has m.0))
+  yes_end status slots longest has free (check_ending.No slot reason) a = let m = means (check_ending.No slot reason) a.1 in
+      absurd (yes_is_no_no _ _ _ _ (answers_once file contents _ _ has m.0))
+  yes_end status slots longest has free (check_ending.Bad at) a = let m = means (check_ending.Bad at) a.1 in
+      absurd (yes_is_no_bad _ _ _ (answers_once file contents _ _ has m.0))
   yes_end status slots longest has free check_ending.TooLong a = let m = means check_ending.TooLong a.1 in absurd (long_has_none file contents _ has m.0)
   yes_end status slots longest has free check_ending.ReadFault a = let m = means check_ending.ReadFault a.1 in absurd (is.reads m.0)
   yes_end status slots longest has free check_ending.OutOfMemory a = inr (out status a)
@@ -135,6 +153,8 @@ pub check_exact : (c : Command) (status : ℕ) (ending : Ending) → Answers c s
 check_exact c status ending a = record {
   too_long = λ file contents is long. of_ends c file contents is status ending (Checked check_ending.TooLong) a (too_long_end c file contents is status long);
   bad = λ file contents at is has. of_ends c file contents is status ending (Checked (check_ending.Bad at)) a (bad_end c file contents is status at has);
-  no = λ file contents slot reason is has. of_ends c file contents is status ending (Checked (check_ending.No slot reason)) a (no_end c file contents is status slot reason has);
-  yes = λ file contents slots longest is has free. of_ends c file contents is status ending (Checked check_ending.Yes) a (yes_end c file contents is status slots longest has free);
+  no = λ file contents slot reason is has. of_ends c file contents is status ending (Checked (check_ending.No slot reason)) a
+      (no_end c file contents is status slot reason has);
+  yes = λ file contents slots longest is has free. of_ends c file contents is status ending (Checked check_ending.Yes) a
+      (yes_end c file contents is status slots longest has free);
 }

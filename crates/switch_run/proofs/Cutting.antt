@@ -1,5 +1,6 @@
 -- The lengths of the messages that a run delivers.
-use Rattle.std.proofs.Common.{◌≡◌, ◌≢◌, ◌<◌, ◌≤◌, ◌+◌, ℕ, Bool, true, false, List, [], ◌∷◌, ◌++◌, map, drop, length, get_or, Option, Some, refl, sym, ◌∙◌, ap, arith, length-append}
+use Rattle.std.proofs.Common.{◌≡◌, ◌≢◌, ◌<◌, ◌≤◌, ◌+◌, ℕ, Bool, true, false, List, [], ◌∷◌, ◌++◌, map, drop, length, get_or, Option, Some, refl, sym}
+use Rattle.std.proofs.Common.{◌∙◌, ap, arith, length-append}
 use Rattle.std.specs.Prelude.{All, nat_lt, ◌&&◌, filter, sum, sum_by, slice_get, if◌then◌else◌}
 use Rattle.std.specs.List.{concat}
 use Rattle.std.specs.Int.{bit_at}
@@ -59,12 +60,14 @@ pub all_flows : (P : List ℕ → Type 0) (n levels : ℕ) (before cells : List 
 all_flows P n levels before [] ports flows = All-nil P
 all_flows P n levels before (cell ∷ cells) ports flows =
     let here = All-head (IsOfPort n levels) cell cells ports in
-    let first : All P ((if is_of_flow cell.input cell.level cell.kind cell then ended_by before cell else []) ++ messages_from cell.input cell.level cell.kind (before ++ cell ∷ []) cells) = flows cell.input cell.level cell.kind here.0 here.1 in
+    let first : All P ((if is_of_flow cell.input cell.level cell.kind cell then ended_by before cell else [])
+    ++ messages_from cell.input cell.level cell.kind (before ++ cell ∷ []) cells) = flows cell.input cell.level cell.kind here.0 here.1 in
     let mine = rw (of_its_flow cell) at first in
     All-append P (ended_by before cell) (messages_after (before ++ cell ∷ []) cells)
     (All-left P (ended_by before cell) (messages_from cell.input cell.level cell.kind (before ++ cell ∷ []) cells) mine)
     (all_flows P n levels (before ++ cell ∷ []) cells (All-tail (IsOfPort n levels) cell cells ports)
-    (λ input level kind input_in level_in. All-right P (if is_of_flow input level kind cell then ended_by before cell else []) (messages_from input level kind (before ++ cell ∷ []) cells) (flows input level kind input_in level_in)))
+    (λ input level kind input_in level_in. All-right P (if is_of_flow input level kind cell then ended_by before cell else [])
+    (messages_from input level kind (before ++ cell ∷ []) cells) (flows input level kind input_in level_in)))
 
 -- ---- the message of a packet that goes to an output
 
@@ -76,12 +79,14 @@ message_size : (plan : Plan) (packet : Planned) → packet.len ≤ 65535 → IsO
 unfolding message_header
 message_size plan packet short =
     let bytes = bytes_of plan packet in
-    let long : length (message_of plan packet) ≡ 16 + length bytes = length-append (message_header packet.seconds packet.nanos (length bytes) packet.original) bytes in
+    let long : length (message_of plan packet) ≡ 16 + length bytes =
+    length-append (message_header packet.seconds packet.nanos (length bytes) packet.original) bytes in
     let most = length-take packet.len (drop packet.start plan.bytes) in
     (omega (arith, long), omega (arith, long, most, short))
 
 -- what passes a test of a list, where what passes has it
-All-filter_with : {X : Type 0} (test : X → Bool) (P : X → Type 0) (xs : List X) → ((k : ℕ) (x : X) → slice_get xs k ≡ Some x → test x ≡ true → P x) → All P (filter test xs)
+All-filter_with : {X : Type 0} (test : X → Bool) (P : X → Type 0) (xs : List X) → ((k : ℕ) (x : X) → slice_get xs k ≡ Some x → test x ≡ true → P x)
+    → All P (filter test xs)
 All-filter_with test P xs each k d k_in =
     let when : All (λ x. test x ≡ true → P x) xs = λ i e i_in. each i (get_or xs i e) (slice_get-get_or xs i e i_in) in
     All-filter test (λ x. test x ≡ true → P x) xs when k d k_in (filter_passes test xs k d k_in)
@@ -98,10 +103,12 @@ some_fan fan j is none =
     omega (arith, bit, zero_bit)
 
 -- the messages of the packets of a queue that go to an output
-packets_size : (plan : Plan) (q : Queue) (j : ℕ) (served : List (Option Served)) (t : ℕ) → IsGoodPlan plan → All IsOfSize (map (message_of plan) (packets_to plan q j served t))
+packets_size : (plan : Plan) (q : Queue) (j : ℕ) (served : List (Option Served)) (t : ℕ) → IsGoodPlan plan
+    → All IsOfSize (map (message_of plan) (packets_to plan q j served t))
 packets_size plan q j served t good =
     All-map IsOfSize (message_of plan) (packets_to plan q j served t)
-    (All-filter_with (λ packet. nat_lt packet.arrival t && enters plan q served packet && has packet.fan j) (λ packet. IsOfSize (message_of plan packet)) plan.packets
+    (All-filter_with (λ packet. nat_lt packet.arrival t && enters plan q served packet && has packet.fan j)
+    (λ packet. IsOfSize (message_of plan packet)) plan.packets
     (λ k packet found passes. message_size plan packet ((good.packets k packet found).forwarded
     (some_fan packet.fan j (right_of (nat_lt packet.arrival t && enters plan q served packet) (has packet.fan j) passes)))))
 
@@ -113,8 +120,10 @@ good_card plan i good i_in = (good.cards i (card_at plan i) (slice_get-get_or pl
 messages_size : (plan : SwitchPlan) (slots j : ℕ) → IsGood plan → IsLength plan slots → j < ports_of plan → All IsOfSize (messages_to plan j slots)
 messages_size plan slots j good ends j_in =
     all_flows IsOfSize (ports_of plan) 4 [] (cells_to plan j slots) (all_of_flows decision_of IsScheduler-decision_of plan good j slots)
-    (λ i level kind i_in level_in. All-same IsOfSize (messages_from i level kind [] (cells_to plan j slots)) (map (message_of (card_at plan i)) (admitted_to plan j i level kind slots))
-    (packets_delivered decision_of IsScheduler-decision_of plan good i j level kind slots ends i_in j_in level_in) (packets_size (card_at plan i) (queue_to j level kind) j (served_by plan i slots) slots (good_card plan i good i_in)))
+    (λ i level kind i_in level_in. All-same IsOfSize (messages_from i level kind [] (cells_to plan j slots))
+    (map (message_of (card_at plan i)) (admitted_to plan j i level kind slots))
+    (packets_delivered decision_of IsScheduler-decision_of plan good i j level kind slots ends i_in j_in level_in)
+    (packets_size (card_at plan i) (queue_to j level kind) j (served_by plan i slots) slots (good_card plan i good i_in)))
 
 by_lengths : (ms : List (List ℕ)) → sum_by length ms ≡ length (concat ms)
 by_lengths [] = refl
@@ -123,10 +132,12 @@ by_lengths (m ∷ ms) = sum_by-cons length m ms ∙ ap (λ n. length m + n) (by_
 sum_lengths : (ms : List (List ℕ)) → sum (map length ms) ≡ length (concat ms)
 sum_lengths ms = sum-map length ms ∙ by_lengths ms
 
-cut_of : (messages : List (List ℕ)) (out : CardOut) → out.body.items ≡ concat messages → out.lens.items ≡ map length messages → All IsOfSize messages → IsCut out
+cut_of : (messages : List (List ℕ)) (out : CardOut) → out.body.items ≡ concat messages → out.lens.items ≡ map length messages → All IsOfSize messages
+    → IsCut out
 cut_of messages out body lens size = record {
   longer = All-same (λ len. 16 ≤ len) out.lens.items (map length messages) lens (All-map (λ len. 16 ≤ len) length messages (λ k d inside. (size k d inside).0));
-  shorter = All-same (λ len. len ≤ 65551) out.lens.items (map length messages) lens (All-map (λ len. len ≤ 65551) length messages (λ k d inside. (size k d inside).1));
+  shorter = All-same (λ len. len ≤ 65551) out.lens.items (map length messages) lens
+      (All-map (λ len. len ≤ 65551) length messages (λ k d inside. (size k d inside).1));
   whole = ap sum lens ∙ sum_lengths messages ∙ sym (ap length body);
 }
 

@@ -2,6 +2,7 @@ pub mod Stopping
 pub mod ToWrite
 pub mod OneOutcome
 pub mod Answering
+pub mod Refusing
 pub mod Completing
 pub mod Cutting
 pub mod RunTexts

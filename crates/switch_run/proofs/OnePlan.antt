@@ -1,5 +1,6 @@
 -- A job has one plan, a plan has one length of its run, and so a job makes one list of texts.
-use Rattle.std.proofs.Common.{◌≡◌, ◌<◌, ◌≤◌, ◌∙◌, ℕ, zero, suc, Bool, true, false, List, [], ◌∷◌, map, length, get_or, Option, Some, None, refl, sym, ap, subst, inl, inr, arith}
+use Rattle.std.proofs.Common.{◌≡◌, ◌<◌, ◌≤◌, ◌∙◌, ℕ, zero, suc, Bool, true, false, List, [], ◌∷◌, map, length, get_or, Option, Some, None, refl, sym}
+use Rattle.std.proofs.Common.{ap, subst, inl, inr, arith}
 use Rattle.std.specs.Prelude.{◌||◌, IfSome, if◌then◌else◌}
 use Rattle.std.proofs.lemmas.Bool.{cases_eq, cases_lt}
 use Rattle.std.proofs.lemmas.List.{get_or-map, get_or_default, length-map, same_lists}
@@ -24,10 +25,12 @@ use Rattle.whole_run.specs.Runs.{no_plan, ports_of, posts_under}
 use Rattle.whole_run.specs.Ends.{IsLength, IsLengthUnder}
 use Rattle.switch_jobs.specs.Outcomes.{summary_under}
 use Rattle.journal_run.specs.RunFiles.{journal_text}
+use Rattle.packet_times.specs.declared.limits.TheConstants.{MAX_PACKETS_BYTES}
+use Rattle.packet_times.specs.Rows.{packets_text}
 use Rattle.firm_run.specs.FirmRuns.{IsFirmRun}
 use Rattle.job_files.specs.Jobs.{Wanted, wanted_by, nothing_wanted}
 use Rattle.job_files.specs.OutputFiles.{Texts}
-use Rattle.switch_run.specs.Switched.{AreTexts, IsLongJournal, IsPlanned, IsRunOf, IsSwitched, IsSwitchedByFirm, firm_texts, texts_of}
+use Rattle.switch_run.specs.Switched.{AreTexts, IsLongJournal, IsLongPackets, IsPlanned, IsRunOf, IsSwitched, IsSwitchedByFirm, firm_texts, texts_of}
 use Rattle.switch_run.proofs.OneOutcome.{same_captures, same_table}
 
 -- ---- the length of a run
@@ -51,18 +54,24 @@ module _ (n : ℕ) (posts : ℕ → ℕ → Post) where
 
 module _ (scheduler : Scheduler) (plan : SwitchPlan) where
   first_done : (a b : ℕ) → (p : IsLengthUnder scheduler plan a) → (q : IsLengthUnder scheduler plan b) → p.last < q.last → ⊥
-  first_done a b p q less = let before = done_earlier (ports_of plan) (posts_under scheduler plan) p.last q.last less p.done in let going = q.going in absurd (cc)
+  first_done a b p q less = let before = done_earlier (ports_of plan) (posts_under scheduler plan) p.last q.last less p.done in let going = q.going in
+      absurd (cc)
 
   lengths_once : (a b : ℕ) → IsLengthUnder scheduler plan a → IsLengthUnder scheduler plan b → a ≡ b
   lengths_once a b p q = elim (cases_lt p.last q.last) [
     | inl less ↦ absurd (first_done a b p q less)
-    | inr not_less ↦ elim (cases_lt q.last p.last) [ inl more ↦ absurd (first_done b a q p more) | inr not_more ↦ omega (arith, not_less, not_more, p.count, q.count) ]
+    | inr not_less ↦ elim (cases_lt q.last p.last) [
+      | inl more ↦ absurd (first_done b a q p more)
+      | inr not_more ↦ omega
+          (arith, not_less, not_more, p.count, q.count)
+    ]
   ]
 
 -- ---- the packets of a plan
 
 -- two lists are one where what two functions make of their elements is, and together tells an element
-lists_once : {X A B : Type 0} (f : X → A) (g : X → B) → ((x y : X) → f x ≡ f y → g x ≡ g y → x ≡ y) → (xs ys : List X) → map f xs ≡ map f ys → map g xs ≡ map g ys → xs ≡ ys
+lists_once : {X A B : Type 0} (f : X → A) (g : X → B) → ((x y : X) → f x ≡ f y → g x ≡ g y → x ≡ y) → (xs ys : List X) → map f xs ≡ map f ys
+    → map g xs ≡ map g ys → xs ≡ ys
 lists_once f g tell [] [] p q = refl
 lists_once f g tell [] (y ∷ ys) p q = absurd (cc)
 lists_once f g tell (x ∷ xs) [] p q = absurd (cc)
@@ -81,7 +90,8 @@ packet_once a b same start =
 
 -- ---- plans
 
-module _ (settings : Settings) (files : List (List ℕ)) (table : List RouteLine) (captures : List CaptureFile) (p q : SwitchPlan) (a : IsPlanOf settings files table captures p) (b : IsPlanOf settings files table captures q) (p_good : IsGood p) (q_good : IsGood q) where
+module _ (settings : Settings) (files : List (List ℕ)) (table : List RouteLine) (captures : List CaptureFile) (p q : SwitchPlan)
+    (a : IsPlanOf settings files table captures p) (b : IsPlanOf settings files table captures q) (p_good : IsGood p) (q_good : IsGood q) where
   same_packets : packets_in p ≡ packets_in q
   same_packets =
       lists_once (map unplaced) (map (λ packet. packet.start)) (lists_once unplaced (λ packet. packet.start) packet_once) (packets_in p) (packets_in q)
@@ -131,11 +141,13 @@ module _ (settings : Settings) (files : List (List ℕ)) (table : List RouteLine
     room_same = mine.messages ∙ ap (packet_room_for k) same_packets ∙ sym other.messages
 
     abbrev card_with : ℕ → ℕ → ℕ → List Planned → List ℕ → List ℕ → ℕ → ℕ → CardPlan
-    card_with ports card depth packets bytes sizes body room = record { ports = ports; card = card; depth = depth; packets = packets; bytes = bytes; sizes = sizes; body_room = body; packet_room = room }
+    card_with ports card depth packets bytes sizes body room =
+        record { ports = ports; card = card; depth = depth; packets = packets; bytes = bytes; sizes = sizes; body_room = body; packet_room = room }
 
     same_card : x ≡ y
     same_card =
-        let whole : card_with x.ports x.card x.depth x.packets x.bytes x.sizes x.body_room x.packet_room ≡ card_with y.ports y.card y.depth y.packets y.bytes y.sizes y.body_room y.packet_room =
+        let whole : card_with x.ports x.card x.depth x.packets x.bytes x.sizes x.body_room x.packet_room ≡ card_with y.ports y.card y.depth y.packets y.bytes
+        y.sizes y.body_room y.packet_room =
         ap (λ ports. card_with ports x.card x.depth x.packets x.bytes x.sizes x.body_room x.packet_room) (mine.ports ∙ same_count ∙ sym other.ports)
         ∙ ap (λ card. card_with y.ports card x.depth x.packets x.bytes x.sizes x.body_room x.packet_room) (mine.number ∙ sym other.number)
         ∙ ap (λ depth. card_with y.ports y.card depth x.packets x.bytes x.sizes x.body_room x.packet_room) (mine.depth ∙ same_depth ∙ sym other.depth)
@@ -151,18 +163,31 @@ module _ (settings : Settings) (files : List (List ℕ)) (table : List RouteLine
       get_or_default p.cards k d no_plan k_in ∙ same_card k k_in ∙ get_or_default q.cards k no_plan d (q_in k k_in))
 
   abbrev plan_with : Bool → Link → ℕ → ℕ → ℕ → ℕ → ℕ → ℕ → List CardPlan → SwitchPlan
-  plan_with nano link rounds depth workers max_slots oversize unrouted cards = record { nano = nano; link = link; rounds = rounds; depth = depth; workers = workers; max_slots = max_slots; oversize = oversize; unrouted = unrouted; cards = cards }
+  plan_with nano link rounds depth workers max_slots oversize unrouted cards =
+      record {
+        nano = nano;
+        link = link;
+        rounds = rounds;
+        depth = depth;
+        workers = workers;
+        max_slots = max_slots;
+        oversize = oversize;
+        unrouted = unrouted;
+        cards = cards;
+      }
 
   -- the plan of a table and captures is one
   plans_once : p ≡ q
   plans_once =
-      let whole : plan_with p.nano p.link p.rounds p.depth p.workers p.max_slots p.oversize p.unrouted p.cards ≡ plan_with q.nano q.link q.rounds q.depth q.workers q.max_slots q.oversize q.unrouted q.cards =
+      let whole : plan_with p.nano p.link p.rounds p.depth p.workers p.max_slots p.oversize p.unrouted p.cards ≡ plan_with q.nano q.link q.rounds q.depth
+      q.workers q.max_slots q.oversize q.unrouted q.cards =
       ap (λ nano. plan_with nano p.link p.rounds p.depth p.workers p.max_slots p.oversize p.unrouted p.cards) (a.nano ∙ sym b.nano)
       ∙ ap (λ link. plan_with q.nano link p.rounds p.depth p.workers p.max_slots p.oversize p.unrouted p.cards) (a.link ∙ sym b.link)
       ∙ ap (λ rounds. plan_with q.nano q.link rounds p.depth p.workers p.max_slots p.oversize p.unrouted p.cards) (a.rounds ∙ sym b.rounds)
       ∙ ap (λ depth. plan_with q.nano q.link q.rounds depth p.workers p.max_slots p.oversize p.unrouted p.cards) same_depth
       ∙ ap (λ workers. plan_with q.nano q.link q.rounds q.depth workers p.max_slots p.oversize p.unrouted p.cards) (a.workers ∙ sym b.workers)
-      ∙ ap (λ slots. plan_with q.nano q.link q.rounds q.depth q.workers slots p.oversize p.unrouted p.cards) (p_good.max_slots ∙ ap max_slots_of same_packets ∙ sym q_good.max_slots)
+      ∙ ap (λ slots. plan_with q.nano q.link q.rounds q.depth q.workers slots p.oversize p.unrouted p.cards)
+      (p_good.max_slots ∙ ap max_slots_of same_packets ∙ sym q_good.max_slots)
       ∙ ap (λ oversize. plan_with q.nano q.link q.rounds q.depth q.workers q.max_slots oversize p.unrouted p.cards) (a.oversize ∙ sym b.oversize)
       ∙ ap (λ unrouted. plan_with q.nano q.link q.rounds q.depth q.workers q.max_slots q.oversize unrouted p.cards) (a.unrouted ∙ sym b.unrouted)
       ∙ ap (plan_with q.nano q.link q.rounds q.depth q.workers q.max_slots q.oversize q.unrouted) same_cards in
@@ -171,20 +196,24 @@ module _ (settings : Settings) (files : List (List ℕ)) (table : List RouteLine
 -- ---- texts
 
 -- the plan of a job is one
-same_plan : (settings : Settings) (table : List ℕ) (files : List (List ℕ)) (p q : SwitchPlan) → IsPlanned settings table files p → IsPlanned settings table files q → p ≡ q
+same_plan : (settings : Settings) (table : List ℕ) (files : List (List ℕ)) (p q : SwitchPlan) → IsPlanned settings table files p
+    → IsPlanned settings table files q → p ≡ q
 same_plan settings table files p q a b =
     let lines = same_table table files a.lines b.lines a.captures b.captures a.read b.read in
     let captures = same_captures table files a.lines b.lines a.captures b.captures a.read b.read in
     let planned = subst (λ (read : List CaptureFile). IsPlanOf settings files b.lines read q) (sym captures) b.planned in
-    plans_once settings files a.lines a.captures p q a.planned (subst (λ (read : List RouteLine). IsPlanOf settings files read a.captures q) (sym lines) planned) a.good b.good
+    plans_once settings files a.lines a.captures p q a.planned
+    (subst (λ (read : List RouteLine). IsPlanOf settings files read a.captures q) (sym lines) planned) a.good b.good
 
 -- the run of a job is one
-same_run : (settings : Settings) (table : List ℕ) (files : List (List ℕ)) (p q : SwitchPlan) (s t : ℕ) → IsRunOf settings table files p s → IsRunOf settings table files q t → (p ≡ q) × (s ≡ t)
+same_run : (settings : Settings) (table : List ℕ) (files : List (List ℕ)) (p q : SwitchPlan) (s t : ℕ) → IsRunOf settings table files p s
+    → IsRunOf settings table files q t → (p ≡ q) × (s ≡ t)
 same_run settings table files p q s t a b =
     let plan = same_plan settings table files p q a.planned b.planned in
     (plan, lengths_once decision_of q s t (subst (λ (plan : SwitchPlan). IsLength plan s) plan a.ends) b.ends)
 
-switched_once : (settings : Settings) (wanted : Wanted) (table : List ℕ) (files : List (List ℕ)) (a b : Texts) → IsSwitched settings wanted table files a → IsSwitched settings wanted table files b → a ≡ b
+switched_once : (settings : Settings) (wanted : Wanted) (table : List ℕ) (files : List (List ℕ)) (a b : Texts) → IsSwitched settings wanted table files a
+    → IsSwitched settings wanted table files b → a ≡ b
 switched_once settings wanted table files a b p q =
     let same = same_run settings table files p.plan q.plan p.slots q.slots p.run q.run in
     p.are ∙ ap (λ (plan : SwitchPlan). texts_of wanted plan p.slots) same.0 ∙ ap (texts_of wanted q.plan) same.1 ∙ sym q.are
@@ -193,7 +222,8 @@ switched_once settings wanted table files a b p q =
 firm_runs_once : (plan : SwitchPlan) (a b : Summary) → IsFirmRun plan a → IsFirmRun plan b → a ≡ b
 firm_runs_once plan a b p q = p.numbers ∙ ap (summary_under firm_decision plan) (lengths_once firm_decision plan a.slots b.slots p.ends q.ends) ∙ sym q.numbers
 
-firm_once : (settings : Settings) (table : List ℕ) (files : List (List ℕ)) (a b : Texts) → IsSwitchedByFirm settings table files a → IsSwitchedByFirm settings table files b → a ≡ b
+firm_once : (settings : Settings) (table : List ℕ) (files : List (List ℕ)) (a b : Texts) → IsSwitchedByFirm settings table files a
+    → IsSwitchedByFirm settings table files b → a ≡ b
 firm_once settings table files a b p q =
     let plan = same_plan settings table files p.plan q.plan p.planned q.planned in
     let numbers = firm_runs_once q.plan p.summary q.summary (subst (λ (plan : SwitchPlan). IsFirmRun plan p.summary) plan p.run) q.run in
@@ -206,17 +236,46 @@ texts_once (gen g) table files a b p q = switched_once g.settings nothing_wanted
 texts_once (check file) table files a b p q = absurd p
 texts_once (firm f) table files a b p q = firm_once f.settings table files a b p q
 
--- a journal that is too long has one size
-pub long_once : (settings : Settings) (table : List ℕ) (files : List (List ℕ)) (a b : ℕ) → IsLongJournal settings table files a → IsLongJournal settings table files b → a ≡ b
-long_once settings table files a b p q =
-    let same = same_run settings table files p.plan q.plan p.slots q.slots p.run q.run in
-    p.size_is ∙ ap (λ (plan : SwitchPlan). length (journal_text plan p.slots)) same.0 ∙ ap (λ (slots : ℕ). length (journal_text q.plan slots)) same.1 ∙ sym q.size_is
+-- a journal that is too long is that of the job's run
+pub journal_of_run : (settings : Settings) (table : List ℕ) (files : List (List ℕ)) (plan : SwitchPlan) (slots size : ℕ)
+    → IsRunOf settings table files plan slots
+    → IsLongJournal settings table files size → size ≡ length (journal_text plan slots)
+journal_of_run settings table files plan slots size ran long =
+    let same = same_run settings table files long.plan plan long.slots slots long.run ran in
+    long.size_is ∙ ap (λ (p : SwitchPlan). length (journal_text p long.slots)) same.0 ∙ ap (λ (t : ℕ). length (journal_text plan t)) same.1
+
+-- and so is a packets file
+packets_of_run : (settings : Settings) (table : List ℕ) (files : List (List ℕ)) (plan : SwitchPlan) (slots size : ℕ) → IsRunOf settings table files plan slots
+    → IsLongPackets settings table files size → size ≡ length (packets_text plan slots)
+packets_of_run settings table files plan slots size ran long =
+    let same = same_run settings table files long.plan plan long.slots slots long.run ran in
+    long.size_is ∙ ap (λ (p : SwitchPlan). length (packets_text p long.slots)) same.0 ∙ ap (λ (t : ℕ). length (packets_text plan t)) same.1
+
+-- so each of them has one size
+pub long_once : (settings : Settings) (table : List ℕ) (files : List (List ℕ)) (a b : ℕ) → IsLongJournal settings table files a
+    → IsLongJournal settings table files b → a ≡ b
+long_once settings table files a b p q = journal_of_run settings table files q.plan q.slots a q.run p ∙ sym q.size_is
+
+pub long_packets_once : (settings : Settings) (table : List ℕ) (files : List (List ℕ)) (a b : ℕ) → IsLongPackets settings table files a
+    → IsLongPackets settings table files b → a ≡ b
+long_packets_once settings table files a b p q = packets_of_run settings table files q.plan q.slots a q.run p ∙ sym q.size_is
 
 -- and where texts were made of it, it was not wanted
-pub long_not_made : (r : RunWords) (table : List ℕ) (files : List (List ℕ)) (texts : Texts) (size : ℕ) → r.journal ≡ true → IsSwitched r.settings (wanted_by r) table files texts → IsLongJournal r.settings table files size → ⊥
+pub long_not_made : (r : RunWords) (table : List ℕ) (files : List (List ℕ)) (texts : Texts) (size : ℕ) → r.journal ≡ true
+    → IsSwitched r.settings (wanted_by r) table files texts → IsLongJournal r.settings table files size → ⊥
 long_not_made r table files texts size wanted p q =
-    let same = same_run r.settings table files q.plan p.plan q.slots p.slots q.run p.run in
-    let size_is : size ≡ length (journal_text p.plan p.slots) = q.size_is ∙ ap (λ (plan : SwitchPlan). length (journal_text plan q.slots)) same.0 ∙ ap (λ (slots : ℕ). length (journal_text p.plan slots)) same.1 in
-    let there : texts.journal ≡ Some (journal_text p.plan p.slots) = ap (λ (t : Texts). t.journal) p.are ∙ ap (λ (b : Bool). if b then Some (journal_text p.plan p.slots) else None) wanted in
+    let size_is = journal_of_run r.settings table files p.plan p.slots size p.run q in
+    let there : texts.journal ≡ Some (journal_text p.plan p.slots) = ap (λ (t : Texts). t.journal) p.are
+    ∙ ap (λ (b : Bool). if b then Some (journal_text p.plan p.slots) else None) wanted in
     let small = subst (λ (o : Option (List ℕ)). IfSome o (λ bytes. length bytes ≤ MAX_JOURNAL_BYTES)) there p.small in
+    omega (arith, small, size_is, q.longer)
+
+pub long_packets_not_made : (r : RunWords) (table : List ℕ) (files : List (List ℕ)) (texts : Texts) (size : ℕ) → r.packets ≡ true
+    → IsSwitched r.settings (wanted_by r) table files texts
+    → IsLongPackets r.settings table files size → ⊥
+long_packets_not_made r table files texts size wanted p q =
+    let size_is = packets_of_run r.settings table files p.plan p.slots size p.run q in
+    let there : texts.packets ≡ Some (packets_text p.plan p.slots) = ap (λ (t : Texts). t.packets) p.are
+    ∙ ap (λ (b : Bool). if b then Some (packets_text p.plan p.slots) else None) wanted in
+    let small = subst (λ (o : Option (List ℕ)). IfSome o (λ bytes. length bytes ≤ MAX_PACKETS_BYTES)) there p.packets_small in
     omega (arith, small, size_is, q.longer)

@@ -1,9 +1,9 @@
 -- With another number of workers a job has a plan that differs in that number alone, and the plan's run is the same, slot
 -- by slot.
-use Rattle.std.proofs.Common.{◌≡◌, ◌∙◌, ℕ, zero, suc, true, false, List, [], ◌++◌, map, length, None, Some, refl, ap, subst}
+use Rattle.std.proofs.Common.{◌≡◌, ◌∙◌, ℕ, zero, suc, true, false, List, [], ◌∷◌, ◌++◌, map, length, None, Some, refl, ap, subst}
 use Rattle.std.proofs.Math.Path.{fun_ext}
-use Rattle.std.specs.Prelude.{if◌then◌else◌, Result, Ok, Err}
-use Rattle.std.specs.List.{flat_map, range_with_len}
+use Rattle.std.specs.Prelude.{◌&&◌, if◌then◌else◌, Option, Result, Ok, Err, count_by, filter, slice_get, take}
+use Rattle.std.specs.List.{enumerate_from, flat_map, range_with_len}
 use Rattle.std.specs.Option.{option_to_list}
 use Rattle.rotating_pick.specs.declared.limits.TheConstants.{LEVELS}
 use Rattle.pcap_records.specs.Output.{capture_text}
@@ -16,10 +16,13 @@ use Rattle.slot_board.specs.Schedules.{decided_under}
 use Rattle.service_bound.specs.Waits.{longest_wait, noted_of}
 use Rattle.card_core.specs.declared.plan.Planned.{Planned}
 use Rattle.card_core.specs.Posts.{post_at}
-use Rattle.card_core.specs.Queues.{admitted, dropped, is_admitted}
+use Rattle.slot_match.specs.declared.matching.Served.{Served}
+use Rattle.crossbar.specs.declared.cards.Post.{Post}
+use Rattle.slot_histories.specs.Tests.{has}
+use Rattle.card_core.specs.Queues.{admitted, dropped, enters, is_admitted, is_routed}
 use Rattle.card_core.specs.Deliveries.{delivered}
 use Rattle.slot_report.specs.Lines.{lines_text}
-use Rattle.slot_report.specs.Texts.{report_lines, summary_lines}
+use Rattle.slot_report.specs.Texts.{report_bytes, summary_lines}
 use Rattle.journal_check.specs.Texts.{file_slot, file_text}
 use Rattle.output_queued.specs.Lines.{lines_of}
 use Rattle.output_queued.specs.Texts.{reference_lines}
@@ -31,14 +34,18 @@ use Rattle.switch_plan.specs.declared.fault.PlanFault.{PlanFault}
 use Rattle.switch_plan.specs.GoodPlans.{SwitchPlan, IsGood}
 use Rattle.whole_run.specs.Runs.{after_slot, before_under, card_at, decision_in, parts_under, ports_of, posts_under, run_journal, setup_for}
 use Rattle.whole_run.specs.Ends.{IsLengthUnder}
-use Rattle.whole_run.specs.Crossings.{cells_under}
+use Rattle.whole_run.specs.Crossings.{cells_under, queue_to}
 use Rattle.whole_run.specs.Sums.{IsAdmittedUnder, IsBestUnder}
 use Rattle.switch_jobs.specs.Outcomes.{over_ports, summary_under}
 use Rattle.journal_run.specs.RunFiles.{journal_text}
 use Rattle.reference_run.specs.RunLines.{run_lines}
+use Rattle.queue_lengths.specs.Lengths.{deepest_of, greatest}
+use Rattle.queue_measures.specs.Lines.{deepest_line, input_lines, queue_lines, queue_lines_under}
+use Rattle.packet_departures.specs.Departures.{flow_of, is_end_of}
+use Rattle.packet_times.specs.Rows.{aside_row, departure_if, header, outputs_in, packets_text, packets_text_under, routed_row, row_text, state_of}
 use Rattle.job_files.specs.Jobs.{Wanted, nothing_wanted, settings_with, wanted_by, with_workers}
 use Rattle.job_files.specs.OutputFiles.{Texts}
-use Rattle.switch_run.specs.Switched.{IsJobOutcome, IsLongJournal, IsPlanned, IsRunOf, IsSwitched, IsSwitchedByFirm, texts_of}
+use Rattle.switch_run.specs.Switched.{IsJobOutcome, IsLongJournal, IsLongPackets, IsPlanned, IsRunOf, IsSwitched, IsSwitchedByFirm, texts_of}
 
 -- the same plan but for the number of workers
 abbrev plan_with : ℕ → SwitchPlan → SwitchPlan
@@ -68,7 +75,8 @@ module _ (scheduler : Scheduler) (workers : ℕ) (plan : SwitchPlan) where
     forwarded = over_ports plan (λ i. admitted (card_at plan i) (same_parts p i slots) slots);
     copies = over_ports plan (λ j. length (delivered (same_cells p j slots)));
     cells = over_ports plan (λ j. length (same_cells p j slots));
-    longest = map (λ level. longest_wait (ports_of plan) level (map noted_of (map (decided_under scheduler (setup_for plan) (same_posts p)) (range_with_len 0 slots)))) (range_with_len 0 LEVELS);
+    longest = map (λ level. longest_wait (ports_of plan) level
+        (map noted_of (map (decided_under scheduler (setup_for plan) (same_posts p)) (range_with_len 0 slots)))) (range_with_len 0 LEVELS);
   }
 
   same_length : (slots : ℕ) → IsLengthUnder scheduler plan slots → IsLengthUnder scheduler (plan_with workers plan) slots
@@ -79,7 +87,8 @@ module _ (scheduler : Scheduler) (workers : ℕ) (plan : SwitchPlan) where
     going = subst (λ posts. is_done_before (ports_of plan) posts ends.last ≡ false) same_posts ends.going;
   }
 
-  same_admitted : (slots i : ℕ) (packet : Planned) → IsAdmittedUnder scheduler plan slots i packet → IsAdmittedUnder scheduler (plan_with workers plan) slots i packet
+  same_admitted : (slots i : ℕ) (packet : Planned) → IsAdmittedUnder scheduler plan slots i packet
+      → IsAdmittedUnder scheduler (plan_with workers plan) slots i packet
   same_admitted slots i packet a = record {
     place = a.place;
     found = a.found;
@@ -109,6 +118,34 @@ module _ (workers : ℕ) (plan : SwitchPlan) (slots : ℕ) where
   unfolding run_lines
   same_lines = ap (λ journal. reference_lines (lines_of plan.cards (map (λ slot. slot.matched) journal))) same_journal
 
+  same_queue_lines : queue_lines plan slots ≡ queue_lines (plan_with workers plan) slots
+  unfolding queue_lines_under
+  same_queue_lines =
+      ap (λ parts. flat_map (λ i. input_lines i (card_at plan i) (parts i slots) slots) (range_with_len 0 (ports_of plan))
+      ++ deepest_line (greatest (λ i. deepest_of (card_at plan i) (parts i slots) slots) (ports_of plan)) ∷ [])
+      (same_parts decision_of workers plan)
+
+  -- when packet k of input i leaves by output j, of a run with these parts and posts
+  abbrev departure_with : (ℕ → ℕ → List (Option Served)) → (ℕ → ℕ → Post) → ℕ → ℕ → ℕ → Planned → Option ℕ
+  departure_with parts posts i j k packet =
+      let flow = flow_of i j packet in
+      slice_get (filter (λ t. is_end_of flow (crossed_under decision_of (setup_for plan) posts j t)) (range_with_len 0 slots))
+      (count_by (λ other. enters (card_at plan i) (queue_to j flow.level flow.kind) (parts i slots) other && has other.fan j) (take k (card_at plan i).packets))
+
+  -- and the rows of packet k of input i
+  abbrev rows_with : (ℕ → ℕ → List (Option Served)) → (ℕ → ℕ → Post) → ℕ → ℕ → Planned → List (List (List ℕ))
+  rows_with parts posts i k packet =
+      let state = state_of (card_at plan i) (parts i slots) packet in
+      if is_routed packet then map (λ j. routed_row i k packet state j (departure_if state (departure_with parts posts i j k packet)))
+      (outputs_in (ports_of plan) packet.fan)
+      else aside_row i k packet state ∷ []
+
+  same_packets_text : packets_text plan slots ≡ packets_text (plan_with workers plan) slots
+  unfolding packets_text_under
+  same_packets_text = λ p. header
+      ++ flat_map row_text (flat_map (λ i. flat_map (λ k. rows_with (same_parts decision_of workers plan p) (same_posts decision_of workers plan p) i k.0 k.1)
+      (enumerate_from 0 (card_at plan i).packets)) (range_with_len 0 (ports_of plan)))
+
   same_texts : (wanted : Wanted) → texts_of wanted plan slots ≡ texts_of wanted (plan_with workers plan) slots
   same_texts wanted =
       let cells = same_cells decision_of workers plan in
@@ -116,9 +153,12 @@ module _ (workers : ℕ) (plan : SwitchPlan) (slots : ℕ) where
       λ p. record {
         outputs = map (λ j. capture_text plan.nano plan.link (delivered (cells p j slots))) (range_with_len 0 (ports_of plan));
         report =
-            lines_text (report_lines (summary p) (map (λ j. record { packets = length (delivered (cells p j slots)); cells = length (cells p j slots) }) (range_with_len 0 (ports_of plan))) (if wanted.slots then same_journal p else []))
+            report_bytes (summary p) (map (λ j. record { packets = length (delivered (cells p j slots)); cells = length (cells p j slots) })
+            (range_with_len 0 (ports_of plan)))
+            (if wanted.queues then lines_text (same_queue_lines p) else []) (if wanted.slots then same_journal p else [])
             ++ (if wanted.reference then lines_text (same_lines p) else []);
         journal = if wanted.journal then Some (same_journal_text p) else None;
+        packets = if wanted.packets then Some (same_packets_text p) else None;
         summary = lines_text (summary_lines (summary p));
       }
 
@@ -169,16 +209,19 @@ module _ (workers : ℕ) (few : IsUpTo MAX_WORKERS workers) where
       };
     }
 
-    still_run : (plan : SwitchPlan) (slots : ℕ) → IsRunOf settings table files plan slots → IsRunOf (settings_with workers settings) table files (plan_with workers plan) slots
+    still_run : (plan : SwitchPlan) (slots : ℕ) → IsRunOf settings table files plan slots
+        → IsRunOf (settings_with workers settings) table files (plan_with workers plan) slots
     still_run plan slots r = record { planned = still_planned plan r.planned; ends = same_length decision_of workers plan slots r.ends }
 
-    same_switched : (wanted : Wanted) (texts : Texts) → IsSwitched settings wanted table files texts → IsSwitched (settings_with workers settings) wanted table files texts
+    same_switched : (wanted : Wanted) (texts : Texts) → IsSwitched settings wanted table files texts
+        → IsSwitched (settings_with workers settings) wanted table files texts
     same_switched wanted texts p = record {
       plan = plan_with workers p.plan;
       slots = p.slots;
       run = still_run p.plan p.slots p.run;
       are = p.are ∙ same_texts workers p.plan p.slots wanted;
       small = p.small;
+      packets_small = p.packets_small;
     }
 
     same_by_firm : (texts : Texts) → IsSwitchedByFirm settings table files texts → IsSwitchedByFirm (settings_with workers settings) table files texts
@@ -197,7 +240,8 @@ module _ (workers : ℕ) (few : IsUpTo MAX_WORKERS workers) where
 
 -- ---- the job's outcome is the same
 
-pub same_outcome : (job : JobWords) (workers : ℕ) (table : List ℕ) (files : List (List ℕ)) (outcome : Result Texts PlanFault) → IsUpTo MAX_WORKERS workers → IsJobOutcome job table files outcome → IsJobOutcome (with_workers workers job) table files outcome
+pub same_outcome : (job : JobWords) (workers : ℕ) (table : List ℕ) (files : List (List ℕ)) (outcome : Result Texts PlanFault) → IsUpTo MAX_WORKERS workers
+    → IsJobOutcome job table files outcome → IsJobOutcome (with_workers workers job) table files outcome
 same_outcome (run r) workers table files (Ok texts) few is = same_switched workers few r.settings table files (wanted_by r) texts is
 same_outcome (run r) workers table files (Err fault) few is = is
 same_outcome (gen g) workers table files (Ok texts) few is = same_switched workers few g.settings table files nothing_wanted texts is
@@ -206,11 +250,23 @@ same_outcome (firm f) workers table files (Ok texts) few is = same_by_firm worke
 same_outcome (firm f) workers table files (Err fault) few is = is
 same_outcome (check file) workers table files outcome few is = is
 
-pub same_long_journal : (settings : Settings) (workers : ℕ) (table : List ℕ) (files : List (List ℕ)) (size : ℕ) → IsUpTo MAX_WORKERS workers → IsLongJournal settings table files size → IsLongJournal (settings_with workers settings) table files size
+pub same_long_journal : (settings : Settings) (workers : ℕ) (table : List ℕ) (files : List (List ℕ)) (size : ℕ) → IsUpTo MAX_WORKERS workers
+    → IsLongJournal settings table files size → IsLongJournal (settings_with workers settings) table files size
 same_long_journal settings workers table files size few p = record {
   plan = plan_with workers p.plan;
   slots = p.slots;
   run = still_run workers few settings table files p.plan p.slots p.run;
   size_is = p.size_is ∙ ap length (same_journal_text workers p.plan p.slots);
+  longer = p.longer;
+}
+
+pub same_long_packets : (settings : Settings) (workers : ℕ) (table : List ℕ) (files : List (List ℕ)) (size : ℕ) → IsUpTo MAX_WORKERS workers
+    → IsLongPackets settings table files size
+    → IsLongPackets (settings_with workers settings) table files size
+same_long_packets settings workers table files size few p = record {
+  plan = plan_with workers p.plan;
+  slots = p.slots;
+  run = still_run workers few settings table files p.plan p.slots p.run;
+  size_is = p.size_is ∙ ap length (same_packets_text workers p.plan p.slots);
   longer = p.longer;
 }

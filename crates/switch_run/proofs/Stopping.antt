@@ -1,6 +1,7 @@
 -- Why a job stops, said of a longer span of calls.
-use Rattle.std.proofs.Common.{◌≡◌, ◌≤◌, ◌+◌, ℕ, List, [], ◌∷◌, length, Option, Some, None, inl, inr, refl, ◌∙◌, ap, subst, arith, length-append}
-use Rattle.std.specs.Prelude.{option_map}
+use Rattle.std.proofs.Common.{◌≡◌, ◌≤◌, ◌+◌, ℕ, Bool, true, false, List, [], ◌∷◌, ◌++◌, length, Option, Some, None, inl, inr, refl, ◌∙◌, ap, subst}
+use Rattle.std.proofs.Common.{arith, length-append}
+use Rattle.std.specs.Prelude.{is_some, if◌then◌else◌, option_map}
 use Rattle.outside.specs.Contents.{Contents, append_out}
 use Rattle.outside.specs.Faults.{Place, ReadOf, ToOut, NeverFall}
 use Rattle.outside.specs.WholeFiles.{NamedBytes}
@@ -11,17 +12,18 @@ use Rattle.check_job.specs.declared.ending.CheckEnding.{CheckEnding}
 use Rattle.check_job.specs.declared.ending.CheckEnding.TheVariants as check_ending
 use Rattle.switch_words.specs.Reading.{JobWords, run, gen, check, firm, RunWords}
 use Rattle.job_files.specs.Jobs.{ReadWords, reads_of, pace_in, input_name}
-use Rattle.job_files.specs.OutputFiles.{Texts, files_from, files_of, journal_files, put_files, put_texts, report_name, run_files}
+use Rattle.job_files.specs.OutputFiles.{Texts, files_from, files_of, journal_files, packets_files, packets_place, put_files, put_texts, report_name, run_files}
 use Rattle.job_files.specs.Inputs.{AreInputs}
 use Rattle.job_files.specs.LineParts.{GivesLine}
 use Rattle.job_files.specs.RefusalLines.{memory_line}
 use Rattle.switch_run.specs.Endings.{Command, IsDone, IsMade, IsStopped, IsWriteFault, Means, Stops, StopsAtFile, StopsWriting, captures_made}
-use Rattle.switch_run.specs.Making.{AreMade, AreToWrite, StopsPlan, StopsTexts}
+use Rattle.switch_run.specs.Making.{AreMade, AreToWrite, StopsPlan, StopsTexts, ToWrite}
 use Rattle.job_files.specs.FileSteps.{StopsPutting, StopsReading}
 use Rattle.job_files.specs.declared.ending.Written.{Written}
-use Rattle.job_files.specs.declared.ending.Written.TheVariants.{Output, Report, Journal, StandardOutput}
+use Rattle.job_files.specs.declared.ending.Written.TheVariants.{Output, Report, Journal, Packets, StandardOutput}
 use Rattle.job_files.specs.declared.ending.Ending.{Ending}
-use Rattle.job_files.specs.declared.ending.Ending.TheVariants.{Done, Usage, ReadFault, TooLong, Refused, JournalTooLong, OutOfMemory, WriteFault, Checked}
+use Rattle.job_files.specs.declared.ending.Ending.TheVariants.{Done, Usage, ReadFault, TooLong, Refused, JournalTooLong, PacketsTooLong, OutOfMemory}
+use Rattle.job_files.specs.declared.ending.Ending.TheVariants.{WriteFault, Checked}
 use Rattle.job_files.proofs.Holding.{holds_told, length-files_from}
 
 module _ (job : JobWords) (texts : Texts) (a b c d : Place → ℕ) (old told : Option Contents) (start : NeverFall a b) (end : NeverFall c d) where
@@ -31,10 +33,12 @@ module _ (job : JobWords) (texts : Texts) (a b c d : Place → ℕ) (old told : 
   StopsWriting-wider : (written : Written) → StopsWriting job texts written old b c told → StopsWriting job texts written old a d told
   StopsWriting-wider (Output port) s = (s.0, StopsAtFile-wider port s.1)
   StopsWriting-wider Report s = StopsAtFile-wider (length texts.outputs) s
-  StopsWriting-wider Journal s = StopsAtFile-wider (length texts.outputs + 1) s
+  StopsWriting-wider Journal s = (s.0, StopsAtFile-wider (length texts.outputs + 1) s.1)
+  StopsWriting-wider Packets s = StopsAtFile-wider (packets_place (length texts.outputs) (is_some texts.journal)) s
   StopsWriting-wider StandardOutput s = record { rose = Rose-wider a b c d ToOut start end s.rose; given = s.given; told_is = s.told_is }
 
-MeansCheck-wider : (name : List ℕ) (old new : Option Contents) (a b c d : Place → ℕ) (ending : CheckEnding) → NeverFall a b → NeverFall c d → MeansCheck name old new b c ending → MeansCheck name old new a d ending
+MeansCheck-wider : (name : List ℕ) (old new : Option Contents) (a b c d : Place → ℕ) (ending : CheckEnding) → NeverFall a b → NeverFall c d
+    → MeansCheck name old new b c ending → MeansCheck name old new a d ending
 MeansCheck-wider name old new a b c d check_ending.Yes start end m = m
 MeansCheck-wider name old new a b c d (check_ending.No slot reason) start end m = m
 MeansCheck-wider name old new a b c d (check_ending.Bad at) start end m = m
@@ -43,14 +47,24 @@ MeansCheck-wider name old new a b c d check_ending.ReadFault start end m = (Rose
 MeansCheck-wider name old new a b c d check_ending.OutOfMemory start end m = m
 MeansCheck-wider name old new a b c d check_ending.OutFault start end m = (m.0, m.1, m.2, Rose-wider a b c d ToOut start end m.3, m.4)
 
-pub Stops-wider : (job : JobWords) (old : Option Contents) (a b c d : Place → ℕ) (told : Option Contents) (ending : Ending) → NeverFall a b → NeverFall c d → Stops job old b c told ending → Stops job old a d told ending
+pub Stops-wider : (job : JobWords) (old : Option Contents) (a b c d : Place → ℕ) (told : Option Contents) (ending : Ending) → NeverFall a b → NeverFall c d
+    → Stops job old b c told ending → Stops job old a d told ending
 Stops-wider job old a b c d told Done start end stops = stops
 Stops-wider job old a b c d told Usage start end stops = stops
-Stops-wider job old a b c d told (ReadFault input) start end stops =
-    (record { words = stops.0.words; reads = stops.0.reads; known = stops.0.known; earlier = stops.0.earlier; rose = Rose-wider a b c d (ReadOf (input_name stops.0.words input)) start end stops.0.rose }, stops.1)
+Stops-wider job old a b c d told (ReadFault input) start end stops = (
+  record {
+    words = stops.0.words;
+    reads = stops.0.reads;
+    known = stops.0.known;
+    earlier = stops.0.earlier;
+    rose = Rose-wider a b c d (ReadOf (input_name stops.0.words input)) start end stops.0.rose;
+  },
+  stops.1,
+)
 Stops-wider job old a b c d told (TooLong input) start end stops = stops
 Stops-wider job old a b c d told (Refused fault) start end stops = stops
 Stops-wider job old a b c d told (JournalTooLong size) start end stops = stops
+Stops-wider job old a b c d told (PacketsTooLong size) start end stops = stops
 Stops-wider job old a b c d told OutOfMemory start end stops = stops
 Stops-wider job old a b c d told (WriteFault written) start end stops =
     record { texts = stops.texts; made = stops.made; stops = StopsWriting-wider job stops.texts a b c d old told start end written stops.stops }
@@ -58,13 +72,17 @@ Stops-wider job old a b c d told (Checked ending) start end stops =
     record { file = stops.file; is_check = stops.is_check; means = MeansCheck-wider stops.file old told a b c d ending start end stops.means }
 
 -- a job whose files were not read
-pub reading_stops : (job : JobWords) (r : ReadWords) (old told : Option Contents) (was now : Place → ℕ) (ending : Ending) → reads_of job ≡ Some r → told ≡ old → StopsReading r old was now ending → Stops job old was now told ending
+pub reading_stops : (job : JobWords) (r : ReadWords) (old told : Option Contents) (was now : Place → ℕ) (ending : Ending) → reads_of job ≡ Some r → told ≡ old
+    → StopsReading r old was now ending → Stops job old was now told ending
 reading_stops job r old told was now Done reads same stops = stops
 reading_stops job r old told was now Usage reads same stops = absurd stops
-reading_stops job r old told was now (ReadFault input) reads same stops = (record { words = r; reads = reads; known = stops.0; earlier = stops.1; rose = stops.2 }, same)
-reading_stops job r old told was now (TooLong input) reads same stops = (record { words = r; reads = reads; known = stops.0; earlier = stops.1; longer = stops.2 }, same)
+reading_stops job r old told was now (ReadFault input) reads same stops =
+    (record { words = r; reads = reads; known = stops.0; earlier = stops.1; rose = stops.2 }, same)
+reading_stops job r old told was now (TooLong input) reads same stops =
+    (record { words = r; reads = reads; known = stops.0; earlier = stops.1; longer = stops.2 }, same)
 reading_stops job r old told was now (Refused fault) reads same stops = absurd stops
 reading_stops job r old told was now (JournalTooLong size) reads same stops = absurd stops
+reading_stops job r old told was now (PacketsTooLong size) reads same stops = absurd stops
 reading_stops job r old told was now OutOfMemory reads same stops = same
 reading_stops job r old told was now (WriteFault written) reads same stops = absurd stops
 reading_stops job r old told was now (Checked ending) reads same stops = absurd stops
@@ -72,28 +90,35 @@ reading_stops job r old told was now (Checked ending) reads same stops = absurd 
 -- ---- plans and texts
 
 -- the inputs were refused, or memory ran out
-pub plan_stops : (job : JobWords) (old told : Option Contents) (was now : Place → ℕ) (table : List ℕ) (captures : List (List ℕ)) (ending : Ending) → told ≡ old → AreInputs job old table captures
+pub plan_stops : (job : JobWords) (old told : Option Contents) (was now : Place → ℕ) (table : List ℕ) (captures : List (List ℕ)) (ending : Ending)
+    → told ≡ old → AreInputs job old table captures
     → StopsPlan (pace_in job) table captures ending → Stops job old was now told ending
 plan_stops job old told was now table captures Done same inputs stops = stops
 plan_stops job old told was now table captures Usage same inputs stops = stops
 plan_stops job old told was now table captures (ReadFault input) same inputs stops = absurd stops
 plan_stops job old told was now table captures (TooLong input) same inputs stops = absurd stops
-plan_stops job old told was now table captures (Refused fault) same inputs stops = (record { table = table; captures = captures; inputs = inputs; outcome = stops }, same)
+plan_stops job old told was now table captures (Refused fault) same inputs stops =
+    (record { table = table; captures = captures; inputs = inputs; outcome = stops }, same)
 plan_stops job old told was now table captures (JournalTooLong size) same inputs stops = absurd stops
+plan_stops job old told was now table captures (PacketsTooLong size) same inputs stops = absurd stops
 plan_stops job old told was now table captures OutOfMemory same inputs stops = same
 plan_stops job old told was now table captures (WriteFault written) same inputs stops = absurd stops
 plan_stops job old told was now table captures (Checked ending) same inputs stops = absurd stops
 
 -- the texts of a `run` job were not made
-pub texts_stop : (r : RunWords) (old told : Option Contents) (was now : Place → ℕ) (table : List ℕ) (captures : List (List ℕ)) (ending : Ending) → told ≡ old → AreInputs (run r) old table captures
+pub texts_stop : (r : RunWords) (old told : Option Contents) (was now : Place → ℕ) (table : List ℕ) (captures : List (List ℕ)) (ending : Ending) → told ≡ old
+    → AreInputs (run r) old table captures
     → StopsTexts r table captures ending → Stops (run r) old was now told ending
 texts_stop r old told was now table captures Done same inputs stops = stops
 texts_stop r old told was now table captures Usage same inputs stops = stops
 texts_stop r old told was now table captures (ReadFault input) same inputs stops = absurd stops
 texts_stop r old told was now table captures (TooLong input) same inputs stops = absurd stops
-texts_stop r old told was now table captures (Refused fault) same inputs stops = plan_stops (run r) old told was now table captures (Refused fault) same inputs stops
+texts_stop r old told was now table captures (Refused fault) same inputs stops =
+    plan_stops (run r) old told was now table captures (Refused fault) same inputs stops
 texts_stop r old told was now table captures (JournalTooLong size) same inputs stops =
     (record { words = r; is_run = refl; wanted = stops.0; table = table; captures = captures; inputs = inputs; longer = stops.1 }, same)
+texts_stop r old told was now table captures (PacketsTooLong size) same inputs stops =
+    (record { words = r; is_run = refl; wanted = stops.0; table = table; captures = captures; inputs = inputs; longer = stops.1; journal_fits = stops.2 }, same)
 texts_stop r old told was now table captures OutOfMemory same inputs stops = same
 texts_stop r old told was now table captures (WriteFault written) same inputs stops = absurd stops
 texts_stop r old told was now table captures (Checked ending) same inputs stops = absurd stops
@@ -106,8 +131,8 @@ captures_made-le (gen g) n = omega arith
 captures_made-le (check file) n = omega arith
 captures_made-le (firm f) n = omega arith
 
-module _ (job : JobWords) (old : Option Contents) (outputs : ℕ) (files : List NamedBytes) (summary : List ℕ) (w : AreToWrite job old outputs files summary) where
-  abbrev m : AreMade job w.table w.captures outputs files summary
+module _ (job : JobWords) (old : Option Contents) (written : ToWrite) (w : AreToWrite job old written) where
+  abbrev m : AreMade job w.table w.captures written
   m = w.made
 
   few_outputs : length m.texts.outputs ≤ 64
@@ -121,78 +146,111 @@ module _ (job : JobWords) (old : Option Contents) (outputs : ℕ) (files : List 
   made = record { table = w.table; captures = w.captures; inputs = w.inputs; outcome = m.outcome; count = m.count }
 
   -- all was written
-  pub done : (mid new : Option Contents) → mid ≡ old → new ≡ option_map (λ c. append_out summary (put_files files c)) mid → IsDone job old new
+  pub done : (mid new : Option Contents) → mid ≡ old → new ≡ option_map (λ c. append_out written.summary (put_files written.files c)) mid → IsDone job old new
   done mid new same put =
-      let written : new ≡ option_map (put_texts job m.texts) old =
-      put ∙ ap (λ text. option_map (λ c. append_out text (put_files files c)) mid) m.summary_is
+      let all : new ≡ option_map (put_texts job m.texts) old =
+      put ∙ ap (λ text. option_map (λ c. append_out text (put_files written.files c)) mid) m.summary_is
       ∙ ap (λ fs. option_map (λ c. append_out m.texts.summary (put_files fs c)) mid) m.files_are
       ∙ ap (option_map (put_texts job m.texts)) same in
       let few = few_outputs in
-      record { texts = m.texts; made = made; written = written; holds = holds_told job m.texts old new (omega (arith, few)) written }
+      record { texts = m.texts; made = made; written = all; holds = holds_told job m.texts old new (omega (arith, few)) all }
 
-length-journal_files : (prefix : List ℕ) (journal : Option (List ℕ)) → length (journal_files prefix journal) ≤ 1
-length-journal_files prefix None = omega arith
-length-journal_files prefix (Some bytes) = omega arith
+length-journal_files : (prefix : List ℕ) (journal : Option (List ℕ)) → length (journal_files prefix journal) ≡ (if is_some journal then 1 else 0)
+length-journal_files prefix None = refl
+length-journal_files prefix (Some bytes) = refl
 
-length-run_files : (prefix : List ℕ) (texts : Texts) → length (run_files prefix texts) ≤ length texts.outputs + 2
+length-packets_files : (prefix : List ℕ) (packets : Option (List ℕ)) → length (packets_files prefix packets) ≤ 1
+length-packets_files prefix None = omega arith
+length-packets_files prefix (Some bytes) = omega arith
+
+place-le : (outputs : ℕ) (with_journal : Bool) → packets_place outputs with_journal ≤ outputs + 2
+place-le outputs true = omega arith
+place-le outputs false = omega arith
+
+-- no file stands after the packets file
+length-run_files : (prefix : List ℕ) (texts : Texts) → length (run_files prefix texts) ≤ packets_place (length texts.outputs) (is_some texts.journal) + 1
 length-run_files prefix texts =
+    let journal = journal_files prefix texts.journal in
+    let packets = packets_files prefix texts.packets in
     let n = length-files_from prefix 0 texts.outputs in
     let k = length-journal_files prefix texts.journal in
-    omega (arith, n, k, length-append (files_from prefix 0 texts.outputs) (record { name = report_name prefix; bytes = texts.report } ∷ journal_files prefix texts.journal))
+    let m = length-packets_files prefix texts.packets in
+    omega (
+      arith,
+      n,
+      k,
+      m,
+      length-append journal packets,
+      length-append (files_from prefix 0 texts.outputs) (record { name = report_name prefix; bytes = texts.report } ∷ (journal ++ packets)),
+    )
 
--- a job writes no more than a file for each capture, the report and the journal
-length-files_of : (job : JobWords) (texts : Texts) → length (files_of job texts) ≤ length texts.outputs + 2
-length-files_of (run r) texts = length-run_files r.prefix texts
+-- a job writes no more than a file for each capture, the report, the journal and the packets file
+length-files_of : (job : JobWords) (texts : Texts) → length (files_of job texts) ≤ length texts.outputs + 3
+length-files_of (run r) texts = omega (arith, length-run_files r.prefix texts, place-le (length texts.outputs) (is_some texts.journal))
 length-files_of (gen g) texts = omega arith
 length-files_of (check file) texts = omega arith
 length-files_of (firm f) texts = omega arith
 
-pub few_files : (job : JobWords) (old : Option Contents) (outputs : ℕ) (files : List NamedBytes) (summary : List ℕ) → AreToWrite job old outputs files summary → length files ≤ 66
-few_files job old outputs files summary w =
+pub few_files : (job : JobWords) (old : Option Contents) (written : ToWrite) → AreToWrite job old written → length written.files ≤ 67
+few_files job old written w =
     let n = length-files_of job w.made.texts in
-    let k = few_outputs job old outputs files summary w in
+    let k = few_outputs job old written w in
     omega (arith, n, k, ap length w.made.files_are)
 
 -- a job that has no files stopped after them
-stops_without_files : (job : JobWords) (outputs : ℕ) (texts : Texts) (written : Written) (old told : Option Contents) (was now : Place → ℕ) → files_of job texts ≡ [] → StopsPutting outputs (files_of job texts) texts.summary written old was now told
-    → StopsWriting job texts written old was now told
-stops_without_files job outputs texts (Output port) old told was now none s = let n = ap length none in absurd (omega (arith, s.1.within, n))
-stops_without_files job outputs texts Report old told was now none s = let n = ap length none in absurd (omega (arith, s.within, n))
-stops_without_files job outputs texts Journal old told was now none s = let n = ap length none in absurd (omega (arith, s.2.within, n))
-stops_without_files job outputs texts StandardOutput old told was now none s = record { rose = s.rose; given = s.given; told_is = s.told_is }
+stops_without_files : (job : JobWords) (outputs : ℕ) (with_journal : Bool) (texts : Texts) (what : Written) (old told : Option Contents) (was now : Place → ℕ)
+    → files_of job texts ≡ []
+    → StopsPutting outputs with_journal (files_of job texts) texts.summary what old was now told → StopsWriting job texts what old was now told
+stops_without_files job outputs with_journal texts (Output port) old told was now none s = let n = ap length none in absurd (omega (arith, s.1.within, n))
+stops_without_files job outputs with_journal texts Report old told was now none s = let n = ap length none in absurd (omega (arith, s.within, n))
+stops_without_files job outputs with_journal texts Journal old told was now none s = let n = ap length none in absurd (omega (arith, s.1.within, n))
+stops_without_files job outputs with_journal texts Packets old told was now none s = let n = ap length none in absurd (omega (arith, s.2.within, n))
+stops_without_files job outputs with_journal texts StandardOutput old told was now none s = record { rose = s.rose; given = s.given; told_is = s.told_is }
 
-run_stops_writing : (r : RunWords) (texts : Texts) (written : Written) (old told : Option Contents) (was now : Place → ℕ) → StopsPutting (length texts.outputs) (run_files r.prefix texts) texts.summary written old was now told
-    → StopsWriting (run r) texts written old was now told
+run_stops_writing : (r : RunWords) (texts : Texts) (what : Written) (old told : Option Contents) (was now : Place → ℕ)
+    → StopsPutting (length texts.outputs) (is_some texts.journal) (run_files r.prefix texts) texts.summary what old was now told
+    → StopsWriting (run r) texts what old was now told
 run_stops_writing r texts (Output port) old told was now s = (s.0, record { within = s.1.within; stops = s.1.stops })
 run_stops_writing r texts Report old told was now s = record { within = s.within; stops = s.stops }
-run_stops_writing r texts Journal old told was now s =
+run_stops_writing r texts Journal old told was now s = (s.0, record { within = s.1.within; stops = s.1.stops })
+run_stops_writing r texts Packets old told was now s =
     let n = length-run_files r.prefix texts in
     let within = s.2.within in
-    let same : s.0 ≡ length texts.outputs + 1 = omega (arith, s.1, within, n) in
+    let same : s.0 ≡ packets_place (length texts.outputs) (is_some texts.journal) = omega (arith, s.1, within, n) in
     subst (λ (place : ℕ). StopsAtFile (run r) texts place old was now told) same (record { within = s.2.within; stops = s.2.stops })
 run_stops_writing r texts StandardOutput old told was now s = record { rose = s.rose; given = s.given; told_is = s.told_is }
 
 -- a job that stopped at one of its files, or after them
-stops_writing : (job : JobWords) (outputs : ℕ) (texts : Texts) (written : Written) (old told : Option Contents) (was now : Place → ℕ) → ((r : RunWords) → job ≡ run r → outputs ≡ length texts.outputs)
-    → StopsPutting outputs (files_of job texts) texts.summary written old was now told → StopsWriting job texts written old was now told
-stops_writing (run r) outputs texts written old told was now count s =
-    run_stops_writing r texts written old told was now (subst (λ (n : ℕ). StopsPutting n (run_files r.prefix texts) texts.summary written old was now told) (count r refl) s)
-stops_writing (gen g) outputs texts written old told was now count s = stops_without_files (gen g) outputs texts written old told was now refl s
-stops_writing (check file) outputs texts written old told was now count s = stops_without_files (check file) outputs texts written old told was now refl s
-stops_writing (firm f) outputs texts written old told was now count s = stops_without_files (firm f) outputs texts written old told was now refl s
+stops_writing : (job : JobWords) (outputs : ℕ) (with_journal : Bool) (texts : Texts) (what : Written) (old told : Option Contents) (was now : Place → ℕ)
+    → ((r : RunWords) → job ≡ run r → outputs ≡ length texts.outputs) → ((r : RunWords) → job ≡ run r → with_journal ≡ is_some texts.journal)
+    → StopsPutting outputs with_journal (files_of job texts) texts.summary what old was now told → StopsWriting job texts what old was now told
+stops_writing (run r) outputs with_journal texts what old told was now count journal s =
+    run_stops_writing r texts what old told was now
+    (subst (λ (b : Bool). StopsPutting (length texts.outputs) b (run_files r.prefix texts) texts.summary what old was now told) (journal r refl)
+    (subst (λ (n : ℕ). StopsPutting n with_journal (run_files r.prefix texts) texts.summary what old was now told) (count r refl) s))
+stops_writing (gen g) outputs with_journal texts what old told was now count journal s =
+    stops_without_files (gen g) outputs with_journal texts what old told was now refl s
+stops_writing (check file) outputs with_journal texts what old told was now count journal s =
+    stops_without_files (check file) outputs with_journal texts what old told was now refl s
+stops_writing (firm f) outputs with_journal texts what old told was now count journal s =
+    stops_without_files (firm f) outputs with_journal texts what old told was now refl s
 
 -- a call on what is written was refused
-pub write_fault : (job : JobWords) (old mid new : Option Contents) (outputs : ℕ) (files : List NamedBytes) (summary : List ℕ) (w : AreToWrite job old outputs files summary) (was b now : Place → ℕ) (written : Written)
-    → mid ≡ old → NeverFall was b → StopsPutting outputs files summary written mid b now new → IsWriteFault job old was now new written
-write_fault job old mid new outputs files summary w was b now written same kept stops =
+pub write_fault : (job : JobWords) (old mid new : Option Contents) (written : ToWrite) (w : AreToWrite job old written) (was b now : Place → ℕ) (what : Written)
+    → mid ≡ old → NeverFall was b → StopsPutting written.outputs written.with_journal written.files written.summary what mid b now new
+    → IsWriteFault job old was now new what
+write_fault job old mid new written w was b now what same kept stops =
     let texts = w.made.texts in
-    let by_files = subst (λ (fs : List NamedBytes). StopsPutting outputs fs summary written mid b now new) w.made.files_are stops in
-    let by_texts = subst (λ (text : List ℕ). StopsPutting outputs (files_of job texts) text written mid b now new) w.made.summary_is by_files in
-    let from_old = subst (λ (o : Option Contents). StopsPutting outputs (files_of job texts) texts.summary written o b now new) same by_texts in
+    let outputs = written.outputs in
+    let with_journal = written.with_journal in
+    let by_files = subst (λ (fs : List NamedBytes). StopsPutting outputs with_journal fs written.summary what mid b now new) w.made.files_are stops in
+    let by_texts = subst (λ (text : List ℕ). StopsPutting outputs with_journal (files_of job texts) text what mid b now new) w.made.summary_is by_files in
+    let from_old = subst (λ (o : Option Contents). StopsPutting outputs with_journal (files_of job texts) texts.summary what o b now new) same by_texts in
     record {
       texts = texts;
-      made = made job old outputs files summary w;
-      stops = StopsWriting-wider job texts was b now now old new kept (NeverFall-refl now) written (stops_writing job outputs texts written old new b now w.made.outputs_are from_old);
+      made = made job old written w;
+      stops = StopsWriting-wider job texts was b now now old new kept (NeverFall-refl now) what
+          (stops_writing job outputs with_journal texts what old new b now w.made.outputs_are w.made.with_journal from_old);
     }
 
 -- a job that stopped, and whose line was printed
@@ -203,12 +261,14 @@ stopped c (ReadFault input) s = s
 stopped c (TooLong input) s = s
 stopped c (Refused fault) s = s
 stopped c (JournalTooLong size) s = s
+stopped c (PacketsTooLong size) s = s
 stopped c OutOfMemory s = subst (λ (o : Option Contents). GivesLine memory_line o c.new _ _) s.stops s.line
 stopped c (WriteFault written) s = s
 stopped c (Checked ending) s = s
 
 -- a line that was given after calls that made no count fall
-pub GivesLine-since : (text : List ℕ) (old new : Option Contents) (was mid now : ℕ) → was ≤ mid → GivesLine text old new mid now → GivesLine text old new was now
+pub GivesLine-since : (text : List ℕ) (old new : Option Contents) (was mid now : ℕ) → was ≤ mid → GivesLine text old new mid now
+    → GivesLine text old new was now
 GivesLine-since text old new was mid now kept line = record {
   part = line.part;
   rest = line.rest;

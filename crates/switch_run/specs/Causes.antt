@@ -13,26 +13,31 @@ use Rattle.switch_words.specs.Reading.{JobWords, run, gen, check, firm, RunWords
 use Rattle.switch_plan.specs.declared.fault.PlanFault.{PlanFault}
 use Rattle.switch_plan.specs.Refusals.{IsRefusal}
 use Rattle.switch_plan.specs.GoodPlans.{SwitchPlan}
+use Rattle.eslip_rounds.specs.Decisions.{decision_of}
 use Rattle.firm_rounds.specs.Decisions.{firm_decision}
 use Rattle.whole_run.specs.Runs.{ports_of}
 use Rattle.whole_run.specs.Ends.{IsLengthUnder}
-use Rattle.whole_run.specs.Promises.{ArrivalsComeFirst, BusySlotsMatch, CompletesMulticast, DeliversAdmitted, DeliversNoOthers, HasFewSlots, ServesWaiting, WaitsAreShort}
+use Rattle.whole_run.specs.Promises.{ArrivalsComeFirst, BusySlotsMatch, CompletesMulticast, DeliversAdmitted, DeliversNoOthers, HasFewSlots}
+use Rattle.whole_run.specs.Promises.{ServesWaiting, WaitsAreShort}
 use Rattle.switch_jobs.specs.Outcomes.{summary_of, CountsPacketsOnce}
 use Rattle.switch_jobs.specs.Departures.{InterleavesFlows}
+use Rattle.buffer_sizing.specs.Sizing.{IsSized}
+use Rattle.queue_measures.specs.Sums.{QueuesAddUp}
+use Rattle.packet_departures.specs.Promises.{HasDepartures, CountsDepartures}
 use Rattle.journal_run.specs.RunFiles.{journal_text}
 use Rattle.output_queued.specs.Lines.{ideal, ran}
 use Rattle.reference_run.specs.RunLines.{run_matches}
 use Rattle.reference_run.specs.Promises.{EndsNoLater, ExtraIsDelays}
 use Rattle.firm_run.specs.FirmRuns.{FirmPromises}
 use Rattle.job_files.specs.Jobs.{ReadWords, reads_of, pace_in, input_name, IsInput, RunsSwitch}
-use Rattle.switch_run.specs.Switched.{IsLongJournal, IsPlanned, IsRunOf}
+use Rattle.switch_run.specs.Switched.{IsLongJournal, IsLongPackets, IsPlanned, IsRunOf, JournalFits}
 use Rattle.job_files.specs.Inputs.{EarlierFit, AreInputs}
-use Rattle.job_files.specs.OutputFiles.{output_name, report_name, journal_name}
+use Rattle.job_files.specs.OutputFiles.{output_name, report_name, journal_name, packets_name}
 use Rattle.switch_run.specs.Endings.{Command, Means}
 use Rattle.job_files.specs.Statuses.{status_of}
 use Rattle.job_files.specs.declared.inputs.InputFile.{InputFile}
 use Rattle.job_files.specs.declared.ending.Ending.{Ending}
-use Rattle.job_files.specs.declared.ending.Ending.TheVariants.{TooLong, Refused, JournalTooLong, OutOfMemory, Checked}
+use Rattle.job_files.specs.declared.ending.Ending.TheVariants.{TooLong, Refused, JournalTooLong, PacketsTooLong, OutOfMemory, Checked}
 
 -- the status is that of this ending, with all that it means
 abbrev pub Answers : Command → ℕ → Ending → Type 0
@@ -46,7 +51,8 @@ AnswersUnlessOut c status ending = Answers c status ending ⊎ Answers c status 
 pub record IsReadable (c : Command) (job : JobWords) (contents : Contents) : Type 0 where
   pub words : c.job ≡ Some job
   pub told : c.old ≡ Some contents
-  pub reads : (r : ReadWords) (input : InputFile) → reads_of job ≡ Some r → IsInput r input → Rose (c.was (ReadOf (input_name r input))) (c.now (ReadOf (input_name r input))) → ⊥
+  pub reads : (r : ReadWords) (input : InputFile) → reads_of job ≡ Some r → IsInput r input
+      → Rose (c.was (ReadOf (input_name r input))) (c.now (ReadOf (input_name r input))) → ⊥
 
 -- no count of refused begins or writes of this name rose
 pub record IsWritable (c : Command) (name : List ℕ) : Type 0 where
@@ -58,6 +64,7 @@ pub record AreWritable (c : Command) (job : JobWords) : Type 0 where
   pub outputs : (r : RunWords) (j : ℕ) → job ≡ run r → j < length r.inputs → IsWritable c (output_name r.prefix j)
   pub report : (r : RunWords) → job ≡ run r → IsWritable c (report_name r.prefix)
   pub journal : (r : RunWords) → job ≡ run r → r.journal ≡ true → IsWritable c (journal_name r.prefix)
+  pub packets : (r : RunWords) → job ≡ run r → r.packets ≡ true → IsWritable c (packets_name r.prefix)
   pub out : Rose (c.was ToOut) (c.now ToOut) → ⊥
 
 -- the words mean the check of this file, the contents are told, and no count of refused reads of it rose
@@ -73,35 +80,53 @@ pub record UsageIsExact (c : Command) (status : ℕ) : Type 0 where
 
 -- where a file is too long and those before it are not, the answer says so, or memory ran out
 abbrev pub TooLongIsExact : Command → ℕ → Type 0
-TooLongIsExact c status = (job : JobWords) (r : ReadWords) (contents : Contents) (input : InputFile) → IsReadable c job contents → reads_of job ≡ Some r → IsInput r input
+TooLongIsExact c status = (job : JobWords) (r : ReadWords) (contents : Contents) (input : InputFile) → IsReadable c job contents → reads_of job ≡ Some r
+    → IsInput r input
     → EarlierFit r input contents → IsTooLong contents (input_name r input) → AnswersUnlessOut c status (TooLong input)
 
 -- where the bytes of the table and the captures are refused, the answer says so, or memory ran out
 abbrev pub RefusalIsExact : Command → ℕ → Type 0
-RefusalIsExact c status = (job : JobWords) (contents : Contents) (table : List ℕ) (captures : List (List ℕ)) (fault : PlanFault) → IsReadable c job contents → AreInputs job (Some contents) table captures
+RefusalIsExact c status = (job : JobWords) (contents : Contents) (table : List ℕ) (captures : List (List ℕ)) (fault : PlanFault) → IsReadable c job contents
+    → AreInputs job (Some contents) table captures
     → IsRefusal (pace_in job) table captures fault → AnswersUnlessOut c status (Refused fault)
 
 -- where a journal is wanted that would be too long, the answer says so, or memory ran out
 abbrev pub JournalTooLongIsExact : Command → ℕ → Type 0
-JournalTooLongIsExact c status = (r : RunWords) (contents : Contents) (table : List ℕ) (captures : List (List ℕ)) (size : ℕ) → IsReadable c (run r) contents → r.journal ≡ true
+JournalTooLongIsExact c status = (r : RunWords) (contents : Contents) (table : List ℕ) (captures : List (List ℕ)) (size : ℕ) → IsReadable c (run r) contents
+    → r.journal ≡ true
     → AreInputs (run r) (Some contents) table captures → IsLongJournal r.settings table captures size → AnswersUnlessOut c status (JournalTooLong size)
+
+-- where a packets file is wanted that would be too long, and no journal that is wanted is too long, the answer says so, or
+-- memory ran out
+abbrev pub PacketsTooLongIsExact : Command → ℕ → Type 0
+PacketsTooLongIsExact c status = (r : RunWords) (contents : Contents) (table : List ℕ) (captures : List (List ℕ)) (size : ℕ)
+    → IsReadable c (run r) contents → r.packets ≡ true → AreInputs (run r) (Some contents) table captures → JournalFits r table captures
+    → IsLongPackets r.settings table captures size → AnswersUnlessOut c status (PacketsTooLong size)
 
 -- What a check comes to, unless memory runs out: where its file is too long, is no journal file, is not lawful, and is
 -- lawful.
 pub record CheckIsExact (c : Command) (status : ℕ) : Type 0 where
-  pub too_long : (file : List ℕ) (contents : Contents) → IsCheckable c file contents → IsTooLongToCheck contents file → AnswersUnlessOut c status (Checked check_ending.TooLong)
-  pub bad : (file : List ℕ) (contents : Contents) (at : ℕ) → IsCheckable c file contents → HasAnswer file (Err (journal_fault.Bad at)) contents → AnswersUnlessOut c status (Checked (check_ending.Bad at))
-  pub no : (file : List ℕ) (contents : Contents) (slot : ℕ) (reason : Reason) → IsCheckable c file contents → HasAnswer file (Ok (verdict.No slot reason)) contents → AnswersUnlessOut c status (Checked (check_ending.No slot reason))
-  pub yes : (file : List ℕ) (contents : Contents) (slots : ℕ) (longest : List ℕ) → IsCheckable c file contents → HasAnswer file (Ok (verdict.Yes slots longest)) contents
+  pub too_long : (file : List ℕ) (contents : Contents) → IsCheckable c file contents → IsTooLongToCheck contents file
+      → AnswersUnlessOut c status (Checked check_ending.TooLong)
+  pub bad : (file : List ℕ) (contents : Contents) (at : ℕ) → IsCheckable c file contents → HasAnswer file (Err (journal_fault.Bad at)) contents
+      → AnswersUnlessOut c status (Checked (check_ending.Bad at))
+  pub no : (file : List ℕ) (contents : Contents) (slot : ℕ) (reason : Reason) → IsCheckable c file contents
+      → HasAnswer file (Ok (verdict.No slot reason)) contents → AnswersUnlessOut c status (Checked (check_ending.No slot reason))
+  pub yes : (file : List ℕ) (contents : Contents) (slots : ℕ) (longest : List ℕ) → IsCheckable c file contents
+      → HasAnswer file (Ok (verdict.Yes slots longest)) contents
       → (Rose (c.was ToOut) (c.now ToOut) → ⊥) → AnswersUnlessOut c status (Checked check_ending.Yes)
 
--- Where no call was refused, no file is too long and nothing is refused, and a journal that is wanted is not too long, all
--- is written, or memory ran out.
+-- Where no call was refused, no file is too long and nothing is refused, and neither a journal nor a packets file that is
+-- wanted is too long, all is written, or memory ran out.
 abbrev pub IsComplete : Command → ℕ → Type 0
 IsComplete c status = (job : JobWords) (contents : Contents) → RunsSwitch job → IsReadable c job contents → AreWritable c job
     → ((r : ReadWords) (input : InputFile) → reads_of job ≡ Some r → IsInput r input → IsTooLong contents (input_name r input) → ⊥)
-    → ((table : List ℕ) (captures : List (List ℕ)) (fault : PlanFault) → AreInputs job (Some contents) table captures → IsRefusal (pace_in job) table captures fault → ⊥)
-    → ((r : RunWords) (table : List ℕ) (captures : List (List ℕ)) (size : ℕ) → job ≡ run r → r.journal ≡ true → AreInputs job (Some contents) table captures → IsLongJournal r.settings table captures size → ⊥)
+    → ((table : List ℕ) (captures : List (List ℕ)) (fault : PlanFault) → AreInputs job (Some contents) table captures
+    → IsRefusal (pace_in job) table captures fault → ⊥)
+    → ((r : RunWords) (table : List ℕ) (captures : List (List ℕ)) (size : ℕ) → job ≡ run r → r.journal ≡ true → AreInputs job (Some contents) table captures
+    → IsLongJournal r.settings table captures size → ⊥)
+    → ((r : RunWords) (table : List ℕ) (captures : List (List ℕ)) (size : ℕ) → job ≡ run r → r.packets ≡ true
+    → AreInputs job (Some contents) table captures → IsLongPackets r.settings table captures size → ⊥)
     → (status ≡ 0) ⊎ (status ≡ 5)
 
 -- the run of a job on a board: `firm` and `check` have none
@@ -149,6 +174,10 @@ pub record RunPromises (plan : SwitchPlan) (slots : ℕ) : Type 0 where
   pub ends_no_later : EndsNoLater plan slots
   pub delays : ExtraIsDelays plan slots
   pub journals : JournalIsLawful plan slots
+  pub queues : QueuesAddUp plan slots
+  pub sized : IsSized decision_of plan slots
+  pub departures : HasDepartures plan slots
+  pub copies : CountsDepartures decision_of plan slots
 
 -- the run under the second scheduler of the `firm` job that the words mean
 pub record IsFirmRunBy (c : Command) (plan : SwitchPlan) (slots : ℕ) : Type 0 where
@@ -168,6 +197,7 @@ pub record SwitchTheorem (c : Command) (status : ℕ) : Type 0 where
   pub too_long : TooLongIsExact c status
   pub refusal : RefusalIsExact c status
   pub journal_too_long : JournalTooLongIsExact c status
+  pub packets_too_long : PacketsTooLongIsExact c status
   pub checks : CheckIsExact c status
   pub complete : IsComplete c status
   pub runs : (plan : SwitchPlan) (slots : ℕ) → IsRunBy c plan slots → RunPromises plan slots

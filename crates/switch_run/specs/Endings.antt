@@ -1,25 +1,25 @@
 -- How a command ends, and what each ending means.
-use Rattle.std.specs.Prelude.{◌≡◌, ◌<◌, ◌+◌, ℕ, true, List, take, length, Option, Some, None, Ok, Err, option_map, IfSome, slice_index_or}
+use Rattle.std.specs.Prelude.{◌≡◌, ◌<◌, ◌+◌, ℕ, true, is_some, List, take, length, Option, Some, None, Ok, Err, option_map, IfSome, slice_index_or}
 use Rattle.outside.specs.Contents.{Contents, append_out}
 use Rattle.outside.specs.Faults.{Place, ReadOf, ToOut, ToErr, Rose}
 use Rattle.outside.specs.WholeFiles.{IsTooLong, StopsAt}
 use Rattle.check_job.specs.Checks.{MeansCheck}
 use Rattle.check_job.specs.declared.ending.CheckEnding.{CheckEnding}
-use Rattle.check_job.specs.declared.ending.CheckEnding.TheVariants as check_ending
 use Rattle.switch_words.specs.Reading.{JobWords, run, gen, check, firm, RunWords, reading_of}
 use Rattle.switch_plan.specs.declared.fault.PlanFault.{PlanFault}
 use Rattle.job_files.specs.Jobs.{ReadWords, reads_of, input_name, IsInput}
-use Rattle.job_files.specs.OutputFiles.{Texts, nameless, files_of, put_files, put_texts, HoldsTexts}
-use Rattle.switch_run.specs.Switched.{IsJobOutcome, IsLongJournal}
+use Rattle.job_files.specs.OutputFiles.{Texts, nameless, files_of, packets_place, put_files, put_texts, HoldsTexts}
+use Rattle.switch_run.specs.Switched.{IsJobOutcome, IsLongJournal, IsLongPackets, JournalFits}
 use Rattle.job_files.specs.Inputs.{EarlierFit, AreInputs}
 use Rattle.job_files.specs.LineParts.{GivesLine}
 use Rattle.job_files.specs.RefusalLines.{memory_line}
 use Rattle.job_files.specs.ErrorLines.{line_of, usage_line}
 use Rattle.job_files.specs.declared.inputs.InputFile.{InputFile}
 use Rattle.job_files.specs.declared.ending.Written.{Written}
-use Rattle.job_files.specs.declared.ending.Written.TheVariants.{Output, Report, Journal, StandardOutput}
+use Rattle.job_files.specs.declared.ending.Written.TheVariants.{Output, Report, Journal, Packets, StandardOutput}
 use Rattle.job_files.specs.declared.ending.Ending.{Ending}
-use Rattle.job_files.specs.declared.ending.Ending.TheVariants.{Done, Usage, ReadFault, TooLong, Refused, JournalTooLong, OutOfMemory, WriteFault, Checked}
+use Rattle.job_files.specs.declared.ending.Ending.TheVariants.{Done, Usage, ReadFault, TooLong, Refused, JournalTooLong, PacketsTooLong, OutOfMemory}
+use Rattle.job_files.specs.declared.ending.Ending.TheVariants.{WriteFault, Checked}
 
 -- What a command found and left: the job that its words mean, and the contents and the counts of faults before and after.
 pub record Command : Type 0 where
@@ -66,6 +66,17 @@ pub record IsJournalTooLong (job : JobWords) (told : Option Contents) (size : �
   pub inputs : AreInputs job told table captures
   pub longer : IsLongJournal words.settings table captures size
 
+-- The packets file of the run has more bytes than it may have. A journal that is wanted has not.
+pub record IsPacketsTooLong (job : JobWords) (told : Option Contents) (size : ℕ) : Type 0 where
+  pub words : RunWords
+  pub is_run : job ≡ run words
+  pub wanted : words.packets ≡ true
+  pub table : List ℕ
+  pub captures : List (List ℕ)
+  pub inputs : AreInputs job told table captures
+  pub longer : IsLongPackets words.settings table captures size
+  pub journal_fits : JournalFits words table captures
+
 -- how many captures a job makes of those of its ports
 abbrev pub captures_made : JobWords → ℕ → ℕ
 captures_made (run r) ports = ports
@@ -103,7 +114,8 @@ pub record StopsAtOut (job : JobWords) (texts : Texts) (old : Option Contents) (
 abbrev pub StopsWriting : JobWords → Texts → Written → Option Contents → (Place → ℕ) → (Place → ℕ) → Option Contents → Type 0
 StopsWriting job texts (Output port) old was now told = (port < length texts.outputs) × StopsAtFile job texts port old was now told
 StopsWriting job texts Report old was now told = StopsAtFile job texts (length texts.outputs) old was now told
-StopsWriting job texts Journal old was now told = StopsAtFile job texts (length texts.outputs + 1) old was now told
+StopsWriting job texts Journal old was now told = (is_some texts.journal ≡ true) × StopsAtFile job texts (length texts.outputs + 1) old was now told
+StopsWriting job texts Packets old was now told = StopsAtFile job texts (packets_place (length texts.outputs) (is_some texts.journal)) old was now told
 StopsWriting job texts StandardOutput old was now told = StopsAtOut job texts old was now told
 
 -- The texts were made, and a call that wrote them was refused.
@@ -126,6 +138,7 @@ Stops job old was now told (ReadFault input) = IsReadFault job old was now input
 Stops job old was now told (TooLong input) = IsFirstTooLong job old input × (told ≡ old)
 Stops job old was now told (Refused fault) = IsRefused job old fault × (told ≡ old)
 Stops job old was now told (JournalTooLong size) = IsJournalTooLong job old size × (told ≡ old)
+Stops job old was now told (PacketsTooLong size) = IsPacketsTooLong job old size × (told ≡ old)
 Stops job old was now told OutOfMemory = told ≡ old
 Stops job old was now told (WriteFault written) = IsWriteFault job old was now told written
 Stops job old was now told (Checked ending) = IsCheck job old was now told ending
@@ -146,6 +159,7 @@ Means c (ReadFault input) = IsStopped c (ReadFault input)
 Means c (TooLong input) = IsStopped c (TooLong input)
 Means c (Refused fault) = IsStopped c (Refused fault)
 Means c (JournalTooLong size) = IsStopped c (JournalTooLong size)
+Means c (PacketsTooLong size) = IsStopped c (PacketsTooLong size)
 Means c OutOfMemory = GivesLine memory_line c.old c.new (c.was ToErr) (c.now ToErr)
 Means c (WriteFault written) = IsStopped c (WriteFault written)
 Means c (Checked ending) = IsStopped c (Checked ending)

@@ -1,15 +1,15 @@
 -- What a job makes of the bytes of its table and its captures.
-use Rattle.std.specs.Prelude.{◌≡◌, ◌<◌, ◌≤◌, ℕ, if◌then◌else◌, List, [], ◌++◌, map, length, Option, None, Some, Result, Ok, Err, IfSome}
+use Rattle.std.specs.Prelude.{◌≡◌, ◌<◌, ◌≤◌, ℕ, true, if◌then◌else◌, List, [], ◌++◌, map, length, None, Some, Result, Ok, Err, IfSome}
 use Rattle.std.specs.List.{range_with_len}
 use Rattle.pcap_records.specs.Output.{capture_text}
 use Rattle.forward_table.specs.declared.route_lines.RouteLine.{RouteLine}
 use Rattle.slot_report.specs.declared.summary.OutLine.{OutLine}
 use Rattle.slot_report.specs.declared.summary.Summary.{Summary}
 use Rattle.slot_report.specs.Lines.{lines_text}
-use Rattle.slot_report.specs.Texts.{summary_lines, report_lines}
+use Rattle.slot_report.specs.Texts.{summary_lines, report_bytes}
 use Rattle.journal_check.specs.declared.limits.TheConstants.{MAX_JOURNAL_BYTES}
 use Rattle.switch_words.specs.declared.job.Settings.{Settings}
-use Rattle.switch_words.specs.Reading.{JobWords, run, gen, check, firm}
+use Rattle.switch_words.specs.Reading.{JobWords, run, gen, check, firm, RunWords}
 use Rattle.switch_plan.specs.declared.fault.PlanFault.{PlanFault}
 use Rattle.switch_plan.specs.Traffic.{CaptureFile}
 use Rattle.switch_plan.specs.Refusals.{AreRead, refusal_of, IsRefusal}
@@ -18,6 +18,9 @@ use Rattle.whole_run.specs.Runs.{ports_of, run_journal}
 use Rattle.whole_run.specs.Ends.{IsLength}
 use Rattle.whole_run.specs.Crossings.{cells_to}
 use Rattle.switch_jobs.specs.Outcomes.{messages_to, summary_of}
+use Rattle.queue_measures.specs.Lines.{queue_lines}
+use Rattle.packet_times.specs.declared.limits.TheConstants.{MAX_PACKETS_BYTES}
+use Rattle.packet_times.specs.Rows.{packets_text}
 use Rattle.journal_run.specs.RunFiles.{journal_text}
 use Rattle.reference_run.specs.RunLines.{run_lines}
 use Rattle.firm_run.specs.FirmRuns.{IsFirmRun, HasShortWaits}
@@ -28,11 +31,16 @@ use Rattle.job_files.specs.Jobs.{Wanted, wanted_by, nothing_wanted, pace_in}
 abbrev pub out_line : SwitchPlan → ℕ → ℕ → OutLine
 out_line plan slots j = record { packets = length (messages_to plan j slots); cells = length (cells_to plan j slots) }
 
--- the report of a run of so many slots: the lines of the report, with one for each slot where these are wanted, and then
--- the lines of the reference where these are wanted
+-- the numbers of all outputs
+abbrev pub out_lines : SwitchPlan → ℕ → List OutLine
+out_lines plan slots = map (out_line plan slots) (range_with_len 0 (ports_of plan))
+
+-- the report of a run of so many slots: its numbers and those of its outputs, and then, each where these are wanted, the
+-- lines of its queues, of its slots and of the reference
 abbrev pub report_of : Wanted → SwitchPlan → ℕ → List ℕ
 report_of wanted plan slots =
-    lines_text (report_lines (summary_of plan slots) (map (out_line plan slots) (range_with_len 0 (ports_of plan))) (if wanted.slots then run_journal plan slots else []))
+    report_bytes (summary_of plan slots) (out_lines plan slots) (if wanted.queues then lines_text (queue_lines plan slots) else [])
+    (if wanted.slots then run_journal plan slots else [])
     ++ (if wanted.reference then lines_text (run_lines plan slots) else [])
 
 -- the texts of a run of so many slots
@@ -41,6 +49,7 @@ texts_of wanted plan slots = record {
   outputs = map (λ j. capture_text plan.nano plan.link (messages_to plan j slots)) (range_with_len 0 (ports_of plan));
   report = report_of wanted plan slots;
   journal = if wanted.journal then Some (journal_text plan slots) else None;
+  packets = if wanted.packets then Some (packets_text plan slots) else None;
   summary = lines_text (summary_lines (summary_of plan slots));
 }
 
@@ -60,17 +69,18 @@ pub record IsRunOf (settings : Settings) (table : List ℕ) (files : List (List 
   pub ends : IsLength plan slots
 
 -- The switch theorem for one job: the texts are those of the run of its table and captures. A journal has at most
--- 134,217,728 bytes.
+-- 134,217,728 bytes, and so has a packets file.
 pub record IsSwitched (settings : Settings) (wanted : Wanted) (table : List ℕ) (files : List (List ℕ)) (texts : Texts) : Type 0 where
   pub plan : SwitchPlan
   pub slots : ℕ
   pub run : IsRunOf settings table files plan slots
   pub are : texts ≡ texts_of wanted plan slots
   pub small : IfSome texts.journal (λ bytes. length bytes ≤ MAX_JOURNAL_BYTES)
+  pub packets_small : IfSome texts.packets (λ bytes. length bytes ≤ MAX_PACKETS_BYTES)
 
 -- the texts of a run under the second scheduler: its summary alone
 abbrev pub firm_texts : Summary → Texts
-firm_texts summary = record { outputs = []; report = []; journal = None; summary = lines_text (summary_lines summary) }
+firm_texts summary = record { outputs = []; report = []; journal = None; packets = None; summary = lines_text (summary_lines summary) }
 
 -- The same under the second scheduler: the summary is that of the run of the job's table and captures. Where no admitted
 -- packet of the best level of all is multicast, that level's longest wait is below N * N slots.
@@ -101,3 +111,15 @@ pub record IsLongJournal (settings : Settings) (table : List ℕ) (files : List 
   pub run : IsRunOf settings table files plan slots
   pub size_is : size ≡ length (journal_text plan slots)
   pub longer : MAX_JOURNAL_BYTES < size
+
+-- No journal of the job that is wanted is too long.
+abbrev pub JournalFits : RunWords → List ℕ → List (List ℕ) → Type 0
+JournalFits r table files = (size : ℕ) → r.journal ≡ true → IsLongJournal r.settings table files size → ⊥
+
+-- The packets file of the job's run would have this many bytes, which are more than it may have.
+pub record IsLongPackets (settings : Settings) (table : List ℕ) (files : List (List ℕ)) (size : ℕ) : Type 0 where
+  pub plan : SwitchPlan
+  pub slots : ℕ
+  pub run : IsRunOf settings table files plan slots
+  pub size_is : size ≡ length (packets_text plan slots)
+  pub longer : MAX_PACKETS_BYTES < size

@@ -7,11 +7,14 @@ ghost use Rattle.switch_run.specs.Endings.{IsDone, Means, Stops, command_of};
 ghost use Rattle.job_files.specs.declared.ending.Ending.{Ending};
 
 use crate::job_texts::job_texts;
+use buffer_sizing::laws as sizes;
 use card_worker::Gate;
 use firm_run::laws as second_runs;
 use job_files::{Ending, print_line, print_memory, print_usage, put_texts};
 use journal_run::laws as journals;
 use outside::Files;
+use packet_departures::laws as departures;
+use queue_measures::laws as measures;
 use reference_run::laws as references;
 use std::alloc::Global;
 use std::thread::Threads;
@@ -51,7 +54,13 @@ fn run<R: Threads + Sync, F: Files, G: Gate + Sync>(
     gate: &G,
 ) -> Ending
     requires { IsWithinLimits job.now }
-    ensures meaning { Means (record { job = Some (job_words job.now); old = F.told files.old; new = F.told files.new; was = F.faults files.old; now = F.faults files.new }) result }
+    ensures meaning { Means (record {
+      job = Some (job_words job.now);
+      old = F.told files.old;
+      new = F.told files.new;
+      was = F.faults files.old;
+      now = F.faults files.new;
+    }) result }
     ensures never_fall { NeverFall (F.faults files.old) (F.faults files.new) }
 {
     match attempt(rt, alloc, job, files, gate) {
@@ -93,15 +102,16 @@ fn end_of<R: Threads + Sync, F: Files, G: Gate + Sync>(
 /// The words are those of a `run`, a `gen`, a `check` or a `firm` job, as [`switch_words`] says. A `run` and a `firm`
 /// job read their table and then each capture whole. Of these, or of the input that a `gen` job makes, the switch is
 /// planned and run to its end, for `firm` under the second scheduler. A `run` job then writes the capture of output
-/// `j` to `PREFIX.j.pcap`, for each `j` in order, the report to `PREFIX.report` and, where it is wanted, the journal to
-/// `PREFIX.journal`. Last, the summary is given to standard output. A `check` job reads a journal file and tells
-/// whether it is lawful.
+/// `j` to `PREFIX.j.pcap`, for each `j` in order, the report to `PREFIX.report` and, each where it is wanted, the journal
+/// to `PREFIX.journal` and after it the packets file to `PREFIX.packets.csv`. Last, the summary is given to standard
+/// output. A `check` job reads a journal file and tells whether it is lawful.
 ///
 /// - 0: all is written, and nothing else changed; or the journal file is lawful.
 /// - 2: the words are not those of a job.
 /// - 3: a read of the table, of a capture or of the journal file was refused.
 /// - 4: the table or a capture has more than 16,777,216 bytes, or what they hold is refused; or a journal that is to be
-///   written or checked has more than 134,217,728 bytes; or what is to be checked is no journal file.
+///   written or checked has more than 134,217,728 bytes, or a packets file that is to be written has; or what is to be
+///   checked is no journal file.
 /// - 5: memory ran out. No file was begun, and nothing was given to standard output.
 /// - 6: a call on a file that is written or on standard output was refused. What was to be written before is whole,
 ///   and what was to be written after is as before.
@@ -116,8 +126,12 @@ fn end_of<R: Threads + Sync, F: Files, G: Gate + Sync>(
 /// has no more slots than the greatest number of arrival slots, the cells of the admitted packets counted for each
 /// output, and one; and an ideal switch whose queues stand at the outputs is never behind it, serves as many cells in
 /// all, and ends no later. A journal that was written is one that a `check` job finds lawful, and of which it tells the
-/// slots and the longest waits that the summary tells. Of the run of a `firm` job the like holds under the second
-/// scheduler.
+/// slots and the longest waits that the summary tells. The numbers of an input's queues add up to those of its packets.
+/// Where the run drops no packet, it is the same with queues of each depth from the cells of its deepest queue on, and
+/// with each smaller depth a packet is dropped. Each admitted packet has one departure at each of its outputs, no two
+/// have the same at one output, those of a flow are in the order of arrival, the messages of each output's capture are in
+/// the order of departures, and there are as many as the summary has copies. Of the run of a `firm` job the like holds
+/// under the second scheduler.
 ///
 /// At 2 to 5 and at 7 every file is as before. Each status but 0 gives one line to standard error; where a call
 /// of that is refused, the rest of the line is left out, and the status stays.
@@ -144,6 +158,10 @@ pub fn switch_main<R: Threads + Sync, F: Files, G: Gate + Sync>(
     references::lines_tell_the_delays();
     second_runs::runs_are_as_promised();
     journals::journals_of_runs_are_lawful();
+    measures::lines_add_up();
+    sizes::runs_are_sized();
+    departures::runs_have_departures();
+    departures::departures_are_counted();
     end_of(rt, alloc, words, files, gate).status()
 }
 

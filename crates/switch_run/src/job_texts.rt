@@ -1,13 +1,12 @@
-ghost use Rattle.std.specs.Prelude.{◌≡◌, ℕ, Option, map, string_bytes, IfErr, IfOk, OnOk};
+ghost use Rattle.std.specs.Prelude.{◌≡◌, ℕ, Option, string_bytes, IfErr, IfOk, OnOk};
 ghost use Rattle.outside.specs.Contents.{Contents};
 ghost use Rattle.outside.specs.Faults.{NeverFall, Place};
 ghost use Rattle.switch_words.specs.Limits.{IsFirmWithinLimits, IsGenWithinLimits, IsRunWithinLimits, IsWithinLimits};
 ghost use Rattle.switch_words.specs.Reading.{run, gen, check, firm, run_words, firm_words, job_words};
 ghost use Rattle.switch_run.specs.Endings.{Stops};
-ghost use Rattle.switch_run.specs.Making.{AreToWrite};
-ghost use Rattle.job_files.specs.OutputFiles.{shown};
+ghost use Rattle.switch_run.specs.Making.{AreToWrite, to_write};
 
-use crate::making::{plan_and_run, plan_and_run_firm};
+use crate::making::{Measured, NOTHING_MEASURED, plan_and_run, plan_and_run_firm};
 use crate::texts::{run_texts, summary_alone};
 use card_worker::Gate;
 use check_job::{CheckEnding, check_file};
@@ -28,14 +27,19 @@ fn texts_of_run<R: Threads + Sync, F: Files, G: Gate + Sync>(
     requires { IsRunWithinLimits job.now }
     ensures told { F.told files.new ≡ F.told files.old }
     ensures never_fall { NeverFall (F.faults files.old) (F.faults files.new) }
-    ensures made { IfOk result (λ texts. AreToWrite (run (run_words job.now)) (F.told files.old) texts.outputs (map shown texts.files.items) (string_bytes texts.summary)) }
+    ensures made { IfOk result (λ texts. AreToWrite (run (run_words job.now)) (F.told files.old) (to_write texts)) }
     ensures stops { IfErr result (Stops (run (run_words job.now)) (F.told files.old) (F.faults files.old) (F.faults files.new) (F.told files.new)) }
 {
     let inputs = match read_inputs(alloc, &reads_of_run(job), files) {
         Ok(inputs) => inputs,
         Err(ending) => return Err(ending),
     };
-    let ran = match plan_and_run(rt, alloc, &job.settings, job.reference, inputs, gate) {
+    let measured = Measured {
+        reference: job.reference,
+        queues: job.queues,
+        packets: job.packets,
+    };
+    let ran = match plan_and_run(rt, alloc, &job.settings, measured, inputs, gate) {
         Ok(ran) => ran,
         Err(ending) => return Err(ending),
     };
@@ -50,13 +54,13 @@ fn texts_of_gen<R: Threads + Sync, G: Gate + Sync>(
     gate: &G,
 ) -> Result<JobTexts, Ending>
     requires { IsGenWithinLimits job.now }
-    ensures made { IfOk result (λ texts. (told : Option Contents) → AreToWrite (gen job.now) told texts.outputs (map shown texts.files.items) (string_bytes texts.summary)) }
+    ensures made { IfOk result (λ texts. (told : Option Contents) → AreToWrite (gen job.now) told (to_write texts)) }
     ensures stops { IfErr result (λ ending. (told : Option Contents) (was now : Place → ℕ) → Stops (gen job.now) told was now told ending) }
 {
     let Ok(inputs) = made_inputs(alloc, job) else {
         return Err(Ending::OutOfMemory);
     };
-    let ran = match plan_and_run(rt, alloc, &job.settings, false, inputs, gate) {
+    let ran = match plan_and_run(rt, alloc, &job.settings, NOTHING_MEASURED, inputs, gate) {
         Ok(ran) => ran,
         Err(ending) => return Err(ending),
     };
@@ -76,7 +80,7 @@ fn texts_of_firm<R: Threads + Sync, F: Files>(
     requires { IsFirmWithinLimits job.now }
     ensures told { F.told files.new ≡ F.told files.old }
     ensures never_fall { NeverFall (F.faults files.old) (F.faults files.new) }
-    ensures made { IfOk result (λ texts. AreToWrite (firm (firm_words job.now)) (F.told files.old) texts.outputs (map shown texts.files.items) (string_bytes texts.summary)) }
+    ensures made { IfOk result (λ texts. AreToWrite (firm (firm_words job.now)) (F.told files.old) (to_write texts)) }
     ensures stops { IfErr result (Stops (firm (firm_words job.now)) (F.told files.old) (F.faults files.old) (F.faults files.new) (F.told files.new)) }
 {
     let inputs = match read_inputs(alloc, &reads_of_firm(job), files) {
@@ -115,7 +119,7 @@ pub(crate) fn job_texts<R: Threads + Sync, F: Files, G: Gate + Sync>(
     requires { IsWithinLimits job.now }
     ensures told { OnOk result (F.told files.new ≡ F.told files.old) }
     ensures never_fall { NeverFall (F.faults files.old) (F.faults files.new) }
-    ensures made { IfOk result (λ texts. AreToWrite (job_words job.now) (F.told files.old) texts.outputs (map shown texts.files.items) (string_bytes texts.summary)) }
+    ensures made { IfOk result (λ texts. AreToWrite (job_words job.now) (F.told files.old) (to_write texts)) }
     ensures stops { IfErr result (Stops (job_words job.now) (F.told files.old) (F.faults files.old) (F.faults files.new) (F.told files.new)) }
 {
     match job {

@@ -9,18 +9,24 @@ ghost use Rattle.switch_plan.specs.declared.fault.PlanFault.{PlanFault};
 ghost use Rattle.switch_plan.specs.Refusals.{IsRefusal};
 ghost use Rattle.job_files.specs.Jobs.{pace_in, settings_with, with_workers};
 ghost use Rattle.job_files.specs.OutputFiles.{Texts};
-ghost use Rattle.switch_run.specs.Switched.{AreTexts, IsJobOutcome, IsLongJournal};
+ghost use Rattle.switch_run.specs.Switched.{AreTexts, IsJobOutcome, IsLongJournal, IsLongPackets};
 
 /// A job has one outcome: no two causes for which it is refused, no cause beside texts, and one list of texts.
 pub fn one_outcome()
-    ensures refusal { (pace_us : Option ℕ) (table : List ℕ) (files : List (List ℕ)) (a b : PlanFault) → IsRefusal pace_us table files a → IsRefusal pace_us table files b → a ≡ b }
-    ensures either { (job : JobWords) (table : List ℕ) (files : List (List ℕ)) (fault : PlanFault) (texts : Texts) → IsRefusal (pace_in job) table files fault → AreTexts job table files texts → ⊥ }
+    ensures refusal { (pace_us : Option ℕ) (table : List ℕ) (files : List (List ℕ)) (a b : PlanFault) → IsRefusal pace_us table files a
+        → IsRefusal pace_us table files b → a ≡ b }
+    ensures either { (job : JobWords) (table : List ℕ) (files : List (List ℕ)) (fault : PlanFault) (texts : Texts) → IsRefusal (pace_in job) table files fault
+        → AreTexts job table files texts → ⊥ }
     ensures texts { (job : JobWords) (table : List ℕ) (files : List (List ℕ)) (a b : Texts) → AreTexts job table files a → AreTexts job table files b → a ≡ b }
 {}
 
 /// The number of workers makes no difference: a job with any other number of workers, from 1 to 32, has the same
-/// outcome, texts or the cause for which it is refused, and the same journal that is too long.
+/// outcome, texts or the cause for which it is refused, and the same journal and the same packets file that is too long.
 pub fn workers_make_no_difference()
-    ensures outcome { (job : JobWords) (workers : ℕ) (table : List ℕ) (files : List (List ℕ)) (outcome : Result Texts PlanFault) → IsUpTo MAX_WORKERS workers → IsJobOutcome job table files outcome → IsJobOutcome (with_workers workers job) table files outcome }
-    ensures long_journal { (settings : Settings) (workers : ℕ) (table : List ℕ) (files : List (List ℕ)) (size : ℕ) → IsUpTo MAX_WORKERS workers → IsLongJournal settings table files size → IsLongJournal (settings_with workers settings) table files size }
+    ensures outcome { (job : JobWords) (workers : ℕ) (table : List ℕ) (files : List (List ℕ)) (outcome : Result Texts PlanFault) → IsUpTo MAX_WORKERS workers
+        → IsJobOutcome job table files outcome → IsJobOutcome (with_workers workers job) table files outcome }
+    ensures long_journal { (settings : Settings) (workers : ℕ) (table : List ℕ) (files : List (List ℕ)) (size : ℕ) → IsUpTo MAX_WORKERS workers
+        → IsLongJournal settings table files size → IsLongJournal (settings_with workers settings) table files size }
+    ensures long_packets { (settings : Settings) (workers : ℕ) (table : List ℕ) (files : List (List ℕ)) (size : ℕ) → IsUpTo MAX_WORKERS workers
+        → IsLongPackets settings table files size → IsLongPackets (settings_with workers settings) table files size }
 {}

@@ -5,6 +5,8 @@ mod command;
 mod job_texts;
 pub mod laws;
 mod making;
+mod packets;
+mod queues;
 mod reference;
 mod texts;
 

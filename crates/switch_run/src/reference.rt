@@ -43,7 +43,8 @@ pub(crate) fn reference_lines(
     journal: &Journal,
 ) -> Result<Option<String>, OutOfMemory>
     requires { (plan : SwitchPlan) × (slots : ℕ) × (is_wanted : Bool) × IsJournalOf plan slots journal.now × IsReferenceFor plan is_wanted reference }
-    ensures { (plan : SwitchPlan) (slots : ℕ) (is_wanted : Bool) → IsJournalOf plan slots journal.now → IsReferenceFor plan is_wanted reference → IfOk result (λ lines. option_map string_bytes lines ≡ reference_wanted is_wanted plan slots) }
+    ensures { (plan : SwitchPlan) (slots : ℕ) (is_wanted : Bool) → IsJournalOf plan slots journal.now → IsReferenceFor plan is_wanted reference
+        → IfOk result (λ lines. option_map string_bytes lines ≡ reference_wanted is_wanted plan slots) }
 {
     match reference {
         Some(reference) => Ok(Some(noted_lines(alloc, reference, journal)?)),
@@ -58,7 +59,8 @@ fn noted_lines(
     journal: &Journal,
 ) -> Result<String, OutOfMemory>
     requires { (plan : SwitchPlan) × (slots : ℕ) × IsJournalOf plan slots journal.now × IsReferenceOf plan reference [] }
-    ensures { (plan : SwitchPlan) (slots : ℕ) → IsJournalOf plan slots journal.now → IsReferenceOf plan reference [] → IfOk result (λ text. string_bytes text ≡ lines_text (run_lines plan slots)) }
+    ensures { (plan : SwitchPlan) (slots : ℕ) → IsJournalOf plan slots journal.now → IsReferenceOf plan reference []
+        → IfOk result (λ text. string_bytes text ≡ lines_text (run_lines plan slots)) }
 {
     note_slots(&mut reference, journal);
     let lines = lines(alloc, &reference)?;
@@ -68,7 +70,8 @@ fn noted_lines(
 // Notes all slots of the journal.
 fn note_slots(reference: &mut Reference, journal: &Journal)
     requires { (plan : SwitchPlan) × (slots : ℕ) × IsJournalOf plan slots journal.now × IsReferenceOf plan reference.old [] }
-    ensures { (plan : SwitchPlan) (slots : ℕ) → IsJournalOf plan slots journal.now → IsReferenceOf plan reference.old [] → IsReferenceOf plan reference.new (run_matches plan slots) }
+    ensures { (plan : SwitchPlan) (slots : ℕ) → IsJournalOf plan slots journal.now → IsReferenceOf plan reference.old []
+        → IsReferenceOf plan reference.new (run_matches plan slots) }
 {
     laws::slots_may_be_noted();
     let mut rows = [Row::empty(); MAX_PORTS as usize];
@@ -91,7 +94,8 @@ fn copy_rows(posts: &[Post], rows: &mut [Row])
 
 // The numbers of each output.
 fn lines(alloc: Global, reference: &Reference) -> Result<Vec<RefLine>, AllocError>
-    ensures { (matches : List Matched) → HasNoted reference.now matches → IfOk result (λ lines. lines.items ≡ map (line_of (cards_in reference.now) matches) (range_with_len 0 reference.now.ports)) }
+    ensures { (matches : List Matched) → HasNoted reference.now matches
+        → IfOk result (λ lines. lines.items ≡ map (line_of (cards_in reference.now) matches) (range_with_len 0 reference.now.ports)) }
 {
     let mut lines = Vec::new(alloc);
     for output in 0..reference.ports() {

@@ -1,15 +1,17 @@
-ghost use Rattle.std.specs.Prelude.{◌≡◌, ◌≤◌, ◌<◌, ℕ, ◌++◌, true, Bool, List, [], All, length, map, option_map, string_bytes, IfErr, IfOk};
+ghost use Rattle.std.specs.Prelude.{◌≡◌, ◌≤◌, ◌<◌, ℕ, ◌++◌, List, [], All, length, map, option_map, string_bytes, IfErr, IfOk};
 ghost use Rattle.std.specs.List.{range_with_len};
 ghost use Rattle.pcap_records.specs.Output.{capture_text};
 ghost use Rattle.slot_report.specs.Lines.{lines_text};
-ghost use Rattle.slot_report.specs.Texts.{report_lines, summary_lines};
+ghost use Rattle.slot_report.specs.Texts.{report_bytes, summary_lines};
 ghost use Rattle.switch_words.specs.Reading.{run, gen, firm, run_words, firm_words};
 ghost use Rattle.switch_plan.specs.Reading.{bytes_of_files};
 ghost use Rattle.switch_jobs.specs.Captures.{IsCut};
-ghost use Rattle.switch_run.specs.Making.{AreMade, HaveMessages, IsFirmRan, IsJournalFor, IsRan, StopsJournal, StopsTexts, line_of_card, slots_told, text_or_none};
-ghost use Rattle.job_files.specs.OutputFiles.{shown};
+ghost use Rattle.whole_run.specs.Ends.{IsLength};
+ghost use Rattle.switch_run.specs.Making.{AreMade, AreTimesOf, HaveMessages, IsJournalFor, IsPacketsFor, IsRan, StopsJournal, StopsTexts};
+ghost use Rattle.switch_run.specs.Making.{line_of_card, measured_by, report_of_left, to_write};
 
 use crate::making::EndedRun;
+use crate::packets::packets_wanted;
 use card_core::CardOut;
 use job_files::{Ending, JobTexts, run_files};
 use journal_check::{MAX_JOURNAL_BYTES, journal_bytes, journal_len};
@@ -29,7 +31,8 @@ fn output_captures(
     outputs: &[CardOut],
 ) -> Result<Vec<Vec<u8>>, OutOfMemory>
     requires { All IsCut outputs.now }
-    ensures { (messages : ℕ → List (List ℕ)) → HaveMessages messages outputs.now → IfOk result (λ v. bytes_of_files v ≡ map (λ j. capture_text nano link (messages j)) (range_with_len 0 (length outputs.now))) }
+    ensures { (messages : ℕ → List (List ℕ)) → HaveMessages messages outputs.now
+        → IfOk result (λ v. bytes_of_files v ≡ map (λ j. capture_text nano link (messages j)) (range_with_len 0 (length outputs.now))) }
 {
     let mut captures = Vec::new(alloc);
     for output in outputs {
@@ -52,24 +55,24 @@ fn out_lines(alloc: Global, outputs: &[CardOut]) -> Result<Vec<OutLine>, AllocEr
     Ok(lines)
 }
 
-// The report of a run, with a line for each slot where these are wanted, and then the lines of the reference.
-fn report(
-    alloc: Global,
-    slots: bool,
-    outcome: &Outcome,
-    reference: &Option<String>,
-) -> Result<String, OutOfMemory>
-    requires { length outcome.now.outputs.items ≤ MAX_PORTS }
-    ensures { IfOk result (λ text. string_bytes text ≡ lines_text (report_lines outcome.now.summary (map line_of_card outcome.now.outputs.items) (slots_told slots outcome.now.journal.slots)) ++ text_or_none (option_map string_bytes reference.now)) }
+// The report of a run, with the lines of its queues, a line for each slot where these are wanted, and then the lines of
+// the reference.
+fn report(alloc: Global, slots: bool, ran: &EndedRun) -> Result<String, OutOfMemory>
+    requires { length ran.now.outcome.outputs.items ≤ MAX_PORTS }
+    ensures { IfOk result (λ text. string_bytes text ≡ report_of_left slots ran.now) }
 {
-    let lines = out_lines(alloc, &outcome.outputs)?;
+    let lines = out_lines(alloc, &ran.outcome.outputs)?;
+    let queues = match &ran.queues {
+        Some(queues) => queues.as_str(),
+        None => "",
+    };
     let journal = if slots {
-        Some(outcome.journal.core())
+        Some(ran.outcome.journal.core())
     } else {
         None
     };
-    let mut text = report_text(alloc, &outcome.summary, &lines, journal)?;
-    if let Some(reference) = reference {
+    let mut text = report_text(alloc, &ran.outcome.summary, &lines, queues, journal)?;
+    if let Some(reference) = &ran.reference {
         text.push_str(reference.as_str())?;
     }
     Ok(text)
@@ -98,26 +101,37 @@ fn journal_wanted(
     }
 }
 
-// The texts of a run with this journal.
+// The texts of a run with this journal and this packets file.
 fn texts_with(
     alloc: Global,
     job: &RunJob,
     ran: &EndedRun,
     journal: Option<Vec<u8>>,
+    packets: Option<String>,
 ) -> Result<JobTexts, OutOfMemory>
     requires cut { All IsCut ran.now.outcome.outputs.items }
     requires few { length ran.now.outcome.outputs.items ≤ MAX_PORTS }
-    ensures { (table : List ℕ) (captures : List (List ℕ)) → IsRan job.now.settings job.now.reference table captures ran.now.nano ran.now.link ran.now.outcome (option_map string_bytes ran.now.reference)
+    ensures { (table : List ℕ) (captures : List (List ℕ)) → (is : IsRan job.now.settings (measured_by (run_words job.now)) table captures ran.now)
         → IsJournalFor job.now.journal ran.now.outcome.journal (option_map (λ b. b.items) journal)
-        → IfOk result (λ texts. AreMade (run (run_words job.now)) table captures texts.outputs (map shown texts.files.items) (string_bytes texts.summary)) }
+        → IsPacketsFor job.now.packets is.plan is.ran.left.slots (option_map string_bytes packets)
+        → IfOk result (λ texts. AreMade (run (run_words job.now)) table captures (to_write texts)) }
 {
     let captures = output_captures(alloc, ran.nano, ran.link, &ran.outcome.outputs)?;
-    let report = report(alloc, job.slots, &ran.outcome, &ran.reference)?;
+    let report = report(alloc, job.slots, ran)?;
     let summary = summary_text(alloc, &ran.outcome.summary)?;
     let outputs = captures.len();
-    let files = run_files(alloc, job.prefix.as_str(), captures, report, journal)?;
+    let with_journal = journal.is_some();
+    let files = run_files(
+        alloc,
+        job.prefix.as_str(),
+        captures,
+        report,
+        journal,
+        packets,
+    )?;
     Ok(JobTexts {
         outputs,
+        with_journal,
         files,
         summary,
     })
@@ -128,16 +142,20 @@ pub(crate) fn run_texts(alloc: Global, job: &RunJob, ran: &EndedRun) -> Result<J
     requires cut { All IsCut ran.now.outcome.outputs.items }
     requires few { length ran.now.outcome.outputs.items ≤ MAX_PORTS }
     requires some { 0 < length ran.now.outcome.journal.slots }
-    ensures made { (table : List ℕ) (captures : List (List ℕ)) → IsRan job.now.settings job.now.reference table captures ran.now.nano ran.now.link ran.now.outcome (option_map string_bytes ran.now.reference)
-        → IfOk result (λ texts. AreMade (run (run_words job.now)) table captures texts.outputs (map shown texts.files.items) (string_bytes texts.summary)) }
-    ensures stops { (table : List ℕ) (captures : List (List ℕ)) → IsRan job.now.settings job.now.reference table captures ran.now.nano ran.now.link ran.now.outcome (option_map string_bytes ran.now.reference)
+    ensures made { (table : List ℕ) (captures : List (List ℕ)) → IsRan job.now.settings (measured_by (run_words job.now)) table captures ran.now
+        → IfOk result (λ texts. AreMade (run (run_words job.now)) table captures (to_write texts)) }
+    ensures stops { (table : List ℕ) (captures : List (List ℕ)) → IsRan job.now.settings (measured_by (run_words job.now)) table captures ran.now
         → IfErr result (StopsTexts (run_words job.now) table captures) }
 {
     let journal = match journal_wanted(alloc, job.journal, &ran.outcome.journal) {
         Ok(journal) => journal,
         Err(ending) => return Err(ending),
     };
-    match texts_with(alloc, job, ran, journal) {
+    let packets = match packets_wanted(alloc, &ran.times) {
+        Ok(packets) => packets,
+        Err(ending) => return Err(ending),
+    };
+    match texts_with(alloc, job, ran, journal, packets) {
         Ok(texts) => Ok(texts),
         Err(_) => Err(Ending::OutOfMemory),
     }
@@ -152,6 +170,7 @@ pub(crate) fn summary_alone(alloc: Global, summary: &Summary) -> Result<JobTexts
     let summary = summary_text(alloc, summary)?;
     Ok(JobTexts {
         outputs: 0,
+        with_journal: false,
         files: Vec::new(alloc),
         summary,
     })

@@ -1,23 +1,26 @@
-use Rattle.std.proofs.Common.{map, string_bytes, arith}
+use Rattle.std.proofs.Common.{arith}
 use Rattle.std.proofs.lemmas.List.{length-map}
 use Rattle.switch_words.specs.Reading.{job_words}
 use Rattle.job_files.specs.OutputFiles.{shown}
+use Rattle.switch_run.specs.Making.{to_write}
 use Rattle.switch_run.proofs.Stopping.{done, few_files, write_fault}
 use Rattle.switch_run.proofs.command.attempt.Goals as goal
 
 pub put_texts-requires : goal.put_texts-requires
 put_texts-requires g c =
-    let items = c.in-Ok.texts.files.items in
-    let few = few_files (job_words c.args.job.now) _ _ (map shown items) _ c.in-Ok.ensures.made in
-    omega (arith, few, length-map items shown)
+    let texts = c.in-Ok.texts in
+    let few = few_files (job_words c.args.job.now) _ (to_write texts) c.in-Ok.ensures.made in
+    omega (arith, few, length-map texts.files.items shown)
 
 pub returns-in-Ok-put_texts-clause-done : goal.returns-in-Ok-put_texts-clause-done
 returns-in-Ok-put_texts-clause-done g c =
-    done (job_words c.args.job.now) _ _ (map shown c.in-Ok.texts.files.items) (string_bytes c.in-Ok.texts.summary) c.in-Ok.ensures.made _ _ c.in-Ok.ensures.told c.in-Ok-put_texts.ensures.ok
+    done (job_words c.args.job.now) _ (to_write c.in-Ok.texts) c.in-Ok.ensures.made _ _ c.in-Ok.ensures.told c.in-Ok-put_texts.ensures.ok
 
 pub returns-clause-stops : goal.returns-clause-stops
 returns-clause-stops g c =
     let contents = g.F.Files.told in
     let counts = g.F.Files.faults in
-    write_fault (job_words c.args.job.now) (contents c.args.files.now) (contents c.job_texts.new.files) (contents c.put_texts.new.files) _ (map shown c.in-Ok.texts.files.items) (string_bytes c.in-Ok.texts.summary) c.in-Ok.ensures.made
-    (counts c.args.files.now) (counts c.job_texts.new.files) (counts c.put_texts.new.files) c.in-Err-put_texts.written c.in-Ok.ensures.told c.job_texts.ensures.never_fall c.in-Err-put_texts.ensures.err
+    write_fault (job_words c.args.job.now) (contents c.args.files.now) (contents c.job_texts.new.files) (contents c.put_texts.new.files)
+    (to_write c.in-Ok.texts) c.in-Ok.ensures.made
+    (counts c.args.files.now) (counts c.job_texts.new.files)
+    (counts c.put_texts.new.files) c.in-Err-put_texts.written c.in-Ok.ensures.told c.job_texts.ensures.never_fall c.in-Err-put_texts.ensures.err

@@ -14,7 +14,8 @@ returns-in-Err-clause-meaning g c =
       job = job;
       told = contents c.attempt.new.files;
       words = refl;
-      stops = Stops-wider job (contents c.args.files.now) (counts c.args.files.now) (counts c.args.files.now) (counts c.attempt.new.files) (counts c.print_line.new.files) (contents c.attempt.new.files) c.in-Err.ending
+      stops = Stops-wider job (contents c.args.files.now) (counts c.args.files.now) (counts c.args.files.now) (counts c.attempt.new.files)
+          (counts c.print_line.new.files) (contents c.attempt.new.files) c.in-Err.ending
           (NeverFall-refl (counts c.args.files.now)) c.print_line.ensures.never_fall c.in-Err.ensures.stops;
       line = GivesLine-since _ _ _ _ _ _ (c.in-Err.ensures.never_fall ToErr) c.print_line.ensures.line;
     })

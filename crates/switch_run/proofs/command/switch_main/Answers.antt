@@ -4,7 +4,8 @@ use Rattle.eslip_rounds.specs.Decisions.{decision_of}
 use Rattle.eslip_rounds.proofs.Scheduling.{IsScheduler-decision_of}
 use Rattle.switch_run.specs.Causes.{Answers}
 use Rattle.switch_run.specs.Endings.{Command, command_of}
-use Rattle.switch_run.proofs.Answering.{journal_exact, refusal_exact, run_ends, run_good, too_long_exact, usage_exact}
+use Rattle.switch_run.proofs.Answering.{run_ends, run_good, too_long_exact, usage_exact}
+use Rattle.switch_run.proofs.Refusing.{journal_exact, packets_exact, refusal_exact}
 use Rattle.switch_run.proofs.Completing.{complete}
 use Rattle.switch_run.proofs.Checking.{check_exact}
 use Rattle.switch_run.proofs.command.switch_main.Goals as goal
@@ -26,6 +27,7 @@ returns g c =
       too_long = too_long_exact command status ending answers;
       refusal = refusal_exact command status ending answers;
       journal_too_long = journal_exact command status ending answers;
+      packets_too_long = packets_exact command status ending answers;
       checks = check_exact command status ending answers;
       complete = complete command status ending answers;
       -- the laws of runs, for the run behind the command
@@ -49,6 +51,10 @@ returns g c =
             ends_no_later = c.lines_tell_the_delays.ensures.ends plan slots good ends;
             delays = c.lines_tell_the_delays.ensures.delays plan slots good ends;
             journals = lawful.answer plan slots good ends ∙ ap Ok (lawful.numbers plan slots);
+            queues = c.lines_add_up.ensures decision_of plan slots good (c.arrivals_come_first.ensures decision_of plan slots ends);
+            sized = c.runs_are_sized.ensures decision_of plan slots good ends;
+            departures = c.runs_have_departures.ensures decision_of plan slots IsScheduler-decision_of good ends;
+            copies = c.departures_are_counted.ensures decision_of plan slots IsScheduler-decision_of good ends;
           };
       firm_runs = λ plan slots is. c.runs_are_as_promised.ensures plan slots is.planned.good is.ends;
     }

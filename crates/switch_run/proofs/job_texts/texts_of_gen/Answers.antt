@@ -1,7 +1,10 @@
-use Rattle.std.proofs.Common.{ap, map, refl, string_bytes}
+use Rattle.std.proofs.Common.{ap, map, refl, ◌∙◌}
+use Rattle.slot_report.specs.Lines.{lines_text}
+use Rattle.slot_report.specs.Texts.{summary_lines}
 use Rattle.switch_plan.specs.Reading.{bytes_of_files}
 use Rattle.switch_words.specs.Reading.{gen}
 use Rattle.job_files.specs.OutputFiles.{shown}
+use Rattle.switch_run.specs.Making.{RunLeft, to_write}
 use Rattle.switch_run.proofs.RunTexts.{gen_made}
 use Rattle.switch_run.proofs.Stopping.{plan_stops}
 use Rattle.switch_run.proofs.job_texts.texts_of_gen.Goals as goal
@@ -19,6 +22,7 @@ returns-in-Ok-summary_alone-clause-made g c told =
       captures = bytes_of_files inputs.captures;
       inputs = (c.in-Ok.ensures.table, c.in-Ok.ensures.captures);
       few = c.in-Ok.ensures.size.ports.most;
-      made = gen_made c.args.job.now inputs.table.items (bytes_of_files inputs.captures) _ _ _ _ c.in-Ok-plan_and_run.ensures.ran texts.outputs (map shown texts.files.items) (string_bytes texts.summary)
-          (ap (map shown) c.in-Ok-summary_alone.ensures.files) c.in-Ok-summary_alone.ensures.summary;
+      made = gen_made c.args.job.now _ inputs.table.items (bytes_of_files inputs.captures) _ c.in-Ok-plan_and_run.ensures.ran (to_write texts)
+          (ap (map shown) c.in-Ok-summary_alone.ensures.files)
+          (c.in-Ok-summary_alone.ensures.summary ∙ ap (λ (it : RunLeft). lines_text (summary_lines it.outcome.summary)) c.ran.view_is);
     }

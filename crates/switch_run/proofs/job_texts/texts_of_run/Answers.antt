@@ -13,7 +13,10 @@ plan_and_run-requires-clause-size g c κs alive =
     let read = rw c.reads_of_run.ensures.names at c.in-Ok.ensures.read in
     let names = c.args.job.now.inputs.items in
     read_of_size (run_reads (run_words c.args.job.now)) (g.F.Files.told c.args.files.now) _ _ read
-    (record { some = omega (arith, length-map names string_bytes, c.requires.inputs.some); most = omega (arith, length-map names string_bytes, c.requires.inputs.most) })
+    (record {
+      some = omega (arith, length-map names string_bytes, c.requires.inputs.some);
+      most = omega (arith, length-map names string_bytes, c.requires.inputs.most);
+    })
 
 pub run_texts-requires-clause-some : goal.run_texts-requires-clause-some
 run_texts-requires-clause-some g c =
@@ -26,14 +29,16 @@ returns-in-Err-clause-stops g c =
     let counts = g.F.Files.faults in
     let words = run_words c.args.job.now in
     let stops = rw c.reads_of_run.ensures.names at c.in-Err.ensures.stops in
-    reading_stops (run words) (run_reads words) (contents c.args.files.now) (contents c.read_inputs.new.files) (counts c.args.files.now) (counts c.read_inputs.new.files) c.in-Err.ending refl c.in-Err.ensures.told stops
+    reading_stops (run words) (run_reads words) (contents c.args.files.now) (contents c.read_inputs.new.files) (counts c.args.files.now)
+    (counts c.read_inputs.new.files) c.in-Err.ending refl c.in-Err.ensures.told stops
 
 pub returns-in-Err-plan_and_run-clause-stops : goal.returns-in-Err-plan_and_run-clause-stops
 returns-in-Err-plan_and_run-clause-stops g c =
     let contents = g.F.Files.told in
     let counts = g.F.Files.faults in
     let read = rw c.reads_of_run.ensures.names at c.in-Ok.ensures.read in
-    plan_stops (run (run_words c.args.job.now)) (contents c.args.files.now) (contents c.read_inputs.new.files) (counts c.args.files.now) (counts c.read_inputs.new.files) _ _ c.in-Err-plan_and_run.ending
+    plan_stops (run (run_words c.args.job.now)) (contents c.args.files.now) (contents c.read_inputs.new.files) (counts c.args.files.now)
+    (counts c.read_inputs.new.files) _ _ c.in-Err-plan_and_run.ending
     c.in-Ok.ensures.told read c.in-Err-plan_and_run.ensures.stops
 
 pub returns-clause-made : goal.returns-clause-made
@@ -53,5 +58,6 @@ returns-clause-stops g c =
     let inputs = c.in-Ok.inputs in
     let files = bytes_of_files inputs.captures in
     let read = rw c.reads_of_run.ensures.names at c.in-Ok.ensures.read in
-    texts_not_made (run_words c.args.job.now) (contents c.args.files.now) (contents c.read_inputs.new.files) (counts c.args.files.now) (counts c.read_inputs.new.files) c.run_texts.result inputs.table.items files
+    texts_not_made (run_words c.args.job.now) (contents c.args.files.now) (contents c.read_inputs.new.files) (counts c.args.files.now)
+    (counts c.read_inputs.new.files) c.run_texts.result inputs.table.items files
     c.in-Ok.ensures.told read (c.run_texts.ensures.stops inputs.table.items files c.in-Ok-plan_and_run.ensures.ran)

@@ -6,4 +6,5 @@ use Rattle.output_queued.specs.Switches.{Matched}
 use Rattle.switch_run.proofs.reference.lines.Given as goal
 
 abbrev pub invariant-loop-output : goal.invariant-loop-output
-invariant-loop-output l = (matches : List Matched) → HasNoted l.reference matches → l.lines.items ≡ map (line_of (cards_in l.reference) matches) (range_with_len 0 l.output)
+invariant-loop-output l = (matches : List Matched) → HasNoted l.reference matches
+    → l.lines.items ≡ map (line_of (cards_in l.reference) matches) (range_with_len 0 l.output)

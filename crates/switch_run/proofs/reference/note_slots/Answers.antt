@@ -22,7 +22,8 @@ note-requires c =
     c.copy_rows.ensures ∙ ap (map (λ (post : Post). post.row)) (c.posts-posts.ensures.posts ∙ ap (λ (s : JournalSlot). s.posts) slot) in
     let matched : c.decided.result.now ≡ (run_slot plan t).matched = c.decided.ensures.matched ∙ ap (λ (s : JournalSlot). s.matched) slot in
     let may = c.slots_may_be_noted.ensures.may plan c.loop-slot.reference t slots is.good is.ends below noted in
-    subst (λ (r : List Row). MayNote c.loop-slot.reference r c.decided.result.now) (sym rows) (subst (MayNote c.loop-slot.reference (run_rows plan t)) (sym matched) may)
+    subst (λ (r : List Row). MayNote c.loop-slot.reference r c.decided.result.now) (sym rows)
+    (subst (MayNote c.loop-slot.reference (run_rows plan t)) (sym matched) may)
 
 pub loop-slot-preserved : goal.loop-slot-preserved
 loop-slot-preserved c = record {
@@ -33,8 +34,10 @@ loop-slot-preserved c = record {
       let matches = run_matches plan t in
       let before = c.loop-slot.invariant.noted plan slots is first in
       let below : t < slots = omega (arith, count_of_run plan slots journal is) in
-      let matched : c.decided.result.now ≡ (run_slot plan t).matched = c.decided.ensures.matched ∙ ap (λ (s : JournalSlot). s.matched) (slot_of_run plan slots t journal is below) in
-      let more = noted_more plan c.loop-slot.reference c.note.new.self matches c.decided.result.now before c.note.ensures.switch (c.note.ensures.noted matches before.noted) in
+      let matched : c.decided.result.now ≡ (run_slot plan t).matched = c.decided.ensures.matched
+      ∙ ap (λ (s : JournalSlot). s.matched) (slot_of_run plan slots t journal is below) in
+      let more = noted_more plan c.loop-slot.reference c.note.new.self matches c.decided.result.now before c.note.ensures.switch
+      (c.note.ensures.noted matches before.noted) in
       subst (IsReferenceOf plan c.note.new.self) (ap (λ (m : Matched). matches ++ m ∷ []) matched ∙ sym (c.slots_may_be_noted.ensures.more plan t)) more;
 }
 

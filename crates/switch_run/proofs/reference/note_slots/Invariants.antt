@@ -8,5 +8,6 @@ use Rattle.switch_run.proofs.reference.note_slots.Given as goal
 abbrev pub invariant-loop-slot : goal.invariant-loop-slot
 invariant-loop-slot l = record {
   long : length l.rows ≡ 64;
-  noted : (plan : SwitchPlan) (slots : ℕ) → IsJournalOf plan slots l.journal → IsReferenceOf plan l.fn.reference [] → IsReferenceOf plan l.reference (run_matches plan l.slot);
+  noted : (plan : SwitchPlan) (slots : ℕ) → IsJournalOf plan slots l.journal → IsReferenceOf plan l.fn.reference []
+      → IsReferenceOf plan l.reference (run_matches plan l.slot);
 }

@@ -15,7 +15,8 @@ reference_text-requires c =
     let reference = c.note_slots.new.reference in
     let matches = run_matches plan slots in
     let noted = (c.note_slots.ensures plan slots is first).noted in
-    let count = ap length (c.deref.ensures.value ∙ c.in_ok-lines.ensures matches noted) ∙ length-map-range_with_len (line_of (cards_in reference) matches) 0 reference.ports in
+    let count = ap length (c.deref.ensures.value ∙ c.in_ok-lines.ensures matches noted)
+    ∙ length-map-range_with_len (line_of (cards_in reference) matches) 0 reference.ports in
     omega (arith, noted.switch.size)
 
 pub returns : goal.returns
@@ -24,5 +25,6 @@ returns c = λ plan slots is first.
     let reference = c.note_slots.new.reference in
     let matches = run_matches plan slots in
     let noted = c.note_slots.ensures plan slots is first in
-    let lines : c.deref.result.now ≡ lines_of plan.cards matches = c.deref.ensures.value ∙ c.in_ok-lines.ensures matches noted.noted ∙ lines_of_run plan slots reference is.good noted in
+    let lines : c.deref.result.now ≡ lines_of plan.cards matches = c.deref.ensures.value ∙ c.in_ok-lines.ensures matches noted.noted
+    ∙ lines_of_run plan slots reference is.good noted in
     subst (λ (all : List RefLine). IfOk c.reference_text.result (λ text. string_bytes text ≡ lines_text (reference_lines all))) lines c.reference_text.ensures

@@ -6,4 +6,5 @@ use Rattle.switch_run.specs.Making.{HaveMessages}
 use Rattle.switch_run.proofs.texts.output_captures.Given as goal
 
 abbrev pub invariant-loop-output : goal.invariant-loop-output
-invariant-loop-output l = (messages : ℕ → List (List ℕ)) → HaveMessages messages l.outputs → bytes_of_files l.captures ≡ map (λ j. capture_text l.fn.nano l.fn.link (messages j)) (range_with_len 0 l.output-index)
+invariant-loop-output l = (messages : ℕ → List (List ℕ)) → HaveMessages messages l.outputs
+    → bytes_of_files l.captures ≡ map (λ j. capture_text l.fn.nano l.fn.link (messages j)) (range_with_len 0 l.output-index)
