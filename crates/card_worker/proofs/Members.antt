@@ -127,8 +127,7 @@ module _ (board : TurnValue Event) (old : Member) (sound : IsSound board old) wh
           plan = plan_is;
           number = same.1;
           acts = ap (λ (c : Column). length c.posts + length c.takings) is ∙ acts;
-          tries = omega arith;
-          waits = λ no. absurd (both_ways true no refl);
+          tries = omega (arith, tries, ap (λ (c : Column). length c.posts + length c.takings) is ∙ acts);
           due = λ no. absurd (both_ways true no refl);
         }
 
@@ -141,8 +140,7 @@ module _ (board : TurnValue Event) (old : Member) (sound : IsSound board old) wh
           plan = plan_is;
           number = same.1;
           acts = ap (λ (c : Column). length c.posts + length c.takings) after.column ∙ omega arith;
-          tries = let more = after.tries in omega arith;
-          waits = λ no. after.tries;
+          tries = omega (arith, after.tries, ap (λ (c : Column). length c.posts + length c.takings) after.column);
           due = λ no. due_same (slot_of next) (length (column_at next).posts) (setup_at next).max_slots (slot_of old.seat) (length column.posts) (setup_at old.seat).max_slots (is_done next) (is_done old.seat) after.slot (ap (λ (c : Column). length c.posts) after.column) after.done room;
         }
 

@@ -21,6 +21,10 @@ pub record IsSound (board : TurnValue Event) (member : Member) : Type 0 where
 abbrev pub acts_of : Member → ℕ
 acts_of member = length (column_at member.seat).posts + length (column_at member.seat).takings
 
+-- how many tries it made: those, and the tries that were refused
+abbrev pub tries_of : Member → ℕ
+tries_of member = acts_of member + refusals member.seat
+
 abbrev pub one_if : Bool → ℕ
 one_if acted = if acted then 1 else 0
 
@@ -30,6 +34,5 @@ pub record AfterTry (board : TurnValue Event) (old new : Member) (acted : Bool) 
   pub plan : new.hand.card.sends.plan ≡ old.hand.card.sends.plan
   pub number : new.seat.number ≡ old.seat.number
   pub acts : acts_of new ≡ acts_of old + one_if acted
-  pub tries : refusals old.seat ≤ refusals new.seat
-  pub waits : acted ≡ false → refusals new.seat ≡ refusals old.seat + 1
+  pub tries : tries_of new ≡ tries_of old + 1
   pub due : acted ≡ false → is_due new.seat ≡ is_due old.seat

@@ -20,7 +20,9 @@ const PAUSE_HINTS: u32 = 16;
 const SPINNING_PASSES: u32 = 4;
 
 /// Drives the members until none is due, or after `patience` passes in a row without a post or a take.
-/// In each pass every due member makes one try. Answers how many posts and takes the members made.
+/// In each pass each due member makes one try: a member that is due at the end made as many tries as there were
+/// passes, its posts, takes and refused tries together, and one that was not due is as it was. Answers how many
+/// posts and takes the members made.
 pub fn drive<G: Gate>(group: &mut Group, board: &Board, gate: &G, patience: u32) -> u64
     requires few { length group.old.members.items ≤ MAX_PORTS }
     requires members { (j : ℕ) (m : Member) → slice_get group.old.members.items j ≡ Some m → IsMember board.now m }

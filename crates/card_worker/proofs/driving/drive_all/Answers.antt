@@ -55,10 +55,12 @@ returns-clause-passes g c =
     let at = c.loop-members in
     let passes = at.invariant.passes in
     record {
+      passes = passes.passes;
       count = passes.count;
       acts = passes.acts;
       sound = passes.sound;
       same = passes.same;
+      tried = passes.tried;
       waited = λ j old new was is due.
           let end = c.goes_on.ensures.ends c.loop-members-test.false j new is due in
           let tries = passes.waited j old new was is due in
