@@ -6,7 +6,7 @@ ghost use Rattle.card_worker.specs.Alone.{AreHandsOf, IsOver};
 ghost use Rattle.switch_plan.specs.GoodPlans.{SwitchPlan, IsGood};
 ghost use Rattle.whole_run.specs.Runs.{setup_for};
 ghost use Rattle.switch_jobs.specs.Sharing.{ArePlanned, HaveWaited};
-ghost use Rattle.switch_jobs.specs.Ending.{AreLeft, AreOfPlans, IsRunOf};
+ghost use Rattle.switch_jobs.specs.Ending.{AreLeft, AreOfPlans, IsRunOf, GoesOnFrom};
 
 use card_core::CardOut;
 use card_worker::{Group, Hand, Hands, close_with, disband, finish_alone, laws};
@@ -14,7 +14,8 @@ use slot_board::{Board, BoardState, Seats};
 use whole_run::{boards, ends};
 
 /// Disbands the groups into the two empty lists, which have room for all, closes the board, and makes on this
-/// thread what is left of the run. It takes no memory.
+/// thread what is left of the run: the events of the board and those made here are one legal list. It takes no
+/// memory.
 pub(crate) fn end_run(
     board: Board,
     groups: Vec<Group>,
@@ -27,6 +28,7 @@ pub(crate) fn end_run(
     requires hand_room { board.seats ≤ vec_capacity hands }
     ensures hands { AreHandsOf result.1.items result.0 }
     ensures setup { result.0.setup ≡ setup_of board.numbers }
+    ensures journal { GoesOnFrom board groups.items result.0 }
     ensures over { (i : ℕ) → i < result.0.setup.ports → IsOver result.0.setup i result.0.events }
     ensures planned { (plans : List CardPlan) → ArePlanned plans groups.items → AreOfPlans plans result.1.items }
     ensures refused { (patience : ℕ) → patience < 2 ^ 64 → HaveWaited patience groups.items → patience ≤ result.0.refused }

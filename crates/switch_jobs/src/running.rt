@@ -2,6 +2,7 @@ ghost use Rattle.std.specs.Prelude.{◌≤◌, IfOk, length};
 ghost use Rattle.switch_plan.specs.GoodPlans.{switch_plan_of, IsGood};
 ghost use Rattle.whole_run.specs.Promises.{CompletesMulticast, ServesWaiting, WaitsAreShort};
 ghost use Rattle.switch_jobs.specs.Outcomes.{IsOutcome};
+ghost use Rattle.switch_jobs.specs.Ending.{IsOneJournal};
 
 use crate::driving::drive_all;
 use crate::ending::{end_run, finish_cards, run_is_made};
@@ -34,6 +35,7 @@ pub fn run_job<R: Threads + Sync, G: Gate + Sync>(
     requires { IsGood (switch_plan_of plan) }
     ensures run { IfOk result (λ outcome. IsOutcome (switch_plan_of plan) outcome) }
     ensures tried { IfOk result (λ outcome. 64 ≤ outcome.journal.refused) }
+    ensures journal { IfOk result (λ outcome. IsOneJournal outcome.journal) }
     ensures serves { IfOk result (λ outcome. ServesWaiting (switch_plan_of plan) (length outcome.journal.slots)) }
     ensures waits { IfOk result (λ outcome. WaitsAreShort (switch_plan_of plan) (length outcome.journal.slots)) }
     ensures completes { IfOk result (λ outcome. CompletesMulticast (switch_plan_of plan) (length outcome.journal.slots)) }
@@ -47,6 +49,7 @@ pub fn run_job<R: Threads + Sync, G: Gate + Sync>(
 pub fn run_ready<R: Threads + Sync, G: Gate + Sync>(rt: &R, ready: Ready, gate: &G) -> Outcome
     ensures run { IsOutcome ready result }
     ensures tried { 64 ≤ result.journal.refused }
+    ensures journal { IsOneJournal result.journal }
     ensures serves { ServesWaiting ready (length result.journal.slots) }
     ensures waits { WaitsAreShort ready (length result.journal.slots) }
     ensures completes { CompletesMulticast ready (length result.journal.slots) }
@@ -68,6 +71,7 @@ pub fn run_ready_with<R: Threads + Sync, G: Gate + Sync>(
 ) -> Outcome
     ensures run { IsOutcome ready result }
     ensures tried { patience ≤ result.journal.refused }
+    ensures journal { IsOneJournal result.journal }
     ensures serves { ServesWaiting ready (length result.journal.slots) }
     ensures waits { WaitsAreShort ready (length result.journal.slots) }
     ensures completes { CompletesMulticast ready (length result.journal.slots) }

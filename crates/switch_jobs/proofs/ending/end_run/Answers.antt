@@ -18,3 +18,21 @@ pub returns-clause-refused : goal.returns-clause-refused
 returns-clause-refused c = λ patience small waited.
     subst (λ n. patience ≤ n) (sym (c.finish_alone.ensures.refused ∙ c.close_with-state.ensures.closed.refused))
     (waited_left c.args.groups.items c.disband-seats.result.0.items c.disband-seats.result.1.items _ c.disband-seats.ensures patience small waited)
+
+pub returns-clause-journal : goal.returns-clause-journal
+returns-clause-journal c =
+    let seats = c.disband-seats.result.0.items in
+    let hands = c.disband-seats.result.1.items in
+    let alone = c.finish_alone.ensures in
+    record {
+      seats = seats;
+      hands = hands;
+      closed = c.close_with-state.result;
+      from = c.disband-seats.ensures;
+      all_seats = (c.disbanded_groups_agree.ensures.seats c.args.board c.args.groups.items seats hands c.requires.groups c.disband-seats.ensures).0;
+      is_closed = c.close_with-state.ensures.closed;
+      goes_on = alone.goes_on;
+      legal = alone.legal;
+      setup = alone.setup;
+      refused = alone.refused;
+    }

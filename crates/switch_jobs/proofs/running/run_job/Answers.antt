@@ -11,3 +11,6 @@ returns-clause-waits g c = subst (λ (plan : SwitchPlan). WaitsAreShort plan (le
 
 pub returns-clause-completes : goal.returns-clause-completes
 returns-clause-completes g c = subst (λ (plan : SwitchPlan). CompletesMulticast plan (length c.run_ready.result.journal.slots)) c.in_ok-ready.ensures c.run_ready.ensures.completes
+
+pub returns-clause-journal : goal.returns-clause-journal
+returns-clause-journal g c = c.run_ready.ensures.journal

@@ -14,3 +14,6 @@ returns-clause-waits g c = c.run_ready_with.ensures.waits
 
 pub returns-clause-completes : goal.returns-clause-completes
 returns-clause-completes g c = c.run_ready_with.ensures.completes
+
+pub returns-clause-journal : goal.returns-clause-journal
+returns-clause-journal g c = c.run_ready_with.ensures.journal

@@ -115,3 +115,13 @@ returns-clause-completes g c =
     let plan = plan_with r.terms (plans_in r.members.items) in
     let slots = length c.journal-journal.result.slots in
     subst (λ (plan : SwitchPlan). CompletesMulticast plan slots) c.ready.view_is (heads-complete plan c.ready.invariant.good slots)
+
+pub returns-clause-journal : goal.returns-clause-journal
+returns-clause-journal g c =
+    record {
+      board = c.ready.inside.board;
+      groups = _;
+      state = c.end_run-state.result.0;
+      goes_on = c.end_run-state.ensures.journal;
+      is = c.journal-journal.ensures.journal;
+    }
