@@ -31,6 +31,8 @@ OPTIONS = {
     "--slots": Option(("run",)),
     "--journal": Option(("run",), suffix=".journal"),
     "--reference": Option(("run",)),
+    "--queues": Option(("run",)),
+    "--packets": Option(("run",), suffix=".packets.csv"),
 }
 
 # Words of the launcher's own, which come before the command.
@@ -75,14 +77,14 @@ class Job(NamedTuple):
         return int(value) if value else None
 
     def outputs(self):
-        """What is written: each file's name, with what it is."""
+        """What is written, in its order: each file's name, with what it is."""
         if self.command != "run":
             return {}
         files = {f"{self.prefix}.{port}.pcap": f"output {port}" for port in range(len(self.inputs))}
         files[f"{self.prefix}.report"] = "the report"
-        for name in self.options:
-            if OPTIONS[name].suffix:
-                files[self.prefix + OPTIONS[name].suffix] = "what " + name + " writes"
+        for name, option in OPTIONS.items():
+            if option.suffix and name in self.options:
+                files[self.prefix + option.suffix] = f"what {name} writes"
         return files
 
 

@@ -59,6 +59,12 @@ class LostFiles(Scene):
         self.assertIn("out.journal is the capture of port 0, and would be replaced by what --journal writes", self.refused("run", "--journal", *words))
         self.assertEqual(self.started("run", *words), ["run", *words])
 
+    def test_input_that_is_the_packets_file(self):
+        self.write("out.packets.csv", TABLE)
+        words = ("out.packets.csv", "out", "a.pcap")
+        self.assertIn("out.packets.csv is the table, and would be replaced by what --packets writes", self.refused("run", "--packets", *words))
+        self.assertEqual(self.started("run", "--queues", *words), ["run", "--queues", *words])
+
     def test_links(self):
         os.link(self.jobs / "a.pcap", self.jobs / "hard.1.pcap")
         os.symlink("table.txt", self.jobs / "soft.report")
@@ -96,11 +102,12 @@ class Ports(Scene):
 
     def test_dry_run(self):
         self.write("out.report", "old\n")
-        ended = self.launch("--dry-run", "run", "--journal", "table.txt", "out", "a.pcap", "b.pcap", "two words.pcap", "missing")
+        ended = self.launch("--dry-run", "run", "--packets", "--journal", "table.txt", "out", "a.pcap", "b.pcap", "two words.pcap", "missing")
         self.assertEqual((ended.returncode, ended.stderr), (0, ""))
         self.assertEqual(ended.stdout.splitlines(), [
             "table: table.txt", "port 0: a.pcap, 2 packets", "port 1: b.pcap, 1 packet", "port 2: two words.pcap, 0 packets", "port 3: missing",
             "writes out.0.pcap", "writes out.1.pcap", "writes out.2.pcap", "writes out.3.pcap", "writes out.report, which is there", "writes out.journal",
+            "writes out.packets.csv",
         ])
         self.assertEqual(self.calls(), [])
 
