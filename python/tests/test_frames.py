@@ -12,6 +12,7 @@ from tiny_tera.report import BadReport  # noqa: E402
 
 TOP = Path(__file__).resolve().parents[2]
 EXAMPLES = sorted(TOP.glob("examples/*/expected/out.journal"))
+PACKETS = sorted(TOP.glob("tests/jobs/*/expected/out.packets.csv"))
 DATA = TOP / "tools/measure_tests/data"
 
 
@@ -52,6 +53,19 @@ def test_packets():
     assert left["delay"].tolist() == [1, 2, 2, 2, 2, 2, 2]
     assert set(found["state"]) == {"forwarded", "dropped", "unrouted", "oversize"}
     assert found[found["state"] == "unrouted"]["output"].isna().all()
+
+
+@pytest.mark.parametrize("name", PACKETS, ids=lambda name: name.parts[-3])
+def test_packets_of_jobs(name):
+    """Departures come after all cells; they rise within a flow, and no two packets depart at an output in one slot."""
+    found = frames.read_packets(name)
+    summary = frames.read_report(name.with_name("out.report")).summary
+    left = found[found["state"] == "forwarded"]
+    assert len(left) == summary["copies"] and len(found.drop_duplicates(["input", "packet"])) == summary["packets"]
+    assert (left["departure"] >= left["arrival"] + left["cells"]).all()
+    assert not left.duplicated(["output", "departure"]).any()
+    for _, flow in left.groupby(["input", "level", "kind", "output"]):
+        assert flow["departure"].is_monotonic_increasing
 
 
 def test_other_files(tmp_path):

@@ -81,10 +81,7 @@ def read_journal(path: PathLike) -> JournalFrames:
 
 
 def read_packets(path: PathLike) -> pandas.DataFrame:
-    """The rows of a packets file, `PREFIX.packets.csv`; ValueError where it has another form.
-
-    No command of the program writes such a file yet. The columns that are wanted are those of `packets.COLUMNS`.
-    """
+    """The rows of a packets file, `PREFIX.packets.csv`, with `packets.COLUMNS`; ValueError where it has another form."""
     return packets.read_packets(path)
 
 

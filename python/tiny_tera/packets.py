@@ -1,9 +1,5 @@
-"""The packets file of a run, `PREFIX.packets.csv`: what became of each packet, and when it left each of its outputs.
-
-The program does not write such a file yet; this is the form that it is to have. The columns that are wanted, in this
-order: input, packet (its number in the capture of its port, from 0), bytes, cells, state (forwarded, dropped, unrouted
-or oversize), level, kind (u or m), output, arrival, departure and delay (in slots). There is a row for each output of a
-packet; where there is none, or no departure, the fields are empty.
+"""The packets file of a run, `PREFIX.packets.csv`, as `run --packets` writes it: what became of each packet, and when it
+left each of its outputs. The form is that of docs/FORMATS.md.
 """
 
 import pandas

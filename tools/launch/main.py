@@ -96,7 +96,10 @@ def _dry_run(job, fault):
     if fault:
         say(f"{fault}")
         return USAGE_FAULT
-    return tell(lines_of_job(job))
+    status = tell(lines_of_job(job))
+    if job.pace_us and job.inputs:
+        _warn_of_late(job)
+    return status
 
 
 def _start(place, words, job, fault):

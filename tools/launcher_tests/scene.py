@@ -118,7 +118,7 @@ def write_repository(top):
     for name in ("tools/launch", "tools/measure", "viewer"):
         shutil.copytree(TOP / name, top / name, ignore=ignored)
     (top / "docs").mkdir()
-    for name in ("tiny_tera", "tools/install", "tools/arrivals", "docs/USAGE.md", "docs/tiny_tera.1", "LICENSE"):
+    for name in ("tiny_tera", "tools/install", "docs/USAGE.md", "docs/tiny_tera.1", "LICENSE"):
         shutil.copy(TOP / name, top / name)
     for name, text in SOURCES.items():
         (top / name).parent.mkdir(parents=True, exist_ok=True)

@@ -3,7 +3,7 @@
 from measure.captures import Packet
 from measure.late import late_ports
 
-from .scene import TOP, Scene, capture, frame, python
+from .scene import TOP, Scene, capture, frame
 
 TABLE = "10.0.0.0/24 0\n"
 # Frames of two cells at 0, 5 and 10 microseconds: at a pace of 5 they begin in slots 0, 2 and 4, and their times are
@@ -38,12 +38,12 @@ class Late(Scene):
         self.assertEqual(failed.stderr, "out of memory\n")
         self.assertEqual(self.launch("run", "--pace-us", "5", "table.txt", "out", "a.pcap", "/dev/null").stderr, "")
 
-    def test_arrivals(self):
-        words = [self.top / "tools/arrivals", "--pace-us", "5", "table.txt", "a.pcap", "b.pcap"]
-        told = python(*words, cwd=self.jobs)
-        self.assertEqual(told.stderr, f"tools/arrivals: {LATE}\n")
-        self.assertEqual(told.stdout, "slot,input,outputs,level,cells\n1,0,0,0,2\n2,1,0,0,2\n3,0,0,0,2\n5,0,0,0,2\n")
-        self.assertEqual(python(words[0], *words[3:], cwd=self.jobs).stderr, "")
+    def test_without_a_run(self):
+        names = ("table.txt", "out", "a.pcap", "b.pcap")
+        told = self.launch("--dry-run", "run", "--pace-us", "5", *names).stderr.splitlines()
+        self.assertEqual((told[0], len(told), self.calls()), (f"late: {LATE}", 2, []))
+        for words in (["--pace-us", "2"], []):
+            self.assertEqual(self.launch("--dry-run", "run", *words, *names).stderr, "")
 
     def test_line_rates(self):
         """The paces of docs/USAGE.md: 3 keeps up with 100 Mbit/s of any frames, 4 with frames of full size, 5 with neither."""

@@ -1,4 +1,4 @@
-"""What the tools read and make: reports, journals, lists of arrivals, traffic, delays and figures.
+"""What the tools read and make: reports, journals, packets files, traffic, delays and figures.
 
 The readers of a run's files are those of the package for Python.
 """

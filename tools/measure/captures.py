@@ -6,8 +6,6 @@ Files that the switch refuses are not told apart here: run the switch on them fi
 import struct
 from typing import NamedTuple
 
-from .arrivals import Arrival
-
 MICROSECONDS, NANOSECONDS = 0xA1B2C3D4, 0xA1B23C4D
 FILE_HEADER, RECORD_HEADER = 24, 16
 ETHERNET, RAW_IP = 1, 101
@@ -16,6 +14,16 @@ IP_HEADER = 20
 MESSAGE_HEADER, CELL_PAYLOAD = 16, 56
 LONGEST_FORWARDED = 65_535
 SECOND = 1_000_000_000
+
+
+class Arrival(NamedTuple):
+    """A packet for the queues of a switch, in the slot in which it has arrived whole."""
+
+    slot: int
+    input: int
+    outputs: tuple
+    level: int
+    cells: int
 
 
 class Packet(NamedTuple):

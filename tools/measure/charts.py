@@ -21,6 +21,8 @@ KINDS = ("uniform", "bursty", "diagonal", "log-diagonal", "hot-spot", "trace")  
 PARTS_OF_A_ROW = 3
 BARS = "bars: 95 per cent intervals of the mean over the seeds, by Student's t"
 WINDOWS = 200  # Slots are averaged over so many windows.
+NAMES = {"u": "unicast", "m": "multicast"}
+MOST_NAMED = 32  # So many queues stand below the axis by name.
 
 
 def save(figure, folder, name, told):
@@ -55,22 +57,47 @@ def _plain_log(axes):
 
 def waits_figure(title, counts):
     """For each level, the share of services before which the queue had waited at least so many slots."""
-    levels = {level: count for level, count in enumerate(counts) if count}
-    return _shares_figure(title, levels, "wait of a unicast queue (slots)", "share of cells served after at least this wait")
+    figure, axes = _one(title, "wait of a unicast queue (slots)", "share of cells served after at least this wait")
+    for level, count in enumerate(counts):
+        if count:
+            axes.step(*_at_least(count), where="pre", color=COLOURS[level], label=f"level {level}")
+    return _shares(figure, axes)
 
 
 def delays_figure(title, counts):
-    """For each level, the share of packets that had at least this delay, at each of their outputs."""
-    return _shares_figure(title, counts, "delay of a packet (slots)", "share of packets with at least this delay")
+    """For each level and kind, the share of packets that had at least this delay, at each of their outputs."""
+    figure, axes = _one(title, "delay of a packet (slots from arrival to departure)", "share of packets with at least this delay")
+    for (level, kind), count in counts.items():
+        style = {"color": COLOURS[level], "linestyle": "-" if kind == "u" else "--"}
+        axes.step(*_at_least(count), where="pre", label=f"level {level}, {NAMES[kind]}", **style)
+    return _shares(figure, axes)
 
 
-def _shares_figure(title, counts, across, up):
-    figure, axes = _one(title, across, up)
-    for level, count in counts.items():
-        axes.step(*_at_least(count), where="pre", color=COLOURS[level], label=f"level {level}")
+def _shares(figure, axes):
     _plain_log(axes)
     axes.set_xlim(left=0)
     axes.xaxis.set_major_locator(MaxNLocator(integer=True))
+    if axes.lines:
+        axes.legend()
+    return figure
+
+
+def queues_figure(title, queues):
+    """The peak of each queue, the deepest first; a cross marks each that dropped a packet."""
+    figure, axes = _one(title, "queue, the deepest first", "greatest number of cells in the queue")
+    ordered = sorted(queues, key=lambda queue: -queue.peak)
+    for level, is_multicast in sorted({(queue.level, queue.output is None) for queue in queues}):
+        places = [place for place, queue in enumerate(ordered) if (queue.level, queue.output is None) == (level, is_multicast)]
+        style = {"color": COLOURS[level], "hatch": "//" if is_multicast else None, "edgecolor": "white"}
+        name = f"level {level}, {NAMES['m' if is_multicast else 'u']}"
+        axes.bar(places, [ordered[place].peak for place in places], label=name, **style)
+    dropping = [place for place, queue in enumerate(ordered) if queue.dropped]
+    if dropping:
+        peaks = [ordered[place].peak for place in dropping]
+        axes.plot(dropping, peaks, "x", color="black", label="dropped packets")
+    if len(ordered) <= MOST_NAMED:
+        axes.set_xticks(range(len(ordered)), labels=[queue.name for queue in ordered], rotation=60)
+    axes.yaxis.set_major_locator(MaxNLocator(integer=True))
     axes.legend()
     return figure
 

@@ -2,35 +2,39 @@
 
 from collections import Counter
 
+import numpy
+
 from tiny_tera.packets import COLUMNS, STATES, read_packets
 
-from .arrivals import Arrival
-
-__all__ = ["COLUMNS", "STATES", "arrivals_of_packets", "delay_counts", "packet_delays", "read_packets"]
+__all__ = ["COLUMNS", "STATES", "delay_counts", "forwarded", "offered", "output_queued", "read_packets"]
 
 
-def packet_delays(packets):
-    """For each admitted packet and each of its outputs, its arrival slot and its delay, as `arrivals.delays` has them.
+def offered(packets):
+    """A row for each packet that came to a queue, and was forwarded or dropped there."""
+    came = packets[packets["state"].isin(["forwarded", "dropped"])]
+    return came.drop_duplicates(["input", "packet"])
 
-    A packet departs in the slot after the one that serves its last cell, so its delay here is smaller by one
-    than that of the file.
-    """
+
+def forwarded(packets):
+    """The rows of admitted packets, one for each output, with arrival, departure and delay as plain numbers."""
     left = packets[packets["state"] == "forwarded"]
-    return list(zip(left["arrival"].astype(int), left["delay"].astype(int) - 1))
+    return left.astype({"output": int, "arrival": int, "departure": int, "delay": int})
 
 
 def delay_counts(packets):
-    """For each level how many packets had each delay, at each of their outputs, as `packet_delays` tells it."""
-    left = packets[packets["state"] == "forwarded"]
-    return {int(level): Counter((part["delay"].astype(int) - 1).tolist()) for level, part in left.groupby("level")}
+    """For each level and kind how many packets had each delay, at each of their outputs."""
+    groups = forwarded(packets).groupby(["level", "kind"])
+    return {(int(level), kind): Counter(part["delay"].tolist()) for (level, kind), part in groups}
 
 
-def arrivals_of_packets(packets):
-    """The list of arrivals of a run, in the order of slots."""
-    offered = packets[packets["state"].isin(["forwarded", "dropped"])]
-    found = []
-    for (card, _), rows in offered.groupby(["input", "packet"]):
-        first = rows.iloc[0]
-        outputs = tuple(int(output) for output in rows["output"])
-        found.append(Arrival(int(first["arrival"]), int(card), outputs, int(first["level"]), int(first["cells"])))
-    return sorted(found)
+def output_queued(left):
+    """The departures that admitted packets of one cell have from an ideal switch, whose queues stand at the outputs.
+
+    An output gives out a cell in each slot in which one waits for it, the oldest first, and as in the run the cell
+    departs in the slot after. The rows are those of `forwarded`; the answer has their index.
+    """
+    ordered = left.sort_values("arrival", kind="stable")
+    number = ordered.groupby("output").cumcount()
+    # The n-th cell of an output is given out n - m slots after the m-th came, for the m that makes this latest.
+    latest = (ordered["arrival"] - number).groupby(ordered["output"]).cummax()
+    return (latest + number + 1).astype(numpy.int64)

@@ -4,7 +4,8 @@ from math import ceil
 from statistics import fmean
 from typing import NamedTuple
 
-from .arrivals import delays, output_queued_delays
+from .packets import forwarded, offered
+from .packets import output_queued as ideal_departures
 
 # Of the arrival slots, the parts at the begin and at the end whose packets are not measured: the queues
 # fill up first, and at the end nothing comes behind the last packets.
@@ -26,13 +27,14 @@ class Words(NamedTuple):
 
 
 class Result(NamedTuple):
-    """What a run gave. Loads are cells per input and slot; delays and waits are in slots.
+    """What a run gave. Loads are cells per input and slot; delays, departures less arrivals, and waits are in slots.
 
-    The measured packets are those that came in the middle of the run. `mean_first_half` and
-    `mean_second_half` are over the halves of these slots: they differ where queues still grew.
-    `output_queued` is the mean delay of the same packets in a switch whose queues stand at the outputs
-    (None where packets have several cells), `throughput` the cells per output and slot that crossed in
-    the measured slots, `output_queued_throughput` those that the other switch gave out.
+    The measured packets are the admitted ones that came in the middle of the run; one of multicast counts
+    at each of its outputs. `mean_first_half` and `mean_second_half` are over the halves of these slots:
+    they differ where queues still grew. `output_queued` is the mean delay of the same packets in a switch
+    whose queues stand at the outputs (None where packets have several cells), `throughput` the cells per
+    output and slot that were granted in the measured slots, `output_queued_throughput` those that the other
+    switch gave out.
     """
 
     arrival_slots: int
@@ -60,36 +62,34 @@ class Span(NamedTuple):
     last: float
 
 
-def measured_span(arrivals):
-    """The measured slots of a run with these arrivals."""
-    slots = max((packet.slot for packet in arrivals), default=0) + 1
+def measured_span(slots):
+    """The measured slots of a run whose packets come in so many slots."""
     first, last = slots * LEFT_OUT_FIRST, slots * (1 - LEFT_OUT_LAST)
     return Span(first, (first + last) / 2, last)
 
 
-def measure(report, arrivals, found=None):
-    """The result of a run with this report and these arrivals; ValueError where they do not fit.
-
-    The delays are those that are `found`, as in a packets file, else they are taken from the slot lines.
-    """
+def measure(report, packets):
+    """The result of a run with this report and these packets; ValueError where they do not fit."""
     summary = report.summary
     if report.slots is None:
         raise ValueError("the report has no slot lines")
-    found = found or delays(arrivals, report)
-    span = measured_span(arrivals)
-    early = [delay for came, delay in found if span.first <= came < span.middle]
-    late = [delay for came, delay in found if span.middle <= came < span.last]
+    came, left = offered(packets), forwarded(packets)
+    if (len(came), len(left)) != (summary["forwarded"] + summary["dropped"], summary["copies"]):
+        raise ValueError("the packets file is of another run")
+    arrival_slots = int(came["arrival"].max()) + 1 if len(came) else 0
+    span = measured_span(arrival_slots)
+    early = left["delay"][left["arrival"].between(span.first, span.middle, inclusive="left")].tolist()
+    late = left["delay"][left["arrival"].between(span.middle, span.last, inclusive="left")].tolist()
     if not (early and late):
         raise ValueError("no packet came in the measured slots")
     measured = sorted(early + late)
-    ideal_delay, ideal_throughput = output_queued(report, arrivals, span)
-    arrival_slots = arrivals[-1].slot + 1
+    ideal_delay, ideal_throughput = output_queued(report, left, span)
     return Result(
         arrival_slots=arrival_slots,
         slots=summary["slots"],
         cells=summary["cells"],
         dropped=summary["dropped"],
-        came_load=round(sum(packet.cells for packet in arrivals) / (summary["ports"] * arrival_slots), PLACES),
+        came_load=round(int(came["cells"].sum()) / (summary["ports"] * arrival_slots), PLACES),
         measured=len(measured),
         mean_delay=round(fmean(measured), PLACES),
         mean_first_half=round(fmean(early), PLACES),
@@ -103,21 +103,30 @@ def measure(report, arrivals, found=None):
     )
 
 
-def output_queued(report, arrivals, span):
-    """The mean delay of the measured packets in the ideal switch, and its throughput; None twice where they are unknown.
-
-    That is where packets are dropped, which the ideal switch then does not get, or have several cells or outputs.
-    """
-    if report.summary["dropped"] or any(packet.cells > 1 or len(packet.outputs) > 1 for packet in arrivals):
+def output_queued(report, left, span):
+    """The mean delay of the measured packets in the ideal switch, and its throughput; None twice where packets have
+    several cells. ValueError where the reference lines of the run do not tell the same of the ideal switch."""
+    if (left["cells"] > 1).any():
         return None, None
-    ideal = output_queued_delays(arrivals)
-    mean = fmean(delay for came, delay in ideal if span.first <= came < span.last)
-    left = sum(span.first <= came + delay < span.last for came, delay in ideal)
+    departures = ideal_departures(left)
+    check_reference(report, left, departures)
+    measured = left["arrival"].between(span.first, span.last, inclusive="left")
+    mean = (departures - left["arrival"])[measured].mean()
+    given = (departures - 1).between(span.first, span.last, inclusive="left").sum()
     slots = ceil(span.last) - ceil(span.first)
-    return round(mean, PLACES), round(left / slots / report.summary["ports"], PLACES)
+    return round(float(mean), PLACES), round(int(given) / slots / report.summary["ports"], PLACES)
+
+
+def check_reference(report, left, departures):
+    """Whether the ideal switch ends at each output, and is ahead in the sum, as the reference lines say."""
+    for output, told in enumerate(report.reference or ()):
+        here = left["output"] == output
+        ends, behind = departures[here].max() if here.any() else 0, (left["departure"] - departures)[here].sum()
+        if (ends, behind) != (told.ends, told.extra):
+            raise ValueError(f"output {output} of the ideal switch gives out these packets at other times")
 
 
 def throughput(report, span):
-    """The cells per output and slot that crossed in the measured slots."""
-    crossed = [len(slot.pairs) for number, slot in enumerate(report.slots) if span.first <= number < span.last]
-    return round(fmean(crossed) / report.summary["ports"], PLACES)
+    """The cells per output and slot that were granted in the measured slots."""
+    granted = [len(slot.pairs) for number, slot in enumerate(report.slots) if span.first <= number < span.last]
+    return round(fmean(granted) / report.summary["ports"], PLACES)

@@ -67,11 +67,12 @@ def seeds_needed(values):
 def formula(kind, ports, load):
     """The mean delay of the output-queued switch in equilibrium, NaN where the formula does not hold.
 
-    It is (N-1)/N * p / (2(1-p)) for independent arrivals to any output with the same probability.
+    The formula, (N-1)/N * p / (2(1-p)) for independent arrivals to any output with the same probability, has the
+    slots before the one in which a cell is given out, and a delay counts that slot too.
     """
     if kind != "uniform" or load >= 1:
         return numpy.nan
-    return (ports - 1) / ports * load / (2 * (1 - load))
+    return (ports - 1) / ports * load / (2 * (1 - load)) + 1
 
 
 def points(runs):

@@ -53,9 +53,8 @@ def write_trace(folder, names, load, ports, slots, seed):
             records[routes[frame.source]].append((slot * traffic.PACE_US, frame.data))
     files = [traffic.capture_bytes(link, packets) for packets in records]
     table = table_text(sorted({frame.destination for frame in frames}), routes)
-    arrivals = captures.arrivals_of(table, files, traffic.PACE_US)
-    check_size(arrivals, ports)
-    traffic.write_folder(folder, files, table, arrivals)
+    check_size(captures.arrivals_of(table, files, traffic.PACE_US), ports)
+    traffic.write_folder(folder, files, table)
 
 
 def ports_of(frames, ports, seed):

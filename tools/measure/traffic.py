@@ -19,7 +19,7 @@ from functools import lru_cache
 from itertools import accumulate
 from pathlib import Path
 
-from .arrivals import Arrival, write_arrivals
+from .captures import Arrival
 
 KINDS = ("uniform", "bursty", "diagonal", "log-diagonal", "hot-spot")
 PACE_US = 1  # Microseconds of a slot: the time stamps count slots.
@@ -122,23 +122,21 @@ def _bursty(numbers, load, burst, ports):
 
 
 def write_traffic(folder, arrivals, ports):
-    """Writes a folder: the captures 00.pcap and so on of the ports, table.txt and arrivals.csv."""
+    """Writes a folder: the captures 00.pcap and so on of the ports, and table.txt."""
     by_input = [[] for _ in range(ports)]
     for packet in arrivals:
         by_input[packet.input].append(packet)
     table = "".join(f"10.0.{output}.0/24 {output}\n" for output in range(ports))
-    write_folder(folder, [_capture(packets) for packets in by_input], table, arrivals)
+    write_folder(folder, [_capture(packets) for packets in by_input], table)
 
 
-def write_folder(folder, captures, table, arrivals):
-    """Writes captures, in the order of ports, a table and a list of arrivals to a folder, which is made."""
+def write_folder(folder, captures, table):
+    """Writes captures, in the order of ports, and a table to a folder, which is made."""
     folder = Path(folder)
     folder.mkdir(parents=True, exist_ok=True)
     for name, data in zip(capture_names(len(captures)), captures):
         (folder / name).write_bytes(data)
     (folder / "table.txt").write_text(table)
-    with open(folder / "arrivals.csv", "w", newline="") as file:
-        write_arrivals(file, arrivals)
 
 
 def capture_names(ports):

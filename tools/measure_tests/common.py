@@ -45,7 +45,19 @@ JOURNAL = bytes.fromhex(
     "000000040000ff000001000110010000000000000006010100000000000000040000ff000001010010010000"
     "00000000000400000000ff00ff000001000000000000ff00ff00ff00"
 )
-ARRIVALS = "slot,input,outputs,level,cells\n1,1,2,0,2\n2,0,1 2,0,3\n2,1,0,0,1\n"
+QUEUES = """\
+queue 0>*:0m packets 1 dropped 0 cells 3 peak 3 slot 2
+queue 1>0:0u packets 1 dropped 0 cells 1 peak 1 slot 2
+queue 1>2:0u packets 1 dropped 0 cells 2 peak 2 slot 1
+deepest 3
+"""
+PACKETS = """\
+input,packet,bytes,cells,state,level,kind,output,arrival,departure,delay
+0,0,150,3,forwarded,0,m,1,2,5,3
+0,0,150,3,forwarded,0,m,2,2,6,4
+1,0,60,2,forwarded,0,u,2,1,5,4
+1,1,20,1,forwarded,0,u,0,2,3,1
+"""
 
 
 def lacks(*modules):

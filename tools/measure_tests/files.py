@@ -4,10 +4,11 @@ import io
 import json
 import unittest
 from collections import Counter
+from pathlib import Path
 
-from measure import arrivals, journal, report, results, waits
+from measure import journal, report, waits
 
-from .common import ARRIVALS, DATA, JOURNAL, REPORT, TOOLS, lacks, run
+from .common import DATA, JOURNAL, PACKETS, REPORT, TOOLS, lacks, run
 
 # Journals of one slot, and the offset of the first field that is wrong or cut.
 BAD_JOURNALS = [
@@ -21,10 +22,7 @@ BAD_JOURNALS = [
     ("54544a31020400000000000100000000ff000008", 19),
 ]
 
-# Two inputs take turns at output 0: the slots that serve them, and the delay of each packet by its slot.
-TURNS = [(0, 2), (1, 3), (0, 4), (1, 5), (0, 6), (1, 7), (0, 8), (0, 9)]
-TURNS_ARRIVALS = [(2, 0, 3), (2, 1, 3), (4, 0, 2)]
-TURNS_DELAYS = [(2, 4), (2, 5), (4, 5)]
+JOBS = TOOLS.parent / "tests/jobs"
 
 
 class Files(unittest.TestCase):
@@ -84,89 +82,111 @@ class Files(unittest.TestCase):
         for wrong in (told.replace("deepest 8\n", ""), told.replace("deepest 8", "deepest 7"), told.replace(">*:3m", ">*:3u")):
             self.assertRaises(report.BadReport, report.read_report, wrong)
 
+
+def packets_of(text):
+    """The packets of a file with this text."""
+    from measure import packets
+
+    return packets.read_packets(io.StringIO(text))
+
+
+def packets_of_job(name):
+    """The packets and the report that a job of tests/jobs writes."""
+    folder = JOBS / name / "expected"
+    return packets_of((folder / "out.packets.csv").read_text()), report.read_report((folder / "out.report").read_text())
+
+
+@unittest.skipIf(lacks("pandas"), lacks("pandas"))
+class Packets(unittest.TestCase):
     def test_cells_waiting(self):
-        told = report.read_report(REPORT)
-        came = arrivals.read_arrivals(io.StringIO(ARRIVALS))
-        expected = [0, 1, 3, 2, 1, 0, 0]
-        self.assertEqual(arrivals.cells_waiting(came, told), expected)
-        self.assertEqual(arrivals.cells_waiting(came, told, journal.read_journal(JOURNAL)), expected)
+        from measure.waiting import cells_waiting
 
-    def test_arrivals_of_another_run(self):
-        """Packets that come earlier or later, or elsewhere, or not, are refused, each by what the report tells."""
+        self.assertEqual(cells_waiting(packets_of(PACKETS), report.read_report(REPORT)), [0, 1, 3, 2, 1, 0, 0])
+        found, told = packets_of_job("packets_of_one_flow_with_other_fan_outs")
+        self.assertEqual(cells_waiting(found, told)[-1], 0)
+
+    def test_packets_of_another_run(self):
+        """Packets that come earlier or later, depart elsewhere or in other slots, or are missing, are refused."""
+        from measure.waiting import Misfit, cells_waiting
+
         told = report.read_report(REPORT)
-        bare = told._replace(reference=None)
-        first, second, third = arrivals.read_arrivals(io.StringIO(ARRIVALS))
+        one, two = "1,0,60,2,forwarded,0,u,2,1,5,4\n", "1,1,20,1,forwarded,0,u,0,2,3,1\n"
         wrong = {
-            "earlier": [first._replace(slot=0), second, third],
-            "later": [first, second, third._replace(slot=3)],
-            "elsewhere": [first, second, third._replace(outputs=(1,))],
-            "missing": [first, second],
-            "too many": [first, second, third, third._replace(slot=5)],
-            "too late": [first, second, third, third._replace(slot=9)],
+            "later": two.replace("0,2,3,1", "0,3,4,1"),
+            "elsewhere": two.replace("u,0", "u,1"),
+            "other departure": two.replace("3,1\n", "4,2\n"),
+            "missing": "",
+            "too many": two + two.replace("1,1,20", "1,2,20"),
+            "too late": two + "1,2,20,1,forwarded,0,u,0,9,10,1\n",
         }
-        for name, came in wrong.items():
+        for name, rows in wrong.items():
             with self.subTest(name):
-                self.assertRaises(arrivals.Misfit, arrivals.cells_waiting, came, bare)
-        # The second packet of this input comes a slot earlier, behind the first: the longest wait shows it, and the ideal switch.
-        slots = [pairs_slot(0, 0), pairs_slot(0, 0), pairs_slot(0, 1), report.Slot(0, 0, [])]
-        summary = {"depth": 9, "rounds": 1, "forwarded": 2, "dropped": 0}
-        ends = [report.Reference(2, 2, 0, 0), report.Reference(3, 3, 0, 0)]
-        one = arrivals.Arrival(0, 0, (0,), 0, 2)
-        other = arrivals.Arrival(2, 0, (1,), 0, 1)
-        fits = told._replace(summary=summary, longest=(0,) * 4, slots=slots, reference=ends)
-        self.assertEqual(arrivals.cells_waiting([one, other], fits), [1, 0, 0, 0])
-        moved = [one, other._replace(slot=1)]
-        bare = fits._replace(reference=None, longest=(1, 0, 0, 0))
-        self.assertEqual(arrivals.cells_waiting(moved, bare), [1, 1, 0, 0])
-        for wrong in (fits._replace(reference=None), bare._replace(reference=ends)):
-            self.assertRaises(arrivals.Misfit, arrivals.cells_waiting, moved, wrong)
-
-    def test_delays(self):
-        served = {slot: card for card, slot in TURNS}
-        slots = [pairs_slot(served[slot], 0) if slot in served else report.Slot(0, 0, []) for slot in range(11)]
-        summary = {"depth": 9, "rounds": 1, "forwarded": 3, "dropped": 0}
-        told = report.Report(summary, (0,) * 4, [], slots, None)
-        came = [arrivals.Arrival(slot, card, (0,), 0, cells) for slot, card, cells in TURNS_ARRIVALS]
-        self.assertEqual(arrivals.delays(came, told), TURNS_DELAYS)
-        self.assertRaises(arrivals.Misfit, arrivals.delays, came[:2], told)
-        self.assertRaises(arrivals.Misfit, arrivals.delays, came, told._replace(slots=slots[:9]))
+                self.assertRaises(Misfit, cells_waiting, packets_of(PACKETS.replace(two, rows)), told)
+        self.assertRaises(Misfit, cells_waiting, packets_of(PACKETS.replace(one, one.replace("60,2", "60,1"))), told)
 
     def test_output_queued(self):
-        """Three packets for output 0 in one slot leave in three; the one that comes then waits for the last of them."""
-        came = [arrivals.Arrival(slot, card, (output,), 0, 1) for slot, card, output in ((0, 0, 0), (0, 1, 0), (0, 2, 0), (1, 0, 0), (1, 1, 1))]
-        self.assertEqual(arrivals.output_queued_delays(came), [(0, 0), (0, 1), (0, 2), (1, 2), (1, 0)])
-        told = report.Report({"ports": 3, "dropped": 0}, (0,) * 4, [], [], None)
-        # Of slots 1 to 3 all packets come in slot 1, with delays 2 and 0; four cells leave, of nine that three outputs can give out.
-        self.assertEqual(results.output_queued(told, came, results.Span(0.5, 2, 3.5)), (1.0, round(4 / 9, 4)))
-        self.assertEqual(results.output_queued(told, [came[0]._replace(cells=2)], results.Span(0, 1, 2)), (None, None))
+        """Three packets for output 0 in one slot depart in three; the one that comes then waits for the last of them."""
+        from measure import packets, results
 
-    @unittest.skipIf(lacks("pandas"), lacks("pandas"))
-    def test_packets_file(self):
-        """The packets file and the slot lines of a run tell the same arrivals and delays, dropped packets and multicast too."""
-        from measure import packets
+        came = [(0, 0, 0, 1), (1, 0, 0, 2), (2, 0, 0, 4), (0, 1, 0, 3), (1, 1, 1, 2)]  # Input, arrival, output, departure.
+        rows = [f"{card},{slot},20,1,forwarded,0,u,{output},{slot},{left},{left - slot}\n" for card, slot, output, left in came]
+        left = packets.forwarded(packets_of(PACKETS.split("\n")[0] + "\n" + "".join(rows)))
+        self.assertEqual(sorted(packets.output_queued(left)[left["output"] == 0]), [1, 2, 3, 4])
+        self.assertEqual(packets.output_queued(left)[[3, 4]].tolist(), [4, 2])
+        told = report.Report({"ports": 3}, (0,) * 4, [], [], None)
+        # Of slots 1 to 3 all packets come in slot 1, with delays 3 and 1; four cells leave, of nine that three outputs can give out.
+        span = results.Span(0.5, 2, 3.5)
+        self.assertEqual(results.output_queued(told, left, span), (2.0, round(4 / 9, 4)))
+        self.assertEqual(results.output_queued(told, left.assign(cells=2), span), (None, None))
+        # The run departs in slots 1 to 4 too, so it adds no delay.
+        lines = [report.Reference(4, 4, 1, 0), report.Reference(2, 2, 0, 0), report.Reference(0, 0, 0, 0)]
+        self.assertEqual(results.output_queued(told._replace(reference=lines), left, span)[0], 2.0)
+        for wrong in (lines[0]._replace(extra=1), lines[0]._replace(ends=5)):
+            self.assertRaises(ValueError, results.output_queued, told._replace(reference=[wrong, *lines[1:]]), left, span)
 
-        found = packets.read_packets(DATA / "all_flags_islip.packets.csv")
-        told = report.read_report((DATA / "all_flags_islip.report").read_text())
-        came = packets.arrivals_of_packets(found)
-        self.assertEqual((len(came), sum(packet.cells for packet in came)), (17, 38))
-        self.assertEqual(sorted(arrivals.delays(came, told)), sorted(packets.packet_delays(found)))
-        self.assertEqual(results.measure(told, came), results.measure(told, came, packets.packet_delays(found)))
-        with_posts = journal.read_journal((DATA / "all_flags_islip.journal").read_bytes())
-        self.assertEqual(arrivals.cells_waiting(came, told, with_posts)[:3], [0, 2, 4])
+    def test_delays(self):
+        """Delays of all levels and kinds: multicast counts at each output, and dropped packets have none."""
+        from measure.packets import delay_counts
+
+        self.assertEqual(delay_counts(packets_of(PACKETS)), {(0, "m"): Counter([3, 4]), (0, "u"): Counter([1, 4])})
+        states, _ = packets_of_job("packets_of_all_states")
+        self.assertEqual(delay_counts(states), {(0, "m"): Counter({2: 6}), (0, "u"): Counter({1: 1})})
+        overtaken, _ = packets_of_job("packets_levels_overtake")
+        self.assertEqual(delay_counts(overtaken), {(0, "u"): Counter([1]), (2, "u"): Counter([6, 7])})
+
+    def test_result_of_a_run(self):
+        """Of 17 packets one is dropped; those that come in slots 4 to 14 are measured. The file of another run is refused."""
         words = ["--kind", "trace", "--load", "0.5", "--seed", "1"]
         status, result = run(TOOLS / "delays", DATA / "all_flags_islip.report", DATA / "all_flags_islip.packets.csv", *words)
-        self.assertEqual((status, json.loads(result)["dropped"]), (0, 1), result)
-        states = packets.read_packets(DATA / "packets_of_all_states.packets.csv")
-        self.assertEqual(packets.packet_delays(states), [(1177, 0), (2, 1), (2, 1), (2, 1), (3, 1), (3, 1), (3, 1)])
-        self.assertEqual(packets.delay_counts(states), {0: Counter({1: 6, 0: 1})})
+        self.assertEqual(status, 0, result)
+        found = json.loads(result)
+        self.assertEqual((found["dropped"], found["came_load"], found["output_queued"]), (1, round(38 / (3 * 16), 4), None))
+        self.assertEqual((found["measured"], found["mean_delay"], found["longest_delay"]), (13, round(102 / 13, 4), 19))
+        status, told = run(TOOLS / "delays", DATA / "all_flags_islip.report", DATA / "packets_of_all_states.packets.csv", *words)
+        self.assertEqual((status, told.count("\n")), (1, 1))
+        self.assertIn("the packets file is of another run", told)
+
+    def test_files_of_jobs(self):
+        """The packets files of all jobs are read, and their packets are those of the reports and the queue lines."""
+        names = sorted(path.parents[1].name for path in Path(JOBS).glob("*/expected/out.packets.csv"))
+        self.assertGreater(len(names), 9)
+        for name in names:
+            with self.subTest(name):
+                found, told = packets_of_job(name)
+                states = found.drop_duplicates(["input", "packet"])["state"].value_counts()
+                for state in ("oversize", "unrouted", "dropped", "forwarded"):
+                    self.assertEqual(states.get(state, 0), told.summary[state])
+                self.assertEqual((found["state"] == "forwarded").sum(), told.summary["copies"])
+                for queue in told.queues or ():
+                    place = (found["input"] == queue.input) & (found["level"] == queue.level)
+                    place &= found["kind"] == "m" if queue.output is None else (found["kind"] == "u") & (found["output"] == queue.output)
+                    there = found[place].drop_duplicates("packet")
+                    self.assertEqual((len(there), (there["state"] == "dropped").sum()), (queue.packets, queue.dropped))
+
+    def test_wrong_files(self):
         wrong = (DATA / "packets_of_all_states.packets.csv").read_text()
         for old, new in ((",delay", ""), ("unrouted", "lost"), ("1178,1", "1178,2"), ("1177", "soon")):
-            self.assertRaises(ValueError, packets.read_packets, io.StringIO(wrong.replace(old, new)))
-
-
-def pairs_slot(card, output):
-    """A slot in which this input alone feeds this output."""
-    return report.Slot(1, 1, [report.Pair(card, output, 0, False)])
+            self.assertRaises(ValueError, packets_of, wrong.replace(old, new))
 
 
 def pairs_of(slot):

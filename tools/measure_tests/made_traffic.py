@@ -5,7 +5,7 @@ import unittest
 from collections import Counter
 from pathlib import Path
 
-from measure import arrivals, captures, trace, traffic
+from measure import captures, trace, traffic
 
 from .common import TOOLS, run
 
@@ -68,8 +68,8 @@ class Traffic(unittest.TestCase):
                 self.assertEqual(found, link)
                 for packet in packets:
                     self.assertEqual(ports[captures.addresses(link, packet.frame)[0]], card)
-            with open(folder / "arrivals.csv", newline="") as file:
-                listed = arrivals.read_arrivals(file)
+            files = [path.read_bytes() for path in sorted(folder.glob("*.pcap"))]
+            listed = captures.arrivals_of((folder / "table.txt").read_text(), files, traffic.PACE_US)
             self.assertEqual(len(listed), len(frames))
             self.assertEqual(sum(packet.cells for packet in listed), sum(captures.cells_of(frame.data) for frame in frames))
 

@@ -136,7 +136,7 @@ class Sweeps(unittest.TestCase):
         self.assertEqual((checked.returncode, checked.stdout.splitlines()[:2]), (0, ["yes", f"slots {slots}"]))
         status, told = run(TOOLS / "plot", report_file)
         self.assertEqual(status, 0, told)
-        for figure in ("waits", "waiting", "reference"):
+        for figure in ("delays", "waits", "waiting", "reference"):
             self.assertTrue(report_file.with_suffix(f".{figure}.png").exists(), told)
 
     def test_interrupt_ends_in_one_line(self):

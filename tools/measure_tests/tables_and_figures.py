@@ -9,7 +9,7 @@ from pathlib import Path
 from measure import words
 from measure.provenance import Provenance, read_lines
 
-from .common import ARRIVALS, DATA, JOURNAL, REPORT, TOOLS, lacks, run
+from .common import DATA, JOURNAL, PACKETS, QUEUES, REPORT, TOOLS, lacks, run
 
 TOLD = Provenance(("abc",), ("tools/sweep --small",), ("seeds 1-3",))
 
@@ -68,11 +68,11 @@ class Tables(unittest.TestCase):
         self.assertEqual(point["seeds_for_5_percent"], "")
 
     def test_formula(self):
-        """(N-1)/N * p / (2(1-p)) for uniform traffic below full load, and no value elsewhere."""
+        """One more than (N-1)/N * p / (2(1-p)) for uniform traffic below full load, and no value elsewhere."""
         from measure.tables import formula
 
-        self.assertAlmostEqual(formula("uniform", 16, 0.5), 0.46875)
-        self.assertAlmostEqual(formula("uniform", 16, 0.9), 4.21875)
+        self.assertAlmostEqual(formula("uniform", 16, 0.5), 1.46875)
+        self.assertAlmostEqual(formula("uniform", 16, 0.9), 5.21875)
         for kind, load in (("bursty", 0.5), ("diagonal", 0.5), ("uniform", 1.0)):
             self.assertTrue(math.isnan(formula(kind, 16, load)))
 
@@ -96,34 +96,48 @@ class Figures(unittest.TestCase):
             folder = Path(name)
             reports = [folder / "one.report", folder / "two.report"]
             for report_file in reports:
-                report_file.write_text(REPORT)
+                report_file.write_text(REPORT.replace("slot 0 used", QUEUES + "slot 0 used"))
                 report_file.with_suffix(".journal").write_bytes(JOURNAL)
-            (folder / "arrivals.csv").write_text(ARRIVALS)
-            names = ["one.waits", "one.waiting", "one.matched", "one.reference"]
+            (folder / "one.packets.csv").write_text(PACKETS)
+            names = ["one.delays", "one.queues", "one.waits", "one.waiting", "one.matched", "one.reference"]
             self.check_drawn(names, folder, reports[:1])
             self.check_drawn(["load"], folder, reports)
             drawn = (folder / "figures/one.waiting.svg").read_text()
             self.assertTrue("/one.report" in drawn and "SHA-256" in drawn)
 
     def test_figures_with_a_packets_file(self):
-        """Delays are drawn, and the waiting cells without a list of arrivals, since the file has them."""
+        """Delays are drawn, and the waiting cells; of queue lines the peaks of the queues, multicast among them."""
         with tempfile.TemporaryDirectory() as name:
             for suffix in ("report", "journal", "packets.csv"):
                 Path(name, f"out.{suffix}").write_bytes((DATA / f"all_flags_islip.{suffix}").read_bytes())
-            names = [f"out.{figure}" for figure in ("waits", "waiting", "matched", "reference", "delays")]
+            names = [f"out.{figure}" for figure in ("waits", "waiting", "matched", "reference", "delays", "queues")]
             self.check_drawn(names, Path(name), [Path(name, "out.report")])
+            drawn = Path(name, "figures/out.queues.svg").read_text()
+            for text in ("level 0, unicast", "level 3, multicast", "dropped packets", "1&gt;1:0u", "2&gt;*:3m"):
+                self.assertIn(text, drawn)
 
-    def test_arrivals_of_another_pace_are_refused(self):
-        """The list of a run at one pace is not drawn with the report of a run at another."""
+    def test_queues_without_packets(self):
+        """A report with queue lines alone: the peaks are drawn, of more queues than have names, and of none at all nothing."""
+        with tempfile.TemporaryDirectory() as name:
+            report_file = Path(name, "one.report")
+            bare = REPORT[:REPORT.index("slot 0")]
+            queues = "".join(f"queue 0>{output}:{level}u packets 1 dropped 0 cells 1 peak 1 slot 0\n" for output in range(9) for level in range(4))
+            report_file.write_text(f"{bare}{queues}deepest 1\n")
+            status, told = run(TOOLS / "plot", report_file)
+            self.assertEqual((status, sorted(path.name for path in Path(name).glob("*.png"))), (0, ["one.queues.png"]), told)
+            report_file.write_text(f"{bare}deepest 0\n")
+            status, told = run(TOOLS / "plot", "--to", Path(name, "none"), report_file)
+            self.assertEqual((status, Path(name, "none").exists()), (0, False))
+
+    def test_packets_of_another_run_are_refused(self):
+        """The packets file of a run at one pace is not drawn with the report of a run at another."""
         with tempfile.TemporaryDirectory() as name:
             report_file = Path(name, "one.report")
             report_file.write_text(REPORT)
-            header, *lines = ARRIVALS.splitlines()
-            later = [",".join([str(2 * int(line.split(",")[0])), *line.split(",")[1:]]) for line in lines]
-            Path(name, "arrivals.csv").write_text("\n".join([header, *later, ""]))
+            Path(name, "one.packets.csv").write_text(PACKETS.replace(",2,3,1\n", ",1,2,1\n"))
             status, told = run(TOOLS / "plot", report_file)
             self.assertEqual((status, told.count("\n"), list(Path(name).glob("*.png"))), (1, 1, []))
-            self.assertIn("not the arrivals of", told)
+            self.assertIn("one.packets.csv: not the packets of", told)
 
     def test_faults_are_told(self):
         with tempfile.TemporaryDirectory() as name:
