@@ -62,6 +62,12 @@ def report(summary_text, *outputs):
 
 SUMMARY = summary()
 REPORT = report(SUMMARY, (0, 0), (1, 2))
+# What --queues adds to the report, and the packets file: the last cell is granted in slot 2 and crosses in slot 3.
+QUEUES = b"queue 0>1:0u packets 1 dropped 0 cells 2 peak 2 slot 1\ndeepest 2\n"
+PACKETS = (
+    b"input,packet,bytes,cells,state,level,kind,output,arrival,departure,delay\n"
+    b"0,0,60,2,forwarded,0,u,1,1,3,2\n"
+)
 
 
 def outputs(prefix="out"):

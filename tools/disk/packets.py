@@ -1,10 +1,108 @@
-"""`run --packets`: a packets file that would be too long."""
+"""`run --packets` and `--queues`: a packets file that cannot be begun or written, or would be too long."""
 
 from .cases import case
-from .files import MAX_RECORDS, RAW_IP, header, record
-from .running import expect, expect_state
+from .failing_outputs import FULL, mounted, write_fault
+from .failing_streams import OUT, OUT_FAULT, closing
+from .files import (
+    INPUTS, JOURNAL, MAX_RECORDS, PACKETS, QUEUES, RAW_IP, REPORT, SUMMARY, WORDS, header, outputs, packet, record,
+)
+from .running import expect, expect_part, expect_state
 
 FLAG = "--packets"
+FLAGS = ("--journal", FLAG)
+
+
+def before_it(prefix="out"):
+    """The files that the job writes before the packets file, by name."""
+    return {**outputs(prefix), f"{prefix}.journal": JOURNAL}
+
+
+def written(prefix="out"):
+    """All files that the job writes, by name."""
+    return {**before_it(prefix), f"{prefix}.packets.csv": PACKETS}
+
+
+@case("a packets file, and the lines of queues")
+def packets_and_queues(place):
+    before = place.state()
+    expect(place.run_job(*FLAGS, "--queues", *WORDS), 0, out=SUMMARY)
+    expect_state(place, before, {**written(), "out.report": REPORT + QUEUES})
+
+
+@case("a packets file that is there and longer")
+def packets_are_replaced(place):
+    place.write("out.packets.csv", bytes(1_000))
+    before = place.state()
+    expect(place.run_job(*FLAGS, *WORDS), 0, out=SUMMARY)
+    expect_state(place, before, written())
+
+
+@case("a run without --packets beside a file of that name", {**INPUTS, "out.packets.csv": b"kept"})
+def packets_are_kept(place):
+    before = place.state()
+    expect(place.run_job("--queues", *WORDS), 0, out=SUMMARY)
+    expect_state(place, before, {**outputs(), "out.report": REPORT + QUEUES})
+
+
+@case("a packets file that is a folder")
+def packets_are_folder(place):
+    place.make_folder("out.packets.csv")
+    before = place.state()
+    expect(place.run_job(*FLAGS, *WORDS), 6, write_fault("out.packets.csv"))
+    expect_state(place, before, before_it())
+
+
+@case("a packets file that is there without write permission")
+def packets_without_permission(place):
+    place.write("out.packets.csv", b"kept", 0o444)
+    before = place.state()
+    expect(place.run_job(*FLAGS, *WORDS), 6, write_fault("out.packets.csv"))
+    expect_state(place, before, before_it())
+
+
+@case("a full disk as the packets file")
+def packets_full(place):
+    place.link("out.packets.csv", FULL)
+    before = place.state()
+    expect(place.run_job(*FLAGS, *WORDS), 6, write_fault("out.packets.csv"))
+    expect_state(place, before, before_it())
+
+
+@case("a journal that is a folder, and a packets file behind it")
+def journal_is_folder(place):
+    place.make_folder("out.journal")
+    before = place.state()
+    expect(place.run_job(*FLAGS, *WORDS), 6, write_fault("out.journal"))
+    expect_state(place, before, outputs())
+
+
+# As many packets as make a packets file that is longer than all other outputs: none of them has a route.
+UNROUTED = header(RAW_IP) + record(packet(20, (10, 0, 9, 1))) * 2_000
+
+
+@case("a disk that becomes full within the packets file", {**INPUTS, "a": UNROUTED, "b": header(RAW_IP)})
+def disk_becomes_full(place):
+    whole = place.run_job(FLAG, "table", "out", "a", "b")
+    expect(whole, 0, out=whole.out)
+    unmount = mounted(place, "small", "size=32k")
+    try:
+        before = place.state()
+        expect(place.run_job(FLAG, "table", "small/out", "a", "b"), 6, write_fault("small/out.packets.csv"))
+        names = [name.removeprefix("out.") for name in before if name.startswith("out.")]
+        changed = {f"small/out.{name}": before[f"out.{name}"] for name in names}
+        changed["small/out.packets.csv"] = expect_part(place, "small/out.packets.csv", before["out.packets.csv"])
+        expect_state(place, before, changed)
+    finally:
+        unmount()
+
+
+@case("a closed standard output of a run with a packets file")
+def out_closed(place):
+    before = place.state()
+    expect(place.run_job(*FLAGS, *WORDS, before=closing(OUT)), 6, OUT_FAULT)
+    expect_state(place, before, written())
+
+
 # Packets without bytes have no route, and one row each.
 LONG_PORTS = 32
 LONG_INPUT = header(RAW_IP) + record(b"") * MAX_RECORDS

@@ -14,7 +14,7 @@ MULTICAST = {
     "b": header(RAW_IP) + record(packet(60, (10, 0, 2, 1))) + record(packet(20, (10, 0, 0, 1))),
     "c": header(RAW_IP),
 }
-FLAGS = ("--slots", "--journal", "--reference")
+FLAGS = ("--slots", "--journal", "--reference", "--queues", "--packets")
 
 ADDRESSES, TAG = FRAME[:12], bytes.fromhex("81000005")
 
