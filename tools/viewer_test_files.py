@@ -15,6 +15,7 @@ ROOT = pathlib.Path(__file__).resolve().parent.parent
 PROGRAM = pathlib.Path(os.environ.get("TINY_TERA", ROOT / "crates/tiny_tera/out/tiny_tera"))
 # The most processor time that one drawing of a slot of 64 ports may take, in milliseconds.
 MOST_DRAWING_MS = 250
+MOST_LINES = 100  # Of a table of the page.
 
 
 def test_faults(viewer):
@@ -149,7 +150,7 @@ def test_program(viewer):
     with tempfile.TemporaryDirectory() as folder:
         for name, data in job_files().items():
             pathlib.Path(folder, name).write_bytes(data)
-        words = [PROGRAM, "run", "--slots", "--journal", "--reference", *WORDS]
+        words = [PROGRAM, "run", "--slots", "--journal", "--reference", "--queues", "--packets", *WORDS]
         printed = subprocess.run(words, cwd=folder, check=True, stdout=subprocess.PIPE, text=True).stdout
         report = pathlib.Path(folder, "out.report")
         viewer.load()
@@ -158,8 +159,14 @@ def test_program(viewer):
         expect(viewer.run(SLOT_LINES) == lines, "the slots are not those of the lines")
         reference = [line.split()[1::2] for line in report.read_text().splitlines() if line.startswith("reference ")]
         expect(viewer.table("Output-queued reference") == reference, f"{viewer.table('Output-queued reference')}")
+        queues = sum(line.startswith("queue ") for line in report.read_text().splitlines())
+        shown = len(viewer.table("Queues"))
+        expect(0 < shown == min(queues, MOST_LINES), f"{queues} lines of queues, and {shown} in the table")
+        deepest = viewer.run("return SlotViewer.page.first.run.deepest")
         viewer.load()
-        viewer.open(pathlib.Path(folder, "out.journal"))
+        viewer.open(pathlib.Path(folder, "out.journal"), pathlib.Path(folder, "out.packets.csv"))
+        found = viewer.run("return SlotViewer.page.first.queues.deepest")
+        expect(found == deepest, f"the deepest queue holds {deepest} cells by the report, {found} by the packets file")
     expect("The journal is lawful" in viewer.text("summary"), viewer.text("summary"))
     longest = printed.splitlines()[-1].split()[1:]
     rows = [[f"longest wait of level {level}", wait] for level, wait in enumerate(longest)]

@@ -176,6 +176,16 @@ def test_queues(viewer):
     return f"{count} queues"
 
 
+def test_reports_of_jobs(viewer):
+    """Reports of tests/jobs with lines of queues, by which one of them tells the deepest."""
+    texts = [path.read_text() for path in sorted((files.ROOT / "tests/jobs").glob("*/expected/out.report"))]
+    deepest = [re.search(r"^deepest (\d+)$", text, re.MULTILINE) for text in texts]
+    expect(any(deepest), "no job has lines of queues")
+    found = viewer.run(READ_REPORTS, texts)
+    expect(found == [it and int(it[1]) for it in deepest], f"{found}")
+    return f"{sum(map(bool, deepest))} of {len(texts)} reports with queues"
+
+
 # What each text of a report tells of the deepest queue, or why it is none.
 READ_REPORTS = """
 const finish = (generator) => { let step; do { step = generator.next(); } while (!step.done); return step.value; };
