@@ -119,6 +119,8 @@ def _on_journal(job, at):
         return f"{name} is a capture; check reads a journal, as run --journal writes it"
     if begin.startswith(b"ports "):
         return f"{name} is a report; check reads a journal, as run --journal writes it"
+    if begin.startswith(b"input,packet,"):
+        return f"{name} is a packets file; check reads a journal, as run --journal writes it"
     if not begin:
         return f"{name} is empty" if os.path.isfile(name) else None
     if begin.startswith(b"TTJ1") and int(at) == os.path.getsize(name):

@@ -252,6 +252,7 @@ class Hints(Scene):
             (journal[:-1], 19, "j ends at byte 19, before its last slot does"),
             (capture(), 0, f"j is a capture; {other}"),
             (b"ports 2\nrounds 4\n", 0, f"j is a report; {other}"),
+            (b"input,packet,bytes,cells,state\n", 0, f"j is a packets file; {other}"),
             (gzip.compress(journal, mtime=0), 0, "j is compressed by gzip: zcat j > j.classic.pcap"),
             (journal[:13] + b"\x02" + journal[14:], 13, None),
         ):
