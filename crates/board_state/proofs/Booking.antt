@@ -1,5 +1,6 @@
 -- The books of the cards, with one event more.
-use Rattle.std.proofs.Common.{◌≡◌, ◌∙◌, ◌≢◌, ◌⊎◌, ◌↔◌, inl, inr, ℕ, ◌+◌, ◌<◌, List, [], ◌∷◌, ◌++◌, length, ap, sym, subst, arith, slice_index, slice_set, get_or-set_other, get_or-set_same}
+use Rattle.std.proofs.Common.{◌≡◌, ◌∙◌, ◌≢◌, ◌⊎◌, ◌↔◌, inl, inr, ℕ, ◌+◌, ◌<◌, List, [], ◌∷◌, ◌++◌, length, ap, sym, subst, arith, slice_index}
+use Rattle.std.proofs.Common.{slice_set, get_or-set_other, get_or-set_same}
 use Rattle.std.proofs.lemmas.Bool.{cases_eq}
 use Rattle.rotating_pick.specs.PortSets.{Has}
 use Rattle.rotating_pick.proofs.Bits.{no_member-zero}
@@ -8,7 +9,8 @@ use Rattle.slot_histories.specs.declared.events.Event.{Event}
 use Rattle.slot_histories.specs.declared.events.Event.TheVariants.{Post, Decide, Take}
 use Rattle.slot_histories.specs.Events.{Setup, posts_of, takes_of, decides}
 use Rattle.slot_histories.specs.Legal.{MayPost, MayDecide}
-use Rattle.slot_histories.proofs.Appending.{posts_of-other, posts_of-decide, posts_of-take, takes_of-same, takes_of-other, takes_of-post, takes_of-decide, posted_more, decides-post, decides-take, decides-decide}
+use Rattle.slot_histories.proofs.Appending.{posts_of-other, posts_of-decide, posts_of-take, takes_of-same, takes_of-other, takes_of-post}
+use Rattle.slot_histories.proofs.Appending.{takes_of-decide, posted_more, decides-post, decides-take, decides-decide}
 use Rattle.slot_histories.proofs.InStep.{AreInStep}
 use Rattle.board_state.specs.Boards.{HavePosted}
 use Rattle.board_state.specs.Kept.{AreBooks}
@@ -66,11 +68,14 @@ module _ (s : Setup) (events : List Event) (ports : ℕ) (have : HavePosted s ev
       (card : ℕ) (post : CardPost) (next : ℕ) → AreInStep s events → MayPost s events card post →
       ((i : ℕ) → Has next i ↔ ((i ≡ card) ⊎ Has ports i)) → HavePosted s (events ++ Post card post ∷ []) next
   HavePosted-post card post next step may has i =
-      let now : length (posts_of card events) ≡ decides events = omega (arith, may.taken, step.taken_decided card may.card_in, step.decided_posted card may.card_in) in
+      let now : length (posts_of card events) ≡ decides events =
+      omega (arith, may.taken, step.taken_decided card may.card_in, step.decided_posted card may.card_in) in
       let mine = posted_more events card post in
       let same = decides-post events card post in
       let others = λ (ne : card ≢ i). ap length (posts_of-other events card i post ne) in
-      let own = λ (is : card ≡ i). subst (λ j. (j < s.ports) × (length (posts_of j (events ++ Post card post ∷ [])) ≡ decides (events ++ Post card post ∷ []) + 1)) is (may.card_in, omega arith) in (
+      let own = λ (is : card ≡ i). subst
+      (λ j. (j < s.ports) × (length (posts_of j (events ++ Post card post ∷ [])) ≡ decides (events ++ Post card post ∷ []) + 1)) is
+      (may.card_in, omega arith) in (
         λ member. elim ((has i).0 member) [
           | inl is ↦ own (sym is)
           | inr old ↦

@@ -47,7 +47,8 @@ module _ (s : Setup) (events : List Event) (setup : IsSetup s) (legal : IsLegal 
   pub AreJournalRows-legal : AreJournalRows s.ports (journal_of s events)
   AreJournalRows-legal =
       record {
-        within = λ t below. let decided : t < decides events = omega (arith, long) in subst (AreWithin s.ports) (sym (rows_are t decided)) (rows_within s events t legal decided);
+        within = λ t below. let decided : t < decides events = omega (arith, long) in
+            subst (AreWithin s.ports) (sym (rows_are t decided)) (rows_within s events t legal decided);
         kept = λ i t inside below.
             let next : t + 1 < decides events = omega (arith, long) in
             let now : t < decides events = omega arith in

@@ -132,7 +132,8 @@ module _ {p : Parts} {events : List Event} (kept : IsKept p events) where
   decided_few = omega (arith, in_step.decided_posted 0 kept.setup.ports_some, in_step.posts_within 0 kept.setup.ports_some)
 
   -- the place of the card's next post is within those of all slots
-  pub post_few : (card : ℕ) (post : CardPost) → MayPost p.setup events card post → slice_index p.posted card * p.setup.ports + card < p.setup.max_slots * p.setup.ports
+  pub post_few : (card : ℕ) (post : CardPost) → MayPost p.setup events card post
+      → slice_index p.posted card * p.setup.ports + card < p.setup.max_slots * p.setup.ports
   post_few card post may = rw (kept.books.counts_are card may.card_in) (place_few kept.places kept.setup.ports_some may)
 
 -- ---- the events of what is kept then

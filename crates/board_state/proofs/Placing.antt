@@ -1,5 +1,6 @@
 -- The posts in their places, with one event more.
-use Rattle.std.proofs.Common.{◌≡◌, ◌∙◌, inl, inr, ℕ, ◌+◌, ◌-◌, ◌*◌, ◌<◌, ◌≤◌, max, List, [], ◌∷◌, ◌++◌, take, drop, length, ap, sym, subst, arith, length-append, slice_set, get_or-set_other, get_or-set_same, length-set, length-drop, replicate}
+use Rattle.std.proofs.Common.{◌≡◌, ◌∙◌, inl, inr, ℕ, ◌+◌, ◌-◌, ◌*◌, ◌<◌, ◌≤◌, max, List, [], ◌∷◌, ◌++◌, take, drop, length, ap, sym, subst, arith}
+use Rattle.std.proofs.Common.{length-append, slice_set, get_or-set_other, get_or-set_same, length-set, length-drop, replicate}
 use Rattle.std.proofs.lemmas.Bool.{cases_eq, cases_lt}
 use Rattle.std.proofs.lemmas.Nat.{mul-add-lt}
 use Rattle.std.proofs.lemmas.List.{get_or-take, get_or-drop, length-take, length-replicate, get_or_past, append-nil}

@@ -1,5 +1,6 @@
 -- What is read of what is kept.
-use Rattle.std.proofs.Common.{map, not, ◌↔◌, ◌≡◌, ◌∙◌, ℕ, zero, suc, ◌+◌, ◌-◌, ◌*◌, ◌<◌, ◌≤◌, ◌==◌, ◌&&◌, List, Option, length, take, drop, refl, ap, sym, subst, arith, slice_index, slice_index_or, vec_len, vec_capacity, []}
+use Rattle.std.proofs.Common.{map, not, ◌↔◌, ◌≡◌, ◌∙◌, ℕ, zero, suc, ◌+◌, ◌-◌, ◌*◌, ◌<◌, ◌≤◌, ◌==◌, ◌&&◌, List, Option, length, take, drop, refl, ap}
+use Rattle.std.proofs.Common.{sym, subst, arith, slice_index, slice_index_or, vec_len, vec_capacity, []}
 use Rattle.std.specs.List.{list_all}
 use Rattle.std.proofs.lemmas.List.{get_or_default}
 use Rattle.rotating_pick.specs.PortSets.{Has}
@@ -41,7 +42,8 @@ module _ {s : Inside} {board : BoardValue} (all : AreKept s) (is : board_of s �
   have_posted = subst (λ (x : Setup). HavePosted x board.events s.posted_next) setup_is here.next
 
   -- all cards have posted it exactly where it may be decided
-  pub all_have_posted : (ports : ℕ) → ((i : ℕ) → Has ports i ↔ (i < s.ports)) → ((i : ℕ) → Has ports i → Has s.posted_next i) ↔ MayDecide board.setup board.events
+  pub all_have_posted : (ports : ℕ) → ((i : ℕ) → Has ports i ↔ (i < s.ports)) → ((i : ℕ) → Has ports i → Has s.posted_next i)
+      ↔ MayDecide board.setup board.events
   all_have_posted ports members =
       let same = ap (λ (x : Setup). x.ports) setup_is in (
         λ inside i below. ((have_posted i).0 (inside i ((members i).1 (subst (λ n. i < n) (sym same) below)))).1,

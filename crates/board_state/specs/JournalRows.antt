@@ -14,4 +14,5 @@ rows_at slots t = map (λ post. post.row) (slice_index_or slots t no_slot).posts
 -- which the match served its pairs.
 pub record AreJournalRows (n : ℕ) (slots : List JournalSlot) : Type 0 where
   pub within : (t : ℕ) → t < length slots → AreWithin n (rows_at slots t)
-  pub kept : (i t : ℕ) → i < n → t + 1 < length slots → Keeps (slice_index_or slots t no_slot).matched i (row_of (rows_at slots t) i) (row_of (rows_at slots (t + 1)) i)
+  pub kept : (i t : ℕ) → i < n → t + 1 < length slots
+      → Keeps (slice_index_or slots t no_slot).matched i (row_of (rows_at slots t) i) (row_of (rows_at slots (t + 1)) i)

@@ -1,5 +1,6 @@
 -- What a board keeps of its events: the posts and the decided slots by place, and the order in a byte each.
-use Rattle.std.specs.Prelude.{ℕ, ◌+◌, ◌-◌, ◌*◌, ◌<◌, ◌≤◌, ◌≡◌, ◌==◌, nat_lt, if◌then◌else◌, Bool, List, [], ◌∷◌, ◌++◌, Option, length, slice_index, slice_index_or, count_by, replicate}
+use Rattle.std.specs.Prelude.{ℕ, ◌+◌, ◌-◌, ◌*◌, ◌<◌, ◌≤◌, ◌≡◌, ◌==◌, nat_lt, if◌then◌else◌, Bool, List, [], ◌∷◌, ◌++◌, Option, length, slice_index}
+use Rattle.std.specs.Prelude.{slice_index_or, count_by, replicate}
 use Rattle.rotating_pick.specs.declared.limits.TheConstants.{MAX_PORTS}
 use Rattle.slot_match.specs.declared.matching.Fed.{Fed}
 use Rattle.pointer_state.specs.Places.{Places}

@@ -91,7 +91,8 @@ impl Journal {
     /// whose setup is within its limits. The rows of each slot are within the ports, and are kept until
     /// they are served.
     pub fn legal(&self)
-        ensures legal { (events : List Event) × IsLegal self.now.setup events × (self.now.slots ≡ journal_of self.now.setup events) × (self.now.events ≡ length events) }
+        ensures legal { (events : List Event) × IsLegal self.now.setup events × (self.now.slots ≡ journal_of self.now.setup events)
+            × (self.now.events ≡ length events) }
         ensures setup { IsSetup self.now.setup }
         ensures rows { AreJournalRows self.now.setup.ports self.now.slots }
     {

@@ -1,5 +1,6 @@
 -- With the greatest depth nothing is dropped: all packets of a plan have no more cells.
-use Rattle.std.proofs.Common.{◌≡◌, ◌∙◌, ℕ, zero, suc, ◌+◌, ◌<◌, ◌≤◌, ◌&&◌, not, nat_lt, ◌==◌, Bool, true, false, List, [], ◌∷◌, length, Option, Some, slice_get, slice_index_or, sym, ap, refl, arith, inl, inr, if◌then◌else◌, length-append}
+use Rattle.std.proofs.Common.{◌≡◌, ◌∙◌, ℕ, zero, suc, ◌+◌, ◌<◌, ◌≤◌, ◌&&◌, not, nat_lt, ◌==◌, Bool, true, false, List, [], ◌∷◌, length, Option, Some}
+use Rattle.std.proofs.Common.{slice_get, slice_index_or, sym, ap, refl, arith, inl, inr, if◌then◌else◌, length-append}
 use Rattle.std.specs.Prelude.{count_ones, sum_by}
 use Rattle.std.proofs.lemmas.Bool.{cases_lt, le-ltb, eq-eqb}
 use Rattle.std.proofs.lemmas.List.{get_or-map, length-map}

@@ -1,5 +1,6 @@
 -- Room for the packets that arrive in the first slots: where none is dropped, and where no queue is longer than a depth.
-use Rattle.std.proofs.Common.{◌≡◌, ◌∙◌, ℕ, zero, suc, ◌+◌, ◌-◌, ◌^◌, ◌<◌, ◌≤◌, ◌==◌, ◌&&◌, not, Bool, true, false, List, [], length, Option, Some, slice_get, refl, sym, ap, subst, arith, inl, inr, if◌then◌else◌, length-drop}
+use Rattle.std.proofs.Common.{◌≡◌, ◌∙◌, ℕ, zero, suc, ◌+◌, ◌-◌, ◌^◌, ◌<◌, ◌≤◌, ◌==◌, ◌&&◌, not, Bool, true, false, List, [], length, Option, Some}
+use Rattle.std.proofs.Common.{slice_get, refl, sym, ap, subst, arith, inl, inr, if◌then◌else◌, length-drop}
 use Rattle.std.proofs.lemmas.Bool.{cases_eq, leb-true, eqb-true}
 use Rattle.std.proofs.lemmas.Nat.Bits.{bit_at-pow_same}
 use Rattle.rotating_pick.specs.PortSets.{Has}

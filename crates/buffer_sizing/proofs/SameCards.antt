@@ -1,5 +1,6 @@
 -- A card with queues of another depth: where each packet has room in both, its queues and its posts are the same.
-use Rattle.std.proofs.Common.{◌≡◌, ◌∙◌, ℕ, zero, suc, ◌+◌, ◌-◌, ◌<◌, ◌≤◌, ◌++◌, ◌&&◌, not, Bool, true, false, List, [], map, length, Option, None, Some, refl, sym, ap, arith, slice_index_or, if◌then◌else◌}
+use Rattle.std.proofs.Common.{◌≡◌, ◌∙◌, ℕ, zero, suc, ◌+◌, ◌-◌, ◌<◌, ◌≤◌, ◌++◌, ◌&&◌, not, Bool, true, false, List, [], map, length, Option, None, Some}
+use Rattle.std.proofs.Common.{refl, sym, ap, arith, slice_index_or, if◌then◌else◌}
 use Rattle.std.specs.List.{range_with_len}
 use Rattle.std.specs.Option.{option_map}
 use Rattle.std.proofs.lemmas.Bool.{le-leb}
@@ -11,7 +12,8 @@ use Rattle.multicast_queue.specs.FanQueues.{FanCell, first_name}
 use Rattle.cell_rings.specs.CellQueues.{cells_with_fan}
 use Rattle.card_core.specs.declared.plan.Planned.{Planned}
 use Rattle.card_core.specs.Plans.{Plan, Queue, OfOutput, OfLevel, arriving, is_queue, queue_of, size_of, cell_named}
-use Rattle.card_core.specs.Queues.{Passed, waiting, rest_of, is_routed, fits, coming, with_arrival, after_part, before, queue_in, is_admitted, count_before, count_in, dropped}
+use Rattle.card_core.specs.Queues.{Passed, waiting, rest_of, is_routed, fits, coming, with_arrival, after_part, before, queue_in, is_admitted}
+use Rattle.card_core.specs.Queues.{count_before, count_in, dropped}
 use Rattle.card_core.specs.Posts.{has_cells, queue_served, row_at, granted_by, granted_at, post_at}
 use Rattle.card_core.proofs.Passing.{is_queue-same}
 use Rattle.buffer_sizing.specs.Sizing.{card_with_depth}

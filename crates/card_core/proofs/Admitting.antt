@@ -1,5 +1,6 @@
 -- The packets that were admitted and dropped, over all packets of the plan.
-use Rattle.std.proofs.Common.{◌≡◌, ◌≢◌, ◌∙◌, ℕ, zero, suc, ◌+◌, ◌≤◌, ◌==◌, ◌&&◌, not, nat_lt, Bool, true, false, List, [], ◌∷◌, ◌++◌, Option, Some, None, slice_get, slice_index_or, count_by, refl, sym, ap, arith, inl, inr, if◌then◌else◌, append_assoc}
+use Rattle.std.proofs.Common.{◌≡◌, ◌≢◌, ◌∙◌, ℕ, zero, suc, ◌+◌, ◌≤◌, ◌==◌, ◌&&◌, not, nat_lt, Bool, true, false, List, [], ◌∷◌, ◌++◌, Option, Some}
+use Rattle.std.proofs.Common.{None, slice_get, slice_index_or, count_by, refl, sym, ap, arith, inl, inr, if◌then◌else◌, append_assoc}
 use Rattle.std.proofs.lemmas.Bool.{cases_eq, cases_lt, eq-eqb, ne_eqb, lt-ltb, le-ltb}
 use Rattle.std.proofs.lemmas.List.{append-nil}
 use Rattle.std.proofs.lemmas.List.Sums.{sum_by-cons}
@@ -8,7 +9,8 @@ use Rattle.multicast_queue.specs.FanQueues.{FanCell}
 use Rattle.cell_rings.specs.CellQueues.{cells_with_fan}
 use Rattle.card_core.specs.declared.plan.Planned.{Planned}
 use Rattle.card_core.specs.Plans.{Plan, Queue, AreRising, IsGoodPlan, is_queue, queue_of, size_of, arriving, arriving_from}
-use Rattle.card_core.specs.Queues.{Passed, waiting, rest_of, with_since, head_gone, after_part_of, is_routed, fits, coming, before, queue_in, is_admitted, enters, cells_admitted, counted, count_before, count_in, admitted, dropped}
+use Rattle.card_core.specs.Queues.{Passed, waiting, rest_of, with_since, head_gone, after_part_of, is_routed, fits, coming, before, queue_in}
+use Rattle.card_core.specs.Queues.{is_admitted, enters, cells_admitted, counted, count_before, count_in, admitted, dropped}
 use Rattle.card_core.proofs.Passing.{arriving-there, is_queue-same}
 
 -- all packets arrive in slot t or later
@@ -51,7 +53,8 @@ module _ (plan : Plan) (q : Queue) (served : List (Option Served)) where
   none_admitted t k [] later = refl
   none_admitted t k (p ∷ ps) later = rw (le-ltb p.arrival t (later 0 p refl)) (none_admitted t (k + 1) ps (λ j r at. later (suc j) r at))
 
-  admitted_step : (t k : ℕ) (ps : List Planned) → AreRising ps → cells_admitted plan q served (suc t) k ps ≡ cells_admitted plan q served t k ps ++ arrival_cells (arriving_from k ps t)
+  admitted_step : (t k : ℕ) (ps : List Planned) → AreRising ps → cells_admitted plan q served (suc t) k ps ≡ cells_admitted plan q served t k ps
+      ++ arrival_cells (arriving_from k ps t)
   admitted_step t k [] rising = refl
   admitted_step t k (p ∷ ps) rising =
       elim (cases_eq p.arrival t) [
@@ -63,7 +66,8 @@ module _ (plan : Plan) (q : Queue) (served : List (Option Served)) where
         | inr differ ↦
             let here = if nat_lt p.arrival t && enters plan q served p then cells_with_fan k (size_of p) p.fan else [] in
             rw (same_before p.arrival t differ, ne_eqb p.arrival t differ)
-            (ap (λ w. here ++ w) (admitted_step t (k + 1) ps (rest-rising p ps rising)) ∙ sym (append_assoc here (cells_admitted plan q served t (k + 1) ps) (arrival_cells (arriving_from (k + 1) ps t))))
+            (ap (λ w. here ++ w) (admitted_step t (k + 1) ps (rest-rising p ps rising))
+            ∙ sym (append_assoc here (cells_admitted plan q served t (k + 1) ps) (arrival_cells (arriving_from (k + 1) ps t))))
       ]
 
   coming_enters : (t : ℕ) (arrives : Option (ℕ × Planned)) → arriving plan t ≡ arrives → coming plan q (before plan q served t) arrives ≡ arrival_cells arrives
@@ -112,7 +116,15 @@ module _ (test : Planned → Bool) where
             let later = rest-later p ps t rising now in
             let none = none_passing (suc t) ps later in
             let none' = none_passing t ps (λ j r at. omega (arith, later j r at)) in
-            rw (passing-cons (suc t) p ps, passing-cons t p ps, lt-ltb p.arrival (suc t) (omega arith), le-ltb p.arrival t (omega arith), eq-eqb p.arrival t now, none, none') (omega arith)
+            rw (
+              passing-cons (suc t) p ps,
+              passing-cons t p ps,
+              lt-ltb p.arrival (suc t) (omega arith),
+              le-ltb p.arrival t (omega arith),
+              eq-eqb p.arrival t now,
+              none,
+              none',
+            ) (omega arith)
         | inr differ ↦
             let more = passing_step t (k + 1) ps (rest-rising p ps rising) in
             rw (passing-cons (suc t) p ps, passing-cons t p ps, same_before p.arrival t differ, ne_eqb p.arrival t differ, more) (omega arith)
@@ -122,7 +134,8 @@ module _ (plan : Plan) (good : IsGoodPlan plan) (served : List (Option Served)) 
   abbrev counts : Bool → Planned → Bool
   counts wanted p = is_routed p && (if wanted then is_admitted plan served p.arrival p else not (is_admitted plan served p.arrival p))
 
-  counted_in : (wanted : Bool) (t : ℕ) (arrives : Option (ℕ × Planned)) → arriving plan t ≡ arrives → count_in wanted plan served t arrives ≡ passes (counts wanted) arrives
+  counted_in : (wanted : Bool) (t : ℕ) (arrives : Option (ℕ × Planned)) → arriving plan t ≡ arrives
+      → count_in wanted plan served t arrives ≡ passes (counts wanted) arrives
   counted_in wanted t None is = refl
   counted_in wanted t (Some (k, p)) is =
       let now : p.arrival ≡ t = (arriving-there 0 plan.packets t k p is).3 in

@@ -1,5 +1,6 @@
 -- A plan's packets, as far as they were looked at.
-use Rattle.std.proofs.Common.{◌≡◌, ◌∙◌, ◌⊎◌, ℕ, zero, suc, ◌+◌, ◌<◌, ◌≤◌, List, [], ◌∷◌, length, Some, slice_get, slice_index_or, refl, sym, ap, subst, arith, inl, inr}
+use Rattle.std.proofs.Common.{◌≡◌, ◌∙◌, ◌⊎◌, ℕ, zero, suc, ◌+◌, ◌<◌, ◌≤◌, List, [], ◌∷◌, length, Some, slice_get, slice_index_or, refl, sym, ap, subst}
+use Rattle.std.proofs.Common.{arith, inl, inr}
 use Rattle.std.proofs.lemmas.Bool.{cases_eq}
 use Rattle.std.proofs.lemmas.Option.{same_Some}
 use Rattle.card_core.specs.declared.plan.Planned.{Planned}
@@ -23,7 +24,8 @@ some_lt (x ∷ packets) (suc k) p is = omega (arith, some_lt packets k p is)
 at_or_below : (k i : ℕ) → k < i + 1 → (k ≡ i) ⊎ (k < i)
 at_or_below k i below = elim (cases_eq k i) [ inl same ↦ inl same | inr other ↦ inr (omega arith) ]
 
-pub planned_more : (n bytes : ℕ) (packets : List Planned) (i : ℕ) (d : Planned) → ((k : ℕ) (p : Planned) → k < i → slice_get packets k ≡ Some p → IsPlanned n bytes p) → IsPlanned n bytes (slice_index_or packets i d)
+pub planned_more : (n bytes : ℕ) (packets : List Planned) (i : ℕ) (d : Planned)
+    → ((k : ℕ) (p : Planned) → k < i → slice_get packets k ≡ Some p → IsPlanned n bytes p) → IsPlanned n bytes (slice_index_or packets i d)
     → (k : ℕ) (p : Planned) → k < i + 1 → slice_get packets k ≡ Some p → IsPlanned n bytes p
 planned_more n bytes packets i d before here k p below is = elim (at_or_below k i below) [
   | inl same ↦ subst (IsPlanned n bytes) (get_some packets i p d (ap (slice_get packets) (sym same) ∙ is)) here
@@ -45,7 +47,8 @@ rises_none packets = record {
   rising = λ k j p r less a b before. absurd (omega arith);
 }
 
-pub rises_more : (packets : List Planned) (i least : ℕ) (d : Planned) → RisesTo packets i least → least ≤ (slice_index_or packets i d).arrival → RisesTo packets (i + 1) ((slice_index_or packets i d).arrival + 1)
+pub rises_more : (packets : List Planned) (i least : ℕ) (d : Planned) → RisesTo packets i least → least ≤ (slice_index_or packets i d).arrival
+    → RisesTo packets (i + 1) ((slice_index_or packets i d).arrival + 1)
 rises_more packets i least d so_far from =
     let at_i = λ (p : Planned) (is : slice_get packets i ≡ Some p). ap (λ (r : Planned). r.arrival) (get_some packets i p d is) in
     record {
@@ -64,7 +67,8 @@ rises_more packets i least d so_far from =
 pub rises_all : (packets : List Planned) (i least : ℕ) → length packets ≤ i → RisesTo packets i least → AreRising packets
 rises_all packets i least all so_far k j p r a b before = so_far.rising k j p r (let l = some_lt packets j r b in omega arith) a b before
 
-pub rises_not : (packets : List Planned) (i least : ℕ) (d : Planned) → RisesTo packets i least → i < length packets → (slice_index_or packets i d).arrival < least → AreRising packets → ⊥
+pub rises_not : (packets : List Planned) (i least : ℕ) (d : Planned) → RisesTo packets i least → i < length packets
+    → (slice_index_or packets i d).arrival < least → AreRising packets → ⊥
 rises_not packets zero least d so_far inside less rising = let z = so_far.start refl in omega arith
 rises_not packets (suc i) least d so_far inside less rising =
     let here = some_get packets (suc i) d inside in

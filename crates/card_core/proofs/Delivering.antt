@@ -1,5 +1,6 @@
 -- The messages of the cells that came, with one cell more.
-use Rattle.std.proofs.Common.{◌≡◌, ◌≢◌, ◌∙◌, ◌⊎◌, ℕ, zero, suc, ◌+◌, ◌<◌, ◌==◌, ◌&&◌, Bool, true, false, List, [], ◌∷◌, ◌++◌, map, length, slice_index_or, slice_set, refl, sym, ap, subst, arith, inl, inr, if◌then◌else◌, append_assoc}
+use Rattle.std.proofs.Common.{◌≡◌, ◌≢◌, ◌∙◌, ◌⊎◌, ℕ, zero, suc, ◌+◌, ◌<◌, ◌==◌, ◌&&◌, Bool, true, false, List, [], ◌∷◌, ◌++◌, map, length}
+use Rattle.std.proofs.Common.{slice_index_or, slice_set, refl, sym, ap, subst, arith, inl, inr, if◌then◌else◌, append_assoc}
 use Rattle.std.specs.List.{concat}
 use Rattle.std.proofs.lemmas.Bool.{eq-eqb, eqb-true}
 use Rattle.std.proofs.lemmas.List.{append-nil, map-set, map-append, set-get_or, get_or-set_same, get_or-set_other, length_push}
@@ -19,7 +20,8 @@ use Rattle.card_core.specs.Deliveries.{is_of_flow, flow_cells, message_with, end
 use Rattle.card_core.specs.Cards.{Received, HasReceived, MayReceive, received_with, flow_at}
 
 -- ---- the messages
-messages-push : (before cells : List Cell) (cell : Cell) → messages_after before (cells ++ cell ∷ []) ≡ messages_after before cells ++ ended_by (before ++ cells) cell
+messages-push : (before cells : List Cell) (cell : Cell) → messages_after before (cells ++ cell ∷ []) ≡ messages_after before cells
+    ++ ended_by (before ++ cells) cell
 messages-push before [] cell =
     append-nil (ended_by before cell) ∙ ap (λ b. ended_by b cell) (sym (append-nil before))
 messages-push before (c ∷ cells) cell =
@@ -69,14 +71,19 @@ true_or_not : (b : Bool) → (b ≡ true) ⊎ (b ≡ false)
 true_or_not true = inl refl
 true_or_not false = inr refl
 
-cells-own : (cells : List Cell) (cell : Cell) (i l : ℕ) (k : Kind) → is_of_flow i l k cell ≡ true → flow_cells i l k (cells ++ cell ∷ []) ≡ flow_cells i l k cells ++ cell ∷ []
-cells-own cells cell i l k is = filter-append (is_of_flow i l k) cells (cell ∷ []) ∙ ap (λ (b : Bool). flow_cells i l k cells ++ (if b then cell ∷ [] else [])) is
+cells-own : (cells : List Cell) (cell : Cell) (i l : ℕ) (k : Kind) → is_of_flow i l k cell ≡ true
+    → flow_cells i l k (cells ++ cell ∷ []) ≡ flow_cells i l k cells ++ cell ∷ []
+cells-own cells cell i l k is = filter-append (is_of_flow i l k) cells (cell ∷ [])
+    ∙ ap (λ (b : Bool). flow_cells i l k cells ++ (if b then cell ∷ [] else [])) is
 
-cells-other : (cells : List Cell) (cell : Cell) (i l : ℕ) (k : Kind) → is_of_flow i l k cell ≡ false → flow_cells i l k (cells ++ cell ∷ []) ≡ flow_cells i l k cells
-cells-other cells cell i l k is = filter-append (is_of_flow i l k) cells (cell ∷ []) ∙ ap (λ (b : Bool). flow_cells i l k cells ++ (if b then cell ∷ [] else [])) is ∙ append-nil (flow_cells i l k cells)
+cells-other : (cells : List Cell) (cell : Cell) (i l : ℕ) (k : Kind) → is_of_flow i l k cell ≡ false
+    → flow_cells i l k (cells ++ cell ∷ []) ≡ flow_cells i l k cells
+cells-other cells cell i l k is = filter-append (is_of_flow i l k) cells (cell ∷ [])
+    ∙ ap (λ (b : Bool). flow_cells i l k cells ++ (if b then cell ∷ [] else [])) is ∙ append-nil (flow_cells i l k cells)
 
 -- ---- the sizes stay
-size_if : (b : Bool) (flow : Flow) (bytes : List ℕ) (next : ℕ) → (if b then fresh flow.size else record { size = flow.size; bytes = bytes; next = next }).size ≡ flow.size
+size_if : (b : Bool) (flow : Flow) (bytes : List ℕ) (next : ℕ)
+    → (if b then fresh flow.size else record { size = flow.size; bytes = bytes; next = next }).size ≡ flow.size
 size_if true flow bytes next = refl
 size_if false flow bytes next = refl
 
@@ -85,7 +92,8 @@ size_at [] place = refl
 size_at (f ∷ flows) zero = refl
 size_at (f ∷ flows) (suc place) = size_at flows place
 
-sizes_stay : (flows : List Flow) (place : ℕ) (flow : Flow) → flow.size ≡ (slice_index_or flows place (fresh 0)).size → map (λ (f : Flow). f.size) (slice_set flows place flow) ≡ map (λ (f : Flow). f.size) flows
+sizes_stay : (flows : List Flow) (place : ℕ) (flow : Flow) → flow.size ≡ (slice_index_or flows place (fresh 0)).size
+    → map (λ (f : Flow). f.size) (slice_set flows place flow) ≡ map (λ (f : Flow). f.size) flows
 sizes_stay flows place flow same =
     map-set (λ (f : Flow). f.size) flows place flow
     ∙ ap (slice_set (map (λ (f : Flow). f.size) flows) place) (same ∙ size_at flows place)
@@ -99,7 +107,8 @@ kind_small : (kind : Kind) → kind_byte kind < 2
 kind_small Uni = omega arith
 kind_small Multi = omega arith
 
-module _ (plan : Plan) (good : IsGoodPlan plan) (r : Received) (cells : List Cell) (had : HasReceived plan r cells) (cell : Cell) (may : MayReceive r cell) where
+module _ (plan : Plan) (good : IsGoodPlan plan) (r : Received) (cells : List Cell) (had : HasReceived plan r cells) (cell : Cell)
+    (may : MayReceive r cell) where
   input_in : cell.input < plan.ports
   input_in = let a = may.flow.input in let b = had.ports in omega arith
 
@@ -130,25 +139,34 @@ module _ (plan : Plan) (good : IsGoodPlan plan) (r : Received) (cells : List Cel
         let same_i = eqb-true cell.input i p.0 in
         let same_l = eqb-true cell.level l p.1 in
         let same_k = same_kind cell.kind k p.2 in
-        let here : place_of i l k ≡ place_of_cell cell = sym (ap (λ x. place_of x cell.level cell.kind) same_i ∙ ap (λ x. place_of i x cell.kind) same_l ∙ ap (place_of i l) same_k) in
+        let here : place_of i l k ≡ place_of_cell cell =
+        sym (ap (λ x. place_of x cell.level cell.kind) same_i ∙ ap (λ x. place_of i x cell.kind) same_l ∙ ap (place_of i l) same_k) in
         let before : Stands (flow_of r.flows cell) (flow_cells i l k cells) =
-        subst (λ x. Stands (flow_of r.flows cell) (flow_cells x l k cells)) same_i (subst (λ x. Stands (flow_of r.flows cell) (flow_cells cell.input x k cells)) same_l (subst (λ x. Stands (flow_of r.flows cell) (flow_cells cell.input cell.level x cells)) same_k own)) in
+        subst (λ x. Stands (flow_of r.flows cell) (flow_cells x l k cells)) same_i
+        (subst (λ x. Stands (flow_of r.flows cell) (flow_cells cell.input x k cells)) same_l
+        (subst (λ x. Stands (flow_of r.flows cell) (flow_cells cell.input cell.level x cells)) same_k own)) in
         subst (λ cs. Stands (flow_at (after_cell r.flows cell) i l k) cs) (sym (cells-own cells cell i l k mine))
-        (subst (λ f. Stands f (flow_cells i l k cells ++ cell ∷ [])) (sym (after_at (place_of i l k) here)) (Stands-with_cell (flow_of r.flows cell) (flow_cells i l k cells) cell before may.flow.next))
+        (subst (λ f. Stands f (flow_cells i l k cells ++ cell ∷ [])) (sym (after_at (place_of i l k) here))
+        (Stands-with_cell (flow_of r.flows cell) (flow_cells i l k cells) cell before may.flow.next))
     | inr other ↦
         let apart : place_of i l k ≢ place_of_cell cell = λ same.
         let e = kind_place k cell.kind i l cell.input cell.level below may.flow.form.level same in
         let mine : is_of_flow i l k cell ≡ true =
-        subst (λ x. is_of_flow x l k cell ≡ true) (sym e.0) (subst (λ x. is_of_flow cell.input x k cell ≡ true) (sym e.1) (subst (λ x. is_of_flow cell.input cell.level x cell ≡ true) (sym e.2) (of_own cell))) in
+        subst (λ x. is_of_flow x l k cell ≡ true) (sym e.0)
+        (subst (λ x. is_of_flow cell.input x k cell ≡ true) (sym e.1)
+        (subst (λ x. is_of_flow cell.input cell.level x cell ≡ true) (sym e.2) (of_own cell))) in
         absurd (cc) in
         subst (λ cs. Stands (flow_at (after_cell r.flows cell) i l k) cs) (sym (cells-other cells cell i l k other))
-        (subst (λ f. Stands f (flow_cells i l k cells)) (sym (get_or-set_other r.flows.flows (place_of_cell cell) (place_of i l k) (with_cell (flow_of r.flows cell) cell) (fresh 0) apart)) (had.flows i l k inside below))
+        (subst (λ f. Stands f (flow_cells i l k cells))
+        (sym (get_or-set_other r.flows.flows (place_of_cell cell) (place_of i l k) (with_cell (flow_of r.flows cell) cell) (fresh 0) apart))
+        (had.flows i l k inside below))
   ]
 
   pub received-push : HasReceived plan (received_with r cell) (cells ++ cell ∷ [])
   received-push = record {
     ports = had.ports;
-    sizes = sizes_stay r.flows.flows (place_of_cell cell) (with_cell (flow_of r.flows cell) cell) (size_if cell.last (flow_of r.flows cell) (bytes_with (flow_of r.flows cell) cell) (cell.number + 1)) ∙ had.sizes;
+    sizes = sizes_stay r.flows.flows (place_of_cell cell) (with_cell (flow_of r.flows cell) cell)
+        (size_if cell.last (flow_of r.flows cell) (bytes_with (flow_of r.flows cell) cell) (cell.number + 1)) ∙ had.sizes;
     body_room = had.body_room;
     packet_room = had.packet_room;
     flows = flows_case;
@@ -176,7 +194,8 @@ module _ (i l : ℕ) (k : Kind) where
       ∙ ap (λ x. flow_cells i x cell.kind before) (eqb-true cell.level l p.1)
       ∙ ap (λ x. flow_cells i l x before) (same_kind cell.kind k p.2)
 
-  last_case : (last : Bool) (messages : List (List ℕ)) (bytes message : List ℕ) → bytes ≡ message → messages ++ (if last then message ∷ [] else []) ≡ (if last then messages ++ bytes ∷ [] else messages)
+  last_case : (last : Bool) (messages : List (List ℕ)) (bytes message : List ℕ) → bytes ≡ message
+      → messages ++ (if last then message ∷ [] else []) ≡ (if last then messages ++ bytes ∷ [] else messages)
   last_case true messages bytes message same = ap (λ m. messages ++ m ∷ []) (sym same)
   last_case false messages bytes message same = append-nil messages
 
@@ -186,12 +205,14 @@ module _ (i l : ℕ) (k : Kind) where
       let cells = flow_cells i l k before in
       let flow : Flow = record { size = 0; bytes = joined (rest_after [] cells); next = length (rest_after [] cells) } in
       let stands : Stands flow cells = record { bytes = refl; next = refl } in
-      last_case cell.last (messages_of cells) (bytes_with flow cell) (message_with before cell) (ap (λ cs. joined (rest_after [] cs) ++ used_bytes cell) (sym (own_flow before cell is)))
+      last_case cell.last (messages_of cells) (bytes_with flow cell) (message_with before cell)
+      (ap (λ cs. joined (rest_after [] cs) ++ used_bytes cell) (sym (own_flow before cell is)))
       ∙ sym (messages_of-push flow cells cell stands)
       ∙ ap messages_of (sym (cells-own before cell i l k is))
   one_more before cell false is = append-nil (messages_of (flow_cells i l k before)) ∙ ap messages_of (sym (cells-other before cell i l k is))
 
-  from_all : (before cells : List Cell) → messages_of (flow_cells i l k before) ++ messages_from i l k before cells ≡ messages_of (flow_cells i l k (before ++ cells))
+  from_all : (before cells : List Cell) → messages_of (flow_cells i l k before)
+      ++ messages_from i l k before cells ≡ messages_of (flow_cells i l k (before ++ cells))
   from_all before [] = append-nil (messages_of (flow_cells i l k before)) ∙ ap (λ cs. messages_of (flow_cells i l k cs)) (sym (append-nil before))
   from_all before (cell ∷ cells) =
       let here = if is_of_flow i l k cell then ended_by before cell else [] in

@@ -1,5 +1,6 @@
 -- The cells that are granted of a queue are the first that entered it, in order.
-use Rattle.std.proofs.Common.{◌≡◌, ◌∙◌, ℕ, zero, suc, ◌+◌, ◌^◌, ◌<◌, ◌≤◌, ◌==◌, ◌&&◌, not, Bool, true, false, List, [], ◌∷◌, ◌++◌, drop, take, length, Option, Some, None, slice_index_or, refl, sym, ap, subst, arith, if◌then◌else◌, append_assoc}
+use Rattle.std.proofs.Common.{◌≡◌, ◌∙◌, ℕ, zero, suc, ◌+◌, ◌^◌, ◌<◌, ◌≤◌, ◌==◌, ◌&&◌, not, Bool, true, false, List, [], ◌∷◌, ◌++◌, drop, take, length}
+use Rattle.std.proofs.Common.{Option, Some, None, slice_index_or, refl, sym, ap, subst, arith, if◌then◌else◌, append_assoc}
 use Rattle.std.specs.Option.{option_map}
 use Rattle.std.proofs.lemmas.Bool.{and_parts, and_from, eqb-true, eq-eqb}
 use Rattle.std.proofs.lemmas.List.{append-nil, take-append-le, take_all, length-drop}
@@ -46,7 +47,8 @@ and_true false = refl
 pieces : (goes left after served : Bool) (c : FanCell) → (served ≡ true → left ≡ true) → (left ≡ true → goes ≡ true) → after ≡ (left && not served)
     → (if goes && not left then c ∷ [] else []) ++ (if served then c ∷ [] else []) ≡ (if goes && not after then c ∷ [] else [])
 pieces goes left after true c named among is = let l = named refl in let g = among l in rw (is, l, g) refl
-pieces goes left after false c named among is = append-nil (if goes && not left then c ∷ [] else []) ∙ ap (λ (b : Bool). if goes && not b then c ∷ [] else []) (sym (is ∙ and_true left))
+pieces goes left after false c named among is = append-nil (if goes && not left then c ∷ [] else [])
+    ∙ ap (λ (b : Bool). if goes && not b then c ∷ [] else []) (sym (is ∙ and_true left))
 
 gone_is : (goes : Bool) (c : FanCell) → (if goes && not false then c ∷ [] else []) ≡ (if goes then c ∷ [] else [])
 gone_is goes c = ap (λ (b : Bool). if b then c ∷ [] else []) (and_true goes)
@@ -94,7 +96,8 @@ module _ (plan : Plan) (good : IsGoodPlan plan) (q : Queue) (j : ℕ) where
       (λ goes. ap (λ parts. has (remaining q (first_fan (waiting s)) parts) j) none ∙ whole_has (waiting s) are goes)
 
   begun_none : (s : Passed) → waiting s ≡ [] → begun_for q j s ≡ []
-  begun_none s none = ap (λ w. if has (first_fan (waiting s)) j && not (has (rest_of q s) j) then first_of w else []) none ∙ first_of_nil (has (first_fan (waiting s)) j && not (has (rest_of q s) j))
+  begun_none s none = ap (λ w. if has (first_fan (waiting s)) j && not (has (rest_of q s) j) then first_of w else []) none
+      ∙ first_of_nil (has (first_fan (waiting s)) j && not (has (rest_of q s) j))
 
   -- what the queue gave so far
   abbrev pub given_of : Passed → List FanCell
@@ -104,7 +107,8 @@ module _ (plan : Plan) (good : IsGoodPlan plan) (q : Queue) (j : ℕ) where
   waits_of s kept = AreOf-drop plan q s.left s.entered kept.cells
 
   -- ---- an arrival
-  begun_case : (s : Passed) (t : ℕ) (w : List FanCell) → waiting s ≡ w → IsKept plan q s → begun_for q j (with_arrival plan q (arriving plan t) s) ≡ begun_for q j s
+  begun_case : (s : Passed) (t : ℕ) (w : List FanCell) → waiting s ≡ w → IsKept plan q s
+      → begun_for q j (with_arrival plan q (arriving plan t) s) ≡ begun_for q j s
   begun_case s t [] is kept =
       let none : s.since ≡ [] = subst (λ w. IsHeld q w s.since) is kept.held in
       let now = with_arrival plan q (arriving plan t) s in
@@ -131,24 +135,30 @@ module _ (plan : Plan) (good : IsGoodPlan plan) (q : Queue) (j : ℕ) where
       same_test (has next j) (has rest j && not (serves q j part))
       (λ m.
       let both = of.0 ((Decides-has next j).0 m) in
-      and_from (has rest j) (not (serves q j part)) ((Decides-has rest j).1 both.0) (not_true (serves q j part) (λ served. both.1 (tells.0 (serves-gives q j part served)))))
+      and_from (has rest j) (not (serves q j part)) ((Decides-has rest j).1 both.0)
+      (not_true (serves q j part) (λ served. both.1 (tells.0 (serves-gives q j part served)))))
       (λ m.
       let both = and_parts (has rest j) (not (serves q j part)) m in
       let left = (Decides-has rest j).0 both.0 in
       (Decides-has next j).1 (of.1 (left, λ given. false_not (serves q j part) both.1 (back (tells.1 given) left))))
 
-  part_if : (s : Passed) (part : Option Served) (c : FanCell) (v : List FanCell) (b : Bool) → waiting s ≡ c ∷ v → IsKept plan q s → (rest_of q (with_since s (part ∷ s.since)) == 0) ≡ b
-      → (serves q j part ≡ true → has (rest_of q s) j ≡ true) → has (rest_of q (with_since s (part ∷ s.since))) j ≡ (has (rest_of q s) j && not (serves q j part))
+  part_if : (s : Passed) (part : Option Served) (c : FanCell) (v : List FanCell) (b : Bool) → waiting s ≡ c ∷ v → IsKept plan q s
+      → (rest_of q (with_since s (part ∷ s.since)) == 0) ≡ b
+      → (serves q j part ≡ true → has (rest_of q s) j ≡ true)
+      → has (rest_of q (with_since s (part ∷ s.since))) j ≡ (has (rest_of q s) j && not (serves q j part))
       → given_of s ++ (if serves q j part then first_of (waiting s) else []) ≡ given_of (if b then head_gone s else with_since s (part ∷ s.since))
   part_if s part c v b is kept rest named after =
       let out = to_output j (take s.left s.entered) in
       let goes = has (first_fan (waiting s)) j in
       let left = has (rest_of q s) j in
-      let among : left ≡ true → goes ≡ true = λ m. (Decides-has (first_fan (waiting s)) j).1 (remaining-has q (first_fan (waiting s)) s.since j ((Decides-has (rest_of q s) j).0 m)).0 in
+      let among : left ≡ true → goes ≡ true =
+      λ m. (Decides-has (first_fan (waiting s)) j).1 (remaining-has q (first_fan (waiting s)) s.since j ((Decides-has (rest_of q s) j).0 m)).0 in
       let joined = λ (next : Bool) (e : next ≡ (left && not (serves q j part))).
-      ap (λ w. (if goes && not left then first_of w else []) ++ (if serves q j part then first_of w else [])) is ∙ pieces goes left next (serves q j part) c named among e in
+      ap (λ w. (if goes && not left then first_of w else []) ++ (if serves q j part then first_of w else [])) is
+      ∙ pieces goes left next (serves q j part) c named among e in
       let start = append_assoc out (begun_for q j s) (if serves q j part then first_of (waiting s) else []) in
-      elim b as (λ v'. (rest_of q (with_since s (part ∷ s.since)) == 0) ≡ v' → given_of s ++ (if serves q j part then first_of (waiting s) else []) ≡ given_of (if v' then head_gone s else with_since s (part ∷ s.since))) [
+      elim b as (λ v'. (rest_of q (with_since s (part ∷ s.since)) == 0) ≡ v'
+      → given_of s ++ (if serves q j part then first_of (waiting s) else []) ≡ given_of (if v' then head_gone s else with_since s (part ∷ s.since))) [
         | true ↦ λ none.
             let zero' : rest_of q (with_since s (part ∷ s.since)) ≡ 0 = eqb-true (rest_of q (with_since s (part ∷ s.since))) 0 none in
             let lost : false ≡ (left && not (serves q j part)) = sym (ap (λ x. has x j) zero' ∙ none_has j) ∙ after in
@@ -166,7 +176,8 @@ module _ (plan : Plan) (good : IsGoodPlan plan) (q : Queue) (j : ℕ) where
       ] rest
 
   part_case : (s : Passed) (part : Option Served) (w : List FanCell) → waiting s ≡ w → IsKept plan q s
-      → (serves q j part ≡ true → has (rest_of q s) j ≡ true) → has (rest_of q (with_since s (part ∷ s.since))) j ≡ (has (rest_of q s) j && not (serves q j part))
+      → (serves q j part ≡ true → has (rest_of q s) j ≡ true)
+      → has (rest_of q (with_since s (part ∷ s.since))) j ≡ (has (rest_of q s) j && not (serves q j part))
       → given_of s ++ (if serves q j part then first_of (waiting s) else []) ≡ given_of (after_part_of q s part w)
   part_case s part [] is kept named after =
       let out = to_output j (take s.left s.entered) in
@@ -180,19 +191,22 @@ module _ (plan : Plan) (good : IsGoodPlan plan) (q : Queue) (j : ℕ) where
 -- ---- the slots
 module _ (plan : Plan) (good : IsGoodPlan plan) (served : List (Option Served)) where
   -- a part that is served stands in the row
-  rest_served : (q : Queue) (j t : ℕ) → IsServable (row_at plan served t) (slice_index_or served t None) → serves q j (slice_index_or served t None) ≡ true → Has (rest_of q (queue_in plan q served t)) j
+  rest_served : (q : Queue) (j t : ℕ) → IsServable (row_at plan served t) (slice_index_or served t None) → serves q j (slice_index_or served t None) ≡ true
+      → Has (rest_of q (queue_in plan q served t)) j
   rest_served (OfOutput k l) j t may is =
       let both = and_parts (k == j) (gives (slice_index_or served t None) j l Uni) is in
       let given = (Decides-gives (slice_index_or served t None) j l Uni).0 both.1 in
       let named = uni-in plan good served t l j (gives-names (row_at plan served t) (slice_index_or served t None) j l Uni may given) in
       let port : k ≡ j = eqb-true k j both.0 in
-      subst (λ i. Has (rest_of (OfOutput i l) (queue_in plan (OfOutput i l) served t)) j) (sym port) (output_left plan good j l (queue_in plan (OfOutput j l) served t) (kept-in plan good (OfOutput j l) served t) named.2)
+      subst (λ i. Has (rest_of (OfOutput i l) (queue_in plan (OfOutput i l) served t)) j) (sym port)
+      (output_left plan good j l (queue_in plan (OfOutput j l) served t) (kept-in plan good (OfOutput j l) served t) named.2)
   rest_served (OfLevel l) j t may is =
       let given = (Decides-gives (slice_index_or served t None) j l Multi).0 is in
       (multi-in plan good served t l j (gives-names (row_at plan served t) (slice_index_or served t None) j l Multi may given)).1
 
   -- and what was given of the rest was served of the queue
-  served_rest : (q : Queue) (j : ℕ) (s : Passed) (part : Option Served) → IsKept plan q s → gives part j (level_of q) (kind_of q) ≡ true → Has (rest_of q s) j → serves q j part ≡ true
+  served_rest : (q : Queue) (j : ℕ) (s : Passed) (part : Option Served) → IsKept plan q s → gives part j (level_of q) (kind_of q) ≡ true → Has (rest_of q s) j
+      → serves q j part ≡ true
   served_rest (OfOutput k l) j s part kept given left =
       let port : j ≡ k = rest_output plan good k l s kept j left in
       and_from (k == j) (gives part j l Uni) (eq-eqb k j (sym port)) given
@@ -206,12 +220,14 @@ module _ (plan : Plan) (good : IsGoodPlan plan) (served : List (Option Served)) 
       let s = queue_in plan q served t in
       let kept = kept-in plan good q served t in
       let so_far = granted_is q j t (λ u less. may u (omega arith)) in
-      ap (λ xs. xs ++ (if serves q j part then first_of (waiting s) else [])) (so_far ∙ sym (given_arrival plan good q j (before plan q served t) t (kept-before plan good q served t)))
+      ap (λ xs. xs ++ (if serves q j part then first_of (waiting s) else []))
+      (so_far ∙ sym (given_arrival plan good q j (before plan q served t) t (kept-before plan good q served t)))
       ∙ part_case plan good q j s part (waiting s) refl kept
       (λ is. (Decides-has (rest_of q s) j).1 (rest_served q j t (may t (omega arith)) is))
       (after_rest plan good q j s part (served_rest q j s part kept))
 
-  pub all_granted : (q : Queue) (j t : ℕ) → ((u : ℕ) → u < t → IsServable (row_at plan served u) (slice_index_or served u None)) → waiting (before plan q served t) ≡ []
+  pub all_granted : (q : Queue) (j t : ℕ) → ((u : ℕ) → u < t → IsServable (row_at plan served u) (slice_index_or served u None))
+      → waiting (before plan q served t) ≡ []
       → granted_to plan q j served t ≡ to_output j (before plan q served t).entered
   all_granted q j t may empty =
       let s = before plan q served t in
@@ -239,7 +255,8 @@ module _ (plan : Plan) (good : IsGoodPlan plan) (served : List (Option Served)) 
   unbegun j l s [] is kept = begun_none plan good (OfOutput j l) j s is
   unbegun j l s (c ∷ v) is kept =
       let left = output_left plan good j l s kept (ap has_cells is) in
-      fresh_begun (has (first_fan (waiting s)) j) (has (rest_of (OfOutput j l) s) j) (first_of (waiting s)) (λ goes. (Decides-has (rest_of (OfOutput j l) s) j).1 left)
+      fresh_begun (has (first_fan (waiting s)) j) (has (rest_of (OfOutput j l) s) j) (first_of (waiting s))
+      (λ goes. (Decides-has (rest_of (OfOutput j l) s) j).1 left)
 
   pub unicast_granted : (j l t : ℕ) → ((u : ℕ) → u < t → IsServable (row_at plan served u) (slice_index_or served u None))
       → granted_to plan (OfOutput j l) j served t ≡ take (before plan (OfOutput j l) served t).left (before plan (OfOutput j l) served t).entered
@@ -256,14 +273,16 @@ module _ (plan : Plan) (good : IsGoodPlan plan) (served : List (Option Served)) 
 uni_multi : Uni ≡ Multi → ⊥
 uni_multi e = cc
 
-queue_is : (row : Row) (part : Served) (kind : Kind) (q : Queue) (j : ℕ) → ((l : ℕ) → Names row l Uni j → j < 64) → part.kind ≡ kind → IsPartOf row part → serves q j (Some part) ≡ true → queue_by kind part ≡ q
+queue_is : (row : Row) (part : Served) (kind : Kind) (q : Queue) (j : ℕ) → ((l : ℕ) → Names row l Uni j → j < 64) → part.kind ≡ kind → IsPartOf row part
+    → serves q j (Some part) ≡ true → queue_by kind part ≡ q
 queue_is row part Uni (OfOutput k l) j inside is may served =
     let both = and_parts (k == j) (gives (Some part) j l Uni) served in
     let port : k ≡ j = eqb-true k j both.0 in
     let given = (Decides-gives (Some part) j l Uni).0 both.1 in
     let only = last-only 64 part.outputs j (inside l (gives-names row (Some part) j l Uni may given)) given.0 (λ y other. may.one is y j other given.0) in
     ap (λ i. OfOutput i part.level) (only ∙ sym port) ∙ ap (OfOutput k) (sym given.1)
-queue_is row part Uni (OfLevel l) j inside is may served = let given = (Decides-gives (Some part) j l Multi).0 served in absurd (uni_multi (sym is ∙ sym given.2))
+queue_is row part Uni (OfLevel l) j inside is may served = let given = (Decides-gives (Some part) j l Multi).0 served in
+    absurd (uni_multi (sym is ∙ sym given.2))
 queue_is row part Multi (OfOutput k l) j inside is may served =
     let both = and_parts (k == j) (gives (Some part) j l Uni) served in
     let given = (Decides-gives (Some part) j l Uni).0 both.1 in
@@ -278,6 +297,7 @@ module _ (plan : Plan) (good : IsGoodPlan plan) (served : List (Option Served)) 
       ap (λ r. option_map (cell_named plan) (first_name (waiting (queue_in plan r served t))))
       (queue_is (row_at plan served t) part part.kind q j (λ l named. let m = uni-in plan good served t l j named in omega (arith, m.1, good.size)) refl may is)
 
-  pub first_granted : (q : Queue) (j t : ℕ) → IsServable (row_at plan served t) (slice_index_or served t None) → serves q j (slice_index_or served t None) ≡ true
+  pub first_granted : (q : Queue) (j t : ℕ) → IsServable (row_at plan served t) (slice_index_or served t None)
+      → serves q j (slice_index_or served t None) ≡ true
       → granted_at plan served (suc t) ≡ option_map (cell_named plan) (first_name (waiting (queue_in plan q served t)))
   first_granted q j t may is = granted_case q j t (slice_index_or served t None) may is

@@ -1,5 +1,6 @@
 -- The messages of the cells of a queue are those of its admitted packets.
-use Rattle.std.proofs.Common.{◌≡◌, ◌∙◌, ℕ, zero, suc, ◌+◌, ◌-◌, ◌*◌, ◌<◌, ◌&&◌, ◌==◌, nat_lt, leb, Bool, true, false, cond, List, [], ◌∷◌, ◌++◌, map, filter, length, Option, Some, slice_get, slice_index_or, refl, sym, ap, arith, if◌then◌else◌, append_assoc}
+use Rattle.std.proofs.Common.{◌≡◌, ◌∙◌, ℕ, zero, suc, ◌+◌, ◌-◌, ◌*◌, ◌<◌, ◌&&◌, ◌==◌, nat_lt, leb, Bool, true, false, cond, List, [], ◌∷◌, ◌++◌, map}
+use Rattle.std.proofs.Common.{filter, length, Option, Some, slice_get, slice_index_or, refl, sym, ap, arith, if◌then◌else◌, append_assoc}
 use Rattle.std.proofs.lemmas.Bool.{le-leb, lt-leb}
 use Rattle.std.proofs.lemmas.List.{map-append}
 use Rattle.std.proofs.lemmas.List.Elements.{filter-append}
@@ -28,7 +29,8 @@ use Rattle.card_core.proofs.Admitting.{entered-is}
 module _ (input level : ℕ) (kind : Kind) (message : List ℕ) (cells : List Cell) where
   -- the last n + 1 cells of a message end a piece
   piece_then : (begun : List Cell) (a n : ℕ) → a + suc n ≡ cells_in (length message)
-      → pieces_after begun (map (cell_of input level kind message) (range_with_len a (suc n)) ++ cells) ≡ (begun ++ map (cell_of input level kind message) (range_with_len a (suc n))) ∷ pieces_after [] cells
+      → pieces_after begun (map (cell_of input level kind message) (range_with_len a (suc n)) ++ cells) ≡
+      (begun ++ map (cell_of input level kind message) (range_with_len a (suc n))) ∷ pieces_after [] cells
   piece_then begun a zero all =
       let cell : Cell = cell_of input level kind message a in
       let last : leb (length message) (56 * a + 56) ≡ true = le-leb _ _ (omega arith) in
@@ -88,30 +90,38 @@ module _ (plan : Plan) (good : IsGoodPlan plan) where
   module _ (q : Queue) (j : ℕ) (served : List (Option Served)) (t : ℕ) where
     messages_step : (k : ℕ) (p : Planned) → slice_get plan.packets k ≡ Some p → (cells : List FanCell) (packets : List Planned) (b h : Bool) → has p.fan j ≡ h
         → messages_of (cells_named (to_output j cells)) ≡ map (message_of plan) packets
-        → messages_of (cells_named (to_output j ((if b then cells_with_fan k (size_of p) p.fan else []) ++ cells))) ≡ map (message_of plan) (if b && h then p ∷ packets else packets)
+        → messages_of (cells_named (to_output j ((if b then cells_with_fan k (size_of p) p.fan else []) ++ cells))) ≡ map (message_of plan)
+        (if b && h then p ∷ packets else packets)
     messages_step k p there cells packets true true goes rest =
         let own = cells_with_fan k (size_of p) p.fan in
-        ap (λ w. messages_of (cells_named w)) (filter-append (λ (cell : FanCell). has cell.fan j) own cells ∙ ap (λ w. w ++ to_output j cells) (all_go j p.fan (names_of_packet k (size_of p)) goes))
-        ∙ ap messages_of (map-append (λ (cell : FanCell). cell_named plan cell.name) own (to_output j cells) ∙ ap (λ w. w ++ cells_named (to_output j cells)) (packet-cells k p there))
-        ∙ message_then plan.card (level_of (queue_of p)) (kind_of (queue_of p)) (message_of plan p) (cells_named (to_output j cells)) (omega (arith, message-long k p there))
+        ap (λ w. messages_of (cells_named w)) (filter-append (λ (cell : FanCell). has cell.fan j) own cells
+        ∙ ap (λ w. w ++ to_output j cells) (all_go j p.fan (names_of_packet k (size_of p)) goes))
+        ∙ ap messages_of (map-append (λ (cell : FanCell). cell_named plan cell.name) own (to_output j cells)
+        ∙ ap (λ w. w ++ cells_named (to_output j cells)) (packet-cells k p there))
+        ∙ message_then plan.card (level_of (queue_of p)) (kind_of (queue_of p)) (message_of plan p) (cells_named (to_output j cells))
+        (omega (arith, message-long k p there))
         ∙ ap (λ w. message_of plan p ∷ w) rest
     messages_step k p there cells packets true false goes rest =
         let own = cells_with_fan k (size_of p) p.fan in
-        ap (λ w. messages_of (cells_named w)) (filter-append (λ (cell : FanCell). has cell.fan j) own cells ∙ ap (λ w. w ++ to_output j cells) (none_goes j p.fan (names_of_packet k (size_of p)) goes))
+        ap (λ w. messages_of (cells_named w)) (filter-append (λ (cell : FanCell). has cell.fan j) own cells
+        ∙ ap (λ w. w ++ to_output j cells) (none_goes j p.fan (names_of_packet k (size_of p)) goes))
         ∙ rest
     messages_step k p there cells packets false h goes rest = rest
 
     messages_from_on : (k : ℕ) (ps : List Planned) → ((i : ℕ) (p : Planned) → slice_get ps i ≡ Some p → slice_get plan.packets (k + i) ≡ Some p)
-        → messages_of (cells_named (to_output j (cells_admitted plan q served t k ps))) ≡ map (message_of plan) (filter (λ packet. nat_lt packet.arrival t && enters plan q served packet && has packet.fan j) ps)
+        → messages_of (cells_named (to_output j (cells_admitted plan q served t k ps))) ≡ map (message_of plan)
+        (filter (λ packet. nat_lt packet.arrival t && enters plan q served packet && has packet.fan j) ps)
     messages_from_on k [] there = refl
     messages_from_on k (p ∷ ps) there =
         let here : slice_get plan.packets k ≡ Some p = ap (slice_get plan.packets) (let e : k ≡ k + 0 = omega arith in e) ∙ there 0 p refl in
-        messages_step k p here (cells_admitted plan q served t (k + 1) ps) (filter (λ packet. nat_lt packet.arrival t && enters plan q served packet && has packet.fan j) ps)
+        messages_step k p here (cells_admitted plan q served t (k + 1) ps)
+        (filter (λ packet. nat_lt packet.arrival t && enters plan q served packet && has packet.fan j) ps)
         (nat_lt p.arrival t && enters plan q served p) (has p.fan j) refl
         (messages_from_on (k + 1) ps (λ i r at. ap (slice_get plan.packets) (let e : k + 1 + i ≡ k + suc i = omega arith in e) ∙ there (suc i) r at))
 
 pub messages-are : (plan : Plan) (q : Queue) (j : ℕ) (served : List (Option Served)) (t : ℕ) → IsGoodPlan plan
-    → messages_of (map (λ cell. cell_named plan cell.name) (to_output j (before plan q served t).entered)) ≡ map (message_of plan) (packets_to plan q j served t)
+    → messages_of (map (λ cell. cell_named plan cell.name) (to_output j (before plan q served t).entered)) ≡ map (message_of plan)
+    (packets_to plan q j served t)
 messages-are plan q j served t good =
     ap (λ cells. messages_of (map (λ cell. cell_named plan cell.name) (to_output j cells))) (entered-is plan q served good t)
     ∙ messages_from_on plan good q j served t 0 plan.packets (λ i p at. ap (slice_get plan.packets) (let e : 0 + i ≡ i = omega arith in e) ∙ at)

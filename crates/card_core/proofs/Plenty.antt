@@ -1,5 +1,6 @@
 -- How many packets there are, and how many enter each queue.
-use Rattle.std.proofs.Common.{◌≡◌, ◌≢◌, ◌∙◌, ℕ, zero, suc, ◌+◌, ◌*◌, ◌^◌, ◌<◌, ◌≤◌, ◌==◌, ◌&&◌, Bool, true, false, List, [], ◌∷◌, ◌++◌, length, Some, slice_get, slice_index, slice_index_or, slice_set, refl, sym, ap, subst, arith, inl, inr, count_by, replicate}
+use Rattle.std.proofs.Common.{◌≡◌, ◌≢◌, ◌∙◌, ℕ, zero, suc, ◌+◌, ◌*◌, ◌^◌, ◌<◌, ◌≤◌, ◌==◌, ◌&&◌, Bool, true, false, List, [], ◌∷◌, ◌++◌, length, Some}
+use Rattle.std.proofs.Common.{slice_get, slice_index, slice_index_or, slice_set, refl, sym, ap, subst, arith, inl, inr, count_by, replicate}
 use Rattle.std.proofs.lemmas.Bool.{cases_eq, eq-eqb, ne_eqb}
 use Rattle.std.proofs.lemmas.List.{get_or-set_same, get_or-set_other, length-set, length-replicate}
 use Rattle.std.proofs.lemmas.Nat.Bits.{bit_at-pow_same}
@@ -133,21 +134,25 @@ module _ (p : Planned) where
         }
 
 -- ---- a number more at one place
-one_more : (xs : List ℕ) (i most place : ℕ) → i < length xs → ((k : ℕ) → slice_index xs k ≤ most) → slice_index (slice_set xs i (slice_index_or xs i 0 + 1)) place ≤ most + 1
+one_more : (xs : List ℕ) (i most place : ℕ) → i < length xs → ((k : ℕ) → slice_index xs k ≤ most)
+    → slice_index (slice_set xs i (slice_index_or xs i 0 + 1)) place ≤ most + 1
 one_more xs i most place inside few = elim (cases_eq place i) [
   | inl same ↦
-      let e : slice_index (slice_set xs i (slice_index_or xs i 0 + 1)) place ≡ slice_index_or xs i 0 + 1 = ap (slice_index (slice_set xs i (slice_index_or xs i 0 + 1))) same ∙ get_or-set_same xs i (slice_index_or xs i 0 + 1) 0 inside in
+      let e : slice_index (slice_set xs i (slice_index_or xs i 0 + 1)) place ≡ slice_index_or xs i 0 + 1 =
+      ap (slice_index (slice_set xs i (slice_index_or xs i 0 + 1))) same ∙ get_or-set_same xs i (slice_index_or xs i 0 + 1) 0 inside in
       let f : slice_index_or xs i 0 ≤ most = few i in
       omega (arith, e, f)
   | inr other ↦
-      let e : slice_index (slice_set xs i (slice_index_or xs i 0 + 1)) place ≡ slice_index xs place = get_or-set_other xs i place (slice_index_or xs i 0 + 1) 0 other in
+      let e : slice_index (slice_set xs i (slice_index_or xs i 0 + 1)) place ≡ slice_index xs place =
+      get_or-set_other xs i place (slice_index_or xs i 0 + 1) 0 other in
       omega (arith, e, few place)
 ]
 
 pub few-unicast : (most i : ℕ) (uni fan : List ℕ) → i < length uni → AreFew most uni fan → AreFew (most + 1) (slice_set uni i (slice_index_or uni i 0 + 1)) fan
 few-unicast most i uni fan inside few = record { unis = λ place. one_more uni i most place inside few.unis; fans = λ place. omega (arith, few.fans place) }
 
-pub few-multicast : (most i : ℕ) (uni fan : List ℕ) → i < length fan → AreFew most uni fan → AreFew (most + 1) uni (slice_set fan i (slice_index_or fan i 0 + 1))
+pub few-multicast : (most i : ℕ) (uni fan : List ℕ) → i < length fan → AreFew most uni fan
+    → AreFew (most + 1) uni (slice_set fan i (slice_index_or fan i 0 + 1))
 few-multicast most i uni fan inside few = record { unis = λ place. omega (arith, few.unis place); fans = λ place. one_more fan i most place inside few.fans }
 
 -- ---- lists of rooms

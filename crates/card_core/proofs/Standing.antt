@@ -1,5 +1,6 @@
 -- A card after its takings.
-use Rattle.std.proofs.Common.{◌≡◌, ◌∙◌, ℕ, zero, suc, ◌<◌, ◌≤◌, ◌||◌, Bool, true, false, List, [], ◌∷◌, ◌++◌, map, length, Option, Some, None, slice_index_or, refl, sym, ap, subst, arith, length-append}
+use Rattle.std.proofs.Common.{◌≡◌, ◌∙◌, ℕ, zero, suc, ◌<◌, ◌≤◌, ◌||◌, Bool, true, false, List, [], ◌∷◌, ◌++◌, map, length, Option, Some, None}
+use Rattle.std.proofs.Common.{slice_index_or, refl, sym, ap, subst, arith, length-append}
 use Rattle.std.specs.Option.{option_to_list}
 use Rattle.std.proofs.lemmas.List.{append-nil, map_push, length_push, length-map}
 use Rattle.std.proofs.lemmas.List.Folds.{list_any-append}
@@ -26,7 +27,8 @@ fresh_sizes [] = refl
 fresh_sizes (size ∷ sizes) = ap (λ xs. size ∷ xs) (fresh_sizes sizes)
 
 pub begun_after : (plan : Plan) (s : State) (r : Received) → HasSent s [] false → s.plan ≡ plan
-    → r ≡ received_of (record { ports = plan.ports; flows = map fresh plan.sizes }) [] [] 0 plan.body_room plan.packet_room → IsAfter (card_of s r false) [] false
+    → r ≡ received_of (record { ports = plan.ports; flows = map fresh plan.sizes }) [] [] 0 plan.body_room plan.packet_room
+    → IsAfter (card_of s r false) [] false
 begun_after plan s r sent is received = record {
   sent = sent;
   received = subst (λ p. HasReceived p r []) (sym is) (subst (λ x. HasReceived plan x []) (sym received) (record {
@@ -75,17 +77,22 @@ done-push : (takings : List Taken) (taken : Taken) → is_done takings ≡ false
 done-push takings taken none =
     sym (list_any-append (λ (t : Taken). t.done) takings (taken ∷ []) ∙ ap (λ b. b || (taken.done || false)) none ∙ or_self taken.done)
 
-received_case : (plan : Plan) → IsGoodPlan plan → (r : Received) (cells : List Cell) (cell : Option Cell) → HasReceived plan r cells → MayReceiveAny r cell → HasReceived plan (received_any r cell) (cells ++ option_to_list cell)
+received_case : (plan : Plan) → IsGoodPlan plan → (r : Received) (cells : List Cell) (cell : Option Cell) → HasReceived plan r cells → MayReceiveAny r cell
+    → HasReceived plan (received_any r cell) (cells ++ option_to_list cell)
 received_case plan good r cells None had may = subst (HasReceived plan r) (sym (append-nil cells)) had
 received_case plan good r cells (Some cell) had may = received-push plan good r cells had cell may
 
-pub after_take : (s s' : State) (r r' : Received) (done : Bool) (takings : List Taken) (taken : Taken) → IsAfter (card_of s r done) takings true → MayReceiveAny r taken.cell
-    → HasSent s' (served_in takings ++ taken.served ∷ []) false → s'.plan ≡ s.plan → r' ≡ received_any r taken.cell → IsAfter (card_of s' r' taken.done) (takings ++ taken ∷ []) false
+pub after_take : (s s' : State) (r r' : Received) (done : Bool) (takings : List Taken) (taken : Taken) → IsAfter (card_of s r done) takings true
+    → MayReceiveAny r taken.cell
+    → HasSent s' (served_in takings ++ taken.served ∷ []) false → s'.plan ≡ s.plan → r' ≡ received_any r taken.cell
+    → IsAfter (card_of s' r' taken.done) (takings ++ taken ∷ []) false
 after_take s s' r r' done takings taken was may sent same put =
     let all = received_case s.plan was.sent.plan r (cells_taken takings) taken.cell was.received may in
     record {
       sent = subst (λ xs. HasSent s' xs false) (sym (served-push takings taken)) sent;
-      received = subst (λ p. HasReceived p r' (cells_taken (takings ++ taken ∷ []))) (sym same) (subst (λ cs. HasReceived s.plan r' cs) (sym (cells-push takings taken)) (subst (λ x. HasReceived s.plan x (cells_taken takings ++ option_to_list taken.cell)) (sym put) all));
+      received = subst (λ p. HasReceived p r' (cells_taken (takings ++ taken ∷ []))) (sym same)
+          (subst (λ cs. HasReceived s.plan r' cs) (sym (cells-push takings taken))
+          (subst (λ x. HasReceived s.plan x (cells_taken takings ++ option_to_list taken.cell)) (sym put) all));
       done = done-push takings taken (sym was.done ∙ was.going refl);
       going = λ e. absurd (cc);
       slots = let e = was.slots in let l = length_push takings taken in omega arith;

@@ -1,5 +1,6 @@
 -- A card, and that it has taken a list of takings.
-use Rattle.std.specs.Prelude.{◌≡◌, ℕ, ◌+◌, ◌*◌, ◌<◌, ◌≤◌, Bool, true, false, List, [], ◌∷◌, ◌++◌, map, length, Option, None, Some, slice_index_or, if◌then◌else◌}
+use Rattle.std.specs.Prelude.{◌≡◌, ℕ, ◌+◌, ◌*◌, ◌<◌, ◌≤◌, Bool, true, false, List, [], ◌∷◌, ◌++◌, map, length, Option, None, Some, slice_index_or}
+use Rattle.std.specs.Prelude.{if◌then◌else◌}
 use Rattle.std.specs.List.{list_any, concat}
 use Rattle.rotating_pick.specs.declared.kinds.Kind.{Kind}
 use Rattle.rotating_pick.specs.declared.limits.TheConstants.{LEVELS}
@@ -54,7 +55,8 @@ pub record HasReceived (plan : Plan) (r : Received) (cells : List Cell) : Type 0
   pub sizes : map (λ flow. flow.size) r.flows.flows ≡ plan.sizes
   pub body_room : r.body_room ≡ plan.body_room
   pub packet_room : r.packet_room ≡ plan.packet_room
-  pub flows : (input level : ℕ) (kind : Kind) → input < plan.ports → level < LEVELS → Stands (flow_at r.flows input level kind) (flow_cells input level kind cells)
+  pub flows : (input level : ℕ) (kind : Kind) → input < plan.ports → level < LEVELS
+      → Stands (flow_at r.flows input level kind) (flow_cells input level kind cells)
   pub body : r.body ≡ concat (delivered cells)
   pub lens : r.lens ≡ map length (delivered cells)
   pub count : r.cells ≡ length cells

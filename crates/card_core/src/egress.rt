@@ -1,4 +1,5 @@
-ghost use Rattle.std.specs.Prelude.{◌≡◌, ◌+◌, ◌<◌, ◌≤◌, ◌↔◌, ◌*◌, ◌^◌, ◌++◌, [], map, length, vec_len, vec_capacity, Some, None, IfOk, IsTrue, All, true, if◌then◌else◌};
+ghost use Rattle.std.specs.Prelude.{◌≡◌, ◌+◌, ◌<◌, ◌≤◌, ◌↔◌, ◌*◌, ◌^◌, ◌++◌, [], map, length, vec_len, vec_capacity, Some, None, IfOk, IsTrue, All};
+ghost use Rattle.std.specs.Prelude.{true, if◌then◌else◌};
 ghost use Rattle.reassembly.specs.Flows.{Fits, fresh, flow_of, bytes_with, after_cell};
 ghost use Rattle.card_core.specs.Cards.{MayReceive, MayReceiveAny, received_with, received_any};
 
@@ -28,9 +29,17 @@ impl Model for Egress {
 
     ghost Value = { Received };
 
-    ghost view = { λ e. record { flows = e.flows; body = e.body.items; lens = e.lens.items; cells = e.cells; body_room = e.body_room; packet_room = e.packet_room } };
+    ghost view = { λ e. record {
+      flows = e.flows;
+      body = e.body.items;
+      lens = e.lens.items;
+      cells = e.cells;
+      body_room = e.body_room;
+      packet_room = e.packet_room;
+    } };
 
-    ghost invariant = { λ e. IsRoom (vec_len e.body) e.body_room (vec_capacity e.body) × IsRoom (vec_len e.lens) e.packet_room (vec_capacity e.lens) × AreFull e.flows };
+    ghost invariant = { λ e. IsRoom (vec_len e.body) e.body_room (vec_capacity e.body) × IsRoom (vec_len e.lens) e.packet_room (vec_capacity e.lens)
+        × AreFull e.flows };
 }
 
 impl Egress {
@@ -47,7 +56,14 @@ impl Egress {
         requires ports { n ≤ MAX_PORTS }
         requires flows { length sizes.now ≡ FLOWS_PER_INPUT * n }
         requires sizes { All (λ size. size ≤ MAX_MESSAGE_BYTES) sizes.now }
-        ensures { IfOk result (λ r. r ≡ record { flows = record { ports = n; flows = map fresh sizes.now }; body = []; lens = []; cells = 0; body_room = body_room; packet_room = packet_room }) }
+        ensures { IfOk result (λ r. r ≡ record {
+          flows = record { ports = n; flows = map fresh sizes.now };
+          body = [];
+          lens = [];
+          cells = 0;
+          body_room = body_room;
+          packet_room = packet_room;
+        }) }
     {
         Ok(Egress {
             flows: Reassembly::make(alloc, n, sizes)?,
@@ -72,7 +88,8 @@ impl Egress {
     // Whether the message that ends with the cell has room.
     fn has_room(&self, cell: &Cell) -> bool
         requires { Fits self.now.flows cell.now }
-        ensures { IsTrue result ↔ ((length self.now.body + length (bytes_with (flow_of self.now.flows cell.now) cell.now) ≤ self.now.body_room) × (length self.now.lens < self.now.packet_room)) }
+        ensures { IsTrue result ↔ ((length self.now.body + length (bytes_with (flow_of self.now.flows cell.now) cell.now) ≤ self.now.body_room)
+            × (length self.now.lens < self.now.packet_room)) }
     {
         let len = PAYLOAD_BYTES * usize::from(cell.number) + usize::from(cell.used);
         len <= self.body_room - self.body.len() && self.lens.len() < self.packet_room

@@ -46,7 +46,8 @@ impl Model for Ingress {
 
     ghost view = { λ s. state_of (plan_of s.plan) s.next s.slot s.posted s.granted s.row s.admitted s.dropped s.banks s.fans };
 
-    ghost invariant = { λ s. (served : List (Option Served)) × HasSent (state_of (plan_of s.plan) s.next s.slot s.posted s.granted s.row s.admitted s.dropped s.banks s.fans) served s.posted };
+    ghost invariant = { λ s. (served : List (Option Served))
+        × HasSent (state_of (plan_of s.plan) s.next s.slot s.posted s.granted s.row s.admitted s.dropped s.banks s.fans) served s.posted };
 }
 
 impl Ingress {

@@ -31,7 +31,8 @@ servable_any row (Some part) is = servable row part (is part refl)
 module _ (s : Setup) (i : ℕ) (events : List Event) (some : 0 < s.ports) (size : s.ports ≤ 64) (legal : IsLegal s events) (inside : i < s.ports) where
   servable_before : (t : ℕ) → t ≤ decides events → IsServable (row_before (posted events) i t) (served_before s (posted events) i t)
   servable_before zero within = tt
-  servable_before (suc t) within = servable_any (posted events i t).row (served_at s (posted events) i t) (λ one is. served-part s events some size legal i t one (omega arith) inside is)
+  servable_before (suc t) within =
+      servable_any (posted events i t).row (served_at s (posted events) i t) (λ one is. served-part s events some size legal i t one (omega arith) inside is)
 
   -- what the column tells of its last slot may be served of the row that it tells
   pub servable_told : IsServable (row_told (column_of s i events)) (served_told (column_of s i events))
@@ -52,7 +53,8 @@ last_part [] taken = refl
 last_part (first ∷ takings) taken = last_part takings taken
 
 -- the next post of a column with as many posts as takings
-accepted_from : (plan : Plan) (posts : List CardPost) (takings : List Taken) (k : ℕ) → IsGoodPlan plan → k ≡ length takings → length posts ≡ k → IsDriven plan (record { posts = posts; takings = takings })
+accepted_from : (plan : Plan) (posts : List CardPost) (takings : List Taken) (k : ℕ) → IsGoodPlan plan → k ≡ length takings → length posts ≡ k
+    → IsDriven plan (record { posts = posts; takings = takings })
     → IsServable (row_before (λ j t. slice_index_or posts t no_post) 0 k) (part_told k takings)
     → IsAccepted plan.ports plan.card (row_before (λ j t. slice_index_or posts t no_post) 0 k) (part_told k takings) (post_at plan (served_in takings) k)
 accepted_from plan posts takings zero good long same driven may = first_accepted plan good (served_in takings)
@@ -62,12 +64,14 @@ accepted_from plan posts takings (suc t) good long same driven may =
     let part = told_part takings t (omega arith) in
     let may_by_row : IsServable (row_at plan served t) (part_told (suc t) takings) = subst (λ (r : Row). IsServable r (part_told (suc t) takings)) row may in
     let next = next_accepted plan good served t (subst (IsServable (row_at plan served t)) part may_by_row) in
-    let by_part : IsAccepted plan.ports plan.card (row_at plan served t) (part_told (suc t) takings) (post_at plan served (suc t)) = subst (λ (p : Option Served). IsAccepted plan.ports plan.card (row_at plan served t) p (post_at plan served (suc t))) (sym part) next in
+    let by_part : IsAccepted plan.ports plan.card (row_at plan served t) (part_told (suc t) takings) (post_at plan served (suc t)) =
+    subst (λ (p : Option Served). IsAccepted plan.ports plan.card (row_at plan served t) p (post_at plan served (suc t))) (sym part) next in
     subst (λ (r : Row). IsAccepted plan.ports plan.card r (part_told (suc t) takings) (post_at plan served (suc t))) (sym row) by_part
 
 pub accepted_next : (plan : Plan) (s : Setup) (events : List Event) → IsGoodPlan plan → IsLegal s events → plan.ports ≡ s.ports
     → IsDriven plan (column_of s plan.card events) → length (column_of s plan.card events).posts ≡ length (column_of s plan.card events).takings
-    → IsAccepted s.ports plan.card (row_told (column_of s plan.card events)) (served_told (column_of s plan.card events)) (post_at plan (served_in (column_of s plan.card events).takings) (length (column_of s plan.card events).takings))
+    → IsAccepted s.ports plan.card (row_told (column_of s plan.card events)) (served_told (column_of s plan.card events))
+    (post_at plan (served_in (column_of s plan.card events).takings) (length (column_of s plan.card events).takings))
 accepted_next plan s events good legal ports driven same =
     let column = column_of s plan.card events in
     let some = good.some in
@@ -79,13 +83,17 @@ accepted_next plan s events good legal ports driven same =
 
 pub accepted_at : (plan : Plan) (s : Setup) (i : ℕ) (events : List Event) → IsGoodPlan plan → IsLegal s events → plan.ports ≡ s.ports → plan.card ≡ i
     → IsDriven plan (column_of s i events) → length (column_of s i events).posts ≡ length (column_of s i events).takings
-    → IsAccepted s.ports i (row_told (column_of s i events)) (served_told (column_of s i events)) (post_at plan (served_in (column_of s i events).takings) (length (column_of s i events).takings))
+    → IsAccepted s.ports i (row_told (column_of s i events)) (served_told (column_of s i events))
+    (post_at plan (served_in (column_of s i events).takings) (length (column_of s i events).takings))
 accepted_at plan s i events good legal ports card =
-    subst (λ k. IsDriven plan (column_of s k events) → length (column_of s k events).posts ≡ length (column_of s k events).takings → IsAccepted s.ports k (row_told (column_of s k events)) (served_told (column_of s k events)) (post_at plan (served_in (column_of s k events).takings) (length (column_of s k events).takings))) card
+    subst (λ k. IsDriven plan (column_of s k events) → length (column_of s k events).posts ≡ length (column_of s k events).takings
+    → IsAccepted s.ports k (row_told (column_of s k events)) (served_told (column_of s k events))
+    (post_at plan (served_in (column_of s k events).takings) (length (column_of s k events).takings))) card
     (accepted_next plan s events good legal ports)
 
 -- what the slot of the posted row serves may be served of it
-pub servable_taking : (column : Column) (taken : Taken) → IsServable (row_told (with_taking column taken)) (served_told (with_taking column taken)) → IsServable (slice_index_or column.posts (length column.takings) no_post).row taken.served
+pub servable_taking : (column : Column) (taken : Taken) → IsServable (row_told (with_taking column taken)) (served_told (with_taking column taken))
+    → IsServable (slice_index_or column.posts (length column.takings) no_post).row taken.served
 servable_taking column taken may =
     let all = column.takings ++ taken ∷ [] in
     let k = length column.takings in

@@ -24,7 +24,8 @@ use Rattle.card_worker.specs.declared.hands.Hand.{Hand}
 use Rattle.card_worker.specs.Agreeing.{IsDriven, IsLevel, IsAhead, IsInStep, CanPost, AfterGiving}
 use Rattle.card_worker.specs.Alone.{with_event, IsHandOf, IsStill, AfterAct}
 use Rattle.card_worker.proofs.Accepting.{accepted_at, servable_told}
-use Rattle.card_worker.proofs.Steps.{next_post, IsLevel-posted, IsDriven-posted, IsLevel-taken, IsDriven-taken, level_of, slot_is, good_plan, servable_card, CanPost-of}
+use Rattle.card_worker.proofs.Steps.{next_post, IsLevel-posted, IsDriven-posted, IsLevel-taken, IsDriven-taken, level_of, slot_is, good_plan}
+use Rattle.card_worker.proofs.Steps.{servable_card, CanPost-of}
 
 abbrev column_with : List CardPost → List Taken → Column
 column_with posts takings = record { posts = posts; takings = takings }
@@ -50,7 +51,8 @@ module _ (s : Setup) (events : List Event) where
   pub column-decide : (j : ℕ) → column_of s j (events ++ Decide ∷ []) ≡ column_of s j events
   column-decide j = column_from _ _ _ _ (posts_of-decide events j) (takings_of-beyond s j events (Decide ∷ []) refl)
 
-module _ (s : Setup) (i : ℕ) (events : List Event) (setup : IsSetup s) (legal : IsLegal s events) (inside : i < s.ports) (hand : Hand) (is : IsHandOf hand s i events) where
+module _ (s : Setup) (i : ℕ) (events : List Event) (setup : IsSetup s) (legal : IsLegal s events) (inside : i < s.ports) (hand : Hand)
+    (is : IsHandOf hand s i events) where
   abbrev column : Column
   column = column_of s i events
 
@@ -81,9 +83,12 @@ module _ (s : Setup) (i : ℕ) (events : List Event) (setup : IsSetup s) (legal 
           let n = s.ports in
           let plan = hand.card.sends.plan in
           let next = next_post plan column in
-          let by_law : IsAccepted n i (row_told column) (served_told column) next = accepted_at plan s i events (good_plan hand.kept hand.card column is.step) legal is.ports is.card is.driven posts_same in
-          let by_row : IsAccepted n i (row_before (posted events) i (takes_of i events)) (served_told column) next = subst (λ (row : Row). IsAccepted n i row (served_told column) next) (sym told.row) by_law in
-          let by_part : IsAccepted n i (row_before (posted events) i (takes_of i events)) (served_before s (posted events) i (takes_of i events)) next = subst (λ (part : Option Served). IsAccepted n i (row_before (posted events) i (takes_of i events)) part next) (sym told.served) by_row in
+          let by_law : IsAccepted n i (row_told column) (served_told column) next =
+          accepted_at plan s i events (good_plan hand.kept hand.card column is.step) legal is.ports is.card is.driven posts_same in
+          let by_row : IsAccepted n i (row_before (posted events) i (takes_of i events)) (served_told column) next =
+          subst (λ (row : Row). IsAccepted n i row (served_told column) next) (sym told.row) by_law in
+          let by_part : IsAccepted n i (row_before (posted events) i (takes_of i events)) (served_before s (posted events) i (takes_of i events)) next =
+          subst (λ (part : Option Served). IsAccepted n i (row_before (posted events) i (takes_of i events)) part next) (sym told.served) by_row in
           let slot = told.slot in
           let same = posts_same in
           record {
@@ -91,18 +96,21 @@ module _ (s : Setup) (i : ℕ) (events : List Event) (setup : IsSetup s) (legal 
             taken = omega arith;
             room = omega arith;
             not_done = going;
-            accepted = subst (λ (p : CardPost). IsAccepted n i (row_before (posted events) i (takes_of i events)) (served_before s (posted events) i (takes_of i events)) p) (sym mine) by_part;
+            accepted = subst (λ (p : CardPost). IsAccepted n i (row_before (posted events) i (takes_of i events))
+                (served_before s (posted events) i (takes_of i events)) p) (sym mine) by_part;
           }
 
     -- the hand after its post
-    pub hand-posted : (card : CardState) (post : CardPost) → card.sends.plan ≡ hand.card.sends.plan → IsAhead post card column → IsHandOf (record { card = card; kept = None }) s i (events ++ Post i post ∷ [])
+    pub hand-posted : (card : CardState) (post : CardPost) → card.sends.plan ≡ hand.card.sends.plan → IsAhead post card column
+        → IsHandOf (record { card = card; kept = None }) s i (events ++ Post i post ∷ [])
     hand-posted card post plan ahead =
         let to = column-post s events i post in
         let mine : post ≡ next_post hand.card.sends.plan column = ahead.is ∙ ap (λ p. next_post p column) plan in
         record {
           ports = ap (λ p. p.ports) plan ∙ is.ports;
           card = ap (λ p. p.card) plan ∙ is.card;
-          driven = subst (λ p. IsDriven p (column_of s i (events ++ Post i post ∷ []))) (sym plan) (subst (IsDriven hand.card.sends.plan) (sym to) (IsDriven-posted hand.card.sends.plan post column is.driven posts_same mine));
+          driven = subst (λ p. IsDriven p (column_of s i (events ++ Post i post ∷ []))) (sym plan)
+              (subst (IsDriven hand.card.sends.plan) (sym to) (IsDriven-posted hand.card.sends.plan post column is.driven posts_same mine));
           step = subst (IsLevel card) (sym to) (IsLevel-posted post card column ahead);
         }
 
@@ -118,14 +126,16 @@ module _ (s : Setup) (i : ℕ) (events : List Event) (setup : IsSetup s) (legal 
     card_slot = slot_is hand.card column level.1 ∙ sym told.slot
 
     -- what its slot gives may be served of the card's row
-    pub servable : (taken : Taken) → taken ≡ taken_at s (posted events) i (takes_of i events) → IsLegal s (events ++ Take i ∷ []) → IsServable hand.card.sends.row taken.served
+    pub servable : (taken : Taken) → taken ≡ taken_at s (posted events) i (takes_of i events) → IsLegal s (events ++ Take i ∷ [])
+        → IsServable hand.card.sends.row taken.served
     servable taken mine next =
         let to : column_of s i (events ++ Take i ∷ []) ≡ with_taking column taken = column-take s events i ∙ ap (with_taking column) (sym mine) in
         let may = servable_told s i (events ++ Take i ∷ []) setup.ports_some setup.ports_few next inside in
         servable_card hand.card column taken level.1 level.2 is.driven less (subst (λ (c : Column). IsServable (row_told c) (served_told c)) to may)
 
     -- the hand after its take
-    pub hand-taken : (card : CardState) (taken : Taken) → taken ≡ taken_at s (posted events) i (takes_of i events) → AfterGiving taken hand.card card → IsHandOf (record { card = card; kept = hand.kept }) s i (events ++ Take i ∷ [])
+    pub hand-taken : (card : CardState) (taken : Taken) → taken ≡ taken_at s (posted events) i (takes_of i events) → AfterGiving taken hand.card card
+        → IsHandOf (record { card = card; kept = hand.kept }) s i (events ++ Take i ∷ [])
     hand-taken card taken mine give =
         let plan = give.plan in
         let to : column_of s i (events ++ Take i ∷ []) ≡ with_taking column taken = column-take s events i ∙ ap (with_taking column) (sym mine) in
@@ -133,7 +143,8 @@ module _ (s : Setup) (i : ℕ) (events : List Event) (setup : IsSetup s) (legal 
         record {
           ports = ap (λ p. p.ports) plan ∙ is.ports;
           card = ap (λ p. p.card) plan ∙ is.card;
-          driven = subst (λ p. IsDriven p (column_of s i (events ++ Take i ∷ []))) (sym plan) (subst (IsDriven hand.card.sends.plan) (sym to) (IsDriven-taken hand.card.sends.plan column taken is.driven told.posts_to));
+          driven = subst (λ p. IsDriven p (column_of s i (events ++ Take i ∷ []))) (sym plan)
+              (subst (IsDriven hand.card.sends.plan) (sym to) (IsDriven-taken hand.card.sends.plan column taken is.driven told.posts_to));
           step = subst (λ k. IsInStep k card (column_of s i (events ++ Take i ∷ []))) (sym level.0) (subst (IsLevel card) (sym to) step);
         }
 

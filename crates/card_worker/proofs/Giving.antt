@@ -1,5 +1,6 @@
 -- What a card is given of its takings, and that its post for a slot depends on the slots before alone.
-use Rattle.std.proofs.Common.{◌≡◌, ◌∙◌, ◌||◌, ℕ, zero, suc, ◌≤◌, List, [], ◌∷◌, ◌++◌, length, map, refl, sym, ap, subst, append_assoc, arith, inl, inr, slice_index_or}
+use Rattle.std.proofs.Common.{◌≡◌, ◌∙◌, ◌||◌, ℕ, zero, suc, ◌≤◌, List, [], ◌∷◌, ◌++◌, length, map, refl, sym, ap, subst, append_assoc, arith, inl, inr}
+use Rattle.std.proofs.Common.{slice_index_or}
 use Rattle.std.specs.Prelude.{Option, None, Some}
 use Rattle.std.specs.List.{list_any, range_with_len}
 use Rattle.std.specs.Option.{option_map}
@@ -22,24 +23,31 @@ use Rattle.card_core.proofs.Taking.{queue_in-more}
 use Rattle.card_worker.specs.Agreeing.{IsFitted, IsGiven, AreGivenAfter, AreGiven}
 
 -- one taking more
-pub given-more : (plan : Plan) (before takings given : List Taken) (taken one : Taken) → AreGivenAfter plan before takings given → IsGiven plan (before ++ given) taken one → AreGivenAfter plan before (takings ++ taken ∷ []) (given ++ one ∷ [])
+pub given-more : (plan : Plan) (before takings given : List Taken) (taken one : Taken) → AreGivenAfter plan before takings given
+    → IsGiven plan (before ++ given) taken one → AreGivenAfter plan before (takings ++ taken ∷ []) (given ++ one ∷ [])
 given-more plan before [] [] taken one are is = (subst (λ b. IsGiven plan b taken one) (append-nil before) is, tt)
 given-more plan before [] (g ∷ given) taken one are is = absurd are
 given-more plan before (t ∷ takings) [] taken one are is = absurd are
-given-more plan before (t ∷ takings) (g ∷ given) taken one are is =
-    (are.0, given-more plan (before ++ g ∷ []) takings given taken one are.1 (subst (λ b. IsGiven plan b taken one) (sym (append_assoc before (g ∷ []) given)) is))
+given-more plan before (t ∷ takings) (g ∷ given) taken one are is = (
+  are.0,
+  given-more plan (before ++ g ∷ []) takings given taken one are.1
+      (subst (λ b. IsGiven plan b taken one) (sym (append_assoc before (g ∷ []) given)) is),
+)
 
 -- what does not read the cell is the same
-fitted-same : {Y : Type 0} (f : Taken → Y) (received : Received) (taken one : Taken) → f (record { slot = taken.slot; served = taken.served; cell = None; done = taken.done }) ≡ f taken → IsFitted received taken one → f one ≡ f taken
+fitted-same : {Y : Type 0} (f : Taken → Y) (received : Received) (taken one : Taken)
+    → f (record { slot = taken.slot; served = taken.served; cell = None; done = taken.done }) ≡ f taken → IsFitted received taken one → f one ≡ f taken
 fitted-same f received taken one same is = elim is [ inl all ↦ ap f all.1 | inr bare ↦ ap f bare.1 ∙ same ]
 
-module _ {Y : Type 0} (f : Taken → Y) (same : (taken : Taken) → f (record { slot = taken.slot; served = taken.served; cell = None; done = taken.done }) ≡ f taken) (plan : Plan) where
+module _ {Y : Type 0} (f : Taken → Y)
+    (same : (taken : Taken) → f (record { slot = taken.slot; served = taken.served; cell = None; done = taken.done }) ≡ f taken) (plan : Plan) where
   map-given : (before takings given : List Taken) → AreGivenAfter plan before takings given → map f given ≡ map f takings
   map-given before [] [] are = refl
   map-given before [] (g ∷ given) are = absurd are
   map-given before (t ∷ takings) [] are = absurd are
   map-given before (t ∷ takings) (g ∷ given) are =
-      ap (λ y. y ∷ map f given) (fitted-same f are.0.card.receives t g (same t) are.0.fitted) ∙ ap (λ ys. f t ∷ ys) (map-given (before ++ g ∷ []) takings given are.1)
+      ap (λ y. y ∷ map f given) (fitted-same f are.0.card.receives t g (same t) are.0.fitted)
+      ∙ ap (λ ys. f t ∷ ys) (map-given (before ++ g ∷ []) takings given are.1)
 
 module _ (plan : Plan) (takings given : List Taken) (are : AreGiven plan takings given) where
   pub served-given : served_in given ≡ served_in takings
@@ -81,4 +89,5 @@ module _ (plan : Plan) (served more : List (Option Served)) where
 
   pub post_at-more : (t : ℕ) → t ≤ length served → post_at plan (served ++ more) t ≡ post_at plan served t
   post_at-more t few =
-      ap (λ row. post_from plan t row (granted_at plan (served ++ more) t)) (row_at-more t few) ∙ ap (post_from plan t (row_at plan served t)) (granted_at-more t few)
+      ap (λ row. post_from plan t row (granted_at plan (served ++ more) t)) (row_at-more t few)
+      ∙ ap (post_from plan t (row_at plan served t)) (granted_at-more t few)

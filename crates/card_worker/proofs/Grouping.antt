@@ -30,7 +30,8 @@ at_place (x ∷ xs) zero inside = (x, refl)
 at_place (x ∷ xs) (suc i) inside = at_place xs i (omega (arith, inside))
 
 -- a new card and its new seat
-pub IsMember-new : (board : TurnValue Event) (hand : Hand) → IsBoard board → hand.kept ≡ None → IsAfter hand.card [] false → hand.card.sends.plan.ports ≡ board.seats → IsMember board (record { hand = hand; seat = new_seat board hand.card.sends.plan.card })
+pub IsMember-new : (board : TurnValue Event) (hand : Hand) → IsBoard board → hand.kept ≡ None → IsAfter hand.card [] false
+    → hand.card.sends.plan.ports ≡ board.seats → IsMember board (record { hand = hand; seat = new_seat board hand.card.sends.plan.card })
 IsMember-new board hand is none after ports =
     let column = column_at (new_seat board hand.card.sends.plan.card) in
     let free : hand.card.sends.posted ≡ false = after.sent.phase in
@@ -59,7 +60,8 @@ counts_none (group ∷ groups) none =
     let sums = sum_by-cons (λ (g : Group). length g.members.items) group groups in
     omega arith
 
-pub AreGroups-none : (board : TurnValue Event) (groups : List Group) → ((p : ℕ) (g : Group) → slice_get groups p ≡ Some g → g.members.items ≡ []) → AreGroups board 0 groups
+pub AreGroups-none : (board : TurnValue Event) (groups : List Group) → ((p : ℕ) (g : Group) → slice_get groups p ≡ Some g → g.members.items ≡ [])
+    → AreGroups board 0 groups
 AreGroups-none board groups none =
     record {
       count = counts_none groups none;
@@ -80,7 +82,9 @@ get-last : {X : Type 0} (xs : List X) (y : X) → slice_get (xs ++ y ∷ []) (le
 get-last [] y = refl
 get-last (z ∷ xs) y = get-last xs y
 
-module _ (board : TurnValue Event) (cards : ℕ) (groups : List Group) (p : ℕ) (group new : Group) (member : Member) (are : AreGroups board cards groups) (found : slice_get groups p ≡ Some group) (items : new.members.items ≡ group.members.items ++ member ∷ []) (is : IsMember board member) (number : member.seat.number ≡ cards) where
+module _ (board : TurnValue Event) (cards : ℕ) (groups : List Group) (p : ℕ) (group new : Group) (member : Member) (are : AreGroups board cards groups)
+    (found : slice_get groups p ≡ Some group) (items : new.members.items ≡ group.members.items ++ member ∷ []) (is : IsMember board member)
+    (number : member.seat.number ≡ cards) where
   now_found : slice_get (set groups p new) p ≡ Some new
   now_found = get-set_same groups p new (slice_get_within groups p group found)
 
@@ -90,28 +94,62 @@ module _ (board : TurnValue Event) (cards : ℕ) (groups : List Group) (p : ℕ)
         | inl same ↦
             let own : among.group ≡ group = some_same among.group group (slice_get groups among.place) among.found (ap (slice_get groups) same ∙ found) in
             let at : slice_get group.members.items among.within ≡ Some m = ap (λ (g : Group). slice_get g.members.items among.within) (sym own) ∙ among.at in
-            record { place = p; group = new; within = among.within; found = now_found; at = ap (λ ms. slice_get ms among.within) items ∙ get-push group.members.items member m among.within at }
-        | inr other ↦ record { place = among.place; group = among.group; within = among.within; found = get-set_other groups p among.place new other ∙ among.found; at = among.at }
+            record {
+              place = p;
+              group = new;
+              within = among.within;
+              found = now_found;
+              at = ap (λ ms. slice_get ms among.within) items
+                  ∙ get-push group.members.items member m among.within at;
+            }
+        | inr other ↦ record {
+          place = among.place;
+          group = among.group;
+          within = among.within;
+          found = get-set_other groups p among.place new other
+              ∙ among.found;
+          at = among.at;
+        }
       ]
 
   member_more : (m : Member) → IsAmong m (set groups p new) → IsMember board m
   member_more m among =
       elim (cases_eq among.place p) [
         | inl same ↦
-            let own : among.group ≡ new = some_same among.group new (slice_get (set groups p new) among.place) among.found (ap (slice_get (set groups p new)) same ∙ now_found) in
-            let at : slice_get (group.members.items ++ member ∷ []) among.within ≡ Some m = ap (λ ms. slice_get ms among.within) (sym items) ∙ ap (λ (g : Group). slice_get g.members.items among.within) (sym own) ∙ among.at in
+            let own : among.group ≡ new =
+            some_same among.group new (slice_get (set groups p new) among.place) among.found (ap (slice_get (set groups p new)) same ∙ now_found) in
+            let at : slice_get (group.members.items ++ member ∷ []) among.within ≡ Some m = ap (λ ms. slice_get ms among.within) (sym items)
+            ∙ ap (λ (g : Group). slice_get g.members.items among.within) (sym own) ∙ among.at in
             elim (get-snoc group.members.items member m among.within at) [
               | inl early ↦ are.members m (record { place = p; group = group; within = among.within; found = found; at = early })
               | inr last ↦ subst (IsMember board) last.1 is
             ]
-        | inr other ↦ are.members m (record { place = among.place; group = among.group; within = among.within; found = sym (get-set_other groups p among.place new other) ∙ among.found; at = among.at })
+        | inr other ↦ are.members m
+            (record {
+              place = among.place;
+              group = among.group;
+              within = among.within;
+              found = sym (get-set_other groups p among.place new other)
+                  ∙ among.found;
+              at = among.at;
+            })
       ]
 
   card_more : (i : ℕ) → i < cards + 1 → HasCard (set groups p new) i
   card_more i below =
       elim (cases_eq i cards) [
         | inl last ↦
-            record { member = member; among = record { place = p; group = new; within = length group.members.items; found = now_found; at = ap (λ ms. slice_get ms (length group.members.items)) items ∙ get-last group.members.items member }; number = number ∙ sym last }
+            record {
+              member = member;
+              among = record {
+                place = p;
+                group = new;
+                within = length group.members.items;
+                found = now_found;
+                at = ap (λ ms. slice_get ms (length group.members.items)) items ∙ get-last group.members.items member;
+              };
+              number = number ∙ sym last;
+            }
         | inr other ↦ let has = are.each i (omega arith) in record { member = has.member; among = among_more has.member has.among; number = has.number }
       ]
 
@@ -126,7 +164,9 @@ module _ (board : TurnValue Event) (cards : ℕ) (groups : List Group) (p : ℕ)
       record { count = omega arith; each = card_more; members = member_more }
 
 -- ---- groups that were driven
-counts_same : (olds news : List Group) → length news ≡ length olds → ((p : ℕ) (old new : Group) → slice_get olds p ≡ Some old → slice_get news p ≡ Some new → length new.members.items ≡ length old.members.items) → member_count news ≡ member_count olds
+counts_same : (olds news : List Group) → length news ≡ length olds
+    → ((p : ℕ) (old new : Group) → slice_get olds p ≡ Some old → slice_get news p ≡ Some new → length new.members.items ≡ length old.members.items)
+    → member_count news ≡ member_count olds
 counts_same [] [] long same = refl
 counts_same [] (new ∷ news) long same = absurd (omega (arith, long))
 counts_same (old ∷ olds) [] long same = absurd (omega (arith, long))
@@ -137,7 +177,9 @@ counts_same (old ∷ olds) (new ∷ news) long same =
     let b = sum_by-cons (λ (g : Group). length g.members.items) new news in
     omega arith
 
-module _ (board : TurnValue Event) (cards patience : ℕ) (olds news : List Group) (are : AreGroups board cards olds) (long : length news ≡ length olds) (passes : (p : ℕ) (old new : Group) → slice_get olds p ≡ Some old → slice_get news p ≡ Some new → (made : ℕ) × AfterPasses board old.members.items new.members.items patience made) where
+module _ (board : TurnValue Event) (cards patience : ℕ) (olds news : List Group) (are : AreGroups board cards olds) (long : length news ≡ length olds)
+    (passes : (p : ℕ) (old new : Group) → slice_get olds p ≡ Some old → slice_get news p ≡ Some new → (made : ℕ)
+    × AfterPasses board old.members.items new.members.items patience made) where
   pub AreGroups-driven : AreGroups board cards news
   AreGroups-driven =
       record {
@@ -152,7 +194,11 @@ module _ (board : TurnValue Event) (cards patience : ℕ) (olds news : List Grou
             let within : among.within < length among.group.members.items = slice_get_within among.group.members.items among.within has.member among.at in
             let last = at_place new.0.members.items among.within (omega arith) in
             let same = driven.same among.within has.member last.0 among.at last.1 in
-            record { member = last.0; among = record { place = among.place; group = new.0; within = among.within; found = new.1; at = last.1 }; number = same.number ∙ has.number };
+            record {
+              member = last.0;
+              among = record { place = among.place; group = new.0; within = among.within; found = new.1; at = last.1 };
+              number = same.number ∙ has.number;
+            };
         members = λ m among.
             let inside : among.place < length news = slice_get_within news among.place among.group among.found in
             let old = at_place olds among.place (omega arith) in
@@ -161,8 +207,10 @@ module _ (board : TurnValue Event) (cards patience : ℕ) (olds news : List Grou
       }
 
 -- ---- groups that were disbanded
-module _ (board : TurnValue Event) (groups : List Group) (seats : List (SeatValue Event)) (hands : List Hand) (are : AreGroups board board.seats groups) (from : AreFrom groups seats hands (member_count groups)) where
-  pub member_at : (i : ℕ) (hand : Hand) (seat : SeatValue Event) → slice_get hands i ≡ Some hand → slice_get seats i ≡ Some seat → IsMember board (record { hand = hand; seat = seat })
+module _ (board : TurnValue Event) (groups : List Group) (seats : List (SeatValue Event)) (hands : List Hand) (are : AreGroups board board.seats groups)
+    (from : AreFrom groups seats hands (member_count groups)) where
+  pub member_at : (i : ℕ) (hand : Hand) (seat : SeatValue Event) → slice_get hands i ≡ Some hand → slice_get seats i ≡ Some seat
+      → IsMember board (record { hand = hand; seat = seat })
   member_at i hand seat at too = are.members (record { hand = hand; seat = seat }) (from.each i hand seat at too).1
 
   hand_at : (i : ℕ) (seat : SeatValue Event) → slice_get seats i ≡ Some seat → (hand : Hand) × (slice_get hands i ≡ Some hand)

@@ -21,7 +21,8 @@ use Rattle.card_worker.specs.declared.hands.Member.{Member}
 use Rattle.card_worker.specs.Agreeing.{IsDriven, IsLevel, IsAhead, IsInStep, CanPost, AfterGiving}
 use Rattle.card_worker.specs.Trying.{IsSound, AfterTry, acts_of}
 use Rattle.card_worker.proofs.Accepting.{accepted_at, servable_told}
-use Rattle.card_worker.proofs.Steps.{next_post, IsLevel-posted, IsDriven-posted, IsLevel-taken, IsDriven-taken, level_of, slot_is, good_plan, servable_card, CanPost-of}
+use Rattle.card_worker.proofs.Steps.{next_post, IsLevel-posted, IsDriven-posted, IsLevel-taken, IsDriven-taken, level_of, slot_is, good_plan}
+use Rattle.card_worker.proofs.Steps.{servable_card, CanPost-of}
 
 -- a due seat that has not posted is not done, and a slot is left
 due_cases : (less done room : Bool) → (less || (not done && room)) ≡ true → less ≡ false → (done ≡ false) × (room ≡ true)
@@ -60,7 +61,8 @@ module _ (board : TurnValue Event) (old : Member) (sound : IsSound board old) wh
     module _ (due : is_due old.seat ≡ true) where
       pub due_free : (is_done old.seat ≡ false) × (slot_of old.seat < (setup_at old.seat).max_slots)
       due_free =
-          let none : nat_lt (slot_of seat) (length column.posts) ≡ false = le-ltb (slot_of seat) (length column.posts) (let same = posts_same in let slot = sound.told.told.slot in omega arith) in
+          let none : nat_lt (slot_of seat) (length column.posts) ≡ false =
+          le-ltb (slot_of seat) (length column.posts) (let same = posts_same in let slot = sound.told.told.slot in omega arith) in
           let parts = due_cases (nat_lt (slot_of seat) (length column.posts)) (is_done seat) (nat_lt (slot_of seat) (setup_at seat).max_slots) due none in
           (parts.0, ltb-true (slot_of seat) (setup_at seat).max_slots parts.1)
 
@@ -79,9 +81,12 @@ module _ (board : TurnValue Event) (old : Member) (sound : IsSound board old) wh
           let n = (setup_at seat).ports in
           let good = good_plan old.hand.kept old.hand.card column agrees.step in
           let next = next_post plan column in
-          let by_law : IsAccepted n seat.number (row_told column) (served_told column) next = accepted_at plan (setup_at seat) seat.number (events_seen seat) good sound.told.legal agrees.ports agrees.card agrees.driven posts_same in
-          let by_row : IsAccepted n seat.number (last_row seat) (served_told column) next = subst (λ (row : Row). IsAccepted n seat.number row (served_told column) next) (sym told.row) by_law in
-          let by_part : IsAccepted n seat.number (last_row seat) (last_served seat) next = subst (λ (part : Option Served). IsAccepted n seat.number (last_row seat) part next) (sym told.served) by_row in
+          let by_law : IsAccepted n seat.number (row_told column) (served_told column) next =
+          accepted_at plan (setup_at seat) seat.number (events_seen seat) good sound.told.legal agrees.ports agrees.card agrees.driven posts_same in
+          let by_row : IsAccepted n seat.number (last_row seat) (served_told column) next =
+          subst (λ (row : Row). IsAccepted n seat.number row (served_told column) next) (sym told.row) by_law in
+          let by_part : IsAccepted n seat.number (last_row seat) (last_served seat) next =
+          subst (λ (part : Option Served). IsAccepted n seat.number (last_row seat) part next) (sym told.served) by_row in
           subst (λ (p : Post). IsAccepted n seat.number (last_row seat) (last_served seat) p) (sym is) by_part
 
   -- a seat that has posted
@@ -96,15 +101,19 @@ module _ (board : TurnValue Event) (old : Member) (sound : IsSound board old) wh
     card_slot = slot_is old.hand.card column level.1 ∙ sym sound.told.told.slot
 
     -- what the board gave it may be served of the card's row
-    pub servable : (next : SeatValue Event) (taken : Taken) → IsSeat next → column_at next ≡ with_taking column taken → IsServable old.hand.card.sends.row taken.served
+    pub servable : (next : SeatValue Event) (taken : Taken) → IsSeat next → column_at next ≡ with_taking column taken
+        → IsServable old.hand.card.sends.row taken.served
     servable next taken told is =
         let setup = told.board.setup in
         let may = servable_told (setup_at next) next.number (events_seen next) setup.ports_some setup.ports_few told.legal told.card_in in
-        servable_card old.hand.card column taken level.1 level.2 sound.agrees.agrees.driven less (subst (λ (c : Column). IsServable (row_told c) (served_told c)) is may)
+        servable_card old.hand.card column taken level.1 level.2 sound.agrees.agrees.driven less
+        (subst (λ (c : Column). IsServable (row_told c) (served_told c)) is may)
 
   -- what stands after a call
-  module _ (hand : Hand) (next : SeatValue Event) (same : (next.turn ≡ old.seat.turn) × (next.number ≡ old.seat.number)) (told : IsSeat next) (plan_is : hand.card.sends.plan ≡ old.hand.card.sends.plan) where
-    sound_next : (to : Column) → column_at next ≡ to → IsDriven old.hand.card.sends.plan to → IsInStep hand.kept hand.card to → IsSound board (record { hand = hand; seat = next })
+  module _ (hand : Hand) (next : SeatValue Event) (same : (next.turn ≡ old.seat.turn) × (next.number ≡ old.seat.number)) (told : IsSeat next)
+      (plan_is : hand.card.sends.plan ≡ old.hand.card.sends.plan) where
+    sound_next : (to : Column) → column_at next ≡ to → IsDriven old.hand.card.sends.plan to → IsInStep hand.kept hand.card to
+        → IsSound board (record { hand = hand; seat = next })
     sound_next to is driven step =
         let agrees = sound.agrees.agrees in
         record {
@@ -120,7 +129,9 @@ module _ (board : TurnValue Event) (old : Member) (sound : IsSound board old) wh
           told = told;
         }
 
-    acted_next : (to : Column) → column_at next ≡ to → IsDriven old.hand.card.sends.plan to → IsInStep hand.kept hand.card to → length to.posts + length to.takings ≡ acts_of old + 1 → refusals next ≡ refusals old.seat → AfterTry board old (record { hand = hand; seat = next }) true
+    acted_next : (to : Column) → column_at next ≡ to → IsDriven old.hand.card.sends.plan to → IsInStep hand.kept hand.card to
+        → length to.posts + length to.takings ≡ acts_of old + 1 → refusals next ≡ refusals old.seat
+        → AfterTry board old (record { hand = hand; seat = next }) true
     acted_next to is driven step acts tries =
         record {
           sound = sound_next to is driven step;
@@ -141,18 +152,25 @@ module _ (board : TurnValue Event) (old : Member) (sound : IsSound board old) wh
           number = same.1;
           acts = ap (λ (c : Column). length c.posts + length c.takings) after.column ∙ omega arith;
           tries = omega (arith, after.tries, ap (λ (c : Column). length c.posts + length c.takings) after.column);
-          due = λ no. due_same (slot_of next) (length (column_at next).posts) (setup_at next).max_slots (slot_of old.seat) (length column.posts) (setup_at old.seat).max_slots (is_done next) (is_done old.seat) after.slot (ap (λ (c : Column). length c.posts) after.column) after.done room;
+          due = λ no. due_same (slot_of next) (length (column_at next).posts) (setup_at next).max_slots (slot_of old.seat) (length column.posts)
+              (setup_at old.seat).max_slots (is_done next) (is_done old.seat) after.slot (ap (λ (c : Column). length c.posts) after.column) after.done room;
         }
 
     -- the post was taken by the board
-    pub posted_next : (free : IsPosted old.seat → ⊥) (post : Post) → hand.kept ≡ None → IsAhead post hand.card column → AfterPost old.seat next → column_at next ≡ with_post column post → AfterTry board old (record { hand = hand; seat = next }) true
+    pub posted_next : (free : IsPosted old.seat → ⊥) (post : Post) → hand.kept ≡ None → IsAhead post hand.card column → AfterPost old.seat next
+        → column_at next ≡ with_post column post → AfterTry board old (record { hand = hand; seat = next }) true
     posted_next free post none ahead after is =
         let mine : post ≡ next_post old.hand.card.sends.plan column = ahead.is ∙ ap (λ p. next_post p column) plan_is in
-        acted_next (with_post column post) is (IsDriven-posted old.hand.card.sends.plan post column sound.agrees.agrees.driven (posts_same free) mine) (subst (λ k. IsInStep k hand.card (with_post column post)) (sym none) (IsLevel-posted post hand.card column ahead)) (omega (arith, length_push column.posts post)) after.tries
+        acted_next (with_post column post) is (IsDriven-posted old.hand.card.sends.plan post column sound.agrees.agrees.driven (posts_same free) mine)
+        (subst (λ k. IsInStep k hand.card (with_post column post)) (sym none) (IsLevel-posted post hand.card column ahead))
+        (omega (arith, length_push column.posts post)) after.tries
 
     -- the card took
-    pub taken_next : (it : IsPosted old.seat) (taken : Taken) → hand.kept ≡ old.hand.kept → AfterGiving taken old.hand.card hand.card → AfterTaking taken old.seat next → column_at next ≡ with_taking column taken → AfterTry board old (record { hand = hand; seat = next }) true
+    pub taken_next : (it : IsPosted old.seat) (taken : Taken) → hand.kept ≡ old.hand.kept → AfterGiving taken old.hand.card hand.card
+        → AfterTaking taken old.seat next → column_at next ≡ with_taking column taken → AfterTry board old (record { hand = hand; seat = next }) true
     taken_next it taken kept give after is =
         let was = level it in
         let step : IsLevel hand.card (with_taking column taken) = IsLevel-taken old.hand.card hand.card column taken was.1 was.2 give in
-        acted_next (with_taking column taken) is (IsDriven-taken old.hand.card.sends.plan column taken sound.agrees.agrees.driven sound.told.told.posts_to) (subst (λ k. IsInStep k hand.card (with_taking column taken)) (sym (kept ∙ was.0)) step) (omega (arith, length_push column.takings taken)) after.tries
+        acted_next (with_taking column taken) is (IsDriven-taken old.hand.card.sends.plan column taken sound.agrees.agrees.driven sound.told.told.posts_to)
+        (subst (λ k. IsInStep k hand.card (with_taking column taken)) (sym (kept ∙ was.0)) step)
+        (omega (arith, length_push column.takings taken)) after.tries

@@ -23,7 +23,8 @@ use Rattle.card_worker.proofs.Columns.{column-decide}
 use Rattle.card_worker.proofs.Passes.{get-set_same, get-set_other, some_same, one_none}
 
 -- a hand whose card keeps its plan
-pub plans_of-set : (hands : List Hand) (i : ℕ) (new old : Hand) → i < length hands → new.card.sends.plan ≡ (get_or hands i old).card.sends.plan → plans_of (set hands i new) ≡ plans_of hands
+pub plans_of-set : (hands : List Hand) (i : ℕ) (new old : Hand) → i < length hands → new.card.sends.plan ≡ (get_or hands i old).card.sends.plan
+    → plans_of (set hands i new) ≡ plans_of hands
 plans_of-set hands i new old inside same =
     let plan : Hand → Plan = λ hand. hand.card.sends.plan in
     map-set plan hands i new
@@ -50,10 +51,12 @@ AfterRound-none hands board are =
     }
 
 -- a hand whose card's column stays
-moved : (hand : Hand) (j : ℕ) (mid new : StateValue) → new.setup ≡ mid.setup → column_of mid.setup j new.events ≡ column_of mid.setup j mid.events → IsHandOf hand mid.setup j mid.events → IsHandOf hand new.setup j new.events
+moved : (hand : Hand) (j : ℕ) (mid new : StateValue) → new.setup ≡ mid.setup → column_of mid.setup j new.events ≡ column_of mid.setup j mid.events
+    → IsHandOf hand mid.setup j mid.events → IsHandOf hand new.setup j new.events
 moved hand j mid new setup column is = subst (λ s. Agrees hand s j (column_of s j new.events)) (sym setup) (subst (Agrees hand mid.setup j) (sym column) is)
 
-module _ (hands : List Hand) (old mid new : StateValue) (k made : ℕ) (before : AfterRound hands old mid k made) (next : Hand) (acted : Bool) (inside : k < length hands) (own : IsHandOf next new.setup k new.events) (act : AfterAct k mid new acted) where
+module _ (hands : List Hand) (old mid new : StateValue) (k made : ℕ) (before : AfterRound hands old mid k made) (next : Hand) (acted : Bool)
+    (inside : k < length hands) (own : IsHandOf next new.setup k new.events) (act : AfterAct k mid new acted) where
   pub AfterRound-more : AfterRound (set hands k next) old new (k + 1) (made + one_if acted)
   AfterRound-more =
       record {
@@ -61,7 +64,8 @@ module _ (hands : List Hand) (old mid new : StateValue) (k made : ℕ) (before :
           count = length-set hands k next ∙ before.hands_are.count ∙ ap (λ s. s.ports) (sym act.setup);
           each = λ j hand at. elim (cases_eq j k) [
             | inl same ↦
-                let is : next ≡ hand = some_same next hand (slice_get (set hands k next) j) (ap (slice_get (set hands k next)) same ∙ get-set_same hands k next inside) at in
+                let is : next ≡ hand = some_same next hand (slice_get (set hands k next) j)
+                (ap (slice_get (set hands k next)) same ∙ get-set_same hands k next inside) at in
                 subst (λ h. IsHandOf h new.setup j new.events) is (subst (λ i. IsHandOf next new.setup i new.events) (sym same) own)
             | inr other ↦ moved hand j mid new act.setup (act.others j other) (before.hands_are.each j hand (sym (get-set_other hands k j next other) ∙ at))
           ];
@@ -73,7 +77,8 @@ module _ (hands : List Hand) (old mid new : StateValue) (k made : ℕ) (before :
         still = λ none.
             let first = before.still (omega arith) in
             let last = act.still (one_none acted (omega arith)) in
-            let here : IsStill old.setup k old.events = subst (λ s. IsStill s k old.events) before.setup (subst (λ events. IsStill mid.setup k events) first.0 last.1) in (
+            let here : IsStill old.setup k old.events =
+            subst (λ s. IsStill s k old.events) before.setup (subst (λ events. IsStill mid.setup k events) first.0 last.1) in (
               last.0 ∙ first.0,
               λ j below. elim (cases_eq j k) [
                 | inl same ↦ subst (λ i. IsStill old.setup i old.events) (sym same) here
@@ -90,7 +95,8 @@ AreHandsOf-decide hands board are =
     }
 
 -- where no card can act and the slot can't be decided, all is over
-module _ (s : Setup) (events : List Event) (legal : IsLegal s events) (still : (j : ℕ) → j < s.ports → IsStill s j events) (undecided : MayDecide s events → ⊥) where
+module _ (s : Setup) (events : List Event) (legal : IsLegal s events) (still : (j : ℕ) → j < s.ports → IsStill s j events)
+    (undecided : MayDecide s events → ⊥) where
   none_posted : (i : ℕ) → i < s.ports → takes_of i events < length (posts_of i events) → ⊥
   none_posted i inside it =
       let step = AreInStep-legal s events legal in
@@ -112,7 +118,8 @@ module _ (s : Setup) (events : List Event) (legal : IsLegal s events) (still : (
                     | inl done ↦
                         let same : takes_of j events ≡ decides events = omega arith in
                         let going = (AreAccepted-legal s events legal).going i (decides events) inside (omega arith) in
-                        absurd (both_ways (is_done_before s.ports (posted events) (decides events)) going (ap (is_done_before s.ports (posted events)) (sym same) ∙ done))
+                        absurd (both_ways (is_done_before s.ports (posted events) (decides events)) going
+                        (ap (is_done_before s.ports (posted events)) (sym same) ∙ done))
                     | inr used ↦ absurd (omega arith)
                   ]
             ]
@@ -132,9 +139,13 @@ pub events_few : (s : Setup) (events : List Event) → IsSetup s → IsLegal s e
 events_few s events setup legal = length-in_step s events setup.ports_some (AreInStep-legal s events legal)
 
 -- after a round with no event
-pub round_over : (hands : List Hand) (old mid new : StateValue) (acts : ℕ) → AfterRound hands old mid (length hands) acts → acts ≡ 0 → new ≡ mid → (MayDecide mid.setup mid.events → ⊥) → IsLegal new.setup new.events → (i : ℕ) → i < new.setup.ports → IsOver new.setup i new.events
+pub round_over : (hands : List Hand) (old mid new : StateValue) (acts : ℕ) → AfterRound hands old mid (length hands) acts → acts ≡ 0 → new ≡ mid
+    → (MayDecide mid.setup mid.events → ⊥) → IsLegal new.setup new.events → (i : ℕ) → i < new.setup.ports → IsOver new.setup i new.events
 round_over hands old mid new acts round none is undecided legal =
     let first = round.still none in
-    let still : (j : ℕ) → j < mid.setup.ports → IsStill mid.setup j mid.events = λ j within. subst (λ s. IsStill s j mid.events) (sym round.setup) (subst (λ events. IsStill old.setup j events) (sym first.0) (first.1 j (let count = round.hands_are.count in omega arith))) in
-    let over : (i : ℕ) → i < mid.setup.ports → IsOver mid.setup i mid.events = all_over mid.setup mid.events (subst (λ (b : StateValue). IsLegal b.setup b.events) is legal) still undecided in
+    let still : (j : ℕ) → j < mid.setup.ports → IsStill mid.setup j mid.events =
+    λ j within. subst (λ s. IsStill s j mid.events) (sym round.setup)
+    (subst (λ events. IsStill old.setup j events) (sym first.0) (first.1 j (let count = round.hands_are.count in omega arith))) in
+    let over : (i : ℕ) → i < mid.setup.ports
+    → IsOver mid.setup i mid.events = all_over mid.setup mid.events (subst (λ (b : StateValue). IsLegal b.setup b.events) is legal) still undecided in
     subst (λ (b : StateValue). (i : ℕ) → i < b.setup.ports → IsOver b.setup i b.events) (sym is) over

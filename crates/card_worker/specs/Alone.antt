@@ -34,7 +34,8 @@ GoesOn old new = (more : List Event) × (new ≡ old ++ more)
 -- The card can't act: its slot is not decided where it has posted that, and else it is done or no slot is left.
 pub record IsStill (s : Setup) (i : ℕ) (events : List Event) : Type 0 where
   pub waits : takes_of i events < length (posts_of i events) → decides events ≤ takes_of i events
-  pub ended : (takes_of i events < length (posts_of i events) → ⊥) → (is_done_before s.ports (posted events) (takes_of i events) ≡ true) ⊎ (s.max_slots ≤ takes_of i events)
+  pub ended : (takes_of i events < length (posts_of i events) → ⊥) → (is_done_before s.ports (posted events) (takes_of i events) ≡ true)
+      ⊎ (s.max_slots ≤ takes_of i events)
 
 -- one of the card's posts and takes came, or none where it can't act
 pub record AfterAct (i : ℕ) (old new : StateValue) (acted : Bool) : Type 0 where

@@ -58,4 +58,5 @@ pub record AfterPasses (board : TurnValue Event) (olds news : List Member) (idle
   pub sound : (j : ℕ) (new : Member) → slice_get news j ≡ Some new → IsSound board new
   pub same : (j : ℕ) (old new : Member) → slice_get olds j ≡ Some old → slice_get news j ≡ Some new → IsSameMember old new
   pub tried : (j : ℕ) (old new : Member) → slice_get olds j ≡ Some old → slice_get news j ≡ Some new → HasTried passes old new
-  pub waited : (j : ℕ) (old new : Member) → slice_get olds j ≡ Some old → slice_get news j ≡ Some new → is_due new.seat ≡ true → refusals old.seat + idle ≤ refusals new.seat
+  pub waited : (j : ℕ) (old new : Member) → slice_get olds j ≡ Some old → slice_get news j ≡ Some new → is_due new.seat ≡ true
+      → refusals old.seat + idle ≤ refusals new.seat

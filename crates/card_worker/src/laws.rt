@@ -24,7 +24,8 @@ ghost use Rattle.card_worker.specs.Groups.{AreGroups};
 pub fn posts_are_accepted()
     ensures { (plan : Plan) (s : Setup) (events : List Event) → IsGoodPlan plan → IsLegal s events → plan.ports ≡ s.ports
         → IsDriven plan (column_of s plan.card events) → length (column_of s plan.card events).posts ≡ length (column_of s plan.card events).takings
-        → IsAccepted s.ports plan.card (row_told (column_of s plan.card events)) (served_told (column_of s plan.card events)) (post_at plan (served_in (column_of s plan.card events).takings) (length (column_of s plan.card events).takings)) }
+        → IsAccepted s.ports plan.card (row_told (column_of s plan.card events)) (served_told (column_of s plan.card events))
+        (post_at plan (served_in (column_of s plan.card events).takings) (length (column_of s plan.card events).takings)) }
 {}
 
 /// A new card and the new seat of its port are a member of the board.
@@ -43,14 +44,18 @@ pub fn groups_grow()
 /// Groups that were driven have the members of the same cards as before.
 pub fn driven_groups_stay()
     ensures { (board : TurnValue Event) (cards patience : ℕ) (olds news : List Group) → AreGroups board cards olds → length news ≡ length olds
-        → ((place : ℕ) (old new : Group) → slice_get olds place ≡ Some old → slice_get news place ≡ Some new → (made : ℕ) × AfterPasses board old.members.items new.members.items patience made)
+        → ((place : ℕ) (old new : Group) → slice_get olds place ≡ Some old → slice_get news place ≡ Some new → (made : ℕ)
+        × AfterPasses board old.members.items new.members.items patience made)
         → AreGroups board cards news }
 {}
 
 /// The seats and hands that a board's groups are disbanded into are all of the board's, and agree.
 pub fn disbanded_groups_agree()
-    ensures seats { (board : TurnValue Event) (groups : List Group) (seats : List (SeatValue Event)) (hands : List Hand) → AreGroups board board.seats groups → AreFrom groups seats hands (member_count groups)
+    ensures seats { (board : TurnValue Event) (groups : List Group) (seats : List (SeatValue Event)) (hands : List Hand) → AreGroups board board.seats groups
+        → AreFrom groups seats hands (member_count groups)
         → AreSeats board seats × (length hands ≡ length seats) }
-    ensures members { (board : TurnValue Event) (groups : List Group) (seats : List (SeatValue Event)) (hands : List Hand) → AreGroups board board.seats groups → AreFrom groups seats hands (member_count groups)
-        → (i : ℕ) (hand : Hand) (seat : SeatValue Event) → slice_get hands i ≡ Some hand → slice_get seats i ≡ Some seat → IsMember board (record { hand = hand; seat = seat }) }
+    ensures members { (board : TurnValue Event) (groups : List Group) (seats : List (SeatValue Event)) (hands : List Hand)
+        → AreGroups board board.seats groups → AreFrom groups seats hands (member_count groups)
+        → (i : ℕ) (hand : Hand) (seat : SeatValue Event) → slice_get hands i ≡ Some hand → slice_get seats i ≡ Some seat
+        → IsMember board (record { hand = hand; seat = seat }) }
 {}

@@ -51,7 +51,8 @@ fn post(member: &mut Member, board: &Board) -> bool
 pub(crate) fn next_post(hand: &mut Hand) -> Post
     requires { CanPost hand.old.kept hand.old.card }
     ensures plan { hand.new.card.sends.plan ≡ hand.old.card.sends.plan }
-    ensures ahead { (column : Column) → IsInStep hand.old.kept hand.old.card column → length column.posts ≡ length column.takings → IsAhead result hand.new.card column }
+    ensures ahead { (column : Column) → IsInStep hand.old.kept hand.old.card column → length column.posts ≡ length column.takings
+        → IsAhead result hand.new.card column }
 {
     match hand.kept {
         Some(post) => post,

@@ -1,5 +1,6 @@
 -- The cells of a message are of the form of a cell, and have the message's bytes.
-use Rattle.std.proofs.Common.{◌≡◌, ℕ, suc, zero, ◌+◌, ◌-◌, ◌*◌, ◌<◌, ◌≤◌, Bool, true, false, List, ◌++◌, length, take, drop, map, min, leb, refl, arith, sym, ap, ◌∙◌, subst, inl, inr}
+use Rattle.std.proofs.Common.{◌≡◌, ℕ, suc, zero, ◌+◌, ◌-◌, ◌*◌, ◌<◌, ◌≤◌, Bool, true, false, List, ◌++◌, length, take, drop, map, min, leb, refl, arith}
+use Rattle.std.proofs.Common.{sym, ap, ◌∙◌, subst, inl, inr}
 use Rattle.std.proofs.lemmas.Bool.{cases_lt, leb-false, le-leb, lt-leb}
 use Rattle.std.specs.List.{range_with_len, flat_map}
 use Rattle.std.proofs.lemmas.List.{take_all, drop-drop}
@@ -15,7 +16,8 @@ IsUsed-part : (m k : ℕ) → 56 * k < m → (b : Bool) → leb m (56 * k + 56) 
 IsUsed-part m k some true e = (omega arith, omega arith)
 IsUsed-part m k some false e = let more = leb-false _ _ e in omega arith
 
-pub IsCellForm-cell_of : (input level : ℕ) (kind : Kind) (message : List ℕ) (k : ℕ) → input < 64 → level < 4 → length message ≤ 65551 → k < cells_in (length message) → IsCellForm (cell_of input level kind message k)
+pub IsCellForm-cell_of : (input level : ℕ) (kind : Kind) (message : List ℕ) (k : ℕ) → input < 64 → level < 4 → length message ≤ 65551
+    → k < cells_in (length message) → IsCellForm (cell_of input level kind message k)
 IsCellForm-cell_of input level kind message k inputs levels few numbers =
     let few_bytes : length (part k message) ≤ 56 = omega (arith, length-part k message) in
     record {
@@ -36,16 +38,22 @@ last_by_left m k left some e =
     ]
 
 -- a cell by its fields, where they are those of cell k
-pub cell_by_fields : (input level : ℕ) (kind : Kind) (message : List ℕ) (k used : ℕ) (last : Bool) (payload : List ℕ) → last ≡ leb (length message) (56 * k + 56) → used ≡ length (part k message) → payload ≡ padded (part k message) → ◌≡◌ {A = Cell} (record { input = input; level = level; kind = kind; last = last; used = used; number = k; payload = payload }) (cell_of input level kind message k)
+pub cell_by_fields : (input level : ℕ) (kind : Kind) (message : List ℕ) (k used : ℕ) (last : Bool) (payload : List ℕ)
+    → last ≡ leb (length message) (56 * k + 56) → used ≡ length (part k message) → payload ≡ padded (part k message)
+    → ◌≡◌ {A = Cell} (record { input = input; level = level; kind = kind; last = last; used = used; number = k; payload = payload })
+    (cell_of input level kind message k)
 cell_by_fields input level kind message k used last payload lasts useds payloads = rw (lasts, useds, payloads) refl
 
 -- the used bytes of n cells from cell a on
-joined_from : (input level : ℕ) (kind : Kind) (message : List ℕ) (a n : ℕ) → flat_map used_bytes (map (cell_of input level kind message) (range_with_len a n)) ≡ take (56 * n) (drop (56 * a) message)
+joined_from : (input level : ℕ) (kind : Kind) (message : List ℕ) (a n : ℕ)
+    → flat_map used_bytes (map (cell_of input level kind message) (range_with_len a n)) ≡ take (56 * n) (drop (56 * a) message)
 joined_from input level kind message a zero = refl
 joined_from input level kind message a (suc n) =
     let here : used_bytes (cell_of input level kind message a) ≡ part a message = take-padded (part a message) in
-    let rest : flat_map used_bytes (map (cell_of input level kind message) (range_with_len (a + 1) n)) ≡ take (56 * n) (drop 56 (drop (56 * a) message)) = joined_from input level kind message (a + 1) n ∙ ap (take (56 * n)) (ap (λ m. drop m message) (omega arith) ∙ sym (drop-drop 56 (56 * a) message)) in
-    let all : take (56 + 56 * n) (drop (56 * a) message) ≡ take 56 (drop (56 * a) message) ++ take (56 * n) (drop 56 (drop (56 * a) message)) = take-add 56 (56 * n) (drop (56 * a) message) in
+    let rest : flat_map used_bytes (map (cell_of input level kind message) (range_with_len (a + 1) n)) ≡ take (56 * n) (drop 56 (drop (56 * a) message)) =
+    joined_from input level kind message (a + 1) n ∙ ap (take (56 * n)) (ap (λ m. drop m message) (omega arith) ∙ sym (drop-drop 56 (56 * a) message)) in
+    let all : take (56 + 56 * n) (drop (56 * a) message) ≡ take 56 (drop (56 * a) message) ++ take (56 * n) (drop 56 (drop (56 * a) message)) =
+    take-add 56 (56 * n) (drop (56 * a) message) in
     let more : 56 * suc n ≡ 56 + 56 * n = omega arith in
     ap (λ xs. xs ++ flat_map used_bytes (map (cell_of input level kind message) (range_with_len (a + 1) n))) here
     ∙ (ap (λ xs. part a message ++ xs) rest ∙ (sym all ∙ ap (λ m. take m (drop (56 * a) message)) (sym more)))

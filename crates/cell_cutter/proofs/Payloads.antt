@@ -1,5 +1,6 @@
 -- The payload of a cell, by the blocks in which it is written.
-use Rattle.std.proofs.Common.{◌≡◌, ℕ, ◌+◌, ◌-◌, ◌*◌, ◌<◌, ◌≤◌, List, ◌++◌, length, take, drop, min, replicate, refl, arith, sym, ap, ◌∙◌, append_assoc, length-append, length-take, length-drop}
+use Rattle.std.proofs.Common.{◌≡◌, ℕ, ◌+◌, ◌-◌, ◌*◌, ◌<◌, ◌≤◌, List, ◌++◌, length, take, drop, min, replicate, refl, arith, sym, ap, ◌∙◌, append_assoc}
+use Rattle.std.proofs.Common.{length-append, length-take, length-drop}
 use Rattle.std.specs.Int.{w32, to_be_bytes}
 use Rattle.std.proofs.lemmas.List.{drop-replicate, take_min, drop-drop, drop_at, take_at, length-replicate}
 use Rattle.std.proofs.Math.Seq.{take-append-add}
@@ -13,10 +14,13 @@ length-message_header seconds nanos captured original = refl
 
 pub length-message : (seconds nanos original : ℕ) (bytes : List ℕ) → length (message seconds nanos original bytes) ≡ 16 + length bytes
 length-message seconds nanos original bytes =
-    length-append (message_header seconds nanos (length bytes) original) bytes ∙ ap (λ n. n + length bytes) (length-message_header seconds nanos (length bytes) original)
+    length-append (message_header seconds nanos (length bytes) original) bytes
+    ∙ ap (λ n. n + length bytes) (length-message_header seconds nanos (length bytes) original)
 
 -- a header is its four fields, written one after the other
-pub four_fields : (a b c d : List ℕ) (seconds nanos captured original : ℕ) → a ≡ to_be_bytes w32 seconds → b ≡ to_be_bytes w32 nanos → c ≡ to_be_bytes w32 captured → d ≡ to_be_bytes w32 original → put_mid 12 4 (put_mid 8 4 (put_mid 4 4 (a ++ replicate 12 0) b) c) d ≡ message_header seconds nanos captured original
+pub four_fields : (a b c d : List ℕ) (seconds nanos captured original : ℕ) → a ≡ to_be_bytes w32 seconds → b ≡ to_be_bytes w32 nanos
+    → c ≡ to_be_bytes w32 captured → d ≡ to_be_bytes w32 original
+    → put_mid 12 4 (put_mid 8 4 (put_mid 4 4 (a ++ replicate 12 0) b) c) d ≡ message_header seconds nanos captured original
 unfolding message_header
 four_fields a b c d seconds nanos captured original e f g h = rw (e, f, g, h) refl
 
@@ -31,7 +35,8 @@ put_after front zeros bytes n fronts =
     ∙ ap (λ d. front ++ (bytes ++ drop n d)) (drop_at front zeros 16 fronts)
 
 -- zeros stand after bytes that were written after a front of 16
-pub written_after : (front bytes : List ℕ) (count : ℕ) → length front ≡ 16 → length bytes ≡ count → count ≤ 40 → put_mid 16 (16 + count - 16) (front ++ replicate 40 0) bytes ≡ padded (front ++ bytes)
+pub written_after : (front bytes : List ℕ) (count : ℕ) → length front ≡ 16 → length bytes ≡ count → count ≤ 40
+    → put_mid 16 (16 + count - 16) (front ++ replicate 40 0) bytes ≡ padded (front ++ bytes)
 written_after front bytes count fronts counts few =
     let left : 40 - (16 + count - 16) ≡ 56 - length (front ++ bytes) = omega (arith, length-append front bytes) in
     put_after front (replicate 40 0) bytes (16 + count - 16) fronts
@@ -47,7 +52,8 @@ part-first front bytes h =
 pub part-later : (front bytes : List ℕ) (k : ℕ) → length front ≡ 16 → 0 < k → part k (front ++ bytes) ≡ take 56 (drop (56 * k - 16) bytes)
 part-later front bytes k h some =
     let n : 16 + (56 * k - 16) ≡ 56 * k = omega arith in
-    let e : drop (56 * k) (front ++ bytes) ≡ drop (56 * k - 16) bytes = ap (λ m. drop m (front ++ bytes)) (sym n) ∙ (sym (drop-drop (56 * k - 16) 16 (front ++ bytes)) ∙ ap (drop (56 * k - 16)) (drop_at front bytes 16 h)) in
+    let e : drop (56 * k) (front ++ bytes) ≡ drop (56 * k - 16) bytes = ap (λ m. drop m (front ++ bytes)) (sym n)
+    ∙ (sym (drop-drop (56 * k - 16) 16 (front ++ bytes)) ∙ ap (drop (56 * k - 16)) (drop_at front bytes 16 h)) in
     ap (take 56) e
 
 -- as many bytes of a part as the message has for it

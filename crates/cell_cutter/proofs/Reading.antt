@@ -3,7 +3,8 @@ use Rattle.std.proofs.Common.{◌≡◌, ℕ, ◌+◌, ◌*◌, ◌/◌, ◌%◌
 use Rattle.std.proofs.lemmas.List.{drop_more}
 
 -- a list by its first eight bytes and the rest
-pub eight_and_rest : (bytes : List ℕ) → 8 ≤ length bytes → bytes ≡ get_or bytes 0 0 ∷ get_or bytes 1 0 ∷ get_or bytes 2 0 ∷ get_or bytes 3 0 ∷ get_or bytes 4 0 ∷ get_or bytes 5 0 ∷ get_or bytes 6 0 ∷ get_or bytes 7 0 ∷ drop 8 bytes
+pub eight_and_rest : (bytes : List ℕ) → 8 ≤ length bytes → bytes ≡ get_or bytes 0 0 ∷ get_or bytes 1 0 ∷ get_or bytes 2 0 ∷ get_or bytes 3 0
+    ∷ get_or bytes 4 0 ∷ get_or bytes 5 0 ∷ get_or bytes 6 0 ∷ get_or bytes 7 0 ∷ drop 8 bytes
 eight_and_rest bytes h =
     let a = drop_more bytes 0 0 (omega arith) in
     let b = drop_more bytes 1 0 (omega arith) in
@@ -16,7 +17,9 @@ eight_and_rest bytes h =
     cc
 
 -- a cell's fields, spelled again, are the bytes that they were read from
-pub spelled_again : (bytes payload : List ℕ) (kind last number : ℕ) → length bytes ≡ 64 → get_or bytes 6 0 < 256 → get_or bytes 7 0 < 256 → kind ≡ get_or bytes 2 0 → last ≡ get_or bytes 3 0 → get_or bytes 5 0 ≡ 0 → number ≡ get_or bytes 6 0 * 256 + get_or bytes 7 0 → payload ≡ drop 8 bytes → get_or bytes 0 0 ∷ get_or bytes 1 0 ∷ kind ∷ last ∷ get_or bytes 4 0 ∷ 0 ∷ number / 256 % 256 ∷ number % 256 ∷ payload ≡ bytes
+pub spelled_again : (bytes payload : List ℕ) (kind last number : ℕ) → length bytes ≡ 64 → get_or bytes 6 0 < 256 → get_or bytes 7 0 < 256
+    → kind ≡ get_or bytes 2 0 → last ≡ get_or bytes 3 0 → get_or bytes 5 0 ≡ 0 → number ≡ get_or bytes 6 0 * 256 + get_or bytes 7 0 → payload ≡ drop 8 bytes
+    → get_or bytes 0 0 ∷ get_or bytes 1 0 ∷ kind ∷ last ∷ get_or bytes 4 0 ∷ 0 ∷ number / 256 % 256 ∷ number % 256 ∷ payload ≡ bytes
 spelled_again bytes payload kind last number len high_fits low_fits kinds lasts blank numbers payloads =
     let all = eight_and_rest bytes (omega arith) in
     let high : number / 256 % 256 ≡ get_or bytes 6 0 = omega arith in

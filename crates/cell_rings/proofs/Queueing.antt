@@ -1,5 +1,6 @@
 -- A ring of packets, where there is one.
-use Rattle.std.proofs.Common.{◌≡◌, ◌∙◌, ℕ, ◌+◌, ◌-◌, ◌<◌, ◌≤◌, Option, Some, ◌++◌, ◌∷◌, [], length, length-drop, drop, slice_get, ap, sym, subst, arith, true, false}
+use Rattle.std.proofs.Common.{◌≡◌, ◌∙◌, ℕ, ◌+◌, ◌-◌, ◌<◌, ◌≤◌, Option, Some, ◌++◌, ◌∷◌, [], length, length-drop, drop, slice_get, ap, sym, subst, arith}
+use Rattle.std.proofs.Common.{true, false}
 use Rattle.std.specs.List.{range_with_len}
 use Rattle.std.proofs.lemmas.Bool.{eqb-true, eqb-false}
 use Rattle.std.proofs.lemmas.Simd.{map-map}
@@ -18,37 +19,48 @@ module _ {F : Type 0} where
       sym (map-map (λ name. record { name = name; fan = w.fan }) (λ k. (cell_of w k).name) (range_with_len 0 w.cells))
 
   -- the queue that a ring is
-  pub IsRing-in : (depth gone count spare : ℕ) (kept : Option (Buffer (Waiting F))) (ring : Buffer (Waiting F)) → kept ≡ Some ring → IsRing depth gone count spare kept → IsRing depth gone count spare (Some ring)
+  pub IsRing-in : (depth gone count spare : ℕ) (kept : Option (Buffer (Waiting F))) (ring : Buffer (Waiting F)) → kept ≡ Some ring
+      → IsRing depth gone count spare kept → IsRing depth gone count spare (Some ring)
   IsRing-in depth gone count spare kept ring is q = subst (IsRing depth gone count spare) is q
 
-  pub queue_of-in : (depth gone spare : ℕ) (kept : Option (Buffer (Waiting F))) (ring : Buffer (Waiting F)) (value : CellQueue F) → kept ≡ Some ring → queue_of depth gone spare kept ≡ value → value ≡ queue_of depth gone spare (Some ring)
+  pub queue_of-in : (depth gone spare : ℕ) (kept : Option (Buffer (Waiting F))) (ring : Buffer (Waiting F)) (value : CellQueue F) → kept ≡ Some ring
+      → queue_of depth gone spare kept ≡ value → value ≡ queue_of depth gone spare (Some ring)
   queue_of-in depth gone spare kept ring value is view = sym view ∙ ap (queue_of depth gone spare) is
 
   -- ---- a packet enters a queue that takes it
   -- there is a place for it
-  room : (depth gone count spare cells : ℕ) (ring : Buffer (Waiting F)) → IsRing depth gone count spare (Some ring) → 0 < cells → 0 < spare → count + cells ≤ depth → length ring.items < ring.capacity
+  room : (depth gone count spare cells : ℕ) (ring : Buffer (Waiting F)) → IsRing depth gone count spare (Some ring) → 0 < cells → 0 < spare
+      → count + cells ≤ depth → length ring.items < ring.capacity
   room depth gone count spare cells ring q some more fits =
       omega (arith, q.taken, q.queue.counted, packed gone count ring.items q.queue)
 
-  pub items-more : (depth gone count spare : ℕ) (ring after : Buffer (Waiting F)) (w : Waiting F) → IsRing depth gone count spare (Some ring) → 0 < w.cells → 0 < spare → count + w.cells ≤ depth → after ≡ buffer (keep_last ring.capacity (ring.items ++ w ∷ [])) ring.capacity → after ≡ buffer (ring.items ++ w ∷ []) ring.capacity
+  pub items-more : (depth gone count spare : ℕ) (ring after : Buffer (Waiting F)) (w : Waiting F) → IsRing depth gone count spare (Some ring) → 0 < w.cells
+      → 0 < spare → count + w.cells ≤ depth → after ≡ buffer (keep_last ring.capacity (ring.items ++ w ∷ [])) ring.capacity
+      → after ≡ buffer (ring.items ++ w ∷ []) ring.capacity
   items-more depth gone count spare ring after w q some more fits pushed =
       pushed ∙ ap (λ items. buffer items ring.capacity) (keeps_all ring.capacity ring.items w (room depth gone count spare w.cells ring q some more fits))
 
-  pub IsRing-more : (depth gone count spare : ℕ) (ring : Buffer (Waiting F)) (w : Waiting F) → IsRing depth gone count spare (Some ring) → 0 < w.cells → w.cells ≤ 1171 → 0 < spare → count + w.cells ≤ depth → IsRing depth gone (count + w.cells) (spare - 1) (Some (buffer (ring.items ++ w ∷ []) ring.capacity))
+  pub IsRing-more : (depth gone count spare : ℕ) (ring : Buffer (Waiting F)) (w : Waiting F) → IsRing depth gone count spare (Some ring) → 0 < w.cells
+      → w.cells ≤ 1171 → 0 < spare → count + w.cells ≤ depth
+      → IsRing depth gone (count + w.cells) (spare - 1) (Some (buffer (ring.items ++ w ∷ []) ring.capacity))
   IsRing-more depth gone count spare ring w q some few more fits = record {
     queue = IsQueue-more gone count ring.items w some few q.queue;
     within = fits;
     taken = omega (arith, q.taken, length-more ring.items w);
   }
 
-  pub queue_of-more : (depth gone count spare : ℕ) (ring : Buffer (Waiting F)) (w : Waiting F) → IsRing depth gone count spare (Some ring) → queue_of depth gone (spare - 1) (Some (buffer (ring.items ++ w ∷ []) ring.capacity)) ≡ queue_with (queue_of depth gone spare (Some ring)) w.packet w.cells w.fan
+  pub queue_of-more : (depth gone count spare : ℕ) (ring : Buffer (Waiting F)) (w : Waiting F) → IsRing depth gone count spare (Some ring)
+      → queue_of depth gone (spare - 1) (Some (buffer (ring.items ++ w ∷ []) ring.capacity)) ≡ queue_with
+      (queue_of depth gone spare (Some ring)) w.packet w.cells w.fan
   queue_of-more depth gone count spare ring w q =
-      let cells : cells_left gone (ring.items ++ w ∷ []) ≡ cells_left gone ring.items ++ cells_with_fan w.packet w.cells w.fan = cells_left-more gone ring.items w q.queue.begun ∙ ap (λ run. cells_left gone ring.items ++ run) (run_of-is w) in
+      let cells : cells_left gone (ring.items ++ w ∷ []) ≡ cells_left gone ring.items ++ cells_with_fan w.packet w.cells w.fan =
+      cells_left-more gone ring.items w q.queue.begun ∙ ap (λ run. cells_left gone ring.items ++ run) (run_of-is w) in
       ap (λ c. record { depth = depth; cells = c; spare = spare - 1 }) cells
 
   -- ---- the first cell leaves
   -- and its packet has more
-  pub IsRing-on : (depth gone count spare : ℕ) (ring : Buffer (Waiting F)) (w : Waiting F) → Some w ≡ slice_get ring.items 0 → (gone + 1 ≡ w.cells → ⊥) → IsRing depth gone count spare (Some ring) → IsRing depth (gone + 1) (count - 1) spare (Some ring)
+  pub IsRing-on : (depth gone count spare : ℕ) (ring : Buffer (Waiting F)) (w : Waiting F) → Some w ≡ slice_get ring.items 0 → (gone + 1 ≡ w.cells → ⊥)
+      → IsRing depth gone count spare (Some ring) → IsRing depth (gone + 1) (count - 1) spare (Some ring)
   IsRing-on depth gone count spare ring w is ne q = record {
     queue = IsQueue-on gone count ring.items w is ne q.queue;
     within = omega (arith, q.within);
@@ -56,17 +68,20 @@ module _ {F : Type 0} where
   }
 
   -- and it was the last of its packet
-  pub IsRing-next : (depth gone count spare : ℕ) (ring : Buffer (Waiting F)) (w : Waiting F) → Some w ≡ slice_get ring.items 0 → gone + 1 ≡ w.cells → IsRing depth gone count spare (Some ring) → IsRing depth 0 (count - 1) spare (Some (buffer (drop 1 ring.items) ring.capacity))
+  pub IsRing-next : (depth gone count spare : ℕ) (ring : Buffer (Waiting F)) (w : Waiting F) → Some w ≡ slice_get ring.items 0 → gone + 1 ≡ w.cells
+      → IsRing depth gone count spare (Some ring) → IsRing depth 0 (count - 1) spare (Some (buffer (drop 1 ring.items) ring.capacity))
   IsRing-next depth gone count spare ring w is end q = record {
     queue = IsQueue-next gone count ring.items w is end q.queue;
     within = omega (arith, q.within);
     taken = omega (arith, q.taken, length-drop 1 ring.items);
   }
 
-  pub queue_of-first : (depth gone count spare : ℕ) (ring : Buffer (Waiting F)) (w : Waiting F) → Some w ≡ slice_get ring.items 0 → IsRing depth gone count spare (Some ring) → cells_left gone ring.items ≡ cell_of w gone ∷ cells_left (gone + 1) ring.items
+  pub queue_of-first : (depth gone count spare : ℕ) (ring : Buffer (Waiting F)) (w : Waiting F) → Some w ≡ slice_get ring.items 0
+      → IsRing depth gone count spare (Some ring) → cells_left gone ring.items ≡ cell_of w gone ∷ cells_left (gone + 1) ring.items
   queue_of-first depth gone count spare ring w is q = first_cell gone ring.items w is q.queue.begun
 
-  pub queue_of-next : (depth gone count spare : ℕ) (ring : Buffer (Waiting F)) (w : Waiting F) → Some w ≡ slice_get ring.items 0 → gone + 1 ≡ w.cells → IsRing depth gone count spare (Some ring) → cells_left gone ring.items ≡ cell_of w gone ∷ cells_left 0 (drop 1 ring.items)
+  pub queue_of-next : (depth gone count spare : ℕ) (ring : Buffer (Waiting F)) (w : Waiting F) → Some w ≡ slice_get ring.items 0 → gone + 1 ≡ w.cells
+      → IsRing depth gone count spare (Some ring) → cells_left gone ring.items ≡ cell_of w gone ∷ cells_left 0 (drop 1 ring.items)
   queue_of-next depth gone count spare ring w is end q =
       first_cell gone ring.items w is q.queue.begun ∙ ap (λ cells. cell_of w gone ∷ cells) (last_cell (gone + 1) ring.items w is end)
 

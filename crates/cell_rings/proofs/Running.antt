@@ -1,5 +1,6 @@
 -- Packets that stand for their cells: a packet more at the end, and the first cell gone.
-use Rattle.std.proofs.Common.{◌≡◌, ◌∙◌, ◌≢◌, ℕ, suc, ◌+◌, ◌-◌, ◌<◌, ◌≤◌, List, [], ◌∷◌, ◌++◌, drop, length, refl, ap, sym, arith, Some, slice_get, get_or, length-append, length-drop, add-one}
+use Rattle.std.proofs.Common.{◌≡◌, ◌∙◌, ◌≢◌, ℕ, suc, ◌+◌, ◌-◌, ◌<◌, ◌≤◌, List, [], ◌∷◌, ◌++◌, drop, length, refl, ap, sym, arith, Some, slice_get}
+use Rattle.std.proofs.Common.{get_or, length-append, length-drop, add-one}
 use Rattle.std.specs.List.{flat_map}
 use Rattle.std.proofs.lemmas.List.{drop-append-le, append-nil}
 use Rattle.std.proofs.lemmas.Grind.{flat_map-append}
@@ -44,7 +45,8 @@ module _ {F : Type 0} where
   AreSized-more [] p one all = (one, tt)
   AreSized-more (x ∷ ps) p one all = (all.0, AreSized-more ps p one all.1)
 
-  pub IsQueue-more : (gone count : ℕ) (ps : List (Waiting F)) (p : Waiting F) → 0 < p.cells → p.cells ≤ MAX_FORWARDED_CELLS → IsQueue gone count ps → IsQueue gone (count + p.cells) (ps ++ p ∷ [])
+  pub IsQueue-more : (gone count : ℕ) (ps : List (Waiting F)) (p : Waiting F) → 0 < p.cells → p.cells ≤ MAX_FORWARDED_CELLS → IsQueue gone count ps
+      → IsQueue gone (count + p.cells) (ps ++ p ∷ [])
   IsQueue-more gone count ps p some few q = record {
     begun = IsBegun-more gone ps p some q.begun;
     sized = AreSized-more ps p (some, few) q.sized;
@@ -52,7 +54,8 @@ module _ {F : Type 0} where
   }
 
   -- ---- the first cell goes
-  pub first_cell : (gone : ℕ) (ps : List (Waiting F)) (p : Waiting F) → Some p ≡ slice_get ps 0 → IsBegun gone ps → cells_left gone ps ≡ cell_of p gone ∷ cells_left (gone + 1) ps
+  pub first_cell : (gone : ℕ) (ps : List (Waiting F)) (p : Waiting F) → Some p ≡ slice_get ps 0 → IsBegun gone ps
+      → cells_left gone ps ≡ cell_of p gone ∷ cells_left (gone + 1) ps
   first_cell gone [] p is begun = absurd cc
   first_cell gone (x ∷ ps) p is begun =
       let same : p ≡ x = same_Some p x is in
@@ -60,8 +63,10 @@ module _ {F : Type 0} where
       let long = length-append (run_of x) (flat_map run_of ps) in
       let inside : gone < length all = omega (arith, long, length-run_of x) in
       let here : get_or all gone (cell_of x gone) ≡ cell_of x gone =
-      get_or-append (run_of x) (flat_map run_of ps) (cell_of x gone) gone (omega (arith, length-run_of x)) ∙ get_or-map-range_with_len _ 0 x.cells gone gone (cell_of x gone) begun (omega arith) in
-      let split : cells_left gone (x ∷ ps) ≡ cell_of x gone ∷ cells_left (gone + 1) (x ∷ ps) = drop-cons all gone (cell_of x gone) inside ∙ ap (λ y. y ∷ drop (suc gone) all) here ∙ ap (λ n. cell_of x gone ∷ drop n all) (sym (add-one gone)) in
+      get_or-append (run_of x) (flat_map run_of ps) (cell_of x gone) gone (omega (arith, length-run_of x))
+      ∙ get_or-map-range_with_len _ 0 x.cells gone gone (cell_of x gone) begun (omega arith) in
+      let split : cells_left gone (x ∷ ps) ≡ cell_of x gone ∷ cells_left (gone + 1) (x ∷ ps) = drop-cons all gone (cell_of x gone) inside
+      ∙ ap (λ y. y ∷ drop (suc gone) all) here ∙ ap (λ n. cell_of x gone ∷ drop n all) (sym (add-one gone)) in
       rw same split
 
   pub last_cell : (gone : ℕ) (ps : List (Waiting F)) (p : Waiting F) → Some p ≡ slice_get ps 0 → gone ≡ p.cells → cells_left gone ps ≡ cells_left 0 (drop 1 ps)
@@ -89,7 +94,8 @@ module _ {F : Type 0} where
   few_on gone (x ∷ ps) p is begun all = omega (arith, all.0.1)
 
   -- the queue where its first cell has gone, not the last of its packet
-  pub IsQueue-on : (gone count : ℕ) (ps : List (Waiting F)) (p : Waiting F) → Some p ≡ slice_get ps 0 → gone + 1 ≢ p.cells → IsQueue gone count ps → IsQueue (gone + 1) (count - 1) ps
+  pub IsQueue-on : (gone count : ℕ) (ps : List (Waiting F)) (p : Waiting F) → Some p ≡ slice_get ps 0 → gone + 1 ≢ p.cells → IsQueue gone count ps
+      → IsQueue (gone + 1) (count - 1) ps
   IsQueue-on gone count ps p is ne q = record {
     begun = IsBegun-on gone ps p is q.begun ne;
     sized = q.sized;
@@ -97,7 +103,8 @@ module _ {F : Type 0} where
   }
 
   -- the queue where the last cell of its first packet has gone
-  pub IsQueue-next : (gone count : ℕ) (ps : List (Waiting F)) (p : Waiting F) → Some p ≡ slice_get ps 0 → gone + 1 ≡ p.cells → IsQueue gone count ps → IsQueue 0 (count - 1) (drop 1 ps)
+  pub IsQueue-next : (gone count : ℕ) (ps : List (Waiting F)) (p : Waiting F) → Some p ≡ slice_get ps 0 → gone + 1 ≡ p.cells → IsQueue gone count ps
+      → IsQueue 0 (count - 1) (drop 1 ps)
   IsQueue-next gone count ps p is end q =
       let rest = AreSized-rest ps q.sized in record {
         begun = IsBegun-next (drop 1 ps) rest;
@@ -114,4 +121,11 @@ module _ {F : Type 0} where
   pub packed : (gone count : ℕ) (ps : List (Waiting F)) → IsQueue gone count ps → length ps ≤ length (cells_left gone ps)
   packed gone count [] q = omega arith
   packed gone count (p ∷ ps) q =
-      omega (arith, q.begun, packed_all ps q.sized.1, length-append (run_of p) (flat_map run_of ps), length-run_of p, length-drop gone (flat_map run_of (p ∷ ps)))
+      omega (
+        arith,
+        q.begun,
+        packed_all ps q.sized.1,
+        length-append (run_of p) (flat_map run_of ps),
+        length-run_of p,
+        length-drop gone (flat_map run_of (p ∷ ps)),
+      )

@@ -40,4 +40,5 @@ MeansCheck name old new was now (Bad at) = IfSome old (HasAnswer name (Err (faul
 MeansCheck name old new was now TooLong = IfSome old (λ c. IsTooLong c name) × (new ≡ old)
 MeansCheck name old new was now ReadFault = Rose (was (ReadOf name)) (now (ReadOf name)) × (new ≡ old)
 MeansCheck name old new was now OutOfMemory = new ≡ old
-MeansCheck name old new was now OutFault = (text : List ℕ) × (given : ℕ) × IsYes name old text × Rose (was ToOut) (now ToOut) × (new ≡ option_map (append_out (take given text)) old)
+MeansCheck name old new was now OutFault = (text : List ℕ) × (given : ℕ) × IsYes name old text × Rose (was ToOut) (now ToOut)
+    × (new ≡ option_map (append_out (take given text)) old)

@@ -1,5 +1,6 @@
 -- What the inputs accept, computed, is what the definition of an accept says, and so is the match after a round.
-use Rattle.std.proofs.Common.{◌≡◌, ℕ, ◌<◌, ◌==◌, ◌↔◌, ◌⊎◌, ◌∙◌, ◌&&◌, ◌||◌, Bool, true, false, cond, List, [], ◌∷◌, Option, None, Some, map, filter, refl, sym, ap, subst, inl, inr, arith}
+use Rattle.std.proofs.Common.{◌≡◌, ℕ, ◌<◌, ◌==◌, ◌↔◌, ◌⊎◌, ◌∙◌, ◌&&◌, ◌||◌, Bool, true, false, cond, List, [], ◌∷◌, Option, None, Some, map, filter}
+use Rattle.std.proofs.Common.{refl, sym, ap, subst, inl, inr, arith}
 use Rattle.std.specs.Bool.{Decides}
 use Rattle.std.specs.List.{find, list_any}
 use Rattle.std.specs.Option.{option_or, option_map_or, option_and_then, option_to_list}
@@ -40,9 +41,14 @@ any-filter : (p q : ℕ → Bool) (xs : List ℕ) → list_any q (filter p xs) �
 any-filter p q [] = refl
 any-filter p q (x ∷ xs) =
     let rest = any-filter p q xs in
-    elim (p x) as (λ b. list_any q (cond b (x ∷ filter p xs) (filter p xs)) ≡ ((b && q x) || list_any (λ y. p y && q y) xs)) [ true ↦ ap (λ r. q x || r) rest | false ↦ rest ]
+    elim (p x) as (λ b. list_any q (cond b (x ∷ filter p xs) (filter p xs)) ≡ ((b && q x) || list_any (λ y. p y && q y) xs)) [
+      | true ↦ ap
+          (λ r. q x || r) rest
+      | false ↦ rest
+    ]
 
-option_map_or_from : {A : Type 0} (g : A → List ℕ) (o : Option A) (j : ℕ) → is_in j (option_map_or g o []) ≡ true → (x : A) × (o ≡ Some x) × (is_in j (g x) ≡ true)
+option_map_or_from : {A : Type 0} (g : A → List ℕ) (o : Option A) (j : ℕ) → is_in j (option_map_or g o []) ≡ true → (x : A) × (o ≡ Some x)
+    × (is_in j (g x) ≡ true)
 option_map_or_from g None j e = absurd (cc)
 option_map_or_from g (Some x) j e = (x, refl, e)
 
@@ -51,7 +57,8 @@ option_or_from None p f e = inr e
 option_or_from (Some x) p f e = inl e
 
 -- what an input takes of what it is offered
-in_taken : (kind : Kind) (n from : ℕ) (test : ℕ → Bool) (P : ℕ → Type 0) → ((y : ℕ) → Decides (test y) (P y)) → from < n → (j : ℕ) → j < n → Decides (is_in j (taken kind n from test)) (Takes kind n from P j)
+in_taken : (kind : Kind) (n from : ℕ) (test : ℕ → Bool) (P : ℕ → Type 0) → ((y : ℕ) → Decides (test y) (P y)) → from < n → (j : ℕ) → j < n
+    → Decides (is_in j (taken kind n from test)) (Takes kind n from P j)
 in_taken Uni n from test P each from_in j j_in =
     let found = in_option j (find test (ports_from n from)) in (
       λ e. first_found n from test P each from_in j (found.0 e),
@@ -64,7 +71,9 @@ in_taken Multi n from test P each from_in j j_in =
       λ p. along ∙ both.1 (j, j_in, (p, refl)),
     )
 
-module _ (n t : ℕ) (places : Places) (grants : List (Option Fed)) (size : (j : ℕ) (f : Fed) → fed_of grants j ≡ Some f → j < n) (level_in : (i j level : ℕ) (kind : Kind) → Serves grants i j level kind → level < LEVELS) (from_in : (i j level : ℕ) (kind : Kind) → Serves grants i j level kind → accept_of places i level < n) where
+module _ (n t : ℕ) (places : Places) (grants : List (Option Fed)) (size : (j : ℕ) (f : Fed) → fed_of grants j ≡ Some f → j < n)
+    (level_in : (i j level : ℕ) (kind : Kind) → Serves grants i j level kind → level < LEVELS)
+    (from_in : (i j level : ℕ) (kind : Kind) → Serves grants i j level kind → accept_of places i level < n) where
   -- an output grants input i at the level with the kind
   abbrev Granted : ℕ → ℕ → Kind → Type 0
   Granted i m k = (y : ℕ) × Serves grants i y m k
@@ -78,11 +87,14 @@ module _ (n t : ℕ) (places : Places) (grants : List (Option Fed)) (size : (j :
   abbrev outputs_at : ℕ → Rank → List ℕ
   outputs_at i rank = taken rank.kind n (accept_of places i rank.level) (λ y. is_fed i rank.level rank.kind (fed_of grants y))
 
-  takes : (i j level : ℕ) (kind : Kind) → Granted i level kind → j < n → Decides (is_in j (outputs_at i (record { level = level; kind = kind }))) (Takes kind n (accept_of places i level) (λ y. Serves grants i y level kind) j)
+  takes : (i j level : ℕ) (kind : Kind) → Granted i level kind → j < n
+      → Decides (is_in j (outputs_at i (record { level = level; kind = kind }))) (Takes kind n (accept_of places i level) (λ y. Serves grants i y level kind) j)
   takes i j level kind g j_in =
-      in_taken kind n (accept_of places i level) (λ y. is_fed i level kind (fed_of grants y)) (λ y. Serves grants i y level kind) (λ y. Decides-fed i level kind (fed_of grants y)) (from_in i g.0 level kind g.1) j j_in
+      in_taken kind n (accept_of places i level) (λ y. is_fed i level kind (fed_of grants y)) (λ y. Serves grants i y level kind)
+      (λ y. Decides-fed i level kind (fed_of grants y)) (from_in i g.0 level kind g.1) j j_in
 
-  accepted_from : (i j : ℕ) → j < n → is_in j (accepted n t places grants i) ≡ true → (level : ℕ) × (kind : Kind) × IsAccepted n t places (Serves grants) i j level kind
+  accepted_from : (i j : ℕ) → j < n → is_in j (accepted n t places grants i) ≡ true → (level : ℕ) × (kind : Kind)
+      × IsAccepted n t places (Serves grants) i j level kind
   unfolding accepted accepted_rank
   accepted_from i j j_in e =
       let at = option_map_or_from (outputs_at i) (accepted_rank i) j e in
@@ -93,7 +105,8 @@ module _ (n t : ℕ) (places : Places) (grants : List (Option Fed)) (size : (j :
   in_accepted : (i j level : ℕ) (kind : Kind) → j < n → IsAccepted n t places (Serves grants) i j level kind → is_in j (accepted n t places grants i) ≡ true
   unfolding accepted accepted_rank
   in_accepted i j level kind j_in a =
-      let rank = finds_rank t (λ m k. list_any (is_fed i m k) grants) (Granted i) (granted_level i) (λ m k m_in. Decides-paired grants i m k) level kind a.best in
+      let rank = finds_rank t (λ m k. list_any (is_fed i m k) grants) (Granted i) (granted_level i)
+      (λ m k m_in. Decides-paired grants i m k) level kind a.best in
       ap (λ o. is_in j (option_map_or (outputs_at i) o [])) rank ∙ (takes i j level kind a.best.there j_in).1 a.taken
 
   pub IsAccepted-from_added : (j : ℕ) (f : Fed) → added n t places grants j ≡ Some f → IsAccepted n t places (Serves grants) f.input j f.level f.kind
@@ -109,14 +122,16 @@ module _ (n t : ℕ) (places : Places) (grants : List (Option Fed)) (size : (j :
       let R : Fed → Type 0 = λ h. IsAccepted n t places (Serves grants) h.input j h.level h.kind in
       subst R kept.1 (subst Q once.2 (subst P once.1 a.2))
 
-  pub added_from_IsAccepted : (i j level : ℕ) (kind : Kind) → IsAccepted n t places (Serves grants) i j level kind → added n t places grants j ≡ Some (record { input = i; level = level; kind = kind })
+  pub added_from_IsAccepted : (i j level : ℕ) (kind : Kind) → IsAccepted n t places (Serves grants) i j level kind
+      → added n t places grants j ≡ Some (record { input = i; level = level; kind = kind })
   added_from_IsAccepted i j level kind a =
       let f : Fed = record { input = i; level = level; kind = kind } in
       let mine = taken_from kind n (accept_of places i level) (λ y. Serves grants i y level kind) j a.taken in
       ap (option_and_then (λ g. cond (is_in j (accepted n t places grants g.input)) (Some g) None)) mine
       ∙ cond-true (is_in j (accepted n t places grants i)) (Some f) None (in_accepted i j level kind (size j f mine) a)
 
-module _ (n t : ℕ) (rows : List Row) (places : Places) (before : List (Option Fed)) (whole : IsMatch n before) (at_ports : AreAtPorts places) (ports_are : places.ports ≡ n) where
+module _ (n t : ℕ) (rows : List Row) (places : Places) (before : List (Option Fed)) (whole : IsMatch n before) (at_ports : AreAtPorts places)
+    (ports_are : places.ports ≡ n) where
   grants : List (Option Fed)
   grants = map (granted n t rows places before) (ports n)
 
@@ -132,7 +147,8 @@ module _ (n t : ℕ) (rows : List Row) (places : Places) (before : List (Option 
   grants_level i j level kind s = let g = (grants_are i j level kind).0 s in level_asked rows before i j level kind g.first.member
 
   grants_from : (i j level : ℕ) (kind : Kind) → Serves grants i j level kind → accept_of places i level < n
-  grants_from i j level kind s = let g = (grants_are i j level kind).0 s in accept_in n t rows places before whole at_ports ports_are i level g.first.below (grants_level i j level kind s)
+  grants_from i j level kind s = let g = (grants_are i j level kind).0 s in
+      accept_in n t rows places before whole at_ports ports_are i level g.first.below (grants_level i j level kind s)
 
   Accepts-along : (i j level : ℕ) (kind : Kind) → IsAccepted n t places (Serves grants) i j level kind ↔ Accepts n t rows places before i j level kind
   Accepts-along i j level kind = (
@@ -161,8 +177,10 @@ module _ (n t : ℕ) (rows : List Row) (places : Places) (before : List (Option 
                     let j_in : j < n = let size = whole.count in omega arith in
                     fed_of-ports after n j j_in ∙ ap (λ o. option_or o (added n t places grants j)) old
                 | inr new ↦
-                    let g : Grants n t rows places before i j level kind = taken_from kind n (accept_of places i level) (λ y. Grants n t rows places before i y level kind) j new.taken in
-                    let here = added_from_IsAccepted n t places grants grants_size grants_level grants_from i j level kind ((Accepts-along i j level kind).1 new) in
+                    let g : Grants n t rows places before i j level kind =
+                    taken_from kind n (accept_of places i level) (λ y. Grants n t rows places before i y level kind) j new.taken in
+                    let here = added_from_IsAccepted n t places grants grants_size grants_level grants_from i j level kind
+                    ((Accepts-along i j level kind).1 new) in
                     fed_of-ports after n j g.output_in ∙ (ap (λ o. option_or o (added n t places grants j)) g.output_free ∙ here)
               ],
             );

@@ -40,12 +40,18 @@ IsBest-only t P l m k q a b =
     ] in
     (levels, kinds)
 
-pub IsBest-along : (t : ℕ) (P Q : ℕ → Kind → Type 0) (level : ℕ) (kind : Kind) → ((m : ℕ) (k : Kind) → P m k ↔ Q m k) → IsBest t P level kind → IsBest t Q level kind
+pub IsBest-along : (t : ℕ) (P Q : ℕ → Kind → Type 0) (level : ℕ) (kind : Kind) → ((m : ℕ) (k : Kind) → P m k ↔ Q m k) → IsBest t P level kind
+    → IsBest t Q level kind
 IsBest-along t P Q level kind same b =
-    record { there = (same level kind).0 b.there; least = λ m k q. b.least m k ((same m k).1 q); preferred_first = λ q. b.preferred_first ((same level (preferred t)).1 q) }
+    record {
+      there = (same level kind).0 b.there;
+      least = λ m k q. b.least m k ((same m k).1 q);
+      preferred_first = λ q. b.preferred_first ((same level (preferred t)).1 q);
+    }
 
 -- the least rank with P is the best level and kind
-pub IsBest-from_rank : (t : ℕ) (P : ℕ → Kind → Type 0) (rank : ℕ) → P (level_at rank) (kind_at (preferred t) rank) → ((m : ℕ) (k : Kind) → P m k → rank ≤ rank_of (preferred t) m k) → IsBest t P (level_at rank) (kind_at (preferred t) rank)
+pub IsBest-from_rank : (t : ℕ) (P : ℕ → Kind → Type 0) (rank : ℕ) → P (level_at rank) (kind_at (preferred t) rank)
+    → ((m : ℕ) (k : Kind) → P m k → rank ≤ rank_of (preferred t) m k) → IsBest t P (level_at rank) (kind_at (preferred t) rank)
 IsBest-from_rank t P rank there least =
     record {
       there = there;
@@ -57,7 +63,8 @@ IsBest-from_rank t P rank there least =
     }
 
 -- and the best level and kind has the least rank
-pub IsBest-to_rank : (t : ℕ) (P : ℕ → Kind → Type 0) (level : ℕ) (kind : Kind) → IsBest t P level kind → (m : ℕ) (k : Kind) → P m k → rank_of (preferred t) level kind ≤ rank_of (preferred t) m k
+pub IsBest-to_rank : (t : ℕ) (P : ℕ → Kind → Type 0) (level : ℕ) (kind : Kind) → IsBest t P level kind → (m : ℕ) (k : Kind) → P m k
+    → rank_of (preferred t) level kind ≤ rank_of (preferred t) m k
 IsBest-to_rank t P level kind best m k p =
     let first_kind = preferred t in
     let above = best.least m k p in
@@ -85,9 +92,11 @@ pub Takes-along : (kind : Kind) (n from : ℕ) (P Q : ℕ → Type 0) → ((y : 
 Takes-along Uni n from P Q same j = (IsFirstFrom-along n from P Q j (λ y y_in. same y), IsFirstFrom-along n from Q P j (λ y y_in. ((same y).1, (same y).0)))
 Takes-along Multi n from P Q same j = same j
 
-pub IsAccepted-along : (n t : ℕ) (places : Places) (P Q : ℕ → ℕ → ℕ → Kind → Type 0) (i j level : ℕ) (kind : Kind) → ((y m : ℕ) (k : Kind) → P i y m k ↔ Q i y m k) → IsAccepted n t places P i j level kind → IsAccepted n t places Q i j level kind
+pub IsAccepted-along : (n t : ℕ) (places : Places) (P Q : ℕ → ℕ → ℕ → Kind → Type 0) (i j level : ℕ) (kind : Kind)
+    → ((y m : ℕ) (k : Kind) → P i y m k ↔ Q i y m k) → IsAccepted n t places P i j level kind → IsAccepted n t places Q i j level kind
 IsAccepted-along n t places P Q i j level kind same a =
     record {
-      best = IsBest-along t (λ m k. (y : ℕ) × P i y m k) (λ m k. (y : ℕ) × Q i y m k) level kind (λ m k. (λ p. (p.0, (same p.0 m k).0 p.1), λ q. (q.0, (same q.0 m k).1 q.1))) a.best;
+      best = IsBest-along t (λ m k. (y : ℕ) × P i y m k) (λ m k. (y : ℕ) × Q i y m k) level kind
+          (λ m k. (λ p. (p.0, (same p.0 m k).0 p.1), λ q. (q.0, (same q.0 m k).1 q.1))) a.best;
       taken = (Takes-along kind n (accept_of places i level) (λ y. P i y level kind) (λ y. Q i y level kind) (λ y. same y level kind) j).0 a.taken;
     }

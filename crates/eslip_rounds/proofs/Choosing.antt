@@ -28,7 +28,8 @@ pub level_asked : (rows : List Row) (before : List (Option Fed)) (i j level : �
 level_asked rows before i j level kind r = elim r [ inl free ↦ free.1.level_in | inr on ↦ on.level_in ]
 
 -- every output picks from a port
-pub from_of-lt : (places : Places) → AreAtPorts places → (j level : ℕ) (kind : Kind) → j < places.ports → level < LEVELS → from_of places j level kind < places.ports
+pub from_of-lt : (places : Places) → AreAtPorts places → (j level : ℕ) (kind : Kind) → j < places.ports → level < LEVELS
+    → from_of places j level kind < places.ports
 from_of-lt places at_ports j level Uni j_in level_in = (at_ports.pointing level level_in).grant j j_in
 from_of-lt places at_ports j level Multi j_in level_in = (at_ports.pointing level level_in).shared
 
@@ -40,22 +41,27 @@ module _ (n : ℕ) (first_kind : Kind) (asks : Asks) (ready : List ℕ) (places 
   ]
 
   -- an output chooses once
-  pub IsChosen-only : (f g : Choice) → from_of places j (level_at f.rank) (kind_at first_kind f.rank) < n → IsChosen n first_kind asks ready places j f → IsChosen n first_kind asks ready places j g → f ≡ g
+  pub IsChosen-only : (f g : Choice) → from_of places j (level_at f.rank) (kind_at first_kind f.rank) < n → IsChosen n first_kind asks ready places j f
+      → IsChosen n first_kind asks ready places j g → f ≡ g
   IsChosen-only f g from_in a b =
       let ranks : f.rank ≡ g.rank = elim (cases_lt f.rank g.rank) [
         | inl less ↦ absurd (b.best f.rank f.input less a.picked.member)
         | inr more ↦ elim (cases_lt g.rank f.rank) [ inl less ↦ absurd (a.best g.rank g.input less b.picked.member) | inr same ↦ omega arith ]
       ] in
       let P : ℕ → Type 0 = λ r. IsFirstFrom n (from_of places j (level_at r) (kind_at first_kind r)) (AsksAt asks ready j r) g.input in
-      let inputs = IsFirstFrom-only n (from_of places j (level_at f.rank) (kind_at first_kind f.rank)) (AsksAt asks ready j f.rank) f.input g.input from_in a.picked (subst P (sym ranks) b.picked) in
+      let inputs = IsFirstFrom-only n (from_of places j (level_at f.rank) (kind_at first_kind f.rank))
+      (AsksAt asks ready j f.rank) f.input g.input from_in a.picked (subst P (sym ranks) b.picked) in
       λ t. record { rank = ranks t; input = inputs t }
 
-  pub Some-iff_chosen : (f g : Choice) → from_of places j (level_at f.rank) (kind_at first_kind f.rank) < n → IsChosen n first_kind asks ready places j f → (Some f ≡ Some g) ↔ IsChosen n first_kind asks ready places j g
+  pub Some-iff_chosen : (f g : Choice) → from_of places j (level_at f.rank) (kind_at first_kind f.rank) < n → IsChosen n first_kind asks ready places j f
+      → (Some f ≡ Some g) ↔ IsChosen n first_kind asks ready places j g
   Some-iff_chosen f g from_in a = (λ e. subst (IsChosen n first_kind asks ready places j) (same_Some f g e) a, λ b. ap Some (IsChosen-only f g from_in a b))
 
-module _ (n t : ℕ) (rows : List Row) (asks : Asks) (ready : List ℕ) (before : List (Option Fed)) (are : AreAsks n (preferred t) rows asks) (readies : AreReady n (preferred t) before ready) (j : ℕ) where
+module _ (n t : ℕ) (rows : List Row) (asks : Asks) (ready : List ℕ) (before : List (Option Fed)) (are : AreAsks n (preferred t) rows asks)
+    (readies : AreReady n (preferred t) before ready) (j : ℕ) where
   -- an input that may ask and names the output stands in the column
-  AsksAt-named : (x m : ℕ) (k : Kind) → x < n → m < LEVELS → MayAsk before m k x → Names (row_of rows x) m k j → AsksAt asks ready j (rank_of (preferred t) m k) x
+  AsksAt-named : (x m : ℕ) (k : Kind) → x < n → m < LEVELS → MayAsk before m k x → Names (row_of rows x) m k j
+      → AsksAt asks ready j (rank_of (preferred t) m k) x
   AsksAt-named x m k x_in level_in may named =
       let first_kind = preferred t in
       let rank = rank_of first_kind m k in
@@ -77,7 +83,8 @@ module _ (n t : ℕ) (rows : List Row) (asks : Asks) (ready : List ℕ) (before 
       ]
 
   -- and what stands in the columns at the lowest rank is asked
-  pub asked_at_least : (rank x : ℕ) → rank < RANKS → AsksAt asks ready j rank x → ((r y : ℕ) → r < rank → AsksAt asks ready j r y → ⊥) → Requests rows before x j (level_at rank) (kind_at (preferred t) rank)
+  pub asked_at_least : (rank x : ℕ) → rank < RANKS → AsksAt asks ready j rank x → ((r y : ℕ) → r < rank → AsksAt asks ready j r y → ⊥)
+      → Requests rows before x j (level_at rank) (kind_at (preferred t) rank)
   asked_at_least rank x rank_in p none =
       let first_kind = preferred t in
       let named = (are.columns rank x j rank_in).0 p.0 in
@@ -105,7 +112,8 @@ module _ (n t : ℕ) (rows : List Row) (asks : Asks) (ready : List ℕ) (before 
   column_in rank x rank_in p = ((are.columns rank x j rank_in).0 p.0).0
 
   module _ (places : Places) (j_in : j < n) (vacant : IsFreeOutput before j) where
-    pub Grants-from_chosen : (rank i : ℕ) → IsChosen n (preferred t) asks ready places j (record { rank = rank; input = i }) → Grants n t rows places before i j (level_at rank) (kind_at (preferred t) rank)
+    pub Grants-from_chosen : (rank i : ℕ) → IsChosen n (preferred t) asks ready places j (record { rank = rank; input = i })
+        → Grants n t rows places before i j (level_at rank) (kind_at (preferred t) rank)
     Grants-from_chosen rank i c =
         let first_kind = preferred t in
         let P : ℕ → Kind → Type 0 = λ m k. (x : ℕ) × (x < n) × Requests rows before x j m k in
@@ -116,12 +124,18 @@ module _ (n t : ℕ) (rows : List Row) (asks : Asks) (ready : List ℕ) (before 
           output_in = j_in;
           output_free = vacant;
           best = IsBest-from_rank t P rank (i, c.picked.below, asked i c.picked.member)
-              (λ m k p. elim (cases_lt (rank_of first_kind m k) rank) [ inl lower ↦ absurd (c.best (rank_of first_kind m k) p.0 lower (AsksAt-asked p.0 m k p.1 p.2)) | inr above ↦ above ]);
-          first = IsFirstFrom-along n (from_of places j (level_at rank) (kind_at first_kind rank)) (AsksAt asks ready j rank) (λ x. Requests rows before x j (level_at rank) (kind_at first_kind rank)) i
+              (λ m k p. elim (cases_lt (rank_of first_kind m k) rank) [
+                | inl lower ↦ absurd
+                    (c.best (rank_of first_kind m k) p.0 lower (AsksAt-asked p.0 m k p.1 p.2))
+                | inr above ↦ above
+              ]);
+          first = IsFirstFrom-along n (from_of places j (level_at rank) (kind_at first_kind rank)) (AsksAt asks ready j rank)
+              (λ x. Requests rows before x j (level_at rank) (kind_at first_kind rank)) i
               (λ x x_in. (asked x, back x x_in)) c.picked;
         }
 
-    pub chosen_from_grants : (i m : ℕ) (k : Kind) → Grants n t rows places before i j m k → IsChosen n (preferred t) asks ready places j (record { rank = rank_of (preferred t) m k; input = i })
+    pub chosen_from_grants : (i m : ℕ) (k : Kind) → Grants n t rows places before i j m k
+        → IsChosen n (preferred t) asks ready places j (record { rank = rank_of (preferred t) m k; input = i })
     chosen_from_grants i m k g =
         let first_kind = preferred t in
         let rank = rank_of first_kind m k in
@@ -151,7 +165,8 @@ module _ (n t : ℕ) (rows : List Row) (asks : Asks) (ready : List ℕ) (before 
         let R : ℕ → Type 0 = λ l. Requests rows before x j l (kind_at first_kind rank) in
         let S : Kind → Type 0 = λ q. Requests rows before x j m q in
         subst S kind_is (subst R level_is here) in
-        let first_here = IsFirstFrom-along n (from_of places j m k) (λ x. Requests rows before x j m k) (AsksAt asks ready j rank) i (λ x x_in. (AsksAt-asked x m k x_in, asked x)) g.first in
+        let first_here = IsFirstFrom-along n (from_of places j m k) (λ x. Requests rows before x j m k) (AsksAt asks ready j rank) i
+        (λ x x_in. (AsksAt-asked x m k x_in, asked x)) g.first in
         let F : ℕ → Type 0 = λ l. IsFirstFrom n (from_of places j l k) (AsksAt asks ready j rank) i in
         let G : Kind → Type 0 = λ q. IsFirstFrom n (from_of places j (level_at rank) q) (AsksAt asks ready j rank) i in
         record { rank_in = rank_in; picked = subst G (sym kind_is) (subst F (sym level_is) first_here); best = none_lower }

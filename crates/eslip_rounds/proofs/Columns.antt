@@ -1,5 +1,6 @@
 -- The columns of asks, filled rank after rank.
-use Rattle.std.proofs.Common.{◌≡◌, ℕ, ◌+◌, ◌<◌, ◌≤◌, ◌↔◌, ◌⊎◌, ◌∙◌, Bool, true, false, if◌then◌else◌, IsTrue, rules, List, [], length, replicate, slice_index, slice_set, sym, ap, subst, inl, inr, arith, length-set, get_or-set_same, get_or-set_other}
+use Rattle.std.proofs.Common.{◌≡◌, ℕ, ◌+◌, ◌<◌, ◌≤◌, ◌↔◌, ◌⊎◌, ◌∙◌, Bool, true, false, if◌then◌else◌, IsTrue, rules, List, [], length, replicate}
+use Rattle.std.proofs.Common.{slice_index, slice_set, sym, ap, subst, inl, inr, arith, length-set, get_or-set_same, get_or-set_other}
 use Rattle.std.proofs.lemmas.Bool.{cases_eq, cases_lt}
 use Rattle.std.proofs.lemmas.List.{length-replicate, get_or-replicate, get_or_past}
 use Rattle.rotating_pick.specs.PortSets.{Has}
@@ -50,24 +51,30 @@ AreDone-first n first_kind rows before columns long kept =
 not_true : IsTrue false → ⊥
 not_true h = search rules
 
-module _ (n k : ℕ) (first_kind : Kind) (rows : List Row) (before : ℕ) (columns : List (List ℕ)) (used : ℕ) (known : AreDone n k first_kind rows before columns used) (level : ℕ) (kind : Kind) (level_is : level ≡ level_at k) (kind_is : kind ≡ kind_at first_kind k) where
+module _ (n k : ℕ) (first_kind : Kind) (rows : List Row) (before : ℕ) (columns : List (List ℕ)) (used : ℕ)
+    (known : AreDone n k first_kind rows before columns used) (level : ℕ) (kind : Kind) (level_is : level ≡ level_at k)
+    (kind_is : kind ≡ kind_at first_kind k) where
   named_at : (i j : ℕ) → Names (row_of rows i) level kind j ↔ Names (row_of rows i) (level_at k) (kind_at first_kind k) j
   named_at i j =
       let P : ℕ → Type 0 = λ l. Names (row_of rows i) l kind j in
       let Q : Kind → Type 0 = λ q. Names (row_of rows i) (level_at k) q j in
       (λ h. subst Q kind_is (subst P level_is h), λ h. subst P (sym level_is) (subst Q (sym kind_is) h))
 
-  pub AreDone-put : (cells : List ℕ) (more : ℕ) → k < RANKS → ((i j : ℕ) → Has (slice_index cells j) i ↔ ((i < n) × Names (row_of rows i) level kind j)) → ((r : ℕ) → Has more r ↔ ((r ≡ k) ⊎ Has used r)) → AreDone n (k + 1) first_kind rows before (slice_set columns k cells) more
+  pub AreDone-put : (cells : List ℕ) (more : ℕ) → k < RANKS → ((i j : ℕ) → Has (slice_index cells j) i ↔ ((i < n) × Names (row_of rows i) level kind j))
+      → ((r : ℕ) → Has more r ↔ ((r ≡ k) ⊎ Has used r)) → AreDone n (k + 1) first_kind rows before (slice_set columns k cells) more
   AreDone-put cells more k_in right uses =
       let inside : k < length columns = let long = known.long in omega arith in
-      let same : (j : ℕ) → column_of (slice_set columns k cells) k j ≡ slice_index cells j = λ j. ap (λ row. slice_index row j) (get_or-set_same columns k cells [] inside) in
-      let others : (r j : ℕ) → (r ≡ k → ⊥) → column_of (slice_set columns k cells) r j ≡ column_of columns r j = λ r j apart. ap (λ row. slice_index row j) (get_or-set_other columns k r cells [] apart) in
+      let same : (j : ℕ) → column_of (slice_set columns k cells) k j ≡ slice_index cells j =
+      λ j. ap (λ row. slice_index row j) (get_or-set_same columns k cells [] inside) in
+      let others : (r j : ℕ) → (r ≡ k → ⊥) → column_of (slice_set columns k cells) r j ≡ column_of columns r j =
+      λ r j apart. ap (λ row. slice_index row j) (get_or-set_other columns k r cells [] apart) in
       record {
         long = length-set columns k cells ∙ known.long;
         done = λ r i j below. elim (cases_eq r k) [
           | inl here ↦
               let e = named_at i j in
-              let P : ℕ → Type 0 = λ x. Has (column_of (slice_set columns k cells) x j) i ↔ ((i < n) × Names (row_of rows i) (level_at x) (kind_at first_kind x) j) in
+              let P : ℕ → Type 0 = λ x. Has (column_of (slice_set columns k cells) x j) i
+              ↔ ((i < n) × Names (row_of rows i) (level_at x) (kind_at first_kind x) j) in
               subst P (sym here) (
                 λ has. let p = (right i j).0 (subst (λ set. Has set i) (same j) has) in (p.0, e.0 p.1),
                 λ p. subst (λ set. Has set i) (sym (same j)) ((right i j).1 (p.0, e.1 p.1)),
@@ -83,14 +90,16 @@ module _ (n k : ℕ) (first_kind : Kind) (rows : List Row) (before : ℕ) (colum
 
   -- where nobody asks at the rank, and its columns are empty now
   AreDone-empty : (now : List (List ℕ)) → length now ≡ RANKS → ((r j : ℕ) → (r ≡ k → ⊥) → column_of now r j ≡ column_of columns r j)
-      → ((i j : ℕ) → Has (column_of now k j) i → ⊥) → ((i j : ℕ) → i < n → Names (row_of rows i) level kind j → ⊥) → AreDone n (k + 1) first_kind rows before now used
+      → ((i j : ℕ) → Has (column_of now k j) i → ⊥) → ((i j : ℕ) → i < n → Names (row_of rows i) level kind j → ⊥)
+      → AreDone n (k + 1) first_kind rows before now used
   AreDone-empty now long others none nobody =
       record {
         long = long;
         done = λ r i j below. elim (cases_eq r k) [
           | inl here ↦ (
             λ has. absurd (none i j (subst (λ x. Has (column_of now x j) i) here has)),
-            λ p. let P : ℕ → Type 0 = λ x. Names (row_of rows i) (level_at x) (kind_at first_kind x) j in absurd (nobody i j p.0 ((named_at i j).1 (subst P here p.1))),
+            λ p. let P : ℕ → Type 0 = λ x. Names (row_of rows i) (level_at x) (kind_at first_kind x) j in
+                absurd (nobody i j p.0 ((named_at i j).1 (subst P here p.1))),
           )
           | inr apart ↦
               let d = known.done r i j (omega arith) in
@@ -98,7 +107,8 @@ module _ (n k : ℕ) (first_kind : Kind) (rows : List Row) (before : ℕ) (colum
         ];
         left = λ r i j above r_in has. known.left r i j (omega arith) r_in (subst (λ set. Has set i) (others r j (λ e. absurd (omega arith))) has);
         uses = λ r i j below i_in named. elim (cases_eq r k) [
-          | inl here ↦ let P : ℕ → Type 0 = λ x. Names (row_of rows i) (level_at x) (kind_at first_kind x) j in absurd (nobody i j i_in ((named_at i j).1 (subst P here named)))
+          | inl here ↦ let P : ℕ → Type 0 = λ x. Names (row_of rows i) (level_at x) (kind_at first_kind x) j in
+              absurd (nobody i j i_in ((named_at i j).1 (subst P here named)))
           | inr apart ↦ known.uses r i j (omega arith) i_in named
         ];
         uses_in = λ r has. let below = known.uses_in r has in omega arith;
@@ -112,7 +122,9 @@ module _ (n k : ℕ) (first_kind : Kind) (rows : List Row) (before : ℕ) (colum
       let inside : k < length columns = let long = known.long in omega arith in
       AreDone-empty now (ap length now_is ∙ length-set columns k zeros ∙ known.long)
       (λ r j apart. ap (λ table. column_of table r j) now_is ∙ ap (λ row. slice_index row j) (get_or-set_other columns k r zeros [] apart))
-      (λ i j has. zero-has (column_of now k j) i (ap (λ table. column_of table k j) now_is ∙ (ap (λ row. slice_index row j) (get_or-set_same columns k zeros [] inside) ∙ get_or-same 0 MAX_PORTS j)) has)
+      (λ i j has. zero-has (column_of now k j) i
+      (ap (λ table. column_of table k j) now_is
+      ∙ (ap (λ row. slice_index row j) (get_or-set_same columns k zeros [] inside) ∙ get_or-same 0 MAX_PORTS j)) has)
       nobody
   AreDone-skip false now k_in tells now_is nobody =
       AreDone-empty now (ap length now_is ∙ known.long)

@@ -54,7 +54,8 @@ module _ (t : ℕ) (P : ℕ → Kind → Type 0) (dec : (m : ℕ) (k : Kind) →
         | inr none ↦ absurd (none m lt (any_kind P m k p))
         | inl f ↦
             let l = f.0 in
-            let lowest : (other : ℕ) (q : Kind) → P other q → l ≤ other = λ other q h. elim (cases_lt other l) [ inl under ↦ absurd (f.3 other under (any_kind P other q h)) | inr at ↦ at ] in
+            let lowest : (other : ℕ) (q : Kind) → P other q
+            → l ≤ other = λ other q h. elim (cases_lt other l) [ inl under ↦ absurd (f.3 other under (any_kind P other q h)) | inr at ↦ at ] in
             elim (dec l (preferred t)) [
               | inl has ↦ (l, preferred t, record { there = has; least = lowest; preferred_first = λ h. refl })
               | inr lacks ↦ elim f.2 [
@@ -69,9 +70,14 @@ module _ (t : ℕ) (P : ℕ → Kind → Type 0) (dec : (m : ℕ) (k : Kind) →
       elim (dec l k) [
         | inr lacks ↦ inr (λ b. lacks b.there)
         | inl has ↦ elim (least (Any_kind P) dec_any l) [
-          | inl f ↦ inr (λ b. elim f.2 [ inl u ↦ let h = b.least f.0 Uni u in let g = f.1 in absurd (omega arith) | inr v ↦ let h = b.least f.0 Multi v in let g = f.1 in absurd (omega arith) ])
+          | inl f ↦ inr (λ b. elim f.2 [
+            | inl u ↦ let h = b.least f.0 Uni u in let g = f.1 in absurd (omega arith)
+            | inr v ↦ let h = b.least f.0 Multi v in
+                let g = f.1 in absurd (omega arith)
+          ])
           | inr none ↦
-              let lowest : (other : ℕ) (q : Kind) → P other q → l ≤ other = λ other q h. elim (cases_lt other l) [ inl under ↦ absurd (none other under (any_kind P other q h)) | inr at ↦ at ] in
+              let lowest : (other : ℕ) (q : Kind) → P other q
+              → l ≤ other = λ other q h. elim (cases_lt other l) [ inl under ↦ absurd (none other under (any_kind P other q h)) | inr at ↦ at ] in
               elim (dec l (preferred t)) [
                 | inr not_there ↦ inl (record { there = has; least = lowest; preferred_first = λ h. absurd (not_there h) })
                 | inl here ↦ elim (kinds_decide k (preferred t)) [
@@ -89,10 +95,11 @@ Asks-decides row j level kind =
       | inr out ↦ inr (λ a. let b = a.level_in in absurd (omega arith))
       | inl level_in ↦ elim (Names-decides row level kind j) [
         | inr lacks ↦ inr (λ a. lacks a.named)
-        | inl named ↦ elim (least (Any_kind P) (λ m. either (Names row m Uni j) (Names row m Multi j) (Names-decides row m Uni j) (Names-decides row m Multi j)) level) [
-          | inl f ↦ inr (λ a. elim f.2 [ inl u ↦ a.best f.0 Uni f.1 u | inr v ↦ a.best f.0 Multi f.1 v ])
-          | inr none ↦ inl (record { level_in = level_in; named = named; best = λ better other lt h. none better lt (any_kind P better other h) })
-        ]
+        | inl named ↦ elim (least (Any_kind P)
+            (λ m. either (Names row m Uni j) (Names row m Multi j) (Names-decides row m Uni j) (Names-decides row m Multi j)) level) [
+              | inl f ↦ inr (λ a. elim f.2 [ inl u ↦ a.best f.0 Uni f.1 u | inr v ↦ a.best f.0 Multi f.1 v ])
+              | inr none ↦ inl (record { level_in = level_in; named = named; best = λ better other lt h. none better lt (any_kind P better other h) })
+            ]
       ]
     ]
 
@@ -130,7 +137,8 @@ IsMulticasting-decides n matched whole i level =
       })
     ]
 
-GoesOn-decides : (n : ℕ) (rows : List Row) (matched : List (Option Fed)) → IsMatch n matched → (i j level : ℕ) (kind : Kind) → Decides (GoesOn rows matched i j level kind)
+GoesOn-decides : (n : ℕ) (rows : List Row) (matched : List (Option Fed)) → IsMatch n matched → (i j level : ℕ) (kind : Kind)
+    → Decides (GoesOn rows matched i j level kind)
 GoesOn-decides n rows matched whole i j level kind =
     elim (cases_lt level LEVELS) [
       | inr out ↦ inr (λ g. let b = g.level_in in absurd (omega arith))
@@ -150,7 +158,8 @@ is_none : (o : Option Fed) → Decides (o ≡ None)
 is_none None = inl refl
 is_none (Some f) = inr (λ e. none-some f (sym e))
 
-module _ (n t : ℕ) (rows : List Row) (places : Places) (before : List (Option Fed)) (whole : IsMatch n before) (at_ports : AreAtPorts places) (ports : places.ports ≡ n) where
+module _ (n t : ℕ) (rows : List Row) (places : Places) (before : List (Option Fed)) (whole : IsMatch n before) (at_ports : AreAtPorts places)
+    (ports : places.ports ≡ n) where
   requests : (i j level : ℕ) (kind : Kind) → Decides (Requests rows before i j level kind)
   requests i j level kind =
       either (IsFreeInput before i × Asks (row_of rows i) j level kind) (GoesOn rows before i j level kind)
@@ -173,28 +182,35 @@ module _ (n t : ℕ) (rows : List Row) (places : Places) (before : List (Option 
       | inr busy ↦ inr (λ g. busy g.output_free)
       | inl vacant ↦ elim (IsBest-decides t (λ m k. (x : ℕ) × (x < n) × Requests rows before x j m k) (somebody j) level kind) [
         | inr worse ↦ inr (λ g. worse g.best)
-        | inl best ↦ elim (IsFirstFrom-decides n (from_of places j level kind) (λ x. Requests rows before x j level kind) (λ x. requests x j level kind) (from_in j level kind j_in (level_asked rows before best.there.0 j level kind best.there.2)) i) [
-          | inr other ↦ inr (λ g. other g.first)
-          | inl first ↦ inl (record { output_in = j_in; output_free = vacant; best = best; first = first })
-        ]
+        | inl best ↦ elim (IsFirstFrom-decides n (from_of places j level kind) (λ x. Requests rows before x j level kind) (λ x. requests x j level kind)
+            (from_in j level kind j_in (level_asked rows before best.there.0 j level kind best.there.2)) i) [
+              | inr other ↦ inr (λ g. other g.first)
+              | inl first ↦ inl (record { output_in = j_in; output_free = vacant; best = best; first = first })
+            ]
       ]
     ]
   ]
 
   -- where a free output is asked, it grants somebody
-  pub Grants-some : (i j level : ℕ) (kind : Kind) → i < n → j < n → IsFreeOutput before j → Requests rows before i j level kind → (h m : ℕ) × (k : Kind) × Grants n t rows places before h j m k
+  pub Grants-some : (i j level : ℕ) (kind : Kind) → i < n → j < n → IsFreeOutput before j → Requests rows before i j level kind → (h m : ℕ) × (k : Kind)
+      × Grants n t rows places before h j m k
   Grants-some i j level kind i_in j_in vacant r =
-      let b = IsBest-some t (λ m k. (x : ℕ) × (x < n) × Requests rows before x j m k) (somebody j) LEVELS level kind (level_asked rows before i j level kind r) (i, i_in, r) in
+      let b = IsBest-some t (λ m k. (x : ℕ) × (x < n) × Requests rows before x j m k) (somebody j) LEVELS level kind
+      (level_asked rows before i j level kind r) (i, i_in, r) in
       let some = b.2.there in
-      let first = IsFirstFrom-some n (from_of places j b.0 b.1) (λ x. Requests rows before x j b.0 b.1) (λ x. requests x j b.0 b.1) (from_in j b.0 b.1 j_in (level_asked rows before some.0 j b.0 b.1 some.2)) some.0 some.1 some.2 in
+      let first = IsFirstFrom-some n (from_of places j b.0 b.1) (λ x. Requests rows before x j b.0 b.1) (λ x. requests x j b.0 b.1)
+      (from_in j b.0 b.1 j_in (level_asked rows before some.0 j b.0 b.1 some.2)) some.0 some.1 some.2 in
       (first.0, b.0, b.1, record { output_in = j_in; output_free = vacant; best = b.2; first = first.1 })
 
-  takes_some : (k : Kind) (h m y : ℕ) → y < n → accept_of places h m < n → Grants n t rows places before h y m k → (z : ℕ) × Takes k n (accept_of places h m) (λ x. Grants n t rows places before h x m k) z
-  takes_some Uni h m y y_in f g = IsFirstFrom-some n (accept_of places h m) (λ x. Grants n t rows places before h x m Uni) (λ x. Grants-decides h x m Uni) f y y_in g
+  takes_some : (k : Kind) (h m y : ℕ) → y < n → accept_of places h m < n → Grants n t rows places before h y m k → (z : ℕ)
+      × Takes k n (accept_of places h m) (λ x. Grants n t rows places before h x m k) z
+  takes_some Uni h m y y_in f g =
+      IsFirstFrom-some n (accept_of places h m) (λ x. Grants n t rows places before h x m Uni) (λ x. Grants-decides h x m Uni) f y y_in g
   takes_some Multi h m y y_in f g = (y, g)
 
   -- where an input is granted, it accepts something
-  pub Accepts-some : (h j level : ℕ) (kind : Kind) → Grants n t rows places before h j level kind → (z m : ℕ) × (k : Kind) × Accepts n t rows places before h z m k
+  pub Accepts-some : (h j level : ℕ) (kind : Kind) → Grants n t rows places before h j level kind → (z m : ℕ) × (k : Kind)
+      × Accepts n t rows places before h z m k
   Accepts-some h j level kind g =
       let P : ℕ → Kind → Type 0 = λ m k. (y : ℕ) × Grants n t rows places before h y m k in
       let dec : (m : ℕ) (k : Kind) → Decides (P m k) = λ m k. elim (some_below (λ y. Grants n t rows places before h y m k) (λ y. Grants-decides h y m k) n) [
@@ -203,7 +219,8 @@ module _ (n t : ℕ) (rows : List Row) (places : Places) (before : List (Option 
       ] in
       let b = IsBest-some t P dec LEVELS level kind (level_asked rows before h j level kind g.first.member) (j, g) in
       let first = b.2.there in
-      let taken = takes_some b.1 h b.0 first.0 first.1.output_in (accept_in h b.0 first.1.first.below (level_asked rows before h first.0 b.0 b.1 first.1.first.member)) first.1 in
+      let taken = takes_some b.1 h b.0 first.0 first.1.output_in
+      (accept_in h b.0 first.1.first.below (level_asked rows before h first.0 b.0 b.1 first.1.first.member)) first.1 in
       (taken.0, b.0, b.1, record { best = b.2; taken = taken.1 })
 
 -- the least level at which the row names the output
@@ -215,7 +232,8 @@ asks_some t row j level kind level_in named =
     (b.0, b.1, record { level_in = omega arith; named = b.2.there; best = λ better other lt h. let at = b.2.least better other h in absurd (omega arith) })
 
 -- all of a head is served, or an output of it is not
-pub Completes-or : (n : ℕ) (rows : List Row) (matched : List (Option Fed)) (level i : ℕ) → AreWithin n rows → i < n → Completes rows matched level i ⊎ ((j : ℕ) × Names (row_of rows i) level Multi j × (Serves matched i j level Multi → ⊥))
+pub Completes-or : (n : ℕ) (rows : List Row) (matched : List (Option Fed)) (level i : ℕ) → AreWithin n rows → i < n → Completes rows matched level i
+    ⊎ ((j : ℕ) × Names (row_of rows i) level Multi j × (Serves matched i j level Multi → ⊥))
 Completes-or n rows matched level i within i_in =
     let Left : ℕ → Type 0 = λ j. Names (row_of rows i) level Multi j × (Serves matched i j level Multi → ⊥) in
     let dec : (j : ℕ) → Decides (Left j) = λ j. elim (Names-decides (row_of rows i) level Multi j) [

@@ -1,5 +1,6 @@
 -- A round that adds nothing began with a maximal match, and n rounds are enough.
-use Rattle.std.proofs.Common.{◌≡◌, ℕ, suc, ◌+◌, ◌-◌, ◌<◌, ◌≤◌, ◌⊎◌, ◌∙◌, true, cond, ltb, List, [], ◌∷◌, Option, None, Some, length, map, refl, sym, ap, subst, inl, inr, arith, tests}
+use Rattle.std.proofs.Common.{◌≡◌, ℕ, suc, ◌+◌, ◌-◌, ◌<◌, ◌≤◌, ◌⊎◌, ◌∙◌, true, cond, ltb, List, [], ◌∷◌, Option, None, Some, length, map, refl, sym, ap}
+use Rattle.std.proofs.Common.{subst, inl, inr, arith, tests}
 use Rattle.std.proofs.lemmas.List.{ext_get_or, get_or_past}
 use Rattle.std.proofs.lemmas.List.Sums.{sum_by-cons}
 use Rattle.std.proofs.lemmas.Option.{none-some}
@@ -34,26 +35,31 @@ module _ (n t : ℕ) (rows : List Row) (places : Places) (at_ports : AreAtPorts 
   pub adds : (a b : List (Option Fed)) → length a ≡ n → IsRound n t rows places a b → (matched_count a < matched_count b) ⊎ (a ≡ b)
   adds a b long r = more_or_same a b (long ∙ sym r.count) (round_keeps a b r)
 
-  none_asks : (before : List (Option Fed)) → IsMatch n before → IsRound n t rows places before before → (i j level : ℕ) (kind : Kind) → i < n → j < n → IsFreeOutput before j → Requests rows before i j level kind → ⊥
+  none_asks : (before : List (Option Fed)) → IsMatch n before → IsRound n t rows places before before → (i j level : ℕ) (kind : Kind) → i < n → j < n
+      → IsFreeOutput before j → Requests rows before i j level kind → ⊥
   none_asks before whole round i j level kind i_in j_in vacant r =
       let g = Grants-some n t rows places before whole at_ports ports i j level kind i_in j_in vacant r in
       let z = Accepts-some n t rows places before whole at_ports ports g.0 j g.1 g.2 g.3 in
       let added = (round.pairs g.0 z.0 z.1 z.2).1 (inr z.3) in
-      let offer : Grants n t rows places before g.0 z.0 z.1 z.2 = taken_from z.2 n (accept_of places g.0 z.1) (λ y. Grants n t rows places before g.0 y z.1 z.2) z.0 z.3.taken in
+      let offer : Grants n t rows places before g.0 z.0 z.1 z.2 =
+      taken_from z.2 n (accept_of places g.0 z.1) (λ y. Grants n t rows places before g.0 y z.1 z.2) z.0 z.3.taken in
       none-some (record { input = g.0; level = z.1; kind = z.2 }) (sym offer.output_free ∙ added)
 
   -- a round that adds nothing began with a maximal match
-  pub IsMaximal-from_round : (before : List (Option Fed)) → IsMatch n before → IsRound n t rows places before before → AreWithin n rows → IsMaximal n rows before
+  pub IsMaximal-from_round : (before : List (Option Fed)) → IsMatch n before → IsRound n t rows places before before → AreWithin n rows
+      → IsMaximal n rows before
   IsMaximal-from_round before whole round within =
       record {
         free = λ i j level kind i_in j_in free vacant named.
             let a = asks_some t (row_of rows i) j level kind (within.levels i i_in level j kind named) named in
             none_asks before whole round i j a.0 a.1 i_in j_in vacant (inl (free, a.2));
         going_on = λ i j level i_in j_in on vacant named.
-            none_asks before whole round i j level Multi i_in j_in vacant (inr (record { level_in = within.levels i i_in level j Multi named; going_on = on; multicast = refl; named = named }));
+            none_asks before whole round i j level Multi i_in j_in vacant
+            (inr (record { level_in = within.levels i i_in level j Multi named; going_on = on; multicast = refl; named = named }));
       }
 
-  maximal_step : (before after : List (Option Fed)) → IsMatch n before → IsRound n t rows places before after → before ≡ after → AreWithin n rows → IsMaximal n rows before
+  maximal_step : (before after : List (Option Fed)) → IsMatch n before → IsRound n t rows places before after → before ≡ after → AreWithin n rows
+      → IsMaximal n rows before
   maximal_step before after whole round same within = IsMaximal-from_round before whole (subst (IsRound n t rows places before) (sym same) round) within
 
   -- a round leaves a maximal match
@@ -66,14 +72,16 @@ module _ (n t : ℕ) (rows : List Row) (places : Places) (at_ports : AreAtPorts 
       elim ((r.pairs y.input j y.level y.kind).0 (Serves-from b j y e)) [
         | inl old ↦ none-some (record { input = y.input; level = y.level; kind = y.kind }) (sym none ∙ old)
         | inr acc ↦
-            let g : Grants n t rows places a y.input j y.level y.kind = taken_from y.kind n (accept_of places y.input y.level) (λ z. Grants n t rows places a y.input z y.level y.kind) j acc.taken in
+            let g : Grants n t rows places a y.input j y.level y.kind =
+            taken_from y.kind n (accept_of places y.input y.level) (λ z. Grants n t rows places a y.input z y.level y.kind) j acc.taken in
             elim g.first.member [
               | inl p ↦ max.free y.input j y.level y.kind g.first.below g.output_in p.0 none p.1.named
               | inr on ↦ max.going_on y.input j y.level g.first.below g.output_in on.going_on none on.named
             ]
       ]))
 
-  pub still_maximal : (before : List (Option Fed)) (steps : List (List (Option Fed))) → IsMatch n before → AreRounds n t rows places before steps → IsMaximal n rows before → IsMaximal n rows (last_of before steps)
+  pub still_maximal : (before : List (Option Fed)) (steps : List (List (Option Fed))) → IsMatch n before → AreRounds n t rows places before steps
+      → IsMaximal n rows before → IsMaximal n rows (last_of before steps)
   still_maximal before [] whole chain max = max
   still_maximal before (step ∷ steps) whole chain max =
       let same = left_alone before step whole chain.0 max in
@@ -86,7 +94,8 @@ module _ (n t : ℕ) (rows : List Row) (places : Places) (at_ports : AreAtPorts 
     pub last : (d : ℕ) → 0 < d → 0 < last_of d (added_from (matched_count before) (map matched_count steps))
 
   -- after some rounds the match is maximal, or each of them added a pair
-  pub maximal_or_more : (before : List (Option Fed)) (steps : List (List (Option Fed))) → IsMatch n before → AreRounds n t rows places before steps → AreWithin n rows → IsMaximal n rows (last_of before steps) ⊎ AllAdd before steps
+  pub maximal_or_more : (before : List (Option Fed)) (steps : List (List (Option Fed))) → IsMatch n before → AreRounds n t rows places before steps
+      → AreWithin n rows → IsMaximal n rows (last_of before steps) ⊎ AllAdd before steps
   maximal_or_more before [] whole chain within = inr (record { used = refl; many = omega arith; last = λ d some. some })
   maximal_or_more before (step ∷ steps) whole chain within =
       let next = IsMatch-round n t rows places at_ports ports before step whole chain.0 in
@@ -95,7 +104,8 @@ module _ (n t : ℕ) (rows : List Row) (places : Places) (at_ports : AreAtPorts 
         | inl more ↦ elim (maximal_or_more step steps next chain.1 within) [
           | inl max ↦ inl max
           | inr all ↦ inr (record {
-            used = used_more (matched_count step - matched_count before) (added_from (matched_count step) (map matched_count steps)) (length steps) (omega arith) all.used;
+            used = used_more (matched_count step - matched_count before) (added_from (matched_count step) (map matched_count steps)) (length steps)
+                (omega arith) all.used;
             many = let later = all.many in omega arith;
             last = λ d some. all.last (matched_count step - matched_count before) (omega arith);
           })
@@ -103,7 +113,8 @@ module _ (n t : ℕ) (rows : List Row) (places : Places) (at_ports : AreAtPorts 
       ]
 
   -- n rounds are enough
-  pub rounds_enough : (before : List (Option Fed)) (steps : List (List (Option Fed))) → IsMatch n before → AreRounds n t rows places before steps → AreWithin n rows → n ≤ length steps → IsMaximal n rows (last_of before steps)
+  pub rounds_enough : (before : List (Option Fed)) (steps : List (List (Option Fed))) → IsMatch n before → AreRounds n t rows places before steps
+      → AreWithin n rows → n ≤ length steps → IsMaximal n rows (last_of before steps)
   rounds_enough before steps whole chain within enough =
       elim (maximal_or_more before steps whole chain within) [
         | inl max ↦ max

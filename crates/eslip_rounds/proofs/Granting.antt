@@ -49,7 +49,8 @@ pub none_from_test : (o : Option Fed) → is_none o ≡ true → o ≡ None
 none_from_test None e = refl
 none_from_test (Some f) e = absurd (cc)
 
-module _ (n t : ℕ) (rows : List Row) (places : Places) (before : List (Option Fed)) (whole : IsMatch n before) (at_ports : AreAtPorts places) (ports_are : places.ports ≡ n) where
+module _ (n t : ℕ) (rows : List Row) (places : Places) (before : List (Option Fed)) (whole : IsMatch n before) (at_ports : AreAtPorts places)
+    (ports_are : places.ports ≡ n) where
   -- some input asks output j
   abbrev Asked : ℕ → ℕ → Kind → Type 0
   Asked j m k = (x : ℕ) × (x < n) × Requests rows before x j m k
@@ -58,16 +59,20 @@ module _ (n t : ℕ) (rows : List Row) (places : Places) (before : List (Option 
   asked_level j m k p = level_asked rows before p.0 j m k p.2
 
   asked_decides : (j m : ℕ) (k : Kind) → m < LEVELS → Decides (list_any (λ x. is_request rows before x j m k) (ports n)) (Asked j m k)
-  asked_decides j m k level_in = any_port (λ x. is_request rows before x j m k) (λ x. Requests rows before x j m k) (λ x. Decides-request n rows before whole x j m k level_in) n
+  asked_decides j m k level_in =
+      any_port (λ x. is_request rows before x j m k) (λ x. Requests rows before x j m k) (λ x. Decides-request n rows before whole x j m k level_in) n
 
   module _ (j : ℕ) (j_in : j < n) where
     asked_rank : Option Rank
     asked_rank = find (λ rank. list_any (λ x. is_request rows before x j rank.level rank.kind) (ports n)) (ranks t)
 
     -- what output j grants at its rank
-    granted_first : (level i : ℕ) (kind : Kind) → level < LEVELS → find (λ x. is_request rows before x j level kind) (ports_from n (from_of places j level kind)) ≡ Some i → IsFirstFrom n (from_of places j level kind) (λ x. Requests rows before x j level kind) i
+    granted_first : (level i : ℕ) (kind : Kind) → level < LEVELS
+        → find (λ x. is_request rows before x j level kind) (ports_from n (from_of places j level kind)) ≡ Some i
+        → IsFirstFrom n (from_of places j level kind) (λ x. Requests rows before x j level kind) i
     granted_first level i kind level_in e =
-        first_found n (from_of places j level kind) (λ x. is_request rows before x j level kind) (λ x. Requests rows before x j level kind) (λ x. Decides-request n rows before whole x j level kind level_in)
+        first_found n (from_of places j level kind) (λ x. is_request rows before x j level kind) (λ x. Requests rows before x j level kind)
+        (λ x. Decides-request n rows before whole x j level kind level_in)
         (from_in n t rows places before whole at_ports ports_are j level kind j_in level_in) i e
 
     pub Grants-from_granted : (f : Fed) → granted n t rows places before j ≡ Some f → Grants n t rows places before f.input j f.level f.kind
@@ -77,10 +82,13 @@ module _ (n t : ℕ) (rows : List Row) (places : Places) (before : List (Option 
         elim (cases_Bool (is_none (fed_of before j))) [
           | inr busy ↦ absurd (none-some f (sym (cond-false (is_none (fed_of before j)) all None busy) ∙ e))
           | inl vacant ↦
-              let at_rank = option_and_then_from (granted_at n rows places before j) asked_rank f (sym (cond-true (is_none (fed_of before j)) all None vacant) ∙ e) in
+              let at_rank = option_and_then_from (granted_at n rows places before j) asked_rank f (sym (cond-true (is_none (fed_of before j)) all None vacant)
+              ∙ e) in
               let rank : Rank = at_rank.0 in
-              let best = found_rank t (λ m k. list_any (λ x. is_request rows before x j m k) (ports n)) (Asked j) (asked_level j) (asked_decides j) rank at_rank.1 in
-              let picked = option_map_some (λ i. record { input = i; level = rank.level; kind = rank.kind }) (find (λ x. is_request rows before x j rank.level rank.kind) (ports_from n (from_of places j rank.level rank.kind))) f at_rank.2 in
+              let best = found_rank t (λ m k. list_any (λ x. is_request rows before x j m k) (ports n)) (Asked j) (asked_level j)
+              (asked_decides j) rank at_rank.1 in
+              let picked = option_map_some (λ i. record { input = i; level = rank.level; kind = rank.kind })
+              (find (λ x. is_request rows before x j rank.level rank.kind) (ports_from n (from_of places j rank.level rank.kind))) f at_rank.2 in
               let g : Grants n t rows places before picked.0 j rank.level rank.kind = record {
                 output_in = j_in;
                 output_free = none_from_test (fed_of before j) vacant;
@@ -91,19 +99,23 @@ module _ (n t : ℕ) (rows : List Row) (places : Places) (before : List (Option 
               subst Q picked.2 g
         ]
 
-    pub granted_from_Grants : (i level : ℕ) (kind : Kind) → Grants n t rows places before i j level kind → granted n t rows places before j ≡ Some (record { input = i; level = level; kind = kind })
+    pub granted_from_Grants : (i level : ℕ) (kind : Kind) → Grants n t rows places before i j level kind
+        → granted n t rows places before j ≡ Some (record { input = i; level = level; kind = kind })
     unfolding granted asked_rank
     granted_from_Grants i level kind g =
         let all : Option Fed = option_and_then (granted_at n rows places before j) asked_rank in
-        let rank : asked_rank ≡ Some (record { level = level; kind = kind }) = finds_rank t (λ m k. list_any (λ x. is_request rows before x j m k) (ports n)) (Asked j) (asked_level j) (asked_decides j) level kind g.best in
+        let rank : asked_rank ≡ Some (record { level = level; kind = kind }) =
+        finds_rank t (λ m k. list_any (λ x. is_request rows before x j m k) (ports n)) (Asked j) (asked_level j) (asked_decides j) level kind g.best in
         let level_in = asked_level j level kind g.best.there in
-        let first = finds_first n (from_of places j level kind) (λ x. is_request rows before x j level kind) (λ x. Requests rows before x j level kind) (λ x. Decides-request n rows before whole x j level kind level_in)
+        let first = finds_first n (from_of places j level kind) (λ x. is_request rows before x j level kind) (λ x. Requests rows before x j level kind)
+        (λ x. Decides-request n rows before whole x j level kind level_in)
         (from_in n t rows places before whole at_ports ports_are j level kind j_in level_in) i g.first in
         cond-true (is_none (fed_of before j)) all None (ap is_none g.output_free)
         ∙ (ap (option_and_then (granted_at n rows places before j)) rank ∙ ap (option_map (λ x. record { input = x; level = level; kind = kind })) first)
 
   -- the grants as a list by outputs
-  pub Serves-granted : (i j level : ℕ) (kind : Kind) → Serves (map (granted n t rows places before) (ports n)) i j level kind ↔ Grants n t rows places before i j level kind
+  pub Serves-granted : (i j level : ℕ) (kind : Kind) → Serves (map (granted n t rows places before) (ports n)) i j level kind
+      ↔ Grants n t rows places before i j level kind
   Serves-granted i j level kind =
       let f : Fed = record { input = i; level = level; kind = kind } in (
         λ s. let at = fed_of-ports_some (granted n t rows places before) n j f s in Grants-from_granted j at.0 f at.1,

@@ -17,15 +17,19 @@ module _ (n t : ℕ) (rows : List Row) (places : Places) (at_ports : AreAtPorts 
   accept_in : (i level : ℕ) → i < n → level < LEVELS → accept_of places i level < n
   accept_in i level i_in level_in = let lt = (at_ports.pointing level level_in).accept i (omega arith) in omega arith
 
-  takes_once : (kind : Kind) (before : List (Option Fed)) (i j y level : ℕ) → i < n → level < LEVELS → Takes kind n (accept_of places i level) (λ z. Grants n t rows places before i z level kind) j → Takes kind n (accept_of places i level) (λ z. Grants n t rows places before i z level kind) y → (j ≡ y) ⊎ (kind ≡ Multi)
+  takes_once : (kind : Kind) (before : List (Option Fed)) (i j y level : ℕ) → i < n → level < LEVELS
+      → Takes kind n (accept_of places i level) (λ z. Grants n t rows places before i z level kind) j
+      → Takes kind n (accept_of places i level) (λ z. Grants n t rows places before i z level kind) y → (j ≡ y) ⊎ (kind ≡ Multi)
   takes_once Multi before i j y level i_in level_in a b = inr refl
-  takes_once Uni before i j y level i_in level_in a b = inl (IsFirstFrom-only n (accept_of places i level) (λ z. Grants n t rows places before i z level Uni) j y (accept_in i level i_in level_in) a b)
+  takes_once Uni before i j y level i_in level_in a b =
+      inl (IsFirstFrom-only n (accept_of places i level) (λ z. Grants n t rows places before i z level Uni) j y (accept_in i level i_in level_in) a b)
 
   accepted_level : (before : List (Option Fed)) (i j level : ℕ) (kind : Kind) → Accepts n t rows places before i j level kind → (i < n) × (level < LEVELS)
   accepted_level before i j level kind a = let g = a.best.there.1 in (g.first.below, level_asked rows before i a.best.there.0 level kind g.first.member)
 
   -- two outputs that an input accepts at once
-  accepts_once : (before : List (Option Fed)) (i j l : ℕ) (k : Kind) (y m : ℕ) (q : Kind) → Accepts n t rows places before i j l k → Accepts n t rows places before i y m q → (j ≡ y) ⊎ ((l ≡ m) × (k ≡ Multi) × (q ≡ Multi))
+  accepts_once : (before : List (Option Fed)) (i j l : ℕ) (k : Kind) (y m : ℕ) (q : Kind) → Accepts n t rows places before i j l k
+      → Accepts n t rows places before i y m q → (j ≡ y) ⊎ ((l ≡ m) × (k ≡ Multi) × (q ≡ Multi))
   accepts_once before i j l k y m q a b =
       let one = IsBest-only t (λ r s. (z : ℕ) × Grants n t rows places before i z r s) l m k q a.best b.best in
       let P : ℕ → Type 0 = λ r. Takes q n (accept_of places i r) (λ z. Grants n t rows places before i z r q) y in
@@ -35,7 +39,8 @@ module _ (n t : ℕ) (rows : List Row) (places : Places) (at_ports : AreAtPorts 
       elim (takes_once k before i j y l ins.0 ins.1 a.taken there) [ inl same ↦ inl same | inr multi ↦ inr (one.0, multi, sym one.1 ∙ multi) ]
 
   -- an input that had a pair and accepts more goes on with its head
-  goes_on : (before : List (Option Fed)) (i j l : ℕ) (k : Kind) (y m : ℕ) (q : Kind) → Serves before i j l k → Accepts n t rows places before i y m q → (l ≡ m) × (k ≡ Multi) × (q ≡ Multi)
+  goes_on : (before : List (Option Fed)) (i j l : ℕ) (k : Kind) (y m : ℕ) (q : Kind) → Serves before i j l k → Accepts n t rows places before i y m q
+      → (l ≡ m) × (k ≡ Multi) × (q ≡ Multi)
   goes_on before i j l k y m q s a =
       let g : Grants n t rows places before i y m q = taken_from q n (accept_of places i m) (λ z. Grants n t rows places before i z m q) y a.taken in
       elim g.first.member [
@@ -58,6 +63,7 @@ module _ (n t : ℕ) (rows : List Row) (places : Places) (at_ports : AreAtPorts 
         ];
       }
 
-  pub IsMatch-rounds : (before : List (Option Fed)) (steps : List (List (Option Fed))) → IsMatch n before → AreRounds n t rows places before steps → IsMatch n (last_of before steps)
+  pub IsMatch-rounds : (before : List (Option Fed)) (steps : List (List (Option Fed))) → IsMatch n before → AreRounds n t rows places before steps
+      → IsMatch n (last_of before steps)
   IsMatch-rounds before [] whole chain = whole
   IsMatch-rounds before (step ∷ steps) whole chain = IsMatch-rounds step steps (IsMatch-round before step whole chain.0) chain.1

@@ -25,7 +25,8 @@ AreMet-none Pairs places none =
     }
 
 -- the same pairs
-pub AreMet-along : (P Q : ℕ → ℕ → ℕ → Type 0) (before after : Places) → ((i j level : ℕ) → P i j level ↔ Q i j level) → AreMet P before after → AreMet Q before after
+pub AreMet-along : (P Q : ℕ → ℕ → ℕ → Type 0) (before after : Places) → ((i j level : ℕ) → P i j level ↔ Q i j level) → AreMet P before after
+    → AreMet Q before after
 AreMet-along P Q before after same met =
     record {
       ports = met.ports;
@@ -37,7 +38,10 @@ AreMet-along P Q before after same met =
     }
 
 -- one pair
-pub AreMet-one : (a k at : ℕ) (before after : Places) → after.ports ≡ before.ports → grant_of after k at ≡ (a + 1) % before.ports → accept_of after a at ≡ (k + 1) % before.ports → ((j other : ℕ) → (j ≡ k → other ≡ at → ⊥) → grant_of after j other ≡ grant_of before j other) → ((i other : ℕ) → (i ≡ a → other ≡ at → ⊥) → accept_of after i other ≡ accept_of before i other) → ((other : ℕ) → shared_of after other ≡ shared_of before other) → AreMet (λ i j level. (i ≡ a) × (j ≡ k) × (level ≡ at)) before after
+pub AreMet-one : (a k at : ℕ) (before after : Places) → after.ports ≡ before.ports → grant_of after k at ≡ (a + 1) % before.ports
+    → accept_of after a at ≡ (k + 1) % before.ports → ((j other : ℕ) → (j ≡ k → other ≡ at → ⊥) → grant_of after j other ≡ grant_of before j other)
+    → ((i other : ℕ) → (i ≡ a → other ≡ at → ⊥) → accept_of after i other ≡ accept_of before i other)
+    → ((other : ℕ) → shared_of after other ≡ shared_of before other) → AreMet (λ i j level. (i ≡ a) × (j ≡ k) × (level ≡ at)) before after
 AreMet-one a k at before after ports grant accept grants accepts shared =
     record {
       ports = ports;
@@ -49,7 +53,8 @@ AreMet-one a k at before after ports grant accept grants accepts shared =
     }
 
 -- pairs after pairs, none of which shares a pointer
-pub AreMet-join : (P Q : ℕ → ℕ → ℕ → Type 0) (a b c : Places) → ((i x j level : ℕ) → P i j level → Q x j level → ⊥) → ((i j y level : ℕ) → P i j level → Q i y level → ⊥) → AreMet P a b → AreMet Q b c → AreMet (λ i j level. P i j level ⊎ Q i j level) a c
+pub AreMet-join : (P Q : ℕ → ℕ → ℕ → Type 0) (a b c : Places) → ((i x j level : ℕ) → P i j level → Q x j level → ⊥)
+    → ((i j y level : ℕ) → P i j level → Q i y level → ⊥) → AreMet P a b → AreMet Q b c → AreMet (λ i j level. P i j level ⊎ Q i j level) a c
 AreMet-join P Q a b c outputs inputs p q =
     let size : b.ports ≡ a.ports = p.ports in
     record {
@@ -68,7 +73,12 @@ AreMet-join P Q a b c outputs inputs p q =
     }
 
 -- the pairs of one output more
-pub AreMet-next : (matched : List (Option Fed)) (first_outputs rest later j : ℕ) (fed : Option Fed) (a b c : Places) → Has rest j → Has first_outputs j → ((y : ℕ) → Has later y ↔ ((y ≡ j → ⊥) × Has rest y)) → fed ≡ fed_of matched j → ((i x y level : ℕ) → Has first_outputs x → Has first_outputs y → Serves matched i x level Uni → Serves matched i y level Uni → x ≡ y) → AreMet (λ i y level. (Has first_outputs y × (Has rest y → ⊥)) × Serves matched i y level Uni) a b → AreMet (λ i y level. (y ≡ j) × (fed ≡ Some (record { input = i; level = level; kind = Uni }))) b c → AreMet (λ i y level. (Has first_outputs y × (Has later y → ⊥)) × Serves matched i y level Uni) a c
+pub AreMet-next : (matched : List (Option Fed)) (first_outputs rest later j : ℕ) (fed : Option Fed) (a b c : Places) → Has rest j → Has first_outputs j
+    → ((y : ℕ) → Has later y ↔ ((y ≡ j → ⊥) × Has rest y)) → fed ≡ fed_of matched j
+    → ((i x y level : ℕ) → Has first_outputs x → Has first_outputs y → Serves matched i x level Uni → Serves matched i y level Uni → x ≡ y)
+    → AreMet (λ i y level. (Has first_outputs y × (Has rest y → ⊥)) × Serves matched i y level Uni) a b
+    → AreMet (λ i y level. (y ≡ j) × (fed ≡ Some (record { input = i; level = level; kind = Uni }))) b c
+    → AreMet (λ i y level. (Has first_outputs y × (Has later y → ⊥)) × Serves matched i y level Uni) a c
 AreMet-next matched first_outputs rest later j fed a b c has left fewer value once p q =
     let P : ℕ → ℕ → ℕ → Type 0 = λ i y level. (Has first_outputs y × (Has rest y → ⊥)) × Serves matched i y level Uni in
     let Q : ℕ → ℕ → ℕ → Type 0 = λ i y level. (y ≡ j) × (fed ≡ Some (record { input = i; level = level; kind = Uni })) in
@@ -79,7 +89,10 @@ AreMet-next matched first_outputs rest later j fed a b c has left fewer value on
     (λ i y level. (
       λ s. elim s [
         | inl h ↦ ((h.0.0, λ l. h.0.1 ((fewer y).0 l).1), h.1)
-        | inr g ↦ ((subst (Has first_outputs) (sym g.0) left, λ l. ((fewer y).0 l).0 g.0), subst (λ x. Serves matched i x level Uni) (sym g.0) (here i level g.1))
+        | inr g ↦ (
+          (subst (Has first_outputs) (sym g.0) left, λ l. ((fewer y).0 l).0 g.0),
+          subst (λ x. Serves matched i x level Uni) (sym g.0) (here i level g.1),
+        )
       ],
       λ r. elim (cases_eq y j) [
         | inl same ↦ inr (same, value ∙ subst (λ x. Serves matched i x level Uni) same r.1)
@@ -98,16 +111,21 @@ module _ (n : ℕ) (rows : List Row) (matched : List (Option Fed)) (before after
     IsPassed-done done moved = record { passed = λ i f c. moved ∙ ap (λ z. (z + 1) % n) (sym (only i f)); stays = λ none. absurd (none p first done) }
 
     pub IsPassed-left : (Completes rows matched level p → ⊥) → shared_of after level ≡ shared_of before level → IsPassed n rows matched before after level
-    IsPassed-left left stays = record { passed = λ i f c. let P : ℕ → Type 0 = λ z. Completes rows matched level z in absurd (left (subst P (only i f) c)); stays = λ none. stays }
+    IsPassed-left left stays =
+        record { passed = λ i f c. let P : ℕ → Type 0 = λ z. Completes rows matched level z in absurd (left (subst P (only i f) c)); stays = λ none. stays }
 
-  pub IsPassed-nobody : ((i : ℕ) → i < n → HasHead rows level i → ⊥) → shared_of after level ≡ shared_of before level → IsPassed n rows matched before after level
+  pub IsPassed-nobody : ((i : ℕ) → i < n → HasHead rows level i → ⊥) → shared_of after level ≡ shared_of before level
+      → IsPassed n rows matched before after level
   IsPassed-nobody nobody stays = record { passed = λ i f c. absurd (nobody i f.below f.member); stays = λ none. stays }
 
-pub IsFirstFrom-heads : (n from heads : ℕ) (rows : List Row) (level : ℕ) → ((i : ℕ) → Has heads i ↔ ((i < n) × HasHead rows level i)) → (i : ℕ) → IsFirstFrom n from (Has heads) i → IsFirstFrom n from (HasHead rows level) i
-IsFirstFrom-heads n from heads rows level posted i = IsFirstFrom-along n from (Has heads) (HasHead rows level) i (λ y y_in. (λ h. ((posted y).0 h).1, λ h. (posted y).1 (y_in, h)))
+pub IsFirstFrom-heads : (n from heads : ℕ) (rows : List Row) (level : ℕ) → ((i : ℕ) → Has heads i ↔ ((i < n) × HasHead rows level i)) → (i : ℕ)
+    → IsFirstFrom n from (Has heads) i → IsFirstFrom n from (HasHead rows level) i
+IsFirstFrom-heads n from heads rows level posted i =
+    IsFirstFrom-along n from (Has heads) (HasHead rows level) i (λ y y_in. (λ h. ((posted y).0 h).1, λ h. (posted y).1 (y_in, h)))
 
 -- a pointer is moved alike where it was and is alike
-pub IsPassed-same : (n : ℕ) (rows : List Row) (matched : List (Option Fed)) (a b x y : Places) (level : ℕ) → shared_of a level ≡ shared_of b level → shared_of x level ≡ shared_of y level → IsPassed n rows matched a x level → IsPassed n rows matched b y level
+pub IsPassed-same : (n : ℕ) (rows : List Row) (matched : List (Option Fed)) (a b x y : Places) (level : ℕ) → shared_of a level ≡ shared_of b level
+    → shared_of x level ≡ shared_of y level → IsPassed n rows matched a x level → IsPassed n rows matched b y level
 IsPassed-same n rows matched a b x y level e d p =
     let P : ℕ → Type 0 = λ z. (i : ℕ) → IsFirstFrom n z (HasHead rows level) i → Completes rows matched level i → ⊥ in
     record {

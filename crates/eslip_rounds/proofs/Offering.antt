@@ -32,7 +32,8 @@ AreOffers-along P Q offers same o =
       least = λ i j rank q. o.least i j rank ((same i j rank).1 q);
     }
 
-module _ (P Q : ℕ → ℕ → ℕ → Type 0) (old new : Offers) (input output rank : ℕ) (o : AreOffers P old) (step : IsOffered old new input output rank) (more : (i j r : ℕ) → Q i j r ↔ (P i j r ⊎ ((i ≡ input) × (j ≡ output) × (r ≡ rank)))) where
+module _ (P Q : ℕ → ℕ → ℕ → Type 0) (old new : Offers) (input output rank : ℕ) (o : AreOffers P old) (step : IsOffered old new input output rank)
+    (more : (i j r : ℕ) → Q i j r ↔ (P i j r ⊎ ((i ≡ input) × (j ≡ output) × (r ≡ rank)))) where
   here : Q input output rank
   here = (more input output rank).1 (inr (refl, refl, refl))
 
@@ -51,7 +52,8 @@ module _ (P Q : ℕ → ℕ → ℕ → Type 0) (old new : Offers) (input output
   better : ((Has old.granted input → ⊥) ⊎ (rank < slice_index old.ranks input)) → IsRight
   better why =
       let b = step.better why in
-      let none : (j r : ℕ) → r ≤ rank → P input j r → ⊥ = λ j r low p. let l = o.least input j r p in elim why [ inl fresh ↦ fresh l.0 | inr lower ↦ let at = l.1 in absurd (omega arith) ] in
+      let none : (j r : ℕ) → r ≤ rank → P input j r → ⊥ = λ j r low p. let l = o.least input j r p in
+      elim why [ inl fresh ↦ fresh l.0 | inr lower ↦ let at = l.1 in absurd (omega arith) ] in
       record {
         some = (output, at_rank rank b.0 output here);
         listed = λ j. (
@@ -73,7 +75,11 @@ module _ (P Q : ℕ → ℕ → ℕ → Type 0) (old new : Offers) (input output
             | inl e ↦ subst (λ y. Q input y rank) (sym e) here
             | inr there ↦ (more input j rank).1 (inl (subst (P input j) same ((o.listed input j has).0 there)))
           ]),
-          λ q. (b.1 j).1 (elim ((more input j rank).0 (subst (Q input j) b.0 q)) [ inl p ↦ inr ((o.listed input j has).1 (subst (P input j) (sym same) p)) | inr s ↦ inl s.1 ]),
+          λ q. (b.1 j).1 (elim ((more input j rank).0 (subst (Q input j) b.0 q)) [
+            | inl p ↦ inr
+                ((o.listed input j has).1 (subst (P input j) (sym same) p))
+            | inr s ↦ inl s.1
+          ]),
         );
         least = λ j r q. elim ((more input j r).0 q) [
           | inl p ↦ let l = (o.least input j r p).1 in let e = b.0 in omega arith
@@ -85,12 +91,14 @@ module _ (P Q : ℕ → ℕ → ℕ → Type 0) (old new : Offers) (input output
   worse has lower =
       let b = step.worse has lower in
       let some = o.some input has in
-      let up : (j : ℕ) → P input j (slice_index old.ranks input) → Q input j (slice_index new.ranks input) = λ j p. at_rank (slice_index old.ranks input) b.0 j ((more input j _).1 (inl p)) in
+      let up : (j : ℕ) → P input j (slice_index old.ranks input) → Q input j (slice_index new.ranks input) =
+      λ j p. at_rank (slice_index old.ranks input) b.0 j ((more input j _).1 (inl p)) in
       record {
         some = (some.0, up some.0 some.1);
         listed = λ j. (
           λ h. up j ((o.listed input j has).0 (subst (λ set. Has set j) b.1 h)),
-          λ q. subst (λ set. Has set j) (sym b.1) ((o.listed input j has).1 (elim ((more input j _).0 (subst (Q input j) b.0 q)) [ inl p ↦ p | inr s ↦ absurd (let e = s.2 in omega arith) ])),
+          λ q. subst (λ set. Has set j) (sym b.1)
+              ((o.listed input j has).1 (elim ((more input j _).0 (subst (Q input j) b.0 q)) [ inl p ↦ p | inr s ↦ absurd (let e = s.2 in omega arith) ])),
         );
         least = λ j r q. elim ((more input j r).0 q) [
           | inl p ↦ let l = (o.least input j r p).1 in let e = b.0 in omega arith
@@ -142,19 +150,27 @@ module _ (P Q : ℕ → ℕ → ℕ → Type 0) (old new : Offers) (input output
       }
 
 -- the free outputs that any row names offer all that the free outputs offer
-pub AreOffers-asked : (n : ℕ) (first_kind : Kind) (asks : Asks) (ready : List ℕ) (places : Places) (before : List (Option Fed)) (free asked : ℕ) (offers : Offers) → ((j : ℕ) → Has free j ↔ ((j < n) × IsFreeOutput before j)) → ((j : ℕ) → Has asked j ↔ (Has free j × Has asks.outputs j)) → ((rank i j : ℕ) → rank < RANKS → Has (column_of asks.columns rank j) i → Has asks.outputs j)
-    → AreOffers (λ i j rank. Has asked j × IsChosen n first_kind asks ready places j (record { rank = rank; input = i })) offers → AreOffers (λ i j rank. ((j < n) × IsFreeOutput before j) × IsChosen n first_kind asks ready places j (record { rank = rank; input = i })) offers
+pub AreOffers-asked : (n : ℕ) (first_kind : Kind) (asks : Asks) (ready : List ℕ) (places : Places) (before : List (Option Fed)) (free asked : ℕ)
+    (offers : Offers) → ((j : ℕ) → Has free j ↔ ((j < n) × IsFreeOutput before j)) → ((j : ℕ) → Has asked j ↔ (Has free j × Has asks.outputs j))
+    → ((rank i j : ℕ) → rank < RANKS → Has (column_of asks.columns rank j) i → Has asks.outputs j)
+    → AreOffers (λ i j rank. Has asked j × IsChosen n first_kind asks ready places j (record { rank = rank; input = i })) offers
+    → AreOffers (λ i j rank. ((j < n) × IsFreeOutput before j) × IsChosen n first_kind asks ready places j (record { rank = rank; input = i })) offers
 AreOffers-asked n first_kind asks ready places before free asked offers frees both named =
-    AreOffers-along (λ i j rank. Has asked j × IsChosen n first_kind asks ready places j (record { rank = rank; input = i })) (λ i j rank. ((j < n) × IsFreeOutput before j) × IsChosen n first_kind asks ready places j (record { rank = rank; input = i })) offers
+    AreOffers-along (λ i j rank. Has asked j × IsChosen n first_kind asks ready places j (record { rank = rank; input = i }))
+    (λ i j rank. ((j < n) × IsFreeOutput before j) × IsChosen n first_kind asks ready places j (record { rank = rank; input = i })) offers
     (λ i j rank. (
       λ p. ((frees j).0 ((both j).0 p.0).0, p.1),
       λ q. ((both j).1 ((frees j).1 q.0, named rank i j q.1.rank_in q.1.picked.member.0), q.1),
     ))
 
 -- what the free outputs offer may be taken
-pub AreOpen-from_offers : (n : ℕ) (first_kind : Kind) (asks : Asks) (ready : List ℕ) (places : Places) (before : List (Option Fed)) (offers : Offers) → AreAtPorts places → places.ports ≡ n → AreReady n first_kind before ready → AreOffers (λ i j rank. ((j < n) × IsFreeOutput before j) × IsChosen n first_kind asks ready places j (record { rank = rank; input = i })) offers → AreOpen n first_kind before offers
+pub AreOpen-from_offers : (n : ℕ) (first_kind : Kind) (asks : Asks) (ready : List ℕ) (places : Places) (before : List (Option Fed)) (offers : Offers)
+    → AreAtPorts places → places.ports ≡ n → AreReady n first_kind before ready
+    → AreOffers (λ i j rank. ((j < n) × IsFreeOutput before j) × IsChosen n first_kind asks ready places j (record { rank = rank; input = i })) offers
+    → AreOpen n first_kind before offers
 AreOpen-from_offers n first_kind asks ready places before offers at_ports ports readies o =
-    let G : ℕ → ℕ → ℕ → Type 0 = λ i j rank. ((j < n) × IsFreeOutput before j) × IsChosen n first_kind asks ready places j (record { rank = rank; input = i }) in
+    let G : ℕ → ℕ → ℕ → Type 0 = λ i j rank. ((j < n) × IsFreeOutput before j)
+    × IsChosen n first_kind asks ready places j (record { rank = rank; input = i }) in
     record {
       each = λ i has.
           let s = o.some i has in
@@ -176,8 +192,10 @@ AreOpen-from_offers n first_kind asks ready places before offers at_ports ports 
     }
 
 -- the outputs that have chosen are those that no longer wait
-module _ (free rest later j : ℕ) (C : ℕ → ℕ → ℕ → Type 0) (has : Has rest j) (left : Has free j) (fewer : (y : ℕ) → Has later y ↔ ((y ≡ j → ⊥) × Has rest y)) where
-  pub chosen_more : (a b : ℕ) → C a j b → ((i r : ℕ) → C i j r → (i ≡ a) × (r ≡ b)) → (i y r : ℕ) → ((Has free y × (Has later y → ⊥)) × C i y r) ↔ (((Has free y × (Has rest y → ⊥)) × C i y r) ⊎ ((i ≡ a) × (y ≡ j) × (r ≡ b)))
+module _ (free rest later j : ℕ) (C : ℕ → ℕ → ℕ → Type 0) (has : Has rest j) (left : Has free j)
+    (fewer : (y : ℕ) → Has later y ↔ ((y ≡ j → ⊥) × Has rest y)) where
+  pub chosen_more : (a b : ℕ) → C a j b → ((i r : ℕ) → C i j r → (i ≡ a) × (r ≡ b)) → (i y r : ℕ) → ((Has free y × (Has later y → ⊥)) × C i y r)
+      ↔ (((Has free y × (Has rest y → ⊥)) × C i y r) ⊎ ((i ≡ a) × (y ≡ j) × (r ≡ b)))
   chosen_more a b made only i y r = (
     λ q. elim (cases_eq y j) [
       | inl same ↦ let one = only i r (subst (λ x. C i x r) same q.1) in inr (one.0, same, one.1)
@@ -185,7 +203,10 @@ module _ (free rest later j : ℕ) (C : ℕ → ℕ → ℕ → Type 0) (has : H
     ],
     λ s. elim s [
       | inl p ↦ ((p.0.0, λ h. p.0.1 ((fewer y).0 h).1), p.1)
-      | inr e ↦ ((subst (Has free) (sym e.1) left, λ h. ((fewer y).0 h).0 e.1), subst (λ x. C i x r) (sym e.1) (subst (λ k. C i j k) (sym e.2) (subst (λ x. C x j b) (sym e.0) made)))
+      | inr e ↦ (
+        (subst (Has free) (sym e.1) left, λ h. ((fewer y).0 h).0 e.1),
+        subst (λ x. C i x r) (sym e.1) (subst (λ k. C i j k) (sym e.2) (subst (λ x. C x j b) (sym e.0) made)),
+      )
     ],
   )
 

@@ -1,5 +1,6 @@
 -- A round in which rows name unicast of one level alone is a round of iSLIP.
-use Rattle.std.proofs.Common.{◌≡◌, ℕ, ◌<◌, ◌≤◌, ◌↔◌, ◌∙◌, List, Option, None, Some, length, map, slice_index, slice_index_or, refl, sym, ap, subst, inl, inr, arith}
+use Rattle.std.proofs.Common.{◌≡◌, ℕ, ◌<◌, ◌≤◌, ◌↔◌, ◌∙◌, List, Option, None, Some, length, map, slice_index, slice_index_or, refl, sym, ap, subst, inl}
+use Rattle.std.proofs.Common.{inr, arith}
 use Rattle.std.specs.List.{range_with_len}
 use Rattle.std.specs.Option.{option_map}
 use Rattle.std.proofs.Math.ListN.{get_or-map}
@@ -29,7 +30,8 @@ pub record ArePairsOf (level : ℕ) (matched : List (Option Fed)) : Type 0 where
   pub long : length matched ≤ MAX_PORTS
 
 -- what feeds an output, of a match of no more ports than a switch can have
-pub inputs_at : (matched : List (Option Fed)) → length matched ≤ MAX_PORTS → (j : ℕ) → slice_index_or (inputs_of matched) j None ≡ option_map (λ fed. fed.input) (fed_of matched j)
+pub inputs_at : (matched : List (Option Fed)) → length matched ≤ MAX_PORTS → (j : ℕ)
+    → slice_index_or (inputs_of matched) j None ≡ option_map (λ fed. fed.input) (fed_of matched j)
 unfolding inputs_of
 inputs_at matched long j =
     let input : ℕ → Option ℕ = λ y. option_map (λ fed. fed.input) (fed_of matched y) in
@@ -77,7 +79,8 @@ module _ (level : ℕ) (matched : List (Option Fed)) (are : ArePairsOf level mat
 named_of : (level : ℕ) (rows : List Row) (i : ℕ) → slice_index (unicast_of level rows) i ≡ slice_index ((row_of rows i).uni) level
 named_of level rows i = get_or-map (λ (row : Row). slice_index row.uni level) rows i no_row
 
-module _ (n t level : ℕ) (rows : List Row) (places : Places) (level_in : level < LEVELS) (unicast : AreUnicastOf level rows) (before : List (Option Fed)) (are : ArePairsOf level before) where
+module _ (n t level : ℕ) (rows : List Row) (places : Places) (level_in : level < LEVELS) (unicast : AreUnicastOf level rows) (before : List (Option Fed))
+    (are : ArePairsOf level before) where
   asked : (i j : ℕ) → Has (slice_index (unicast_of level rows) i) j ↔ Names (row_of rows i) level Uni j
   asked i j = (λ has. subst (λ set. Has set j) (named_of level rows i) has, λ named. subst (λ set. Has set j) (sym (named_of level rows i)) named)
 
@@ -86,7 +89,12 @@ module _ (n t level : ℕ) (rows : List Row) (places : Places) (level_in : level
     λ r.
         inl (
           (free_input level before are i).0 r.0,
-          record { level_in = level_in; named = (asked i j).0 r.1; best = λ better other lt named. let same = (unicast i j better other named).0 in absurd (omega arith) },
+          record {
+            level_in = level_in;
+            named = (asked i j).0 r.1;
+            best = λ better other lt named. let same = (unicast i j better other named).0 in
+                absurd (omega arith);
+          },
         ),
     λ r. elim r [
       | inl p ↦ ((free_input level before are i).1 p.0, (asked i j).1 p.1.named)
@@ -114,13 +122,16 @@ module _ (n t level : ℕ) (rows : List Row) (places : Places) (level_in : level
     λ g. record {
       output_in = g.output_in;
       output_free = (free_output level before are j).0 g.output_free;
-      best = best_of (λ m k. (x : ℕ) × (x < n) × Requests rows before x j m k) (λ m k p. requests_only p.0 j m k p.2) (i, g.first.below, (requests i j).0 g.first.member);
-      first = IsFirstFrom-along n (grant_of places j level) (λ x. islip.Requests (unicast_of level rows) (inputs_of before) x j) (λ x. Requests rows before x j level Uni) i (λ y y_in. requests y j) g.first;
+      best = best_of (λ m k. (x : ℕ) × (x < n) × Requests rows before x j m k) (λ m k p. requests_only p.0 j m k p.2)
+          (i, g.first.below, (requests i j).0 g.first.member);
+      first = IsFirstFrom-along n (grant_of places j level) (λ x. islip.Requests (unicast_of level rows) (inputs_of before) x j)
+          (λ x. Requests rows before x j level Uni) i (λ y y_in. requests y j) g.first;
     },
     λ g. record {
       output_in = g.output_in;
       output_free = (free_output level before are j).1 g.output_free;
-      first = IsFirstFrom-along n (grant_of places j level) (λ x. Requests rows before x j level Uni) (λ x. islip.Requests (unicast_of level rows) (inputs_of before) x j) i (λ y y_in. ((requests y j).1, (requests y j).0)) g.first;
+      first = IsFirstFrom-along n (grant_of places j level) (λ x. Requests rows before x j level Uni)
+          (λ x. islip.Requests (unicast_of level rows) (inputs_of before) x j) i (λ y y_in. ((requests y j).1, (requests y j).0)) g.first;
     },
   )
 
@@ -131,9 +142,11 @@ module _ (n t level : ℕ) (rows : List Row) (places : Places) (level_in : level
   accepts i j = (
     λ a. record {
       best = best_of (λ m k. (y : ℕ) × Grants n t rows places before i y m k) (λ m k p. grants_only i p.0 m k p.1) (j, (grants i j).0 a.member);
-      taken = IsFirstFrom-along n (accept_of places i level) (λ y. islip.Grants n (unicast_of level rows) (pointers_of level places) (inputs_of before) i y) (λ y. Grants n t rows places before i y level Uni) j (λ y y_in. grants i y) a;
+      taken = IsFirstFrom-along n (accept_of places i level) (λ y. islip.Grants n (unicast_of level rows) (pointers_of level places) (inputs_of before) i y)
+          (λ y. Grants n t rows places before i y level Uni) j (λ y y_in. grants i y) a;
     },
-    λ a. IsFirstFrom-along n (accept_of places i level) (λ y. Grants n t rows places before i y level Uni) (λ y. islip.Grants n (unicast_of level rows) (pointers_of level places) (inputs_of before) i y) j
+    λ a. IsFirstFrom-along n (accept_of places i level) (λ y. Grants n t rows places before i y level Uni)
+        (λ y. islip.Grants n (unicast_of level rows) (pointers_of level places) (inputs_of before) i y) j
         (λ y y_in. ((grants i y).1, (grants i y).0)) a.taken,
   )
 

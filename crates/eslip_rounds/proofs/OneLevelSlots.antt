@@ -1,5 +1,6 @@
 -- A slot in which rows name unicast of one level alone is a slot of iSLIP.
-use Rattle.std.proofs.Common.{◌≡◌, ℕ, zero, suc, ◌+◌, ◌<◌, ◌≤◌, ◌∙◌, List, [], ◌∷◌, Option, None, Some, length, map, slice_index_or, refl, sym, ap, subst, arith, add-one}
+use Rattle.std.proofs.Common.{◌≡◌, ℕ, zero, suc, ◌+◌, ◌<◌, ◌≤◌, ◌∙◌, List, [], ◌∷◌, Option, None, Some, length, map, slice_index_or, refl, sym, ap}
+use Rattle.std.proofs.Common.{subst, arith, add-one}
 use Rattle.std.specs.List.{range_with_len}
 use Rattle.std.specs.Option.{option_map}
 use Rattle.std.proofs.lemmas.List.{length-replicate, get_or-replicate, ext_get_or}
@@ -78,14 +79,16 @@ last-map before [] = refl
 last-map before (step ∷ steps) = last-map step steps
 
 module _ (n t level : ℕ) (rows : List Row) (places : Places) (level_in : level < LEVELS) (unicast : AreUnicastOf level rows) (size : n ≤ MAX_PORTS) where
-  AreRounds-islip : (before : List (Option Fed)) (steps : List (List (Option Fed))) → ArePairsOf level before → AreRounds n t rows places before steps → islip.AreRounds n (unicast_of level rows) (pointers_of level places) (inputs_of before) (map inputs_of steps)
+  AreRounds-islip : (before : List (Option Fed)) (steps : List (List (Option Fed))) → ArePairsOf level before → AreRounds n t rows places before steps
+      → islip.AreRounds n (unicast_of level rows) (pointers_of level places) (inputs_of before) (map inputs_of steps)
   AreRounds-islip before [] are chain = tt
   AreRounds-islip before (step ∷ steps) are chain = (
     IsRound-islip n t level rows places level_in unicast before are step chain.0 size,
     AreRounds-islip step steps (ArePairsOf-round n t level rows places level_in unicast before are step chain.0 size) chain.1,
   )
 
-  same_counts : (before : List (Option Fed)) (steps : List (List (Option Fed))) → ArePairsOf level before → AreRounds n t rows places before steps → map matched_count (map inputs_of steps) ≡ map matched_count steps
+  same_counts : (before : List (Option Fed)) (steps : List (List (Option Fed))) → ArePairsOf level before → AreRounds n t rows places before steps
+      → map matched_count (map inputs_of steps) ≡ map matched_count steps
   same_counts before [] are chain = refl
   same_counts before (step ∷ steps) are chain =
       let next = ArePairsOf-round n t level rows places level_in unicast before are step chain.0 size in
@@ -93,11 +96,13 @@ module _ (n t level : ℕ) (rows : List Row) (places : Places) (level_in : level
       let rest = same_counts step steps next chain.1 in
       λ i. here i ∷ rest i
 
-  first_pairs : (before : List (Option Fed)) (steps : List (List (Option Fed))) → ArePairsOf level before → AreRounds n t rows places before steps → ArePairsOf level (slice_index_or steps 0 before)
+  first_pairs : (before : List (Option Fed)) (steps : List (List (Option Fed))) → ArePairsOf level before → AreRounds n t rows places before steps
+      → ArePairsOf level (slice_index_or steps 0 before)
   first_pairs before [] are chain = are
   first_pairs before (step ∷ steps) are chain = ArePairsOf-round n t level rows places level_in unicast before are step chain.0 size
 
-first-map : (before : List (Option Fed)) (steps : List (List (Option Fed))) → slice_index_or (map inputs_of steps) 0 (inputs_of before) ≡ inputs_of (slice_index_or steps 0 before)
+first-map : (before : List (Option Fed)) (steps : List (List (Option Fed)))
+    → slice_index_or (map inputs_of steps) 0 (inputs_of before) ≡ inputs_of (slice_index_or steps 0 before)
 first-map before [] = refl
 first-map before (step ∷ steps) = refl
 
@@ -106,7 +111,8 @@ length-map-inputs [] = refl
 length-map-inputs (step ∷ steps) = ap suc (length-map-inputs steps)
 
 -- the pointers of the level move as in iSLIP
-AreMoved-islip : (n t level : ℕ) (rows : List Row) (first_match matched : List (Option Fed)) (before after : Places) → ArePairsOf level first_match → AreMoved n t rows first_match matched before after → islip_slots.AreMoved n (inputs_of first_match) (pointers_of level before) (pointers_of level after)
+AreMoved-islip : (n t level : ℕ) (rows : List Row) (first_match matched : List (Option Fed)) (before after : Places) → ArePairsOf level first_match
+    → AreMoved n t rows first_match matched before after → islip_slots.AreMoved n (inputs_of first_match) (pointers_of level before) (pointers_of level after)
 AreMoved-islip n t level rows first_match matched before after are moved =
     record {
       granted = λ i j f. moved.granted i j level ((feeds level first_match are i j).0 f);
@@ -115,7 +121,9 @@ AreMoved-islip n t level rows first_match matched before after are moved =
       accept_stays = λ i none. moved.accept_stays i level (λ j s. none j ((feeds level first_match are i j).1 s));
     }
 
-pub IsSlot-islip : (n rounds t level : ℕ) (rows : List Row) (before : Places) (a : Decision) → level < LEVELS → n ≤ MAX_PORTS → AreUnicastOf level rows → IsSlot n rounds t rows before a → islip_slots.IsSlot n rounds (unicast_of level rows) (pointers_of level before) (inputs_of a.matched) a.numbers (pointers_of level a.places)
+pub IsSlot-islip : (n rounds t level : ℕ) (rows : List Row) (before : Places) (a : Decision) → level < LEVELS → n ≤ MAX_PORTS → AreUnicastOf level rows
+    → IsSlot n rounds t rows before a
+    → islip_slots.IsSlot n rounds (unicast_of level rows) (pointers_of level before) (inputs_of a.matched) a.numbers (pointers_of level a.places)
 IsSlot-islip n rounds t level rows before a level_in size unicast slot =
     let start = unmatched n in
     let none : inputs_of start ≡ islip_slots.unmatched = inputs-unmatched n size in
@@ -125,8 +133,10 @@ IsSlot-islip n rounds t level rows before a level_in size unicast slot =
     let pointers = pointers_of level before in
     let Chain : List (Option ℕ) → Type 0 = λ m. islip.AreRounds n asks pointers m (map inputs_of steps) in
     let Moved : List (Option ℕ) → Type 0 = λ m. islip_slots.AreMoved n m pointers (pointers_of level a.places) in
-    let first_match : inputs_of (slice_index_or steps 0 start) ≡ slice_index_or (map inputs_of steps) 0 islip_slots.unmatched = sym (first-map start steps) ∙ ap (slice_index_or (map inputs_of steps) 0) none in
-    let moved = AreMoved-islip n t level rows (slice_index_or steps 0 start) a.matched before a.places (first_pairs n t level rows before level_in unicast size start steps are slot.chain) slot.moved in
+    let first_match : inputs_of (slice_index_or steps 0 start) ≡ slice_index_or (map inputs_of steps) 0 islip_slots.unmatched = sym (first-map start steps)
+    ∙ ap (slice_index_or (map inputs_of steps) 0) none in
+    let moved = AreMoved-islip n t level rows (slice_index_or steps 0 start) a.matched before a.places
+    (first_pairs n t level rows before level_in unicast size start steps are slot.chain) slot.moved in
     let counts = same_counts n t level rows before level_in unicast size start steps are slot.chain in
     record {
       steps = map inputs_of steps;

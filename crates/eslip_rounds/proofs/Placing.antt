@@ -1,5 +1,6 @@
 -- The pointers after a slot, computed, are those of the definition.
-use Rattle.std.proofs.Common.{◌≡◌, ℕ, ◌<◌, ◌≤◌, ◌⊎◌, ◌∙◌, ◌&&◌, false, not, cond, List, [], Option, None, Some, length, map, slice_index, slice_index_or, refl, sym, ap, inl, inr, arith}
+use Rattle.std.proofs.Common.{◌≡◌, ℕ, ◌<◌, ◌≤◌, ◌⊎◌, ◌∙◌, ◌&&◌, false, not, cond, List, [], Option, None, Some, length, map, slice_index}
+use Rattle.std.proofs.Common.{slice_index_or, refl, sym, ap, inl, inr, arith}
 use Rattle.std.specs.Bool.{Decides}
 use Rattle.std.specs.List.{find}
 use Rattle.std.specs.Option.{option_and_then}
@@ -43,21 +44,25 @@ module _ (place : ℕ → ℕ → ℕ) where
   -- a place of the table
   pub table_at : (level port : ℕ) → level < LEVELS → port < MAX_PORTS → place_of (table_of place) level port ≡ place level port
   unfolding row_at
-  table_at level port level_in port_in = ap (λ row. slice_index row port) (table_row level level_in) ∙ get_or-map-range_with_len (place level) 0 MAX_PORTS port port 0 port_in (omega arith)
+  table_at level port level_in port_in = ap (λ row. slice_index row port) (table_row level level_in)
+      ∙ get_or-map-range_with_len (place level) 0 MAX_PORTS port port 0 port_in (omega arith)
 
 -- tables have no place beyond their levels and ports
-table_past : (table : List (List ℕ)) → IsTable table → (level port : ℕ) → (LEVELS ≤ level) ⊎ ((level < LEVELS) × (MAX_PORTS ≤ port)) → place_of table level port ≡ 0
+table_past : (table : List (List ℕ)) → IsTable table → (level port : ℕ) → (LEVELS ≤ level) ⊎ ((level < LEVELS) × (MAX_PORTS ≤ port))
+    → place_of table level port ≡ 0
 table_past table whole level port past = elim past [
   | inl above ↦ ap (λ row. slice_index row port) (get_or_past table level [] (let long = whole.levels in omega arith))
   | inr p ↦ get_or_past (slice_index_or table level []) port 0 (let long = whole.ports level p.0 in let above = p.1 in omega arith)
 ]
 
 -- a place that stays
-pub table_stays : (place : ℕ → ℕ → ℕ) (table : List (List ℕ)) → IsTable table → (level port : ℕ) → place level port ≡ place_of table level port → place_of (table_of place) level port ≡ place_of table level port
+pub table_stays : (place : ℕ → ℕ → ℕ) (table : List (List ℕ)) → IsTable table → (level port : ℕ) → place level port ≡ place_of table level port
+    → place_of (table_of place) level port ≡ place_of table level port
 table_stays place table whole level port e = elim (cases_lt level LEVELS) [
   | inr above ↦ table_past (table_of place) (IsTable-table_of place) level port (inl above) ∙ sym (table_past table whole level port (inl above))
   | inl level_in ↦ elim (cases_lt port MAX_PORTS) [
-    | inr above ↦ table_past (table_of place) (IsTable-table_of place) level port (inr (level_in, above)) ∙ sym (table_past table whole level port (inr (level_in, above)))
+    | inr above ↦ table_past (table_of place) (IsTable-table_of place) level port (inr (level_in, above))
+        ∙ sym (table_past table whole level port (inr (level_in, above)))
     | inl port_in ↦ table_at place level port level_in port_in ∙ e
   ]
 ]
@@ -70,7 +75,8 @@ module _ (n : ℕ) (first_match : List (Option Fed)) (whole : IsMatch n first_ma
       (λ y h. let once = Serves-once first_match j y i level level Uni Uni ((Decides-fed y level Uni (fed_of first_match j)).0 h) s in once.0)
 
   pub no_input_of : (j level : ℕ) → ((i : ℕ) → Serves first_match i j level Uni → ⊥) → find (λ x. is_fed x level Uni (fed_of first_match j)) (ports n) ≡ None
-  no_input_of j level none = finds_no_port (λ x. is_fed x level Uni (fed_of first_match j)) n (λ y h. none y ((Decides-fed y level Uni (fed_of first_match j)).0 h))
+  no_input_of j level none =
+      finds_no_port (λ x. is_fed x level Uni (fed_of first_match j)) n (λ y h. none y ((Decides-fed y level Uni (fed_of first_match j)).0 h))
 
   pub fed_in : (i j level : ℕ) → Serves first_match i j level Uni → j < n
   fed_in i j level s = let lt = fed_of-lt first_match j (record { input = i; level = level; kind = Uni }) s in let size = whole.count in omega arith
@@ -78,12 +84,18 @@ module _ (n : ℕ) (first_match : List (Option Fed)) (whole : IsMatch n first_ma
   pub output_of : (i j level : ℕ) → Serves first_match i j level Uni → find (λ y. is_fed i level Uni (fed_of first_match y)) (ports n) ≡ Some j
   output_of i j level s =
       finds_port (λ y. is_fed i level Uni (fed_of first_match y)) n j (fed_in i j level s) ((Decides-fed i level Uni (fed_of first_match j)).1 s)
-      (λ y h. elim (whole.once i y level Uni j level Uni ((Decides-fed i level Uni (fed_of first_match y)).0 h) s) [ inl same ↦ same | inr multi ↦ let never = multi.1 in absurd (cc) ])
+      (λ y h. elim (whole.once i y level Uni j level Uni ((Decides-fed i level Uni (fed_of first_match y)).0 h) s) [
+        | inl same ↦ same
+        | inr multi ↦ let never =
+            multi.1 in absurd (cc)
+      ])
 
   pub no_output_of : (i level : ℕ) → ((j : ℕ) → Serves first_match i j level Uni → ⊥) → find (λ y. is_fed i level Uni (fed_of first_match y)) (ports n) ≡ None
-  no_output_of i level none = finds_no_port (λ y. is_fed i level Uni (fed_of first_match y)) n (λ y h. none y ((Decides-fed i level Uni (fed_of first_match y)).0 h))
+  no_output_of i level none =
+      finds_no_port (λ y. is_fed i level Uni (fed_of first_match y)) n (λ y h. none y ((Decides-fed i level Uni (fed_of first_match y)).0 h))
 
-module _ (n : ℕ) (rows : List Row) (matched : List (Option Fed)) (before : Places) (within : AreWithin n rows) (at_ports : AreAtPorts before) (ports_are : before.ports ≡ n) where
+module _ (n : ℕ) (rows : List Row) (matched : List (Option Fed)) (before : Places) (within : AreWithin n rows) (at_ports : AreAtPorts before)
+    (ports_are : before.ports ≡ n) where
   -- a head, as the test sees it
   abbrev Head : ℕ → ℕ → Type 0
   Head level i = (j : ℕ) × (j < n) × Names (row_of rows i) level Multi j
@@ -94,9 +106,11 @@ module _ (n : ℕ) (rows : List Row) (matched : List (Option Fed)) (before : Pla
   heads : (level i : ℕ) → i < n → (HasHead rows level i → Head level i) × (Head level i → HasHead rows level i)
   heads level i i_in = (λ h. (h.0, within.ports i i_in level h.0 Multi h.1, h.1), λ h. (h.0, h.2))
 
-  left_test : (level i : ℕ) → Decides (is_left n rows matched level i) ((j : ℕ) × (j < n) × (Names (row_of rows i) level Multi j × (Serves matched i j level Multi → ⊥)))
+  left_test : (level i : ℕ)
+      → Decides (is_left n rows matched level i) ((j : ℕ) × (j < n) × (Names (row_of rows i) level Multi j × (Serves matched i j level Multi → ⊥)))
   left_test level i =
-      any_port (λ j. is_named (row_of rows i) level Multi j && not (is_fed i level Multi (fed_of matched j))) (λ j. Names (row_of rows i) level Multi j × (Serves matched i j level Multi → ⊥))
+      any_port (λ j. is_named (row_of rows i) level Multi j && not (is_fed i level Multi (fed_of matched j)))
+      (λ j. Names (row_of rows i) level Multi j × (Serves matched i j level Multi → ⊥))
       (λ j. Decides-and (is_named (row_of rows i) level Multi j) (not (is_fed i level Multi (fed_of matched j))) (Decides-named (row_of rows i) level Multi j)
       (Decides-not (is_fed i level Multi (fed_of matched j)) (Decides-fed i level Multi (fed_of matched j)))) n
 
@@ -109,7 +123,8 @@ module _ (n : ℕ) (rows : List Row) (matched : List (Option Fed)) (before : Pla
       elim (cases_Bool (is_fed i level Multi (fed_of matched j))) [
         | inl served ↦ (Decides-fed i level Multi (fed_of matched j)).0 served
         | inr fail ↦
-            let left = (left_test level i).1 (j, within.ports i i_in level j Multi named, (named, λ s. let pass = (Decides-fed i level Multi (fed_of matched j)).1 s in absurd (cc))) in
+            let left = (left_test level i).1
+            (j, within.ports i i_in level j Multi named, (named, λ s. let pass = (Decides-fed i level Multi (fed_of matched j)).1 s in absurd (cc))) in
             absurd (cc)
       ]
 
@@ -117,17 +132,22 @@ module _ (n : ℕ) (rows : List Row) (matched : List (Option Fed)) (before : Pla
     shared_in : shared_of before level < n
     shared_in = let lt = (at_ports.pointing level level_in).shared in omega arith
 
-    found_head : (i : ℕ) → find (is_head n rows level) (ports_from n (shared_of before level)) ≡ Some i → IsFirstFrom n (shared_of before level) (HasHead rows level) i
+    found_head : (i : ℕ) → find (is_head n rows level) (ports_from n (shared_of before level)) ≡ Some i
+        → IsFirstFrom n (shared_of before level) (HasHead rows level) i
     found_head i e =
         IsFirstFrom-along n (shared_of before level) (Head level) (HasHead rows level) i (λ y y_in. ((heads level y y_in).1, (heads level y y_in).0))
         (first_found n (shared_of before level) (is_head n rows level) (Head level) (head_test level) shared_in i e)
 
-    pub passed_some : (i : ℕ) → IsFirstFrom n (shared_of before level) (HasHead rows level) i → Completes rows matched level i → passed n rows matched before level ≡ Some i
+    pub passed_some : (i : ℕ) → IsFirstFrom n (shared_of before level) (HasHead rows level) i → Completes rows matched level i
+        → passed n rows matched before level ≡ Some i
     passed_some i head done =
-        let found = finds_first n (shared_of before level) (is_head n rows level) (Head level) (head_test level) shared_in i (IsFirstFrom-along n (shared_of before level) (HasHead rows level) (Head level) i (heads level) head) in
-        ap (option_and_then (λ x. cond (is_left n rows matched level x) None (Some x))) found ∙ cond-false (is_left n rows matched level i) None (Some i) (nothing_left level i done)
+        let found = finds_first n (shared_of before level) (is_head n rows level) (Head level) (head_test level) shared_in i
+        (IsFirstFrom-along n (shared_of before level) (HasHead rows level) (Head level) i (heads level) head) in
+        ap (option_and_then (λ x. cond (is_left n rows matched level x) None (Some x))) found
+        ∙ cond-false (is_left n rows matched level i) None (Some i) (nothing_left level i done)
 
-    pub passed_none : ((i : ℕ) → IsFirstFrom n (shared_of before level) (HasHead rows level) i → Completes rows matched level i → ⊥) → passed n rows matched before level ≡ None
+    pub passed_none : ((i : ℕ) → IsFirstFrom n (shared_of before level) (HasHead rows level) i → Completes rows matched level i → ⊥)
+        → passed n rows matched before level ≡ None
     passed_none none = go (find (is_head n rows level) (ports_from n (shared_of before level))) refl where
       go : (o : Option ℕ) → find (is_head n rows level) (ports_from n (shared_of before level)) ≡ o → passed n rows matched before level ≡ None
       go None e = ap (option_and_then (λ x. cond (is_left n rows matched level x) None (Some x))) e

@@ -60,7 +60,14 @@ module _ (t : ℕ) (test : ℕ → Kind → Bool) where
             inl (
               a,
               first_kind,
-              record { low = omega arith; high = omega arith; is = cond-true (test a first_kind) (Some one) _ pass; passes = pass; least = λ m k low high h. absurd (omega arith); preferred_first = λ h. refl },
+              record {
+                low = omega arith;
+                high = omega arith;
+                is = cond-true (test a first_kind) (Some one) _ pass;
+                passes = pass;
+                least = λ m k low high h. absurd (omega arith);
+                preferred_first = λ h. refl;
+              },
             )
         | inr fail ↦ elim (cases_Bool (test a (other_kind first_kind))) [
           | inl pass ↦
@@ -78,8 +85,10 @@ module _ (t : ℕ) (test : ℕ → Kind → Bool) where
               )
           | inr also ↦
               let none_here = none_at a fail also in
-              let skip = cond-false (test a first_kind) (Some one) (cond (test a (other_kind first_kind)) (Some two) rest) fail ∙ cond-false (test a (other_kind first_kind)) (Some two) rest also in
-              let later : (b m : ℕ) (k : Kind) → ((l : ℕ) (q : Kind) → a + 1 ≤ l → l < b → test l q ≡ true → ⊥) → a ≤ m → m < b → test m k ≡ true → ⊥ = λ b m k none low high h. elim (cases_eq m a) [
+              let skip = cond-false (test a first_kind) (Some one) (cond (test a (other_kind first_kind)) (Some two) rest) fail
+              ∙ cond-false (test a (other_kind first_kind)) (Some two) rest also in
+              let later : (b m : ℕ) (k : Kind) → ((l : ℕ) (q : Kind) → a + 1 ≤ l → l < b → test l q ≡ true → ⊥) → a ≤ m → m < b → test m k ≡ true
+              → ⊥ = λ b m k none low high h. elim (cases_eq m a) [
                 | inl same ↦ none_here k (ap (λ l. test l k) (sym same) ∙ h)
                 | inr apart ↦ none m k (omega arith) high h
               ] in
@@ -88,14 +97,27 @@ module _ (t : ℕ) (test : ℕ → Kind → Bool) where
                     let g = f.2 in
                     let low = g.low in
                     let high = g.high in
-                    inl (f.0, f.1, record { low = omega arith; high = omega arith; is = skip ∙ g.is; passes = g.passes; least = λ m k. later f.0 m k g.least; preferred_first = g.preferred_first })
+                    inl (
+                      f.0,
+                      f.1,
+                      record {
+                        low = omega arith;
+                        high = omega arith;
+                        is = skip ∙ g.is;
+                        passes = g.passes;
+                        least = λ m k. later f.0 m k g.least;
+                        preferred_first = g.preferred_first;
+                      },
+                    )
                 | inr none ↦ inr (record { is = skip ∙ none.is; fails = λ m k low high. later ((a + 1) + n) m k none.fails low (omega arith) })
               ]
         ]
       ]
 
-module _ (t : ℕ) (test : ℕ → Kind → Bool) (P : ℕ → Kind → Type 0) (level_in : (m : ℕ) (k : Kind) → P m k → m < LEVELS) (each : (m : ℕ) (k : Kind) → m < LEVELS → Decides (test m k) (P m k)) where
-  rank_or : ((level : ℕ) × (kind : Kind) × (find (λ rank. test rank.level rank.kind) (ranks t) ≡ Some (record { level = level; kind = kind })) × IsBest t P level kind) ⊎ ((find (λ rank. test rank.level rank.kind) (ranks t) ≡ None) × ((m : ℕ) (k : Kind) → P m k → ⊥))
+module _ (t : ℕ) (test : ℕ → Kind → Bool) (P : ℕ → Kind → Type 0) (level_in : (m : ℕ) (k : Kind) → P m k → m < LEVELS)
+    (each : (m : ℕ) (k : Kind) → m < LEVELS → Decides (test m k) (P m k)) where
+  rank_or : ((level : ℕ) × (kind : Kind) × (find (λ rank. test rank.level rank.kind) (ranks t) ≡ Some (record { level = level; kind = kind }))
+      × IsBest t P level kind) ⊎ ((find (λ rank. test rank.level rank.kind) (ranks t) ≡ None) × ((m : ℕ) (k : Kind) → P m k → ⊥))
   unfolding ranks found_in
   rank_or = elim (rank_range t test 0 LEVELS) [
     | inl f ↦
@@ -108,7 +130,11 @@ module _ (t : ℕ) (test : ℕ → Kind → Bool) (P : ℕ → Kind → Type 0) 
           g.is,
           record {
             there = (each level f.1 below).0 g.passes;
-            least = λ m k p. elim (cases_lt m level) [ inl under ↦ absurd (g.least m k (omega arith) under ((each m k (level_in m k p)).1 p)) | inr above ↦ above ];
+            least = λ m k p. elim (cases_lt m level) [
+              | inl under ↦ absurd
+                  (g.least m k (omega arith) under ((each m k (level_in m k p)).1 p))
+              | inr above ↦ above
+            ];
             preferred_first = λ p. g.preferred_first ((each level (preferred t) below).1 p);
           },
         )
@@ -127,11 +153,13 @@ module _ (t : ℕ) (test : ℕ → Kind → Bool) (P : ℕ → Kind → Type 0) 
   ]
 
   -- and the best is found
-  pub finds_rank : (level : ℕ) (kind : Kind) → IsBest t P level kind → find (λ rank. test rank.level rank.kind) (ranks t) ≡ Some (record { level = level; kind = kind })
+  pub finds_rank : (level : ℕ) (kind : Kind) → IsBest t P level kind
+      → find (λ rank. test rank.level rank.kind) (ranks t) ≡ Some (record { level = level; kind = kind })
   finds_rank level kind best = elim rank_or [
     | inl f ↦
         let same = IsBest-only t P f.0 level f.1 kind f.3 best in
-        let ranks_same : ◌≡◌ {A = Rank} (record { level = f.0; kind = f.1 }) (record { level = level; kind = kind }) = λ i. record { level = same.0 i; kind = same.1 i } in
+        let ranks_same : ◌≡◌ {A = Rank} (record { level = f.0; kind = f.1 }) (record { level = level; kind = kind }) =
+        λ i. record { level = same.0 i; kind = same.1 i } in
         f.2 ∙ ap Some ranks_same
     | inr none ↦ absurd (none.1 level kind best.there)
   ]

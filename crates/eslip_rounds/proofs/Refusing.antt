@@ -22,7 +22,9 @@ use Rattle.eslip_rounds.proofs.RankLemmas.{kind_at-rank_of, level_at-rank_of}
 use Rattle.eslip_rounds.proofs.Bests.{taken_from}
 use Rattle.eslip_rounds.proofs.Choosing.{from_of-lt, level_asked, IsChosen-only, Grants-from_chosen, chosen_from_grants}
 
-module _ (n t : ℕ) (rows : List Row) (places : Places) (asks : Asks) (at_ports : AreAtPorts places) (ports : places.ports ≡ n) (are : AreAsks n (preferred t) rows asks) (first_match : List (Option Fed)) (round : IsRound n t rows places (unmatched n) first_match) (first_outputs : ℕ) (firsts : (j : ℕ) → Has first_outputs j ↔ ((j < n) × (IsFreeOutput first_match j → ⊥))) (refused : Refused)
+module _ (n t : ℕ) (rows : List Row) (places : Places) (asks : Asks) (at_ports : AreAtPorts places) (ports : places.ports ≡ n)
+    (are : AreAsks n (preferred t) rows asks) (first_match : List (Option Fed)) (round : IsRound n t rows places (unmatched n) first_match)
+    (first_outputs : ℕ) (firsts : (j : ℕ) → Has first_outputs j ↔ ((j < n) × (IsFreeOutput first_match j → ⊥))) (refused : Refused)
     (are_told : AreToldOf n (preferred t) asks places (λ j. ((j < n) × (Has first_outputs j → ⊥)) × Has asks.outputs j) refused) where
   granted : (i j level : ℕ) → j < n → GrantsUnicast n (preferred t) asks are_told.ready places i j level → Grants n t rows places (unmatched n) i j level Uni
   granted i j level j_in chosen =
@@ -32,7 +34,8 @@ module _ (n t : ℕ) (rows : List Row) (places : Places) (asks : Asks) (at_ports
       subst Q chosen.2 (subst P (sym chosen.3) g)
 
   -- what output j grants is one
-  grants_once : (i j m x l : ℕ) (k q : Kind) → Grants n t rows places (unmatched n) i j m k → Grants n t rows places (unmatched n) x j l q → (i ≡ x) × (m ≡ l) × (k ≡ q)
+  grants_once : (i j m x l : ℕ) (k q : Kind) → Grants n t rows places (unmatched n) i j m k → Grants n t rows places (unmatched n) x j l q → (i ≡ x) × (m ≡ l)
+      × (k ≡ q)
   grants_once i j m x l k q g h =
       let first_kind = preferred t in
       let a = chosen_from_grants n t rows asks are_told.ready (unmatched n) are are_told.readies j places g.output_in (fed_of-unmatched n j) i m k g in
@@ -40,10 +43,12 @@ module _ (n t : ℕ) (rows : List Row) (places : Places) (asks : Asks) (at_ports
       let level_is = level_at-rank_of first_kind m k in
       let kind_is = kind_at-rank_of first_kind m k in
       let j_in : j < places.ports = let below = g.output_in in omega arith in
-      let picks : from_of places j m k < n = let below = from_of-lt places at_ports j m k j_in (level_asked rows (unmatched n) i j m k g.first.member) in omega arith in
+      let picks : from_of places j m k < n = let below = from_of-lt places at_ports j m k j_in (level_asked rows (unmatched n) i j m k g.first.member) in
+      omega arith in
       let P : ℕ → Type 0 = λ z. from_of places j z k < n in
       let Q : Kind → Type 0 = λ z. from_of places j (level_at (rank_of first_kind m k)) z < n in
-      let same = IsChosen-only n first_kind asks are_told.ready places j (record { rank = rank_of first_kind m k; input = i }) (record { rank = rank_of first_kind l q; input = x }) (subst Q (sym kind_is) (subst P (sym level_is) picks)) a b in
+      let same = IsChosen-only n first_kind asks are_told.ready places j (record { rank = rank_of first_kind m k; input = i })
+      (record { rank = rank_of first_kind l q; input = x }) (subst Q (sym kind_is) (subst P (sym level_is) picks)) a b in
       let ranks : rank_of first_kind m k ≡ rank_of first_kind l q = ap (λ (f : Choice). f.rank) same in (
         ap (λ (f : Choice). f.input) same,
         sym level_is ∙ (ap level_at ranks ∙ level_at-rank_of first_kind l q),
@@ -59,7 +64,8 @@ module _ (n t : ℕ) (rows : List Row) (places : Places) (asks : Asks) (at_ports
         elim ((round.pairs f.input j f.level f.kind).0 (Serves-from first_match j f e)) [
           | inl old ↦ absurd (nobody_at_first n f.input j f.level f.kind old)
           | inr accepts ↦
-              let taken : Grants n t rows places (unmatched n) f.input j f.level f.kind = taken_from f.kind n (accept_of places f.input f.level) (λ y. Grants n t rows places (unmatched n) f.input y f.level f.kind) j accepts.taken in
+              let taken : Grants n t rows places (unmatched n) f.input j f.level f.kind =
+              taken_from f.kind n (accept_of places f.input f.level) (λ y. Grants n t rows places (unmatched n) f.input y f.level f.kind) j accepts.taken in
               let same = grants_once f.input j f.level i level f.kind Uni taken r.0 in
               let P : ℕ → Type 0 = λ x. Accepts n t rows places (unmatched n) x j f.level f.kind in
               let Q : ℕ → Type 0 = λ m. Accepts n t rows places (unmatched n) i j m f.kind in
@@ -80,7 +86,8 @@ module _ (n t : ℕ) (rows : List Row) (places : Places) (asks : Asks) (at_ports
         let told = (are_told.told i j level).0 tells in
         let j_in = told.0.0.0 in (
           granted i j level j_in told.1,
-          λ accepts. told.0.0.1 ((firsts j).1 (j_in, λ free. none-some (record { input = i; level = level; kind = Uni }) (sym free ∙ (round.pairs i j level Uni).1 (inr accepts)))),
+          λ accepts. told.0.0.1 ((firsts j).1
+              (j_in, λ free. none-some (record { input = i; level = level; kind = Uni }) (sym free ∙ (round.pairs i j level Uni).1 (inr accepts)))),
         ),
     λ r.
         let first_kind = preferred t in
@@ -95,15 +102,19 @@ module _ (n t : ℕ) (rows : List Row) (places : Places) (asks : Asks) (at_ports
   )
 
 -- the first of some rounds
-first_round : (n t : ℕ) (rows : List Row) (places : Places) (steps : List (List (Option Fed))) → 0 < length steps → AreRounds n t rows places (unmatched n) steps → IsRound n t rows places (unmatched n) (slice_index_or steps 0 (unmatched n))
+first_round : (n t : ℕ) (rows : List Row) (places : Places) (steps : List (List (Option Fed))) → 0 < length steps
+    → AreRounds n t rows places (unmatched n) steps → IsRound n t rows places (unmatched n) (slice_index_or steps 0 (unmatched n))
 first_round n t rows places [] some chain = absurd (omega arith)
 first_round n t rows places (step ∷ steps) some chain = chain.0
 
 -- the same of the rounds of a slot
-pub AreRefused-from : (n t rounds : ℕ) (rows : List Row) (places : Places) (first_kind : Kind) (asks : Asks) → AreAtPorts places → places.ports ≡ n → first_kind ≡ preferred t → AreAsks n first_kind rows asks → (matched : List (Option Fed)) (made : Made) → 0 < rounds → AreMade n rounds t rows places matched made → (refused : Refused)
+pub AreRefused-from : (n t rounds : ℕ) (rows : List Row) (places : Places) (first_kind : Kind) (asks : Asks) → AreAtPorts places → places.ports ≡ n
+    → first_kind ≡ preferred t → AreAsks n first_kind rows asks → (matched : List (Option Fed)) (made : Made) → 0 < rounds
+    → AreMade n rounds t rows places matched made → (refused : Refused)
     → AreToldOf n first_kind asks places (λ j. ((j < n) × (Has made.first_outputs j → ⊥)) × Has asks.outputs j) refused → AreRefused n t rows places refused
 AreRefused-from n t rounds rows places first_kind asks at_ports ports first_is are matched made some are_made refused told =
     let P : Kind → Type 0 = λ k. AreAsks n k rows asks in
     let Q : Kind → Type 0 = λ k. AreToldOf n k asks places (λ j. ((j < n) × (Has made.first_outputs j → ⊥)) × Has asks.outputs j) refused in
     let count = are_made.count in
-    AreRefused-told n t rows places asks at_ports ports (subst P first_is are) (slice_index_or are_made.steps 0 (unmatched n)) (first_round n t rows places are_made.steps (omega arith) are_made.chain) made.first_outputs are_made.firsts refused (subst Q first_is told)
+    AreRefused-told n t rows places asks at_ports ports (subst P first_is are) (slice_index_or are_made.steps 0 (unmatched n))
+    (first_round n t rows places are_made.steps (omega arith) are_made.chain) made.first_outputs are_made.firsts refused (subst Q first_is told)

@@ -14,7 +14,8 @@ use Rattle.eslip_rounds.proofs.RankLemmas.{kind_at-rank_of, level_at-rank_of, ra
 use Rattle.eslip_rounds.proofs.Bests.{IsBest-from_rank, IsBest-to_rank, Takes-along}
 use Rattle.eslip_rounds.proofs.Choosing.{Grants-from_chosen, chosen_from_grants}
 
-module _ (n t : ℕ) (rows : List Row) (places : Places) (asks : Asks) (before after : List (Option Fed)) (are : AreAsks n (preferred t) rows asks) (step : IsStep n (preferred t) asks places before after) where
+module _ (n t : ℕ) (rows : List Row) (places : Places) (asks : Asks) (before after : List (Option Fed)) (are : AreAsks n (preferred t) rows asks)
+    (step : IsStep n (preferred t) asks places before after) where
   -- output j offers input i at the rank
   abbrev Given : ℕ → ℕ → ℕ → Type 0
   Given i j rank = ((j < n) × IsFreeOutput before j) × IsChosen n (preferred t) asks step.ready places j (record { rank = rank; input = i })
@@ -23,19 +24,26 @@ module _ (n t : ℕ) (rows : List Row) (places : Places) (asks : Asks) (before a
   granted i j rank g = Grants-from_chosen n t rows asks step.ready before are step.readies j places g.0.0 g.0.1 rank i g.1
 
   given : (i j m : ℕ) (k : Kind) → Grants n t rows places before i j m k → Given i j (rank_of (preferred t) m k)
-  given i j m k g = ((g.output_in, g.output_free), chosen_from_grants n t rows asks step.ready before are step.readies j places g.output_in g.output_free i m k g)
+  given i j m k g = (
+    (g.output_in, g.output_free),
+    chosen_from_grants n t rows asks step.ready before are step.readies j places g.output_in g.output_free i m k g,
+  )
 
   granted_at : (i j rank : ℕ) → Grants n t rows places before i j (level_at rank) (kind_at (preferred t) rank) → Given i j rank
   granted_at i j rank g = subst (Given i j) (rank_of-at (preferred t) rank) (given i j (level_at rank) (kind_at (preferred t) rank) g)
 
   -- the input is offered what it is granted at its best rank
-  listed : (i : ℕ) → Has step.offers.granted i → (y : ℕ) → Has (slice_index step.offers.outputs i) y ↔ Grants n t rows places before i y (level_at (slice_index step.offers.ranks i)) (kind_at (preferred t) (slice_index step.offers.ranks i))
+  listed : (i : ℕ) → Has step.offers.granted i → (y : ℕ) → Has (slice_index step.offers.outputs i) y
+      ↔ Grants n t rows places before i y (level_at (slice_index step.offers.ranks i)) (kind_at (preferred t) (slice_index step.offers.ranks i))
   listed i has y =
       let rank = slice_index step.offers.ranks i in
       let l = step.offered.listed i y has in
       (λ h. granted i y rank (l.0 h), λ g. l.1 (granted_at i y rank g))
 
-  accepts_at : (i j : ℕ) → Has step.offers.granted i → Takes (kind_at (preferred t) (slice_index step.offers.ranks i)) n (accept_of places i (level_at (slice_index step.offers.ranks i))) (Has (slice_index step.offers.outputs i)) j → Accepts n t rows places before i j (level_at (slice_index step.offers.ranks i)) (kind_at (preferred t) (slice_index step.offers.ranks i))
+  accepts_at : (i j : ℕ) → Has step.offers.granted i
+      → Takes (kind_at (preferred t) (slice_index step.offers.ranks i)) n (accept_of places i (level_at (slice_index step.offers.ranks i)))
+      (Has (slice_index step.offers.outputs i)) j
+      → Accepts n t rows places before i j (level_at (slice_index step.offers.ranks i)) (kind_at (preferred t) (slice_index step.offers.ranks i))
   accepts_at i j has taken =
       let first_kind = preferred t in
       let rank = slice_index step.offers.ranks i in
@@ -43,7 +51,8 @@ module _ (n t : ℕ) (rows : List Row) (places : Places) (asks : Asks) (before a
       let s = step.offered.some i has in
       record {
         best = IsBest-from_rank t P rank (s.0, granted i s.0 rank s.1) (λ m k p. (step.offered.least i p.0 (rank_of first_kind m k) (given i p.0 m k p.1)).1);
-        taken = (Takes-along (kind_at first_kind rank) n (accept_of places i (level_at rank)) (Has (slice_index step.offers.outputs i)) (λ y. Grants n t rows places before i y (level_at rank) (kind_at first_kind rank)) (listed i has) j).0 taken;
+        taken = (Takes-along (kind_at first_kind rank) n (accept_of places i (level_at rank)) (Has (slice_index step.offers.outputs i))
+            (λ y. Grants n t rows places before i y (level_at rank) (kind_at first_kind rank)) (listed i has) j).0 taken;
       }
 
   Accepts-from_taken : (i j l : ℕ) (k : Kind) → IsTaken n (preferred t) places step.offers i j l k → Accepts n t rows places before i j l k

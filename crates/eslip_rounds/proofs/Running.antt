@@ -1,5 +1,6 @@
 -- Rounds one after another, with their numbers.
-use Rattle.std.proofs.Common.{◌≡◌, ℕ, ◌+◌, ◌-◌, ◌<◌, ◌≤◌, ◌↔◌, ◌∙◌, List, [], ◌∷◌, ◌++◌, Option, None, Some, length, map, slice_index_or, refl, sym, ap, subst, inl, inr, arith, length-append}
+use Rattle.std.proofs.Common.{◌≡◌, ℕ, ◌+◌, ◌-◌, ◌<◌, ◌≤◌, ◌↔◌, ◌∙◌, List, [], ◌∷◌, ◌++◌, Option, None, Some, length, map, slice_index_or, refl, sym, ap}
+use Rattle.std.proofs.Common.{subst, inl, inr, arith, length-append}
 use Rattle.std.proofs.lemmas.Option.{none-some}
 use Rattle.rotating_pick.specs.PortSets.{Has}
 use Rattle.rotating_pick.specs.declared.kinds.Kind.{Kind}
@@ -15,14 +16,17 @@ use Rattle.islip_rounds.proofs.Lasts.{last_of-append, added_from-append, length-
 use Rattle.eslip_rounds.specs.Rounds.{IsRound, AreRounds}
 
 -- one more round at the end
-pub AreRounds-append : (n t : ℕ) (rows : List Row) (places : Places) (before after : List (Option Fed)) (steps : List (List (Option Fed))) → AreRounds n t rows places before steps → IsRound n t rows places (last_of before steps) after → AreRounds n t rows places before (steps ++ after ∷ [])
+pub AreRounds-append : (n t : ℕ) (rows : List Row) (places : Places) (before after : List (Option Fed)) (steps : List (List (Option Fed)))
+    → AreRounds n t rows places before steps → IsRound n t rows places (last_of before steps) after → AreRounds n t rows places before (steps ++ after ∷ [])
 AreRounds-append n t rows places before after [] chain next = (next, tt)
 AreRounds-append n t rows places before after (step ∷ steps) chain next = (chain.0, AreRounds-append n t rows places step after steps chain.1 next)
 
 -- what is matched stays matched
-pub AreRounds-keep : (n t : ℕ) (rows : List Row) (places : Places) (before : List (Option Fed)) (steps : List (List (Option Fed))) → AreRounds n t rows places before steps → (i j level : ℕ) (kind : Kind) → Serves before i j level kind → Serves (last_of before steps) i j level kind
+pub AreRounds-keep : (n t : ℕ) (rows : List Row) (places : Places) (before : List (Option Fed)) (steps : List (List (Option Fed)))
+    → AreRounds n t rows places before steps → (i j level : ℕ) (kind : Kind) → Serves before i j level kind → Serves (last_of before steps) i j level kind
 AreRounds-keep n t rows places before [] chain i j level kind s = s
-AreRounds-keep n t rows places before (step ∷ steps) chain i j level kind s = AreRounds-keep n t rows places step steps chain.1 i j level kind ((chain.0.pairs i j level kind).1 (inl s))
+AreRounds-keep n t rows places before (step ∷ steps) chain i j level kind s =
+    AreRounds-keep n t rows places step steps chain.1 i j level kind ((chain.0.pairs i j level kind).1 (inl s))
 
 -- k rounds from nothing matched made this match, `first_match` being the match after the first of them
 pub record IsRun (n k t : ℕ) (rows : List Row) (places : Places) (first_match now : List (Option Fed)) (matched : ℕ) (numbers : RoundsUsed) : Type 0 where
@@ -38,7 +42,8 @@ pub record IsRun (n k t : ℕ) (rows : List Row) (places : Places) (first_match 
 
 module _ (n t : ℕ) (rows : List Row) (places : Places) where
   -- after the first round
-  pub IsRun-first : (now : List (Option Fed)) (matched : ℕ) (numbers : RoundsUsed) → IsRound n t rows places (unmatched n) now → matched ≡ matched_count now → numbers ≡ numbers_of (matched ∷ []) → IsRun n 1 t rows places now now matched numbers
+  pub IsRun-first : (now : List (Option Fed)) (matched : ℕ) (numbers : RoundsUsed) → IsRound n t rows places (unmatched n) now → matched ≡ matched_count now
+      → numbers ≡ numbers_of (matched ∷ []) → IsRun n 1 t rows places now now matched numbers
   IsRun-first now matched numbers round counted numbered = record {
     steps = now ∷ [];
     count = refl;
@@ -52,8 +57,10 @@ module _ (n t : ℕ) (rows : List Row) (places : Places) where
   }
 
   -- after one more round
-  pub IsRun-next : (k : ℕ) (first_match now after : List (Option Fed)) (matched later : ℕ) (numbers more : RoundsUsed) → IsRun n k t rows places first_match now matched numbers → IsRound n t rows places now after → later ≡ matched_count after
-      → ((each : List ℕ) → length each ≡ k → numbers ≡ numbers_of each → more ≡ numbers_of (each ++ (later - matched) ∷ [])) → IsRun n (k + 1) t rows places first_match after later more
+  pub IsRun-next : (k : ℕ) (first_match now after : List (Option Fed)) (matched later : ℕ) (numbers more : RoundsUsed)
+      → IsRun n k t rows places first_match now matched numbers → IsRound n t rows places now after → later ≡ matched_count after
+      → ((each : List ℕ) → length each ≡ k → numbers ≡ numbers_of each → more ≡ numbers_of (each ++ (later - matched) ∷ []))
+      → IsRun n (k + 1) t rows places first_match after later more
   IsRun-next k first_match now after matched later numbers more run round counted numbered =
       let each = added_from 0 (map matched_count run.steps) in
       let long : length each ≡ k = length-added_from 0 (map matched_count run.steps) ∙ (length-map_counts matched_count run.steps ∙ run.count) in
@@ -68,12 +75,15 @@ module _ (n t : ℕ) (rows : List Row) (places : Places) where
         counted = counted;
         numbered = numbered each long run.numbered ∙ ap numbers_of (sym (grown run.steps run.some run.result run.counted));
       } where
-        grown : (steps : List (List (Option Fed))) → 0 < length steps → now ≡ last_of (unmatched n) steps → matched ≡ matched_count now → added_from 0 (map matched_count (steps ++ after ∷ [])) ≡ added_from 0 (map matched_count steps) ++ (later - matched) ∷ []
+        grown : (steps : List (List (Option Fed))) → 0 < length steps → now ≡ last_of (unmatched n) steps → matched ≡ matched_count now
+            → added_from 0 (map matched_count (steps ++ after ∷ [])) ≡ added_from 0 (map matched_count steps) ++ (later - matched) ∷ []
         grown [] some result counts = absurd (omega arith)
         grown (step ∷ steps) some result counts =
             let last_count : matched_count (last_of step steps) ≡ matched = sym (counts ∙ ap matched_count result) in
             ap (λ rest. (matched_count step - 0) ∷ rest)
-            (added_from-append matched_count step after steps ∙ ap (λ d. added_from (matched_count step) (map matched_count steps) ++ d ∷ []) (ap (λ m. matched_count after - m) last_count ∙ ap (λ m. m - matched) (sym counted)))
+            (added_from-append matched_count step after steps
+            ∙ ap (λ d. added_from (matched_count step) (map matched_count steps) ++ d ∷ [])
+            (ap (λ m. matched_count after - m) last_count ∙ ap (λ m. m - matched) (sym counted)))
 
 -- after k rounds the match, its numbers and the set of outputs that the first round matched
 pub record IsDecided (n k t : ℕ) (rows : List Row) (places : Places) (now : List (Option Fed)) (matched : ℕ) (numbers : RoundsUsed) (met : ℕ) : Type 0 where
@@ -84,11 +94,15 @@ pub record IsDecided (n k t : ℕ) (rows : List Row) (places : Places) (now : Li
   pub used : numbers.used ≤ k
 
 -- what the first of some rounds matched stays matched
-pub first_kept : (n t : ℕ) (rows : List Row) (places : Places) (steps : List (List (Option Fed))) → 0 < length steps → AreRounds n t rows places (unmatched n) steps → (i j level : ℕ) (kind : Kind) → Serves (slice_index_or steps 0 (unmatched n)) i j level kind → Serves (last_of (unmatched n) steps) i j level kind
+pub first_kept : (n t : ℕ) (rows : List Row) (places : Places) (steps : List (List (Option Fed))) → 0 < length steps
+    → AreRounds n t rows places (unmatched n) steps → (i j level : ℕ) (kind : Kind) → Serves (slice_index_or steps 0 (unmatched n)) i j level kind
+    → Serves (last_of (unmatched n) steps) i j level kind
 first_kept n t rows places [] some chain i j level kind s = absurd (omega arith)
 first_kept n t rows places (step ∷ steps) some chain i j level kind s = AreRounds-keep n t rows places step steps chain.1 i j level kind s
 
-module _ (n : ℕ) (first_match now : List (Option Fed)) (met : ℕ) (whole : IsMatch n now) (kept : (i j level : ℕ) (kind : Kind) → Serves first_match i j level kind → Serves now i j level kind) (mets : (j : ℕ) → Has met j ↔ ((j < n) × (IsFreeOutput first_match j → ⊥))) where
+module _ (n : ℕ) (first_match now : List (Option Fed)) (met : ℕ) (whole : IsMatch n now)
+    (kept : (i j level : ℕ) (kind : Kind) → Serves first_match i j level kind → Serves now i j level kind)
+    (mets : (j : ℕ) → Has met j ↔ ((j < n) × (IsFreeOutput first_match j → ⊥))) where
   -- the unicast pairs of the first round are those of the outputs that it matched
   pub Serves-met : (i j level : ℕ) → (Has met j × Serves now i j level Uni) ↔ Serves first_match i j level Uni
   Serves-met i j level = (
@@ -108,5 +122,6 @@ module _ (n : ℕ) (first_match now : List (Option Fed)) (met : ℕ) (whole : Is
         subst P once.0 (Serves-along first_match f.input j f.level level f.kind Uni once.1 once.2 there)
 
 -- no unicast input has two outputs
-pub once_unicast : (n : ℕ) (matched : List (Option Fed)) → IsMatch n matched → (i j k level : ℕ) → Serves matched i j level Uni → Serves matched i k level Uni → j ≡ k
+pub once_unicast : (n : ℕ) (matched : List (Option Fed)) → IsMatch n matched → (i j k level : ℕ) → Serves matched i j level Uni → Serves matched i k level Uni
+    → j ≡ k
 once_unicast n matched whole i j k level s r = elim (whole.once i j level Uni k level Uni s r) [ inl same ↦ same | inr multi ↦ let no = multi.1 in absurd (cc) ]

@@ -9,8 +9,12 @@ use Rattle.eslip_rounds.specs.Schedulers.{IsSchedulerBy, StayAtPorts, IsSchedule
 use Rattle.eslip_rounds.proofs.Settling.{IsSlot-decision_of, AreAtPorts-decision_of}
 
 -- a slot whose pointers are told to move in another way
-pub IsSlotBy-moved : {Moves : ℕ → ℕ → List Row → List (Option Fed) → List (Option Fed) → Places → Places → Type 0} (Others : ℕ → ℕ → List Row → List (Option Fed) → List (Option Fed) → Places → Places → Type 0) (n rounds t : ℕ) (rows : List Row) (before : Places) (a : Decision)
-    → IsSlotBy Moves n rounds t rows before a → ((first_match : List (Option Fed)) → Moves n t rows first_match a.matched before a.places → Others n t rows first_match a.matched before a.places) → IsSlotBy Others n rounds t rows before a
+pub IsSlotBy-moved : {Moves : ℕ → ℕ → List Row → List (Option Fed) → List (Option Fed) → Places → Places → Type 0}
+    (Others : ℕ → ℕ → List Row → List (Option Fed) → List (Option Fed) → Places → Places → Type 0) (n rounds t : ℕ) (rows : List Row) (before : Places)
+    (a : Decision)
+    → IsSlotBy Moves n rounds t rows before a
+    → ((first_match : List (Option Fed)) → Moves n t rows first_match a.matched before a.places → Others n t rows first_match a.matched before a.places)
+    → IsSlotBy Others n rounds t rows before a
 IsSlotBy-moved Others n rounds t rows before a slot moves =
     record { steps = slot.steps; count = slot.count; chain = slot.chain; result = slot.result; numbered = slot.numbered; moved = moves _ slot.moved }
 

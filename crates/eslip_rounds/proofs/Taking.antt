@@ -36,7 +36,10 @@ takes_one : (kind : Kind) (n from offered j k : ℕ) → from < n → kind ≡ U
 takes_one Uni n from offered j k from_in e a b = IsFirstFrom-only n from (Has offered) j k from_in a b
 takes_one Multi n from offered j k from_in e a b = absurd (cc)
 
-module _ (n : ℕ) (first_kind : Kind) (places : Places) (offers : Offers) (i : ℕ) (old : List (Option Fed)) (whole : IsMatch n old) (opens : IsOpen n first_kind old offers i) (level from taken : ℕ) (kind : Kind) (level_is : level ≡ level_at (slice_index offers.ranks i)) (kind_is : kind ≡ kind_at first_kind (slice_index offers.ranks i)) (from_is : from ≡ accept_of places i level) (from_in : from < n) (takes : (j : ℕ) → Has taken j ↔ Takes kind n from (Has (slice_index offers.outputs i)) j) where
+module _ (n : ℕ) (first_kind : Kind) (places : Places) (offers : Offers) (i : ℕ) (old : List (Option Fed)) (whole : IsMatch n old)
+    (opens : IsOpen n first_kind old offers i) (level from taken : ℕ) (kind : Kind) (level_is : level ≡ level_at (slice_index offers.ranks i))
+    (kind_is : kind ≡ kind_at first_kind (slice_index offers.ranks i)) (from_is : from ≡ accept_of places i level) (from_in : from < n)
+    (takes : (j : ℕ) → Has taken j ↔ Takes kind n from (Has (slice_index offers.outputs i)) j) where
   offered : (j : ℕ) → Has taken j → Has (slice_index offers.outputs i) j
   offered j has = taken_from kind n from (Has (slice_index offers.outputs i)) j ((takes j).0 has)
 
@@ -57,7 +60,9 @@ module _ (n : ℕ) (first_kind : Kind) (places : Places) (offers : Offers) (i : 
         ready = ready_here;
       }
 
-  pub pairs-taken : (new : List (Option Fed)) → Has offers.granted i → level < LEVELS → length new ≡ length old → ((j : ℕ) → Has taken j → Serves new i j level kind) → ((j : ℕ) → (Has taken j → ⊥) → fed_of new j ≡ fed_of old j) → (x j l : ℕ) (k : Kind) → Serves new x j l k ↔ (Serves old x j l k ⊎ ((x ≡ i) × IsTaken n first_kind places offers i j l k))
+  pub pairs-taken : (new : List (Option Fed)) → Has offers.granted i → level < LEVELS → length new ≡ length old
+      → ((j : ℕ) → Has taken j → Serves new i j level kind) → ((j : ℕ) → (Has taken j → ⊥) → fed_of new j ≡ fed_of old j) → (x j l : ℕ) (k : Kind)
+      → Serves new x j l k ↔ (Serves old x j l k ⊎ ((x ≡ i) × IsTaken n first_kind places offers i j l k))
   pairs-taken new granted level_in count fed stays x j l k =
       let added : IsAdded old new i taken level kind = record { count = count; fed = fed; stays = stays } in
       let step = Serves-added n old new i taken level kind whole MayAdd-taken opens.input_in level_in added x j l k in
@@ -65,7 +70,8 @@ module _ (n : ℕ) (first_kind : Kind) (places : Places) (offers : Offers) (i : 
         λ s. elim (step.0 s) [
           | inl before ↦ inl before
           | inr p ↦
-              let here : IsTaken n first_kind places offers i j level kind = record { granted = granted; level_is = level_is; kind_is = kind_is; taken = subst T from_is ((takes j).0 p.1) } in
+              let here : IsTaken n first_kind places offers i j level kind =
+              record { granted = granted; level_is = level_is; kind_is = kind_is; taken = subst T from_is ((takes j).0 p.1) } in
               let P : ℕ → Type 0 = λ m. IsTaken n first_kind places offers i j m kind in
               let Q : Kind → Type 0 = λ q. IsTaken n first_kind places offers i j l q in
               inr (p.0, subst Q (sym p.3) (subst P (sym p.2) here))
@@ -82,7 +88,8 @@ module _ (n : ℕ) (first_kind : Kind) (places : Places) (offers : Offers) (i : 
         ]),
       )
 
-module _ (n : ℕ) (first_kind : Kind) (places : Places) (offers : Offers) (old now : List (Option Fed)) (rest : ℕ) (opens : AreOpen n first_kind old offers) (pairs : (x j l : ℕ) (k : Kind) → Serves now x j l k ↔ (Serves old x j l k ⊎ ((Has rest x → ⊥) × IsTaken n first_kind places offers x j l k))) where
+module _ (n : ℕ) (first_kind : Kind) (places : Places) (offers : Offers) (old now : List (Option Fed)) (rest : ℕ) (opens : AreOpen n first_kind old offers)
+    (pairs : (x j l : ℕ) (k : Kind) → Serves now x j l k ↔ (Serves old x j l k ⊎ ((Has rest x → ⊥) × IsTaken n first_kind places offers x j l k))) where
   -- what an input that waits was matched with before, it is matched with now
   back : (i j l : ℕ) (k : Kind) → Has rest i → Serves now i j l k → Serves old i j l k
   back i j l k has s = elim ((pairs i j l k).0 s) [ inl before ↦ before | inr p ↦ absurd (p.0 has) ]
@@ -119,7 +126,9 @@ module _ (n : ℕ) (first_kind : Kind) (places : Places) (offers : Offers) (old 
       }
 
   -- one input more has taken
-  pub pairs-more : (i later : ℕ) (after : List (Option Fed)) → Has rest i → ((x : ℕ) → Has later x ↔ ((x ≡ i → ⊥) × Has rest x)) → ((x j l : ℕ) (k : Kind) → Serves after x j l k ↔ (Serves now x j l k ⊎ ((x ≡ i) × IsTaken n first_kind places offers i j l k))) → (x j l : ℕ) (k : Kind) → Serves after x j l k ↔ (Serves old x j l k ⊎ ((Has later x → ⊥) × IsTaken n first_kind places offers x j l k))
+  pub pairs-more : (i later : ℕ) (after : List (Option Fed)) → Has rest i → ((x : ℕ) → Has later x ↔ ((x ≡ i → ⊥) × Has rest x))
+      → ((x j l : ℕ) (k : Kind) → Serves after x j l k ↔ (Serves now x j l k ⊎ ((x ≡ i) × IsTaken n first_kind places offers i j l k)))
+      → (x j l : ℕ) (k : Kind) → Serves after x j l k ↔ (Serves old x j l k ⊎ ((Has later x → ⊥) × IsTaken n first_kind places offers x j l k))
   pairs-more i later after has fewer step x j l k =
       let P : ℕ → Type 0 = λ y. IsTaken n first_kind places offers y j l k in (
         λ s. elim ((step x j l k).0 s) [

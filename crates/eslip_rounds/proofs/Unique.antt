@@ -31,14 +31,17 @@ same_option None (Some x) f g = g x refl
 same_option (Some x) p f g = sym (f x refl)
 
 module _ (n t : ℕ) (rows : List Row) (places : Places) where
-  carried : (before x y : List (Option Fed)) → IsRound n t rows places before x → IsRound n t rows places before y → (j : ℕ) (f : Fed) → fed_of x j ≡ Some f → fed_of y j ≡ Some f
+  carried : (before x y : List (Option Fed)) → IsRound n t rows places before x → IsRound n t rows places before y → (j : ℕ) (f : Fed) → fed_of x j ≡ Some f
+      → fed_of y j ≡ Some f
   carried before x y r s j f e = (s.pairs f.input j f.level f.kind).1 ((r.pairs f.input j f.level f.kind).0 e)
 
   -- one match after a round
   pub IsRound-only : (before x y : List (Option Fed)) → IsRound n t rows places before x → IsRound n t rows places before y → x ≡ y
-  IsRound-only before x y r s = ext_get_or None x y (r.count ∙ sym s.count) (λ j below. same_option (fed_of x j) (fed_of y j) (carried before x y r s j) (carried before y x s r j))
+  IsRound-only before x y r s =
+      ext_get_or None x y (r.count ∙ sym s.count) (λ j below. same_option (fed_of x j) (fed_of y j) (carried before x y r s j) (carried before y x s r j))
 
-  pub AreRounds-only : (before : List (Option Fed)) (xs ys : List (List (Option Fed))) → length xs ≡ length ys → AreRounds n t rows places before xs → AreRounds n t rows places before ys → xs ≡ ys
+  pub AreRounds-only : (before : List (Option Fed)) (xs ys : List (List (Option Fed))) → length xs ≡ length ys → AreRounds n t rows places before xs
+      → AreRounds n t rows places before ys → xs ≡ ys
   AreRounds-only before [] [] long a b = refl
   AreRounds-only before [] (y ∷ ys) long a b = absurd (omega arith)
   AreRounds-only before (x ∷ xs) [] long a b = absurd (omega arith)
@@ -61,16 +64,19 @@ fed_by matched j level = go (fed_of matched j) refl where
         other (subst (λ x. Serves matched x j level Uni) (sym input) s))
   ]
 
-module _ (n t : ℕ) (rows : List Row) (first_match matched : List (Option Fed)) (before : Places) (within : AreWithin n rows) (size : length first_match ≡ n) (at_ports : AreAtPorts before) (ports : before.ports ≡ n) (some : 0 < n) where
+module _ (n t : ℕ) (rows : List Row) (first_match matched : List (Option Fed)) (before : Places) (within : AreWithin n rows) (size : length first_match ≡ n)
+    (at_ports : AreAtPorts before) (ports : before.ports ≡ n) (some : 0 < n) where
   -- what input i feeds as unicast of the level, if anything
   feeds : (i level : ℕ) → ((j : ℕ) × Serves first_match i j level Uni) ⊎ ((j : ℕ) → Serves first_match i j level Uni → ⊥)
   feeds i level = elim (some_below (λ j. Serves first_match i j level Uni) (λ j. Serves-decides first_match i j level Uni) n) [
     | inl found ↦ inl (found.0, found.2)
-    | inr none ↦ inr (λ j s. let below : j < n = let lt = fed_of-lt first_match j (record { input = i; level = level; kind = Uni }) s in omega arith in none (j, below, s))
+    | inr none ↦ inr (λ j s. let below : j < n = let lt = fed_of-lt first_match j (record { input = i; level = level; kind = Uni }) s in omega arith in
+        none (j, below, s))
   ]
 
   -- the head that a level's shared pointer passes, if it passes one
-  passes : (level : ℕ) → ((i : ℕ) × IsFirstFrom n (shared_of before level) (HasHead rows level) i × Completes rows matched level i) ⊎ ((i : ℕ) → IsFirstFrom n (shared_of before level) (HasHead rows level) i → Completes rows matched level i → ⊥)
+  passes : (level : ℕ) → ((i : ℕ) × IsFirstFrom n (shared_of before level) (HasHead rows level) i × Completes rows matched level i)
+      ⊎ ((i : ℕ) → IsFirstFrom n (shared_of before level) (HasHead rows level) i → Completes rows matched level i → ⊥)
   passes level = elim (cases_lt level LEVELS) [
     | inr above ↦ inr (λ i f done. let below = within.levels i f.below level f.member.0 Multi f.member.1 in absurd (omega arith))
     | inl level_in ↦
@@ -84,7 +90,8 @@ module _ (n t : ℕ) (rows : List Row) (first_match matched : List (Option Fed))
           | inr none ↦ inr (λ i f done. none i f.below (f.below, f.member))
           | inl found ↦
               let f = IsFirstFrom-some n (shared_of before level) Head dec from_in found.0 found.1 found.2 in
-              let head : IsFirstFrom n (shared_of before level) (HasHead rows level) f.0 = record { below = f.1.below; member = f.1.member.1; least = λ y y_in has. f.1.least y y_in (y_in, has) } in
+              let head : IsFirstFrom n (shared_of before level) (HasHead rows level) f.0 =
+              record { below = f.1.below; member = f.1.member.1; least = λ y y_in has. f.1.least y y_in (y_in, has) } in
               elim (Completes-or n rows matched level f.0 within f.1.below) [
                 | inl done ↦ inl (f.0, head, done)
                 | inr left ↦ inr (λ i g done.
@@ -99,12 +106,25 @@ module _ (n t : ℕ) (rows : List Row) (first_match matched : List (Option Fed))
   AreMoved-alike a b r s =
       record {
         ports = r.ports ∙ sym s.ports;
-        grant = λ j level. elim (fed_by first_match j level) [ inl h ↦ r.granted h.0 j level h.1 ∙ sym (s.granted h.0 j level h.1) | inr none ↦ r.grant_stays j level none ∙ sym (s.grant_stays j level none) ];
-        accept = λ i level. elim (feeds i level) [ inl h ↦ r.accepted i h.0 level h.1 ∙ sym (s.accepted i h.0 level h.1) | inr none ↦ r.accept_stays i level none ∙ sym (s.accept_stays i level none) ];
-        shared = λ level. elim (passes level) [ inl h ↦ r.passed h.0 level h.1 h.2 ∙ sym (s.passed h.0 level h.1 h.2) | inr none ↦ r.shared_stays level none ∙ sym (s.shared_stays level none) ];
+        grant = λ j level. elim (fed_by first_match j level) [
+          | inl h ↦ r.granted h.0 j level h.1
+              ∙ sym (s.granted h.0 j level h.1)
+          | inr none ↦ r.grant_stays j level none ∙ sym (s.grant_stays j level none)
+        ];
+        accept = λ i level. elim (feeds i level) [
+          | inl h ↦ r.accepted i h.0 level h.1
+              ∙ sym (s.accepted i h.0 level h.1)
+          | inr none ↦ r.accept_stays i level none ∙ sym (s.accept_stays i level none)
+        ];
+        shared = λ level. elim (passes level) [
+          | inl h ↦ r.passed h.0 level h.1 h.2 ∙ sym (s.passed h.0 level h.1 h.2)
+          | inr none ↦ r.shared_stays level none
+              ∙ sym (s.shared_stays level none)
+        ];
       }
 
-  pub AreMoved-only : (a b : Places) → AreAtPorts a → AreAtPorts b → AreMoved n t rows first_match matched before a → AreMoved n t rows first_match matched before b → a ≡ b
+  pub AreMoved-only : (a b : Places) → AreAtPorts a → AreAtPorts b → AreMoved n t rows first_match matched before a
+      → AreMoved n t rows first_match matched before b → a ≡ b
   AreMoved-only a b x y r s = Places-same a b x y (AreMoved-alike a b r s)
 
   -- after a slot the pointers are at ports again
@@ -115,11 +135,13 @@ module _ (n t : ℕ) (rows : List Row) (first_match matched : List (Option Fed))
       record {
         grant = λ j j_in. elim (fed_by first_match j level) [
           | inl h ↦ by (grant_of after j level) ((h.0 + 1) % n) (r.granted h.0 j level h.1) (mod_below (h.0 + 1) n some)
-          | inr none ↦ by (grant_of after j level) (grant_of before j level) (r.grant_stays j level none) (let lt = pointing.grant j (omega arith) in omega arith)
+          | inr none ↦ by (grant_of after j level) (grant_of before j level) (r.grant_stays j level none)
+              (let lt = pointing.grant j (omega arith) in omega arith)
         ];
         accept = λ i i_in. elim (feeds i level) [
           | inl h ↦ by (accept_of after i level) ((h.0 + 1) % n) (r.accepted i h.0 level h.1) (mod_below (h.0 + 1) n some)
-          | inr none ↦ by (accept_of after i level) (accept_of before i level) (r.accept_stays i level none) (let lt = pointing.accept i (omega arith) in omega arith)
+          | inr none ↦ by (accept_of after i level) (accept_of before i level) (r.accept_stays i level none)
+              (let lt = pointing.accept i (omega arith) in omega arith)
         ];
         shared = elim (passes level) [
           | inl h ↦ by (shared_of after level) ((h.0 + 1) % n) (r.passed h.0 level h.1 h.2) (mod_below (h.0 + 1) n some)
@@ -127,7 +149,8 @@ module _ (n t : ℕ) (rows : List Row) (first_match matched : List (Option Fed))
         ];
       }
 
-first_size : (n t : ℕ) (rows : List Row) (places : Places) (steps : List (List (Option Fed))) → AreRounds n t rows places (unmatched n) steps → length (slice_index_or steps 0 (unmatched n)) ≡ n
+first_size : (n t : ℕ) (rows : List Row) (places : Places) (steps : List (List (Option Fed))) → AreRounds n t rows places (unmatched n) steps
+    → length (slice_index_or steps 0 (unmatched n)) ≡ n
 first_size n t rows places [] chain = (IsMatch-unmatched n).count
 first_size n t rows places (step ∷ steps) chain = chain.0.count
 
@@ -140,15 +163,18 @@ module _ (n rounds t : ℕ) (rows : List Row) (places : Places) (within : AreWit
 
   module _ (Moves : ℕ → ℕ → List Row → List (Option Fed) → List (Option Fed) → Places → Places → Type 0) where
     -- two decisions of one slot are one, where there is one place for each pointer
-    pub IsSlotBy-only : ((first_match matched : List (Option Fed)) → length first_match ≡ n → (a b : Places) → AreAtPorts a → AreAtPorts b → Moves n t rows first_match matched places a → Moves n t rows first_match matched places b → a ≡ b)
-        → (a b : Decision) → AreAtPorts a.places → AreAtPorts b.places → IsSlotBy Moves n rounds t rows places a → IsSlotBy Moves n rounds t rows places b → a ≡ b
+    pub IsSlotBy-only : ((first_match matched : List (Option Fed)) → length first_match ≡ n → (a b : Places) → AreAtPorts a → AreAtPorts b
+        → Moves n t rows first_match matched places a → Moves n t rows first_match matched places b → a ≡ b)
+        → (a b : Decision) → AreAtPorts a.places → AreAtPorts b.places → IsSlotBy Moves n rounds t rows places a → IsSlotBy Moves n rounds t rows places b
+        → a ≡ b
     IsSlotBy-only moves_only a b x y r s =
         let steps : r.steps ≡ s.steps = AreRounds-only n t rows places (unmatched n) r.steps s.steps (r.count ∙ sym s.count) r.chain s.chain in
         let matches : a.matched ≡ b.matched = r.result ∙ (ap (last_of (unmatched n)) steps ∙ sym s.result) in
         let numbers : a.numbers ≡ b.numbers = r.numbered ∙ (ap slot_numbers steps ∙ sym s.numbered) in
         let firsts : slice_index_or s.steps 0 (unmatched n) ≡ slice_index_or r.steps 0 (unmatched n) = ap (λ m. slice_index_or m 0 (unmatched n)) (sym steps) in
         let First = slice_index_or r.steps 0 (unmatched n) in
-        let moved : Moves n t rows First a.matched places b.places = subst (λ m. Moves n t rows First m places b.places) (sym matches) (subst (λ f. Moves n t rows f b.matched places b.places) firsts s.moved) in
+        let moved : Moves n t rows First a.matched places b.places =
+        subst (λ m. Moves n t rows First m places b.places) (sym matches) (subst (λ f. Moves n t rows f b.matched places b.places) firsts s.moved) in
         let after = moves_only First a.matched (first_of_slot r.steps r.chain) a.places b.places x y r.moved moved in
         λ i. record { matched = matches i; numbers = numbers i; places = after i }
 
@@ -164,23 +190,31 @@ module _ (n rounds t : ℕ) (rows : List Row) (places : Places) (within : AreWit
 
   -- and the pointers after it are at ports
   pub ArePointing-slot : (a : Decision) → IsSlot n rounds t rows places a → (level : ℕ) → level < LEVELS → ArePointing n level a.places
-  ArePointing-slot a r = ArePointing-moved n t rows (slice_index_or r.steps 0 (unmatched n)) a.matched places within (first_of_slot r.steps r.chain) at_ports ports some_ports a.places r.moved
+  ArePointing-slot a r = ArePointing-moved n t rows (slice_index_or r.steps 0 (unmatched n)) a.matched places within
+      (first_of_slot r.steps r.chain) at_ports ports some_ports a.places r.moved
 
 -- what is matched was named
-named_rounds : (n t : ℕ) (rows : List Row) (places : Places) (before : List (Option Fed)) (steps : List (List (Option Fed))) → AreRounds n t rows places before steps → (i j level : ℕ) (kind : Kind) → (Serves before i j level kind → Names (row_of rows i) level kind j) → Serves (last_of before steps) i j level kind → Names (row_of rows i) level kind j
+named_rounds : (n t : ℕ) (rows : List Row) (places : Places) (before : List (Option Fed)) (steps : List (List (Option Fed)))
+    → AreRounds n t rows places before steps → (i j level : ℕ) (kind : Kind) → (Serves before i j level kind → Names (row_of rows i) level kind j)
+    → Serves (last_of before steps) i j level kind → Names (row_of rows i) level kind j
 named_rounds n t rows places before [] chain i j level kind known s = known s
 named_rounds n t rows places before (step ∷ steps) chain i j level kind known s =
     named_rounds n t rows places step steps chain.1 i j level kind
     (λ h. elim ((chain.0.pairs i j level kind).0 h) [
       | inl old ↦ known old
       | inr a ↦
-          let g : Grants n t rows places before i j level kind = taken_from kind n (accept_of places i level) (λ y. Grants n t rows places before i y level kind) j a.taken in
+          let g : Grants n t rows places before i j level kind =
+          taken_from kind n (accept_of places i level) (λ y. Grants n t rows places before i y level kind) j a.taken in
           elim g.first.member [ inl p ↦ p.1.named | inr on ↦ subst (λ k. Names (row_of rows i) level k j) (sym on.multicast) on.named ]
     ]) s
 
-pub Serves-named_by : (Moves : ℕ → ℕ → List Row → List (Option Fed) → List (Option Fed) → Places → Places → Type 0) (n rounds t : ℕ) (rows : List Row) (places : Places) (a : Decision) → IsSlotBy Moves n rounds t rows places a → (i j level : ℕ) (kind : Kind) → Serves a.matched i j level kind → Names (row_of rows i) level kind j
+pub Serves-named_by : (Moves : ℕ → ℕ → List Row → List (Option Fed) → List (Option Fed) → Places → Places → Type 0) (n rounds t : ℕ) (rows : List Row)
+    (places : Places) (a : Decision) → IsSlotBy Moves n rounds t rows places a → (i j level : ℕ) (kind : Kind) → Serves a.matched i j level kind
+    → Names (row_of rows i) level kind j
 Serves-named_by Moves n rounds t rows places a r i j level kind s =
-    named_rounds n t rows places (unmatched n) r.steps r.chain i j level kind (λ h. absurd (nobody_at_first n i j level kind h)) (subst (λ m. Serves m i j level kind) r.result s)
+    named_rounds n t rows places (unmatched n) r.steps r.chain i j level kind (λ h. absurd (nobody_at_first n i j level kind h))
+    (subst (λ m. Serves m i j level kind) r.result s)
 
-pub Serves-named : (n rounds t : ℕ) (rows : List Row) (places : Places) (a : Decision) → IsSlot n rounds t rows places a → (i j level : ℕ) (kind : Kind) → Serves a.matched i j level kind → Names (row_of rows i) level kind j
+pub Serves-named : (n rounds t : ℕ) (rows : List Row) (places : Places) (a : Decision) → IsSlot n rounds t rows places a → (i j level : ℕ) (kind : Kind)
+    → Serves a.matched i j level kind → Names (row_of rows i) level kind j
 Serves-named = Serves-named_by AreMoved

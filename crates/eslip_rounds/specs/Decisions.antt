@@ -1,6 +1,7 @@
 -- Decisions: what a slot decides, as a function of its rows and pointers. It goes by tests and filters of
 -- the ports, and answers what the relations of Rounds and Slots say.
-use Rattle.std.specs.Prelude.{ℕ, zero, suc, ◌+◌, ◌%◌, ◌==◌, ◌&&◌, ◌||◌, Bool, true, false, not, if◌then◌else◌, List, [], ◌∷◌, Option, None, Some, is_none, option_map, option_and_then, option_to_list, map, flat_map, filter, find, slice_index, slice_index_or}
+use Rattle.std.specs.Prelude.{ℕ, zero, suc, ◌+◌, ◌%◌, ◌==◌, ◌&&◌, ◌||◌, Bool, true, false, not, if◌then◌else◌, List, [], ◌∷◌, Option, None, Some}
+use Rattle.std.specs.Prelude.{is_none, option_map, option_and_then, option_to_list, map, flat_map, filter, find, slice_index, slice_index_or}
 use Rattle.std.specs.List.{list_any, range_with_len}
 use Rattle.std.specs.Option.{option_or, option_map_or}
 use Rattle.std.specs.Int.{bit_at}
@@ -61,7 +62,8 @@ is_fed i level kind (Some fed) = fed.input == i && (fed.level == level && is_kin
 
 -- whether the row asks output j at the level with the kind: it names j there, and at no better level
 abbrev pub is_asked : Row → ℕ → ℕ → Kind → Bool
-is_asked row j level kind = is_named row level kind j && not (list_any (λ better. is_named row better Uni j || is_named row better Multi j) (range_with_len 0 level))
+is_asked row j level kind = is_named row level kind j
+    && not (list_any (λ better. is_named row better Uni j || is_named row better Multi j) (range_with_len 0 level))
 
 -- whether input i was matched as multicast of the level, and output j is in the rest of its head
 abbrev pub is_going_on : List Row → List (Option Fed) → ℕ → ℕ → ℕ → Kind → Bool
@@ -80,7 +82,8 @@ granted_at n rows places before j rank =
 -- Grant. What output j grants: if it is free, an input of the first rank at which some input asks it
 unfoldable pub granted : ℕ → ℕ → List Row → Places → List (Option Fed) → ℕ → Option Fed
 granted n t rows places before j =
-    if is_none (fed_of before j) then option_and_then (granted_at n rows places before j) (first_rank t (λ level kind. list_any (λ x. is_request rows before x j level kind) (ports n))) else None
+    if is_none (fed_of before j) then option_and_then (granted_at n rows places before j)
+    (first_rank t (λ level kind. list_any (λ x. is_request rows before x j level kind) (ports n))) else None
 
 -- of the outputs with the test a unicast input takes the first from its pointer on, a multicast input all
 abbrev pub taken : Kind → ℕ → ℕ → (ℕ → Bool) → List ℕ
@@ -154,4 +157,5 @@ decision_of = decision_by (λ n t. places_after n)
 -- whether output j grants input i as unicast of the level in the first round, and the input does not accept
 abbrev pub is_refused : ℕ → ℕ → List Row → Places → ℕ → ℕ → ℕ → Bool
 is_refused n t rows places i j level =
-    is_fed i level Uni (fed_of (map (granted n t rows places (unmatched n)) (ports n)) j) && not (is_fed i level Uni (fed_of (round_of n t rows places (unmatched n)) j))
+    is_fed i level Uni (fed_of (map (granted n t rows places (unmatched n)) (ports n)) j)
+    && not (is_fed i level Uni (fed_of (round_of n t rows places (unmatched n)) j))

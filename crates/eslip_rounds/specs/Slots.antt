@@ -27,12 +27,15 @@ pub record AreMoved (n t : ℕ) (rows : List Row) (first_match matched : List (O
   pub accepted : (i j level : ℕ) → Serves first_match i j level Uni → accept_of after i level ≡ (j + 1) % n
   pub grant_stays : (j level : ℕ) → ((i : ℕ) → Serves first_match i j level Uni → ⊥) → grant_of after j level ≡ grant_of before j level
   pub accept_stays : (i level : ℕ) → ((j : ℕ) → Serves first_match i j level Uni → ⊥) → accept_of after i level ≡ accept_of before i level
-  pub passed : (i level : ℕ) → IsFirstFrom n (shared_of before level) (HasHead rows level) i → Completes rows matched level i → shared_of after level ≡ (i + 1) % n
-  pub shared_stays : (level : ℕ) → ((i : ℕ) → IsFirstFrom n (shared_of before level) (HasHead rows level) i → Completes rows matched level i → ⊥) → shared_of after level ≡ shared_of before level
+  pub passed : (i level : ℕ) → IsFirstFrom n (shared_of before level) (HasHead rows level) i → Completes rows matched level i
+      → shared_of after level ≡ (i + 1) % n
+  pub shared_stays : (level : ℕ) → ((i : ℕ) → IsFirstFrom n (shared_of before level) (HasHead rows level) i → Completes rows matched level i → ⊥)
+      → shared_of after level ≡ shared_of before level
 
 -- Slot t, of `rounds` rounds, decides this, where `Moves` says how its pointers move. All of its rounds
 -- use the pointers from before it, and the first begins with nothing matched.
-pub record IsSlotBy (Moves : ℕ → ℕ → List Row → List (Option Fed) → List (Option Fed) → Places → Places → Type 0) (n rounds t : ℕ) (rows : List Row) (before : Places) (decision : Decision) : Type 0 where
+pub record IsSlotBy (Moves : ℕ → ℕ → List Row → List (Option Fed) → List (Option Fed) → Places → Places → Type 0) (n rounds t : ℕ) (rows : List Row)
+    (before : Places) (decision : Decision) : Type 0 where
   pub steps : List (List (Option Fed))
   pub count : length steps ≡ rounds
   pub chain : AreRounds n t rows before (unmatched n) steps

@@ -27,7 +27,8 @@ column_of columns rank j = slice_index (slice_index_or columns rank []) j
 -- for each rank and output the inputs whose rows name it there, the ranks at which any does, the outputs
 -- that any names, and what all rows name as one row
 pub record AreAsks (n : ℕ) (first_kind : Kind) (rows : List Row) (asks : Asks) : Type 0 where
-  pub columns : (rank i j : ℕ) → rank < RANKS → Has (column_of asks.columns rank j) i ↔ ((i < n) × Names (row_of rows i) (level_at rank) (kind_at first_kind rank) j)
+  pub columns : (rank i j : ℕ) → rank < RANKS → Has (column_of asks.columns rank j) i
+      ↔ ((i < n) × Names (row_of rows i) (level_at rank) (kind_at first_kind rank) j)
   pub ranks : (rank i j : ℕ) → rank < RANKS → i < n → Names (row_of rows i) (level_at rank) (kind_at first_kind rank) j → Has asks.ranks rank
   pub ranks_in : (rank : ℕ) → Has asks.ranks rank → rank < RANKS
   pub outputs : (i j level : ℕ) (kind : Kind) → i < n → Names (row_of rows i) level kind j → Has asks.outputs j
@@ -43,7 +44,8 @@ MayAsk before level kind i = IsFreeInput before i ⊎ ((kind ≡ Multi) × IsMul
 
 -- for each rank the inputs that may ask there
 abbrev pub AreReady : ℕ → Kind → List (Option Fed) → List ℕ → Type 0
-AreReady n first_kind before ready = (rank i : ℕ) → rank < RANKS → Has (slice_index ready rank) i ↔ ((i < n) × MayAsk before (level_at rank) (kind_at first_kind rank) i)
+AreReady n first_kind before ready = (rank i : ℕ) → rank < RANKS → Has (slice_index ready rank) i
+    ↔ ((i < n) × MayAsk before (level_at rank) (kind_at first_kind rank) i)
 
 -- input i asks output j at the rank, by the columns
 abbrev pub AsksAt : Asks → List ℕ → ℕ → ℕ → ℕ → Type 0
@@ -66,9 +68,12 @@ pub record AreOffers (P : ℕ → ℕ → ℕ → Type 0) (offers : Offers) : Ty
 pub record IsOffered (old new : Offers) (input output rank : ℕ) : Type 0 where
   pub granted : (i : ℕ) → Has new.granted i ↔ ((i ≡ input) ⊎ Has old.granted i)
   pub others : (i : ℕ) → i ≢ input → (slice_index new.ranks i ≡ slice_index old.ranks i) × (slice_index new.outputs i ≡ slice_index old.outputs i)
-  pub better : ((Has old.granted input → ⊥) ⊎ (rank < slice_index old.ranks input)) → (slice_index new.ranks input ≡ rank) × ((j : ℕ) → Has (slice_index new.outputs input) j ↔ (j ≡ output))
-  pub equal : Has old.granted input → slice_index old.ranks input ≡ rank → (slice_index new.ranks input ≡ rank) × ((j : ℕ) → Has (slice_index new.outputs input) j ↔ ((j ≡ output) ⊎ Has (slice_index old.outputs input) j))
-  pub worse : Has old.granted input → slice_index old.ranks input < rank → (slice_index new.ranks input ≡ slice_index old.ranks input) × (slice_index new.outputs input ≡ slice_index old.outputs input)
+  pub better : ((Has old.granted input → ⊥) ⊎ (rank < slice_index old.ranks input)) → (slice_index new.ranks input ≡ rank)
+      × ((j : ℕ) → Has (slice_index new.outputs input) j ↔ (j ≡ output))
+  pub equal : Has old.granted input → slice_index old.ranks input ≡ rank → (slice_index new.ranks input ≡ rank)
+      × ((j : ℕ) → Has (slice_index new.outputs input) j ↔ ((j ≡ output) ⊎ Has (slice_index old.outputs input) j))
+  pub worse : Has old.granted input → slice_index old.ranks input < rank → (slice_index new.ranks input ≡ slice_index old.ranks input)
+      × (slice_index new.outputs input ≡ slice_index old.outputs input)
 
 -- the match may take what input i is offered: outputs that are free, for an input that is free or goes on
 pub record IsOpen (n : ℕ) (first_kind : Kind) (matched : List (Option Fed)) (offers : Offers) (i : ℕ) : Type 0 where
@@ -110,7 +115,8 @@ pub record AreMet (Pairs : ℕ → ℕ → ℕ → Type 0) (before after : Place
 -- the shared pointer of the level is moved one beyond the first head from it on, if that completes
 pub record IsPassed (n : ℕ) (rows : List Row) (matched : List (Option Fed)) (before after : Places) (level : ℕ) : Type 0 where
   pub passed : (i : ℕ) → IsFirstFrom n (shared_of before level) (HasHead rows level) i → Completes rows matched level i → shared_of after level ≡ (i + 1) % n
-  pub stays : ((i : ℕ) → IsFirstFrom n (shared_of before level) (HasHead rows level) i → Completes rows matched level i → ⊥) → shared_of after level ≡ shared_of before level
+  pub stays : ((i : ℕ) → IsFirstFrom n (shared_of before level) (HasHead rows level) i → Completes rows matched level i → ⊥)
+      → shared_of after level ≡ shared_of before level
 
 -- `rounds` rounds from nothing matched made this match, and are told by their numbers and by the outputs that the
 -- first of them matched
@@ -128,11 +134,13 @@ Tells refused i j level = Has refused.outputs j × (slice_index refused.inputs j
 
 -- the choice is of input i, as unicast of the level
 abbrev pub IsUnicastChoice : Kind → Option Choice → ℕ → ℕ → Type 0
-IsUnicastChoice first_kind choice i level = (rank : ℕ) × (choice ≡ Some (record { rank = rank; input = i })) × (kind_at first_kind rank ≡ Uni) × (level ≡ level_at rank)
+IsUnicastChoice first_kind choice i level = (rank : ℕ) × (choice ≡ Some (record { rank = rank; input = i })) × (kind_at first_kind rank ≡ Uni)
+    × (level ≡ level_at rank)
 
 -- output j grants input i as unicast of the level
 abbrev pub GrantsUnicast : ℕ → Kind → Asks → List ℕ → Places → ℕ → ℕ → ℕ → Type 0
-GrantsUnicast n first_kind asks ready places i j level = (rank : ℕ) × IsChosen n first_kind asks ready places j (record { rank = rank; input = i }) × (kind_at first_kind rank ≡ Uni) × (level ≡ level_at rank)
+GrantsUnicast n first_kind asks ready places i j level = (rank : ℕ) × IsChosen n first_kind asks ready places j (record { rank = rank; input = i })
+    × (kind_at first_kind rank ≡ Uni) × (level ≡ level_at rank)
 
 -- of these outputs each that grants unicast, where nothing is matched yet, is told with what it grants
 pub record AreToldOf (n : ℕ) (first_kind : Kind) (asks : Asks) (places : Places) (Outputs : ℕ → Type 0) (refused : Refused) : Type 0 where

@@ -18,7 +18,8 @@ pub(crate) fn accept_all(n: u32, first_kind: Kind, offers: &Offers, p: &Pointers
     requires whole { IsMatch n out.old }
     requires open { AreOpen n first_kind out.old offers.now }
     ensures whole { IsMatch n out.new }
-    ensures pairs { (i j level : ℕ) (kind : Kind) → Serves out.new i j level kind ↔ (Serves out.old i j level kind ⊎ IsTaken n first_kind p.now offers.now i j level kind) }
+    ensures pairs { (i j level : ℕ) (kind : Kind) → Serves out.new i j level kind
+        ↔ (Serves out.old i j level kind ⊎ IsTaken n first_kind p.now offers.now i j level kind) }
 {
     let mut rest = offers.granted;
     while let Some(i) = lowest(rest) {
@@ -35,7 +36,8 @@ fn accept(n: u32, first_kind: Kind, offers: &Offers, p: &Pointers, i: u32, out: 
     requires granted { Has offers.now.granted i }
     requires open { IsOpen n first_kind out.old offers.now i }
     ensures whole { IsMatch n out.new }
-    ensures pairs { (x j level : ℕ) (kind : Kind) → Serves out.new x j level kind ↔ (Serves out.old x j level kind ⊎ ((x ≡ i) × IsTaken n first_kind p.now offers.now i j level kind)) }
+    ensures pairs { (x j level : ℕ) (kind : Kind) → Serves out.new x j level kind
+        ↔ (Serves out.old x j level kind ⊎ ((x ≡ i) × IsTaken n first_kind p.now offers.now i j level kind)) }
 {
     let at = i as usize;
     let rank = offers.ranks[at];

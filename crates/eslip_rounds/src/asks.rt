@@ -78,7 +78,8 @@ fn fill(
     requires rows { AreWithin n rows.now }
     requires named { (i j level : ℕ) (kind : Kind) → i < n → Names (row_of rows.now i) level kind j → Names named.now level kind j }
     requires kept { (rank i j : ℕ) → rank < RANKS → Has (column_of columns.old rank j) i → Has before rank }
-    ensures columns { (rank i j : ℕ) → rank < RANKS → Has (column_of columns.new rank j) i ↔ ((i < n) × Names (row_of rows.now i) (level_at rank) (kind_at first_kind rank) j) }
+    ensures columns { (rank i j : ℕ) → rank < RANKS → Has (column_of columns.new rank j) i
+        ↔ ((i < n) × Names (row_of rows.now i) (level_at rank) (kind_at first_kind rank) j) }
     ensures ranks { (rank i j : ℕ) → rank < RANKS → i < n → Names (row_of rows.now i) (level_at rank) (kind_at first_kind rank) j → Has result rank }
     ensures ranks_in { (rank : ℕ) → Has result rank → rank < RANKS }
 {

@@ -32,7 +32,9 @@ pub(crate) fn move_pointers(
     requires rows { AreWithin n rows.now }
     requires named { (i j level : ℕ) → i < n → Names (row_of rows.now i) level Multi j → Names named.now level Multi j }
     requires first_outputs { (j : ℕ) → Has first_outputs j → j < n }
-    ensures moved { (t : ℕ) (first_match : List (Option Fed)) → ((i j level : ℕ) → (Has first_outputs j × Serves matched.now i j level Uni) ↔ Serves first_match i j level Uni) → AreMoved n t rows.now first_match matched.now p.old p.new }
+    ensures moved { (t : ℕ) (first_match : List (Option Fed))
+        → ((i j level : ℕ) → (Has first_outputs j × Serves matched.now i j level Uni) ↔ Serves first_match i j level Uni)
+        → AreMoved n t rows.now first_match matched.now p.old p.new }
     ensures at_ports { AreAtPorts p.new }
 {
     meet(matched, first_outputs, p);
@@ -44,7 +46,8 @@ fn meet(matched: &Match, first_outputs: Ports, p: &mut Pointers)
     requires at_ports { AreAtPorts p.old }
     requires whole { IsMatch p.old.ports matched.now }
     requires first_outputs { (j : ℕ) → Has first_outputs j → j < p.old.ports }
-    requires once { (i j k level : ℕ) → Has first_outputs j → Has first_outputs k → Serves matched.now i j level Uni → Serves matched.now i k level Uni → j ≡ k }
+    requires once { (i j k level : ℕ) → Has first_outputs j → Has first_outputs k → Serves matched.now i j level Uni → Serves matched.now i k level Uni
+        → j ≡ k }
     ensures met { AreMet (λ i j level. Has first_outputs j × Serves matched.now i j level Uni) p.old p.new }
     ensures at_ports { AreAtPorts p.new }
 {

@@ -34,7 +34,8 @@ module _ (n t : ℕ) (rows : List Row) (before : Places) (within : AreWithin n r
   pub grants_once : (i x j level : ℕ) → Grants n t rows before (unmatched n) i j level Uni → Grants n t rows before (unmatched n) x j level Uni → i ≡ x
   grants_once i x j level g h =
       IsFirstFrom-only n (grant_of before j level) (λ y. Requests rows (unmatched n) y j level Uni) i x
-      (from_in n t rows before (unmatched n) (IsMatch-unmatched n) at_ports ports_are j level Uni g.output_in (level_asked rows (unmatched n) i j level Uni g.first.member)) g.first h.first
+      (from_in n t rows before (unmatched n) (IsMatch-unmatched n) at_ports ports_are j level Uni g.output_in
+      (level_asked rows (unmatched n) i j level Uni g.first.member)) g.first h.first
 
   -- the test says whether a grant is refused
   Decides-refused : (i j level : ℕ) → Decides (is_refused n t rows before i j level) (IsRefused n t rows before i j level)
@@ -45,9 +46,13 @@ module _ (n t : ℕ) (rows : List Row) (before : Places) (within : AreWithin n r
       let grant = fed_of (map (granted n t rows before start) (ports n)) j in
       let fed = fed_of (round_of n t rows before start) j in
       let serves = Serves-granted n t rows before start whole at_ports ports_are i j level Uni in
-      let test = Decides-and (is_fed i level Uni grant) (not (is_fed i level Uni fed)) (Decides-fed i level Uni grant) (Decides-not (is_fed i level Uni fed) (Decides-fed i level Uni fed)) in (
+      let test = Decides-and (is_fed i level Uni grant) (not (is_fed i level Uni fed)) (Decides-fed i level Uni grant)
+      (Decides-not (is_fed i level Uni fed) (Decides-fed i level Uni fed)) in (
         λ e. let both = test.0 e in (serves.0 both.0, λ accepts. both.1 ((round.pairs i j level Uni).1 (inr accepts))),
-        λ r. test.1 (serves.1 r.0, λ served. elim ((round.pairs i j level Uni).0 served) [ inl old ↦ nobody_at_first n i j level Uni old | inr accepts ↦ r.1 accepts ]),
+        λ r. test.1 (
+          serves.1 r.0,
+          λ served. elim ((round.pairs i j level Uni).0 served) [ inl old ↦ nobody_at_first n i j level Uni old | inr accepts ↦ r.1 accepts ],
+        ),
       )
 
   -- the input that refused output j's grant, if one did
@@ -57,7 +62,8 @@ module _ (n t : ℕ) (rows : List Row) (before : Places) (within : AreWithin n r
   finds_refused : (i j level : ℕ) → IsRefused n t rows before i j level → refused_by level j ≡ Some i
   unfolding refused_by
   finds_refused i j level r =
-      finds_port (λ x. is_refused n t rows before x j level) n i r.0.first.below ((Decides-refused i j level).1 r) (λ y e. grants_once y i j level ((Decides-refused y j level).0 e).0 r.0)
+      finds_port (λ x. is_refused n t rows before x j level) n i r.0.first.below ((Decides-refused i j level).1 r)
+      (λ y e. grants_once y i j level ((Decides-refused y j level).0 e).0 r.0)
 
   finds_nobody : (j level : ℕ) → ((i : ℕ) → IsRefused n t rows before i j level → ⊥) → refused_by level j ≡ None
   unfolding refused_by
@@ -74,9 +80,11 @@ module _ (n t : ℕ) (rows : List Row) (before : Places) (within : AreWithin n r
         record {
           ports = refl;
           held = λ i j level r.
-              table_at grant_at level j (level_asked rows (unmatched n) i j level Uni r.0.first.member) (let j_in = r.0.output_in in let size = moved_at.size in omega arith)
+              table_at grant_at level j (level_asked rows (unmatched n) i j level Uni r.0.first.member)
+              (let j_in = r.0.output_in in let size = moved_at.size in omega arith)
               ∙ ap (λ o. unwrap_or o (grant_of moved j level)) (finds_refused i j level r);
-          stays = λ j level nobody. table_stays grant_at moved.grant moved_at.grant_table level j (ap (λ o. unwrap_or o (grant_of moved j level)) (finds_nobody j level nobody));
+          stays = λ j level nobody. table_stays grant_at moved.grant moved_at.grant_table level j
+              (ap (λ o. unwrap_or o (grant_of moved j level)) (finds_nobody j level nobody));
           accepts = λ i level. refl;
           shared = λ level. refl;
         }
@@ -91,7 +99,8 @@ module _ (n t : ℕ) (rows : List Row) (before : Places) (within : AreWithin n r
           grant_table = IsTable-table_of grant_at;
           accept_table = moved_at.accept_table;
           shared_levels = moved_at.shared_levels;
-          pointing = λ level level_in. let P : ℕ → Type 0 = λ k. ArePointing k level (firm_held n t rows before moved) in subst P (sym moved_ports) (pointing level level_in);
+          pointing = λ level level_in. let P : ℕ → Type 0 = λ k. ArePointing k level (firm_held n t rows before moved) in
+              subst P (sym moved_ports) (pointing level level_in);
         }
 
   module _ (first_match matched : List (Option Fed)) (whole : IsMatch n first_match) where
@@ -115,7 +124,8 @@ module _ (n t : ℕ) (rows : List Row) (before : Places) (within : AreWithin n r
         AreAtPorts-firm_held moved_to moved_at_ports moved_ports_are
         (λ level level_in.
         let here : ArePointing n level before = subst (λ k. ArePointing k level before) ports_are (at_ports.pointing level level_in) in
-        firm_keep n level t rows first_match matched before (firm_places_after n t rows first_match matched before) whole.count within here AreMovedByFirm-computed)
+        firm_keep n level t rows first_match matched before
+        (firm_places_after n t rows first_match matched before) whole.count within here AreMovedByFirm-computed)
 
   -- what is computed is what the slot decides
   pub IsFirmSlot-firm_decision : (rounds : ℕ) → IsFirmSlot n rounds t rows before (firm_decision n rounds t rows before)
@@ -129,4 +139,5 @@ module _ (n t : ℕ) (rows : List Row) (before : Places) (within : AreWithin n r
   -- every decision of the slot is the one that is computed
   pub firm_decision-only : (rounds : ℕ) (a : Decision) → AreAtPorts a.places → IsFirmSlot n rounds t rows before a → a ≡ firm_decision n rounds t rows before
   firm_decision-only rounds a a_in slot =
-      IsFirmSlot-only n t rows before within at_ports ports_are rounds a (firm_decision n rounds t rows before) a_in (AreAtPorts-firm_decision rounds) slot (IsFirmSlot-firm_decision rounds)
+      IsFirmSlot-only n t rows before within at_ports ports_are rounds a (firm_decision n rounds t rows before) a_in (AreAtPorts-firm_decision rounds) slot
+      (IsFirmSlot-firm_decision rounds)

@@ -15,7 +15,8 @@ AreHeld-none P places nobody =
     }
 
 -- the same is held
-pub AreHeld-along : (P Q : ℕ → ℕ → ℕ → Type 0) (before after : Places) → ((i j level : ℕ) → P i j level ↔ Q i j level) → AreHeld P before after → AreHeld Q before after
+pub AreHeld-along : (P Q : ℕ → ℕ → ℕ → Type 0) (before after : Places) → ((i j level : ℕ) → P i j level ↔ Q i j level) → AreHeld P before after
+    → AreHeld Q before after
 AreHeld-along P Q before after same held =
     record {
       ports = held.ports;
@@ -26,8 +27,10 @@ AreHeld-along P Q before after same held =
     }
 
 -- one more output k, which holds input a at one level
-pub AreHeld-next : (P : ℕ → ℕ → ℕ → Type 0) (a k at : ℕ) (first before after : Places) → ((i level : ℕ) → P i k level → ⊥) → AreHeld P first before → after.ports ≡ before.ports → grant_of after k at ≡ a → ((j other : ℕ) → (j ≡ k → other ≡ at → ⊥) → grant_of after j other ≡ grant_of before j other)
-    → ((i other : ℕ) → accept_of after i other ≡ accept_of before i other) → ((other : ℕ) → shared_of after other ≡ shared_of before other) → AreHeld (λ i j level. P i j level ⊎ ((i ≡ a) × (j ≡ k) × (level ≡ at))) first after
+pub AreHeld-next : (P : ℕ → ℕ → ℕ → Type 0) (a k at : ℕ) (first before after : Places) → ((i level : ℕ) → P i k level → ⊥) → AreHeld P first before
+    → after.ports ≡ before.ports → grant_of after k at ≡ a → ((j other : ℕ) → (j ≡ k → other ≡ at → ⊥) → grant_of after j other ≡ grant_of before j other)
+    → ((i other : ℕ) → accept_of after i other ≡ accept_of before i other) → ((other : ℕ) → shared_of after other ≡ shared_of before other)
+    → AreHeld (λ i j level. P i j level ⊎ ((i ≡ a) × (j ≡ k) × (level ≡ at))) first after
 AreHeld-next P a k at first before after new held ports grant grants accepts shared =
     record {
       ports = ports ∙ held.ports;

@@ -24,17 +24,24 @@ firm_falling n rounds level i j some i_in =
       begins = λ t places slot now named. RanksBelow-all n level i j places slot.rows now.pointing i_in (now.within.ports i i_in level j Uni named) named;
       some = λ places most rows pointing within ranks. let far = ranks.far in omega (arith, far);
       falls = λ t places slot most now alone left ranks later on.
-          rank_falls n t level slot.rows (first_of n now.decided.steps) slot.decision.matched places slot.decision.places (now.within.levels i i_in level j Uni ranks.named)
+          rank_falls n t level slot.rows (first_of n now.decided.steps) slot.decision.matched places slot.decision.places
+          (now.within.levels i i_in level j Uni ranks.named)
           (BeginsWith-slot n t slot.rows places AreMovedByFirm rounds slot.decision some now.decided) now.decided.moved now.pointing
           (pointing_by AreMovedByFirm n rounds t level places slot (firm_keep n level) now.pointing now.within now.decided) now.clean alone
           i j most i_in (now.within.ports i i_in level j Uni ranks.named) ranks left later (on i i_in ranks.named left);
     }
 
-pub firm_served_in_time : (n rounds t level i j : ℕ) (places : Places) (slots : List DecidedSlot) → 0 < rounds → i < n → IsWindowBy AreMovedByFirm n rounds t level places slots → All (λ slot. IsWithoutMulticast n level slot.rows) slots → InFirst (λ rows. Names (row_of rows i) level Uni j) slots
+pub firm_served_in_time : (n rounds t level i j : ℕ) (places : Places) (slots : List DecidedSlot) → 0 < rounds → i < n
+    → IsWindowBy AreMovedByFirm n rounds t level places slots → All (λ slot. IsWithoutMulticast n level slot.rows) slots
+    → InFirst (λ rows. Names (row_of rows i) level Uni j) slots
     → n * n ≤ length slots → Any (λ slot. Serves slot.decision.matched i j level Uni) slots
 firm_served_in_time n rounds t level i j places slots some i_in =
-    served_by_falling AreMovedByFirm n rounds level i j (n * n) (RanksBelow n level i j) (firm_keep n level) (square_some n (omega arith)) (firm_falling n rounds level i j some i_in) t places slots
+    served_by_falling AreMovedByFirm n rounds level i j (n * n) (RanksBelow n level i j) (firm_keep n level) (square_some n (omega arith))
+    (firm_falling n rounds level i j some i_in) t places slots
 
-pub firm_longest_wait : (n rounds t level : ℕ) (places : Places) (slots : List DecidedSlot) → 0 < n → 0 < rounds → IsWindowBy AreMovedByFirm n rounds t level places slots → All (λ slot. IsWithoutMulticast n level slot.rows) slots → longest_wait n level (map noted_of slots) < n * n
+pub firm_longest_wait : (n rounds t level : ℕ) (places : Places) (slots : List DecidedSlot) → 0 < n → 0 < rounds
+    → IsWindowBy AreMovedByFirm n rounds t level places slots → All (λ slot. IsWithoutMulticast n level slot.rows) slots
+    → longest_wait n level (map noted_of slots) < n * n
 firm_longest_wait n rounds t level places slots ports some =
-    longest_by_falling AreMovedByFirm n rounds t level (n * n) (RanksBelow n level) places slots (firm_keep n level) (square_some n ports) (λ i j. firm_falling n rounds level i j some)
+    longest_by_falling AreMovedByFirm n rounds t level (n * n) (RanksBelow n level) places slots (firm_keep n level) (square_some n ports)
+    (λ i j. firm_falling n rounds level i j some)

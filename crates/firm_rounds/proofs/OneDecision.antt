@@ -26,11 +26,13 @@ AreHeld-alike P a b x y alike p q =
     }
 
 module _ (n t : ℕ) (rows : List Row) (before : Places) (within : AreWithin n rows) (at_ports : AreAtPorts before) (ports : before.ports ≡ n) where
-  pub AreMovedByFirm-only : (first_match matched : List (Option Fed)) → length first_match ≡ n → (a b : Places) → AreAtPorts a → AreAtPorts b → AreMovedByFirm n t rows first_match matched before a → AreMovedByFirm n t rows first_match matched before b → a ≡ b
+  pub AreMovedByFirm-only : (first_match matched : List (Option Fed)) → length first_match ≡ n → (a b : Places) → AreAtPorts a → AreAtPorts b
+      → AreMovedByFirm n t rows first_match matched before a → AreMovedByFirm n t rows first_match matched before b → a ≡ b
   AreMovedByFirm-only first_match matched size a b x y r s =
       let some : 0 < n = let h = at_ports.some in omega arith in
       let alike = AreMoved-alike n t rows first_match matched before within size at_ports ports some r.moved s.moved r.as_first s.as_first in
       Places-same a b x y (AreHeld-alike _ r.moved s.moved a b alike r.held s.held)
 
-  pub IsFirmSlot-only : (rounds : ℕ) (a b : Decision) → AreAtPorts a.places → AreAtPorts b.places → IsFirmSlot n rounds t rows before a → IsFirmSlot n rounds t rows before b → a ≡ b
+  pub IsFirmSlot-only : (rounds : ℕ) (a b : Decision) → AreAtPorts a.places → AreAtPorts b.places → IsFirmSlot n rounds t rows before a
+      → IsFirmSlot n rounds t rows before b → a ≡ b
   IsFirmSlot-only rounds = IsSlotBy-only n rounds t rows before within at_ports ports AreMovedByFirm AreMovedByFirm-only

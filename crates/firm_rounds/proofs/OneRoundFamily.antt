@@ -22,7 +22,8 @@ use Rattle.service_bound.specs.Latest.{ServeLast}
 use Rattle.service_bound.proofs.Postings.{Posting, IsPosted, zero_posted, rows_of, names, AreWithin-rows, IsClean-rows, IsWithoutMulticast-rows}
 use Rattle.service_bound.proofs.PostedSlots.{Suits, distance-own}
 use Rattle.service_bound.proofs.PostedRuns.{Starts, IsSwitch, IsServing, keeps_on}
-use Rattle.service_bound.proofs.Descents.{lowers, downs, length-downs, starts_downs, starts_either, Suits-plain, places_at_one, grant_of-places_at, accept_of-places_at, IsSwitch-places_at}
+use Rattle.service_bound.proofs.Descents.{lowers, downs, length-downs, starts_downs, starts_either, Suits-plain, places_at_one, grant_of-places_at}
+use Rattle.service_bound.proofs.Descents.{accept_of-places_at, IsSwitch-places_at}
 use Rattle.firm_rounds.specs.Slots.{AreMovedByFirm}
 use Rattle.firm_rounds.specs.Latest.{IsServedLastByFirm}
 use Rattle.firm_rounds.proofs.OneRoundSlots.{decided, slot_decided, IsSwitch-after, serving, left, refused, passed, accepts, accept_stays}
@@ -37,14 +38,17 @@ length-run n t places [] = refl
 length-run n t places (p ∷ ps) = ap suc (length-run n (t + 1) (decided n t places p).places ps)
 
 -- what all rows of postings have, all slots have
-All-run : (n t : ℕ) (places : Places) (P : List Row → Type 0) → ((p : Posting) → P (rows_of n p)) → (ps : List Posting) → All (λ slot. P slot.rows) (run n t places ps)
+All-run : (n t : ℕ) (places : Places) (P : List Row → Type 0) → ((p : Posting) → P (rows_of n p)) → (ps : List Posting)
+    → All (λ slot. P slot.rows) (run n t places ps)
 All-run n t places P each [] = All-nil (λ slot. P slot.rows)
 All-run n t places P each (p ∷ ps) =
-    All-cons (λ slot. P slot.rows) (record { rows = rows_of n p; decision = decided n t places p }) (run n (t + 1) (decided n t places p).places ps) (each p) (All-run n (t + 1) (decided n t places p).places P each ps)
+    All-cons (λ slot. P slot.rows) (record { rows = rows_of n p; decision = decided n t places p }) (run n (t + 1) (decided n t places p).places ps) (each p)
+    (All-run n (t + 1) (decided n t places p).places P each ps)
 
 IsSchedule-run : (n t : ℕ) (places : Places) (ps : List Posting) → IsSwitch n places → IsScheduleBy AreMovedByFirm n 1 t places (run n t places ps)
 IsSchedule-run n t places [] switch = tt
-IsSchedule-run n t places (p ∷ ps) switch = (slot_decided n t places p switch, IsSchedule-run n (t + 1) (decided n t places p).places ps (IsSwitch-after n t places p switch))
+IsSchedule-run n t places (p ∷ ps) switch =
+    (slot_decided n t places p switch, IsSchedule-run n (t + 1) (decided n t places p).places ps (IsSwitch-after n t places p switch))
 
 -- requests stay in the run, and queue (0, 0) is served in its last slot alone
 record IsLate (n t : ℕ) (places : Places) (ps : List Posting) : Type 0 where
@@ -52,7 +56,8 @@ record IsLate (n t : ℕ) (places : Places) (ps : List Posting) : Type 0 where
   last : ServeLast 0 0 0 (run n t places ps)
 
 -- one slot more in front
-IsLate-before : (n t : ℕ) (places : Places) (p : Posting) (ps : List Posting) → IsServing p (decided n t places p).matched → (Serves (decided n t places p).matched 0 0 0 Uni → ⊥) → Starts (λ next. (p.beside ≡ 0) ⊎ IsPosted next p.input 0) ps
+IsLate-before : (n t : ℕ) (places : Places) (p : Posting) (ps : List Posting) → IsServing p (decided n t places p).matched
+    → (Serves (decided n t places p).matched 0 0 0 Uni → ⊥) → Starts (λ next. (p.beside ≡ 0) ⊎ IsPosted next p.input 0) ps
     → IsLate n (t + 1) (decided n t places p).places ps → IsLate n t places (p ∷ ps)
 IsLate-before n t places p [] serves leaves starts late = absurd starts
 IsLate-before n t places p (next ∷ ps) serves leaves starts late =
@@ -100,7 +105,8 @@ suits_turn n places x a y x_in turn pointer =
     Suits-plain n places x y 0 (inr (subst (λ from. distance n from x ≤ distance n from 0) (sym turn.grant) near)) pointer (inl refl)
 
 -- input x goes down
-late_downs : (n x : ℕ) (rest : List Posting) → x < n → Starts (λ next. IsPosted next x 0) rest → ((t : ℕ) (places : Places) → IsTurn n places x n → IsLate n t places rest)
+late_downs : (n x : ℕ) (rest : List Posting) → x < n → Starts (λ next. IsPosted next x 0) rest
+    → ((t : ℕ) (places : Places) → IsTurn n places x n → IsLate n t places rest)
     → (k a t : ℕ) (places : Places) → 0 < a → a + k ≡ n → IsTurn n places x a → IsLate n t places (downs x a k rest)
 late_downs n x rest x_in starts then zero a t places some sum turn = let e : a ≡ n = omega arith in then t places (subst (IsTurn n places x) e turn)
 late_downs n x rest x_in starts then (suc k) a t places some sum turn =
@@ -113,7 +119,8 @@ late_downs n x rest x_in starts then (suc k) a t places some sum turn =
       fresh = λ i i_in other late. accept_stays n t places x a turn.switch x_in a_in suits i other ∙ turn.fresh i i_in other late;
     } in
     let on = starts_downs (λ next. IsPosted next x 0) x k (a + 1) rest (λ b. inl (refl, inl refl)) starts in
-    IsLate-before n t places (lowers x a) (downs x (a + 1) k rest) (serving n t places x a turn.switch x_in a_in suits) (left n t places x a turn.switch x_in a_in suits (inl some))
+    IsLate-before n t places (lowers x a) (downs x (a + 1) k rest) (serving n t places x a turn.switch x_in a_in suits)
+    (left n t places x a turn.switch x_in a_in suits (inl some))
     (starts_either (λ next. a ≡ 0) (λ next. IsPosted next x 0) (downs x (a + 1) k rest) on)
     (late_downs n x rest x_in starts then k (a + 1) (t + 1) (decided n t places (lowers x a)).places (omega arith) (omega arith) next)
 
@@ -139,10 +146,12 @@ module _ (n t : ℕ) (places : Places) (x a : ℕ) (some : 0 < x) (x_in : x < n)
       record {
         switch = IsSwitch-after n t places (lowers x 0) turn.switch;
         grant = passed n t places x 0 turn.switch x_in zero_in suits_last refl ∙ mod-eq_of_lt next_in;
-        accept = accept_stays n t places x 0 turn.switch x_in zero_in suits_last (x + 1) (λ e. omega arith) ∙ turn.fresh (x + 1) next_in (λ e. omega arith) (inr (some, omega arith));
+        accept = accept_stays n t places x 0 turn.switch x_in zero_in suits_last (x + 1) (λ e. omega arith)
+            ∙ turn.fresh (x + 1) next_in (λ e. omega arith) (inr (some, omega arith));
         fresh = λ i i_in other late. elim late [
           | inl e ↦ accept_stays n t places x 0 turn.switch x_in zero_in suits_last i (λ same. omega arith) ∙ turn.fresh i i_in (λ same. omega arith) (inl e)
-          | inr more ↦ let after = more.1 in accept_stays n t places x 0 turn.switch x_in zero_in suits_last i (λ same. omega arith) ∙ turn.fresh i i_in (λ same. omega arith) (inr (some, omega arith))
+          | inr more ↦ let after = more.1 in accept_stays n t places x 0 turn.switch x_in zero_in suits_last i (λ same. omega arith)
+              ∙ turn.fresh i i_in (λ same. omega arith) (inr (some, omega arith))
         ];
       }
 
@@ -150,7 +159,10 @@ late_turns : (n k x t : ℕ) (places : Places) → 0 < x → x + k ≡ n → IsT
 late_turns n zero x t places some sum turn =
     let zero_in : 0 < n = omega arith in
     late_downs n 0 (lowers 0 0 ∷ []) zero_in (zero_posted (lowers 0 0))
-    (λ t places turn. record { kept = (tt, tt); last = (serving n t places 0 0 turn.switch zero_in zero_in (suits_turn n places 0 n 0 zero_in turn (inl refl))).served })
+    (λ t places turn. record {
+      kept = (tt, tt);
+      last = (serving n t places 0 0 turn.switch zero_in zero_in (suits_turn n places 0 n 0 zero_in turn (inl refl))).served;
+    })
     (n - 1) 1 t places (omega arith) (omega arith) turn
 late_turns n (suc k) x t places some sum turn =
     let x_in : x < n = omega arith in
@@ -159,7 +171,8 @@ late_turns n (suc k) x t places some sum turn =
     (λ t places turn.
     let suits = suits_last n t places x n some x_in turn in
     let zero_in : 0 < n = omega arith in
-    IsLate-before n t places (lowers x 0) later (serving n t places x 0 turn.switch x_in zero_in suits) (left n t places x 0 turn.switch x_in zero_in suits (inr some))
+    IsLate-before n t places (lowers x 0) later (serving n t places x 0 turn.switch x_in zero_in suits)
+    (left n t places x 0 turn.switch x_in zero_in suits (inr some))
     (starts_turns (λ next. (0 ≡ 0) ⊎ IsPosted next x 0) n k (x + 1) (λ next. inl refl))
     (late_turns n k (x + 1) (t + 1) (decided n t places (lowers x 0)).places (omega arith) (omega arith) (next_turn n t places x n some x_in turn k sum)))
     (n - 1) 1 t places (omega arith) (omega arith) turn
@@ -185,7 +198,8 @@ begin_turn n (suc k) sum size =
       fresh = λ i i_in other late. accept_of-places_at n (1 % n) (1 % n) i 0 (omega arith) (omega arith);
     }
 
-pub one_round_reached : (n t : ℕ) → 0 < n → n ≤ MAX_PORTS → (places : Places) × (slots : List DecidedSlot) × IsServedLastByFirm n 1 t 0 0 0 places slots × (length slots ≡ n * n)
+pub one_round_reached : (n t : ℕ) → 0 < n → n ≤ MAX_PORTS → (places : Places) × (slots : List DecidedSlot) × IsServedLastByFirm n 1 t 0 0 0 places slots
+    × (length slots ≡ n * n)
 one_round_reached n t some size =
     let ps = turns n 1 (n - 1) in
     let places = places_at_one n in

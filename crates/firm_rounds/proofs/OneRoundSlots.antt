@@ -89,15 +89,26 @@ module _ (n t : ℕ) (places : Places) (x y : ℕ) (switch : IsSwitch n places) 
   granted =
       let p = lowers x y in
       let pointing : ArePointing n 0 places = subst (λ m. ArePointing m 0 places) switch.ports (switch.at_ports.pointing 0 (omega arith)) in
-      grants_first n t (rows_of n p) places 0 (omega arith) (IsClean-rows n p) Uni (kind_is_first n t 0 (rows_of n p) First places (omega arith) begins.opening pointing (IsClean-rows n p) (IsWithoutMulticast-rows n p)) x 0 (omega arith)
-      (record { below = x_in; member = names n p x 0 x_in (omega arith) (inl (refl, inl refl)); least = λ z z_in named. suits.first z z_in (posted n p z 0 0 Uni z_in named).3 })
+      grants_first n t (rows_of n p) places 0 (omega arith) (IsClean-rows n p) Uni
+      (kind_is_first n t 0 (rows_of n p) First places (omega arith) begins.opening pointing (IsClean-rows n p) (IsWithoutMulticast-rows n p)) x 0
+      (omega arith)
+      (record {
+        below = x_in;
+        member = names n p x 0 x_in (omega arith) (inl (refl, inl refl));
+        least = λ z z_in named. suits.first z z_in (posted n p z 0 0 Uni z_in named).3;
+      })
 
   -- where it is refused, its pointer stays at the input, and else it goes one beyond
   pub refused : 0 < y → grant_of (decided n t places (lowers x y)).places 0 0 ≡ x
-  refused some = moves.held.held x 0 0 (granted, λ accepted. let pair = only x 0 0 Uni ((begins.opening.pairs x 0 0 Uni).1 (inr accepted)) in let output = pair.1 in omega arith)
+  refused some = moves.held.held x 0 0 (
+    granted,
+    λ accepted. let pair = only x 0 0 Uni ((begins.opening.pairs x 0 0 Uni).1 (inr accepted)) in let output =
+        pair.1 in omega arith,
+  )
 
   pair_moves : (grant_of (decided n t places (lowers x y)).places y 0 ≡ (x + 1) % n) × (accept_of (decided n t places (lowers x y)).places x 0 ≡ (y + 1) % n)
-  pair_moves = paired n t (rows_of n (lowers x y)) places (AreWithin-rows n (lowers x y)) switch.at_ports switch.ports First (decided n t places (lowers x y)).matched (decided n t places (lowers x y)).places begins.opening moves x y 0 out.served
+  pair_moves = paired n t (rows_of n (lowers x y)) places (AreWithin-rows n (lowers x y)) switch.at_ports switch.ports First
+      (decided n t places (lowers x y)).matched (decided n t places (lowers x y)).places begins.opening moves x y 0 out.served
 
   pub passed : y ≡ 0 → grant_of (decided n t places (lowers x y)).places 0 0 ≡ (x + 1) % n
   passed none = subst (λ v. grant_of (decided n t places (lowers x y)).places v 0 ≡ (x + 1) % n) none pair_moves.0

@@ -16,7 +16,8 @@ firm_keep n level t rows first matched before after size within pointing moved =
       grant = λ j j_in. elim (cases_lt (grant_of after j level) n) [
         | inl below ↦ below
         | inr above ↦
-            let nobody : (i : ℕ) → IsRefused n t rows before i j level → ⊥ = λ i refused. let there = moved.held.held i j level refused in let below = refused.0.first.below in absurd (omega arith) in
+            let nobody : (i : ℕ) → IsRefused n t rows before i j level → ⊥ = λ i refused. let there = moved.held.held i j level refused in let below =
+            refused.0.first.below in absurd (omega arith) in
             below_by n (grant_of after j level) (grant_of moved.moved j level) (moved.held.stays j level nobody) (middle.grant j j_in)
       ];
       accept = λ i i_in. below_by n (accept_of after i level) (accept_of moved.moved i level) (moved.held.accepts i level) (middle.accept i i_in);
@@ -25,4 +26,5 @@ firm_keep n level t rows first matched before after size within pointing moved =
 
 pub firm_pass : (n level : ℕ) → PassHeads AreMovedByFirm n level
 firm_pass n level t rows first matched before after moved =
-    IsPassed-same n rows matched before before moved.moved after level refl (sym (moved.held.shared level)) (AreMoved-pass n level t rows first matched before moved.moved moved.as_first)
+    IsPassed-same n rows matched before before moved.moved after level refl (sym (moved.held.shared level))
+    (AreMoved-pass n level t rows first matched before moved.moved moved.as_first)

@@ -30,7 +30,8 @@ use Rattle.firm_rounds.specs.Slots.{AreMovedByFirm}
 pub record RanksBelow (n level i j : ℕ) (places : Places) (most : ℕ) (rows : List Row) : Type 0 where
   pub named : Names (row_of rows i) level Uni j
   pub far : n * distance n (grant_of places j level) i < most
-  pub near : Names (row_of rows (grant_of places j level)) level Uni j → n * distance n (grant_of places j level) i + distance n (accept_of places (grant_of places j level) level) j < most
+  pub near : Names (row_of rows (grant_of places j level)) level Uni j
+      → n * distance n (grant_of places j level) i + distance n (accept_of places (grant_of places j level) level) j < most
 
 -- an input that is nearer has a lower rank, whatever accept pointer counts
 lower_by_far : (n far far_later turns most : ℕ) → far_later < far → n * far < most + 1 → turns < n → n * far_later + turns < most
@@ -45,7 +46,8 @@ below_all n far turns far_in turns_in =
     omega (arith, scaled)
 
 -- at first
-pub RanksBelow-all : (n level i j : ℕ) (places : Places) (rows : List Row) → ArePointing n level places → i < n → j < n → Names (row_of rows i) level Uni j → RanksBelow n level i j places (n * n) rows
+pub RanksBelow-all : (n level i j : ℕ) (places : Places) (rows : List Row) → ArePointing n level places → i < n → j < n → Names (row_of rows i) level Uni j
+    → RanksBelow n level i j places (n * n) rows
 RanksBelow-all n level i j places rows pointing i_in j_in named =
     let far_in = distance-lt n (grant_of places j level) i (pointing.grant j j_in) in
     let turns_in = distance-lt n (accept_of places (grant_of places j level) level) j (pointing.accept (grant_of places j level) (pointing.grant j j_in)) in
@@ -53,51 +55,66 @@ RanksBelow-all n level i j places rows pointing i_in j_in named =
     record { named = named; far = omega (arith, below); near = λ asking. below }
 
 -- where the input is nearer after a slot
-RanksBelow-nearer : (n level i j : ℕ) (places : Places) (most far : ℕ) (rows : List Row) → ArePointing n level places → i < n → j < n → Names (row_of rows i) level Uni j → distance n (grant_of places j level) i < far → n * far < most + 1 → RanksBelow n level i j places most rows
+RanksBelow-nearer : (n level i j : ℕ) (places : Places) (most far : ℕ) (rows : List Row) → ArePointing n level places → i < n → j < n
+    → Names (row_of rows i) level Uni j → distance n (grant_of places j level) i < far → n * far < most + 1 → RanksBelow n level i j places most rows
 RanksBelow-nearer n level i j places most far rows pointing i_in j_in named nearer below =
     let turns_in = distance-lt n (accept_of places (grant_of places j level) level) j (pointing.accept (grant_of places j level) (pointing.grant j j_in)) in
-    let lower = lower_by_far n far (distance n (grant_of places j level) i) (distance n (accept_of places (grant_of places j level) level) j) most nearer below turns_in in
+    let lower = lower_by_far n far (distance n (grant_of places j level) i)
+    (distance n (accept_of places (grant_of places j level) level) j) most nearer below turns_in in
     record { named = named; far = omega (arith, lower); near = λ asking. lower }
 
-module _ (n t level : ℕ) (rows : List Row) (first matched : List (Option Fed)) (before after : Places) (level_in : level < LEVELS) (begins : BeginsWith n t rows before first matched) (moved : AreMovedByFirm n t rows first matched before after) (pointing : ArePointing n level before) (pointing_after : ArePointing n level after) (clean : IsClean n level rows) (alone : IsWithoutMulticast n level rows) where
-  module _ (i j most : ℕ) (i_in : i < n) (j_in : j < n) (ranks : RanksBelow n level i j before (most + 1) rows) (left : Serves matched i j level Uni → ⊥) (later : List Row) (named : Names (row_of later i) level Uni j) where
+module _ (n t level : ℕ) (rows : List Row) (first matched : List (Option Fed)) (before after : Places) (level_in : level < LEVELS)
+    (begins : BeginsWith n t rows before first matched) (moved : AreMovedByFirm n t rows first matched before after) (pointing : ArePointing n level before)
+    (pointing_after : ArePointing n level after) (clean : IsClean n level rows) (alone : IsWithoutMulticast n level rows) where
+  module _ (i j most : ℕ) (i_in : i < n) (j_in : j < n) (ranks : RanksBelow n level i j before (most + 1) rows) (left : Serves matched i j level Uni → ⊥)
+      (later : List Row) (named : Names (row_of later i) level Uni j) where
     -- the input h that is granted took the output: the grant pointer passes it, and comes nearer to i
-    falls_where_accepted : (h : ℕ) → IsFirstFrom n (grant_of before j level) (λ x. Names (row_of rows x) level Uni j) h → Grants n t rows before (unmatched n) h j level Uni → Serves first h j level Uni → RanksBelow n level i j after most later
+    falls_where_accepted : (h : ℕ) → IsFirstFrom n (grant_of before j level) (λ x. Names (row_of rows x) level Uni j) h
+        → Grants n t rows before (unmatched n) h j level Uni → Serves first h j level Uni → RanksBelow n level i j after most later
     falls_where_accepted h nearest granted served =
         let from_in = pointing.grant j j_in in
-        let accepted : Accepts n t rows before (unmatched n) h j level Uni = elim ((begins.opening.pairs h j level Uni).0 served) [ inl old ↦ absurd (nobody_at_first n h j level Uni old) | inr accepts ↦ accepts ] in
+        let accepted : Accepts n t rows before (unmatched n) h j level Uni =
+        elim ((begins.opening.pairs h j level Uni).0 served) [ inl old ↦ absurd (nobody_at_first n h j level Uni old) | inr accepts ↦ accepts ] in
         let nobody : (x : ℕ) → IsRefused n t rows before x j level → ⊥ = λ x r.
         let same : h ≡ x = IsFirstFrom-only n (grant_of before j level) (λ z. Names (row_of rows z) level Uni j) h x from_in nearest
-        (first_granted n t rows before level level_in clean Uni (kind_is_first n t level rows first before level_in begins.opening pointing clean alone) x j r.0) in
+        (first_granted n t rows before level level_in clean Uni
+        (kind_is_first n t level rows first before level_in begins.opening pointing clean alone) x j r.0) in
         r.1 (subst (λ z. Accepts n t rows before (unmatched n) z j level Uni) same accepted) in
         let place : grant_of after j level ≡ (h + 1) % n = moved.held.stays j level nobody ∙ moved.as_first.granted h j level served in
         let other : h ≡ i → ⊥ = λ same. left (subst (λ x. Serves matched x j level Uni) same (begins.stays h j level Uni served)) in
         let at_most = nearest.least i i_in ranks.named in
-        let apart : distance n (grant_of before j level) h ≡ distance n (grant_of before j level) i → ⊥ = λ e. other (distance-injective n (grant_of before j level) h i from_in nearest.below i_in e) in
+        let apart : distance n (grant_of before j level) h ≡ distance n (grant_of before j level) i
+        → ⊥ = λ e. other (distance-injective n (grant_of before j level) h i from_in nearest.below i_in e) in
         let passed = distance-passed n (grant_of before j level) h i from_in nearest.below i_in (omega arith) in
         let nearer : distance n (grant_of after j level) i < distance n (grant_of before j level) i = rw place (omega arith) in
         RanksBelow-nearer n level i j after most (distance n (grant_of before j level) i) later pointing_after i_in j_in named nearer ranks.far
 
     -- the input h that is granted took another output y: the grant pointer comes to h, whose accept pointer passes y
-    falls_where_refused : (h y : ℕ) → IsFirstFrom n (grant_of before j level) (λ x. Names (row_of rows x) level Uni j) h → Grants n t rows before (unmatched n) h j level Uni → IsFirstFrom n (accept_of before h level) (λ k. Grants n t rows before (unmatched n) h k level Uni) y → Serves first h y level Uni → (y ≡ j → ⊥) → RanksBelow n level i j after most later
+    falls_where_refused : (h y : ℕ) → IsFirstFrom n (grant_of before j level) (λ x. Names (row_of rows x) level Uni j) h
+        → Grants n t rows before (unmatched n) h j level Uni
+        → IsFirstFrom n (accept_of before h level) (λ k. Grants n t rows before (unmatched n) h k level Uni) y → Serves first h y level Uni → (y ≡ j → ⊥)
+        → RanksBelow n level i j after most later
     falls_where_refused h y nearest granted accepted served other =
         let h_in = nearest.below in
         let from_in = pointing.grant j j_in in
         let accept_in = pointing.accept h h_in in
         let nobody = refused n t level rows first before level_in begins.opening pointing clean alone h j y h_in j_in granted accepted other in
-        let place : grant_of after j level ≡ h = moved.held.held h j level (granted, λ accepts. nobody h ((begins.opening.pairs h j level Uni).1 (inr accepts))) in
+        let place : grant_of after j level ≡ h =
+        moved.held.held h j level (granted, λ accepts. nobody h ((begins.opening.pairs h j level Uni).1 (inr accepts))) in
         let at_most = nearest.least i i_in ranks.named in
         let reached = distance-reached n (grant_of before j level) h i from_in h_in i_in at_most in
         elim (cases_eq (grant_of before j level) h) [
           | inr away ↦
               let own = distance-own n (grant_of before j level) from_in in
-              let apart : distance n (grant_of before j level) (grant_of before j level) ≡ distance n (grant_of before j level) h → ⊥ = λ e. away (distance-injective n (grant_of before j level) (grant_of before j level) h from_in from_in h_in e) in
+              let apart : distance n (grant_of before j level) (grant_of before j level) ≡ distance n (grant_of before j level) h
+              → ⊥ = λ e. away (distance-injective n (grant_of before j level) (grant_of before j level) h from_in from_in h_in e) in
               let nearer : distance n (grant_of after j level) i < distance n (grant_of before j level) i = rw place (omega arith) in
               RanksBelow-nearer n level i j after most (distance n (grant_of before j level) i) later pointing_after i_in j_in named nearer ranks.far
           | inl at ↦
               let P : ℕ → Type 0 = λ g. Names (row_of rows g) level Uni j → n * distance n g i + distance n (accept_of before g level) j < most + 1 in
               let near : n * distance n h i + distance n (accept_of before h level) j < most + 1 = subst P at ranks.near nearest.member in
-              let apart : distance n (accept_of before h level) y ≡ distance n (accept_of before h level) j → ⊥ = λ e. other (distance-injective n (accept_of before h level) y j accept_in accepted.below j_in e) in
+              let apart : distance n (accept_of before h level) y ≡ distance n (accept_of before h level) j
+              → ⊥ = λ e. other (distance-injective n (accept_of before h level) y j accept_in accepted.below j_in e) in
               let before_j = accepted.least j j_in granted in
               let passed = distance-passed n (accept_of before h level) y j accept_in accepted.below j_in (omega arith) in
               let turned : accept_of after h level ≡ (y + 1) % n = moved.held.accepts h level ∙ moved.as_first.accepted h y level served in
@@ -109,7 +126,8 @@ module _ (n t level : ℕ) (rows : List Row) (first matched : List (Option Fed))
     pub rank_falls : RanksBelow n level i j after most later
     rank_falls =
         let first_kind = kind_is_first n t level rows first before level_in begins.opening pointing clean alone in
-        let nearest = IsFirstFrom-some n (grant_of before j level) (λ x. Names (row_of rows x) level Uni j) (λ x. Names-decides (row_of rows x) level Uni j) (pointing.grant j j_in) i i_in ranks.named in
+        let nearest = IsFirstFrom-some n (grant_of before j level) (λ x. Names (row_of rows x) level Uni j) (λ x. Names-decides (row_of rows x) level Uni j)
+        (pointing.grant j j_in) i i_in ranks.named in
         let h = nearest.0 in
         let granted = grants_first n t rows before level level_in clean Uni first_kind h j j_in nearest.1 in
         let met = served_by_first n t level rows first before level_in begins.opening pointing clean alone h j nearest.1.below granted in

@@ -8,7 +8,8 @@ use Rattle.eslip_rounds.specs.Decisions.{ports, table_of, places_after, is_refus
 
 -- the pointers `moved`, but each output whose unicast grant of the first round was refused points to that input
 unfoldable pub firm_held : ℕ → ℕ → List Row → Places → Places → Places
-firm_held n t rows before moved = record moved { grant = table_of (λ level j. unwrap_or (find (λ i. is_refused n t rows before i j level) (ports n)) (grant_of moved j level)) }
+firm_held n t rows before moved =
+    record moved { grant = table_of (λ level j. unwrap_or (find (λ i. is_refused n t rows before i j level) (ports n)) (grant_of moved j level)) }
 
 -- the pointers after slot t
 abbrev pub firm_places_after : ℕ → ℕ → List Row → List (Option Fed) → List (Option Fed) → Places → Places

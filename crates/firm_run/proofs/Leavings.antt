@@ -11,13 +11,15 @@ use Rattle.switch_jobs.specs.Ending.{Leaves}
 use Rattle.firm_run.specs.Acting.{AreAfter, plans_in, AreOutputs}
 
 -- one more card is made
-pub made-more : (cards : List CardState) (plans : List CardPlan) (card : CardState) (plan : CardPlan) → plans_in cards ≡ map plan_of plans → card.sends.plan ≡ plan_of plan → plans_in (cards ++ card ∷ []) ≡ map plan_of (plans ++ plan ∷ [])
+pub made-more : (cards : List CardState) (plans : List CardPlan) (card : CardState) (plan : CardPlan) → plans_in cards ≡ map plan_of plans
+    → card.sends.plan ≡ plan_of plan → plans_in (cards ++ card ∷ []) ≡ map plan_of (plans ++ plan ∷ [])
 made-more cards plans card plan so_far own =
     map_push (λ (c : CardState). c.sends.plan) cards card
     ∙ (ap (λ ps. ps ++ card.sends.plan ∷ []) so_far
     ∙ (ap (λ p. map plan_of plans ++ p ∷ []) own ∙ sym (map_push plan_of plans plan)))
 
-pub new-more : (cards : List CardState) (card : CardState) → AreAfter cards (λ i. []) false → IsAfter card [] false → AreAfter (cards ++ card ∷ []) (λ i. []) false
+pub new-more : (cards : List CardState) (card : CardState) → AreAfter cards (λ i. []) false → IsAfter card [] false
+    → AreAfter (cards ++ card ∷ []) (λ i. []) false
 new-more cards card each own i c at =
     elim (get-snoc cards card c i at) [
       | inl early ↦ each i c early
@@ -25,7 +27,8 @@ new-more cards card each own i c at =
     ]
 
 -- and one more leaves
-pub AreOutputs-more : (cards : List CardState) (outputs : List CardOut) (card : CardState) (out : CardOut) → AreOutputs cards outputs → Leaves card out → AreOutputs (cards ++ card ∷ []) (outputs ++ out ∷ [])
+pub AreOutputs-more : (cards : List CardState) (outputs : List CardOut) (card : CardState) (out : CardOut) → AreOutputs cards outputs → Leaves card out
+    → AreOutputs (cards ++ card ∷ []) (outputs ++ out ∷ [])
 AreOutputs-more cards outputs card out so_far own = record {
   count = length_push outputs out ∙ (ap (λ n. n + 1) so_far.count ∙ sym (length_push cards card));
   each = λ i c o at there. elim (get-snoc cards card c i at) [

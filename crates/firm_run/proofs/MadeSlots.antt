@@ -23,8 +23,10 @@ module _ (scheduler : Scheduler) (scheduling : IsScheduler scheduler) (plan : Sw
   decided = decision_under scheduler (setup_for plan) (posts_under scheduler plan) t
 
   -- the cards, the rows, the deposits and whether all is done, after the posts
-  module _ (cards : List CardState) (rows : List Row) (deposits : List (Option Cell)) (done : Bool) (plans : plans_in cards ≡ plan.cards) (count : ℕ) (size : count ≡ ports_of plan)
-      (posted : ArePosted count cards (λ i. takings_under scheduler plan i t) (λ i. posts_under scheduler plan i t) rows deposits done) (rows_long : length rows ≡ ports_of plan) (deposits_long : length deposits ≡ ports_of plan) where
+  module _ (cards : List CardState) (rows : List Row) (deposits : List (Option Cell)) (done : Bool) (plans : plans_in cards ≡ plan.cards) (count : ℕ)
+      (size : count ≡ ports_of plan)
+      (posted : ArePosted count cards (λ i. takings_under scheduler plan i t) (λ i. posts_under scheduler plan i t) rows deposits done)
+      (rows_long : length rows ≡ ports_of plan) (deposits_long : length deposits ≡ ports_of plan) where
     all_posted : ArePosted (ports_of plan) cards (λ i. takings_under scheduler plan i t) (λ i. posts_under scheduler plan i t) rows deposits done
     all_posted = subst (λ k. ArePosted k cards (λ i. takings_under scheduler plan i t) (λ i. posts_under scheduler plan i t) rows deposits done) size posted
 
@@ -41,22 +43,27 @@ module _ (scheduler : Scheduler) (scheduling : IsScheduler scheduler) (plan : Sw
     all-after = posted-after scheduler plan t cards rows deposits done all_posted (count-cards plan cards plans)
 
     -- what is decided of them
-    pub decision-is : (decision : Decision) (ports rounds : ℕ) (places : Places) → ports ≡ ports_of plan → rounds ≡ plan.rounds → places ≡ places_under scheduler (setup_for plan) (posts_under scheduler plan) t → decision ≡ scheduler ports rounds t rows places → decision ≡ decided
+    pub decision-is : (decision : Decision) (ports rounds : ℕ) (places : Places) → ports ≡ ports_of plan → rounds ≡ plan.rounds
+        → places ≡ places_under scheduler (setup_for plan) (posts_under scheduler plan) t → decision ≡ scheduler ports rounds t rows places → decision ≡ decided
     decision-is decision ports rounds places n r p is =
         is
         ∙ (ap (λ k. scheduler k rounds t rows places) n
         ∙ (ap (λ k. scheduler (ports_of plan) k t rows places) r
-        ∙ (ap (λ x. scheduler (ports_of plan) plan.rounds t x places) rows-of-slot ∙ ap (scheduler (ports_of plan) plan.rounds t (slot_rows (ports_of plan) (posts_under scheduler plan) t)) p)))
+        ∙ (ap (λ x. scheduler (ports_of plan) plan.rounds t x places) rows-of-slot
+        ∙ ap (scheduler (ports_of plan) plan.rounds t (slot_rows (ports_of plan) (posts_under scheduler plan) t)) p)))
 
     -- and what the cards take of it
     module _ (before matched : List (Option Fed)) (old : before ≡ matched_before scheduler plan t) (new : matched ≡ decided.matched) where
       take_is : (i : ℕ) → taken_now t before matched deposits done i ≡ taken_under scheduler (setup_for plan) (posts_under scheduler plan) i t
-      take_is = taken-is scheduler scheduling plan good t before matched deposits done old new (deposits-are scheduler plan t cards rows deposits done all_posted deposits_long) end-of-slot
+      take_is = taken-is scheduler scheduling plan good t before matched deposits done old new
+          (deposits-are scheduler plan t cards rows deposits done all_posted deposits_long) end-of-slot
 
       pub all-may : (i : ℕ) (card : CardState) → slice_get cards i ≡ Some card → MayTake card (taken_now t before matched deposits done i)
       all-may i card at = subst (MayTake card) (sym (take_is i)) (may-take scheduler scheduling plan good t cards plans all-after i card at)
 
-      pub after-more : (taken : List CardState) → AreAfter taken (λ i. takings_under scheduler plan i t ++ taken_now t before matched deposits done i ∷ []) false → AreAfter taken (λ i. takings_under scheduler plan i (t + 1)) false
+      pub after-more : (taken : List CardState)
+          → AreAfter taken (λ i. takings_under scheduler plan i t ++ taken_now t before matched deposits done i ∷ []) false
+          → AreAfter taken (λ i. takings_under scheduler plan i (t + 1)) false
       after-more taken after i card at =
           subst (λ takings. IsAfter card takings false)
           (ap (λ (x : Taken). takings_under scheduler plan i t ++ x ∷ []) (take_is i) ∙ takings-more scheduler plan t i)

@@ -1,5 +1,6 @@
 -- What a switch posts, decides and takes in a slot of a run is what the run has there.
-use Rattle.std.proofs.Common.{◌≡◌, ◌∙◌, ℕ, zero, suc, ◌+◌, ◌<◌, not, Bool, true, false, List, [], ◌∷◌, ◌++◌, map, length, Option, None, Some, refl, sym, ap, subst, arith}
+use Rattle.std.proofs.Common.{◌≡◌, ◌∙◌, ℕ, zero, suc, ◌+◌, ◌<◌, not, Bool, true, false, List, [], ◌∷◌, ◌++◌, map, length, Option, None, Some, refl, sym}
+use Rattle.std.proofs.Common.{ap, subst, arith}
 use Rattle.std.specs.Prelude.{slice_get}
 use Rattle.std.specs.List.{range_with_len}
 use Rattle.std.specs.Option.{option_map}
@@ -43,7 +44,8 @@ module _ (plan : SwitchPlan) (cards : List CardState) (plans : plans_in cards �
 
   pub plan-of : (i : ℕ) (card : CardState) → slice_get cards i ≡ Some card → card.sends.plan ≡ card_at plan i
   plan-of i card at =
-      let own : slice_get plan.cards i ≡ Some card.sends.plan = ap (λ ps. slice_get ps i) (sym plans) ∙ (slice_get-map (λ (card : CardState). card.sends.plan) cards i ∙ ap (option_map (λ (card : CardState). card.sends.plan)) at) in
+      let own : slice_get plan.cards i ≡ Some card.sends.plan = ap (λ ps. slice_get ps i) (sym plans)
+      ∙ (slice_get-map (λ (card : CardState). card.sends.plan) cards i ∙ ap (option_map (λ (card : CardState). card.sends.plan)) at) in
       sym (get_or_from_slice_get plan.cards i card.sends.plan no_plan own)
 
   pub in-ports : (i : ℕ) (card : CardState) → slice_get cards i ≡ Some card → i < ports_of plan
@@ -59,7 +61,8 @@ module _ (scheduler : Scheduler) (plan : SwitchPlan) (t : ℕ) where
   pub takings-length : (i : ℕ) → length (takings i) ≡ t
   takings-length i = length-map-range_with_len (taken_under scheduler (setup_for plan) (posts_under scheduler plan) i) 0 t
 
-  pub takings-more : (i : ℕ) → takings i ++ taken_under scheduler (setup_for plan) (posts_under scheduler plan) i t ∷ [] ≡ takings_under scheduler plan i (t + 1)
+  pub takings-more : (i : ℕ) → takings i ++ taken_under scheduler (setup_for plan) (posts_under scheduler plan) i t
+      ∷ [] ≡ takings_under scheduler plan i (t + 1)
   takings-more i = sym (map-range_with_len_more (taken_under scheduler (setup_for plan) (posts_under scheduler plan) i) 0 t t (omega arith))
 
   -- what each card posts
@@ -79,7 +82,8 @@ module _ (scheduler : Scheduler) (plan : SwitchPlan) (t : ℕ) where
   slot-is : (card : CardState) (i : ℕ) (posted : Bool) → IsAfter card (takings i) posted → card.sends.slot ≡ t
   slot-is card i posted after = after.sent.slot ∙ (length-map (takings i) (λ (taken : Taken). taken.served) ∙ takings-length i)
 
-  pub may-post : (cards : List CardState) → IsGood plan → t < plan.max_slots → is_done_before (ports_of plan) (posts_under scheduler plan) t ≡ false → AreAfter cards takings false → MayPostAll cards
+  pub may-post : (cards : List CardState) → IsGood plan → t < plan.max_slots → is_done_before (ports_of plan) (posts_under scheduler plan) t ≡ false
+      → AreAfter cards takings false → MayPostAll cards
   may-post cards good below going after i card at =
       let own = after i card at in
       let few = slots_few plan good in
@@ -87,7 +91,8 @@ module _ (scheduler : Scheduler) (plan : SwitchPlan) (t : ℕ) where
       (own.sent.phase, own.done ∙ (done-is i ∙ going), omega arith)
 
   -- ---- what is gathered of the posts
-  module _ (cards : List CardState) (rows : List Row) (deposits : List (Option Cell)) (done : Bool) (posted : ArePosted (ports_of plan) cards takings posts rows deposits done) where
+  module _ (cards : List CardState) (rows : List Row) (deposits : List (Option Cell)) (done : Bool)
+      (posted : ArePosted (ports_of plan) cards takings posts rows deposits done) where
     pub rows-are : length rows ≡ ports_of plan → rows ≡ slot_rows (ports_of plan) (posts_under scheduler plan) t
     rows-are long =
         fill_by_all (λ i. (posts i).row) rows (ports_of plan) no_row long (posted.row no_row)
@@ -105,24 +110,32 @@ module _ (scheduler : Scheduler) (plan : SwitchPlan) (t : ℕ) where
     posted-after count i card at = let inside = slice_get_within cards i card at in posted.after i card (omega arith) at
 
 -- what crosses in a slot
-crosses : (scheduler : Scheduler) (plan : SwitchPlan) (t i : ℕ) → fetched (matched_before scheduler plan t) (map (λ post. post.cell) (slot_posts (ports_of plan) (posts_under scheduler plan) t)) i ≡ crossed_under scheduler (setup_for plan) (posts_under scheduler plan) i t
-crosses scheduler plan zero i = ap (deposit_by (map (λ post. post.cell) (slot_posts (ports_of plan) (posts_under scheduler plan) 0))) (fed_of-unmatched (ports_of plan) i)
+crosses : (scheduler : Scheduler) (plan : SwitchPlan) (t i : ℕ)
+    → fetched (matched_before scheduler plan t)
+    (map (λ post. post.cell) (slot_posts (ports_of plan) (posts_under scheduler plan) t)) i ≡ crossed_under scheduler (setup_for plan)
+    (posts_under scheduler plan) i t
+crosses scheduler plan zero i =
+    ap (deposit_by (map (λ post. post.cell) (slot_posts (ports_of plan) (posts_under scheduler plan) 0))) (fed_of-unmatched (ports_of plan) i)
 crosses scheduler plan (suc t) i = refl
 
 module _ (scheduler : Scheduler) (scheduling : IsScheduler scheduler) (plan : SwitchPlan) (good : IsGood plan) (t : ℕ) where
   abbrev taken : ℕ → Taken
   taken i = taken_under scheduler (setup_for plan) (posts_under scheduler plan) i t
 
-  pub taken-is : (before matched : List (Option Fed)) (deposits : List (Option Cell)) (done : Bool) → before ≡ matched_before scheduler plan t → matched ≡ (decision_under scheduler (setup_for plan) (posts_under scheduler plan) t).matched
-      → deposits ≡ map (λ post. post.cell) (slot_posts (ports_of plan) (posts_under scheduler plan) t) → done ≡ is_done_at (ports_of plan) (posts_under scheduler plan) t
+  pub taken-is : (before matched : List (Option Fed)) (deposits : List (Option Cell)) (done : Bool) → before ≡ matched_before scheduler plan t
+      → matched ≡ (decision_under scheduler (setup_for plan) (posts_under scheduler plan) t).matched
+      → deposits ≡ map (λ post. post.cell) (slot_posts (ports_of plan) (posts_under scheduler plan) t)
+      → done ≡ is_done_at (ports_of plan) (posts_under scheduler plan) t
       → (i : ℕ) → taken_now t before matched deposits done i ≡ taken i
   taken-is before matched deposits done b m d e i =
-      let cell : fetched before deposits i ≡ crossed_under scheduler (setup_for plan) (posts_under scheduler plan) i t = ap (λ x. fetched x deposits i) b ∙ (ap (λ x. fetched (matched_before scheduler plan t) x i) d ∙ crosses scheduler plan t i) in
+      let cell : fetched before deposits i ≡ crossed_under scheduler (setup_for plan) (posts_under scheduler plan) i t = ap (λ x. fetched x deposits i) b
+      ∙ (ap (λ x. fetched (matched_before scheduler plan t) x i) d ∙ crosses scheduler plan t i) in
       let served : served_of matched i ≡ served_under scheduler (setup_for plan) (posts_under scheduler plan) i t = ap (λ x. served_of x i) m in
       λ k. record { slot = t; served = served k; cell = cell k; done = e k }
 
   -- each card may take it
-  pub may-take : (cards : List CardState) → plans_in cards ≡ plan.cards → AreAfter cards (λ j. takings_under scheduler plan j t) true → (i : ℕ) (card : CardState) → slice_get cards i ≡ Some card → MayTake card (taken i)
+  pub may-take : (cards : List CardState) → plans_in cards ≡ plan.cards → AreAfter cards (λ j. takings_under scheduler plan j t) true
+      → (i : ℕ) (card : CardState) → slice_get cards i ≡ Some card → MayTake card (taken i)
   may-take cards plans after i card at =
       let own = after i card at in
       let inside = in-ports plan cards plans i card at in
@@ -133,18 +146,23 @@ module _ (scheduler : Scheduler) (scheduling : IsScheduler scheduler) (plan : Sw
       own.sent.row
       ∙ (ap (λ p. row_at p (served_in takings) (length (served_in takings))) mine
       ∙ (ap (λ parts. row_at (card_at plan i) parts (length (served_in takings))) served
-      ∙ ap (row_at (card_at plan i) (parts_under scheduler plan i t)) (length-map takings (λ (taken : Taken). taken.served) ∙ takings-length scheduler plan t i))) in
+      ∙ ap (row_at (card_at plan i) (parts_under scheduler plan i t))
+      (length-map takings (λ (taken : Taken). taken.served) ∙ takings-length scheduler plan t i))) in
       let received : HasReceived (card_at plan i) card.receives (cells_under scheduler plan i t) =
-      subst (λ cells. HasReceived (card_at plan i) card.receives cells) (cells_crossed scheduler plan i t) (subst (λ p. HasReceived p card.receives (cells_taken takings)) mine own.received) in
+      subst (λ cells. HasReceived (card_at plan i) card.receives cells) (cells_crossed scheduler plan i t)
+      (subst (λ p. HasReceived p card.receives (cells_taken takings)) mine own.received) in
       record {
         posted = own.sent.phase;
         slot = sym (slot-is scheduler plan t card i true own);
-        served = subst (λ r. IsServable r (served_under scheduler (setup_for plan) (posts_under scheduler plan) i t)) (sym row) (requested scheduler scheduling plan good i t inside);
+        served = subst (λ r. IsServable r (served_under scheduler (setup_for plan) (posts_under scheduler plan) i t)) (sym row)
+            (requested scheduler scheduling plan good i t inside);
         cell = cell_fits scheduler scheduling plan good i t card.receives inside received;
       }
 
 -- the slots that are noted, with one more
-pub noted-more : (scheduler : Scheduler) (plan : SwitchPlan) (t : ℕ) (rows : List Row) (matched : List (Option Fed)) → rows ≡ slot_rows (ports_of plan) (posts_under scheduler plan) t → matched ≡ (decision_under scheduler (setup_for plan) (posts_under scheduler plan) t).matched
+pub noted-more : (scheduler : Scheduler) (plan : SwitchPlan) (t : ℕ) (rows : List Row) (matched : List (Option Fed))
+    → rows ≡ slot_rows (ports_of plan) (posts_under scheduler plan) t
+    → matched ≡ (decision_under scheduler (setup_for plan) (posts_under scheduler plan) t).matched
     → map noted_of (schedule_under scheduler plan t) ++ record { rows = rows; matched = matched } ∷ [] ≡ map noted_of (schedule_under scheduler plan (t + 1))
 noted-more scheduler plan t rows matched r m =
     let slot = decided_under scheduler (setup_for plan) (posts_under scheduler plan) in

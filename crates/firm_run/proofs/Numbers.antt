@@ -32,7 +32,8 @@ use Rattle.firm_run.specs.Standing.{IsBefore}
 use Rattle.firm_run.proofs.SecondScheduler.{IsSchedulerBy-firm_decision, IsScheduler-firm_decision}
 use Rattle.firm_run.proofs.NextSlot.{count-cards, plan-of}
 
-module _ (terms : Terms) (cards : List CardPlan) (good : IsGood (plan_with terms cards)) (slots : ℕ) (switch : Switch) (is : IsBefore firm_decision (plan_with terms cards) slots switch) (within : slots ≤ terms.max_slots) where
+module _ (terms : Terms) (cards : List CardPlan) (good : IsGood (plan_with terms cards)) (slots : ℕ) (switch : Switch)
+    (is : IsBefore firm_decision (plan_with terms cards) slots switch) (within : slots ≤ terms.max_slots) where
   abbrev plan : SwitchPlan
   plan = plan_with terms cards
 
@@ -58,14 +59,17 @@ module _ (terms : Terms) (cards : List CardPlan) (good : IsGood (plan_with terms
     pub sums : HaveSums outputs
     sums = sums-fit firm_decision terms cards good slots few outputs ports_left output_is
 
-    module _ (longest : List ℕ) (tells : (noted : List NotedSlot) → HasNoted switch.meter noted → longest ≡ map (λ level. longest_wait switch.meter.ports level noted) (range_with_len 0 LEVELS)) where
+    module _ (longest : List ℕ) (tells : (noted : List NotedSlot) → HasNoted switch.meter noted
+        → longest ≡ map (λ level. longest_wait switch.meter.ports level noted) (range_with_len 0 LEVELS)) where
       pub longest-is : longest ≡ map (longest_under firm_decision plan slots) (range_with_len 0 LEVELS)
       longest-is =
           tells (map noted_of (schedule_under firm_decision plan slots)) is.noted
           ∙ ap (λ n. map (λ level. longest_wait n level (map noted_of (schedule_under firm_decision plan slots))) (range_with_len 0 LEVELS)) is.meter_ports
 
-      pub numbers-are : (ports : ℕ) → ports ≡ length cards → terms.packets ≡ sum_by length (packets_in plan) → summary_with terms ports terms.rounds slots outputs longest ≡ summary_under firm_decision plan slots
-      numbers-are ports same packets = summary-is firm_decision terms cards good slots few outputs ports_left output_is ports terms.rounds slots longest same (λ i. terms.rounds) (λ i. slots) longest-is packets
+      pub numbers-are : (ports : ℕ) → ports ≡ length cards → terms.packets ≡ sum_by length (packets_in plan)
+          → summary_with terms ports terms.rounds slots outputs longest ≡ summary_under firm_decision plan slots
+      numbers-are ports same packets = summary-is firm_decision terms cards good slots few outputs ports_left output_is ports terms.rounds slots longest same
+          (λ i. terms.rounds) (λ i. slots) longest-is packets
 
       -- the longest wait of the best level
       pub short : (level : ℕ) → IsBestUnder firm_decision plan slots level → slice_index longest level < ports_of plan * ports_of plan
@@ -73,7 +77,9 @@ module _ (terms : Terms) (cards : List CardPlan) (good : IsGood (plan_with terms
           let n = ports_of plan in
           let below = best.level_in in
           let bound = firm_longest_wait n plan.rounds 0 level (places_at_first n) (schedule_under firm_decision plan slots) good.size.some good.rounds.some
-          (best-window firm_decision IsScheduler-firm_decision plan good slots level best AreMovedByFirm IsSchedulerBy-firm_decision) (best-alone firm_decision IsScheduler-firm_decision plan good slots level best) in
+          (best-window firm_decision IsScheduler-firm_decision plan good slots level best AreMovedByFirm IsSchedulerBy-firm_decision)
+          (best-alone firm_decision IsScheduler-firm_decision plan good slots level best) in
           let at : slice_index longest level ≡ longest_under firm_decision plan slots level =
-          ap (λ xs. slice_index xs level) longest-is ∙ get_or-map-range_with_len (longest_under firm_decision plan slots) 0 LEVELS level level 0 below (omega arith) in
+          ap (λ xs. slice_index xs level) longest-is
+          ∙ get_or-map-range_with_len (longest_under firm_decision plan slots) 0 LEVELS level level 0 below (omega arith) in
           subst (λ k. k < n * n) (sym at) bound

@@ -1,5 +1,6 @@
 -- What a loop over the cards has done up to a place, with one place more.
-use Rattle.std.proofs.Common.{◌≡◌, ◌∙◌, ℕ, zero, suc, ◌+◌, ◌<◌, ◌&&◌, not, Bool, true, false, List, [], ◌∷◌, map, length, get_or, set, Option, Some, refl, sym, ap, subst, arith, inl, inr}
+use Rattle.std.proofs.Common.{◌≡◌, ◌∙◌, ℕ, zero, suc, ◌+◌, ◌<◌, ◌&&◌, not, Bool, true, false, List, [], ◌∷◌, map, length, get_or, set, Option, Some}
+use Rattle.std.proofs.Common.{refl, sym, ap, subst, arith, inl, inr}
 use Rattle.std.specs.Prelude.{slice_get}
 use Rattle.std.specs.List.{range_with_len, list_all}
 use Rattle.std.proofs.lemmas.Bool.{cases_lt}
@@ -22,7 +23,8 @@ map-set f (x ∷ xs) zero y d same = ap (λ z. z ∷ map f xs) same
 map-set f (x ∷ xs) (suc i) y d same = ap (λ zs. f x ∷ zs) (map-set f xs i y d same)
 
 -- what holds of each element up to a place
-pub each-more : {X : Type 0} (P : ℕ → X → Type 0) (k : ℕ) (xs : List X) (y : X) → k < length xs → ((i : ℕ) (x : X) → i < k → slice_get xs i ≡ Some x → P i x) → P k y → (i : ℕ) (x : X) → i < k + 1 → slice_get (set xs k y) i ≡ Some x → P i x
+pub each-more : {X : Type 0} (P : ℕ → X → Type 0) (k : ℕ) (xs : List X) (y : X) → k < length xs → ((i : ℕ) (x : X) → i < k → slice_get xs i ≡ Some x → P i x)
+    → P k y → (i : ℕ) (x : X) → i < k + 1 → slice_get (set xs k y) i ≡ Some x → P i x
 each-more P k xs y inside each here i x below at =
     elim (cases_lt i k) [
       | inl less ↦ each i x less (sym (get-set_other xs k i y (λ e. absurd (omega arith))) ∙ at)
@@ -47,8 +49,10 @@ all-more p k =
     ∙ ap (λ b. b && p k) (list_all-map (λ (b : Bool). b) p (range_with_len 0 k)))))
 
 -- one card more has posted
-pub ArePosted-more : (k : ℕ) (cards : List CardState) (takings : ℕ → List Taken) (posts : ℕ → Post) (rows : List Row) (deposits : List (Option Cell)) (done after : Bool) (card : CardState) (post : Post)
-    → ArePosted k cards takings posts rows deposits done → k < length cards → k < length rows → k < length deposits → IsAfter card (takings k) true → post ≡ posts k → after ≡ (done && not post.more)
+pub ArePosted-more : (k : ℕ) (cards : List CardState) (takings : ℕ → List Taken) (posts : ℕ → Post) (rows : List Row) (deposits : List (Option Cell))
+    (done after : Bool) (card : CardState) (post : Post)
+    → ArePosted k cards takings posts rows deposits done → k < length cards → k < length rows → k < length deposits → IsAfter card (takings k) true
+    → post ≡ posts k → after ≡ (done && not post.more)
     → ArePosted (k + 1) (set cards k card) takings posts (set rows k post.row) (set deposits k post.cell) after
 ArePosted-more k cards takings posts rows deposits done after card post so_far in_cards in_rows in_deposits own is end =
     let put_row = λ (p : Post). set rows k p.row in
@@ -57,10 +61,12 @@ ArePosted-more k cards takings posts rows deposits done after card post so_far i
       after = each-more (λ i (c : CardState). IsAfter c (takings i) true) k cards card in_cards so_far.after own;
       row = λ d i below. ap (λ p. get_or (put_row p) i d) is ∙ fill_by_more (λ j. (posts j).row) rows k d in_rows (so_far.row d) i below;
       deposit = λ d i below. ap (λ p. get_or (put_cell p) i d) is ∙ fill_by_more (λ j. (posts j).cell) deposits k d in_deposits (so_far.deposit d) i below;
-      end = end ∙ (ap (λ b. b && not post.more) so_far.end ∙ (ap (λ (p : Post). list_all (λ i. not (posts i).more) (range_with_len 0 k) && not p.more) is ∙ sym (all-more (λ i. not (posts i).more) k)));
+      end = end ∙ (ap (λ b. b && not post.more) so_far.end
+          ∙ (ap (λ (p : Post). list_all (λ i. not (posts i).more) (range_with_len 0 k) && not p.more) is ∙ sym (all-more (λ i. not (posts i).more) k)));
     }
 
-pub ArePosted-none : (cards : List CardState) (takings : ℕ → List Taken) (posts : ℕ → Post) (rows : List Row) (deposits : List (Option Cell)) → ArePosted 0 cards takings posts rows deposits true
+pub ArePosted-none : (cards : List CardState) (takings : ℕ → List Taken) (posts : ℕ → Post) (rows : List Row) (deposits : List (Option Cell))
+    → ArePosted 0 cards takings posts rows deposits true
 ArePosted-none cards takings posts rows deposits = record {
   after = λ i card below at. absurd (omega arith);
   row = λ d i below. absurd (omega arith);

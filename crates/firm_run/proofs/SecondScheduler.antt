@@ -11,5 +11,6 @@ IsSchedulerBy-firm_decision n rounds t rows places within at_ports ports = IsFir
 
 pub IsScheduler-firm_decision : IsScheduler firm_decision
 IsScheduler-firm_decision n rounds t rows places within at_ports ports =
-    IsSlotBy-moved StayAtPorts n rounds t rows places (firm_decision n rounds t rows places) (IsFirmSlot-firm_decision n t rows places within at_ports ports rounds)
+    IsSlotBy-moved StayAtPorts n rounds t rows places (firm_decision n rounds t rows places)
+    (IsFirmSlot-firm_decision n t rows places within at_ports ports rounds)
     (λ first_match moved. (AreAtPorts-firm_decision n t rows places within at_ports ports rounds, moved.held.ports ∙ moved.as_first.ports))

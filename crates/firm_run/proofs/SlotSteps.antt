@@ -1,5 +1,6 @@
 -- The steps of a slot: what is gathered of the posts, what is decided of it, and what the cards take.
-use Rattle.std.proofs.Common.{◌≡◌, ◌∙◌, ℕ, zero, suc, ◌+◌, ◌<◌, Bool, true, false, List, [], ◌∷◌, ◌++◌, map, take, drop, length, Option, Some, sym, ap, subst, arith}
+use Rattle.std.proofs.Common.{◌≡◌, ◌∙◌, ℕ, zero, suc, ◌+◌, ◌<◌, Bool, true, false, List, [], ◌∷◌, ◌++◌, map, take, drop, length, Option, Some, sym, ap}
+use Rattle.std.proofs.Common.{subst, arith}
 use Rattle.std.specs.Prelude.{slice_get}
 use Rattle.slot_match.specs.declared.rows.Row.{Row}
 use Rattle.slot_match.specs.declared.matching.Fed.{Fed}
@@ -31,26 +32,30 @@ use Rattle.firm_run.proofs.NextSlot.{count-cards, posts-are, may-post, noted-mor
 use Rattle.firm_run.proofs.MadeSlots.{rows-of-slot, rows-within, end-of-slot, all-after, decision-is, all-may, after-more}
 
 -- what the posts of a slot make of the cards, the rows and the crossbar of the switch, which were given as these lists
-pub record AreGathered (switch : Switch) (given : List CardState) (lent : List Row) (cards : List CardState) (rows : List Row) (crossbar : List (Option Cell)) (done : Bool) : Type 0 where
+pub record AreGathered (switch : Switch) (given : List CardState) (lent : List Row) (cards : List CardState) (rows : List Row) (crossbar : List (Option Cell))
+    (done : Bool) : Type 0 where
   pub same : given ≡ switch.cards.items
   pub same_rows : lent ≡ switch.rows.items
   pub plans : plans_in cards ≡ plans_in given
   pub count : length cards ≡ length given
   pub deposits : length crossbar ≡ length given
   pub long : length rows ≡ length lent
-  pub posts : (takings : ℕ → List Taken) (posts : ℕ → Post) → AreAfter given takings false → ArePosts given takings posts → ArePosted (length given) cards takings posts rows crossbar done
+  pub posts : (takings : ℕ → List Taken) (posts : ℕ → Post) → AreAfter given takings false → ArePosts given takings posts
+      → ArePosted (length given) cards takings posts rows crossbar done
 
 module _ (plan : SwitchPlan) (good : IsGood plan) (t : ℕ) (switch : Switch) (is : IsBefore firm_decision plan t switch) where
   size : length switch.cards.items ≡ ports_of plan
   size = count-cards plan switch.cards.items is.plans
 
-  pub free : (given : List CardState) → given ≡ switch.cards.items → t < plan.max_slots → is_done_before (ports_of plan) (posts_under firm_decision plan) t ≡ false → MayPostAll given
+  pub free : (given : List CardState) → given ≡ switch.cards.items → t < plan.max_slots
+      → is_done_before (ports_of plan) (posts_under firm_decision plan) t ≡ false → MayPostAll given
   free given same below going = subst MayPostAll (sym same) (may-post firm_decision plan t switch.cards.items good below going is.cards)
 
   pub ports-are : switch.pointers.ports ≡ ports_of plan
   ports-are =
       ap (λ (p : Places). p.ports) is.pointers
-      ∙ (places_under-at_ports firm_decision IsScheduler-firm_decision (setup_for plan) (posts_under firm_decision plan) t good.size.some good.size.most (λ u below. within firm_decision IsScheduler-firm_decision plan good u) t (omega arith)).1
+      ∙ (places_under-at_ports firm_decision IsScheduler-firm_decision (setup_for plan) (posts_under firm_decision plan) t good.size.some good.size.most
+      (λ u below. within firm_decision IsScheduler-firm_decision plan good u) t (omega arith)).1
 
   before_long : (u : ℕ) → length (matched_before firm_decision plan u) ≡ ports_of plan
   before_long zero = (IsMatch-unmatched (ports_of plan)).count
@@ -62,7 +67,8 @@ module _ (plan : SwitchPlan) (good : IsGood plan) (t : ℕ) (switch : Switch) (i
   pub few-noted : t < plan.max_slots → switch.meter.count < 1048576
   few-noted below = let few = slots_few plan good in let count = is.meter_count in omega arith
 
-  module _ (given : List CardState) (lent : List Row) (cards : List CardState) (rows : List Row) (crossbar : List (Option Cell)) (done : Bool) (g : AreGathered switch given lent cards rows crossbar done) where
+  module _ (given : List CardState) (lent : List Row) (cards : List CardState) (rows : List Row) (crossbar : List (Option Cell)) (done : Bool)
+      (g : AreGathered switch given lent cards rows crossbar done) where
     plans_are : plans_in cards ≡ plan.cards
     plans_are = g.plans ∙ (ap plans_in g.same ∙ is.plans)
 
@@ -73,7 +79,8 @@ module _ (plan : SwitchPlan) (good : IsGood plan) (t : ℕ) (switch : Switch) (i
     posted =
         g.posts (λ i. takings_under firm_decision plan i t) (λ i. posts_under firm_decision plan i t)
         (subst (λ xs. AreAfter xs (λ i. takings_under firm_decision plan i t) false) (sym g.same) is.cards)
-        (subst (λ xs. ArePosts xs (λ i. takings_under firm_decision plan i t) (λ i. posts_under firm_decision plan i t)) (sym g.same) (posts-are firm_decision plan t switch.cards.items is.plans))
+        (subst (λ xs. ArePosts xs (λ i. takings_under firm_decision plan i t) (λ i. posts_under firm_decision plan i t)) (sym g.same)
+        (posts-are firm_decision plan t switch.cards.items is.plans))
 
     rows_long : length rows ≡ ports_of plan
     rows_long = g.long ∙ (ap length g.same_rows ∙ is.rows)
@@ -90,20 +97,28 @@ module _ (plan : SwitchPlan) (good : IsGood plan) (t : ℕ) (switch : Switch) (i
     pub count-posted : length cards ≡ ports_of plan
     count-posted = g.count ∙ size_given
 
-    pub within-given : (n : ℕ) (again : List Row) → n ≡ ports_of plan → again ≡ take switch.rows.len (rows ++ drop (length rows) switch.rows.items) → AreWithin n again
+    pub within-given : (n : ℕ) (again : List Row) → n ≡ ports_of plan → again ≡ take switch.rows.len (rows ++ drop (length rows) switch.rows.items)
+        → AreWithin n again
     within-given n again ports as_written =
         subst (λ k. AreWithin k again) (sym ports)
-        (subst (AreWithin (ports_of plan)) (sym (as_written ∙ rows-back)) (rows-within firm_decision IsScheduler-firm_decision plan good t cards rows crossbar done plans_are (length given) size_given posted rows_long cells_long))
+        (subst (AreWithin (ports_of plan)) (sym (as_written ∙ rows-back))
+        (rows-within firm_decision IsScheduler-firm_decision plan good t cards rows crossbar done plans_are
+        (length given) size_given posted rows_long cells_long))
 
     pub end-is-done : done ≡ is_done_at (ports_of plan) (posts_under firm_decision plan) t
-    end-is-done = end-of-slot firm_decision IsScheduler-firm_decision plan good t cards rows crossbar done plans_are (length given) size_given posted rows_long cells_long
+    end-is-done = end-of-slot firm_decision IsScheduler-firm_decision plan good t cards rows crossbar done plans_are
+        (length given) size_given posted rows_long cells_long
 
     -- what is decided of the rows
-    module _ (ports : ℕ) (n : ports ≡ ports_of plan) (again : List Row) (as_written : again ≡ take switch.rows.len (rows ++ drop (length rows) switch.rows.items)) (numbers : RoundsUsed) (matched : List (Option Fed)) (places : Places)
+    module _ (ports : ℕ) (n : ports ≡ ports_of plan) (again : List Row)
+        (as_written : again ≡ take switch.rows.len (rows ++ drop (length rows) switch.rows.items)) (numbers : RoundsUsed) (matched : List (Option Fed))
+        (places : Places)
         (decided : record { matched = matched; numbers = numbers; places = places } ≡ firm_decision ports switch.rounds t again switch.pointers) where
-      decision : record { matched = matched; numbers = numbers; places = places } ≡ decision_under firm_decision (setup_for plan) (posts_under firm_decision plan) t
+      decision : record { matched = matched; numbers = numbers; places = places } ≡ decision_under firm_decision (setup_for plan)
+          (posts_under firm_decision plan) t
       decision =
-          decision-is firm_decision IsScheduler-firm_decision plan good t cards rows crossbar done plans_are (length given) size_given posted rows_long cells_long
+          decision-is firm_decision IsScheduler-firm_decision plan good t cards rows crossbar done plans_are
+          (length given) size_given posted rows_long cells_long
           (record { matched = matched; numbers = numbers; places = places }) ports switch.rounds switch.pointers n is.rounds is.pointers
           (decided ∙ ap (λ rs. firm_decision ports switch.rounds t rs switch.pointers) (as_written ∙ rows-back))
 
@@ -111,26 +126,38 @@ module _ (plan : SwitchPlan) (good : IsGood plan) (t : ℕ) (switch : Switch) (i
       match_is = ap (λ (d : Decision). d.matched) decision
 
       module _ (before : List (Option Fed)) (old : before ≡ switch.matched) where
-        pub may : (lent_cards : List CardState) → lent_cards ≡ take switch.cards.len (cards ++ drop (length cards) switch.cards.items) → (i : ℕ) (card : CardState) → slice_get lent_cards i ≡ Some card → MayTake card (taken_now t before matched crossbar done i)
+        pub may : (lent_cards : List CardState) → lent_cards ≡ take switch.cards.len (cards ++ drop (length cards) switch.cards.items)
+            → (i : ℕ) (card : CardState) → slice_get lent_cards i ≡ Some card → MayTake card (taken_now t before matched crossbar done i)
         may lent_cards back i card at =
-            all-may firm_decision IsScheduler-firm_decision plan good t cards rows crossbar done plans_are (length given) size_given posted rows_long cells_long before matched (old ∙ is.matched) match_is i card
+            all-may firm_decision IsScheduler-firm_decision plan good t cards rows crossbar done plans_are
+            (length given) size_given posted rows_long cells_long before matched (old ∙ is.matched) match_is i card
             (ap (λ xs. slice_get xs i) (sym (back ∙ cards-back)) ∙ at)
 
         -- before the next slot
-        pub next : (lent_cards taken : List CardState) (meter : Meter) (after : Switch) → lent_cards ≡ take switch.cards.len (cards ++ drop (length cards) switch.cards.items) → plans_in taken ≡ plans_in lent_cards
-            → ((takings : ℕ → List Taken) → AreAfter lent_cards takings true → AreAfter taken (λ i. takings i ++ taken_now t before matched crossbar done i ∷ []) false)
+        pub next : (lent_cards taken : List CardState) (meter : Meter) (after : Switch)
+            → lent_cards ≡ take switch.cards.len (cards ++ drop (length cards) switch.cards.items) → plans_in taken ≡ plans_in lent_cards
+            → ((takings : ℕ → List Taken) → AreAfter lent_cards takings true
+            → AreAfter taken (λ i. takings i ++ taken_now t before matched crossbar done i ∷ []) false)
             → (noted_rows : List Row) → noted_rows ≡ take switch.rows.len (rows ++ drop (length rows) switch.rows.items)
-            → ((slots : List NotedSlot) → HasNoted switch.meter slots → HasNoted meter (slots ++ record { rows = noted_rows; matched = matched } ∷ [])) → meter.ports ≡ switch.meter.ports → meter.count ≡ switch.meter.count + 1
-            → after.rounds ≡ switch.rounds → after.cards.items ≡ taken → after.rows.items ≡ rows → after.crossbar ≡ crossbar → after.pointers ≡ places → after.matched ≡ matched → after.meter ≡ meter
+            → ((slots : List NotedSlot) → HasNoted switch.meter slots → HasNoted meter (slots ++ record { rows = noted_rows; matched = matched } ∷ []))
+            → meter.ports ≡ switch.meter.ports → meter.count ≡ switch.meter.count + 1
+            → after.rounds ≡ switch.rounds → after.cards.items ≡ taken → after.rows.items ≡ rows → after.crossbar ≡ crossbar → after.pointers ≡ places
+            → after.matched ≡ matched → after.meter ≡ meter
             → IsBefore firm_decision plan (t + 1) after
-        next lent_cards taken meter after back plans took noted_rows noted_are note ports_same count_same rounds_is cards_is rows_is crossbar_is pointers_is matched_is meter_is =
+        next lent_cards taken meter after back plans took noted_rows noted_are note ports_same count_same rounds_is cards_is rows_is crossbar_is pointers_is
+            matched_is meter_is =
             let one : suc t ≡ t + 1 = omega arith in
             let whole : lent_cards ≡ cards = back ∙ cards-back in
-            let mine : AreAfter cards (λ i. takings_under firm_decision plan i t) true = all-after firm_decision IsScheduler-firm_decision plan good t cards rows crossbar done plans_are (length given) size_given posted rows_long cells_long in
-            let own = took (λ i. takings_under firm_decision plan i t) (subst (λ xs. AreAfter xs (λ i. takings_under firm_decision plan i t) true) (sym whole) mine) in
+            let mine : AreAfter cards (λ i. takings_under firm_decision plan i t) true =
+            all-after firm_decision IsScheduler-firm_decision plan good t cards rows crossbar done plans_are
+            (length given) size_given posted rows_long cells_long in
+            let own = took (λ i. takings_under firm_decision plan i t)
+            (subst (λ xs. AreAfter xs (λ i. takings_under firm_decision plan i t) true) (sym whole) mine) in
             let taken_after : AreAfter taken (λ i. takings_under firm_decision plan i (t + 1)) false =
-            after-more firm_decision IsScheduler-firm_decision plan good t cards rows crossbar done plans_are (length given) size_given posted rows_long cells_long before matched (old ∙ is.matched) match_is taken own in
-            let rows_are = rows-of-slot firm_decision IsScheduler-firm_decision plan good t cards rows crossbar done plans_are (length given) size_given posted rows_long cells_long in
+            after-more firm_decision IsScheduler-firm_decision plan good t cards rows crossbar done plans_are
+            (length given) size_given posted rows_long cells_long before matched (old ∙ is.matched) match_is taken own in
+            let rows_are = rows-of-slot firm_decision IsScheduler-firm_decision plan good t cards rows crossbar done plans_are
+            (length given) size_given posted rows_long cells_long in
             let noted = note (map noted_of (schedule_under firm_decision plan t)) is.noted in
             record {
               rounds = rounds_is ∙ is.rounds;
@@ -138,9 +165,11 @@ module _ (plan : SwitchPlan) (good : IsGood plan) (t : ℕ) (switch : Switch) (i
               cards = subst (λ xs. AreAfter xs (λ i. takings_under firm_decision plan i (t + 1)) false) (sym cards_is) taken_after;
               rows = ap length rows_is ∙ rows_long;
               crossbar = ap length crossbar_is ∙ cells_long;
-              pointers = pointers_is ∙ (ap (λ (d : Decision). d.places) decision ∙ ap (places_under firm_decision (setup_for plan) (posts_under firm_decision plan)) one);
+              pointers = pointers_is ∙ (ap (λ (d : Decision). d.places) decision
+                  ∙ ap (places_under firm_decision (setup_for plan) (posts_under firm_decision plan)) one);
               matched = matched_is ∙ (match_is ∙ ap (matched_before firm_decision plan) one);
               meter_ports = ap (λ (m : Meter). m.ports) meter_is ∙ (ports_same ∙ is.meter_ports);
               meter_count = ap (λ (m : Meter). m.count) meter_is ∙ (count_same ∙ ap (λ k. k + 1) is.meter_count);
-              noted = subst (λ (m : Meter). HasNoted m (map noted_of (schedule_under firm_decision plan (t + 1)))) (sym meter_is) (subst (HasNoted meter) (noted-more firm_decision plan t noted_rows matched (noted_are ∙ (rows-back ∙ rows_are)) match_is) noted);
+              noted = subst (λ (m : Meter). HasNoted m (map noted_of (schedule_under firm_decision plan (t + 1)))) (sym meter_is)
+                  (subst (HasNoted meter) (noted-more firm_decision plan t noted_rows matched (noted_are ∙ (rows-back ∙ rows_are)) match_is) noted);
             }

@@ -25,15 +25,18 @@ plans_in cards = map (λ card. card.sends.plan) cards
 
 -- each card may post
 abbrev pub MayPostAll : List CardState → Type 0
-MayPostAll cards = (i : ℕ) (card : CardState) → slice_get cards i ≡ Some card → (card.sends.posted ≡ false) × (card.done ≡ false) × (card.sends.slot < MAX_SLOTS)
+MayPostAll cards = (i : ℕ) (card : CardState) → slice_get cards i ≡ Some card → (card.sends.posted ≡ false) × (card.done ≡ false)
+    × (card.sends.slot < MAX_SLOTS)
 
 -- after these takings the cards' posts are these
 abbrev pub ArePosts : List CardState → (ℕ → List Taken) → (ℕ → Post) → Type 0
-ArePosts cards takings posts = (i : ℕ) (card : CardState) → slice_get cards i ≡ Some card → posts i ≡ post_at card.sends.plan (served_in (takings i)) (length (takings i))
+ArePosts cards takings posts = (i : ℕ) (card : CardState) → slice_get cards i ≡ Some card
+    → posts i ≡ post_at card.sends.plan (served_in (takings i)) (length (takings i))
 
 -- Of the first k ports these are the posts: each card has posted, the rows and the deposits are those of the posts,
 -- and `done` tells whether none of them has more to come.
-pub record ArePosted (k : ℕ) (cards : List CardState) (takings : ℕ → List Taken) (posts : ℕ → Post) (rows : List Row) (deposits : List (Option Cell)) (done : Bool) : Type 0 where
+pub record ArePosted (k : ℕ) (cards : List CardState) (takings : ℕ → List Taken) (posts : ℕ → Post) (rows : List Row) (deposits : List (Option Cell))
+    (done : Bool) : Type 0 where
   pub after : (i : ℕ) (card : CardState) → i < k → slice_get cards i ≡ Some card → IsAfter card (takings i) true
   pub row : (d : Row) (i : ℕ) → i < k → slice_index_or rows i d ≡ (posts i).row
   pub deposit : (d : Option Cell) (i : ℕ) → i < k → slice_index_or deposits i d ≡ (posts i).cell

@@ -6,7 +6,8 @@ use Rattle.switch_plan.specs.GoodPlans.{SwitchPlan}
 use Rattle.whole_run.specs.Runs.{ports_of}
 use Rattle.whole_run.specs.Ends.{IsLengthUnder}
 use Rattle.whole_run.specs.Sums.{IsBestUnder}
-use Rattle.whole_run.specs.Promises.{ArrivalsComeFirst, BusySlotsMatchUnder, CompletesUnder, DeliversUnder, DeliversNoOthersUnder, HasFewSlotsUnder, ServesUnder, WaitsUnder}
+use Rattle.whole_run.specs.Promises.{ArrivalsComeFirst, BusySlotsMatchUnder, CompletesUnder, DeliversUnder, DeliversNoOthersUnder, HasFewSlotsUnder}
+use Rattle.whole_run.specs.Promises.{ServesUnder, WaitsUnder}
 use Rattle.switch_jobs.specs.Outcomes.{summary_under, CountsPacketsOnce}
 
 -- these are the numbers of the plan's run, to its end
@@ -17,7 +18,8 @@ pub record IsFirmRun (plan : SwitchPlan) (summary : Summary) : Type 0 where
 
 -- Where none of the best level of all admitted packets is multicast, its longest wait is below N * N slots.
 abbrev pub HasShortWaits : SwitchPlan → Summary → Type 0
-HasShortWaits plan summary = (level : ℕ) → IsBestUnder firm_decision plan summary.slots level → slice_index summary.longest level < ports_of plan * ports_of plan
+HasShortWaits plan summary = (level : ℕ) → IsBestUnder firm_decision plan summary.slots level
+    → slice_index summary.longest level < ports_of plan * ports_of plan
 
 -- What is promised of a plan's run under the second scheduler that has so many slots: what it delivers, that all packets
 -- arrive before its end and are counted once, within how many slots a unicast queue is served and a multicast head

@@ -17,7 +17,8 @@ pub(crate) fn post_all(cards: &mut [Card], rows: &mut [Row], crossbar: &mut Cros
     requires crossbar { length crossbar.old ≡ length cards.old }
     ensures plans { plans_in cards.new ≡ plans_in cards.old }
     ensures deposits { length crossbar.new ≡ length cards.old }
-    ensures posts { (takings : ℕ → List Taken) (posts : ℕ → Post) → AreAfter cards.old takings false → ArePosts cards.old takings posts → ArePosted (length cards.old) cards.new takings posts rows.new crossbar.new result }
+    ensures posts { (takings : ℕ → List Taken) (posts : ℕ → Post) → AreAfter cards.old takings false → ArePosts cards.old takings posts
+        → ArePosted (length cards.old) cards.new takings posts rows.new crossbar.new result }
 {
     let mut done = true;
     for place in 0..cards.len() {

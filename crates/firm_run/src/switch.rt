@@ -53,7 +53,8 @@ impl Switch {
         requires some { 0 < length plans.items }
         requires few { length plans.items ≤ MAX_PORTS }
         requires good { (port : ℕ) (plan : CardPlan) → slice_get plans.items port ≡ Some plan → IsGoodPlan (plan_of plan) }
-        ensures { IfOk result (λ switch. (plan : SwitchPlan) → plan.rounds ≡ rounds → plan.cards ≡ map plan_of plans.items → IsBefore firm_decision plan 0 switch) }
+        ensures { IfOk result (λ switch. (plan : SwitchPlan) → plan.rounds ≡ rounds → plan.cards ≡ map plan_of plans.items
+            → IsBefore firm_decision plan 0 switch) }
     {
         let ports = plans.len() as u32;
         let cards = cards_of(alloc, plans)?;
@@ -72,7 +73,8 @@ impl Switch {
     /// Makes the run to its end, and answers how many slots it has.
     pub(crate) fn run(&mut self, max_slots: u32) -> u32
         requires { (plan : SwitchPlan) × IsGood plan × (max_slots ≡ plan.max_slots) × IsBefore firm_decision plan 0 self.old }
-        ensures { (plan : SwitchPlan) → IsGood plan → max_slots ≡ plan.max_slots → IsBefore firm_decision plan 0 self.old → IsLengthUnder firm_decision plan result × IsBefore firm_decision plan result self.new × (result ≤ max_slots) }
+        ensures { (plan : SwitchPlan) → IsGood plan → max_slots ≡ plan.max_slots → IsBefore firm_decision plan 0 self.old
+            → IsLengthUnder firm_decision plan result × IsBefore firm_decision plan result self.new × (result ≤ max_slots) }
     {
         ends::runs_end();
         for slot in 0..max_slots {
@@ -85,8 +87,10 @@ impl Switch {
 
     // Makes the slot. Whether it is the last.
     fn make_slot(&mut self, slot: u32) -> bool
-        requires { (plan : SwitchPlan) × IsGood plan × (slot < plan.max_slots) × (is_done_before (ports_of plan) (posts_under firm_decision plan) slot ≡ false) × IsBefore firm_decision plan slot self.old }
-        ensures { (plan : SwitchPlan) → IsGood plan → slot < plan.max_slots → IsBefore firm_decision plan slot self.old → IsBefore firm_decision plan (slot + 1) self.new × (result ≡ is_done_at (ports_of plan) (posts_under firm_decision plan) slot) }
+        requires { (plan : SwitchPlan) × IsGood plan × (slot < plan.max_slots)
+            × (is_done_before (ports_of plan) (posts_under firm_decision plan) slot ≡ false) × IsBefore firm_decision plan slot self.old }
+        ensures { (plan : SwitchPlan) → IsGood plan → slot < plan.max_slots → IsBefore firm_decision plan slot self.old
+            → IsBefore firm_decision plan (slot + 1) self.new × (result ≡ is_done_at (ports_of plan) (posts_under firm_decision plan) slot) }
     {
         let ports = self.pointers.ports();
         let done = post_all(&mut self.cards, &mut self.rows, &mut self.crossbar);

@@ -24,7 +24,8 @@ pub(crate) fn take_all(
     requires matched { length matched.now ≡ length cards.old }
     requires may { (i : ℕ) (card : CardState) → slice_get cards.old i ≡ Some card → MayTake card (taken_now slot before.now matched.now crossbar.now done i) }
     ensures plans { plans_in cards.new ≡ plans_in cards.old }
-    ensures after { (takings : ℕ → List ATaken) → AreAfter cards.old takings true → AreAfter cards.new (λ i. takings i ++ taken_now slot before.now matched.now crossbar.now done i ∷ []) false }
+    ensures after { (takings : ℕ → List ATaken) → AreAfter cards.old takings true
+        → AreAfter cards.new (λ i. takings i ++ taken_now slot before.now matched.now crossbar.now done i ∷ []) false }
 {
     for place in 0..cards.len() {
         let port = place as u32;

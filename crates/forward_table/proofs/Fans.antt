@@ -1,5 +1,6 @@
 -- The fan-out of a list of ports, taken one port after another, is the set of them.
-use Rattle.std.proofs.Common.{◌≡◌, ℕ, zero, suc, ◌<◌, ◌^◌, ◌↔◌, ◌⊎◌, List, [], ◌∷◌, length, Bool, true, false, cond, Some, Ok, Err, slice_index_or, refl, sym, ap, ◌∙◌, inl, inr, arith}
+use Rattle.std.proofs.Common.{◌≡◌, ℕ, zero, suc, ◌<◌, ◌^◌, ◌↔◌, ◌⊎◌, List, [], ◌∷◌, length, Bool, true, false, cond, Some, Ok, Err, slice_index_or}
+use Rattle.std.proofs.Common.{refl, sym, ap, ◌∙◌, inl, inr, arith}
 use Rattle.std.specs.Prelude.{bit_or, nat_lt, nat_le, fold, find, Contains}
 use Rattle.std.specs.Int.{bit_at}
 use Rattle.std.proofs.lemmas.Bool.{cases_eq, ltb-true, ltb-false, leb-true, leb-false}
@@ -11,7 +12,8 @@ use Rattle.forward_table.specs.Steps.{with_port}
 
 bit_or_assoc : (a b c : ℕ) → bit_or (bit_or a b) c ≡ bit_or a (bit_or b c)
 bit_or_assoc a b c =
-    same_from_bits (bit_or (bit_or a b) c) (bit_or a (bit_or b c)) (λ y. omega (arith, bit_at_or (bit_or a b) c y, bit_at_or a b y, bit_at_or a (bit_or b c) y, bit_at_or b c y))
+    same_from_bits (bit_or (bit_or a b) c) (bit_or a (bit_or b c))
+    (λ y. omega (arith, bit_at_or (bit_or a b) c y, bit_at_or a b y, bit_at_or a (bit_or b c) y, bit_at_or b c y))
 
 bit_or-zero : (a : ℕ) → bit_or a 0 ≡ a
 bit_or-zero a = same_from_bits (bit_or a 0) a (λ y. let none : bit_at 0 y ≡ 1 → ⊥ = no_member-zero y in omega (arith, bit_at_or a 0 y, bit_at-lt 0 y, none))
@@ -28,8 +30,10 @@ stays n beyond (port ∷ ports) = stays n beyond ports
 folded_more : (n set port : ℕ) (ports : List ℕ)
     → fold (with_port n) (Ok (bit_or set (2 ^ port))) ports ≡ unless_beyond (find (λ port. nat_le n port) ports) (bit_or (bit_or set (2 ^ port)) (set_of ports))
     → (lt : Bool) → nat_lt port n ≡ lt → (le : Bool) → nat_le n port ≡ le
-    → fold (with_port n) (cond lt (Ok (bit_or set (2 ^ port))) (Err port)) ports ≡ unless_beyond (cond le (Some port) (find (λ port. nat_le n port) ports)) (bit_or set (bit_or (2 ^ port) (set_of ports)))
-folded_more n set port ports rest true lt false le = rest ∙ ap (λ s. unless_beyond (find (λ port. nat_le n port) ports) s) (bit_or_assoc set (2 ^ port) (set_of ports))
+    → fold (with_port n) (cond lt (Ok (bit_or set (2 ^ port))) (Err port)) ports ≡ unless_beyond (cond le (Some port) (find (λ port. nat_le n port) ports))
+    (bit_or set (bit_or (2 ^ port) (set_of ports)))
+folded_more n set port ports rest true lt false le = rest
+    ∙ ap (λ s. unless_beyond (find (λ port. nat_le n port) ports) s) (bit_or_assoc set (2 ^ port) (set_of ports))
 folded_more n set port ports rest false lt true le = stays n port ports
 folded_more n set port ports rest true lt true le = let not : ⊥ = omega (arith, ltb-true port n lt, leb-true n port le) in absurd not
 folded_more n set port ports rest false lt false le = let not : ⊥ = omega (arith, ltb-false port n lt, leb-false n port le) in absurd not

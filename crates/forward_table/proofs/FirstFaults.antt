@@ -1,5 +1,6 @@
 -- The fault that is told of a text is that of its first line with one.
-use Rattle.std.proofs.Common.{◌≡◌, ℕ, zero, suc, ◌+◌, ◌<◌, ◌≤◌, ◌↔◌, ◌⊎◌, List, [], ◌∷◌, ◌++◌, length, take, Bool, true, false, cond, Option, None, Some, Result, Ok, Err, slice_index_or, refl, sym, ap, ◌∙◌, inl, inr, append_assoc, arith}
+use Rattle.std.proofs.Common.{◌≡◌, ℕ, zero, suc, ◌+◌, ◌<◌, ◌≤◌, ◌↔◌, ◌⊎◌, List, [], ◌∷◌, ◌++◌, length, take, Bool, true, false, cond, Option, None}
+use Rattle.std.proofs.Common.{Some, Result, Ok, Err, slice_index_or, refl, sym, ap, ◌∙◌, inl, inr, append_assoc, arith}
 use Rattle.std.specs.Prelude.{nat_lt}
 use Rattle.std.specs.Option.{option_or}
 use Rattle.std.proofs.lemmas.Bool.{cases_lt, ltb-true, ltb-false, lt-ltb, le-ltb}
@@ -9,13 +10,15 @@ use Rattle.forward_table.specs.declared.faults.TableFault.{TableFault}
 use Rattle.forward_table.specs.declared.faults.TableFault.TheVariants.{TooManyLines}
 use Rattle.forward_table.specs.declared.route_lines.RouteLine.{RouteLine}
 use Rattle.forward_table.specs.Text.{lines}
-use Rattle.forward_table.specs.Reading.{route_line_count, fault_of, route_line_of, route_lines_of, first_fault, unless_fault, reading_of, fault_at, HasTooManyLines, IsFirstFault, IsTable}
+use Rattle.forward_table.specs.Reading.{route_line_count, fault_of, route_line_of, route_lines_of, first_fault, unless_fault, reading_of, fault_at}
+use Rattle.forward_table.specs.Reading.{HasTooManyLines, IsFirstFault, IsTable}
 
 -- the fault of line k of lines that come after others, of which the first has this number
 abbrev later_fault : ℕ → List RouteLine → ℕ → List (List ℕ) → ℕ → Option TableFault
 later_fault n earlier number ls k = fault_of n (earlier ++ route_lines_of n number (take k ls)) (number + k) (slice_index_or ls k [])
 
-first_line : (n : ℕ) (earlier : List RouteLine) (number : ℕ) (l : List ℕ) (ls : List (List ℕ)) → later_fault n earlier number (l ∷ ls) 0 ≡ fault_of n earlier number l
+first_line : (n : ℕ) (earlier : List RouteLine) (number : ℕ) (l : List ℕ) (ls : List (List ℕ))
+    → later_fault n earlier number (l ∷ ls) 0 ≡ fault_of n earlier number l
 first_line n earlier number l ls =
     let here : number + 0 ≡ number = omega arith in
     λ j. fault_of n (append-nil earlier j) (here j) l
@@ -24,7 +27,8 @@ next_line : (n : ℕ) (earlier : List RouteLine) (number : ℕ) (l : List ℕ) (
     → later_fault n earlier number (l ∷ ls) (suc k) ≡ later_fault n (earlier ++ route_line_of n number l) (number + 1) ls k
 next_line n earlier number l ls k =
     let there : number + suc k ≡ (number + 1) + k = omega arith in
-    let front : earlier ++ (route_line_of n number l ++ route_lines_of n (number + 1) (take k ls)) ≡ (earlier ++ route_line_of n number l) ++ route_lines_of n (number + 1) (take k ls) =
+    let front : earlier ++ (route_line_of n number l ++ route_lines_of n (number + 1) (take k ls)) ≡ (earlier ++ route_line_of n number l)
+    ++ route_lines_of n (number + 1) (take k ls) =
     sym (append_assoc earlier (route_line_of n number l) (route_lines_of n (number + 1) (take k ls))) in
     λ j. fault_of n (front j) (there j) (slice_index_or ls k [])
 
@@ -48,7 +52,8 @@ first_more n earlier number l ls fault none r = record {
     before_it zero below = first_line n earlier number l ls ∙ none
     before_it (suc k) below = next_line n earlier number l ls k ∙ r.before k (omega arith)
 
-first_here : (n : ℕ) (earlier : List RouteLine) (number : ℕ) (l : List ℕ) (ls : List (List ℕ)) (fault : TableFault) → fault_of n earlier number l ≡ Some fault → IsFirst n earlier number (l ∷ ls) fault
+first_here : (n : ℕ) (earlier : List RouteLine) (number : ℕ) (l : List ℕ) (ls : List (List ℕ)) (fault : TableFault) → fault_of n earlier number l ≡ Some fault
+    → IsFirst n earlier number (l ∷ ls) fault
 first_here n earlier number l ls fault is = record {
   line = 0;
   there = omega arith;
@@ -64,22 +69,28 @@ found_at : (n : ℕ) (earlier : List RouteLine) (number : ℕ) (l : List ℕ) (l
 found_at n earlier number l ls fault rest (Some f) at e = first_here n earlier number l ls fault (at ∙ e)
 found_at n earlier number l ls fault rest None at e = first_more n earlier number l ls fault at (rest e)
 
-found : (n : ℕ) (earlier : List RouteLine) (number : ℕ) (ls : List (List ℕ)) (fault : TableFault) → first_fault n earlier number ls ≡ Some fault → IsFirst n earlier number ls fault
+found : (n : ℕ) (earlier : List RouteLine) (number : ℕ) (ls : List (List ℕ)) (fault : TableFault) → first_fault n earlier number ls ≡ Some fault
+    → IsFirst n earlier number ls fault
 found n earlier number [] fault e = absurd (cc)
-found n earlier number (l ∷ ls) fault e = found_at n earlier number l ls fault (found n (earlier ++ route_line_of n number l) (number + 1) ls fault) (fault_of n earlier number l) refl e
+found n earlier number (l ∷ ls) fault e = found_at n earlier number l ls fault (found n (earlier ++ route_line_of n number l) (number + 1) ls fault)
+    (fault_of n earlier number l) refl e
 
 -- no line has a fault
 none_at : (n : ℕ) (earlier : List RouteLine) (number : ℕ) (l : List ℕ) (ls : List (List ℕ))
-    → (first_fault n (earlier ++ route_line_of n number l) (number + 1) ls ≡ None → (k : ℕ) → k < length ls → later_fault n (earlier ++ route_line_of n number l) (number + 1) ls k ≡ None)
+    → (first_fault n (earlier ++ route_line_of n number l) (number + 1) ls ≡ None → (k : ℕ) → k < length ls
+    → later_fault n (earlier ++ route_line_of n number l) (number + 1) ls k ≡ None)
     → (o : Option TableFault) → fault_of n earlier number l ≡ o
-    → option_or o (first_fault n (earlier ++ route_line_of n number l) (number + 1) ls) ≡ None → (k : ℕ) → k < length (l ∷ ls) → later_fault n earlier number (l ∷ ls) k ≡ None
+    → option_or o (first_fault n (earlier ++ route_line_of n number l) (number + 1) ls) ≡ None → (k : ℕ) → k < length (l ∷ ls)
+    → later_fault n earlier number (l ∷ ls) k ≡ None
 none_at n earlier number l ls rest (Some f) at e k below = absurd (cc)
 none_at n earlier number l ls rest None at e zero below = first_line n earlier number l ls ∙ at
 none_at n earlier number l ls rest None at e (suc k) below = next_line n earlier number l ls k ∙ rest e k (omega arith)
 
-none : (n : ℕ) (earlier : List RouteLine) (number : ℕ) (ls : List (List ℕ)) → first_fault n earlier number ls ≡ None → (k : ℕ) → k < length ls → later_fault n earlier number ls k ≡ None
+none : (n : ℕ) (earlier : List RouteLine) (number : ℕ) (ls : List (List ℕ)) → first_fault n earlier number ls ≡ None → (k : ℕ) → k < length ls
+    → later_fault n earlier number ls k ≡ None
 none n earlier number [] e k below = let not : ⊥ = omega arith in absurd not
-none n earlier number (l ∷ ls) e k below = none_at n earlier number l ls (none n (earlier ++ route_line_of n number l) (number + 1) ls) (fault_of n earlier number l) refl e k below
+none n earlier number (l ∷ ls) e k below =
+    none_at n earlier number l ls (none n (earlier ++ route_line_of n number l) (number + 1) ls) (fault_of n earlier number l) refl e k below
 
 -- ---- what is told of a text
 
@@ -118,7 +129,8 @@ module _ (n : ℕ) (text : List ℕ) where
   few_lines : route_line_count text ≤ MAX_LINES → reading_of n text ≡ unless_fault (first_fault n [] 1 (lines text)) (route_lines_of n 1 (lines text))
   few_lines few = reading_is n text ∙ ap (λ b. told n text b (first_fault n [] 1 (lines text))) (le-ltb MAX_LINES (route_line_count text) few)
 
-  fault_from : (fault : TableFault) (many : Bool) → nat_lt MAX_LINES (route_line_count text) ≡ many → (o : Option TableFault) → first_fault n [] 1 (lines text) ≡ o
+  fault_from : (fault : TableFault) (many : Bool) → nat_lt MAX_LINES (route_line_count text) ≡ many → (o : Option TableFault)
+      → first_fault n [] 1 (lines text) ≡ o
       → told n text many o ≡ Err fault → HasTooManyLines text fault ⊎ IsFirstFault n text fault
   fault_from fault true many o at e = inl (record { many = ltb-true MAX_LINES (route_line_count text) many; fault_is = cc })
   fault_from fault false few None at e = absurd (cc)
@@ -129,22 +141,27 @@ module _ (n : ℕ) (text : List ℕ) where
 
   told_first : (fault : TableFault) → IsFirstFault n text fault → (o : Option TableFault) → first_fault n [] 1 (lines text) ≡ o → o ≡ Some fault
   told_first fault h None at = absurd (some_none (fault_at n (lines text) h.line) fault h.fault_is (none n [] 1 (lines text) at h.line h.there))
-  told_first fault h (Some f) at = ap Some (same_first n (lines text) f fault (found n [] 1 (lines text) f at) (record { line = h.line; there = h.there; fault_is = h.fault_is; before = h.before }))
+  told_first fault h (Some f) at =
+      ap Some (same_first n (lines text) f fault (found n [] 1 (lines text) f at)
+      (record { line = h.line; there = h.there; fault_is = h.fault_is; before = h.before }))
 
   pub fault_is_told : (fault : TableFault) → (reading_of n text ≡ Err fault) ↔ (HasTooManyLines text fault ⊎ IsFirstFault n text fault)
   fault_is_told fault = (
     λ e. fault_from fault (nat_lt MAX_LINES (route_line_count text)) refl (first_fault n [] 1 (lines text)) refl (sym (reading_is n text) ∙ e),
     λ h. elim h [
       | inl many ↦ too_many many.many ∙ ap Err (sym many.fault_is)
-      | inr first ↦ few_lines first.few ∙ ap (λ o. unless_fault o (route_lines_of n 1 (lines text))) (told_first fault first (first_fault n [] 1 (lines text)) refl)
+      | inr first ↦ few_lines first.few
+          ∙ ap (λ o. unless_fault o (route_lines_of n 1 (lines text))) (told_first fault first (first_fault n [] 1 (lines text)) refl)
     ],
   )
 
-  table_from : (table : List RouteLine) (many : Bool) → nat_lt MAX_LINES (route_line_count text) ≡ many → (o : Option TableFault) → first_fault n [] 1 (lines text) ≡ o
+  table_from : (table : List RouteLine) (many : Bool) → nat_lt MAX_LINES (route_line_count text) ≡ many → (o : Option TableFault)
+      → first_fault n [] 1 (lines text) ≡ o
       → told n text many o ≡ Ok table → IsTable n text table
   table_from table true many o at e = absurd (cc)
   table_from table false few (Some f) at e = absurd (cc)
-  table_from table false few None at e = record { few = ltb-false MAX_LINES (route_line_count text) few; faultless = none n [] 1 (lines text) at; lines_are = cc }
+  table_from table false few None at e =
+      record { few = ltb-false MAX_LINES (route_line_count text) few; faultless = none n [] 1 (lines text) at; lines_are = cc }
 
   told_none : (table : List RouteLine) → IsTable n text table → (o : Option TableFault) → first_fault n [] 1 (lines text) ≡ o → o ≡ None
   told_none table h None at = refl
@@ -156,5 +173,6 @@ module _ (n : ℕ) (text : List ℕ) where
   table_is_told table = (
     λ e. table_from table (nat_lt MAX_LINES (route_line_count text)) refl (first_fault n [] 1 (lines text)) refl (sym (reading_is n text) ∙ e),
     λ h.
-        few_lines h.few ∙ ap (λ o. unless_fault o (route_lines_of n 1 (lines text))) (told_none table h (first_fault n [] 1 (lines text)) refl) ∙ ap Ok (sym h.lines_are),
+        few_lines h.few ∙ ap (λ o. unless_fault o (route_lines_of n 1 (lines text))) (told_none table h (first_fault n [] 1 (lines text)) refl)
+        ∙ ap Ok (sym h.lines_are),
   )

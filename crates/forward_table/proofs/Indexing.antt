@@ -1,5 +1,6 @@
 -- The order of targets, and the lines of a table in that order, with one line more.
-use Rattle.std.proofs.Common.{◌≡◌, ◌∙◌, ℕ, zero, suc, ◌+◌, ◌-◌, ◌<◌, ◌≤◌, true, false, cond, length, subst, slice_index_or, List, [], ◌∷◌, ◌++◌, Option, None, Some, refl, sym, ap, inl, inr, arith, ◌==◌, ◌&&◌}
+use Rattle.std.proofs.Common.{◌≡◌, ◌∙◌, ℕ, zero, suc, ◌+◌, ◌-◌, ◌<◌, ◌≤◌, true, false, cond, length, subst, slice_index_or, List, [], ◌∷◌, ◌++◌, Option}
+use Rattle.std.proofs.Common.{None, Some, refl, sym, ap, inl, inr, arith, ◌==◌, ◌&&◌}
 use Rattle.std.specs.List.{insert}
 use Rattle.std.specs.Option.{option_or}
 use Rattle.std.specs.Ordering.{is_eq, is_lt, ordering_reverse, nat_cmp, then_cmp, on}
@@ -40,7 +41,8 @@ target_trans Fallback (Prefix length address) Fallback e f = absurd cc
 target_trans Fallback (Prefix length address) (Prefix length' address') e f = refl
 target_trans (Prefix length address) Fallback c e f = absurd cc
 target_trans (Prefix length address) (Prefix length' address') Fallback e f = absurd cc
-target_trans (Prefix length address) (Prefix length' address') (Prefix length'' address'') e f = pairs_total.trans (length, address) (length', address') (length'', address'') e f
+target_trans (Prefix length address) (Prefix length' address') (Prefix length'' address'') e f =
+    pairs_total.trans (length, address) (length', address') (length'', address'') e f
 
 -- targets that tie compare alike
 target_congr : (a b c : Target) → target_order a b ≡ Equal → target_order a c ≡ target_order b c
@@ -48,14 +50,16 @@ target_congr Fallback Fallback c e = refl
 target_congr Fallback (Prefix length address) c e = absurd cc
 target_congr (Prefix length address) Fallback c e = absurd cc
 target_congr (Prefix length address) (Prefix length' address') Fallback e = refl
-target_congr (Prefix length address) (Prefix length' address') (Prefix length'' address'') e = pairs_total.congr (length, address) (length', address') (length'', address'') e
+target_congr (Prefix length address) (Prefix length' address') (Prefix length'' address'') e =
+    pairs_total.congr (length, address) (length', address') (length'', address'') e
 
 -- targets are in a total order
 pub target_total : IsTotalOrder target_order
 target_total = record { antisymm = target_antisymm; trans = target_trans; congr = target_congr }
 
 -- prefixes tie where lengths and addresses are the same
-tied-prefix : (length address length' address' : ℕ) → is_eq (target_order (Prefix length address) (Prefix length' address')) ≡ ((length == length') && (address == address'))
+tied-prefix : (length address length' address' : ℕ)
+    → is_eq (target_order (Prefix length address) (Prefix length' address')) ≡ ((length == length') && (address == address'))
 tied-prefix length address length' address' = grind (arith, nat_tests)
 
 -- which ties a target with itself alone
@@ -109,7 +113,8 @@ line_absent (x ∷ l) t none =
     rw first (line_absent l t (λ j lt. none (suc j) (omega arith)))
 
 -- the first that has it is found
-line_present : (l : List RouteLine) (t : Target) (i : ℕ) → i < length l → is_same_target (target_at l i) t ≡ true → ((j : ℕ) → j < i → is_same_target (target_at l j) t ≡ false) → line_with t l ≡ Some (slice_index_or l i no_line)
+line_present : (l : List RouteLine) (t : Target) (i : ℕ) → i < length l → is_same_target (target_at l i) t ≡ true
+    → ((j : ℕ) → j < i → is_same_target (target_at l j) t ≡ false) → line_with t l ≡ Some (slice_index_or l i no_line)
 line_present [] t i inside same before = absurd (omega arith)
 line_present (x ∷ l) t zero inside same before = rw same refl
 line_present (x ∷ l) t (suc i) inside same before =
@@ -131,7 +136,8 @@ line_in_gap l t i gap = line_absent l t (λ j lt. elim (cases_lt j i) [
 
 -- ---- a line more
 -- a line more is found for its own target alone
-line_insert : (l : List RouteLine) (line : RouteLine) (i : ℕ) (q : Target) → ((j : ℕ) → j < i → is_same_target (target_at l j) line.target ≡ false) → line_with q (insert l i line) ≡ cond (is_same_target line.target q) (Some line) (line_with q l)
+line_insert : (l : List RouteLine) (line : RouteLine) (i : ℕ) (q : Target) → ((j : ℕ) → j < i → is_same_target (target_at l j) line.target ≡ false)
+    → line_with q (insert l i line) ≡ cond (is_same_target line.target q) (Some line) (line_with q l)
 line_insert l line zero q before = refl
 line_insert [] line (suc i) q before = refl
 line_insert (x ∷ l) line (suc i) q before =
@@ -153,10 +159,16 @@ in_order-insert l line at gap sorted i j lt in_range =
     let new = insert l at line in
     let within : at ≤ length l = gap.in_range in
     let length_new = length-insert l at line gap.in_range in
-    let below : (k : ℕ) → k < at → target_at new k ≡ target_at l k = λ k less. ap (λ (x : RouteLine). x.target) (get_or-insert_below l at line no_line k less gap.in_range) in
-    let here : (k : ℕ) → k ≡ at → target_at new k ≡ line.target = λ k same. ap (target_at new) same ∙ ap (λ (x : RouteLine). x.target) (get_or-insert_at l at line no_line gap.in_range) in
-    let above : (k : ℕ) → at < k → target_at new k ≡ target_at l (k - 1) = λ k more. subst (λ q. target_at new q ≡ target_at l (k - 1)) {x = k - 1 + 1} (omega arith) (ap (λ (x : RouteLine). x.target) (get_or-insert_above l at line no_line (k - 1) (omega arith) gap.in_range)) in
-    let both : (a b : Target) → target_at new i ≡ a → target_at new j ≡ b → target_order a b ≡ Less → target_order (target_at new i) (target_at new j) ≡ Less = λ a b e f less. ap (λ x. target_order x (target_at new j)) e ∙ ap (target_order a) f ∙ less in
+    let below : (k : ℕ) → k < at → target_at new k ≡ target_at l k =
+    λ k less. ap (λ (x : RouteLine). x.target) (get_or-insert_below l at line no_line k less gap.in_range) in
+    let here : (k : ℕ) → k ≡ at → target_at new k ≡ line.target = λ k same. ap (target_at new) same
+    ∙ ap (λ (x : RouteLine). x.target) (get_or-insert_at l at line no_line gap.in_range) in
+    let above : (k : ℕ) → at < k → target_at new k ≡ target_at l (k - 1) =
+    λ k more. subst (λ q. target_at new q ≡ target_at l (k - 1)) {x = k - 1 + 1} (omega arith)
+    (ap (λ (x : RouteLine). x.target) (get_or-insert_above l at line no_line (k - 1) (omega arith) gap.in_range)) in
+    let both : (a b : Target) → target_at new i ≡ a → target_at new j ≡ b → target_order a b ≡ Less
+    → target_order (target_at new i) (target_at new j) ≡ Less = λ a b e f less. ap (λ x. target_order x (target_at new j)) e ∙ ap (target_order a) f
+    ∙ less in
     elim (cases_lt j at) [
       | inl j_below ↦ both (target_at l i) (target_at l j) (below i (omega arith)) (below j j_below) (sorted i j lt (omega arith))
       | inr j_from ↦ elim (cases_eq j at) [
@@ -167,7 +179,8 @@ in_order-insert l line at gap sorted i j lt in_range =
               | inl i_below ↦ both (target_at l i) (target_at l (j - 1)) (below i i_below) (above j j_above) (sorted i (j - 1) (omega arith) (omega arith))
               | inr i_from ↦ elim (cases_eq i at) [
                 | inl i_here ↦ both line.target (target_at l (j - 1)) (here i i_here) (above j j_above) (gap.greater_after (j - 1) (omega arith) (omega arith))
-                | inr i_other ↦ both (target_at l (i - 1)) (target_at l (j - 1)) (above i (omega arith)) (above j j_above) (sorted (i - 1) (j - 1) (omega arith) (omega arith))
+                | inr i_other ↦ both (target_at l (i - 1)) (target_at l (j - 1)) (above i (omega arith)) (above j j_above)
+                    (sorted (i - 1) (j - 1) (omega arith) (omega arith))
               ]
             ]
       ]
@@ -179,16 +192,19 @@ option_or-None None = refl
 option_or-None (Some line) = refl
 
 -- the table with a line whose target has a gap
-pub IsIndexed-push : (table ordered : List RouteLine) (line : RouteLine) (at : ℕ) → IsIndexed table ordered → IsPrefix line.target → IsGapFor ordered line.target at → IsIndexed (table ++ line ∷ []) (insert ordered at line)
+pub IsIndexed-push : (table ordered : List RouteLine) (line : RouteLine) (at : ℕ) → IsIndexed table ordered → IsPrefix line.target
+    → IsGapFor ordered line.target at → IsIndexed (table ++ line ∷ []) (insert ordered at line)
 IsIndexed-push table ordered line at was prefix gap = record {
   prefixes = All-push (λ l. IsPrefix l.target) table line was.prefixes prefix;
   in_order = in_order-insert ordered line at gap was.in_order;
   found = λ q.
-      let added : line_with q (table ++ line ∷ []) ≡ option_or (line_with q table) (line_with q (line ∷ [])) = find-append (λ l. is_same_target l.target q) table (line ∷ []) in
+      let added : line_with q (table ++ line ∷ []) ≡ option_or (line_with q table) (line_with q (line ∷ [])) =
+      find-append (λ l. is_same_target l.target q) table (line ∷ []) in
       let made = line_insert ordered line at q (λ j lt. apart_less (target_at ordered j) line.target (gap.lesser_before j lt)) in
       elim (cases_Bool (is_same_target line.target q)) [
         | inl same ↦
-            let before : line_with q table ≡ None = ap (λ t. line_with t table) (sym (same_targets line.target q same)) ∙ sym (was.found line.target) ∙ line_in_gap ordered line.target at gap in
+            let before : line_with q table ≡ None = ap (λ t. line_with t table) (sym (same_targets line.target q same)) ∙ sym (was.found line.target)
+            ∙ line_in_gap ordered line.target at gap in
             made ∙ (rw same (rw (added, before, same) refl))
         | inr other ↦ made ∙ (rw other (rw (added, other, option_or-None) (was.found q)))
       ];
@@ -203,9 +219,11 @@ AreLengths-first = record {
 }
 
 -- a line more, whose length is noted
-pub AreLengths-push : (table : List RouteLine) (old new : ℕ) (line : RouteLine) → AreLengths table old → IsPrefix line.target → IsWithLength line.target old new → AreLengths (table ++ line ∷ []) new
+pub AreLengths-push : (table : List RouteLine) (old new : ℕ) (line : RouteLine) → AreLengths table old → IsPrefix line.target
+    → IsWithLength line.target old new → AreLengths (table ++ line ∷ []) new
 AreLengths-push table old new line was prefix = go line.target refl where
-  pushed : (k address : ℕ) → line_with (Prefix (32 - k) address) table ≡ None → is_same_target line.target (Prefix (32 - k) address) ≡ false → line_with (Prefix (32 - k) address) (table ++ line ∷ []) ≡ None
+  pushed : (k address : ℕ) → line_with (Prefix (32 - k) address) table ≡ None → is_same_target line.target (Prefix (32 - k) address) ≡ false
+      → line_with (Prefix (32 - k) address) (table ++ line ∷ []) ≡ None
   pushed k address before other =
       find-append (λ l. is_same_target l.target (Prefix (32 - k) address)) table (line ∷ []) ∙ rw (before, other) refl
 
@@ -218,7 +236,8 @@ AreLengths-push table old new line was prefix = go line.target refl where
   go : (target : Target) → line.target ≡ target → IsWithLength target old new → AreLengths (table ++ line ∷ []) new
   go Fallback e same = record {
     within = λ k has. was.within k (subst (λ bits. Has bits k) same has);
-    absent = λ k address few lacks. pushed k address (was.absent k address few (λ has. lacks (subst (λ bits. Has bits k) (sym same) has))) (ap (λ t. is_same_target t (Prefix (32 - k) address)) e);
+    absent = λ k address few lacks. pushed k address (was.absent k address few (λ has. lacks (subst (λ bits. Has bits k) (sym same) has)))
+        (ap (λ t. is_same_target t (Prefix (32 - k) address)) e);
   }
   go (Prefix len at) e more = record {
     within = λ k has. elim ((more k).0 has) [
@@ -228,5 +247,6 @@ AreLengths-push table old new line was prefix = go line.target refl where
     absent = λ k address few lacks.
         let fits : len ≤ 32 = subst HasLength e prefix.length in
         let apart : len ≡ 32 - k → ⊥ = λ same. lacks ((more k).1 (inl (omega arith))) in
-        pushed k address (was.absent k address few (λ has. lacks ((more k).1 (inr has)))) (ap (λ t. is_same_target t (Prefix (32 - k) address)) e ∙ unlike len at (32 - k) address apart);
+        pushed k address (was.absent k address few (λ has. lacks ((more k).1 (inr has))))
+        (ap (λ t. is_same_target t (Prefix (32 - k) address)) e ∙ unlike len at (32 - k) address apart);
   }

@@ -24,7 +24,8 @@ module _ (l : List RouteLine) (sorted : IsInOrder l) (t : Target) where
   comparisons_rise = searchable_from_sorted target_total (λ (line : RouteLine). line.target) l t neighbours
 
   -- a search by target ends at its line, or at the gap for it
-  pub searched : (r : Result ℕ ℕ) → IsSearchInRange r (length l) → IsBinarySearchResult (λ line. target_order line.target t) l r → record { found : IfOk r (IsPlaceOf l t); absent : IfErr r (IsGapFor l t) }
+  pub searched : (r : Result ℕ ℕ) → IsSearchInRange r (length l) → IsBinarySearchResult (λ line. target_order line.target t) l r
+      → record { found : IfOk r (IsPlaceOf l t); absent : IfErr r (IsGapFor l t) }
   searched (Ok at) in_range equal = record { found = record { in_range = in_range; has_target = tied_targets (target_at l at) t (equal no_line) }; absent = tt }
   searched (Err at) in_range parted = record {
     found = tt;

@@ -15,7 +15,8 @@ with_is set port more members =
     (λ y.
     let e = bit_at_or set (2 ^ port) y in
     elim (cases_eq y port) [
-      | inl same ↦ let there : bit_at more y ≡ 1 = (members y).1 (inl same) in let bit : bit_at (2 ^ port) y ≡ 1 = rw same (bit_at-pow_same port) in omega (arith, bit_at-lt set y)
+      | inl same ↦ let there : bit_at more y ≡ 1 = (members y).1 (inl same) in let bit : bit_at (2 ^ port) y ≡ 1 = rw same (bit_at-pow_same port) in
+          omega (arith, bit_at-lt set y)
       | inr other ↦ let bit : bit_at (2 ^ port) y ≡ 0 = bit_at-pow_other port y other in
           elim (cases_eq (bit_at set y) 1) [
             | inl has ↦ let there : bit_at more y ≡ 1 = (members y).1 (inr has) in omega arith

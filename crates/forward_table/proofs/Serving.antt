@@ -34,7 +34,8 @@ module _ (P : RouteLine → Type 0) where
       let same : longer first (longest more) ≡ line = cc in
       subst P same (longer_has first (longest more) (All-head P first more all) (λ other e'. longest_has more other (All-tail P first more all) e'))
 
-  either_has : (a b : Option RouteLine) (line : RouteLine) → ((l : RouteLine) → a ≡ Some l → P l) → ((l : RouteLine) → b ≡ Some l → P l) → option_or a b ≡ Some line → P line
+  either_has : (a b : Option RouteLine) (line : RouteLine) → ((l : RouteLine) → a ≡ Some l → P l) → ((l : RouteLine) → b ≡ Some l → P l)
+      → option_or a b ≡ Some line → P line
   either_has None b line first second e = second line e
   either_has (Some a) b line first second e = first line e
 
@@ -47,7 +48,11 @@ module _ (P : RouteLine → Type 0) where
       e
 
 -- so its route is one of the table's
-pub Contains-serving : (table : List RouteLine) (address : Option ℕ) (line : RouteLine) → serving_line table address ≡ Some line → Contains (map (λ l. l.route) table) line.route
+pub Contains-serving : (table : List RouteLine) (address : Option ℕ) (line : RouteLine) → serving_line table address ≡ Some line
+    → Contains (map (λ l. l.route) table) line.route
 Contains-serving table address line e =
-    let there : Contains table line = serving_has (Contains table) table address line (All-contains_itself table) e in
-    (there.0, omega (arith, there.1, length-map table (λ (l : RouteLine). l.route)), get_or-map (λ (l : RouteLine). l.route) table there.0 line line.route there.1 ∙ ap (λ (l : RouteLine). l.route) there.2)
+    let there : Contains table line = serving_has (Contains table) table address line (All-contains_itself table) e in (
+      there.0,
+      omega (arith, there.1, length-map table (λ (l : RouteLine). l.route)),
+      get_or-map (λ (l : RouteLine). l.route) table there.0 line line.route there.1 ∙ ap (λ (l : RouteLine). l.route) there.2,
+    )

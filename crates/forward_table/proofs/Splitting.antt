@@ -1,5 +1,6 @@
 -- Where a separator first stands, and what it leaves of lines, parts and words.
-use Rattle.std.proofs.Common.{◌≡◌, ℕ, suc, ◌+◌, ◌<◌, ◌≤◌, Bool, true, false, not, ◌==◌, List, [], ◌∷◌, length, get_or, take, drop, Some, None, position, nat_lt, refl, sym, ap, subst, ◌∙◌, arith, add-one, inl, inr}
+use Rattle.std.proofs.Common.{◌≡◌, ℕ, suc, ◌+◌, ◌<◌, ◌≤◌, Bool, true, false, not, ◌==◌, List, [], ◌∷◌, length, get_or, take, drop, Some, None, position}
+use Rattle.std.proofs.Common.{nat_lt, refl, sym, ap, subst, ◌∙◌, arith, add-one, inl, inr}
 use Rattle.std.specs.Prelude.{filter}
 use Rattle.std.specs.List.{slice_split, position_or_len}
 use Rattle.std.proofs.lemmas.Bool.{ltb-true, ltb-false, cases_Bool, cases_eq}
@@ -32,7 +33,8 @@ abbrev is_line_feed : ℕ → Bool
 is_line_feed byte = byte == line_feed
 
 -- a line feed ends a line
-lines_to_place : (text : List ℕ) → position_or_len is_line_feed text < length text → lines text ≡ take (position_or_len is_line_feed text) text ∷ lines (drop (suc (position_or_len is_line_feed text)) text)
+lines_to_place : (text : List ℕ) → position_or_len is_line_feed text < length text
+    → lines text ≡ take (position_or_len is_line_feed text) text ∷ lines (drop (suc (position_or_len is_line_feed text)) text)
 lines_to_place [] within = absurd (omega arith)
 lines_to_place (x ∷ xs) within =
     elim (cases_Bool (is_line_feed x)) [
@@ -112,7 +114,8 @@ pub no_words : (line : List ℕ) → position is_in_word line ≡ None → words
 no_words line e = words_from_place line ∙ ap words (drop_all (position_or_len is_in_word line) line (no_place is_in_word line e))
 
 -- what a word begins with is no blank
-first_in_place : (line : List ℕ) → position_or_len is_in_word line < length line → (x : ℕ) × (xs : List ℕ) × (drop (position_or_len is_in_word line) line ≡ x ∷ xs) × (is_blank x ≡ false)
+first_in_place : (line : List ℕ) → position_or_len is_in_word line < length line → (x : ℕ) × (xs : List ℕ)
+    × (drop (position_or_len is_in_word line) line ≡ x ∷ xs) × (is_blank x ≡ false)
 first_in_place [] within = absurd (omega arith)
 first_in_place (x ∷ xs) within =
     elim (cases_Bool (is_blank x)) [
@@ -125,7 +128,8 @@ is_not_empty-from_length [] some = absurd (omega arith)
 is_not_empty-from_length (x ∷ xs) some = refl
 
 -- what begins with no blank begins with a word, up to the next blank
-word_to_place : (line : List ℕ) (x : ℕ) (xs : List ℕ) (e : ℕ) → line ≡ x ∷ xs → is_blank x ≡ false → position is_blank line ≡ Some e → words line ≡ take e line ∷ words (drop e line)
+word_to_place : (line : List ℕ) (x : ℕ) (xs : List ℕ) (e : ℕ) → line ≡ x ∷ xs → is_blank x ≡ false → position is_blank line ≡ Some e
+    → words line ≡ take e line ∷ words (drop e line)
 word_to_place line x xs e begins in_word at =
     let found = position-Some is_blank line e 0 at in
     let first : get_or line 0 0 ≡ x = rw begins refl in
@@ -134,7 +138,8 @@ word_to_place line x xs e begins in_word at =
       | inr other ↦ omega arith
     ] in
     let word : is_not_empty (take e line) ≡ true = is_not_empty-from_length (take e line) (omega (arith, length-take e line, found.0)) in
-    let rest : words (drop e line) ≡ words (drop (e + 1) line) = ap words (drop_more line e 0 found.0) ∙ words-blank (get_or line e 0) (drop (e + 1) line) found.1 in
+    let rest : words (drop e line) ≡ words (drop (e + 1) line) = ap words (drop_more line e 0 found.0)
+    ∙ words-blank (get_or line e 0) (drop (e + 1) line) found.1 in
     ap (filter is_not_empty) (split_at_place is_blank line e at) ∙ rw (word, rest) refl
 
 -- or up to its end
@@ -143,7 +148,8 @@ word_to_end line some at =
     let word : is_not_empty line ≡ true = is_not_empty-from_length line some in
     ap (filter is_not_empty) (split_whole is_blank line at) ∙ rw word refl
 
-pub word_at : (line : List ℕ) (i e : ℕ) → position is_in_word line ≡ Some i → position is_blank (drop i line) ≡ Some e → words line ≡ take e (drop i line) ∷ words (drop e (drop i line))
+pub word_at : (line : List ℕ) (i e : ℕ) → position is_in_word line ≡ Some i → position is_blank (drop i line) ≡ Some e
+    → words line ≡ take e (drop i line) ∷ words (drop e (drop i line))
 word_at line i e from at =
     let found = place_is is_in_word line i from in
     let within : position_or_len is_in_word line < length line = omega (arith, found) in
@@ -151,7 +157,8 @@ word_at line i e from at =
     let begins_at : drop i line ≡ begins.0 ∷ begins.1 = subst (λ (k : ℕ). drop k line ≡ begins.0 ∷ begins.1) found.0 begins.2 in
     words_from line i from ∙ word_to_place (drop i line) begins.0 begins.1 e begins_at begins.3 at
 
-pub last_word_at : (line : List ℕ) (i : ℕ) → position is_in_word line ≡ Some i → position is_blank (drop i line) ≡ None → words line ≡ drop i line ∷ words (drop (length (drop i line)) (drop i line))
+pub last_word_at : (line : List ℕ) (i : ℕ) → position is_in_word line ≡ Some i → position is_blank (drop i line) ≡ None
+    → words line ≡ drop i line ∷ words (drop (length (drop i line)) (drop i line))
 last_word_at line i from at =
     let found = place_is is_in_word line i from in
     let all : length (drop i line) ≤ length (drop i line) = omega arith in

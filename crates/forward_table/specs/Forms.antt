@@ -1,5 +1,6 @@
 -- The form of a route line: `target blanks ports [blanks level]`.
-use Rattle.std.specs.Prelude.{ℕ, Bool, false, ◌+◌, ◌-◌, ◌*◌, ◌^◌, ◌==◌, ◌&&◌, nat_le, if◌then◌else◌, List, [], ◌∷◌, Option, None, Some, Result, Ok, Err, option_and_then, option_map, find, bit_or}
+use Rattle.std.specs.Prelude.{ℕ, Bool, false, ◌+◌, ◌-◌, ◌*◌, ◌^◌, ◌==◌, ◌&&◌, nat_le, if◌then◌else◌, List, [], ◌∷◌, Option, None, Some, Result, Ok, Err}
+use Rattle.std.specs.Prelude.{option_and_then, option_map, find, bit_or}
 use Rattle.std.specs.Int.{w32, from_be_bytes}
 use Rattle.forward_table.specs.declared.route_lines.Target.{Target}
 use Rattle.forward_table.specs.declared.route_lines.Target.TheVariants.{Prefix, Fallback}

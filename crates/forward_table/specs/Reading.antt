@@ -1,5 +1,6 @@
 -- What a table's text means: its route lines, or its first fault.
-use Rattle.std.specs.Prelude.{◌≡◌, ℕ, Bool, true, false, ◌+◌, ◌<◌, ◌≤◌, length, take, slice_index_or, nat_le, nat_lt, if◌then◌else◌, List, [], ◌∷◌, ◌++◌, Option, None, Some, Result, Ok, Err, option_map, find, count_by}
+use Rattle.std.specs.Prelude.{◌≡◌, ℕ, Bool, true, false, ◌+◌, ◌<◌, ◌≤◌, length, take, slice_index_or, nat_le, nat_lt, if◌then◌else◌, List, [], ◌∷◌}
+use Rattle.std.specs.Prelude.{◌++◌, Option, None, Some, Result, Ok, Err, option_map, find, count_by}
 use Rattle.std.specs.Option.{option_or}
 use Rattle.rotating_pick.specs.declared.limits.TheConstants.{LEVELS}
 use Rattle.forward_table.specs.declared.limits.TheConstants.{MAX_LINES}
@@ -91,7 +92,8 @@ unless_fault None table = Ok table
 -- route lines come before all others.
 unfoldable pub reading_of : ℕ → List ℕ → Result (List RouteLine) TableFault
 reading_of n text =
-    if nat_lt MAX_LINES (route_line_count text) then Err (TooManyLines (route_line_count text)) else unless_fault (first_fault n [] 1 (lines text)) (route_lines_of n 1 (lines text))
+    if nat_lt MAX_LINES (route_line_count text) then Err (TooManyLines (route_line_count text)) else unless_fault (first_fault n [] 1 (lines text))
+    (route_lines_of n 1 (lines text))
 
 -- the fault of line k of these lines, counted from 0, where it has one: the lines before it are the first k
 abbrev pub fault_at : ℕ → List (List ℕ) → ℕ → Option TableFault

@@ -1,4 +1,5 @@
-ghost use Rattle.std.specs.Prelude.{◌≡◌, ◌≢◌, ◌↔◌, ℕ, ◌-◌, ◌≤◌, None, List, [], ◌∷◌, ◌++◌, length, map, All, Contains, IfSome, IfOk, IfErr, IsTrue, option_map, count_ones};
+ghost use Rattle.std.specs.Prelude.{◌≡◌, ◌≢◌, ◌↔◌, ℕ, ◌-◌, ◌≤◌, None, List, [], ◌∷◌, ◌++◌, length, map, All, Contains, IfSome, IfOk, IfErr, IsTrue};
+ghost use Rattle.std.specs.Prelude.{option_map, count_ones};
 ghost use Rattle.forward_table.specs.Index.{IsWithLength};
 ghost use Rattle.forward_table.specs.Targets.{IsPrefix};
 ghost use Rattle.forward_table.specs.Reading.{line_with};

@@ -1,5 +1,6 @@
 -- The destination of a frame as a function is the one that the frame has.
-use Rattle.std.proofs.Common.{◌≡◌, ℕ, ◌+◌, ◌/◌, ◌≤◌, ◌==◌, ◌↔◌, Bool, true, false, cond, List, [], ◌∷◌, length, slice_index, Option, None, Some, refl, sym, ap, ◌∙◌, inl, inr}
+use Rattle.std.proofs.Common.{◌≡◌, ℕ, ◌+◌, ◌/◌, ◌≤◌, ◌==◌, ◌↔◌, Bool, true, false, cond, List, [], ◌∷◌, length, slice_index, Option, None, Some, refl}
+use Rattle.std.proofs.Common.{sym, ap, ◌∙◌, inl, inr}
 use Rattle.std.specs.Prelude.{◌&&◌, option_and_then}
 use Rattle.std.specs.Int.{w32, from_be_bytes}
 use Rattle.std.proofs.lemmas.Bool.{leb-true, le-leb, eqb-true, eq-eqb}
@@ -44,7 +45,8 @@ inner_step inner = cond (inner == ipv4_type) (Some 18) None
 abbrev first_step : List ℕ → ℕ → Option ℕ
 first_step frame type = cond (type == tag_type) (option_and_then inner_step (type_at frame 16)) (cond (type == ipv4_type) (Some 14) None)
 
-inner_read : (frame : List ℕ) (place : ℕ) → HasType frame 12 0x8100 → (o : Option ℕ) → type_at frame 16 ≡ o → option_and_then inner_step o ≡ Some place → BeginsAt Ethernet frame place
+inner_read : (frame : List ℕ) (place : ℕ) → HasType frame 12 0x8100 → (o : Option ℕ) → type_at frame 16 ≡ o → option_and_then inner_step o ≡ Some place
+    → BeginsAt Ethernet frame place
 inner_read frame place first None at e = absurd (cc)
 inner_read frame place first (Some inner) at e =
     let t = tested (inner == ipv4_type) 18 place e in
@@ -52,12 +54,14 @@ inner_read frame place first (Some inner) at e =
 
 first_read : (frame : List ℕ) (place type : ℕ) → type_at frame 12 ≡ Some type → (tag : Bool) → (type == tag_type) ≡ tag
     → cond tag (option_and_then inner_step (type_at frame 16)) (cond (type == ipv4_type) (Some 14) None) ≡ Some place → BeginsAt Ethernet frame place
-first_read frame place type at true is e = inner_read frame place (type_read frame 12 0x8100 (at ∙ ap Some (eqb-true type tag_type is))) (type_at frame 16) refl e
+first_read frame place type at true is e =
+    inner_read frame place (type_read frame 12 0x8100 (at ∙ ap Some (eqb-true type tag_type is))) (type_at frame 16) refl e
 first_read frame place type at false is e =
     let t = tested (type == ipv4_type) 14 place e in
     inl (sym t.1, type_read frame 12 0x0800 (at ∙ ap Some (eqb-true type ipv4_type t.0)))
 
-place_from : (frame : List ℕ) (place : ℕ) (o : Option ℕ) → type_at frame 12 ≡ o → option_and_then (first_step frame) o ≡ Some place → BeginsAt Ethernet frame place
+place_from : (frame : List ℕ) (place : ℕ) (o : Option ℕ) → type_at frame 12 ≡ o → option_and_then (first_step frame) o ≡ Some place
+    → BeginsAt Ethernet frame place
 place_from frame place None at e = absurd (cc)
 place_from frame place (Some type) at e = first_read frame place type at (type == tag_type) refl e
 
@@ -75,7 +79,8 @@ place_there frame place (inr h) =
 -- ---- the address
 
 abbrev address_at : List ℕ → ℕ → ℕ
-address_at frame place = from_be_bytes w32 (slice_index frame (place + 16) ∷ slice_index frame (place + 17) ∷ slice_index frame (place + 18) ∷ slice_index frame (place + 19) ∷ [])
+address_at frame place = from_be_bytes w32
+    (slice_index frame (place + 16) ∷ slice_index frame (place + 17) ∷ slice_index frame (place + 18) ∷ slice_index frame (place + 19) ∷ [])
 
 -- a header is there, of version 4 and with this address
 record HasHeader (frame : List ℕ) (place address : ℕ) : Type 0 where
@@ -95,7 +100,8 @@ header_there frame place address h =
 
 -- ---- the destination
 
-destination_from : (frame : List ℕ) (address : ℕ) (o : Option ℕ) → packet_place frame ≡ o → option_and_then (destination_at frame) o ≡ Some address → HasDestination Ethernet frame address
+destination_from : (frame : List ℕ) (address : ℕ) (o : Option ℕ) → packet_place frame ≡ o → option_and_then (destination_at frame) o ≡ Some address
+    → HasDestination Ethernet frame address
 destination_from frame address None at e = absurd (cc)
 destination_from frame address (Some place) at e =
     let h = header_read frame place address e in

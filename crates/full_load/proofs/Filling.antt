@@ -50,7 +50,11 @@ module _ (n t level : ℕ) (rows : List Row) (places : Places) (first : List (Op
   is_first : (j : ℕ) → j < n → IsFirstFrom n (grant_of places j level) (λ x. Names (row_of rows x) level Uni j) (grant_of places j level)
   is_first j j_in =
       let here = distance-own n (grant_of places j level) (pointing.grant j j_in) in
-      record { below = pointing.grant j j_in; member = load.full (grant_of places j level) j (pointing.grant j j_in) j_in; least = λ y y_in named. omega (arith, here) }
+      record {
+        below = pointing.grant j j_in;
+        member = load.full (grant_of places j level) j (pointing.grant j j_in) j_in;
+        least = λ y y_in named. omega (arith, here);
+      }
 
   -- unicast of the level comes before its multicast, which nobody asks
   unicast_first : level < LEVELS → IsFirstKind n t rows level Uni
@@ -70,14 +74,16 @@ module _ (n t level : ℕ) (rows : List Row) (places : Places) (first : List (Op
   served_at i j j_in served =
       let there = level_in j j_in in
       let accepted = accepted_first i j served in
-      IsFirstFrom-only n (grant_of places j level) (λ x. Names (row_of rows x) level Uni j) (grant_of places j level) i (pointing.grant j j_in) (is_first j j_in)
+      IsFirstFrom-only n (grant_of places j level) (λ x. Names (row_of rows x) level Uni j) (grant_of places j level) i (pointing.grant j j_in)
+      (is_first j j_in)
       (first_granted n t rows places level there load.clean Uni (unicast_first there) i j accepted.taken.member)
 
   pub served_once : (i j k : ℕ) → Serves first i j level Uni → Serves first i k level Uni → j ≡ k
   served_once i j k served also =
       let one = accepted_first i j served in
       let other = accepted_first i k also in
-      IsFirstFrom-only n (accept_of places i level) (λ y. Grants n t rows places (unmatched n) i y level Uni) j k (pointing.accept i one.taken.member.first.below) one.taken other.taken
+      IsFirstFrom-only n (accept_of places i level) (λ y. Grants n t rows places (unmatched n) i y level Uni) j k
+      (pointing.accept i one.taken.member.first.below) one.taken other.taken
 
   pub IsStep-slot : (matched : List (Option Fed)) (after : Places) → AreMoved n t rows first matched places after
       → IsStep n (grants_of places level) (grants_of after level) (Takes level first)
@@ -85,7 +91,8 @@ module _ (n t level : ℕ) (rows : List Row) (places : Places) (first : List (Op
     below = pointing.grant;
     met = λ j j_in.
         let input : ℕ = grant_of places j level in
-        let taken = served_by_first n t level rows first places (level_in j j_in) opening pointing load.clean load.alone input j (pointing.grant j j_in) (grants_there j j_in) in
+        let taken = served_by_first n t level rows first places (level_in j j_in) opening pointing load.clean load.alone input j (pointing.grant j j_in)
+        (grants_there j j_in) in
         (taken.0, taken.1.below, taken.2);
     at = served_at;
     once = served_once;
@@ -156,7 +163,8 @@ module _ (n rounds t level : ℕ) (some : 0 < rounds) (places : Places) (slot : 
   IsFullSlot-apart : AreApart n (grants_of places level) → IsFullSlot n level slot
   IsFullSlot-apart apart =
       let decided = decided_here in
-      let made = λ (matched : List (Option Fed)). IsFullMatch-apart n level (grants_of places level) (grants_of slot.decision.places level) first_here matched step_here in
+      let made = λ (matched : List (Option Fed)). IsFullMatch-apart n level (grants_of places level)
+      (grants_of slot.decision.places level) first_here matched step_here in
       let at_first : IsFullMatch n level first_here = made first_here (λ i j served. served) apart in
       let at_last : IsFullMatch n level slot.decision.matched = made slot.decision.matched (λ i j. begins.stays i j level Uni) apart in
       let first_size : length first_here ≡ n = begins.opening.count in

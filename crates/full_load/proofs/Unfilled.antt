@@ -15,7 +15,8 @@ use Rattle.service_bound.proofs.Granting.{served_by_first}
 use Rattle.service_bound.proofs.OneRound.{one_is_first}
 use Rattle.full_load.specs.FullLoad.{IsFullyLoaded, IsFullMatch}
 use Rattle.full_load.proofs.Lines.{IsLine, IsLine-next, left_over}
-use Rattle.full_load.proofs.Filling.{grants_of, Takes, level_in, grants_there, begins, decided_here, within_here, load_here, first_here, step_here, loaded_later}
+use Rattle.full_load.proofs.Filling.{grants_of, Takes, level_in, grants_there, begins, decided_here, within_here, load_here, first_here, step_here}
+use Rattle.full_load.proofs.Filling.{loaded_later}
 
 module _ (n s t level : ℕ) (places : Places) (slot : DecidedSlot) (slots : List DecidedSlot)
     (loaded : IsFullyLoaded n 1 t level places (slot ∷ slots)) (line : IsLine n s (grants_of places level))
@@ -34,7 +35,8 @@ module _ (n s t level : ℕ) (places : Places) (slot : DecidedSlot) (slots : Lis
       let there = level_in n t level slot.rows places first opening loaded.pointing within load s s_in in
       let at_zero : grant_of places s level ≡ 0 = line.here s (omega arith) s_in in
       let grants = grants_there n t level slot.rows places first opening loaded.pointing within load s s_in in
-      let granted : Grants n t slot.rows places (unmatched n) 0 s level Uni = subst (λ x. Grants n t slot.rows places (unmatched n) x s level Uni) at_zero grants in
+      let granted : Grants n t slot.rows places (unmatched n) 0 s level Uni =
+      subst (λ x. Grants n t slot.rows places (unmatched n) x s level Uni) at_zero grants in
       let met = served_by_first n t level slot.rows first places there opening loaded.pointing load.clean load.alone 0 s (omega arith) granted in
       let near : distance n (accept_of places 0 level) met.0 ≤ distance n (accept_of places 0 level) s = met.1.least s s_in granted in
       let own : distance n (accept_of places 0 level) s ≡ 0 = subst (λ x. distance n x s ≡ 0) (sym accepts) (distance-own n s s_in) in
@@ -84,5 +86,6 @@ pub unfilled_at_first : (n t level : ℕ) (slots : List DecidedSlot) → IsFully
     → All (IsNotFull n level) (take (n - 1) slots)
 unfolding places_at_first
 unfilled_at_first n t level slots loaded =
-    let line : IsLine n 0 (grants_of (places_at_first n) level) = record { gone = λ j j_in. absurd (omega arith); here = λ j after j_in. place_of-at_first level j } in
+    let line : IsLine n 0 (grants_of (places_at_first n) level) =
+    record { gone = λ j j_in. absurd (omega arith); here = λ j after j_in. place_of-at_first level j } in
     unfilled_after n level 0 (n - 1) t (places_at_first n) slots (omega arith) line (place_of-at_first level 0) loaded

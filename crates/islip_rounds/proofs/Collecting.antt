@@ -1,5 +1,6 @@
 -- Grants by output, collected by input, and accepted pairs put into a match.
-use Rattle.std.proofs.Common.{◌≡◌, ◌+◌, ℕ, ◌<◌, ◌↔◌, ◌⊎◌, ◌∙◌, List, Option, None, Some, length, slice_index, slice_index_or, slice_set, sym, subst, ap, arith, inl, inr, get_or-set_same, get_or-set_other}
+use Rattle.std.proofs.Common.{◌≡◌, ◌+◌, ℕ, ◌<◌, ◌↔◌, ◌⊎◌, ◌∙◌, List, Option, None, Some, length, slice_index, slice_index_or, slice_set, sym, subst, ap}
+use Rattle.std.proofs.Common.{arith, inl, inr, get_or-set_same, get_or-set_other}
 use Rattle.std.proofs.lemmas.Bool.{cases_eq}
 use Rattle.std.proofs.lemmas.Option.{same_Some}
 use Rattle.rotating_pick.specs.PortSets.{Has}
@@ -10,7 +11,8 @@ abbrev pub AreOffers : List (Option ℕ) → ℕ → List ℕ → Type 0
 AreOffers granted m offers = (i j : ℕ) → Has (slice_index offers i) j ↔ ((j < m) × Feeds granted i j)
 
 -- output m grants nobody
-pub AreOffers-skip : (granted : List (Option ℕ)) (m : ℕ) (offers : List ℕ) → slice_index_or granted m None ≡ None → AreOffers granted m offers → AreOffers granted (m + 1) offers
+pub AreOffers-skip : (granted : List (Option ℕ)) (m : ℕ) (offers : List ℕ) → slice_index_or granted m None ≡ None → AreOffers granted m offers
+    → AreOffers granted (m + 1) offers
 AreOffers-skip granted m offers nobody before i j = (
   λ has. let p = (before i j).0 has in (omega (arith, p.0), p.1),
   λ p. elim (cases_eq j m) [
@@ -20,7 +22,8 @@ AreOffers-skip granted m offers nobody before i j = (
 )
 
 -- output m grants input x
-pub AreOffers-put : (granted : List (Option ℕ)) (m x word : ℕ) (offers : List ℕ) → x < length offers → Feeds granted x m → ((j : ℕ) → Has word j ↔ ((j ≡ m) ⊎ Has (slice_index offers x) j)) → AreOffers granted m offers → AreOffers granted (m + 1) (slice_set offers x word)
+pub AreOffers-put : (granted : List (Option ℕ)) (m x word : ℕ) (offers : List ℕ) → x < length offers → Feeds granted x m
+    → ((j : ℕ) → Has word j ↔ ((j ≡ m) ⊎ Has (slice_index offers x) j)) → AreOffers granted m offers → AreOffers granted (m + 1) (slice_set offers x word)
 AreOffers-put granted m x word offers x_in grants put before i j =
     elim (cases_eq i x) [
       | inl same ↦
@@ -48,7 +51,8 @@ abbrev pub AreFed : List (Option ℕ) → List (Option ℕ) → ℕ → List (Op
 AreFed before accepted m fed = (i j : ℕ) → Feeds fed i j ↔ (Feeds before i j ⊎ ((i < m) × (slice_index_or accepted i None ≡ Some j)))
 
 -- input m accepts nothing
-pub AreFed-skip : (before accepted : List (Option ℕ)) (m : ℕ) (fed : List (Option ℕ)) → slice_index_or accepted m None ≡ None → AreFed before accepted m fed → AreFed before accepted (m + 1) fed
+pub AreFed-skip : (before accepted : List (Option ℕ)) (m : ℕ) (fed : List (Option ℕ)) → slice_index_or accepted m None ≡ None → AreFed before accepted m fed
+    → AreFed before accepted (m + 1) fed
 AreFed-skip before accepted m fed nothing was i j = (
   λ feeds. elim ((was i j).0 feeds) [ inl old ↦ inl old | inr p ↦ inr (omega (arith, p.0), p.1) ],
   λ s. (was i j).1
@@ -62,7 +66,9 @@ AreFed-skip before accepted m fed nothing was i j = (
 )
 
 -- input m accepts output y, which was free and which nobody else accepts
-pub AreFed-put : (before accepted : List (Option ℕ)) (m y : ℕ) (fed : List (Option ℕ)) → y < length fed → slice_index_or accepted m None ≡ Some y → IsFreeOutput before y → ((i : ℕ) → slice_index_or accepted i None ≡ Some y → i ≡ m) → AreFed before accepted m fed → AreFed before accepted (m + 1) (slice_set fed y (Some m))
+pub AreFed-put : (before accepted : List (Option ℕ)) (m y : ℕ) (fed : List (Option ℕ)) → y < length fed → slice_index_or accepted m None ≡ Some y
+    → IsFreeOutput before y → ((i : ℕ) → slice_index_or accepted i None ≡ Some y → i ≡ m) → AreFed before accepted m fed
+    → AreFed before accepted (m + 1) (slice_set fed y (Some m))
 AreFed-put before accepted m y fed y_in accepts free once was i j =
     elim (cases_eq j y) [
       | inl same ↦

@@ -1,5 +1,6 @@
 -- How many outputs of a match are matched, and how that grows with what is matched.
-use Rattle.std.proofs.Common.{◌≡◌, ℕ, zero, suc, ◌<◌, ◌≤◌, ◌⊎◌, cond, List, [], ◌∷◌, Option, None, Some, length, is_some, slice_index_or, refl, sym, ap, inl, inr, arith}
+use Rattle.std.proofs.Common.{◌≡◌, ℕ, zero, suc, ◌<◌, ◌≤◌, ◌⊎◌, cond, List, [], ◌∷◌, Option, None, Some, length, is_some, slice_index_or, refl, sym, ap}
+use Rattle.std.proofs.Common.{inl, inr, arith}
 use Rattle.std.proofs.lemmas.List.{ext_get_or}
 use Rattle.std.proofs.lemmas.List.Sums.{sum_by-cons}
 use Rattle.std.proofs.lemmas.Option.{none-some}
@@ -35,7 +36,8 @@ grown (x ∷ a) (y ∷ b) long keep =
     omega arith
 
 -- and more where an output was free
-pub grown_more : {X : Type 0} (a b : List (Option X)) → length a ≡ length b → Keeps a b → (j : ℕ) (f : X) → slice_index_or a j None ≡ None → slice_index_or b j None ≡ Some f → matched_count a < matched_count b
+pub grown_more : {X : Type 0} (a b : List (Option X)) → length a ≡ length b → Keeps a b → (j : ℕ) (f : X) → slice_index_or a j None ≡ None
+    → slice_index_or b j None ≡ Some f → matched_count a < matched_count b
 grown_more [] [] long keep j f none some = absurd (none-some f some)
 grown_more [] (y ∷ b) long keep j f none some = absurd (omega arith)
 grown_more (x ∷ a) [] long keep j f none some = absurd (omega arith)
@@ -67,10 +69,12 @@ kept_or_new None (Some y) keep none = absurd (none y refl refl)
 pub more_or_same : {X : Type 0} (a b : List (Option X)) → length a ≡ length b → Keeps a b → (matched_count a < matched_count b) ⊎ (a ≡ b)
 more_or_same {X} a b long keep =
     let New : ℕ → Type 0 = λ j. (f : X) × (slice_index_or a j None ≡ None) × (slice_index_or b j None ≡ Some f) in
-    let dec : (j : ℕ) → Decides (New j) = λ j. elim (added_at (slice_index_or a j None) (slice_index_or b j None)) [ inl p ↦ inl p | inr q ↦ inr (λ p. q p.0 p.1 p.2) ] in
+    let dec : (j : ℕ) → Decides (New j) =
+    λ j. elim (added_at (slice_index_or a j None) (slice_index_or b j None)) [ inl p ↦ inl p | inr q ↦ inr (λ p. q p.0 p.1 p.2) ] in
     elim (least New dec (length a)) [
       | inl p ↦ inl (grown_more a b long keep p.0 p.2.0 p.2.1 p.2.2)
-      | inr none ↦ inr (ext_get_or None a b long (λ j below. kept_or_new (slice_index_or a j None) (slice_index_or b j None) (keep j) (λ f e h. none j below (f, e, h))))
+      | inr none ↦ inr (ext_get_or None a b long
+          (λ j below. kept_or_new (slice_index_or a j None) (slice_index_or b j None) (keep j) (λ f e h. none j below (f, e, h))))
     ]
 
 -- where no output from n on is matched, at most n are
@@ -88,7 +92,8 @@ count_within (x ∷ m) (suc n) beyond =
     omega arith
 
 -- and fewer than n where one below n is free
-pub count_fewer : {X : Type 0} (m : List (Option X)) (n j : ℕ) → ((k : ℕ) → n ≤ k → slice_index_or m k None ≡ None) → j < n → slice_index_or m j None ≡ None → matched_count m < n
+pub count_fewer : {X : Type 0} (m : List (Option X)) (n j : ℕ) → ((k : ℕ) → n ≤ k → slice_index_or m k None ≡ None) → j < n → slice_index_or m j None ≡ None
+    → matched_count m < n
 count_fewer [] n j beyond below free = omega arith
 count_fewer (x ∷ m) zero j beyond below free = absurd (omega arith)
 count_fewer (x ∷ m) (suc n) zero beyond below free =

@@ -10,7 +10,8 @@ pub last_of-map : {X Y : Type 0} (f : X → Y) (x : X) (xs : List X) → last_of
 last_of-map f x [] = refl
 last_of-map f x (y ∷ ys) = last_of-map f y ys
 
-pub added_from-append : {X : Type 0} (f : X → ℕ) (x y : X) (xs : List X) → added_from (f x) (map f (xs ++ y ∷ [])) ≡ added_from (f x) (map f xs) ++ (f y - f (last_of x xs)) ∷ []
+pub added_from-append : {X : Type 0} (f : X → ℕ) (x y : X) (xs : List X) → added_from (f x) (map f (xs ++ y ∷ [])) ≡ added_from (f x) (map f xs)
+    ++ (f y - f (last_of x xs)) ∷ []
 added_from-append f x y [] = refl
 added_from-append f x y (z ∷ zs) = ap (λ rest. (f z - f x) ∷ rest) (added_from-append f z y zs)
 

@@ -25,7 +25,8 @@ feeds_or (Some x) i = elim (cases_eq x i) [ inl same ↦ inl (λ t. Some (same t
 pub fed_below : (fed : List (Option ℕ)) (m i : ℕ) → ((j : ℕ) × Feeds fed i j) ⊎ ((j : ℕ) → j < m → Feeds fed i j → ⊥)
 fed_below fed m i = elim (least (Feeds fed i) (λ j. feeds_or (slice_index_or fed j None) i) m) [ inl found ↦ inl (found.0, found.2) | inr none ↦ inr none ]
 
-module _ (n : ℕ) (asks : List ℕ) (pointers : UniPointers) (grant_in : (k : ℕ) → k < n → slice_index pointers.grant k < n) (accept_in : (k : ℕ) → k < n → slice_index pointers.accept k < n) (fed : List (Option ℕ)) (within : (i j : ℕ) → Feeds fed i j → (i < n) × (j < n)) where
+module _ (n : ℕ) (asks : List ℕ) (pointers : UniPointers) (grant_in : (k : ℕ) → k < n → slice_index pointers.grant k < n)
+    (accept_in : (k : ℕ) → k < n → slice_index pointers.accept k < n) (fed : List (Option ℕ)) (within : (i j : ℕ) → Feeds fed i j → (i < n) × (j < n)) where
   -- whether an input is free
   free_input_or : (i : ℕ) → Decides (IsFreeInput fed i)
   free_input_or i = elim (fed_below fed n i) [
@@ -54,12 +55,14 @@ module _ (n : ℕ) (asks : List ℕ) (pointers : UniPointers) (grant_in : (k : �
   ]
 
   -- where a free input asks a free output, some input accepts
-  pub some_accepts : (i j : ℕ) → i < n → j < n → IsFreeInput fed i → IsFreeOutput fed j → Has (slice_index asks i) j → (x : ℕ) × (y : ℕ) × Accepts n asks pointers fed x y
+  pub some_accepts : (i j : ℕ) → i < n → j < n → IsFreeInput fed i → IsFreeOutput fed j → Has (slice_index asks i) j → (x : ℕ) × (y : ℕ)
+      × Accepts n asks pointers fed x y
   some_accepts i j i_in j_in free vacant has =
       let granted = IsFirstFrom-some n (slice_index pointers.grant j) (λ x. Requests asks fed x j) (Requests-decides j) (grant_in j j_in) i i_in (free, has) in
       let x = granted.0 in
       let grants : Grants n asks pointers fed x j = record { output_in = j_in; output_free = vacant; first = granted.1 } in
-      let accepted = IsFirstFrom-some n (slice_index pointers.accept x) (λ y. Grants n asks pointers fed x y) (Grants-decides x) (accept_in x granted.1.below) j j_in grants in
+      let accepted = IsFirstFrom-some n (slice_index pointers.accept x) (λ y. Grants n asks pointers fed x y) (Grants-decides x)
+      (accept_in x granted.1.below) j j_in grants in
       (x, accepted.0, accepted.1)
 
   -- a round that adds nothing began with a maximal match
@@ -76,7 +79,8 @@ module _ (n : ℕ) (asks : List ℕ) (pointers : UniPointers) (before after : Li
   adds long = more_or_same before after long (λ j i feeds. (round i j).1 (inl feeds))
 
   -- after a round no input has two outputs, where none had before
-  pub once_after : ((i j k : ℕ) → Feeds before i j → Feeds before i k → j ≡ k) → ((i : ℕ) → i < n → slice_index pointers.accept i < n) → (i j k : ℕ) → Feeds after i j → Feeds after i k → j ≡ k
+  pub once_after : ((i j k : ℕ) → Feeds before i j → Feeds before i k → j ≡ k) → ((i : ℕ) → i < n → slice_index pointers.accept i < n) → (i j k : ℕ)
+      → Feeds after i j → Feeds after i k → j ≡ k
   once_after once accept_in i j k feeds also = elim ((round i j).0 feeds) [
     | inl old ↦ elim ((round i k).0 also) [
       | inl same ↦ once i j k old same
@@ -84,6 +88,7 @@ module _ (n : ℕ) (asks : List ℕ) (pointers : UniPointers) (before after : Li
     ]
     | inr accepts ↦ elim ((round i k).0 also) [
       | inl old ↦ absurd (accepts.member.first.member.0 k old)
-      | inr other ↦ IsFirstFrom-only n (slice_index pointers.accept i) (λ y. Grants n asks pointers before i y) j k (accept_in i accepts.member.first.below) accepts other
+      | inr other ↦ IsFirstFrom-only n (slice_index pointers.accept i) (λ y. Grants n asks pointers before i y) j k
+          (accept_in i accepts.member.first.below) accepts other
     ]
   ]

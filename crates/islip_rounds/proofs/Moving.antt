@@ -1,5 +1,6 @@
 -- The pointers that the pairs of the first outputs move.
-use Rattle.std.proofs.Common.{◌≡◌, ◌+◌, ◌%◌, ℕ, ◌<◌, ◌∙◌, List, Option, None, length, slice_index, slice_index_or, slice_set, sym, subst, arith, inl, inr, get_or-set_same, get_or-set_other, length-set}
+use Rattle.std.proofs.Common.{◌≡◌, ◌+◌, ◌%◌, ℕ, ◌<◌, ◌∙◌, List, Option, None, length, slice_index, slice_index_or, slice_set, sym, subst, arith, inl}
+use Rattle.std.proofs.Common.{inr, get_or-set_same, get_or-set_other, length-set}
 use Rattle.std.proofs.lemmas.Bool.{cases_eq, cases_lt}
 use Rattle.std.proofs.lemmas.List.{get_or_past}
 use Rattle.std.proofs.lemmas.Option.{same_Some}
@@ -16,7 +17,8 @@ pub record AreAcceptsMoved (n m : ℕ) (first : List (Option ℕ)) (before after
   pub stays : (i : ℕ) → ((j : ℕ) → j < m → Feeds first i j → ⊥) → slice_index after i ≡ slice_index before i
 
 -- output m is matched with no input
-pub AreGrantsMoved-skip : (n m : ℕ) (first : List (Option ℕ)) (before after : List ℕ) → slice_index_or first m None ≡ None → AreGrantsMoved n m first before after → AreGrantsMoved n (m + 1) first before after
+pub AreGrantsMoved-skip : (n m : ℕ) (first : List (Option ℕ)) (before after : List ℕ) → slice_index_or first m None ≡ None
+    → AreGrantsMoved n m first before after → AreGrantsMoved n (m + 1) first before after
 AreGrantsMoved-skip n m first before after free was = record {
   moved = λ i j j_in feeds. elim (cases_eq j m) [
     | inl same ↦ let feeds_m : Feeds first i m = subst (Feeds first i) same feeds in absurd (cc)
@@ -25,7 +27,8 @@ AreGrantsMoved-skip n m first before after free was = record {
   stays = λ j none. was.stays j (λ i j_in feeds. none i (omega arith) feeds);
 }
 
-pub AreAcceptsMoved-skip : (n m : ℕ) (first : List (Option ℕ)) (before after : List ℕ) → slice_index_or first m None ≡ None → AreAcceptsMoved n m first before after → AreAcceptsMoved n (m + 1) first before after
+pub AreAcceptsMoved-skip : (n m : ℕ) (first : List (Option ℕ)) (before after : List ℕ) → slice_index_or first m None ≡ None
+    → AreAcceptsMoved n m first before after → AreAcceptsMoved n (m + 1) first before after
 AreAcceptsMoved-skip n m first before after free was = record {
   moved = λ i j j_in feeds. elim (cases_eq j m) [
     | inl same ↦ let feeds_m : Feeds first i m = subst (Feeds first i) same feeds in absurd (cc)
@@ -35,7 +38,8 @@ AreAcceptsMoved-skip n m first before after free was = record {
 }
 
 -- output m is matched with input x
-pub AreGrantsMoved-put : (n m x : ℕ) (first : List (Option ℕ)) (before after : List ℕ) → m < length after → Feeds first x m → AreGrantsMoved n m first before after → AreGrantsMoved n (m + 1) first before (slice_set after m ((x + 1) % n))
+pub AreGrantsMoved-put : (n m x : ℕ) (first : List (Option ℕ)) (before after : List ℕ) → m < length after → Feeds first x m
+    → AreGrantsMoved n m first before after → AreGrantsMoved n (m + 1) first before (slice_set after m ((x + 1) % n))
 AreGrantsMoved-put n m x first before after m_in here was =
     let place = λ (j : ℕ). slice_index (slice_set after m ((x + 1) % n)) j in
     record {
@@ -53,7 +57,8 @@ AreGrantsMoved-put n m x first before after m_in here was =
       ];
     }
 
-pub AreAcceptsMoved-put : (n m x : ℕ) (first : List (Option ℕ)) (before after : List ℕ) → x < length after → Feeds first x m → ((j : ℕ) → Feeds first x j → j ≡ m) → AreAcceptsMoved n m first before after → AreAcceptsMoved n (m + 1) first before (slice_set after x ((m + 1) % n))
+pub AreAcceptsMoved-put : (n m x : ℕ) (first : List (Option ℕ)) (before after : List ℕ) → x < length after → Feeds first x m
+    → ((j : ℕ) → Feeds first x j → j ≡ m) → AreAcceptsMoved n m first before after → AreAcceptsMoved n (m + 1) first before (slice_set after x ((m + 1) % n))
 AreAcceptsMoved-put n m x first before after x_in here once was =
     let place = λ (i : ℕ). slice_index (slice_set after x ((m + 1) % n)) i in
     record {
@@ -74,12 +79,15 @@ AreAcceptsMoved-put n m x first before after x_in here once was =
     }
 
 -- a pointer that is moved to a port leaves all at ports
-pub stays-in : (n k place : ℕ) (places : List ℕ) → place < n → ((j : ℕ) → j < n → slice_index places j < n) → (j : ℕ) → j < n → slice_index (slice_set places k place) j < n
+pub stays-in : (n k place : ℕ) (places : List ℕ) → place < n → ((j : ℕ) → j < n → slice_index places j < n) → (j : ℕ) → j < n
+    → slice_index (slice_set places k place) j < n
 stays-in n k place places place_in all j j_in =
     elim (cases_eq j k) [
       | inl same ↦ elim (cases_lt k (length places)) [
-        | inl there ↦ let at_k : slice_index (slice_set places k place) k < n = rw get_or-set_same place_in in subst (λ y. slice_index (slice_set places k place) y < n) (sym same) at_k
-        | inr past ↦ let none : slice_index (slice_set places k place) j ≡ 0 = get_or_past (slice_set places k place) j 0 (omega (arith, length-set {A = ℕ})) in omega arith
+        | inl there ↦ let at_k : slice_index (slice_set places k place) k < n = rw get_or-set_same place_in in
+            subst (λ y. slice_index (slice_set places k place) y < n) (sym same) at_k
+        | inr past ↦ let none : slice_index (slice_set places k place) j ≡ 0 =
+            get_or_past (slice_set places k place) j 0 (omega (arith, length-set {A = ℕ})) in omega arith
       ]
       | inr other ↦ rw get_or-set_other (all j j_in)
     ]

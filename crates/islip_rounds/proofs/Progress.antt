@@ -11,19 +11,25 @@ use Rattle.islip_rounds.proofs.Maximal.{some_accepts}
 use Rattle.islip_rounds.proofs.Running.{nothing_fed}
 
 -- what a round adds that starts from nothing matched
-pub some_pair : (n : ℕ) (asks : List ℕ) (pointers : UniPointers) → ((k : ℕ) → k < n → slice_index pointers.grant k < n) → ((k : ℕ) → k < n → slice_index pointers.accept k < n) → (i j : ℕ) (after : List (Option ℕ)) → IsRound n asks pointers unmatched after → i < n → j < n → Has (slice_index asks i) j → (x : ℕ) × (y : ℕ) × (x < n) × (y < n) × Has (slice_index asks x) y × Feeds after x y
+pub some_pair : (n : ℕ) (asks : List ℕ) (pointers : UniPointers) → ((k : ℕ) → k < n → slice_index pointers.grant k < n)
+    → ((k : ℕ) → k < n → slice_index pointers.accept k < n) → (i j : ℕ) (after : List (Option ℕ)) → IsRound n asks pointers unmatched after → i < n → j < n
+    → Has (slice_index asks i) j → (x : ℕ) × (y : ℕ) × (x < n) × (y < n) × Has (slice_index asks x) y × Feeds after x y
 some_pair n asks pointers grant_in accept_in i j after round i_in j_in has =
-    let accepted = some_accepts n asks pointers grant_in accept_in unmatched (λ x y feeds. absurd (nothing_fed x y feeds)) i j i_in j_in (nothing_fed i) (get_or-same None 64 j) has in
+    let accepted = some_accepts n asks pointers grant_in accept_in unmatched (λ x y feeds. absurd (nothing_fed x y feeds)) i j i_in j_in (nothing_fed i)
+    (get_or-same None 64 j) has in
     let x = accepted.0 in
     let y = accepted.1 in
     let grant = accepted.2.member in
     (x, y, grant.first.below, accepted.2.below, grant.first.member.1, (round x y).1 (inr accepted.2))
 
 -- the same of a slot of one round
-pub some_pair_in_slot : (n i j : ℕ) (asks : List ℕ) (before after : UniPointers) (matched : List (Option ℕ)) (numbers : RoundsUsed) → ((k : ℕ) → k < n → slice_index before.grant k < n) → ((k : ℕ) → k < n → slice_index before.accept k < n) → IsSlot n 1 asks before matched numbers after → i < n → j < n → Has (slice_index asks i) j → (x : ℕ) × (y : ℕ) × (x < n) × (y < n) × Has (slice_index asks x) y × Feeds matched x y
+pub some_pair_in_slot : (n i j : ℕ) (asks : List ℕ) (before after : UniPointers) (matched : List (Option ℕ)) (numbers : RoundsUsed)
+    → ((k : ℕ) → k < n → slice_index before.grant k < n) → ((k : ℕ) → k < n → slice_index before.accept k < n) → IsSlot n 1 asks before matched numbers after
+    → i < n → j < n → Has (slice_index asks i) j → (x : ℕ) × (y : ℕ) × (x < n) × (y < n) × Has (slice_index asks x) y × Feeds matched x y
 some_pair_in_slot n i j asks before after matched numbers grant_in accept_in slot i_in j_in has = from_steps slot.steps slot.count slot.chain slot.result
   where
-    from_steps : (steps : List (List (Option ℕ))) → length steps ≡ 1 → AreRounds n asks before unmatched steps → matched ≡ last_of unmatched steps → (x : ℕ) × (y : ℕ) × (x < n) × (y < n) × Has (slice_index asks x) y × Feeds matched x y
+    from_steps : (steps : List (List (Option ℕ))) → length steps ≡ 1 → AreRounds n asks before unmatched steps → matched ≡ last_of unmatched steps → (x : ℕ)
+        × (y : ℕ) × (x < n) × (y < n) × Has (slice_index asks x) y × Feeds matched x y
     from_steps [] count chain result = absurd (omega (arith, count))
     from_steps (step ∷ []) count chain result =
         let pair = some_pair n asks before grant_in accept_in i j step chain.0 i_in j_in has in
@@ -31,7 +37,8 @@ some_pair_in_slot n i j asks before after matched numbers grant_in accept_in slo
     from_steps (step ∷ other ∷ steps) count chain result = absurd (omega (arith, count))
 
 -- a pair of a match after rounds was in the match before them, or was asked
-asked_in_rounds : (n : ℕ) (asks : List ℕ) (pointers : UniPointers) (before : List (Option ℕ)) (steps : List (List (Option ℕ))) (i j : ℕ) → AreRounds n asks pointers before steps → Feeds (last_of before steps) i j → Feeds before i j ⊎ ((i < n) × (j < n) × Has (slice_index asks i) j)
+asked_in_rounds : (n : ℕ) (asks : List ℕ) (pointers : UniPointers) (before : List (Option ℕ)) (steps : List (List (Option ℕ))) (i j : ℕ)
+    → AreRounds n asks pointers before steps → Feeds (last_of before steps) i j → Feeds before i j ⊎ ((i < n) × (j < n) × Has (slice_index asks i) j)
 asked_in_rounds n asks pointers before [] i j chain feeds = inl feeds
 asked_in_rounds n asks pointers before (step ∷ steps) i j chain feeds = elim (asked_in_rounds n asks pointers step steps i j chain.1 feeds) [
   | inl here ↦ elim ((chain.0 i j).0 here) [
@@ -42,8 +49,10 @@ asked_in_rounds n asks pointers before (step ∷ steps) i j chain feeds = elim (
 ]
 
 -- a slot matches only pairs that are asked
-pub asked_in_slot : (n rounds i j : ℕ) (asks : List ℕ) (before after : UniPointers) (matched : List (Option ℕ)) (numbers : RoundsUsed) → IsSlot n rounds asks before matched numbers after → Feeds matched i j → (i < n) × (j < n) × Has (slice_index asks i) j
-asked_in_slot n rounds i j asks before after matched numbers slot feeds = elim (asked_in_rounds n asks before unmatched slot.steps i j slot.chain (subst (λ m. Feeds m i j) slot.result feeds)) [
-  | inl none ↦ absurd (nothing_fed i j none)
-  | inr asked ↦ asked
-]
+pub asked_in_slot : (n rounds i j : ℕ) (asks : List ℕ) (before after : UniPointers) (matched : List (Option ℕ)) (numbers : RoundsUsed)
+    → IsSlot n rounds asks before matched numbers after → Feeds matched i j → (i < n) × (j < n) × Has (slice_index asks i) j
+asked_in_slot n rounds i j asks before after matched numbers slot feeds =
+    elim (asked_in_rounds n asks before unmatched slot.steps i j slot.chain (subst (λ m. Feeds m i j) slot.result feeds)) [
+      | inl none ↦ absurd (nothing_fed i j none)
+      | inr asked ↦ asked
+    ]

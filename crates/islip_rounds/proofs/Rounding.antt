@@ -11,19 +11,27 @@ use Rattle.islip_rounds.specs.Rounds.{Feeds, IsFreeInput, IsFreeOutput, Requests
 use Rattle.islip_rounds.proofs.Collecting.{AreOffers, AreFed}
 
 -- a port that chose is one of the n
-pub chooser-lt : (n : ℕ) (from masks : List ℕ) (free : ℕ) (chosen : List (Option ℕ)) (k x : ℕ) → AreAllChoices n from masks free chosen → slice_index_or chosen k None ≡ Some x → k < n
+pub chooser-lt : (n : ℕ) (from masks : List ℕ) (free : ℕ) (chosen : List (Option ℕ)) (k x : ℕ) → AreAllChoices n from masks free chosen
+    → slice_index_or chosen k None ≡ Some x → k < n
 chooser-lt n from masks free chosen k x all some =
     elim (cases_lt k n) [ inl below ↦ below | inr beyond ↦ let none = all.rest k beyond in absurd (cc) ]
 
 -- and what it chose is a member of its set and one of the n
-pub chosen_member : (n : ℕ) (from masks : List ℕ) (free : ℕ) (chosen : List (Option ℕ)) (k x : ℕ) → AreAllChoices n from masks free chosen → slice_index_or chosen k None ≡ Some x → IsFirstFrom n (slice_index from k) (Has (slice_index masks k)) x
+pub chosen_member : (n : ℕ) (from masks : List ℕ) (free : ℕ) (chosen : List (Option ℕ)) (k x : ℕ) → AreAllChoices n from masks free chosen
+    → slice_index_or chosen k None ≡ Some x → IsFirstFrom n (slice_index from k) (Has (slice_index masks k)) x
 chosen_member n from masks free chosen k x all some = ((all.choices k (chooser-lt n from masks free chosen k x all some) x).0 some).1
 
 -- an output that granted took part
-pub chooser_free : (n : ℕ) (from masks : List ℕ) (free : ℕ) (chosen : List (Option ℕ)) (k x : ℕ) → AreAllChoices n from masks free chosen → slice_index_or chosen k None ≡ Some x → Has free k
+pub chooser_free : (n : ℕ) (from masks : List ℕ) (free : ℕ) (chosen : List (Option ℕ)) (k x : ℕ) → AreAllChoices n from masks free chosen
+    → slice_index_or chosen k None ≡ Some x → Has free k
 chooser_free n from masks free chosen k x all some = ((all.choices k (chooser-lt n from masks free chosen k x all some) x).0 some).0
 
-module _ (n : ℕ) (asks columns : List ℕ) (pointers : UniPointers) (before : List (Option ℕ)) (free_inputs free_outputs everyone : ℕ) (asked offers : List ℕ) (granted accepted : List (Option ℕ)) (turned : AreColumns n asks columns) (inputs : (i : ℕ) → Has free_inputs i ↔ ((i < n) × IsFreeInput before i)) (outputs : (j : ℕ) → Has free_outputs j ↔ ((j < n) × IsFreeOutput before j)) (is_asked : (j x : ℕ) → j < n → Has (slice_index asked j) x ↔ (Has (slice_index columns j) x × Has free_inputs x)) (is_granted : AreAllChoices n pointers.grant asked free_outputs granted) (is_offered : AreOffers granted n offers) (everybody : (x : ℕ) → Has everyone x ↔ (x < n)) (is_accepted : AreAllChoices n pointers.accept offers everyone accepted) where
+module _ (n : ℕ) (asks columns : List ℕ) (pointers : UniPointers) (before : List (Option ℕ)) (free_inputs free_outputs everyone : ℕ) (asked offers : List ℕ)
+    (granted accepted : List (Option ℕ)) (turned : AreColumns n asks columns) (inputs : (i : ℕ) → Has free_inputs i ↔ ((i < n) × IsFreeInput before i))
+    (outputs : (j : ℕ) → Has free_outputs j ↔ ((j < n) × IsFreeOutput before j))
+    (is_asked : (j x : ℕ) → j < n → Has (slice_index asked j) x ↔ (Has (slice_index columns j) x × Has free_inputs x))
+    (is_granted : AreAllChoices n pointers.grant asked free_outputs granted) (is_offered : AreOffers granted n offers)
+    (everybody : (x : ℕ) → Has everyone x ↔ (x < n)) (is_accepted : AreAllChoices n pointers.accept offers everyone accepted) where
   -- an input is in the table of an output exactly where it asks the output
   same_request : (j : ℕ) → j < n → (x : ℕ) → x < n → Has (slice_index asked j) x ↔ Requests asks before x j
   same_request j j_in x x_in = (
@@ -44,7 +52,8 @@ module _ (n : ℕ) (asks columns : List ℕ) (pointers : UniPointers) (before : 
         },
     λ g. (is_granted.choices j g.output_in i).1 (
       (outputs j).1 (g.output_in, g.output_free),
-      IsFirstFrom-along n (slice_index pointers.grant j) (λ x. Requests asks before x j) (Has (slice_index asked j)) i (λ x x_in. let same = same_request j g.output_in x x_in in (same.1, same.0)) g.first,
+      IsFirstFrom-along n (slice_index pointers.grant j) (λ x. Requests asks before x j) (Has (slice_index asked j)) i
+          (λ x x_in. let same = same_request j g.output_in x x_in in (same.1, same.0)) g.first,
     ),
   )
 
@@ -60,12 +69,14 @@ module _ (n : ℕ) (asks columns : List ℕ) (pointers : UniPointers) (before : 
   Some-iff_accepts i j = (
     λ some.
         let i_in = chooser-lt n pointers.accept offers everyone accepted i j is_accepted some in
-        IsFirstFrom-along n (slice_index pointers.accept i) (Has (slice_index offers i)) (λ y. Grants n asks pointers before i y) j (λ y _. Has-iff_grants i y) ((is_accepted.choices i i_in j).0 some).1,
+        IsFirstFrom-along n (slice_index pointers.accept i) (Has (slice_index offers i)) (λ y. Grants n asks pointers before i y) j
+        (λ y _. Has-iff_grants i y) ((is_accepted.choices i i_in j).0 some).1,
     λ accepts.
         let i_in : i < n = accepts.member.first.below in
         (is_accepted.choices i i_in j).1 (
           (everybody i).1 i_in,
-          IsFirstFrom-along n (slice_index pointers.accept i) (λ y. Grants n asks pointers before i y) (Has (slice_index offers i)) j (λ y _. let same = Has-iff_grants i y in (same.1, same.0)) accepts,
+          IsFirstFrom-along n (slice_index pointers.accept i) (λ y. Grants n asks pointers before i y) (Has (slice_index offers i)) j
+              (λ y _. let same = Has-iff_grants i y in (same.1, same.0)) accepts,
         ),
   )
 

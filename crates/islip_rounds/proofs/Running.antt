@@ -1,5 +1,6 @@
 -- Rounds one after another, with their numbers.
-use Rattle.std.proofs.Common.{◌≡◌, ◌+◌, ◌-◌, ℕ, ◌<◌, ◌∙◌, List, [], ◌∷◌, ◌++◌, Option, None, length, map, slice_index_or, refl, sym, ap, subst, arith, length-append}
+use Rattle.std.proofs.Common.{◌≡◌, ◌+◌, ◌-◌, ℕ, ◌<◌, ◌∙◌, List, [], ◌∷◌, ◌++◌, Option, None, length, map, slice_index_or, refl, sym, ap, subst, arith}
+use Rattle.std.proofs.Common.{length-append}
 use Rattle.islip_rounds.specs.declared.numbers.RoundsUsed.{RoundsUsed}
 use Rattle.islip_rounds.specs.declared.unicast.UniPointers.{UniPointers}
 use Rattle.islip_rounds.specs.Numbers.{last_of, matched_count, added_from, numbers_of, slot_numbers}
@@ -9,7 +10,8 @@ use Rattle.islip_rounds.proofs.Lasts.{last_of-append, added_from-append, length-
 use Rattle.rotating_pick.proofs.Tables.{get_or-same}
 
 -- one more round at the end
-pub AreRounds-append : (n : ℕ) (asks : List ℕ) (pointers : UniPointers) (before after : List (Option ℕ)) (steps : List (List (Option ℕ))) → AreRounds n asks pointers before steps → IsRound n asks pointers (last_of before steps) after → AreRounds n asks pointers before (steps ++ after ∷ [])
+pub AreRounds-append : (n : ℕ) (asks : List ℕ) (pointers : UniPointers) (before after : List (Option ℕ)) (steps : List (List (Option ℕ)))
+    → AreRounds n asks pointers before steps → IsRound n asks pointers (last_of before steps) after → AreRounds n asks pointers before (steps ++ after ∷ [])
 AreRounds-append n asks pointers before after [] chain next = (next, tt)
 AreRounds-append n asks pointers before after (step ∷ steps) chain next = (chain.0, AreRounds-append n asks pointers step after steps chain.1 next)
 
@@ -29,7 +31,9 @@ pub record IsRun (n k : ℕ) (asks : List ℕ) (pointers : UniPointers) (first f
   pub numbered : numbers ≡ slot_numbers steps
 
 -- after the first round
-pub IsRun-first : (n : ℕ) (asks : List ℕ) (pointers : UniPointers) (fed : List (Option ℕ)) (matched : ℕ) (numbers : RoundsUsed) → IsRound n asks pointers unmatched fed → matched ≡ matched_count fed → numbers ≡ numbers_of (matched ∷ []) → IsRun n 1 asks pointers fed fed matched numbers
+pub IsRun-first : (n : ℕ) (asks : List ℕ) (pointers : UniPointers) (fed : List (Option ℕ)) (matched : ℕ) (numbers : RoundsUsed)
+    → IsRound n asks pointers unmatched fed → matched ≡ matched_count fed → numbers ≡ numbers_of (matched ∷ [])
+    → IsRun n 1 asks pointers fed fed matched numbers
 IsRun-first n asks pointers fed matched numbers round counted numbered = record {
   steps = fed ∷ [];
   count = refl;
@@ -42,8 +46,10 @@ IsRun-first n asks pointers fed matched numbers round counted numbered = record 
 }
 
 -- after one more round
-pub IsRun-next : (n k : ℕ) (asks : List ℕ) (pointers : UniPointers) (first fed after : List (Option ℕ)) (matched now : ℕ) (numbers more : RoundsUsed) → IsRun n k asks pointers first fed matched numbers → IsRound n asks pointers fed after → now ≡ matched_count after
-    → ((each : List ℕ) → length each ≡ k → numbers ≡ numbers_of each → more ≡ numbers_of (each ++ (now - matched) ∷ [])) → IsRun n (k + 1) asks pointers first after now more
+pub IsRun-next : (n k : ℕ) (asks : List ℕ) (pointers : UniPointers) (first fed after : List (Option ℕ)) (matched now : ℕ) (numbers more : RoundsUsed)
+    → IsRun n k asks pointers first fed matched numbers → IsRound n asks pointers fed after → now ≡ matched_count after
+    → ((each : List ℕ) → length each ≡ k → numbers ≡ numbers_of each → more ≡ numbers_of (each ++ (now - matched) ∷ []))
+    → IsRun n (k + 1) asks pointers first after now more
 IsRun-next n k asks pointers first fed after matched now numbers more run round counted numbered =
     let each = added_from 0 (map matched_count run.steps) in
     let long : length each ≡ k = length-added_from 0 (map matched_count run.steps) ∙ (length-map_counts matched_count run.steps ∙ run.count) in

@@ -9,7 +9,9 @@ pub record IsScattered (i row rest : ℕ) (before columns : List ℕ) : Type 0 w
   pub scattered : (k j : ℕ) → Has (slice_index columns j) k ↔ (((k ≡ i) × Has row j × (Has rest j → ⊥)) ⊎ Has (slice_index before j) k)
 
 -- output j is next
-pub IsScattered-next : (i row rest less j column : ℕ) (before columns : List ℕ) → j < length columns → Has rest j → ((y : ℕ) → Has less y ↔ ((y ≢ j) × Has rest y)) → ((k : ℕ) → Has column k ↔ ((k ≡ i) ⊎ Has (slice_index columns j) k)) → IsScattered i row rest before columns → IsScattered i row less before (slice_set columns j column)
+pub IsScattered-next : (i row rest less j column : ℕ) (before columns : List ℕ) → j < length columns → Has rest j
+    → ((y : ℕ) → Has less y ↔ ((y ≢ j) × Has rest y)) → ((k : ℕ) → Has column k ↔ ((k ≡ i) ⊎ Has (slice_index columns j) k))
+    → IsScattered i row rest before columns → IsScattered i row less before (slice_set columns j column)
 IsScattered-next i row rest less j column before columns j_in here taken put was = record {
   within = λ y left. was.within y ((taken y).0 left).1;
   scattered = λ k y.
@@ -23,7 +25,8 @@ IsScattered-next i row rest less j column before columns j_in here taken put was
               ],
               λ s. (put k).1 (elim s [ inl new ↦ inl new.0 | inr before_too ↦ inr ((was.scattered k j).1 (inr before_too)) ]),
             ) in
-            subst (λ z. Has (slice_index (slice_set columns j column) z) k ↔ (((k ≡ i) × Has row z × (Has less z → ⊥)) ⊎ Has (slice_index before z) k)) (sym same) at_j
+            subst (λ z. Has (slice_index (slice_set columns j column) z) k ↔ (((k ≡ i) × Has row z × (Has less z → ⊥)) ⊎ Has (slice_index before z) k))
+            (sym same) at_j
         | inr other ↦
             rw get_or-set_other (
               λ has. elim ((was.scattered k y).0 has) [ inl out ↦ inl (out.0, out.1, λ left. out.2 ((taken y).0 left).1) | inr before_too ↦ inr before_too ],

@@ -1,12 +1,14 @@
 -- Tables that are filled one place after another.
-use Rattle.std.proofs.Common.{◌≡◌, ◌+◌, ℕ, zero, suc, ◌<◌, List, length, replicate, slice_index, slice_index_or, slice_set, refl, sym, ◌∙◌, ap, subst, arith, inl, inr, get_or-set_same, get_or-set_other}
+use Rattle.std.proofs.Common.{◌≡◌, ◌+◌, ℕ, zero, suc, ◌<◌, List, length, replicate, slice_index, slice_index_or, slice_set, refl, sym, ◌∙◌, ap, subst}
+use Rattle.std.proofs.Common.{arith, inl, inr, get_or-set_same, get_or-set_other}
 use Rattle.std.specs.Int.{bit_at}
 use Rattle.rotating_pick.specs.PortSets.{Has}
 use Rattle.rotating_pick.proofs.Bits.{no_member-zero}
 use Rattle.std.proofs.lemmas.Bool.{cases_eq}
 
 -- place m is next
-pub below-next : {X : Type 0} (P : ℕ → X → Type 0) (d : X) (xs : List X) (m : ℕ) (x : X) → m < length xs → P m x → ((k : ℕ) → k < m → P k (slice_index_or xs k d)) → (k : ℕ) → k < m + 1 → P k (slice_index_or (slice_set xs m x) k d)
+pub below-next : {X : Type 0} (P : ℕ → X → Type 0) (d : X) (xs : List X) (m : ℕ) (x : X) → m < length xs → P m x
+    → ((k : ℕ) → k < m → P k (slice_index_or xs k d)) → (k : ℕ) → k < m + 1 → P k (slice_index_or (slice_set xs m x) k d)
 below-next P d xs m x m_in here below k k_in =
     elim (cases_eq k m) [
       | inl same ↦

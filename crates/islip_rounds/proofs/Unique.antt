@@ -33,26 +33,31 @@ module _ (n : ℕ) (asks : List ℕ) (pointers : UniPointers) where
   grants a b same i j g = record {
     output_in = g.output_in;
     output_free = sym (same j) ∙ g.output_free;
-    first = IsFirstFrom-along n (slice_index pointers.grant j) (λ x. Requests asks a x j) (λ x. Requests asks b x j) i (λ x x_in. (requests a b same x j, requests b a (back a b same) x j)) g.first;
+    first = IsFirstFrom-along n (slice_index pointers.grant j) (λ x. Requests asks a x j) (λ x. Requests asks b x j) i
+        (λ x x_in. (requests a b same x j, requests b a (back a b same) x j)) g.first;
   }
 
   accepts : (a b : List (Option ℕ)) → AreSame a b → (i j : ℕ) → Accepts n asks pointers a i j → Accepts n asks pointers b i j
-  accepts a b same i j = IsFirstFrom-along n (slice_index pointers.accept i) (λ y. Grants n asks pointers a i y) (λ y. Grants n asks pointers b i y) j (λ y y_in. (grants a b same i y, grants b a (back a b same) i y))
+  accepts a b same i j = IsFirstFrom-along n (slice_index pointers.accept i) (λ y. Grants n asks pointers a i y) (λ y. Grants n asks pointers b i y) j
+      (λ y y_in. (grants a b same i y, grants b a (back a b same) i y))
 
   after_round : (a b c d : List (Option ℕ)) → AreSame a b → IsRound n asks pointers a c → IsRound n asks pointers b d → (i j : ℕ) → Feeds c i j → Feeds d i j
   after_round a b c d same r s i j feeds = (s i j).1 (elim ((r i j).0 feeds) [ inl old ↦ inl (sym (same j) ∙ old) | inr new ↦ inr (accepts a b same i j new) ])
 
   round_only : (a b c d : List (Option ℕ)) → AreSame a b → IsRound n asks pointers a c → IsRound n asks pointers b d → AreSame c d
   round_only a b c d same r s j =
-      same_option (slice_index_or c j None) (slice_index_or d j None) (λ i feeds. after_round a b c d same r s i j feeds) (λ i feeds. after_round b a d c (back a b same) s r i j feeds)
+      same_option (slice_index_or c j None) (slice_index_or d j None) (λ i feeds. after_round a b c d same r s i j feeds)
+      (λ i feeds. after_round b a d c (back a b same) s r i j feeds)
 
-  last_only : (a b : List (Option ℕ)) (steps others : List (List (Option ℕ))) → AreSame a b → length steps ≡ length others → AreRounds n asks pointers a steps → AreRounds n asks pointers b others → AreSame (last_of a steps) (last_of b others)
+  last_only : (a b : List (Option ℕ)) (steps others : List (List (Option ℕ))) → AreSame a b → length steps ≡ length others → AreRounds n asks pointers a steps
+      → AreRounds n asks pointers b others → AreSame (last_of a steps) (last_of b others)
   last_only a b [] [] same long r s = same
   last_only a b [] (d ∷ others) same long r s = absurd (omega arith)
   last_only a b (c ∷ steps) [] same long r s = absurd (omega arith)
   last_only a b (c ∷ steps) (d ∷ others) same long r s = last_only c d steps others (round_only a b c d same r.0 s.0) (omega arith) r.1 s.1
 
-  counts_only : (a b : List (Option ℕ)) (steps others : List (List (Option ℕ))) → AreSame a b → length steps ≡ length others → AreRounds n asks pointers a steps → AreRounds n asks pointers b others → map matched_count steps ≡ map matched_count others
+  counts_only : (a b : List (Option ℕ)) (steps others : List (List (Option ℕ))) → AreSame a b → length steps ≡ length others
+      → AreRounds n asks pointers a steps → AreRounds n asks pointers b others → map matched_count steps ≡ map matched_count others
   counts_only a b [] [] same long r s = refl
   counts_only a b [] (d ∷ others) same long r s = absurd (omega arith)
   counts_only a b (c ∷ steps) [] same long r s = absurd (omega arith)
@@ -62,7 +67,8 @@ module _ (n : ℕ) (asks : List ℕ) (pointers : UniPointers) where
       let rest = counts_only c d steps others next (omega arith) r.1 s.1 in
       λ t. here t ∷ rest t
 
-  first_only : (a b : List (Option ℕ)) (steps others : List (List (Option ℕ))) → AreSame a b → length steps ≡ length others → AreRounds n asks pointers a steps → AreRounds n asks pointers b others → AreSame (slice_index_or steps 0 a) (slice_index_or others 0 b)
+  first_only : (a b : List (Option ℕ)) (steps others : List (List (Option ℕ))) → AreSame a b → length steps ≡ length others
+      → AreRounds n asks pointers a steps → AreRounds n asks pointers b others → AreSame (slice_index_or steps 0 a) (slice_index_or others 0 b)
   first_only a b [] [] same long r s = same
   first_only a b [] (d ∷ others) same long r s = absurd (omega arith)
   first_only a b (c ∷ steps) [] same long r s = absurd (omega arith)
@@ -72,10 +78,12 @@ module _ (n : ℕ) (asks : List ℕ) (pointers : UniPointers) where
 fed_or_none : (fed : List (Option ℕ)) (i : ℕ) → ((j : ℕ) × Feeds fed i j) ⊎ ((j : ℕ) → Feeds fed i j → ⊥)
 fed_or_none fed i = elim (fed_below fed (length fed) i) [
   | inl found ↦ inl found
-  | inr none ↦ inr (λ j feeds. elim (cases_lt j (length fed)) [ inl below ↦ none j below feeds | inr past ↦ none-some i (sym (get_or_past fed j None past) ∙ feeds) ])
+  | inr none ↦ inr (λ j feeds. elim
+      (cases_lt j (length fed)) [ inl below ↦ none j below feeds | inr past ↦ none-some i (sym (get_or_past fed j None past) ∙ feeds) ])
 ]
 
-module _ (n : ℕ) (first other : List (Option ℕ)) (same : AreSame first other) (before after later : UniPointers) (r : AreMoved n first before after) (s : AreMoved n other before later) where
+module _ (n : ℕ) (first other : List (Option ℕ)) (same : AreSame first other) (before after later : UniPointers) (r : AreMoved n first before after)
+    (s : AreMoved n other before later) where
   grant_only : (j : ℕ) → slice_index after.grant j ≡ slice_index later.grant j
   grant_only j = elim (free_or_fed (slice_index_or first j None)) [
     | inr by ↦ r.granted by.0 j by.1 ∙ sym (s.granted by.0 j (sym (same j) ∙ by.1))
@@ -91,7 +99,8 @@ module _ (n : ℕ) (first other : List (Option ℕ)) (same : AreSame first other
   ]
 
 -- two results of one slot are alike
-pub IsSlot-only : (n rounds : ℕ) (asks : List ℕ) (before : UniPointers) (a b : List (Option ℕ)) (x y : RoundsUsed) (p q : UniPointers) → IsSlot n rounds asks before a x p → IsSlot n rounds asks before b y q → AreAlike a b x y p q
+pub IsSlot-only : (n rounds : ℕ) (asks : List ℕ) (before : UniPointers) (a b : List (Option ℕ)) (x y : RoundsUsed) (p q : UniPointers)
+    → IsSlot n rounds asks before a x p → IsSlot n rounds asks before b y q → AreAlike a b x y p q
 IsSlot-only n rounds asks before a b x y p q r s =
     let start : AreSame unmatched unmatched = λ j. refl in
     let long : length r.steps ≡ length s.steps = r.count ∙ sym s.count in

@@ -1,5 +1,6 @@
 -- What the files hold once all texts were written.
-use Rattle.std.proofs.Common.{◌≡◌, ◌≢◌, ◌<◌, ◌≤◌, ◌+◌, ◌^◌, ℕ, zero, suc, List, [], ◌∷◌, ◌++◌, length, get_or, Option, Some, None, refl, sym, ◌∙◌, ap, arith, length-append}
+use Rattle.std.proofs.Common.{◌≡◌, ◌≢◌, ◌<◌, ◌≤◌, ◌+◌, ◌^◌, ℕ, zero, suc, List, [], ◌∷◌, ◌++◌, length, get_or, Option, Some, None, refl, sym, ◌∙◌, ap}
+use Rattle.std.proofs.Common.{arith, length-append}
 use Rattle.std.specs.Prelude.{All, IfSome, option_map, codes, decimal}
 use Rattle.std.proofs.lemmas.Fmt.{decimal_injective}
 use Rattle.std.proofs.lemmas.List.{append_cancel_left, append_cancel_right, get_or-append-add}
@@ -8,7 +9,8 @@ use Rattle.outside.specs.Contents.{Contents, append_out, begin_file}
 use Rattle.outside.specs.WholeFiles.{NamedBytes, put_file}
 use Rattle.outside.proofs.Effects.{file-append_file-begin_file, file-append_file-other, file-begin_file-other}
 use Rattle.switch_words.specs.Reading.{JobWords, run, gen, check, firm, RunWords}
-use Rattle.job_files.specs.OutputFiles.{Texts, HoldsTexts, files_from, journal_files, journal_name, output_name, packets_files, packets_name, report_name, put_files, put_texts, run_files}
+use Rattle.job_files.specs.OutputFiles.{Texts, HoldsTexts, files_from, journal_files, journal_name, output_name, packets_files, packets_name}
+use Rattle.job_files.specs.OutputFiles.{report_name, put_files, put_texts, run_files}
 
 -- ---- names
 
@@ -103,12 +105,14 @@ err_put [] c = refl
 err_put (f ∷ more) c = err_put more (put_file c f)
 
 -- the same of a name that is that of no output from j on
-others_from : (prefix : List ℕ) (j : ℕ) (outputs : List (List ℕ)) (c : Contents) (name : List ℕ) → ((k : ℕ) → j ≤ k → k < j + length outputs → name ≢ output_name prefix k)
+others_from : (prefix : List ℕ) (j : ℕ) (outputs : List (List ℕ)) (c : Contents) (name : List ℕ)
+    → ((k : ℕ) → j ≤ k → k < j + length outputs → name ≢ output_name prefix k)
     → (put_files (files_from prefix j outputs) c).file name ≡ c.file name
 others_from prefix j [] c name other = refl
 others_from prefix j (bytes ∷ more) c name other =
     let here : name ≢ output_name prefix j = other j (omega arith) (omega arith) in
-    others_from prefix (j + 1) more (put_file c (record { name = output_name prefix j; bytes = bytes })) name (λ k low high. other k (omega arith) (omega arith))
+    others_from prefix (j + 1) more (put_file c (record { name = output_name prefix j; bytes = bytes })) name
+    (λ k low high. other k (omega arith) (omega arith))
     ∙ file-append_file-other (output_name prefix j) bytes name (begin_file (output_name prefix j) c) here
     ∙ file-begin_file-other (output_name prefix j) name c here
 
@@ -117,7 +121,8 @@ each_from : (prefix : List ℕ) (j : ℕ) (outputs : List (List ℕ)) (c : Conte
 each_from prefix j [] c i within fits = absurd (omega arith)
 each_from prefix j (bytes ∷ more) c zero within fits =
     let n : j + 0 ≡ j = omega arith in
-    let other : (k : ℕ) → j + 1 ≤ k → k < j + 1 + length more → output_name prefix j ≢ output_name prefix k = λ k low high same. let e : j ≡ k = output_name-injective prefix j k (omega arith) (omega arith) same in omega arith in
+    let other : (k : ℕ) → j + 1 ≤ k → k < j + 1 + length more → output_name prefix j ≢ output_name prefix k = λ k low high same. let e : j ≡ k =
+    output_name-injective prefix j k (omega arith) (omega arith) same in omega arith in
     rw n (others_from prefix (j + 1) more (put_file c (record { name = output_name prefix j; bytes = bytes })) (output_name prefix j) other
     ∙ file-append_file-begin_file (output_name prefix j) bytes c)
 each_from prefix j (bytes ∷ more) c (suc i) within fits =
@@ -146,7 +151,8 @@ file_after r texts c name =
     ∙ ap (λ (d : Contents). d.file name) (put_append journal packets (after_report r texts c))
 
 -- the journal's file leaves the others
-journal_leaves : (prefix : List ℕ) (journal : Option (List ℕ)) (c : Contents) (name : List ℕ) → name ≢ journal_name prefix → (put_files (journal_files prefix journal) c).file name ≡ c.file name
+journal_leaves : (prefix : List ℕ) (journal : Option (List ℕ)) (c : Contents) (name : List ℕ) → name ≢ journal_name prefix
+    → (put_files (journal_files prefix journal) c).file name ≡ c.file name
 journal_leaves prefix None c name other = refl
 journal_leaves prefix (Some bytes) c name other =
     file-append_file-other (journal_name prefix) bytes name (begin_file (journal_name prefix) c) other
@@ -160,7 +166,8 @@ packets_leave prefix (Some bytes) c name other =
     file-append_file-other (packets_name prefix) bytes name (begin_file (packets_name prefix) c) other
     ∙ file-begin_file-other (packets_name prefix) name c other
 
-output_held : (r : RunWords) (texts : Texts) (c : Contents) (j : ℕ) → length texts.outputs ≤ 2 ^ 64 → j < length texts.outputs → (put_texts (run r) texts c).file (output_name r.prefix j) ≡ Some (get_or texts.outputs j [])
+output_held : (r : RunWords) (texts : Texts) (c : Contents) (j : ℕ) → length texts.outputs ≤ 2 ^ 64 → j < length texts.outputs
+    → (put_texts (run r) texts c).file (output_name r.prefix j) ≡ Some (get_or texts.outputs j [])
 output_held r texts c j fits within =
     let n : 0 + j ≡ j = omega arith in
     let files = put_files (files_from r.prefix 0 texts.outputs) c in
@@ -179,7 +186,8 @@ report_held r texts c =
     ∙ journal_leaves r.prefix texts.journal (after_report r texts c) (report_name r.prefix) (report_is_no_journal r.prefix)
     ∙ file-append_file-begin_file (report_name r.prefix) texts.report (put_files (files_from r.prefix 0 texts.outputs) c)
 
-journal_held : (r : RunWords) (texts : Texts) (c : Contents) (bytes : List ℕ) → texts.journal ≡ Some bytes → (put_texts (run r) texts c).file (journal_name r.prefix) ≡ Some bytes
+journal_held : (r : RunWords) (texts : Texts) (c : Contents) (bytes : List ℕ) → texts.journal ≡ Some bytes
+    → (put_texts (run r) texts c).file (journal_name r.prefix) ≡ Some bytes
 journal_held r texts c bytes is =
     file_after r texts c (journal_name r.prefix)
     ∙ packets_leave r.prefix texts.packets (after_journal r texts c) (journal_name r.prefix) (journal_is_no_packets r.prefix)
@@ -231,6 +239,7 @@ holds (gen g) texts c fits = holds_alone (gen g) texts c (gen_is_no_run g)
 holds (check file) texts c fits = holds_alone (check file) texts c (check_is_no_run file)
 holds (firm f) texts c fits = holds_alone (firm f) texts c (firm_is_no_run f)
 
-pub holds_told : (job : JobWords) (texts : Texts) (old new : Option Contents) → length texts.outputs ≤ 2 ^ 64 → new ≡ option_map (put_texts job texts) old → IfSome old (λ c. IfSome new (HoldsTexts job texts c))
+pub holds_told : (job : JobWords) (texts : Texts) (old new : Option Contents) → length texts.outputs ≤ 2 ^ 64 → new ≡ option_map (put_texts job texts) old
+    → IfSome old (λ c. IfSome new (HoldsTexts job texts c))
 holds_told job texts None new fits written = tt
 holds_told job texts (Some c) new fits written = rw written (holds job texts c fits)

@@ -30,21 +30,26 @@ there_more names (Some c) i captures bytes within there here =
     ∙ sym (map_push (λ b. Some b) captures bytes)
 
 -- one capture more is read
-pub captures_more : (names : List (List ℕ)) (told : Option Contents) (i : ℕ) (captures : List (List ℕ)) (bytes : List ℕ) → i < length names → CapturesRead (take i names) told captures
-    → IfSome told (λ c. c.file (get_or names i []) ≡ Some bytes) → length bytes ≤ MAX_FILE_BYTES → CapturesRead (take (i + 1) names) told (captures ++ bytes ∷ [])
+pub captures_more : (names : List (List ℕ)) (told : Option Contents) (i : ℕ) (captures : List (List ℕ)) (bytes : List ℕ) → i < length names
+    → CapturesRead (take i names) told captures
+    → IfSome told (λ c. c.file (get_or names i []) ≡ Some bytes) → length bytes ≤ MAX_FILE_BYTES
+    → CapturesRead (take (i + 1) names) told (captures ++ bytes ∷ [])
 captures_more names told i captures bytes within read here fits = record {
-  count = length_push captures bytes ∙ ap (λ n. n + 1) read.count ∙ sym (ap length (take_more names i [] within) ∙ length_push (take i names) (get_or names i []));
+  count = length_push captures bytes ∙ ap (λ n. n + 1) read.count
+      ∙ sym (ap length (take_more names i [] within) ∙ length_push (take i names) (get_or names i []));
   fit = All-push (λ b. length b ≤ MAX_FILE_BYTES) captures bytes read.fit fits;
   there = there_more names told i captures bytes within read.there here;
 }
 
 -- what a push left, where it was not refused
-pub bytes_pushed : {A B T E : Type 0} (r : Result T E) (new old : Vec (Vec ℕ A) B) (capture : Vec ℕ A) → new.items ≡ (if is_ok r then old.items ++ capture ∷ [] else old.items) → is_ok r ≡ true
+pub bytes_pushed : {A B T E : Type 0} (r : Result T E) (new old : Vec (Vec ℕ A) B) (capture : Vec ℕ A)
+    → new.items ≡ (if is_ok r then old.items ++ capture ∷ [] else old.items) → is_ok r ≡ true
     → bytes_of_files new ≡ bytes_of_files old ++ capture.items ∷ []
 bytes_pushed r new old capture e ok = ap (map (λ v. v.items)) (rw ok at e) ∙ map_push (λ v. v.items) old.items capture
 
 -- what is read of 1 to 64 ports is within the limits of a plan
-pub read_of_size : (r : ReadWords) (told : Option Contents) (table : List ℕ) (captures : List (List ℕ)) → AreFilesRead r told table captures → IsUpTo MAX_PORTS (length r.inputs) → AreOfSize table captures
+pub read_of_size : (r : ReadWords) (told : Option Contents) (table : List ℕ) (captures : List (List ℕ)) → AreFilesRead r told table captures
+    → IsUpTo MAX_PORTS (length r.inputs) → AreOfSize table captures
 read_of_size r told table captures read ports = record {
   ports = record { some = omega (arith, read.captures_read.count, ports.some); most = omega (arith, read.captures_read.count, ports.most) };
   table_fits = read.table_fits;

@@ -1,5 +1,6 @@
 -- How long the table and the captures of a `gen` job are.
-use Rattle.std.proofs.Common.{◌≡◌, ◌<◌, ◌≤◌, ◌+◌, ◌-◌, ◌*◌, ◌%◌, ℕ, Bool, true, false, List, [], ◌∷◌, ◌++◌, length, refl, sym, ◌∙◌, ap, subst, arith, length-append}
+use Rattle.std.proofs.Common.{◌≡◌, ◌<◌, ◌≤◌, ◌+◌, ◌-◌, ◌*◌, ◌%◌, ℕ, Bool, true, false, List, [], ◌∷◌, ◌++◌, length, refl, sym, ◌∙◌, ap, subst, arith}
+use Rattle.std.proofs.Common.{length-append}
 use Rattle.std.specs.Prelude.{All, flat_map, replicate, decimal, codes, if◌then◌else◌}
 use Rattle.std.proofs.Math.Nat.{mod-lt}
 use Rattle.std.proofs.lemmas.Fmt.{length-decimal-le_succ}
@@ -13,7 +14,8 @@ use Rattle.pcap_records.specs.Format.{record_bytes}
 use Rattle.pcap_records.specs.Output.{header_text}
 use Rattle.pcap_records.proofs.Once.{length-record_bytes}
 use Rattle.pcap_records.proofs.Output.{length-header_text}
-use Rattle.switch_plan.specs.Made.{below, made_table, made_captures, made_capture, made_record, made_number, made_length, made_level, made_group, made_port, made_frame, frame_begin, address_text, ports_text, end_text, route_text, group_text, level_text}
+use Rattle.switch_plan.specs.Made.{below, made_table, made_captures, made_capture, made_record, made_number, made_length, made_level, made_group}
+use Rattle.switch_plan.specs.Made.{made_port, made_frame, frame_begin, address_text, ports_text, end_text, route_text, group_text, level_text}
 use Rattle.job_files.specs.FileSteps.{AreOfSize}
 
 -- pieces of at most so many bytes, joined
@@ -27,7 +29,8 @@ length-pieces f most (x ∷ xs) all =
 
 -- what holds of each number below n holds of all of them
 all_below : (P : ℕ → Type 0) (n : ℕ) → ((k : ℕ) → k < n → P k) → All P (below n)
-all_below P n each = All-from_get_or P (below n) 0 (λ i i_in. let i_below : i < n = omega (arith, i_in, length-range_with_len 0 n) in let place : 0 + i ≡ i = omega arith in subst P (sym (get_or-range_with_len 0 n i 0 i_below ∙ place)) (each i i_below))
+all_below P n each = All-from_get_or P (below n) 0 (λ i i_in. let i_below : i < n = omega (arith, i_in, length-range_with_len 0 n) in let place : 0 + i ≡ i =
+    omega arith in subst P (sym (get_or-range_with_len 0 n i 0 i_below ∙ place)) (each i i_below))
 
 -- two texts, one after the other
 joined : (a b : List ℕ) (m n k : ℕ) → length a ≤ m → length b ≤ n → m + n ≡ k → length (a ++ b) ≤ k
@@ -62,16 +65,20 @@ ports_short ports group port some few port_in =
     let next_in : (port + 1) % ports < ports = mod-lt (port + 1) some in
     let one = digits port (omega (arith, port_in, few)) in
     either _ (decimal port ++ codes "," ++ decimal ((port + 1) % ports)) (decimal port) 129
-    (joined _ (decimal ((port + 1) % ports)) 65 64 129 (joined (decimal port) (codes ",") 64 1 65 one (omega arith) (omega arith)) (digits ((port + 1) % ports) (omega (arith, next_in, few))) (omega arith))
+    (joined _ (decimal ((port + 1) % ports)) 65 64 129 (joined (decimal port) (codes ",") 64 1 65 one (omega arith) (omega arith))
+    (digits ((port + 1) % ports) (omega (arith, next_in, few))) (omega arith))
     (omega (arith, one))
 
 end_short : (level : ℕ) → level < 64 → length (end_text level) ≤ 66
-end_short level level_in = joined (codes " " ++ decimal level) (10 ∷ []) 65 1 66 (joined (codes " ") (decimal level) 1 64 65 (omega arith) (digits level level_in) (omega arith)) (omega arith) (omega arith)
+end_short level level_in =
+    joined (codes " " ++ decimal level) (10 ∷ []) 65 1 66 (joined (codes " ") (decimal level) 1 64 65 (omega arith) (digits level level_in) (omega arith))
+    (omega arith) (omega arith)
 
 route_short : (ports level group port : ℕ) → 0 < ports → ports ≤ 64 → level < 64 → group < 64 → port < ports → length (route_text ports level group port) ≤ 396
 route_short ports level group port some few level_in group_in port_in =
     joined (address_text level group port ++ ports_text ports group port) (end_text level) 330 66 396
-    (joined (address_text level group port) (ports_text ports group port) 201 129 330 (address_short level group port level_in group_in (omega (arith, port_in, few))) (ports_short ports group port some few port_in) (omega arith))
+    (joined (address_text level group port) (ports_text ports group port) 201 129 330
+    (address_short level group port level_in group_in (omega (arith, port_in, few))) (ports_short ports group port some few port_in) (omega arith))
     (end_short level level_in) (omega arith)
 
 below_pieces : (f : ℕ → List ℕ) (most n : ℕ) → ((k : ℕ) → k < n → length (f k) ≤ most) → length (flat_map f (below n)) ≤ n * most
@@ -85,7 +92,8 @@ group_short ports level group some few level_in group_in =
     omega (arith, long, few)
 
 level_short : (ports level : ℕ) → 0 < ports → ports ≤ 64 → level < 64 → length (level_text ports level) ≤ 2 * (64 * 396)
-level_short ports level some few level_in = below_pieces (group_text ports level) (64 * 396) 2 (λ group group_in. group_short ports level group some few level_in (omega (arith, group_in)))
+level_short ports level some few level_in =
+    below_pieces (group_text ports level) (64 * 396) 2 (λ group group_in. group_short ports level group some few level_in (omega (arith, group_in)))
 
 table_short : (ports : ℕ) → 0 < ports → ports ≤ 64 → length (made_table ports) ≤ 4 * (2 * (64 * 396))
 table_short ports some few = below_pieces (level_text ports) (2 * (64 * 396)) 4 (λ level level_in. level_short ports level some few (omega (arith, level_in)))
@@ -103,7 +111,9 @@ frame_short ports h =
     let rest = length-replicate (made_length h - 34) zero_byte in
     let first = length-frame_begin in
     let short : h % 1441 < 1441 = omega arith in
-    joined _ (replicate (made_length h - 34) zero_byte) 34 1466 1500 (joined frame_begin (10 ∷ made_level h ∷ made_group h ∷ made_port ports h ∷ []) 30 4 34 (omega (arith, first)) (omega arith) (omega arith)) (omega (arith, rest, short)) (omega arith)
+    joined _ (replicate (made_length h - 34) zero_byte) 34 1466 1500
+    (joined frame_begin (10 ∷ made_level h ∷ made_group h ∷ made_port ports h ∷ []) 30 4 34 (omega (arith, first)) (omega arith) (omega arith))
+    (omega (arith, rest, short)) (omega arith)
 
 record_short : (job : GenJob) (port k : ℕ) → length (record_bytes Little (made_record job port k)) ≤ 1516
 record_short job port k =
@@ -119,12 +129,14 @@ capture_short job port few =
 
 -- ---- both
 
-pub made_of_size : (job : GenJob) (table : List ℕ) (captures : List (List ℕ)) → 0 < job.ports → job.ports ≤ 64 → job.count ≤ 4000 → table ≡ made_table job.ports → captures ≡ made_captures job → AreOfSize table captures
+pub made_of_size : (job : GenJob) (table : List ℕ) (captures : List (List ℕ)) → 0 < job.ports → job.ports ≤ 64 → job.count ≤ 4000
+    → table ≡ made_table job.ports → captures ≡ made_captures job → AreOfSize table captures
 made_of_size job table captures some few packets table_is captures_are =
     let ports : length captures ≡ job.ports = ap length captures_are ∙ length-map (below job.ports) (made_capture job) ∙ length-range_with_len 0 job.ports in
     let short = table_short job.ports some few in
     let fit : All (λ bytes. length bytes ≤ 16777216) (made_captures job) = All-map (λ bytes. length bytes ≤ 16777216) (made_capture job) (below job.ports)
-    (all_below (λ port. length (made_capture job port) ≤ 16777216) job.ports (λ port port_in. let capture = capture_short job port packets in omega (arith, capture))) in
+    (all_below (λ port. length (made_capture job port) ≤ 16777216) job.ports
+    (λ port port_in. let capture = capture_short job port packets in omega (arith, capture))) in
     record {
       ports = record { some = omega (arith, ports, some); most = omega (arith, ports, few) };
       table_fits = omega (arith, short, ap length table_is);

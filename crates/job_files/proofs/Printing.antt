@@ -1,5 +1,6 @@
 -- Texts that are given to standard error in parts.
-use Rattle.std.proofs.Common.{◌≡◌, ◌+◌, ◌<◌, ◌≤◌, ℕ, List, [], ◌∷◌, ◌++◌, map, take, drop, get_or, length, inr, Option, Some, None, refl, sym, ◌∙◌, ap, append_assoc}
+use Rattle.std.proofs.Common.{◌≡◌, ◌+◌, ◌<◌, ◌≤◌, ℕ, List, [], ◌∷◌, ◌++◌, map, take, drop, get_or, length, inr, Option, Some, None, refl, sym, ◌∙◌, ap}
+use Rattle.std.proofs.Common.{append_assoc}
 use Rattle.std.specs.Prelude.{Result, Ok, Err, is_err, true, false, option_map, OnErr}
 use Rattle.std.specs.List.{concat}
 use Rattle.std.proofs.lemmas.List.{append-nil, drop_more, map-append, map_more, take-append-drop}
@@ -15,12 +16,15 @@ err_after a b None = refl
 err_after a b (Some c) = ap Some (append_err-append_err a b c)
 
 -- the parts up to one are those before it, and then it
-pub concat_more : {X : Type 0} (text : X → List ℕ) (parts : List X) (i : ℕ) (d : X) → i < length parts → concat (map text (take (i + 1) parts)) ≡ concat (map text (take i parts)) ++ text (get_or parts i d)
+pub concat_more : {X : Type 0} (text : X → List ℕ) (parts : List X) (i : ℕ) (d : X) → i < length parts
+    → concat (map text (take (i + 1) parts)) ≡ concat (map text (take i parts)) ++ text (get_or parts i d)
 concat_more text parts i d within =
-    ap concat (map_more text parts i d within) ∙ concat-append (map text (take i parts)) (text (get_or parts i d) ∷ []) ∙ ap (λ xs. concat (map text (take i parts)) ++ xs) (append-nil (text (get_or parts i d)))
+    ap concat (map_more text parts i d within) ∙ concat-append (map text (take i parts)) (text (get_or parts i d) ∷ [])
+    ∙ ap (λ xs. concat (map text (take i parts)) ++ xs) (append-nil (text (get_or parts i d)))
 
 -- all parts are those before one, and then it and the rest
-concat_split : {X : Type 0} (text : X → List ℕ) (parts : List X) (i : ℕ) (d : X) → i < length parts → concat (map text parts) ≡ concat (map text (take i parts)) ++ (text (get_or parts i d) ++ concat (map text (drop (i + 1) parts)))
+concat_split : {X : Type 0} (text : X → List ℕ) (parts : List X) (i : ℕ) (d : X) → i < length parts
+    → concat (map text parts) ≡ concat (map text (take i parts)) ++ (text (get_or parts i d) ++ concat (map text (drop (i + 1) parts)))
 concat_split text parts i d within =
     ap (λ xs. concat (map text xs)) (sym (take-append-drop i parts))
     ∙ ap concat (map-append text (take i parts) (drop i parts))
@@ -55,7 +59,8 @@ given_more text parts i d (Ok x) first now new within is at gives =
 given_more text parts i d (Err e) first now new within is at gives = absurd (cc)
 
 -- the line of what is written to the file of an output
-pub output_line : (what prefix digits : List ℕ) (end : List ℕ) → what ++ (prefix ++ (46 ∷ (digits ++ (46 ∷ 112 ∷ 99 ∷ 97 ∷ 112 ∷ end)))) ≡ what ++ ((prefix ++ (46 ∷ (digits ++ (46 ∷ 112 ∷ 99 ∷ 97 ∷ 112 ∷ [])))) ++ end)
+pub output_line : (what prefix digits : List ℕ) (end : List ℕ) → what ++ (prefix ++ (46 ∷ (digits ++ (46 ∷ 112 ∷ 99 ∷ 97 ∷ 112 ∷ end)))) ≡ what
+    ++ ((prefix ++ (46 ∷ (digits ++ (46 ∷ 112 ∷ 99 ∷ 97 ∷ 112 ∷ [])))) ++ end)
 output_line what prefix digits end =
     ap (λ xs. what ++ (prefix ++ (46 ∷ xs))) (sym (append_assoc digits (46 ∷ 112 ∷ 99 ∷ 97 ∷ 112 ∷ []) end))
     ∙ ap (λ xs. what ++ xs) (sym (append_assoc prefix (46 ∷ (digits ++ (46 ∷ 112 ∷ 99 ∷ 97 ∷ 112 ∷ []))) end))

@@ -1,5 +1,6 @@
 -- The files that a run writes, one after the other.
-use Rattle.std.proofs.Common.{◌≡◌, ◌<◌, ◌≤◌, ◌+◌, ℕ, suc, List, [], ◌∷◌, ◌++◌, map, take, length, get_or, Option, Some, None, inl, inr, refl, sym, ◌∙◌, ap, subst, arith}
+use Rattle.std.proofs.Common.{◌≡◌, ◌<◌, ◌≤◌, ◌+◌, ℕ, suc, List, [], ◌∷◌, ◌++◌, map, take, length, get_or, Option, Some, None, inl, inr, refl, sym, ◌∙◌}
+use Rattle.std.proofs.Common.{ap, subst, arith}
 use Rattle.std.specs.Prelude.{Result, Ok, Err, is_err, is_ok, Bool, true, false, ◌&&◌, ◌==◌, if◌then◌else◌, option_map, string_bytes}
 use Rattle.std.proofs.lemmas.List.{get_or-map, length-map, map_push}
 use Rattle.std.proofs.lemmas.Bool.{cases_lt, le-ltb, lt-ltb}
@@ -19,7 +20,8 @@ use Rattle.job_files.proofs.Holding.{length-files_from}
 
 -- a call on one of the files failed
 pub put_to : {X T E : Type 0} (text : X → NamedBytes) (files : List X) (i : ℕ) (x : X) (r : Result T E) (a b d : Place → ℕ) (o now new : Option Contents)
-    → i < length files → x ≡ get_or files i x → is_err r ≡ true → NeverFall a b → now ≡ option_map (put_files (take i (map text files))) o → Puts r (text x) b d now new
+    → i < length files → x ≡ get_or files i x → is_err r ≡ true → NeverFall a b → now ≡ option_map (put_files (take i (map text files))) o
+    → Puts r (text x) b d now new
     → StopsAt (get_or (map text files) i nameless) a d (option_map (put_files (take i (map text files))) o) new
 put_to text files i x (Ok y) a b d o now new within is err kept at puts = absurd (cc)
 put_to text files i x (Err e) a b d o now new within is err kept at puts =
@@ -45,7 +47,8 @@ put_more text files i x (Err e) b d o now new within is err at puts = absurd (cc
 
 -- The names of the files
 
-files_push : (prefix : List ℕ) (j : ℕ) (outputs : List (List ℕ)) (bytes : List ℕ) → files_from prefix j (outputs ++ bytes ∷ []) ≡ files_from prefix j outputs ++ record { name = output_name prefix (j + length outputs); bytes = bytes } ∷ []
+files_push : (prefix : List ℕ) (j : ℕ) (outputs : List (List ℕ)) (bytes : List ℕ) → files_from prefix j (outputs ++ bytes ∷ []) ≡ files_from prefix j outputs
+    ++ record { name = output_name prefix (j + length outputs); bytes = bytes } ∷ []
 files_push prefix j [] bytes = let n : j ≡ j + 0 = omega arith in ap (λ k. record { name = output_name prefix k; bytes = bytes } ∷ []) n
 files_push prefix j (first ∷ more) bytes =
     let n : j + 1 + length more ≡ j + suc (length more) = omega arith in
@@ -53,7 +56,8 @@ files_push prefix j (first ∷ more) bytes =
     (files_push prefix (j + 1) more bytes ∙ ap (λ k. files_from prefix (j + 1) more ++ record { name = output_name prefix k; bytes = bytes } ∷ []) n)
 
 -- one file more is named
-pub named_more : (prefix : List ℕ) (files : List OutputFile) (f : OutputFile) (outputs : List (List ℕ)) → map shown files ≡ files_from prefix 0 outputs → string_bytes f.name ≡ output_name prefix (length files)
+pub named_more : (prefix : List ℕ) (files : List OutputFile) (f : OutputFile) (outputs : List (List ℕ)) → map shown files ≡ files_from prefix 0 outputs
+    → string_bytes f.name ≡ output_name prefix (length files)
     → map shown (files ++ f ∷ []) ≡ files_from prefix 0 (outputs ++ f.bytes.items ∷ [])
 named_more prefix files f outputs same name_is =
     let n : length files ≡ 0 + length outputs = omega (arith, length-map files shown, ap length same, length-files_from prefix 0 outputs) in
@@ -63,11 +67,13 @@ named_more prefix files f outputs same name_is =
     ∙ sym (files_push prefix 0 outputs f.bytes.items)
 
 -- what a push left, where it did not fail
-pub pushed : {A T E : Type 0} (r : Result T E) (new old : List A) (x : A) (y : T) → new ≡ (if is_ok r then old ++ x ∷ [] else old) → r ≡ Ok y → new ≡ old ++ x ∷ []
+pub pushed : {A T E : Type 0} (r : Result T E) (new old : List A) (x : A) (y : T) → new ≡ (if is_ok r then old ++ x ∷ [] else old) → r ≡ Ok y
+    → new ≡ old ++ x ∷ []
 pushed r new old x y e ok = rw ok at e
 
 -- the same where the name and the bytes were taken out of the file
-pub puts_of : {T E : Type 0} (r : Result T E) (f : NamedBytes) (name bytes : List ℕ) (a d : Place → ℕ) (o new : Option Contents) → name ≡ f.name → bytes ≡ f.bytes
+pub puts_of : {T E : Type 0} (r : Result T E) (f : NamedBytes) (name bytes : List ℕ) (a d : Place → ℕ) (o new : Option Contents) → name ≡ f.name
+    → bytes ≡ f.bytes
     → Puts r (record { name = name; bytes = bytes }) a d o new → Puts r f a d o new
 puts_of r f name bytes a d o new name_is bytes_is puts =
     subst (λ (n : List ℕ). Puts r (record { name = n; bytes = f.bytes }) a d o new) name_is
@@ -85,7 +91,8 @@ stops_later outputs true files text place old told was now after stops = elim (e
 
 -- a call on the file at a place, after so many outputs, was refused
 pub stops_at_place : (outputs : ℕ) (with_journal : Bool) (files : List NamedBytes) (text : List ℕ) (place : ℕ)
-    → (old told : Option Contents) (was now : Place → ℕ) → place < length files → StopsAt (get_or files place nameless) was now (option_map (put_files (take place files)) old) told
+    → (old told : Option Contents) (was now : Place → ℕ) → place < length files
+    → StopsAt (get_or files place nameless) was now (option_map (put_files (take place files)) old) told
     → StopsPutting outputs with_journal files text (written_at place outputs with_journal) old was now told
 stops_at_place outputs with_journal files text place old told was now within stops =
     let at : StopsAtPlace files place old was now told = record { within = within; stops = stops } in

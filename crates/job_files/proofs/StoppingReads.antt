@@ -6,10 +6,12 @@ use Rattle.outside.proofs.Counting.{NeverFall-refl, Rose-wider}
 use Rattle.job_files.specs.Jobs.{ReadWords, input_name}
 use Rattle.job_files.specs.FileSteps.{StopsReading}
 use Rattle.job_files.specs.declared.ending.Ending.{Ending}
-use Rattle.job_files.specs.declared.ending.Ending.TheVariants.{Done, Usage, ReadFault, TooLong, Refused, JournalTooLong, PacketsTooLong, OutOfMemory, WriteFault, Checked}
+use Rattle.job_files.specs.declared.ending.Ending.TheVariants.{Done, Usage, ReadFault, TooLong, Refused, JournalTooLong, PacketsTooLong, OutOfMemory}
+use Rattle.job_files.specs.declared.ending.Ending.TheVariants.{WriteFault, Checked}
 
 -- a wider span of calls stops a reading as well
-StopsReading-wider : (r : ReadWords) (old : Option Contents) (a b c d : Place → ℕ) (ending : Ending) → NeverFall a b → NeverFall c d → StopsReading r old b c ending → StopsReading r old a d ending
+StopsReading-wider : (r : ReadWords) (old : Option Contents) (a b c d : Place → ℕ) (ending : Ending) → NeverFall a b → NeverFall c d
+    → StopsReading r old b c ending → StopsReading r old a d ending
 StopsReading-wider r old a b c d Done start end stops = stops
 StopsReading-wider r old a b c d Usage start end stops = stops
 StopsReading-wider r old a b c d (ReadFault input) start end stops = (stops.0, stops.1, Rose-wider a b c d (ReadOf (input_name r input)) start end stops.2)
@@ -22,6 +24,7 @@ StopsReading-wider r old a b c d (WriteFault written) start end stops = stops
 StopsReading-wider r old a b c d (Checked ending) start end stops = stops
 
 -- after calls that left the contents
-pub StopsReading-since : (r : ReadWords) (old mid : Option Contents) (was b now : Place → ℕ) (ending : Ending) → mid ≡ old → NeverFall was b → StopsReading r mid b now ending → StopsReading r old was now ending
+pub StopsReading-since : (r : ReadWords) (old mid : Option Contents) (was b now : Place → ℕ) (ending : Ending) → mid ≡ old → NeverFall was b
+    → StopsReading r mid b now ending → StopsReading r old was now ending
 StopsReading-since r old mid was b now ending same kept stops =
     StopsReading-wider r old was b now now ending kept (NeverFall-refl now) (subst (λ (o : Option Contents). StopsReading r o b now ending) same stops)

@@ -14,7 +14,8 @@ use Rattle.job_files.specs.declared.inputs.InputFile.{InputFile}
 use Rattle.job_files.specs.declared.ending.Written.{Written}
 use Rattle.job_files.specs.declared.ending.Written.TheVariants.{Output, Report, Journal, Packets, StandardOutput}
 use Rattle.job_files.specs.declared.ending.Ending.{Ending}
-use Rattle.job_files.specs.declared.ending.Ending.TheVariants.{Done, Usage, ReadFault, TooLong, Refused, JournalTooLong, PacketsTooLong, OutOfMemory, WriteFault, Checked}
+use Rattle.job_files.specs.declared.ending.Ending.TheVariants.{Done, Usage, ReadFault, TooLong, Refused, JournalTooLong, PacketsTooLong, OutOfMemory}
+use Rattle.job_files.specs.declared.ending.Ending.TheVariants.{WriteFault, Checked}
 
 -- the line where the words are not those of a job
 abbrev pub usage_line : List ℕ

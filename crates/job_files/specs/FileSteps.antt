@@ -1,5 +1,6 @@
 -- Why the reading or the writing of a job's files stops: the words of the calls inside.
-use Rattle.std.specs.Prelude.{◌≡◌, ◌<◌, ◌≤◌, ℕ, ◌+◌, ◌==◌, ◌&&◌, nat_lt, if◌then◌else◌, Bool, true, List, take, length, map, All, Option, IfSome, option_map, slice_index_or, string_bytes}
+use Rattle.std.specs.Prelude.{◌≡◌, ◌<◌, ◌≤◌, ℕ, ◌+◌, ◌==◌, ◌&&◌, nat_lt, if◌then◌else◌, Bool, true, List, take, length, map, All, Option, IfSome}
+use Rattle.std.specs.Prelude.{option_map, slice_index_or, string_bytes}
 use Rattle.rotating_pick.specs.declared.limits.TheConstants.{MAX_PORTS, MAX_FILE_BYTES}
 use Rattle.outside.specs.Contents.{Contents, append_out}
 use Rattle.outside.specs.Faults.{Place, ReadOf, ToOut, Rose}
@@ -26,7 +27,8 @@ reads_words reads = record { table = reads.table.now; inputs = map string_bytes 
 
 -- why the files of these names are not read
 abbrev pub StopsReading : ReadWords → Option Contents → (Place → ℕ) → (Place → ℕ) → Ending → Type 0
-StopsReading r old was now (ReadFault input) = IsInput r input × IfSome old (EarlierFit r input) × Rose (was (ReadOf (input_name r input))) (now (ReadOf (input_name r input)))
+StopsReading r old was now (ReadFault input) = IsInput r input × IfSome old (EarlierFit r input)
+    × Rose (was (ReadOf (input_name r input))) (now (ReadOf (input_name r input)))
 StopsReading r old was now (TooLong input) = IsInput r input × IfSome old (EarlierFit r input) × IfSome old (λ c. IsTooLong c (input_name r input))
 StopsReading r old was now OutOfMemory = Unit {0}
 StopsReading r old was now _ = ⊥

@@ -1,5 +1,6 @@
 -- What a job writes: the file of each output, the report, the journal and the packets file, and then the summary to standard output.
-use Rattle.std.specs.Prelude.{◌≡◌, ◌≢◌, ◌+◌, ◌<◌, ℕ, Bool, if◌then◌else◌, List, [], ◌∷◌, ◌++◌, length, slice_index_or, Option, Some, None, All, codes, decimal, string_bytes}
+use Rattle.std.specs.Prelude.{◌≡◌, ◌≢◌, ◌+◌, ◌<◌, ℕ, Bool, if◌then◌else◌, List, [], ◌∷◌, ◌++◌, length, slice_index_or, Option, Some, None, All, codes}
+use Rattle.std.specs.Prelude.{decimal, string_bytes}
 use Rattle.std.specs.List.{fold}
 use Rattle.outside.specs.Contents.{Contents, append_out}
 use Rattle.outside.specs.WholeFiles.{NamedBytes, put_file}

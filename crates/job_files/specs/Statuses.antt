@@ -3,7 +3,8 @@ use Rattle.std.specs.Prelude.{ℕ}
 use Rattle.check_job.specs.declared.ending.CheckEnding.{CheckEnding}
 use Rattle.check_job.specs.declared.ending.CheckEnding.TheVariants as check_ending
 use Rattle.job_files.specs.declared.ending.Ending.{Ending}
-use Rattle.job_files.specs.declared.ending.Ending.TheVariants.{Done, Usage, ReadFault, TooLong, Refused, JournalTooLong, PacketsTooLong, OutOfMemory, WriteFault, Checked}
+use Rattle.job_files.specs.declared.ending.Ending.TheVariants.{Done, Usage, ReadFault, TooLong, Refused, JournalTooLong, PacketsTooLong, OutOfMemory}
+use Rattle.job_files.specs.declared.ending.Ending.TheVariants.{WriteFault, Checked}
 
 -- the exit status of each ending of a check
 abbrev pub check_status : CheckEnding → ℕ

@@ -262,7 +262,8 @@ fn name_read(job: &Job, input: InputFile) -> &str
 
 // Prints the line for what the job was writing; only a `run` job writes files.
 fn print_write_fault<F: Files>(files: &mut F, job: &Job, written: Written)
-    ensures line { GivesLine (named_line (codes "write fault: ") (name_written (job_words job.now) written)) (F.told files.old) (F.told files.new) (F.faults files.old ToErr) (F.faults files.new ToErr) }
+    ensures line { GivesLine (named_line (codes "write fault: ") (name_written (job_words job.now) written)) (F.told files.old) (F.told files.new)
+        (F.faults files.old ToErr) (F.faults files.new ToErr) }
     ensures never_fall { NeverFall (F.faults files.old) (F.faults files.new) }
 {
     let (what, end) = (Text("write fault: "), Text("\n"));
@@ -293,7 +294,8 @@ fn print_write_fault<F: Files>(files: &mut F, job: &Job, written: Written)
 
 // Prints the line for a journal that is not lawful.
 fn print_no<F: Files>(files: &mut F, slot: u32, reason: Reason)
-    ensures line { GivesLine (concat (codes "no: slot " ∷ decimal slot ∷ (reason_parts reason ++ codes "\n" ∷ []))) (F.told files.old) (F.told files.new) (F.faults files.old ToErr) (F.faults files.new ToErr) }
+    ensures line { GivesLine (concat (codes "no: slot " ∷ decimal slot ∷ (reason_parts reason ++ codes "\n" ∷ []))) (F.told files.old) (F.told files.new)
+        (F.faults files.old ToErr) (F.faults files.new ToErr) }
     ensures never_fall { NeverFall (F.faults files.old) (F.faults files.new) }
 {
     let (no, slot, end) = (Text("no: slot "), Number(u64::from(slot)), Text("\n"));
@@ -342,7 +344,8 @@ fn print_check<F: Files>(files: &mut F, file: &str, ending: CheckEnding)
 
 // The same for a job that is a check; no other has such an end.
 fn print_checked<F: Files>(files: &mut F, job: &Job, ending: CheckEnding)
-    ensures line { GivesLine (checked_line (job_words job.now) ending) (F.told files.old) (F.told files.new) (F.faults files.old ToErr) (F.faults files.new ToErr) }
+    ensures line { GivesLine (checked_line (job_words job.now) ending) (F.told files.old) (F.told files.new) (F.faults files.old ToErr)
+        (F.faults files.new ToErr) }
     ensures never_fall { NeverFall (F.faults files.old) (F.faults files.new) }
 {
     if let Job::Check(job) = job {

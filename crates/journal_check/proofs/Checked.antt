@@ -29,28 +29,36 @@ for_own n rounds t judge ready = subst (λ (r : ℕ). IsFor n r t judge) (sym re
 
 module _ (n rounds total : ℕ) (bytes : List ℕ) where
   pub slots_begin : (judge : Judge) → 12 ≤ length bytes → IsJudged n rounds [] judge → IsFor n rounds 0 judge → AreSlotsJudged n rounds total bytes 0 12 judge
-  slots_begin judge long judged ready = record { slots = []; count = refl; within = long; whole = begin (λ k. slot_in n) total (drop 12 bytes); judged = judged; ready = ready }
+  slots_begin judge long judged ready =
+      record { slots = []; count = refl; within = long; whole = begin (λ k. slot_in n) total (drop 12 bytes); judged = judged; ready = ready }
 
-  pub slots_go_on : (t at to : ℕ) (judge new : Judge) (read : SlotRead) (value : FileSlot) → t < total → AreSlotsJudged n rounds total bytes t at judge → IsRead (slot_in n) bytes at value to → IsSlotRead n read value
-      → ((slots : List FileSlot) (v : FileSlot) → t ≡ length slots → IsSlotRead n read v → IsJudged n judge.rounds slots judge → IsJudged n judge.rounds (slots ++ v ∷ []) new) → IsFor n judge.rounds (t + 1) new → AreSlotsJudged n rounds total bytes (t + 1) to new
+  pub slots_go_on : (t at to : ℕ) (judge new : Judge) (read : SlotRead) (value : FileSlot) → t < total → AreSlotsJudged n rounds total bytes t at judge
+      → IsRead (slot_in n) bytes at value to → IsSlotRead n read value
+      → ((slots : List FileSlot) (v : FileSlot) → t ≡ length slots → IsSlotRead n read v → IsJudged n judge.rounds slots judge
+      → IsJudged n judge.rounds (slots ++ v ∷ []) new) → IsFor n judge.rounds (t + 1) new → AreSlotsJudged n rounds total bytes (t + 1) to new
   slots_go_on t at to judge new read value below so_far here kept judges ready =
       let own = so_far.ready.rounds_are in
       record {
         slots = so_far.slots ++ value ∷ [];
         count = length_push so_far.slots value ∙ ap (λ (k : ℕ). k + 1) so_far.count;
         within = here.within;
-        whole = step_ok (λ k. slot_in n) (each_in (λ k. slot_in n) (range_with_len 0 total) (drop 12 bytes)) so_far.slots t total (drop at bytes) (drop to bytes) value below so_far.whole here.reads;
-        judged = subst (λ (r : ℕ). IsJudged n r (so_far.slots ++ value ∷ []) new) own (judges so_far.slots value (sym so_far.count) kept (subst (λ (r : ℕ). IsJudged n r so_far.slots judge) (sym own) so_far.judged));
+        whole = step_ok (λ k. slot_in n) (each_in (λ k. slot_in n) (range_with_len 0 total) (drop 12 bytes)) so_far.slots t total (drop at bytes)
+            (drop to bytes) value below so_far.whole here.reads;
+        judged = subst (λ (r : ℕ). IsJudged n r (so_far.slots ++ value ∷ []) new) own
+            (judges so_far.slots value (sym so_far.count) kept (subst (λ (r : ℕ). IsJudged n r so_far.slots judge) (sym own) so_far.judged));
         ready = subst (λ (r : ℕ). IsFor n r (t + 1) new) own ready;
       }
 
-  pub slots_fail : (t at bad : ℕ) (judge : Judge) → t < total → AreSlotsJudged n rounds total bytes t at judge → IsBadAt (slot_in n) bytes at bad → IsBadAt (each_in (λ t. slot_in n) (range_with_len 0 total)) bytes 12 bad
+  pub slots_fail : (t at bad : ℕ) (judge : Judge) → t < total → AreSlotsJudged n rounds total bytes t at judge → IsBadAt (slot_in n) bytes at bad
+      → IsBadAt (each_in (λ t. slot_in n) (range_with_len 0 total)) bytes 12 bad
   slots_fail t at bad judge below so_far here = record {
     within = here.within;
-    fails = step_err (λ k. slot_in n) (each_in (λ k. slot_in n) (range_with_len 0 total) (drop 12 bytes)) so_far.slots t total (drop at bytes) (drop bad bytes) below so_far.whole here.fails;
+    fails = step_err (λ k. slot_in n) (each_in (λ k. slot_in n) (range_with_len 0 total) (drop 12 bytes)) so_far.slots t total (drop at bytes)
+        (drop bad bytes) below so_far.whole here.fails;
   }
 
-  pub slots_end : (at : ℕ) (judge : Judge) → (so_far : AreSlotsJudged n rounds total bytes total at judge) → IsRead (each_in (λ t. slot_in n) (range_with_len 0 total)) bytes 12 so_far.slots at
+  pub slots_end : (at : ℕ) (judge : Judge) → (so_far : AreSlotsJudged n rounds total bytes total at judge)
+      → IsRead (each_in (λ t. slot_in n) (range_with_len 0 total)) bytes 12 so_far.slots at
   slots_end at judge so_far = record {
     within = so_far.within;
     reads = step_end (λ k. slot_in n) (each_in (λ k. slot_in n) (range_with_len 0 total) (drop 12 bytes)) so_far.slots total (drop at bytes) so_far.whole;
@@ -73,7 +81,8 @@ module _ (bytes : List ℕ) where
   header_bad bad here = bad_answer bad here.within (header_fails bad here.fails)
 
   module _ (header : Header) (read : IsRead header_in bytes 0 header 12) where
-    slots_fails : (bad : ℕ) → each_in (λ t. slot_in header.ports) (range_with_len 0 header.slots) (drop 12 bytes) ≡ Err (drop bad bytes) → file_in bytes ≡ Err (drop bad bytes)
+    slots_fails : (bad : ℕ) → each_in (λ t. slot_in header.ports) (range_with_len 0 header.slots) (drop 12 bytes) ≡ Err (drop bad bytes)
+        → file_in bytes ≡ Err (drop bad bytes)
     unfolding file_in
     slots_fails bad e = rw read.reads (rw e refl)
 
@@ -101,7 +110,8 @@ module _ (bytes : List ℕ) where
 
       file_read : length bytes ≤ end → file_in bytes ≡ Ok (whole_file, [])
       unfolding file_in
-      file_read over = let none : drop end bytes ≡ [] = none_left (drop end bytes) (omega (arith, length-drop end bytes)) in rw read.reads (rw all.reads (rw none refl))
+      file_read over = let none : drop end bytes ≡ [] = none_left (drop end bytes) (omega (arith, length-drop end bytes)) in
+          rw read.reads (rw all.reads (rw none refl))
 
       pub whole_answer : length bytes ≤ end → answer_to bytes ≡ Ok (verdict_on whole_file)
       unfolding answer_to journal_in

@@ -1,5 +1,6 @@
 -- What is spelled of outputs, slots and whole files is read again.
-use Rattle.std.proofs.Common.{◌≡◌, ℕ, ◌+◌, ◌*◌, ◌/◌, ◌%◌, ◌<◌, ◌≤◌, ◌==◌, ◌||◌, ◌∙◌, Bool, true, false, nat_le, nat_lt, List, [], ◌∷◌, ◌++◌, length, Option, None, Some, Ok, refl, sym, ap, arith, inl, inr, append_assoc, le-leb, lt-ltb, if◌then◌else◌}
+use Rattle.std.proofs.Common.{◌≡◌, ℕ, ◌+◌, ◌*◌, ◌/◌, ◌%◌, ◌<◌, ◌≤◌, ◌==◌, ◌||◌, ◌∙◌, Bool, true, false, nat_le, nat_lt, List, [], ◌∷◌, ◌++◌, length}
+use Rattle.std.proofs.Common.{Option, None, Some, Ok, refl, sym, ap, arith, inl, inr, append_assoc, le-leb, lt-ltb, if◌then◌else◌}
 use Rattle.std.specs.List.{flat_map, range_with_len}
 use Rattle.std.proofs.lemmas.Bool.{cond-true, cond-false, and_from, cases_Bool, eq-eqb}
 use Rattle.std.proofs.lemmas.Bool.Decides.{Decides-eqb}
@@ -20,7 +21,8 @@ left_or : (x y : Bool) → x ≡ true → (x || y) ≡ true
 left_or true y e = refl
 left_or false y e = absurd (cc)
 
-kind_again : (input level : ℕ) (kind : Kind) → (input == no_input) ≡ false → fed_by input (rank_of level kind) ≡ Some (record { input = input; level = level; kind = kind })
+kind_again : (input level : ℕ) (kind : Kind) → (input == no_input) ≡ false
+    → fed_by input (rank_of level kind) ≡ Some (record { input = input; level = level; kind = kind })
 kind_again input level Uni some =
     let half : 2 * level / 2 ≡ level = omega arith in
     let even : (2 * level % 2 == 0) ≡ true = eq-eqb (2 * level % 2) 0 (omega arith) in
@@ -57,9 +59,11 @@ module _ (n : ℕ) (few : n ≤ 64) where
       let rank = rank_of fed.level fed.kind in
       let below : input < n = good.0 in
       let seven : rank ≤ 7 = rank_small fed.level fed.kind good.1 in
-      let some : (input == no_input) ≡ false = elim (cases_Bool (input == no_input)) [ inl e ↦ absurd (let is : input ≡ 255 = (Decides-eqb input 255).0 e in omega arith) | inr e ↦ e ] in
+      let some : (input == no_input) ≡ false =
+      elim (cases_Bool (input == no_input)) [ inl e ↦ absurd (let is : input ≡ 255 = (Decides-eqb input 255).0 e in omega arith) | inr e ↦ e ] in
       let in_ports : allows (Input n) input ≡ true = left_or (nat_lt input n) (input == no_input) (lt-ltb input n below) in
-      let in_ranks : allows (Rank input) rank ≡ true = cond-false (input == no_input) (rank == 0) (is_from 0 7 rank) some ∙ and_from (nat_le 0 rank) (nat_le rank 7) (le-leb 0 rank (omega arith)) (le-leb rank 7 seven) in
+      let in_ranks : allows (Rank input) rank ≡ true = cond-false (input == no_input) (rank == 0) (is_from 0 7 rank) some
+      ∙ and_from (nat_le 0 rank) (nat_le rank 7) (le-leb 0 rank (omega arith)) (le-leb rank 7 seven) in
       rw (byte_again (Input n) refl input (rank ∷ rest) (omega arith) in_ports)
       (rw (byte_again (Rank input) refl rank rest (omega arith) in_ranks)
       (ap (λ (o : Option Fed). let r : Reading (Option Fed) = Ok (o, rest) in r) (kind_again input fed.level fed.kind some)))
@@ -85,7 +89,8 @@ most_few ports = elim (cases_Bool (nat_lt 32 ports)) [
   | inr e ↦ let same : most_slots ports ≡ 262145 = cond-false (nat_lt 32 ports) 131073 262145 e in omega arith
 ]
 
-header_again : (ports rounds slots : ℕ) (rest : List ℕ) → 1 ≤ ports → ports ≤ 64 → 1 ≤ rounds → rounds ≤ 64 → 1 ≤ slots → slots ≤ most_slots ports → header_in (header_text ports rounds slots ++ rest) ≡ Ok (record { ports = ports; rounds = rounds; slots = slots }, rest)
+header_again : (ports rounds slots : ℕ) (rest : List ℕ) → 1 ≤ ports → ports ≤ 64 → 1 ≤ rounds → rounds ≤ 64 → 1 ≤ slots → slots ≤ most_slots ports
+    → header_in (header_text ports rounds slots ++ rest) ≡ Ok (record { ports = ports; rounds = rounds; slots = slots }, rest)
 unfolding header_in
 header_again ports rounds slots rest p_low p_high r_low r_high s_low s_high =
     let few = most_few ports in
@@ -102,7 +107,8 @@ unfolding file_in file_text
 file_again file good =
     let n = file.ports in
     let body = flat_map slot_text file.slots in
-    let header = header_again n file.rounds (length file.slots) body good.ports_some good.ports_few good.rounds_some good.rounds_few good.slots_some good.slots_few in
+    let header = header_again n file.rounds
+    (length file.slots) body good.ports_some good.ports_few good.rounds_some good.rounds_few good.slots_some good.slots_few in
     let slots : each_in (λ t. slot_in n) (range_with_len 0 (length file.slots)) body ≡ Ok (file.slots, []) =
     ap (each_in (λ t. slot_in n) (range_with_len 0 (length file.slots))) (sym (append-nil body))
     ∙ each_again (slot_in n) slot_text (IsFileSlot n) (slot_again n good.ports_few) file.slots 0 [] good.slots in

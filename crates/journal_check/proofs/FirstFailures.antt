@@ -1,5 +1,6 @@
 -- The first failure of a file is the first slot that may not follow, with the first reason for it.
-use Rattle.std.proofs.Common.{◌≡◌, ◌↔◌, ℕ, zero, suc, ◌+◌, ◌-◌, ◌<◌, ◌≤◌, ◌⊎◌, ◌∙◌, Bool, true, false, List, [], ◌∷◌, Option, None, Some, All, refl, sym, ap, subst, inl, inr, arith, if◌then◌else◌}
+use Rattle.std.proofs.Common.{◌≡◌, ◌↔◌, ℕ, zero, suc, ◌+◌, ◌-◌, ◌<◌, ◌≤◌, ◌⊎◌, ◌∙◌, Bool, true, false, List, [], ◌∷◌, Option, None, Some, All, refl}
+use Rattle.std.proofs.Common.{sym, ap, subst, inl, inr, arith, if◌then◌else◌}
 use Rattle.std.specs.List.{find, range_with_len}
 use Rattle.std.specs.Option.{option_map, option_or}
 use Rattle.std.proofs.lemmas.Bool.{cases_Bool, cases_eq, cond-true, cond-false}
@@ -14,7 +15,8 @@ use Rattle.journal_check.specs.declared.verdict.Reason.TheVariants.{AfterEnd, Mo
 use Rattle.journal_check.specs.declared.verdict.Failure.{Failure}
 use Rattle.journal_check.specs.Files.{FileSlot, JournalFile, rows_of, mores_of}
 use Rattle.journal_check.specs.Texts.{IsFileSlot, IsFile}
-use Rattle.journal_check.specs.Lawful.{Before, at_first, decided_in, after_slot, first_of, lacks_more, breaks, is_alike, differs, post_failure, output_failure, failure_in, failure_or, failure_from, MayFollow, first_failure}
+use Rattle.journal_check.specs.Lawful.{Before, at_first, decided_in, after_slot, first_of, lacks_more, breaks, is_alike, differs, post_failure}
+use Rattle.journal_check.specs.Lawful.{output_failure, failure_in, failure_or, failure_from, MayFollow, first_failure}
 use Rattle.journal_check.specs.Failures.{HasMore, KeepsRow, IsFedAsDecided, HoldsBelow, IsFirstWithout, FailsBy, FailsFirst, IsFirstFailure}
 use Rattle.journal_check.proofs.Goods.{AreRows, IsGood, sound_slot, good_after, good_at_first}
 use Rattle.journal_check.proofs.LawfulFiles.{none_of, none_map, going_on, lacks_none, from_not, not_from, Decides-alike, no_failure}

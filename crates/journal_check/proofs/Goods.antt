@@ -59,7 +59,8 @@ file_within n slot good = record {
   count = length-map slot.posts (λ (post : FilePost). post.row) ∙ good.cards;
   ports = λ i below.
       let cards = good.cards in
-      subst (IsWithin n) (sym (row_at slot.posts i (omega arith))) (row_within n (get_or slot.posts i unknown_post).row (good.rows i unknown_post (omega arith)));
+      subst (IsWithin n) (sym (row_at slot.posts i (omega arith)))
+      (row_within n (get_or slot.posts i unknown_post).row (good.rows i unknown_post (omega arith)));
   levels = λ i below.
       let cards = good.cards in
       subst IsOfLevels (sym (row_at slot.posts i (omega arith))) (row_levels n (get_or slot.posts i unknown_post).row (good.rows i unknown_post (omega arith)));
@@ -90,11 +91,14 @@ good_at_first n some few = record {
   ports = ports-first n;
 }
 
-pub sound_slot : (n rounds t : ℕ) (before : Before) (slot : FileSlot) → IsGood n before → IsFileSlot n slot → IsSoundDecision n (decided_in n rounds t before slot)
+pub sound_slot : (n rounds t : ℕ) (before : Before) (slot : FileSlot) → IsGood n before → IsFileSlot n slot
+    → IsSoundDecision n (decided_in n rounds t before slot)
 sound_slot n rounds t before slot good file =
-    IsSoundDecision-slot n rounds t (rows_of slot) before.places (decision_of n rounds t (rows_of slot) before.places) good.at_ports good.ports (IsScheduler-decision_of n rounds t (rows_of slot) before.places (file_within n slot file) good.at_ports good.ports)
+    IsSoundDecision-slot n rounds t (rows_of slot) before.places (decision_of n rounds t (rows_of slot) before.places) good.at_ports good.ports
+    (IsScheduler-decision_of n rounds t (rows_of slot) before.places (file_within n slot file) good.at_ports good.ports)
 
-pub good_after : (n rounds t : ℕ) (before : Before) (slot : FileSlot) → IsGood n before → IsFileSlot n slot → slot.matched ≡ (decided_in n rounds t before slot).matched → IsGood n (after_slot n rounds t before slot)
+pub good_after : (n rounds t : ℕ) (before : Before) (slot : FileSlot) → IsGood n before → IsFileSlot n slot
+    → slot.matched ≡ (decided_in n rounds t before slot).matched → IsGood n (after_slot n rounds t before slot)
 unfolding after_slot
 good_after n rounds t before slot good file decided =
     let sound = sound_slot n rounds t before slot good file in

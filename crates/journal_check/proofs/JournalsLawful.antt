@@ -56,16 +56,20 @@ module _ (s : Setup) (events : List Event) (setup : IsSetup s) (legal : IsLegal 
   pub journal_lawful : IsLawful (file_of (board_journal (record { setup = s; events = events })))
   journal_lawful = slots_lawful s (posted events) (decides events) whole
 
-  four_levels : HaveLevels (file_of (board_journal (record { setup = s; events = events }))) → (i t : ℕ) → i < s.ports → t < decides events → HasLevels (posted events i t).row
+  four_levels : HaveLevels (file_of (board_journal (record { setup = s; events = events }))) → (i t : ℕ) → i < s.ports → t < decides events
+      → HasLevels (posted events i t).row
   four_levels four i t inside below =
       let count = count_slots s (posted events) (decides events) in
       let cards = count_posts s (posted events) t in
       let none = file_slot no_slot in
       let posts : All (λ (post : FilePost). HasLevels post.row) (slot s (posted events) t).posts =
-      subst (λ (v : FileSlot). All (λ (post : FilePost). HasLevels post.row) v.posts) (slot_in s (posted events) (decides events) t none below) (four t none (omega arith)) in
+      subst (λ (v : FileSlot). All (λ (post : FilePost). HasLevels post.row) v.posts) (slot_in s (posted events) (decides events) t none below)
+      (four t none (omega arith)) in
       subst (λ (post : FilePost). HasLevels post.row) (post_in s (posted events) t i (file_post no_post) inside) (posts i (file_post no_post) (omega arith))
 
-  pub journal_is_file : HaveLevels (file_of (board_journal (record { setup = s; events = events }))) → IsFile (file_of (board_journal (record { setup = s; events = events })))
+  pub journal_is_file : HaveLevels (file_of (board_journal (record { setup = s; events = events })))
+      → IsFile (file_of (board_journal (record { setup = s; events = events })))
   journal_is_file four =
       let step = AreInStep-legal s events legal in
-      slots_are_file s (posted events) (decides events) whole setup (omega (arith, step.decided_posted 0 setup.ports_some, step.posts_within 0 setup.ports_some)) (four_levels four)
+      slots_are_file s (posted events) (decides events) whole setup
+      (omega (arith, step.decided_posted 0 setup.ports_some, step.posts_within 0 setup.ports_some)) (four_levels four)

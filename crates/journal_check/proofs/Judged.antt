@@ -1,5 +1,6 @@
 -- One slot more is judged.
-use Rattle.std.proofs.Common.{◌≡◌, ℕ, ◌+◌, ◌≤◌, ◌∙◌, List, [], ◌∷◌, ◌++◌, length, take, map, replicate, Bool, true, Option, None, Some, refl, sym, ap, subst, append_assoc}
+use Rattle.std.proofs.Common.{◌≡◌, ℕ, ◌+◌, ◌≤◌, ◌∙◌, List, [], ◌∷◌, ◌++◌, length, take, map, replicate, Bool, true, Option, None, Some, refl, sym, ap}
+use Rattle.std.proofs.Common.{subst, append_assoc}
 use Rattle.std.proofs.lemmas.List.{map-append, append-nil, length_push, take-replicate, get_or-replicate, length-replicate}
 use Rattle.slot_match.specs.Rows.{empty_row, no_row, IsWithin, IsOfLevels, AreWithin}
 use Rattle.slot_match.specs.Matches.{unmatched}
@@ -21,7 +22,8 @@ use Rattle.journal_check.specs.Steps.{IsSlotRead, before_of, failure_with, IsJud
 
 module _ (n rounds : ℕ) (slots : List FileSlot) (value : FileSlot) (old new : Judge) (judged : IsJudged n rounds slots old) where
   -- the failure of all slots, where this one and others follow
-  so_far : (more : List FileSlot) → failure_from n rounds 0 (at_first n) ((slots ++ value ∷ []) ++ more) ≡ failure_with n rounds (length slots) old old.failure (value ∷ more)
+  so_far : (more : List FileSlot)
+      → failure_from n rounds 0 (at_first n) ((slots ++ value ∷ []) ++ more) ≡ failure_with n rounds (length slots) old old.failure (value ∷ more)
   so_far more = ap (failure_from n rounds 0 (at_first n)) (append_assoc slots (value ∷ []) more) ∙ judged.found (value ∷ more)
 
   -- a slot failed before
@@ -34,26 +36,30 @@ module _ (n rounds : ℕ) (slots : List FileSlot) (value : FileSlot) (old new : 
   }
 
   -- this slot is the first that fails
-  pub failed : (reason : Reason) → old.failure ≡ None → failure_in n rounds (length slots) (before_of n old) value ≡ Some reason → new.failure ≡ Some (record { slot = length slots; reason = reason }) → IsJudged n rounds (slots ++ value ∷ []) new
+  pub failed : (reason : Reason) → old.failure ≡ None → failure_in n rounds (length slots) (before_of n old) value ≡ Some reason
+      → new.failure ≡ Some (record { slot = length slots; reason = reason }) → IsJudged n rounds (slots ++ value ∷ []) new
   failed reason was why is =
       let failure : Failure = record { slot = length slots; reason = reason } in
       record {
         found = λ more.
             so_far more ∙ ap (λ (f : Option Failure). failure_with n rounds (length slots) old f (value ∷ more)) was
-            ∙ ap (λ (r : Option Reason). failure_or (length slots) r (failure_from n rounds (length slots + 1) (after_slot n rounds (length slots) (before_of n old) value) more)) why
+            ∙ ap (λ (r : Option Reason). failure_or (length slots) r
+            (failure_from n rounds (length slots + 1) (after_slot n rounds (length slots) (before_of n old) value) more)) why
             ∙ sym (ap (λ (f : Option Failure). failure_with n rounds (length (slots ++ value ∷ [])) new f more) is);
         noted = λ none. absurd (let same : None ≡ Some failure = sym none ∙ is in cc);
       }
 
   -- this slot may follow
-  pub passed : old.failure ≡ None → new.failure ≡ None → failure_in n rounds (length slots) (before_of n old) value ≡ None → before_of n new ≡ after_slot n rounds (length slots) (before_of n old) value
+  pub passed : old.failure ≡ None → new.failure ≡ None → failure_in n rounds (length slots) (before_of n old) value ≡ None
+      → before_of n new ≡ after_slot n rounds (length slots) (before_of n old) value
       → ((noted : List NotedSlot) → HasNoted old.meter noted → HasNoted new.meter (noted ++ noted_of value ∷ [])) → IsJudged n rounds (slots ++ value ∷ []) new
   passed was is why next notes =
       let count : length slots + 1 ≡ length (slots ++ value ∷ []) = sym (length_push slots value) in
       record {
         found = λ more.
             so_far more ∙ ap (λ (f : Option Failure). failure_with n rounds (length slots) old f (value ∷ more)) was
-            ∙ ap (λ (r : Option Reason). failure_or (length slots) r (failure_from n rounds (length slots + 1) (after_slot n rounds (length slots) (before_of n old) value) more)) why
+            ∙ ap (λ (r : Option Reason). failure_or (length slots) r
+            (failure_from n rounds (length slots + 1) (after_slot n rounds (length slots) (before_of n old) value) more)) why
             ∙ ap (λ (b : Before). failure_from n rounds (length slots + 1) b more) (sym next)
             ∙ ap (λ (k : ℕ). failure_from n rounds k (before_of n new) more) count
             ∙ sym (ap (λ (f : Option Failure). failure_with n rounds (length (slots ++ value ∷ [])) new f more) is);
@@ -61,7 +67,9 @@ module _ (n rounds : ℕ) (slots : List FileSlot) (value : FileSlot) (old new : 
       }
 
 -- what was noted of a slot is what stands in the file
-pub noted_same : (n rounds t : ℕ) (read : SlotRead) (value : FileSlot) (before : Before) (new : Judge) (rows : List Row) (matched : List (Option Fed)) → IsSlotRead n read value → rows ≡ take n read.rows → matched ≡ new.matched → before_of n new ≡ after_slot n rounds t before value → let noted : NotedSlot = record { rows = rows; matched = matched } in noted ≡ noted_of value
+pub noted_same : (n rounds t : ℕ) (read : SlotRead) (value : FileSlot) (before : Before) (new : Judge) (rows : List Row) (matched : List (Option Fed))
+    → IsSlotRead n read value → rows ≡ take n read.rows → matched ≡ new.matched → before_of n new ≡ after_slot n rounds t before value
+    → let noted : NotedSlot = record { rows = rows; matched = matched } in noted ≡ noted_of value
 unfolding after_slot
 noted_same n rounds t read value before new rows matched is rows_are matched_are next =
     let same_rows : rows ≡ rows_of value = rows_are ∙ is.rows in
@@ -70,17 +78,20 @@ noted_same n rounds t read value before new rows matched is rows_are matched_are
     ∙ ap (λ (m : List (Option Fed)). let noted : NotedSlot = record { rows = rows_of value; matched = m } in noted) same_matched
 
 -- before the first slot
-pub begin_judged : (n rounds : ℕ) (judge : Judge) → n ≤ 64 → judge.rows ≡ replicate 64 empty_row → judge.matched ≡ unmatched n → judge.going ≡ true → judge.pointers ≡ places_at_first n → judge.failure ≡ None → HasNoted judge.meter [] → IsJudged n rounds [] judge
+pub begin_judged : (n rounds : ℕ) (judge : Judge) → n ≤ 64 → judge.rows ≡ replicate 64 empty_row → judge.matched ≡ unmatched n → judge.going ≡ true
+    → judge.pointers ≡ places_at_first n → judge.failure ≡ None → HasNoted judge.meter [] → IsJudged n rounds [] judge
 unfolding at_first
 begin_judged n rounds judge few rows matched going pointers none noted =
     let first_rows : take n judge.rows ≡ replicate n empty_row = ap (take n) rows ∙ take-replicate n 64 empty_row few in
     let same : before_of n judge ≡ at_first n =
     ap (λ (r : List Row). let b : Before = record { rows = r; matched = judge.matched; going = judge.going; places = judge.pointers } in b) first_rows
-    ∙ ap (λ (m : List (Option Fed)). let b : Before = record { rows = replicate n empty_row; matched = m; going = judge.going; places = judge.pointers } in b) matched
+    ∙ ap (λ (m : List (Option Fed)). let b : Before = record { rows = replicate n empty_row; matched = m; going = judge.going; places = judge.pointers } in
+    b) matched
     ∙ ap (λ (g : Bool). let b : Before = record { rows = replicate n empty_row; matched = unmatched n; going = g; places = judge.pointers } in b) going
     ∙ ap (λ (p : Places). let b : Before = record { rows = replicate n empty_row; matched = unmatched n; going = true; places = p } in b) pointers in
     record {
-      found = λ more. ap (λ (b : Before). failure_from n rounds 0 b more) (sym same) ∙ sym (ap (λ (f : Option Failure). failure_with n rounds 0 judge f more) none);
+      found = λ more. ap (λ (b : Before). failure_from n rounds 0 b more) (sym same)
+          ∙ sym (ap (λ (f : Option Failure). failure_with n rounds 0 judge f more) none);
       noted = λ h. noted;
     }
 
@@ -89,12 +100,14 @@ first_rows_within n few =
     let rows = take-replicate n 64 empty_row few in
     subst (AreWithin n) (sym rows) (record {
       count = length-replicate n empty_row;
-      ports = λ i below. subst (IsWithin n) (sym (get_or-replicate n i empty_row no_row below)) (λ level j kind has. absurd (IsEmptyRow-empty level j kind has));
+      ports = λ i below. subst (IsWithin n) (sym (get_or-replicate n i empty_row no_row below))
+          (λ level j kind has. absurd (IsEmptyRow-empty level j kind has));
       levels = λ i below. subst IsOfLevels (sym (get_or-replicate n i empty_row no_row below)) (λ level j kind has. absurd (IsEmptyRow-empty level j kind has));
     })
 
 -- the first failure of a file of which all slots are judged
-pub whole_failure : (file : JournalFile) (judge : Judge) → IsJudged file.ports file.rounds file.slots judge → first_failure file ≡ failure_with file.ports file.rounds (length file.slots) judge judge.failure []
+pub whole_failure : (file : JournalFile) (judge : Judge) → IsJudged file.ports file.rounds file.slots judge
+    → first_failure file ≡ failure_with file.ports file.rounds (length file.slots) judge judge.failure []
 unfolding first_failure
 whole_failure file judge judged = ap (failure_from file.ports file.rounds 0 (at_first file.ports)) (sym (append-nil file.slots)) ∙ judged.found []
 
@@ -102,24 +115,35 @@ pub no_failure_so_far : (n rounds t : ℕ) (judge : Judge) (f : Option Failure) 
 no_failure_so_far n rounds t judge None e = refl
 no_failure_so_far n rounds t judge (Some failure) e = absurd (cc)
 
-pub no_verdict : (file : JournalFile) (judge : Judge) (failure : Failure) (slots : ℕ) → slots ≡ length file.slots → IsJudged file.ports file.rounds file.slots judge → Some failure ≡ failure_with file.ports file.rounds slots judge judge.failure [] → No failure.slot failure.reason ≡ verdict_on file
+pub no_verdict : (file : JournalFile) (judge : Judge) (failure : Failure) (slots : ℕ) → slots ≡ length file.slots
+    → IsJudged file.ports file.rounds file.slots judge → Some failure ≡ failure_with file.ports file.rounds slots judge judge.failure []
+    → No failure.slot failure.reason ≡ verdict_on file
 no_verdict file judge failure slots count judged e =
     ap (verdict_by file) (e ∙ ap (λ (k : ℕ). failure_with file.ports file.rounds k judge judge.failure []) count ∙ sym (whole_failure file judge judged))
 
-pub yes_verdict : (file : JournalFile) (judge : Judge) (slots a b c d : ℕ) → slots ≡ length file.slots → judge.meter.ports ≡ file.ports → IsJudged file.ports file.rounds file.slots judge → None ≡ failure_with file.ports file.rounds slots judge judge.failure []
-    → ((noted : List NotedSlot) → HasNoted judge.meter noted → a ≡ longest_wait judge.meter.ports 0 noted) → ((noted : List NotedSlot) → HasNoted judge.meter noted → b ≡ longest_wait judge.meter.ports 1 noted)
-    → ((noted : List NotedSlot) → HasNoted judge.meter noted → c ≡ longest_wait judge.meter.ports 2 noted) → ((noted : List NotedSlot) → HasNoted judge.meter noted → d ≡ longest_wait judge.meter.ports 3 noted) → Yes slots (a ∷ b ∷ c ∷ d ∷ []) ≡ verdict_on file
+pub yes_verdict : (file : JournalFile) (judge : Judge) (slots a b c d : ℕ) → slots ≡ length file.slots → judge.meter.ports ≡ file.ports
+    → IsJudged file.ports file.rounds file.slots judge → None ≡ failure_with file.ports file.rounds slots judge judge.failure []
+    → ((noted : List NotedSlot) → HasNoted judge.meter noted → a ≡ longest_wait judge.meter.ports 0 noted)
+    → ((noted : List NotedSlot) → HasNoted judge.meter noted → b ≡ longest_wait judge.meter.ports 1 noted)
+    → ((noted : List NotedSlot) → HasNoted judge.meter noted → c ≡ longest_wait judge.meter.ports 2 noted)
+    → ((noted : List NotedSlot) → HasNoted judge.meter noted → d ≡ longest_wait judge.meter.ports 3 noted)
+    → Yes slots (a ∷ b ∷ c ∷ d ∷ []) ≡ verdict_on file
 unfolding longest_waits
 yes_verdict file judge slots a b c d count ports judged e wa wb wc wd =
     let slots_are = map noted_of file.slots in
     let none : judge.failure ≡ None = no_failure_so_far file.ports file.rounds slots judge judge.failure e in
     let noted = judged.noted none in
-    let first : None ≡ first_failure file = e ∙ ap (λ (k : ℕ). failure_with file.ports file.rounds k judge judge.failure []) count ∙ sym (whole_failure file judge judged) in
+    let first : None ≡ first_failure file = e ∙ ap (λ (k : ℕ). failure_with file.ports file.rounds k judge judge.failure []) count
+    ∙ sym (whole_failure file judge judged) in
     let wait : ℕ → ℕ → Type 0 = λ x level. x ≡ longest_wait file.ports level slots_are in
-    let at : (x level : ℕ) → x ≡ longest_wait judge.meter.ports level slots_are → wait x level = λ x level h. h ∙ ap (λ (n : ℕ). longest_wait n level slots_are) ports in
+    let at : (x level : ℕ) → x ≡ longest_wait judge.meter.ports level slots_are → wait x level = λ x level h. h
+    ∙ ap (λ (n : ℕ). longest_wait n level slots_are) ports in
     ap (λ (k : ℕ). Yes k (a ∷ b ∷ c ∷ d ∷ [])) count
     ∙ ap (λ (x : ℕ). Yes (length file.slots) (x ∷ b ∷ c ∷ d ∷ [])) (at a 0 (wa slots_are noted))
     ∙ ap (λ (x : ℕ). Yes (length file.slots) (longest_wait file.ports 0 slots_are ∷ x ∷ c ∷ d ∷ [])) (at b 1 (wb slots_are noted))
-    ∙ ap (λ (x : ℕ). Yes (length file.slots) (longest_wait file.ports 0 slots_are ∷ longest_wait file.ports 1 slots_are ∷ x ∷ d ∷ [])) (at c 2 (wc slots_are noted))
-    ∙ ap (λ (x : ℕ). Yes (length file.slots) (longest_wait file.ports 0 slots_are ∷ longest_wait file.ports 1 slots_are ∷ longest_wait file.ports 2 slots_are ∷ x ∷ [])) (at d 3 (wd slots_are noted))
+    ∙ ap (λ (x : ℕ). Yes (length file.slots) (longest_wait file.ports 0 slots_are ∷ longest_wait file.ports 1 slots_are ∷ x ∷ d ∷ []))
+    (at c 2 (wc slots_are noted))
+    ∙ ap (λ (x : ℕ). Yes (length file.slots)
+    (longest_wait file.ports 0 slots_are ∷ longest_wait file.ports 1 slots_are ∷ longest_wait file.ports 2 slots_are ∷ x ∷ []))
+    (at d 3 (wd slots_are noted))
     ∙ ap (verdict_by file) first

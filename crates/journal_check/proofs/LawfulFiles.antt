@@ -1,5 +1,6 @@
 -- A file has no failure exactly where it is lawful.
-use Rattle.std.proofs.Common.{◌≡◌, ◌↔◌, ℕ, zero, suc, ◌+◌, ◌-◌, ◌<◌, ◌≤◌, ◌⊎◌, ◌==◌, ◌&&◌, ◌∙◌, not, Bool, true, false, List, [], ◌∷◌, length, Option, None, Some, Ok, Result, All, refl, sym, ap, inl, inr, arith, slice_index_or, if◌then◌else◌}
+use Rattle.std.proofs.Common.{◌≡◌, ◌↔◌, ℕ, zero, suc, ◌+◌, ◌-◌, ◌<◌, ◌≤◌, ◌⊎◌, ◌==◌, ◌&&◌, ◌∙◌, not, Bool, true, false, List, [], ◌∷◌, length, Option}
+use Rattle.std.proofs.Common.{None, Some, Ok, Result, All, refl, sym, ap, inl, inr, arith, slice_index_or, if◌then◌else◌}
 use Rattle.std.specs.Bool.{Decides}
 use Rattle.std.specs.List.{find, range_with_len}
 use Rattle.std.specs.Option.{option_map, option_or}
@@ -21,7 +22,8 @@ use Rattle.journal_check.specs.declared.verdict.Failure.{Failure}
 use Rattle.journal_check.specs.declared.verdict.JournalFault.{JournalFault}
 use Rattle.journal_check.specs.declared.verdict.Verdict.{Verdict}
 use Rattle.journal_check.specs.Files.{FileSlot, JournalFile, rows_of, mores_of}
-use Rattle.journal_check.specs.Lawful.{Before, at_first, decided_in, after_slot, first_of, lacks_more, breaks, is_alike, differs, post_failure, output_failure, failure_in, failure_or, failure_from, MayFollow, MayFollowAll, first_failure, IsLawful}
+use Rattle.journal_check.specs.Lawful.{Before, at_first, decided_in, after_slot, first_of, lacks_more, breaks, is_alike, differs, post_failure}
+use Rattle.journal_check.specs.Lawful.{output_failure, failure_in, failure_or, failure_from, MayFollow, MayFollowAll, first_failure, IsLawful}
 use Rattle.journal_check.proofs.Goods.{AreRows, IsGood, sound_slot, good_after, good_at_first}
 use Rattle.journal_check.specs.Texts.{IsFileSlot, IsFile, file_text}
 use Rattle.journal_check.specs.Verdicts.{yes_on, verdict_by, answer_by, answer_to}
@@ -38,7 +40,8 @@ none_from test a (suc n) =
         λ all. absurd (let no : test a ≡ false = all a (omega arith) (omega arith) in let same : true ≡ false = sym here ∙ no in cc),
       )
       | inr gone ↦
-          let step : find test (range_with_len a (suc n)) ≡ find test (range_with_len (a + 1) n) = cond-false (test a) (Some a) (find test (range_with_len (a + 1) n)) gone in (
+          let step : find test (range_with_len a (suc n)) ≡ find test (range_with_len (a + 1) n) =
+          cond-false (test a) (Some a) (find test (range_with_len (a + 1) n)) gone in (
             λ e k low high. elim (cases_eq k a) [
               | inl same ↦ ap test same ∙ gone
               | inr apart ↦ rest.0 (sym step ∙ e) k (omega arith) (omega arith)
@@ -90,7 +93,8 @@ Decides-alike (Some a) (Some b) = (
   λ e.
       let same : a ≡ b = cc in
       and_from (a.input == b.input) (a.level == b.level && is_kind a.kind b.kind) ((Decides-eqb a.input b.input).1 (ap (λ (f : Fed). f.input) same))
-      (and_from (a.level == b.level) (is_kind a.kind b.kind) ((Decides-eqb a.level b.level).1 (ap (λ (f : Fed). f.level) same)) ((Decides-kind a.kind b.kind).1 (ap (λ (f : Fed). f.kind) same))),
+      (and_from (a.level == b.level) (is_kind a.kind b.kind) ((Decides-eqb a.level b.level).1 (ap (λ (f : Fed). f.level) same))
+      ((Decides-kind a.kind b.kind).1 (ap (λ (f : Fed). f.kind) same))),
 )
 
 -- lists of one length with the same elements are one
@@ -104,13 +108,17 @@ same_lists (x ∷ xs) (y ∷ ys) len each =
     ap (λ (z : Option Fed). z ∷ xs) head ∙ ap (λ (zs : List (Option Fed)). y ∷ zs) tail
 
 module _ (n : ℕ) where
-  pub no_output_failure : (matched decided : List (Option Fed)) → length matched ≡ n → length decided ≡ n → (output_failure n matched decided ≡ None) ↔ (matched ≡ decided)
+  pub no_output_failure : (matched decided : List (Option Fed)) → length matched ≡ n → length decided ≡ n → (output_failure n matched decided ≡ None)
+      ↔ (matched ≡ decided)
   unfolding output_failure
   no_output_failure matched decided long also =
       let none = none_of n (differs matched decided) in
       let mapped = none_map Output (first_of n (differs matched decided)) in (
-        λ e. same_lists matched decided (omega arith) (λ j below. (Decides-alike (fed_of matched j) (fed_of decided j)).0 (from_not (is_alike (fed_of matched j) (fed_of decided j)) (none.0 (mapped.0 e) j (omega arith)))),
-        λ same. mapped.1 (none.1 (λ j below. not_from (is_alike (fed_of matched j) (fed_of decided j)) ((Decides-alike (fed_of matched j) (fed_of decided j)).1 (ap (λ (xs : List (Option Fed)). fed_of xs j) same)))),
+        λ e. same_lists matched decided (omega arith)
+            (λ j below. (Decides-alike (fed_of matched j) (fed_of decided j)).0
+            (from_not (is_alike (fed_of matched j) (fed_of decided j)) (none.0 (mapped.0 e) j (omega arith)))),
+        λ same. mapped.1 (none.1 (λ j below. not_from (is_alike (fed_of matched j) (fed_of decided j))
+            ((Decides-alike (fed_of matched j) (fed_of decided j)).1 (ap (λ (xs : List (Option Fed)). fed_of xs j) same)))),
       )
 
   pub going_on : (b : Bool) → ((if b then None else Some AfterEnd) ≡ None) ↔ (b ≡ true)
@@ -138,7 +146,8 @@ module _ (n : ℕ) where
       ]
 
   -- a slot has no failure exactly where it may follow
-  pub no_failure : (rounds t : ℕ) (before : Before) (slot : FileSlot) → AreRows n before.rows → length slot.matched ≡ n → length (decided_in n rounds t before slot).matched ≡ n → (failure_in n rounds t before slot ≡ None) ↔ MayFollow n rounds t before slot
+  pub no_failure : (rounds t : ℕ) (before : Before) (slot : FileSlot) → AreRows n before.rows → length slot.matched ≡ n
+      → length (decided_in n rounds t before slot).matched ≡ n → (failure_in n rounds t before slot ≡ None) ↔ MayFollow n rounds t before slot
   unfolding failure_in post_failure
   no_failure rounds t before slot rows long also =
       let new = rows_of slot in
@@ -154,7 +163,8 @@ module _ (n : ℕ) where
       let outputs = no_output_failure slot.matched decided long also in
       let card_lacks = none_of n (lacks_more new more) in
       let card_breaks = none_of n (breaks n before.matched before.rows new) in
-      let tells = λ (i : ℕ) (below : i < n). Decides-keeps_rest n (served_of before.matched i) (row_of before.rows i) (rows.within i below) (rows.levels i below) (row_of new i) in (
+      let tells = λ (i : ℕ) (below : i < n). Decides-keeps_rest n (served_of before.matched i) (row_of before.rows i) (rows.within i below)
+      (rows.levels i below) (row_of new i) in (
         λ e.
             let p = whole.0 e in
             let q = ends.0 p.0 in
@@ -163,7 +173,9 @@ module _ (n : ℕ) where
             record {
               goes_on = (going_on before.going).0 q.0;
               more = λ i below. (lacks_none new more i).0 (card_lacks.0 ((none_map More (first_of n (lacks_more new more))).0 r.0) i below);
-              keeps = λ i below. (tells i below).0 (from_not (keeps_rest n (served_of before.matched i) (row_of before.rows i) (row_of new i)) (card_breaks.0 ((none_map Keeps (first_of n (breaks n before.matched before.rows new))).0 s.0) i below));
+              keeps = λ i below. (tells i below).0
+                  (from_not (keeps_rest n (served_of before.matched i) (row_of before.rows i) (row_of new i))
+                  (card_breaks.0 ((none_map Keeps (first_of n (breaks n before.matched before.rows new))).0 s.0) i below));
               decided = outputs.0 p.1;
             },
         λ h. whole.1 (
@@ -171,7 +183,12 @@ module _ (n : ℕ) where
             (going_on before.going).1 h.goes_on,
             lacks.1 (
               (none_map More (first_of n (lacks_more new more))).1 (card_lacks.1 (λ i below. (lacks_none new more i).1 (h.more i below))),
-              keeps.1 ((none_map Keeps (first_of n (breaks n before.matched before.rows new))).1 (card_breaks.1 (λ i below. not_from (keeps_rest n (served_of before.matched i) (row_of before.rows i) (row_of new i)) ((tells i below).1 (h.keeps i below)))), refl),
+              keeps.1 (
+                (none_map Keeps (first_of n (breaks n before.matched before.rows new))).1
+                    (card_breaks.1 (λ i below. not_from (keeps_rest n (served_of before.matched i) (row_of before.rows i) (row_of new i))
+                    ((tells i below).1 (h.keeps i below)))),
+                refl,
+              ),
             ),
           ),
           outputs.1 h.decided,
@@ -187,7 +204,8 @@ module _ (n : ℕ) where
   none_going false f = (λ e. refl, λ e. refl)
 
 module _ (n rounds : ℕ) where
-  pub no_failure_from : (t : ℕ) (before : Before) (slots : List FileSlot) → IsGood n before → All (IsFileSlot n) slots → (failure_from n rounds t before slots ≡ None) ↔ MayFollowAll n rounds t before slots
+  pub no_failure_from : (t : ℕ) (before : Before) (slots : List FileSlot) → IsGood n before → All (IsFileSlot n) slots
+      → (failure_from n rounds t before slots ≡ None) ↔ MayFollowAll n rounds t before slots
   no_failure_from t before [] good each = none_going n before.going (record { slot = t - 1; reason = NoEnd })
   no_failure_from t before (slot ∷ slots) good each =
       let file : IsFileSlot n slot = each 0 slot (omega arith) in
@@ -196,17 +214,20 @@ module _ (n rounds : ℕ) where
       let here = no_failure n rounds t before slot good.rows file.outputs sound.matches.count in
       let later = failure_from n rounds (t + 1) (after_slot n rounds t before slot) slots in
       let both = none_later n t (failure_in n rounds t before slot) later in
-      let next = λ (follows : MayFollow n rounds t before slot). no_failure_from (t + 1) (after_slot n rounds t before slot) slots (good_after n rounds t before slot good file follows.decided) rest in (
+      let next = λ (follows : MayFollow n rounds t before slot). no_failure_from (t + 1) (after_slot n rounds t before slot) slots
+      (good_after n rounds t before slot good file follows.decided) rest in (
         λ e. let p = both.0 e in let follows = here.0 p.0 in (follows, (next follows).0 p.1),
         λ h. both.1 (here.1 h.0, (next h.0).1 h.1),
       )
 
 pub file_failure : (file : JournalFile) → IsFile file → (first_failure file ≡ None) ↔ IsLawful file
 unfolding first_failure IsLawful
-file_failure file good = no_failure_from file.ports file.rounds 0 (at_first file.ports) file.slots (good_at_first file.ports good.ports_some good.ports_few) good.slots
+file_failure file good = no_failure_from file.ports file.rounds 0 (at_first file.ports) file.slots
+    (good_at_first file.ports good.ports_some good.ports_few) good.slots
 
 -- a lawful file is answered yes
 pub lawful_answer : (file : JournalFile) → IsFile file → IsLawful file → answer_to (file_text file) ≡ Ok (yes_on file)
 unfolding answer_to
 lawful_answer file good lawful =
-    ap answer_by (journal_again file good) ∙ ap (λ (f : Option Failure). let a : Result Verdict JournalFault = Ok (verdict_by file f) in a) ((file_failure file good).1 lawful)
+    ap answer_by (journal_again file good)
+    ∙ ap (λ (f : Option Failure). let a : Result Verdict JournalFault = Ok (verdict_by file f) in a) ((file_failure file good).1 lawful)

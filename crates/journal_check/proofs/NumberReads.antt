@@ -1,5 +1,6 @@
 -- A number that stands at a place: whether it is read there.
-use Rattle.std.proofs.Common.{◌≡◌, ℕ, ◌+◌, ◌-◌, ◌<◌, ◌≤◌, ◌&&◌, ◌∙◌, ◌⊎◌, inl, inr, Bool, true, false, nat_le, nat_lt, ltb-true, ◌==◌, ◌||◌, List, length, take, drop, Ok, Err, refl, sym, ap, arith, leb-true, le-leb}
+use Rattle.std.proofs.Common.{◌≡◌, ℕ, ◌+◌, ◌-◌, ◌<◌, ◌≤◌, ◌&&◌, ◌∙◌, ◌⊎◌, inl, inr, Bool, true, false, nat_le, nat_lt, ltb-true, ◌==◌, ◌||◌, List}
+use Rattle.std.proofs.Common.{length, take, drop, Ok, Err, refl, sym, ap, arith, leb-true, le-leb}
 use Rattle.std.proofs.lemmas.Bool.{cond-true, cond-false, and_from, cases_Bool, and_parts}
 use Rattle.std.proofs.lemmas.Bool.Decides.{Decides-eqb}
 use Rattle.std.proofs.lemmas.List.{drop-drop, length-drop, take_rest}
@@ -30,14 +31,17 @@ not_both true true h = h refl refl
 not_both true false h = refl
 not_both false b h = refl
 
-pub number_read : (field : Field) (bytes : List ℕ) (at number : ℕ) → at + len_of field ≤ length bytes → number ≡ big_number (len_of field) (drop at bytes) → allows field number ≡ true → IsRead (number_in field) bytes at number (at + len_of field)
+pub number_read : (field : Field) (bytes : List ℕ) (at number : ℕ) → at + len_of field ≤ length bytes → number ≡ big_number (len_of field) (drop at bytes)
+    → allows field number ≡ true → IsRead (number_in field) bytes at number (at + len_of field)
 number_read field bytes at number long is allowed =
     let rest = drop at bytes in
     let whole : nat_le (len_of field) (length rest) ≡ true = le-leb (len_of field) (length rest) (omega (arith, length-drop at bytes)) in
-    let test : is_good field rest ≡ true = and_from (nat_le (len_of field) (length rest)) (allows field (big_number (len_of field) rest)) whole (sym (ap (allows field) is) ∙ allowed) in
+    let test : is_good field rest ≡ true =
+    and_from (nat_le (len_of field) (length rest)) (allows field (big_number (len_of field) rest)) whole (sym (ap (allows field) is) ∙ allowed) in
     let next = drop-drop (len_of field) at bytes in
     let reads : number_in field rest ≡ Ok (number, drop (at + len_of field) bytes) =
-    good field rest test ∙ ap (λ (x : ℕ). let r : Reading ℕ = Ok (x, drop (len_of field) rest) in r) (sym is) ∙ ap (λ (xs : List ℕ). let r : Reading ℕ = Ok (number, xs) in r) next in
+    good field rest test ∙ ap (λ (x : ℕ). let r : Reading ℕ = Ok (x, drop (len_of field) rest) in r) (sym is)
+    ∙ ap (λ (xs : List ℕ). let r : Reading ℕ = Ok (number, xs) in r) next in
     record { within = long; reads = reads }
 
 pub number_short : (field : Field) (bytes : List ℕ) (at : ℕ) → at ≤ length bytes → length bytes - at < len_of field → IsBadAt (number_in field) bytes at at
@@ -45,16 +49,21 @@ number_short field bytes at place short =
     let rest = drop at bytes in
     record {
       within = place;
-      fails = not_good field rest (not_both (nat_le (len_of field) (length rest)) (allows field (big_number (len_of field) rest)) (λ fits ok. absurd (omega (arith, leb-true (len_of field) (length rest) fits, length-drop at bytes))));
+      fails = not_good field rest
+          (not_both (nat_le (len_of field) (length rest)) (allows field (big_number (len_of field) rest))
+          (λ fits ok. absurd (omega (arith, leb-true (len_of field) (length rest) fits, length-drop at bytes))));
     }
 
-pub number_refused : (field : Field) (bytes : List ℕ) (at number : ℕ) → at ≤ length bytes → number ≡ big_number (len_of field) (drop at bytes) → allows field number ≡ false → IsBadAt (number_in field) bytes at at
+pub number_refused : (field : Field) (bytes : List ℕ) (at number : ℕ) → at ≤ length bytes → number ≡ big_number (len_of field) (drop at bytes)
+    → allows field number ≡ false → IsBadAt (number_in field) bytes at at
 number_refused field bytes at number place is refused =
     let rest = drop at bytes in
     let no : allows field (big_number (len_of field) rest) ≡ false = sym (ap (allows field) is) ∙ refused in
     record {
       within = place;
-      fails = not_good field rest (not_both (nat_le (len_of field) (length rest)) (allows field (big_number (len_of field) rest)) (λ fits ok. absurd (let same : true ≡ false = sym ok ∙ no in cc)));
+      fails = not_good field rest
+          (not_both (nat_le (len_of field) (length rest)) (allows field (big_number (len_of field) rest))
+          (λ fits ok. absurd (let same : true ≡ false = sym ok ∙ no in cc)));
     }
 
 abbrev number_part : Reading ℕ → ℕ
@@ -62,7 +71,8 @@ number_part (Ok read) = read.0
 number_part (Err bad) = 0
 
 -- the number of the first bytes of the rest of a slice
-pub read_is : (field : Field) (bytes : List ℕ) (at number len : ℕ) → len ≡ len_of field → number ≡ big_number len (take (length bytes - at) (drop at bytes)) → number ≡ big_number (len_of field) (drop at bytes)
+pub read_is : (field : Field) (bytes : List ℕ) (at number len : ℕ) → len ≡ len_of field → number ≡ big_number len (take (length bytes - at) (drop at bytes))
+    → number ≡ big_number (len_of field) (drop at bytes)
 read_is field bytes at number len len_is is =
     is ∙ ap (λ (k : ℕ). big_number k (take (length bytes - at) (drop at bytes))) len_is ∙ ap (big_number (len_of field)) (take_rest bytes at)
 
@@ -119,6 +129,8 @@ pub rank_within : (input : ℕ) (bytes : List ℕ) (at x next : ℕ) → IsRead 
 rank_within input bytes at x next read =
     let allowed = number_allowed (Rank input) bytes at x next read in
     elim (cases_Bool (input == no_input)) [
-      | inl e ↦ let same : allows (Rank input) x ≡ (x == 0) = cond-true (input == no_input) (x == 0) (is_from 0 7 x) e in let is : x ≡ 0 = (Decides-eqb x 0).0 (sym same ∙ allowed) in omega arith
-      | inr e ↦ let same : allows (Rank input) x ≡ is_from 0 7 x = cond-false (input == no_input) (x == 0) (is_from 0 7 x) e in let p = (from_bounds 0 7 x (sym same ∙ allowed)).1 in omega arith
+      | inl e ↦ let same : allows (Rank input) x ≡ (x == 0) = cond-true (input == no_input) (x == 0) (is_from 0 7 x) e in let is : x ≡ 0 =
+          (Decides-eqb x 0).0 (sym same ∙ allowed) in omega arith
+      | inr e ↦ let same : allows (Rank input) x ≡ is_from 0 7 x = cond-false (input == no_input) (x == 0) (is_from 0 7 x) e in let p =
+          (from_bounds 0 7 x (sym same ∙ allowed)).1 in omega arith
     ]

@@ -1,5 +1,6 @@
 -- What is read of a field is spelled by its bytes, and so are readings one after another.
-use Rattle.std.proofs.Common.{◌≡◌, ℕ, zero, suc, ◌+◌, ◌-◌, ◌*◌, ◌/◌, ◌%◌, ◌^◌, ◌<◌, ◌≤◌, ◌∙◌, All, List, [], ◌∷◌, ◌++◌, length, take, drop, get_or, slice_index, Ok, Err, refl, sym, ap, subst, inl, inr, arith, append_assoc, leb-true, nat_le, true}
+use Rattle.std.proofs.Common.{◌≡◌, ℕ, zero, suc, ◌+◌, ◌-◌, ◌*◌, ◌/◌, ◌%◌, ◌^◌, ◌<◌, ◌≤◌, ◌∙◌, All, List, [], ◌∷◌, ◌++◌, length, take, drop, get_or}
+use Rattle.std.proofs.Common.{slice_index, Ok, Err, refl, sym, ap, subst, inl, inr, arith, append_assoc, leb-true, nat_le, true}
 use Rattle.std.specs.List.{flat_map, range_with_len}
 use Rattle.std.specs.Int.{byte_at, bytes_high_first}
 use Rattle.std.proofs.Math.Nat.{mod-eq_of_lt, mod-lt, mul-add-mod_self_right}
@@ -21,7 +22,8 @@ bytes_rest : (text rest bytes : List ℕ) → bytes ≡ text ++ rest → AreByte
 bytes_rest text rest bytes e are k d below =
     let whole : AreBytes (text ++ rest) = subst AreBytes e are in
     let place : length text + k - length text ≡ k = omega arith in
-    let same : get_or (text ++ rest) (length text + k) d ≡ get_or rest (length text + k - length text) d = get_or-append_right text rest (length text) (length text + k) d refl (omega arith) in
+    let same : get_or (text ++ rest) (length text + k) d ≡ get_or rest (length text + k - length text) d =
+    get_or-append_right text rest (length text) (length text + k) d refl (omega arith) in
     subst (λ (b : ℕ). b < 256) (same ∙ ap (λ (j : ℕ). get_or rest j d) place) (whole (length text + k) d (omega (arith, length-append text rest)))
 
 -- What is read stands at the head of the bytes, with a text of which P holds.
@@ -29,27 +31,32 @@ abbrev pub Spells : {X : Type 0} → (X → List ℕ → Type 0) → List ℕ �
 Spells P bytes (Ok read) = (text : List ℕ) × (bytes ≡ text ++ read.1) × P read.0 text
 Spells P bytes (Err bad) = Unit {0}
 
-pub follow : {X Y : Type 0} (P : X → List ℕ → Type 0) (R : Reading Y → Type 0) (bytes : List ℕ) (r : Reading X) (next : X → List ℕ → Reading Y) → AreBytes bytes → Spells P bytes r → ((bad : List ℕ) → R (Err bad))
+pub follow : {X Y : Type 0} (P : X → List ℕ → Type 0) (R : Reading Y → Type 0) (bytes : List ℕ) (r : Reading X) (next : X → List ℕ → Reading Y)
+    → AreBytes bytes → Spells P bytes r → ((bad : List ℕ) → R (Err bad))
     → ((x : X) (text rest : List ℕ) → bytes ≡ text ++ rest → AreBytes rest → P x text → R (next x rest)) → R (read_on r next)
 follow P R bytes (Ok read) next are spells none go = go read.0 spells.0 read.1 spells.1 (bytes_rest spells.0 read.1 bytes spells.1 are) spells.2
 follow P R bytes (Err bad) next are spells none go = none bad
 
 -- a text before what a reading spells
-after_text : {Y : Type 0} (Q : Y → List ℕ → Type 0) (bytes text rest : List ℕ) → bytes ≡ text ++ rest → (r : Reading Y) → Spells (λ y more. Q y (text ++ more)) rest r → Spells Q bytes r
+after_text : {Y : Type 0} (Q : Y → List ℕ → Type 0) (bytes text rest : List ℕ) → bytes ≡ text ++ rest → (r : Reading Y)
+    → Spells (λ y more. Q y (text ++ more)) rest r → Spells Q bytes r
 after_text Q bytes text rest e (Ok read) h = (text ++ h.0, e ∙ ap (λ (more : List ℕ). text ++ more) h.1 ∙ sym (append_assoc text h.0 read.1), h.2)
 after_text Q bytes text rest e (Err bad) h = tt
 
 -- what is read next stands behind it
-pub spells_on : {X Y : Type 0} (P : X → List ℕ → Type 0) (Q : Y → List ℕ → Type 0) (bytes : List ℕ) (r : Reading X) (next : X → List ℕ → Reading Y) → AreBytes bytes → Spells P bytes r
+pub spells_on : {X Y : Type 0} (P : X → List ℕ → Type 0) (Q : Y → List ℕ → Type 0) (bytes : List ℕ) (r : Reading X) (next : X → List ℕ → Reading Y)
+    → AreBytes bytes → Spells P bytes r
     → ((x : X) (text rest : List ℕ) → AreBytes rest → P x text → Spells (λ y more. Q y (text ++ more)) rest (next x rest)) → Spells Q bytes (read_on r next)
 spells_on P Q bytes r next are spells go =
-    follow P (Spells Q bytes) bytes r next are spells (λ bad. tt) (λ x text rest e rest_are p. after_text Q bytes text rest e (next x rest) (go x text rest rest_are p))
+    follow P (Spells Q bytes) bytes r next are spells (λ bad. tt)
+    (λ x text rest e rest_are p. after_text Q bytes text rest e (next x rest) (go x text rest rest_are p))
 
 -- nothing more is read
 pub ends_here : {X : Type 0} (P : X → List ℕ → Type 0) (x : X) (rest : List ℕ) → P x [] → Spells P rest (Ok (x, rest))
 ends_here P x rest p = ([], refl, p)
 
-pub spells_more : {X : Type 0} (P Q : X → List ℕ → Type 0) (bytes : List ℕ) (r : Reading X) → ((x : X) (text : List ℕ) → P x text → Q x text) → Spells P bytes r → Spells Q bytes r
+pub spells_more : {X : Type 0} (P Q : X → List ℕ → Type 0) (bytes : List ℕ) (r : Reading X) → ((x : X) (text : List ℕ) → P x text → Q x text)
+    → Spells P bytes r → Spells Q bytes r
 spells_more P Q bytes (Ok read) more h = (h.0, h.1, more read.0 h.0 h.2)
 spells_more P Q bytes (Err bad) more h = tt
 
@@ -57,13 +64,17 @@ spells_more P Q bytes (Err bad) more h = tt
 abbrev pub AreSpelled : {X : Type 0} → (X → List ℕ) → ℕ → List X → List ℕ → Type 0
 AreSpelled text_of count xs text = (length xs ≡ count) × (text ≡ flat_map text_of xs)
 
-pub each_spelled : {X : Type 0} (text_of : X → List ℕ) (read : List ℕ → Reading X) → ((bytes : List ℕ) → AreBytes bytes → Spells (λ x text. text ≡ text_of x) bytes (read bytes)) → (count a : ℕ) (bytes : List ℕ) → AreBytes bytes
+pub each_spelled : {X : Type 0} (text_of : X → List ℕ) (read : List ℕ → Reading X)
+    → ((bytes : List ℕ) → AreBytes bytes → Spells (λ x text. text ≡ text_of x) bytes (read bytes)) → (count a : ℕ) (bytes : List ℕ) → AreBytes bytes
     → Spells (AreSpelled text_of count) bytes (each_in (λ k. read) (range_with_len a count) bytes)
 each_spelled text_of read each zero a bytes are = ([], refl, (refl, refl))
 each_spelled text_of read each (suc count) a bytes are =
     spells_on (λ x text. text ≡ text_of x) (AreSpelled text_of (suc count)) bytes (read bytes) _ are (each bytes are) (λ x first more more_are is.
-    spells_on (AreSpelled text_of count) (λ xs text. AreSpelled text_of (suc count) xs (first ++ text)) more (each_in (λ k. read) (range_with_len (a + 1) count) more) _ more_are (each_spelled text_of read each count (a + 1) more more_are) (λ xs others rest rest_are they.
-    ends_here (λ ys text. AreSpelled text_of (suc count) ys (first ++ (others ++ text))) (x ∷ xs) rest (ap suc they.0, ap (λ (t : List ℕ). first ++ t) (append-nil others ∙ they.1) ∙ ap (λ (t : List ℕ). t ++ flat_map text_of xs) is)))
+    spells_on (AreSpelled text_of count) (λ xs text. AreSpelled text_of (suc count) xs (first ++ text)) more
+    (each_in (λ k. read) (range_with_len (a + 1) count) more) _ more_are (each_spelled text_of read each count (a + 1) more more_are)
+    (λ xs others rest rest_are they.
+    ends_here (λ ys text. AreSpelled text_of (suc count) ys (first ++ (others ++ text))) (x ∷ xs) rest
+    (ap suc they.0, ap (λ (t : List ℕ). first ++ t) (append-nil others ∙ they.1) ∙ ap (λ (t : List ℕ). t ++ flat_map text_of xs) is)))
 
 index_fits : (bytes : List ℕ) → AreBytes bytes → (k : ℕ) → slice_index bytes k < 256
 index_fits bytes are k = elim (cases_lt k (length bytes)) [
@@ -86,9 +97,11 @@ same_bytes (suc n) (x ∷ xs) (y ∷ ys) p q are also e =
     let s = big_from 0 n ys in
     let r_low : r < high = big_from-lt 0 n xs (index_fits xs xs_are) in
     let s_low : s < high = big_from-lt 0 n ys (index_fits ys ys_are) in
-    let sums : x * high + r ≡ y * high + s = ap (λ (v : ℕ). x * high + v) (sym (big_from-cons 0 n x xs)) ∙ e ∙ ap (λ (v : ℕ). y * high + v) (big_from-cons 0 n y ys) in
+    let sums : x * high + r ≡ y * high + s = ap (λ (v : ℕ). x * high + v) (sym (big_from-cons 0 n x xs)) ∙ e
+    ∙ ap (λ (v : ℕ). y * high + v) (big_from-cons 0 n y ys) in
     let heads : x ≡ y = sym (div-mul-add x high r r_low) ∙ ap (λ (v : ℕ). v / high) sums ∙ div-mul-add y high s s_low in
-    let rests : r ≡ s = sym (mul-add-mod_self_right x high r ∙ mod-eq_of_lt r_low) ∙ ap (λ (v : ℕ). v % high) sums ∙ (mul-add-mod_self_right y high s ∙ mod-eq_of_lt s_low) in
+    let rests : r ≡ s = sym (mul-add-mod_self_right x high r ∙ mod-eq_of_lt r_low) ∙ ap (λ (v : ℕ). v % high) sums
+    ∙ (mul-add-mod_self_right y high s ∙ mod-eq_of_lt s_low) in
     ap (λ (b : ℕ). b ∷ xs) heads ∙ ap (λ (t : List ℕ). y ∷ t) (same_bytes n xs ys (omega arith) (omega arith) xs_are ys_are rests)
 
 byte_fits : (k x : ℕ) → byte_at k x < 256
@@ -107,7 +120,8 @@ front_spelled n bytes long are =
     let long_front : length (take n bytes) ≡ n = length-take-le n bytes long in
     let front_are : AreBytes (take n bytes) = λ k d below. subst (λ (b : ℕ). b < 256) (sym (get_or-take n bytes k d (omega arith))) (are k d (omega arith)) in
     let again : big_from 0 n (big_bytes n x) ≡ x = ap (big_from 0 n) (sym (append-nil (big_bytes n x))) ∙ big_number-reads_back n x [] fits in
-    same_bytes n (take n bytes) (big_bytes n x) long_front (length-bytes_high_first n x) front_are (high_first_fit n x) (big_from-take 0 n n bytes (omega arith) ∙ sym again)
+    same_bytes n (take n bytes) (big_bytes n x) long_front (length-bytes_high_first n x) front_are (high_first_fit n x)
+    (big_from-take 0 n n bytes (omega arith) ∙ sym again)
 
 -- a number that a field may have, and its bytes
 abbrev pub IsSpelled : Field → ℕ → List ℕ → Type 0
@@ -121,7 +135,8 @@ number_spelled field bytes are =
       | inl e ↦
           let parts = and_parts (nat_le n (length bytes)) (allows field x) e in
           let long : n ≤ length bytes = leb-true n (length bytes) parts.0 in
-          let whole : bytes ≡ big_bytes n x ++ drop n bytes = sym (take-append-drop n bytes) ∙ ap (λ (t : List ℕ). t ++ drop n bytes) (front_spelled n bytes long are) in
+          let whole : bytes ≡ big_bytes n x ++ drop n bytes = sym (take-append-drop n bytes)
+          ∙ ap (λ (t : List ℕ). t ++ drop n bytes) (front_spelled n bytes long are) in
           subst (Spells (IsSpelled field) bytes) (sym (good field bytes e)) (big_bytes n x, whole, (refl, parts.1))
       | inr e ↦ subst (Spells (IsSpelled field) bytes) (sym (not_good field bytes e)) tt
     ]

@@ -1,5 +1,6 @@
 -- What is spelled of a row, a post, an output and a slot is read again.
-use Rattle.std.proofs.Common.{◌≡◌, ℕ, ◌-◌, ◌^◌, ◌<◌, ◌≤◌, ◌==◌, ◌∙◌, not, Bool, true, false, nat_le, List, [], ◌∷◌, ◌++◌, length, get_or, slice_index, Ok, refl, sym, ap, subst, arith, inl, inr, append_assoc, le-leb}
+use Rattle.std.proofs.Common.{◌≡◌, ℕ, ◌-◌, ◌^◌, ◌<◌, ◌≤◌, ◌==◌, ◌∙◌, not, Bool, true, false, nat_le, List, [], ◌∷◌, ◌++◌, length, get_or, slice_index}
+use Rattle.std.proofs.Common.{Ok, refl, sym, ap, subst, arith, inl, inr, append_assoc, le-leb}
 use Rattle.std.specs.Bool.{Decides, one_answer}
 use Rattle.std.specs.List.{flat_map}
 use Rattle.std.specs.Int.{bit_at}
@@ -43,7 +44,8 @@ set_again n sets k x rest few marked fits =
           let text : set_text x ≡ big_bytes 8 x = cond-false (x == 0) [] (big_bytes 8 x) empty in
           let bytes = big_bytes 8 x ++ rest in
           let r : Reading ℕ = Ok (0, bytes) in
-          let allowed : allows (Set n) x ≡ true = and_from (nat_le 1 x) (nat_le x (2 ^ n - 1)) (le-leb 1 x (omega arith)) (le-leb x (2 ^ n - 1) (omega arith)) in
+          let allowed : allows (Set n) x ≡ true =
+          and_from (nat_le 1 x) (nat_le x (2 ^ n - 1)) (le-leb 1 x (omega arith)) (le-leb x (2 ^ n - 1) (omega arith)) in
           ap (λ (t : List ℕ). set_in n sets k (t ++ rest)) text
           ∙ cond-true (bit_at sets k == 1) (number_in (Set n) bytes) r bit
           ∙ number_again (Set n) x rest (fits_eight n x few fits) allowed
@@ -54,7 +56,8 @@ set_again n sets k x rest few marked fits =
       fits_eight : (n x : ℕ) → n ≤ 64 → x < 2 ^ n → x < 256 ^ 8
       fits_eight n x few fits = let more : 2 ^ n ≤ 2 ^ 64 = pow-le-pow_right (omega arith) few in omega arith
 
-pub sets_again : (n sets : ℕ) (ks xs rest : List ℕ) → n ≤ 64 → AreMarked n sets ks xs → each_in (set_in n sets) ks (flat_map set_text xs ++ rest) ≡ Ok (xs, rest)
+pub sets_again : (n sets : ℕ) (ks xs rest : List ℕ) → n ≤ 64 → AreMarked n sets ks xs
+    → each_in (set_in n sets) ks (flat_map set_text xs ++ rest) ≡ Ok (xs, rest)
 sets_again n sets [] [] rest few marked = refl
 sets_again n sets [] (x ∷ xs) rest few marked = absurd marked
 sets_again n sets (k ∷ ks) [] rest few marked = absurd marked
@@ -102,12 +105,14 @@ bit_tells xs k below =
     let test = λ (bit : ℕ). not (slice_index xs bit == 0) in
     let sets = set_of 8 test in
     let of = Has-set_of 8 test k in
-    let marked : Decides (bit_at sets k == 1) (test k ≡ true) = (λ e. (of.0 ((Decides-eqb (bit_at sets k) 1).0 e)).1, λ e. (Decides-eqb (bit_at sets k) 1).1 (of.1 (below, e))) in
+    let marked : Decides (bit_at sets k == 1) (test k ≡ true) =
+    (λ e. (of.0 ((Decides-eqb (bit_at sets k) 1).0 e)).1, λ e. (Decides-eqb (bit_at sets k) 1).1 (of.1 (below, e))) in
     one_answer (bit_at sets k == 1) (test k) marked (λ e. e, λ e. e)
 
 module _ (n : ℕ) (few : n ≤ 64) where
   eight_again : (a b c d e f g h : ℕ) (rest : List ℕ) → a < 2 ^ n → b < 2 ^ n → c < 2 ^ n → d < 2 ^ n → e < 2 ^ n → f < 2 ^ n → g < 2 ^ n → h < 2 ^ n
-      → let row : Row = record { uni = a ∷ b ∷ c ∷ d ∷ []; multi = e ∷ f ∷ g ∷ h ∷ [] } in row_in n (sets_there row) (flat_map set_text (all_sets row) ++ rest) ≡ Ok (row, rest)
+      → let row : Row = record { uni = a ∷ b ∷ c ∷ d ∷ []; multi = e ∷ f ∷ g ∷ h ∷ [] } in
+      row_in n (sets_there row) (flat_map set_text (all_sets row) ++ rest) ≡ Ok (row, rest)
   unfolding row_in
   eight_again a b c d e f g h rest la lb lc ld le lf lg lh =
       let xs = a ∷ b ∷ c ∷ d ∷ e ∷ f ∷ g ∷ h ∷ [] in
@@ -115,13 +120,19 @@ module _ (n : ℕ) (few : n ≤ 64) where
       let multi = e ∷ f ∷ g ∷ h ∷ [] in
       let sets = set_of 8 (λ bit. not (slice_index xs bit == 0)) in
       let tail = flat_map set_text multi ++ rest in
-      let text : flat_map set_text xs ++ rest ≡ flat_map set_text uni ++ tail = ap (λ (t : List ℕ). t ++ rest) (flat_map-append set_text uni multi) ∙ append_assoc (flat_map set_text uni) (flat_map set_text multi) rest in
-      let low : AreMarked n sets (0 ∷ 1 ∷ 2 ∷ 3 ∷ []) uni = (bit_tells xs 0 (omega arith), la, (bit_tells xs 1 (omega arith), lb, (bit_tells xs 2 (omega arith), lc, (bit_tells xs 3 (omega arith), ld, tt)))) in
-      let high : AreMarked n sets (4 ∷ 5 ∷ 6 ∷ 7 ∷ []) multi = (bit_tells xs 4 (omega arith), le, (bit_tells xs 5 (omega arith), lf, (bit_tells xs 6 (omega arith), lg, (bit_tells xs 7 (omega arith), lh, tt)))) in
-      let first : each_in (set_in n sets) (0 ∷ 1 ∷ 2 ∷ 3 ∷ []) (flat_map set_text xs ++ rest) ≡ Ok (uni, tail) = ap (each_in (set_in n sets) (0 ∷ 1 ∷ 2 ∷ 3 ∷ [])) text ∙ sets_again n sets (0 ∷ 1 ∷ 2 ∷ 3 ∷ []) uni tail few low in
+      let text : flat_map set_text xs ++ rest ≡ flat_map set_text uni ++ tail = ap (λ (t : List ℕ). t ++ rest) (flat_map-append set_text uni multi)
+      ∙ append_assoc (flat_map set_text uni) (flat_map set_text multi) rest in
+      let low : AreMarked n sets (0 ∷ 1 ∷ 2 ∷ 3 ∷ []) uni =
+      (bit_tells xs 0 (omega arith), la, (bit_tells xs 1 (omega arith), lb, (bit_tells xs 2 (omega arith), lc, (bit_tells xs 3 (omega arith), ld, tt)))) in
+      let high : AreMarked n sets (4 ∷ 5 ∷ 6 ∷ 7 ∷ []) multi =
+      (bit_tells xs 4 (omega arith), le, (bit_tells xs 5 (omega arith), lf, (bit_tells xs 6 (omega arith), lg, (bit_tells xs 7 (omega arith), lh, tt)))) in
+      let first : each_in (set_in n sets) (0 ∷ 1 ∷ 2 ∷ 3 ∷ []) (flat_map set_text xs ++ rest) ≡ Ok (uni, tail) =
+      ap (each_in (set_in n sets) (0 ∷ 1 ∷ 2 ∷ 3 ∷ [])) text ∙ sets_again n sets (0 ∷ 1 ∷ 2 ∷ 3 ∷ []) uni tail few low in
       let second : each_in (set_in n sets) (4 ∷ 5 ∷ 6 ∷ 7 ∷ []) tail ≡ Ok (multi, rest) = sets_again n sets (4 ∷ 5 ∷ 6 ∷ 7 ∷ []) multi rest few high in
-      let after = λ (u : List ℕ) (more : List ℕ). read_on (each_in (set_in n sets) (4 ∷ 5 ∷ 6 ∷ 7 ∷ []) more) (λ (m left : List ℕ). let q : Reading Row = Ok (record { uni = u; multi = m }, left) in q) in
-      ap (λ (r : Reading (List ℕ)). read_on r after) first ∙ ap (λ (r : Reading (List ℕ)). read_on r (λ (m left : List ℕ). let q : Reading Row = Ok (record { uni = uni; multi = m }, left) in q)) second
+      let after = λ (u : List ℕ) (more : List ℕ). read_on (each_in (set_in n sets) (4 ∷ 5 ∷ 6 ∷ 7 ∷ []) more)
+      (λ (m left : List ℕ). let q : Reading Row = Ok (record { uni = u; multi = m }, left) in q) in
+      ap (λ (r : Reading (List ℕ)). read_on r after) first
+      ∙ ap (λ (r : Reading (List ℕ)). read_on r (λ (m left : List ℕ). let q : Reading Row = Ok (record { uni = uni; multi = m }, left) in q)) second
 
   pub row_again : (row : Row) (rest : List ℕ) → IsFileRow n row → row_in n (sets_there row) (flat_map set_text (all_sets row) ++ rest) ≡ Ok (row, rest)
   row_again row rest good =
@@ -130,13 +141,15 @@ module _ (n : ℕ) (few : n ≤ 64) where
       let uni = u.a ∷ u.b ∷ u.c ∷ u.d ∷ [] in
       let multi = m.a ∷ m.b ∷ m.c ∷ m.d ∷ [] in
       let spelled : Row = record { uni = uni; multi = multi } in
-      let same : row ≡ spelled = ap (λ (xs : List ℕ). let r : Row = record { uni = xs; multi = row.multi } in r) u.are ∙ ap (λ (xs : List ℕ). let r : Row = record { uni = uni; multi = xs } in r) m.are in
+      let same : row ≡ spelled = ap (λ (xs : List ℕ). let r : Row = record { uni = xs; multi = row.multi } in r) u.are
+      ∙ ap (λ (xs : List ℕ). let r : Row = record { uni = uni; multi = xs } in r) m.are in
       let P : Row → Type 0 = λ r. row_in n (sets_there r) (flat_map set_text (all_sets r) ++ rest) ≡ Ok (r, rest) in
       let Q : List ℕ → Type 0 = λ xs. (k d : ℕ) → k < length xs → get_or xs k d < 2 ^ n in
       let in_uni : Q uni = subst Q u.are good.uni_within in
       let in_multi : Q multi = subst Q m.are good.multi_within in
       subst P (sym same)
-      (eight_again u.a u.b u.c u.d m.a m.b m.c m.d rest (in_uni 0 0 (omega arith)) (in_uni 1 0 (omega arith)) (in_uni 2 0 (omega arith)) (in_uni 3 0 (omega arith)) (in_multi 0 0 (omega arith)) (in_multi 1 0 (omega arith)) (in_multi 2 0 (omega arith)) (in_multi 3 0 (omega arith)))
+      (eight_again u.a u.b u.c u.d m.a m.b m.c m.d rest (in_uni 0 0 (omega arith)) (in_uni 1 0 (omega arith)) (in_uni 2 0 (omega arith))
+      (in_uni 3 0 (omega arith)) (in_multi 0 0 (omega arith)) (in_multi 1 0 (omega arith)) (in_multi 2 0 (omega arith)) (in_multi 3 0 (omega arith)))
 
   pub post_again : (post : FilePost) (rest : List ℕ) → IsFileRow n post.row → post_in n (post_text post ++ rest) ≡ Ok (post, rest)
   unfolding post_in post_text
@@ -145,7 +158,8 @@ module _ (n : ℕ) (few : n ≤ 64) where
       let flag = number_of post.more in
       let after_more = flat_map set_text (all_sets post.row) ++ rest in
       let small : sets < 256 = omega (arith, set_of-lt 8 (λ bit. not (slice_index (all_sets post.row) bit == 0))) in
-      rw (byte_again Sets refl sets (flag ∷ after_more) small (and_from (nat_le 0 sets) (nat_le sets 0xff) (le-leb 0 sets (omega arith)) (le-leb sets 0xff (omega arith))))
+      rw (byte_again Sets refl sets (flag ∷ after_more) small
+      (and_from (nat_le 0 sets) (nat_le sets 0xff) (le-leb 0 sets (omega arith)) (le-leb sets 0xff (omega arith))))
       (rw (flag_again post.more after_more)
       (rw (row_again post.row rest good)
       (ap (λ (more : Bool). let r : Reading FilePost = Ok (record { row = post.row; more = more }, rest) in r) (flag_is post.more))))

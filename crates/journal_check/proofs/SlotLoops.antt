@@ -1,5 +1,6 @@
 -- The posts and the outputs of a slot, read one after another.
-use Rattle.std.proofs.Common.{◌≡◌, ℕ, ◌+◌, ◌<◌, ◌≤◌, ◌∙◌, Bool, List, [], ◌∷◌, ◌++◌, length, take, drop, map, set, Option, Result, Ok, Err, MatchResult, refl, sym, ap, arith, add-one}
+use Rattle.std.proofs.Common.{◌≡◌, ℕ, ◌+◌, ◌<◌, ◌≤◌, ◌∙◌, Bool, List, [], ◌∷◌, ◌++◌, length, take, drop, map, set, Option, Result, Ok, Err, MatchResult}
+use Rattle.std.proofs.Common.{refl, sym, ap, arith, add-one}
 use Rattle.std.specs.List.{range_with_len}
 use Rattle.std.proofs.lemmas.List.{map-append}
 use Rattle.std.proofs.Math.Seq.{take-suc-set}
@@ -14,7 +15,8 @@ use Rattle.journal_check.specs.Steps.{IsRead, IsBadAt, IsSlotRead}
 use Rattle.journal_check.proofs.Loops.{with_front, left_in, begin, step_ok, step_err, step_end}
 
 -- one thing more stands at the end of those in the first places
-pub placed : {X Y : Type 0} (f : Y → X) (table : List X) (i : ℕ) (done : List Y) (y : Y) → i < length table → take i table ≡ map f done → take (i + 1) (set table i (f y)) ≡ map f (done ++ y ∷ [])
+pub placed : {X Y : Type 0} (f : Y → X) (table : List X) (i : ℕ) (done : List Y) (y : Y) → i < length table → take i table ≡ map f done
+    → take (i + 1) (set table i (f y)) ≡ map f (done ++ y ∷ [])
 placed f table i done y below so_far =
     ap (λ (k : ℕ). take k (set table i (f y))) (add-one i)
     ∙ take-suc-set table i (f y) below
@@ -41,22 +43,28 @@ module _ (n : ℕ) (bytes : List ℕ) (at : ℕ) where
   pub outputs_begin : (fed : List (Option Fed)) → at ≤ length bytes → length fed ≡ 64 → AreOutputsRead n bytes at 0 at fed
   outputs_begin fed place long = record { long = long; within = place; whole = begin (λ k. output_in n) n (drop at bytes) }
 
-  pub outputs_go_on : (i next to : ℕ) (fed : List (Option Fed)) (output : Option Fed) → i < n → n ≤ 64 → AreOutputsRead n bytes at i next fed → IsRead (output_in n) bytes next output to → AreOutputsRead n bytes at (i + 1) to (set fed i output)
+  pub outputs_go_on : (i next to : ℕ) (fed : List (Option Fed)) (output : Option Fed) → i < n → n ≤ 64 → AreOutputsRead n bytes at i next fed
+      → IsRead (output_in n) bytes next output to → AreOutputsRead n bytes at (i + 1) to (set fed i output)
   outputs_go_on i next to fed output below few so_far here = record {
     long = length-set fed i output ∙ so_far.long;
     within = here.within;
     whole =
-        step_ok (λ k. output_in n) (each_in (λ k. output_in n) (range_with_len 0 n) (drop at bytes)) (take i fed) i n (drop next bytes) (drop to bytes) output below so_far.whole here.reads
-        ∙ ap (λ (xs : List (Option Fed)). with_front xs (left_in (λ k. output_in n) (i + 1) n (drop to bytes))) (sym (ap (λ (k : ℕ). take k (set fed i output)) (add-one i) ∙ take-suc-set fed i output (let long = so_far.long in omega arith)));
+        step_ok (λ k. output_in n) (each_in (λ k. output_in n) (range_with_len 0 n) (drop at bytes)) (take i fed) i n (drop next bytes)
+        (drop to bytes) output below so_far.whole here.reads
+        ∙ ap (λ (xs : List (Option Fed)). with_front xs (left_in (λ k. output_in n) (i + 1) n (drop to bytes)))
+        (sym (ap (λ (k : ℕ). take k (set fed i output)) (add-one i) ∙ take-suc-set fed i output (let long = so_far.long in omega arith)));
   }
 
-  pub outputs_fail : (i next bad : ℕ) (fed : List (Option Fed)) → i < n → AreOutputsRead n bytes at i next fed → IsBadAt (output_in n) bytes next bad → IsBadAt (each_in (λ k. output_in n) (range_with_len 0 n)) bytes at bad
+  pub outputs_fail : (i next bad : ℕ) (fed : List (Option Fed)) → i < n → AreOutputsRead n bytes at i next fed → IsBadAt (output_in n) bytes next bad
+      → IsBadAt (each_in (λ k. output_in n) (range_with_len 0 n)) bytes at bad
   outputs_fail i next bad fed below so_far here = record {
     within = here.within;
-    fails = step_err (λ k. output_in n) (each_in (λ k. output_in n) (range_with_len 0 n) (drop at bytes)) (take i fed) i n (drop next bytes) (drop bad bytes) below so_far.whole here.fails;
+    fails = step_err (λ k. output_in n) (each_in (λ k. output_in n) (range_with_len 0 n) (drop at bytes)) (take i fed) i n (drop next bytes)
+        (drop bad bytes) below so_far.whole here.fails;
   }
 
-  pub outputs_end : (next : ℕ) (fed : List (Option Fed)) → AreOutputsRead n bytes at n next fed → IsRead (each_in (λ k. output_in n) (range_with_len 0 n)) bytes at (take n fed) next
+  pub outputs_end : (next : ℕ) (fed : List (Option Fed)) → AreOutputsRead n bytes at n next fed
+      → IsRead (each_in (λ k. output_in n) (range_with_len 0 n)) bytes at (take n fed) next
   outputs_end next fed so_far = record {
     within = so_far.within;
     reads = step_end (λ k. output_in n) (each_in (λ k. output_in n) (range_with_len 0 n) (drop at bytes)) (take n fed) n (drop next bytes) so_far.whole;
@@ -74,34 +82,42 @@ module _ (n : ℕ) (bytes : List ℕ) (at : ℕ) where
     more_are = refl;
   }
 
-  pub posts_go_on : (i next to : ℕ) (rows : List Row) (more : List Bool) (post : FilePost) → i < n → n ≤ 64 → ArePostsRead n bytes at i next rows more → IsRead (post_in n) bytes next post to → ArePostsRead n bytes at (i + 1) to (set rows i post.row) (set more i post.more)
+  pub posts_go_on : (i next to : ℕ) (rows : List Row) (more : List Bool) (post : FilePost) → i < n → n ≤ 64 → ArePostsRead n bytes at i next rows more
+      → IsRead (post_in n) bytes next post to → ArePostsRead n bytes at (i + 1) to (set rows i post.row) (set more i post.more)
   posts_go_on i next to rows more post below few so_far here = record {
     long_rows = length-set rows i post.row ∙ so_far.long_rows;
     long_more = length-set more i post.more ∙ so_far.long_more;
     posts = so_far.posts ++ post ∷ [];
     within = here.within;
-    whole = step_ok (λ k. post_in n) (each_in (λ k. post_in n) (range_with_len 0 n) (drop at bytes)) so_far.posts i n (drop next bytes) (drop to bytes) post below so_far.whole here.reads;
+    whole = step_ok (λ k. post_in n) (each_in (λ k. post_in n) (range_with_len 0 n) (drop at bytes)) so_far.posts i n (drop next bytes)
+        (drop to bytes) post below so_far.whole here.reads;
     rows_are = placed (λ (p : FilePost). p.row) rows i so_far.posts post (let long = so_far.long_rows in omega arith) so_far.rows_are;
     more_are = placed (λ (p : FilePost). p.more) more i so_far.posts post (let long = so_far.long_more in omega arith) so_far.more_are;
   }
 
-  pub posts_fail : (i next bad : ℕ) (rows : List Row) (more : List Bool) → i < n → ArePostsRead n bytes at i next rows more → IsBadAt (post_in n) bytes next bad → IsBadAt (each_in (λ k. post_in n) (range_with_len 0 n)) bytes at bad
+  pub posts_fail : (i next bad : ℕ) (rows : List Row) (more : List Bool) → i < n → ArePostsRead n bytes at i next rows more
+      → IsBadAt (post_in n) bytes next bad → IsBadAt (each_in (λ k. post_in n) (range_with_len 0 n)) bytes at bad
   posts_fail i next bad rows more below so_far here = record {
     within = here.within;
-    fails = step_err (λ k. post_in n) (each_in (λ k. post_in n) (range_with_len 0 n) (drop at bytes)) so_far.posts i n (drop next bytes) (drop bad bytes) below so_far.whole here.fails;
+    fails = step_err (λ k. post_in n) (each_in (λ k. post_in n) (range_with_len 0 n) (drop at bytes)) so_far.posts i n (drop next bytes)
+        (drop bad bytes) below so_far.whole here.fails;
   }
 
-  pub posts_end : (next : ℕ) (rows : List Row) (more : List Bool) → (so_far : ArePostsRead n bytes at n next rows more) → IsRead (each_in (λ k. post_in n) (range_with_len 0 n)) bytes at so_far.posts next
+  pub posts_end : (next : ℕ) (rows : List Row) (more : List Bool) → (so_far : ArePostsRead n bytes at n next rows more)
+      → IsRead (each_in (λ k. post_in n) (range_with_len 0 n)) bytes at so_far.posts next
   posts_end next rows more so_far = record {
     within = so_far.within;
     reads = step_end (λ k. post_in n) (each_in (λ k. post_in n) (range_with_len 0 n) (drop at bytes)) so_far.posts n (drop next bytes) so_far.whole;
   }
 
 -- a slot is read where its posts and its outputs are
-pub slot_outcome : (n : ℕ) (bytes : List ℕ) (at mid : ℕ) (posts : List FilePost) (rows : List Row) (more : List Bool) (fed : List (Option Fed)) (r : Result ℕ BadField) → IsRead (each_in (λ k. post_in n) (range_with_len 0 n)) bytes at posts mid
+pub slot_outcome : (n : ℕ) (bytes : List ℕ) (at mid : ℕ) (posts : List FilePost) (rows : List Row) (more : List Bool) (fed : List (Option Fed))
+    (r : Result ℕ BadField) → IsRead (each_in (λ k. post_in n) (range_with_len 0 n)) bytes at posts mid
     → take n rows ≡ map (λ post. post.row) posts → take n more ≡ map (λ post. post.more) posts
-    → MatchResult r (λ next. IsRead (each_in (λ k. output_in n) (range_with_len 0 n)) bytes mid (take n fed) next) (λ bad. IsBadAt (each_in (λ k. output_in n) (range_with_len 0 n)) bytes mid bad.at)
-    → MatchResult r (λ next. (x : FileSlot) × IsRead (slot_in n) bytes at x next × IsSlotRead n (record { rows = rows; more = more; fed = fed }) x) (λ bad. IsBadAt (slot_in n) bytes at bad.at)
+    → MatchResult r (λ next. IsRead (each_in (λ k. output_in n) (range_with_len 0 n)) bytes mid (take n fed) next)
+    (λ bad. IsBadAt (each_in (λ k. output_in n) (range_with_len 0 n)) bytes mid bad.at)
+    → MatchResult r (λ next. (x : FileSlot) × IsRead (slot_in n) bytes at x next × IsSlotRead n (record { rows = rows; more = more; fed = fed }) x)
+    (λ bad. IsBadAt (slot_in n) bytes at bad.at)
 unfolding slot_in
 slot_outcome n bytes at mid posts rows more fed (Ok next) read rows_are more_are h = (
   record { posts = posts; matched = take n fed },

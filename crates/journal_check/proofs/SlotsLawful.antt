@@ -1,5 +1,6 @@
 -- Slots whose posts are accepted, of which the last alone is done, are a lawful file.
-use Rattle.std.proofs.Common.{◌≡◌, ℕ, zero, suc, ◌+◌, ◌^◌, ◌<◌, ◌≤◌, ◌&&◌, ◌||◌, ◌∙◌, not, Bool, true, false, nat_lt, All, List, [], ◌∷◌, length, map, Option, None, Some, refl, sym, ap, subst, arith, inl, inr, get_or, slice_index_or, slice_index, add-one, ltb-true}
+use Rattle.std.proofs.Common.{◌≡◌, ℕ, zero, suc, ◌+◌, ◌^◌, ◌<◌, ◌≤◌, ◌&&◌, ◌||◌, ◌∙◌, not, Bool, true, false, nat_lt, All, List, [], ◌∷◌, length, map}
+use Rattle.std.proofs.Common.{Option, None, Some, refl, sym, ap, subst, arith, inl, inr, get_or, slice_index_or, slice_index, add-one, ltb-true}
 use Rattle.std.specs.List.{list_any, list_all, range_with_len}
 use Rattle.std.proofs.lemmas.Bool.{cases_Bool, cond-true, cond-false}
 use Rattle.std.proofs.lemmas.List.{get_or-map, get_or-replicate, length-map, get_or_default}
@@ -31,12 +32,15 @@ use Rattle.journal_check.specs.Texts.{file_post, file_slot, HasLevels, IsFileRow
 use Rattle.journal_check.specs.Lawful.{Before, at_first, decided_in, after_slot, MayFollow, MayFollowAll, IsLawful}
 
 -- some post says that more is to come exactly where the slot is not done
-any_more : (posts : List CardPost) → list_any (λ (more : Bool). more) (map (λ (post : CardPost). post.more) posts) ≡ not (list_all (λ (post : CardPost). not post.more) posts)
+any_more : (posts : List CardPost)
+    → list_any (λ (more : Bool). more) (map (λ (post : CardPost). post.more) posts) ≡ not (list_all (λ (post : CardPost). not post.more) posts)
 any_more [] = refl
-any_more (post ∷ posts) = two post.more (list_any (λ (more : Bool). more) (map (λ (post : CardPost). post.more) posts)) (list_all (λ (post : CardPost). not post.more) posts) (any_more posts) where
-  two : (more any all : Bool) → any ≡ not all → (more || any) ≡ not (not more && all)
-  two true any all e = refl
-  two false any all e = e
+any_more (post ∷ posts) =
+    two post.more (list_any (λ (more : Bool). more) (map (λ (post : CardPost). post.more) posts)) (list_all (λ (post : CardPost). not post.more) posts)
+    (any_more posts) where
+      two : (more any all : Bool) → any ≡ not all → (more || any) ≡ not (not more && all)
+      two true any all e = refl
+      two false any all e = e
 
 few_slots : (ports most slots : ℕ) → slots ≤ most → most ≤ 262145 → (32 < ports → most ≤ 131073) → slots ≤ most_slots ports
 few_slots ports most slots all few halved = elim (cases_Bool (nat_lt 32 ports)) [
@@ -93,7 +97,8 @@ module _ (s : Setup) (posts : ℕ → ℕ → CardPost) where
   post_in t i d below =
       let all = slot_posts s.ports posts t in
       let long = length-slot_posts s.ports posts t in
-      get_or-map file_post all i no_post d (omega arith) ∙ ap file_post (get_or-map-range_with_len (λ (j : ℕ). posts j t) 0 s.ports i i no_post below (omega arith))
+      get_or-map file_post all i no_post d (omega arith)
+      ∙ ap file_post (get_or-map-range_with_len (λ (j : ℕ). posts j t) 0 s.ports i i no_post below (omega arith))
 
   pub count_posts : (t : ℕ) → length (slot t).posts ≡ s.ports
   count_posts t = length-map (slot_posts s.ports posts t) file_post ∙ length-slot_posts s.ports posts t
@@ -103,21 +108,26 @@ module _ (s : Setup) (posts : ℕ → ℕ → CardPost) where
 
   pub slot_in : (slots t : ℕ) (d : FileSlot) → t < slots → get_or (file_by s posts slots).slots t d ≡ slot t
   slot_in slots t d below =
-      get_or-map file_slot (map (journal_slot s posts) (range_with_len 0 slots)) t no_slot d (omega (arith, length-map-range_with_len (journal_slot s posts) 0 slots))
+      get_or-map file_slot (map (journal_slot s posts) (range_with_len 0 slots)) t no_slot d
+      (omega (arith, length-map-range_with_len (journal_slot s posts) 0 slots))
       ∙ ap file_slot (get_or-map-range_with_len (journal_slot s posts) 0 slots t t no_slot below (omega arith))
 
   stands_first : StandsBefore s posts 0 (at_first s.ports)
   unfolding at_first
   stands_first = record {
     rows = λ i below. get_or-replicate s.ports i empty_row no_row below;
-    served = λ i. served_of-free (unmatched s.ports) i (λ j level kind serves. absurd (let none : fed_of (unmatched s.ports) j ≡ None = get_or-same None s.ports j in let same : None ≡ Some (record { input = i; level = level; kind = kind }) = sym none ∙ serves in cc));
+    served = λ i. served_of-free (unmatched s.ports) i
+        (λ j level kind serves. absurd
+        (let none : fed_of (unmatched s.ports) j ≡ None = get_or-same None s.ports j in
+        let same : None ≡ Some (record { input = i; level = level; kind = kind }) = sym none ∙ serves in cc));
     going = refl;
     places = refl;
   }
 
   same_decision : (t : ℕ) (before : Before) → StandsBefore s posts t before → decided_in s.ports s.rounds t before (slot t) ≡ decision_at s posts t
   same_decision t before stands =
-      ap (λ (rows : List Row). decision_of s.ports s.rounds t rows before.places) (rows-slot t) ∙ ap (decision_of s.ports s.rounds t (slot_rows s.ports posts t)) stands.places
+      ap (λ (rows : List Row). decision_of s.ports s.rounds t rows before.places) (rows-slot t)
+      ∙ ap (decision_of s.ports s.rounds t (slot_rows s.ports posts t)) stands.places
 
   stands_next : (t : ℕ) (before : Before) → StandsBefore s posts t before → StandsBefore s posts (suc t) (after_slot s.ports s.rounds t before (slot t))
   unfolding after_slot
@@ -141,24 +151,28 @@ module _ (s : Setup) (posts : ℕ → ℕ → CardPost) where
           keeps = λ i in_ports.
               subst (λ (row : Row). KeepsRest (Gives (served_of before.matched i)) (row_of before.rows i) row) (sym (row-slot t i in_ports))
               (subst (λ (row : Row). KeepsRest (Gives (served_of before.matched i)) row (posts i t).row) (sym (stands.rows i in_ports))
-              (subst (λ (part : Option Served). KeepsRest (Gives part) (row_before posts i t) (posts i t).row) (sym (stands.served i)) (stood i in_ports).keeps));
+              (subst (λ (part : Option Served). KeepsRest (Gives part) (row_before posts i t) (posts i t).row) (sym (stands.served i))
+              (stood i in_ports).keeps));
           decided = ap (λ d. d.matched) (sym (same_decision t before stands));
         }
 
-    follow_all : (k t : ℕ) (before : Before) → t + k ≡ slots → StandsBefore s posts t before → MayFollowAll s.ports s.rounds t before (map slot (range_with_len t k))
+    follow_all : (k t : ℕ) (before : Before) → t + k ≡ slots → StandsBefore s posts t before
+        → MayFollowAll s.ports s.rounds t before (map slot (range_with_len t k))
     follow_all zero t before last stands =
         let is : t ≡ slots = omega arith in
         stands.going ∙ ap (going_before s.ports posts) is ∙ whole.ended
     follow_all (suc k) t before last stands =
         let next = stands_next t before stands in (
           follows t before (omega arith) stands,
-          follow_all k (t + 1) (after_slot s.ports s.rounds t before (slot t)) (omega arith) (subst (λ (u : ℕ). StandsBefore s posts u (after_slot s.ports s.rounds t before (slot t))) (sym (add-one t)) next),
+          follow_all k (t + 1) (after_slot s.ports s.rounds t before (slot t)) (omega arith)
+              (subst (λ (u : ℕ). StandsBefore s posts u (after_slot s.ports s.rounds t before (slot t))) (sym (add-one t)) next),
         )
 
     pub slots_lawful : IsLawful (file_by s posts slots)
     unfolding IsLawful
     slots_lawful =
-        subst (MayFollowAll s.ports s.rounds 0 (at_first s.ports)) (sym (map-map file_slot (journal_slot s posts) (range_with_len 0 slots))) (follow_all slots 0 (at_first s.ports) (omega arith) stands_first)
+        subst (MayFollowAll s.ports s.rounds 0 (at_first s.ports)) (sym (map-map file_slot (journal_slot s posts) (range_with_len 0 slots)))
+        (follow_all slots 0 (at_first s.ports) (omega arith) stands_first)
 
     file_row : (i t : ℕ) → i < s.ports → t < slots → HasLevels (posts i t).row → IsFileRow s.ports (posts i t).row
     file_row i t inside below four =
@@ -167,8 +181,10 @@ module _ (s : Setup) (posts : ℕ → ℕ → CardPost) where
         record {
           uni_levels = four.uni;
           multi_levels = four.multi;
-          uni_within = λ k d in_row. subst (λ (set : ℕ). set < 2 ^ s.ports) (get_or_default row.uni k 0 d in_row) (IsAmong-from_members s.ports (slice_index row.uni k) (λ x has. within k x Uni has));
-          multi_within = λ k d in_row. subst (λ (set : ℕ). set < 2 ^ s.ports) (get_or_default row.multi k 0 d in_row) (IsAmong-from_members s.ports (slice_index row.multi k) (λ x has. within k x Multi has));
+          uni_within = λ k d in_row. subst (λ (set : ℕ). set < 2 ^ s.ports) (get_or_default row.uni k 0 d in_row)
+              (IsAmong-from_members s.ports (slice_index row.uni k) (λ x has. within k x Uni has));
+          multi_within = λ k d in_row. subst (λ (set : ℕ). set < 2 ^ s.ports) (get_or_default row.multi k 0 d in_row)
+              (IsAmong-from_members s.ports (slice_index row.multi k) (λ x has. within k x Multi has));
         }
 
     fed_within : (matched : List (Option Fed)) → IsMatch s.ports matched → All (IsFileOutput s.ports) matched

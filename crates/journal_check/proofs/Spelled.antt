@@ -1,5 +1,6 @@
 -- What is spelled is read again.
-use Rattle.std.proofs.Common.{◌≡◌, ℕ, suc, ◌+◌, ◌%◌, ◌^◌, ◌<◌, ◌∙◌, true, nat_le, List, [], ◌∷◌, ◌++◌, length, drop, get_or, Ok, refl, ap, arith, append_assoc, le-leb}
+use Rattle.std.proofs.Common.{◌≡◌, ℕ, suc, ◌+◌, ◌%◌, ◌^◌, ◌<◌, ◌∙◌, true, nat_le, List, [], ◌∷◌, ◌++◌, length, drop, get_or, Ok, refl, ap, arith}
+use Rattle.std.proofs.Common.{append_assoc, le-leb}
 use Rattle.std.specs.List.{flat_map, range_with_len}
 use Rattle.std.proofs.lemmas.Bool.{and_from}
 use Rattle.std.proofs.lemmas.List.{drop_at, length-append}
@@ -14,7 +15,8 @@ pub one_byte : (x : ℕ) → x < 256 → big_bytes 1 x ≡ x ∷ []
 one_byte x fits = let same : x % 256 ≡ x = omega arith in ap (λ (y : ℕ). y ∷ []) same
 
 -- a field that has one of its numbers is read, whatever follows
-pub number_again : (field : Field) (x : ℕ) (rest : List ℕ) → x < 256 ^ len_of field → allows field x ≡ true → number_in field (big_bytes (len_of field) x ++ rest) ≡ Ok (x, rest)
+pub number_again : (field : Field) (x : ℕ) (rest : List ℕ) → x < 256 ^ len_of field → allows field x ≡ true
+    → number_in field (big_bytes (len_of field) x ++ rest) ≡ Ok (x, rest)
 number_again field x rest fits allowed =
     let n = len_of field in
     let bytes = big_bytes n x ++ rest in
@@ -27,7 +29,9 @@ number_again field x rest fits allowed =
     ∙ ap (λ (ys : List ℕ). let r : Reading ℕ = Ok (x, ys) in r) (drop_at (big_bytes n x) rest n len)
 
 -- one after another, things that are spelled are read again
-pub each_again : {X : Type 0} (read : List ℕ → Reading X) (text : X → List ℕ) (P : X → Type 0) → ((x : X) (rest : List ℕ) → P x → read (text x ++ rest) ≡ Ok (x, rest)) → (xs : List X) (a : ℕ) (rest : List ℕ) → ((k : ℕ) (d : X) → k < length xs → P (get_or xs k d)) → each_in (λ i. read) (range_with_len a (length xs)) (flat_map text xs ++ rest) ≡ Ok (xs, rest)
+pub each_again : {X : Type 0} (read : List ℕ → Reading X) (text : X → List ℕ) (P : X → Type 0)
+    → ((x : X) (rest : List ℕ) → P x → read (text x ++ rest) ≡ Ok (x, rest)) → (xs : List X) (a : ℕ) (rest : List ℕ)
+    → ((k : ℕ) (d : X) → k < length xs → P (get_or xs k d)) → each_in (λ i. read) (range_with_len a (length xs)) (flat_map text xs ++ rest) ≡ Ok (xs, rest)
 each_again read text P again [] a rest each = refl
 each_again {X = X} read text P again (x ∷ xs) a rest each =
     let tail = flat_map text xs ++ rest in
@@ -37,4 +41,5 @@ each_again {X = X} read text P again (x ∷ xs) a rest each =
     let next = λ (y : X) (more : List ℕ). read_on (each_in (λ i. read) (range_with_len (a + 1) (length xs)) more) (λ ys left. Ok (y ∷ ys, left)) in
     ap (λ (bytes : List ℕ). read_on (read bytes) next) parts
     ∙ ap (λ (r : Reading X). read_on r next) (again x tail here)
-    ∙ ap (λ (r : Reading (List X)). read_on r (λ ys left. let q : Reading (List X) = Ok (x ∷ ys, left) in q)) (each_again read text P again xs (a + 1) rest later)
+    ∙ ap (λ (r : Reading (List X)). read_on r (λ ys left. let q : Reading (List X) = Ok (x ∷ ys, left) in q))
+    (each_again read text P again xs (a + 1) rest later)

@@ -49,7 +49,8 @@ Reading X = Result (X × List ℕ) (List ℕ)
 -- the number of a field, at the head of the bytes: the field is bad where it is not whole or may not have its number
 unfoldable pub number_in : Field → List ℕ → Reading ℕ
 number_in field bytes =
-    if nat_le (len_of field) (length bytes) && allows field (big_number (len_of field) bytes) then Ok (big_number (len_of field) bytes, drop (len_of field) bytes) else Err bytes
+    if nat_le (len_of field) (length bytes)
+    && allows field (big_number (len_of field) bytes) then Ok (big_number (len_of field) bytes, drop (len_of field) bytes) else Err bytes
 
 -- a reading of what comes next, after what was read
 abbrev pub read_on : {X Y : Type 0} → Reading X → (X → List ℕ → Reading Y) → Reading Y

@@ -1,5 +1,6 @@
 -- Lawful files: what a scheduler may have decided, from its first slot to its last.
-use Rattle.std.specs.Prelude.{◌≡◌, ℕ, ◌+◌, ◌-◌, ◌<◌, ◌==◌, ◌&&◌, ◌⊎◌, not, Bool, true, false, if◌then◌else◌, List, [], ◌∷◌, replicate, find, Option, None, Some, option_map, slice_index_or}
+use Rattle.std.specs.Prelude.{◌≡◌, ℕ, ◌+◌, ◌-◌, ◌<◌, ◌==◌, ◌&&◌, ◌⊎◌, not, Bool, true, false, if◌then◌else◌, List, [], ◌∷◌, replicate, find, Option}
+use Rattle.std.specs.Prelude.{None, Some, option_map, slice_index_or}
 use Rattle.std.specs.List.{range_with_len, list_any}
 use Rattle.std.specs.Option.{option_or}
 use Rattle.slot_match.specs.declared.rows.Row.{Row}

@@ -106,8 +106,10 @@ impl Judge {
     fn decide_slot(&mut self, t: u32, ports: u32, slot: &SlotRead) -> Option<Reason>
         requires ready { IsFor ports self.old.rounds t self.old }
         requires within { AreWithin ports (take ports slot.now.rows) }
-        ensures failure { result ≡ output_failure ports (take ports slot.now.fed) (decision_of ports self.old.rounds t (take ports slot.now.rows) self.old.pointers).matched }
-        ensures next { (value : FileSlot) → IsSlotRead ports slot.now value → IfNone result (before_of ports self.new ≡ after_slot ports self.old.rounds t (before_of ports self.old) value) }
+        ensures failure { result ≡ output_failure ports (take ports slot.now.fed)
+            (decision_of ports self.old.rounds t (take ports slot.now.rows) self.old.pointers).matched }
+        ensures next { (value : FileSlot) → IsSlotRead ports slot.now value
+            → IfNone result (before_of ports self.new ≡ after_slot ports self.old.rounds t (before_of ports self.old) value) }
         ensures stays { (self.new.rounds ≡ self.old.rounds) × (self.new.meter ≡ self.old.meter) × (self.new.failure ≡ self.old.failure) }
         ensures ready { IsFor ports self.new.rounds t self.new }
     {
@@ -127,7 +129,8 @@ impl Judge {
         requires ready { IsFor ports self.old.rounds t self.old }
         requires within { AreWithin ports (take ports slot.now.rows) }
         ensures failure { (value : FileSlot) → IsSlotRead ports slot.now value → result ≡ failure_in ports self.old.rounds t (before_of ports self.old) value }
-        ensures next { (value : FileSlot) → IsSlotRead ports slot.now value → IfNone result (before_of ports self.new ≡ after_slot ports self.old.rounds t (before_of ports self.old) value) }
+        ensures next { (value : FileSlot) → IsSlotRead ports slot.now value
+            → IfNone result (before_of ports self.new ≡ after_slot ports self.old.rounds t (before_of ports self.old) value) }
         ensures stays { (self.new.rounds ≡ self.old.rounds) × (self.new.meter ≡ self.old.meter) × (self.new.failure ≡ self.old.failure) }
         ensures ready { IsFor ports self.new.rounds t self.new }
     {
@@ -143,7 +146,8 @@ impl Judge {
         requires ready { IsFor ports self.old.rounds t self.old }
         requires few { t < MAX_NOTED }
         requires within { AreWithin ports (take ports slot.now.rows) }
-        ensures judged { (slots : List FileSlot) (value : FileSlot) → t ≡ length slots → IsSlotRead ports slot.now value → IsJudged ports self.old.rounds slots self.old → IsJudged ports self.old.rounds (slots ++ value ∷ []) self.new }
+        ensures judged { (slots : List FileSlot) (value : FileSlot) → t ≡ length slots → IsSlotRead ports slot.now value
+            → IsJudged ports self.old.rounds slots self.old → IsJudged ports self.old.rounds (slots ++ value ∷ []) self.new }
         ensures ready { IsFor ports self.old.rounds (t + 1) self.new }
     {
         if self.failure.is_some() {
@@ -173,7 +177,8 @@ impl Judge {
     // The verdict on a file of so many slots, all of which are judged.
     pub(crate) fn verdict(&self, slots: u32) -> Verdict
         requires { 0 < slots }
-        ensures { (file : JournalFile) → slots ≡ length file.slots → self.now.meter.ports ≡ file.ports → IsJudged file.ports file.rounds file.slots self.now → result ≡ verdict_on file }
+        ensures { (file : JournalFile) → slots ≡ length file.slots → self.now.meter.ports ≡ file.ports → IsJudged file.ports file.rounds file.slots self.now
+            → result ≡ verdict_on file }
     {
         match self.failure(slots) {
             Some(Failure { slot, reason }) => Verdict::No { slot, reason },

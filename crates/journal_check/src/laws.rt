@@ -49,7 +49,8 @@ pub fn answers_are_exact()
 /// The slots of a lawful file are a schedule from slot 0 and all pointers at port 0 on, of rows that name
 /// none but the ports and are kept until they are served.
 pub fn lawful_files_are_schedules()
-    ensures schedule { (file : JournalFile) → IsFile file → IsLawful file → IsSchedule file.ports file.rounds 0 (places_at_first file.ports) (decided_slots file) }
+    ensures schedule { (file : JournalFile) → IsFile file → IsLawful file
+        → IsSchedule file.ports file.rounds 0 (places_at_first file.ports) (decided_slots file) }
     ensures within { (file : JournalFile) → IsFile file → IsLawful file → All (λ slot. AreWithin file.ports slot.rows) (decided_slots file) }
     ensures kept { (file : JournalFile) → IsFile file → IsLawful file → AreKept file.ports (decided_slots file) }
     ensures matches { (file : JournalFile) → IsLawful file → map (λ slot. slot.decision.matched) (decided_slots file) ≡ map (λ slot. slot.matched) file.slots }
@@ -76,10 +77,15 @@ pub fn lawful_files_keep_the_bounds()
 /// The journal of a board on which every line card has taken the last slot is a lawful file: its bytes
 /// are answered yes, with the number of slots that were decided and their longest waits.
 pub fn journals_are_lawful()
-    ensures file { (s : Setup) (events : List Event) → IsSetup s → IsLegal s events → IsFinished (record { setup = s; events = events }) → HaveLevels (file_of (board_journal (record { setup = s; events = events }))) → IsFile (file_of (board_journal (record { setup = s; events = events }))) }
-    ensures lawful { (s : Setup) (events : List Event) → IsSetup s → IsLegal s events → IsFinished (record { setup = s; events = events }) → IsLawful (file_of (board_journal (record { setup = s; events = events }))) }
+    ensures file { (s : Setup) (events : List Event) → IsSetup s → IsLegal s events → IsFinished (record { setup = s; events = events })
+        → HaveLevels (file_of (board_journal (record { setup = s; events = events })))
+        → IsFile (file_of (board_journal (record { setup = s; events = events }))) }
+    ensures lawful { (s : Setup) (events : List Event) → IsSetup s → IsLegal s events → IsFinished (record { setup = s; events = events })
+        → IsLawful (file_of (board_journal (record { setup = s; events = events }))) }
     ensures answer { (s : Setup) (events : List Event) → IsSetup s → IsLegal s events → IsFinished (record { setup = s; events = events })
-        → HaveLevels (file_of (board_journal (record { setup = s; events = events }))) → answer_to (file_text (file_of (board_journal (record { setup = s; events = events })))) ≡ Ok (yes_on (file_of (board_journal (record { setup = s; events = events })))) }
+        → HaveLevels (file_of (board_journal (record { setup = s; events = events })))
+        → answer_to (file_text (file_of (board_journal (record { setup = s; events = events })))) ≡ Ok
+        (yes_on (file_of (board_journal (record { setup = s; events = events })))) }
 {}
 
 /// The same of a journal that a board has handed out, of which the rows need not be told to have all levels: its bytes

@@ -2,7 +2,8 @@ ghost use Rattle.std.specs.Prelude.{◌≡◌, ◌*◌, ◌≤◌, All, ◌<◌,
 ghost use Rattle.std.specs.List.{flat_map};
 ghost use Rattle.rotating_pick.specs.PortSets.{Has};
 ghost use Rattle.journal_check.specs.Steps.{IsFlag};
-ghost use Rattle.journal_check.specs.Texts.{HasLevels, HaveLevels, number_of, sets_there, set_text, file_post, file_of, post_text, output_text, header_text, file_text, IsFileOutput};
+ghost use Rattle.journal_check.specs.Texts.{HasLevels, HaveLevels, number_of, sets_there, set_text, file_post, file_of, post_text, output_text};
+ghost use Rattle.journal_check.specs.Texts.{header_text, file_text, IsFileOutput};
 
 use crate::fields::{MAGIC, NO_INPUT};
 use crate::header::HEADER_BYTES;

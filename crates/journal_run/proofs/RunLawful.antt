@@ -84,7 +84,8 @@ module _ (plan : SwitchPlan) (slots : ℕ) where
       ap (map noted_in) (map-map file_slot (run_slot plan) all)
       ∙ map-map noted_in slot all
       ∙ map_range-same (λ (t : ℕ). noted_in (slot t)) (λ (t : ℕ). noted_of (decided t)) 0 slots
-      (λ t below. ap (λ (rows : List Row). let noted : NotedSlot = record { rows = rows; matched = (slot t).matched } in noted) (rows-slot (setup_for plan) (posts_in plan) t))
+      (λ t below. ap (λ (rows : List Row). let noted : NotedSlot = record { rows = rows; matched = (slot t).matched } in noted)
+      (rows-slot (setup_for plan) (posts_in plan) t))
       ∙ sym (map-map noted_of decided all)
 
   pub yes_told : yes_on (run_file plan slots) ≡ Yes slots (summary_of plan slots).longest

@@ -15,6 +15,7 @@ ghost use Rattle.journal_run.specs.RunFiles.{run_file, journal_text};
 pub fn journals_of_runs_are_lawful()
     ensures file { (plan : SwitchPlan) (slots : ℕ) → IsGood plan → IsLength plan slots → IsFile (run_file plan slots) }
     ensures lawful { (plan : SwitchPlan) (slots : ℕ) → IsGood plan → IsLength plan slots → IsLawful (run_file plan slots) }
-    ensures answer { (plan : SwitchPlan) (slots : ℕ) → IsGood plan → IsLength plan slots → answer_to (journal_text plan slots) ≡ Ok (yes_on (run_file plan slots)) }
+    ensures answer { (plan : SwitchPlan) (slots : ℕ) → IsGood plan → IsLength plan slots
+        → answer_to (journal_text plan slots) ≡ Ok (yes_on (run_file plan slots)) }
     ensures numbers { (plan : SwitchPlan) (slots : ℕ) → yes_on (run_file plan slots) ≡ Yes slots (summary_of plan slots).longest }
 {}

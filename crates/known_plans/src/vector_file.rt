@@ -17,7 +17,8 @@ impl RowReader for Reader {
     ghost use Rattle.vector_rows.specs.Rows.{is_wrong};
 
     // Each line gives the first that is left; where nothing is left it is a wrong row.
-    ghost reads = { λ old _ given new. ((first : Option Row) (rest : List (Option Row)) → old.rows.items ≡ first ∷ rest → (given ≡ first) × (new.rows.items ≡ rest)) × (old.rows.items ≡ [] → IsSomeAnd given (λ row. is_wrong row ≡ true)) };
+    ghost reads = { λ old _ given new. ((first : Option Row) (rest : List (Option Row)) → old.rows.items ≡ first ∷ rest → (given ≡ first)
+        × (new.rows.items ≡ rest)) × (old.rows.items ≡ [] → IsSomeAnd given (λ row. is_wrong row ≡ true)) };
 
     fn at(alloc: Global, _name: &str) -> Reader {
         Reader {

@@ -11,7 +11,8 @@ free_after pace free [] = free
 free_after pace free (packet ∷ packets) = free_after pace (arrival pace free packet + 1) packets
 
 -- the slots that some packets take are those until the line is free
-pub slots_taken-some : (pace : Pace) (free : ℕ) (packet : Stamp) (packets : List Stamp) → slots_taken (arrivals_from pace free (packet ∷ packets)) ≡ free_after pace free (packet ∷ packets)
+pub slots_taken-some : (pace : Pace) (free : ℕ) (packet : Stamp) (packets : List Stamp)
+    → slots_taken (arrivals_from pace free (packet ∷ packets)) ≡ free_after pace free (packet ∷ packets)
 slots_taken-some pace free packet [] = refl
 slots_taken-some pace free packet (next ∷ packets) = slots_taken-some pace (arrival pace free packet + 1) next packets
 
@@ -28,7 +29,9 @@ free_after-le pace free (packet ∷ packets) =
     omega arith
 
 -- the line is free after packet i no later than after all packets
-pub arrival-lt : (pace : Pace) (free : ℕ) (packets : List Stamp) (i : ℕ) (d : Stamp) → i < length packets → arrival pace free (get_or packets i d) < free_after pace free (drop i packets)
+pub arrival-lt : (pace : Pace) (free : ℕ) (packets : List Stamp) (i : ℕ) (d : Stamp) → i < length packets
+    → arrival pace free (get_or packets i d) < free_after pace free (drop i packets)
 arrival-lt pace free packets i d h =
-    let next : free_after pace free (drop i packets) ≡ free_after pace (arrival pace free (get_or packets i d) + 1) (drop (i + 1) packets) = at_drop_more (free_after pace free) packets i d h in
+    let next : free_after pace free (drop i packets) ≡ free_after pace (arrival pace free (get_or packets i d) + 1) (drop (i + 1) packets) =
+    at_drop_more (free_after pace free) packets i d h in
     omega (arith, free_after-le pace (arrival pace free (get_or packets i d) + 1) (drop (i + 1) packets))

@@ -20,7 +20,8 @@ use Rattle.line_rate_waits.specs.ReachedByFirm.{ComesLastByFirmAtLineRate}
 use Rattle.line_rate_waits.proofs.Plans.{pair, Plan}
 use Rattle.line_rate_waits.proofs.PlannedSlots.{Suits, AreNear}
 use Rattle.line_rate_waits.proofs.PlannedRuns.{Follows, Starts, IsOneEach, LeadsBy, leads_none, leads_before}
-use Rattle.line_rate_waits.proofs.FirmSlots.{firm_decided, IsFirmStep, firm_step_of, IsSwitch-after_firm, IsFirmLate, IsFirmLate-before, IsFirmLate-last, firm_comes}
+use Rattle.line_rate_waits.proofs.FirmSlots.{firm_decided, IsFirmStep, firm_step_of, IsSwitch-after_firm, IsFirmLate, IsFirmLate-before}
+use Rattle.line_rate_waits.proofs.FirmSlots.{IsFirmLate-last, firm_comes}
 use Rattle.line_rate_waits.proofs.Shapes.{takes, ends, suits_takes, suits_ends, at_first}
 use Rattle.line_rate_waits.proofs.Followings.{takes_ends, ends_ends, one_apart}
 use Rattle.line_rate_waits.proofs.OneRoundFamily.{downs, length-downs, starts_more, follows_downs}
@@ -141,14 +142,16 @@ module _ (n : ℕ) (two : 1 < n) where
       record {
         switch = IsSwitch-after_firm n t places (hands x 0) turn.switch;
         grant = step.granted x 0 (inl (refl, refl)) ∙ round;
-        accept = step.accept_stays 0 (λ j is. elim is [ inl s ↦ let e = s.0 in omega arith | inr none ↦ none ]) ∙ turn.fresh 0 some (λ e. omega arith) (inl refl) ∙ sym (mod-eq_of_lt two);
+        accept = step.accept_stays 0 (λ j is. elim is [ inl s ↦ let e = s.0 in omega arith | inr none ↦ none ])
+            ∙ turn.fresh 0 some (λ e. omega arith) (inl refl) ∙ sym (mod-eq_of_lt two);
         fresh = λ i i_in other late. elim late [ inl e ↦ absurd (other e) | inr more ↦ let none = more.0 in absurd (omega arith) ];
       }
   next_turn (suc k) x a t places some_x sum turn step =
       let next_in : x + 1 < n = omega arith in
       let it = hands x (x + 1) in
       let stays : (i : ℕ) → i < n → (i ≡ x → ⊥) → (i ≡ 0) ⊎ (x < i) → accept_of (firm_decided n t places it).places i 0 ≡ 1 =
-      λ i i_in other late. step.accept_stays i (λ j is. elim is [ inl s ↦ other s.0 | inr none ↦ none ]) ∙ turn.fresh i i_in other (elim late [ inl e ↦ inl e | inr after ↦ inr (some_x, after) ]) in
+      λ i i_in other late. step.accept_stays i (λ j is. elim is [ inl s ↦ other s.0 | inr none ↦ none ])
+      ∙ turn.fresh i i_in other (elim late [ inl e ↦ inl e | inr after ↦ inr (some_x, after) ]) in
       record {
         switch = IsSwitch-after_firm n t places it turn.switch;
         grant = step.granted x 0 (inl (refl, refl)) ∙ mod-eq_of_lt next_in;
@@ -237,8 +240,12 @@ module _ (n : ℕ) (two : 1 < n) (rest : List Plan) (starts : Starts (Follows (h
           | inr last ↦ let same : x ≡ i = omega arith in subst (λ v. accept_of after v 0 ≡ 1) same (step.accepted x 0 (inl (refl, refl)) ∙ mod-eq_of_lt two)
         ];
       } in
-      let later = opens k (x + 1) (t + 1) after (omega arith) next in
-      (later.0, later.1, leads_before n (firm_decided n) t places (ends x) (openings (x + 1) k rest) (suc k) later.0 rest step.serves (follows_openings x k rest) later.2)
+      let later = opens k (x + 1) (t + 1) after (omega arith) next in (
+        later.0,
+        later.1,
+        leads_before n (firm_decided n) t places (ends x) (openings (x + 1) k rest) (suc k) later.0 rest step.serves
+            (follows_openings x k rest) later.2,
+      )
 
   -- all pointers are at port 0 at first
   IsOpened-at_first : n ≤ MAX_PORTS → IsOpened n (places_at_first n) 0
@@ -253,7 +260,8 @@ module _ (n : ℕ) (two : 1 < n) (rest : List Plan) (starts : Starts (Follows (h
 counted : (n count : ℕ) (rest : List Plan) → length rest ≡ n * n → count ≡ n + 1
     → (slots : List DecidedSlot) × ComesLastByFirmAtLineRate n 1 count slots × (length (drop count slots) ≡ length rest)
     → (slots : List DecidedSlot) × ComesLastByFirmAtLineRate n 1 (n + 1) slots × (length (drop (n + 1) slots) ≡ n * n)
-counted n count rest long e all = subst (λ m. (slots : List DecidedSlot) × ComesLastByFirmAtLineRate n 1 m slots × (length (drop m slots) ≡ n * n)) e (all.0, all.1, all.2 ∙ long)
+counted n count rest long e all = subst (λ m. (slots : List DecidedSlot) × ComesLastByFirmAtLineRate n 1 m slots × (length (drop m slots) ≡ n * n)) e
+    (all.0, all.1, all.2 ∙ long)
 
 -- the turns of all inputs come at line rate
 pub firm_comes_at_line_rate : (n : ℕ) → 1 < n → n ≤ MAX_PORTS

@@ -20,7 +20,8 @@ use Rattle.firm_rounds.proofs.PointersMoved.{paired}
 use Rattle.line_rate_waits.specs.ReachedByFirm.{ComesLastByFirmAtLineRate}
 use Rattle.line_rate_waits.proofs.Plans.{In, Plan, rows_of, names, AreWithin-rows, IsClean-rows, IsWithoutMulticast-rows}
 use Rattle.line_rate_waits.proofs.PlannedSlots.{Suits, IsPlaced, AreNear, served_it, only_it, grants_nearest}
-use Rattle.line_rate_waits.proofs.PlannedRuns.{Follows, Starts, IsOneEach, run, length-run, All-run, IsLateBy, IsLateBy-before, IsLateBy-last, opens_run, LeadsBy, led, kept_all}
+use Rattle.line_rate_waits.proofs.PlannedRuns.{Follows, Starts, IsOneEach, run, length-run, All-run, IsLateBy, IsLateBy-before, IsLateBy-last}
+use Rattle.line_rate_waits.proofs.PlannedRuns.{opens_run, LeadsBy, led, kept_all}
 
 -- what the slot of a plan decides
 abbrev pub firm_decided : ℕ → ℕ → Places → Plan → Decision
@@ -95,7 +96,10 @@ module _ (n t : ℕ) (places : Places) (p : Plan) (some : 0 < n) (switch : IsSwi
     only = λ i j level kind s. only i j level kind (subst (λ m. Serves m i j level kind) (sym first_is) s);
     granted = λ i j is. (pair_moves i j is).0;
     accepted = λ i j is. (pair_moves i j is).1;
-    held = λ i j at near left. moves.held.held i j 0 (grants_nearest n t p places some switch suits First begins.opening i j at near, λ accepted. left (only i j 0 Uni ((begins.opening.pairs i j 0 Uni).1 (inr accepted))));
+    held = λ i j at near left. moves.held.held i j 0 (
+      grants_nearest n t p places some switch suits First begins.opening i j at near,
+      λ accepted. left (only i j 0 Uni ((begins.opening.pairs i j 0 Uni).1 (inr accepted))),
+    );
     accept_stays = λ i nothing. moves.held.accepts i 0 ∙ moves.as_first.accept_stays i 0 (λ j s. nothing j (only i j 0 Uni s));
   }
 
@@ -104,7 +108,8 @@ module _ (n t : ℕ) (places : Places) (p : Plan) (some : 0 < n) (switch : IsSwi
 IsSchedule-run : (n t : ℕ) (places : Places) (ps : List Plan) → IsSwitch n places
     → IsScheduleBy AreMovedByFirm n 1 t places (run n (firm_decided n) t places ps)
 IsSchedule-run n t places [] switch = tt
-IsSchedule-run n t places (p ∷ ps) switch = (slot_decided n t places p switch, IsSchedule-run n (t + 1) (firm_decided n t places p).places ps (IsSwitch-after_firm n t places p switch))
+IsSchedule-run n t places (p ∷ ps) switch =
+    (slot_decided n t places p switch, IsSchedule-run n (t + 1) (firm_decided n t places p).places ps (IsSwitch-after_firm n t places p switch))
 
 -- requests stay in the run, which is at line rate, and queue (0, 0) is served in its last slot alone
 abbrev pub IsFirmLate : ℕ → ℕ → Places → List Plan → Type 0
@@ -113,7 +118,8 @@ IsFirmLate n = IsLateBy n (firm_decided n)
 -- one slot more in front, which does not serve the queue
 pub IsFirmLate-before : (n t : ℕ) (places : Places) (p : Plan) (ps : List Plan) → IsFirmStep n t places p → Starts (Follows p) ps → (In 0 0 p.serves → ⊥)
     → IsFirmLate n (t + 1) (firm_decided n t places p).places ps → IsFirmLate n t places (p ∷ ps)
-IsFirmLate-before n t places p ps step follows left late = IsLateBy-before n (firm_decided n) t places p ps step.serves follows (λ served. left (step.only 0 0 0 Uni served)) late
+IsFirmLate-before n t places p ps step follows left late =
+    IsLateBy-before n (firm_decided n) t places p ps step.serves follows (λ served. left (step.only 0 0 0 Uni served)) late
 
 -- the last slot, which serves it
 pub IsFirmLate-last : (n t : ℕ) (places : Places) (p : Plan) → IsFirmStep n t places p → In 0 0 p.serves → IsFirmLate n t places (p ∷ [])
@@ -154,7 +160,8 @@ firm_comes n count ps after rest switch one leads later late =
         schedule = IsSchedule-run n 0 from ps switch;
         within = All-run n (firm_decided n) 0 from (AreWithin n) (AreWithin-rows n) ps;
         kept = all.kept;
-        last = subst (λ f. IsServedLastByFirm n 1 count 0 0 0 f (drop count slots)) (sym leads.left) (subst (λ s. IsServedLastByFirm n 1 count 0 0 0 after s) (sym dropped) served);
+        last = subst (λ f. IsServedLastByFirm n 1 count 0 0 0 f (drop count slots)) (sym leads.left)
+            (subst (λ s. IsServedLastByFirm n 1 count 0 0 0 after s) (sym dropped) served);
         line_rate = all.line;
         opens = opens_run n (firm_decided n) 0 from ps one;
       },

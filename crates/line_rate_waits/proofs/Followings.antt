@@ -14,8 +14,10 @@ two_apart j y = ((λ e. refl, (λ e. omega arith, tt)), ((λ e. omega arith, (λ
 
 -- where input 0 and input 1 are matched and another input waits for output 1
 three_apart : (y x : ℕ) → 1 < x → Each (AreApart (pair 0 y ∷ pair 1 1 ∷ pair x 1 ∷ [])) (pair 0 y ∷ pair 1 1 ∷ pair x 1 ∷ [])
-three_apart y x more =
-    ((λ e. refl, (λ e. omega arith, (λ e. omega arith, tt))), ((λ e. omega arith, (λ e. refl, (λ e. omega arith, tt))), ((λ e. omega arith, (λ e. omega arith, (λ e. refl, tt))), tt)))
+three_apart y x more = (
+  (λ e. refl, (λ e. omega arith, (λ e. omega arith, tt))),
+  ((λ e. omega arith, (λ e. refl, (λ e. omega arith, tt))), ((λ e. omega arith, (λ e. omega arith, (λ e. refl, tt))), tt)),
+)
 
 -- ---- while an input goes down
 pub takes_takes : (x a : ℕ) → Follows (takes x a) (takes x (a + 1))

@@ -101,7 +101,8 @@ module _ (rounds n t : ℕ) (places : Places) (p : Plan) (some : 0 < n) (switch 
 
   -- queue (0, 0) is not served where input 0 takes another output
   pub left_by_input : (y : ℕ) → 0 < y → In 0 y p.serves → Serves (decided_in rounds n t places p).matched 0 0 0 Uni → ⊥
-  left_by_input y more is s = let e = once_unicast n (decided_in rounds n t places p).matched whole 0 y 0 0 (begins.stays 0 y 0 Uni (served 0 y is)) s in omega arith
+  left_by_input y more is s = let e = once_unicast n (decided_in rounds n t places p).matched whole 0 y 0 0 (begins.stays 0 y 0 Uni (served 0 y is)) s in
+      omega arith
 
   -- with two rounds or more the second serves input w
   module _ (w : ℕ) (second : IsSecond n places p w) where
@@ -125,7 +126,10 @@ module _ (rounds n t : ℕ) (places : Places) (p : Plan) (some : 0 < n) (switch 
 
     asking_it : Asking w
     unfolding Asking
-    asking_it = inl (free_input, record { level_in = omega arith; named = names n p w 0 second.input_in some second.asks; best = λ better other less there. absurd (omega arith) })
+    asking_it = inl (
+      free_input,
+      record { level_in = omega arith; named = names n p w 0 second.input_in some second.asks; best = λ better other less there. absurd (omega arith) },
+    )
 
     nearest_it : IsFirstFrom n (grant_of places 0 0) Asking w
     unfolding Asking

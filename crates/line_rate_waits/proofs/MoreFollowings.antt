@@ -12,13 +12,17 @@ pair_apart w j y some = ((λ e. refl, (λ e. absurd (omega arith), tt)), ((λ e.
 
 -- two requests for one output, and one of an input other than these
 pub closing_apart : (l x f u : ℕ) → 0 < x → (u ≡ x → ⊥) → Each (AreApart (pair x l ∷ pair 0 f ∷ pair u f ∷ [])) (pair x l ∷ pair 0 f ∷ pair u f ∷ [])
-closing_apart l x f u some other =
-    ((λ e. refl, (λ e. absurd (omega arith), (λ e. absurd (other (sym e)), tt))), ((λ e. absurd (omega arith), (λ e. refl, (λ e. refl, tt))), ((λ e. absurd (other e), (λ e. refl, (λ e. refl, tt))), tt)))
+closing_apart l x f u some other = (
+  (λ e. refl, (λ e. absurd (omega arith), (λ e. absurd (other (sym e)), tt))),
+  ((λ e. absurd (omega arith), (λ e. refl, (λ e. refl, tt))), ((λ e. absurd (other e), (λ e. refl, (λ e. refl, tt))), tt)),
+)
 
 -- of three inputs, two of which ask output 2
 ready_apart : (l : ℕ) → 1 < l → Each (AreApart (pair 0 l ∷ pair 1 2 ∷ pair l 2 ∷ [])) (pair 0 l ∷ pair 1 2 ∷ pair l 2 ∷ [])
-ready_apart l more =
-    ((λ e. refl, (λ e. absurd (omega arith), (λ e. absurd (omega arith), tt))), ((λ e. absurd (omega arith), (λ e. refl, (λ e. refl, tt))), ((λ e. absurd (omega arith), (λ e. refl, (λ e. refl, tt))), tt)))
+ready_apart l more = (
+  (λ e. refl, (λ e. absurd (omega arith), (λ e. absurd (omega arith), tt))),
+  ((λ e. absurd (omega arith), (λ e. refl, (λ e. refl, tt))), ((λ e. absurd (omega arith), (λ e. refl, (λ e. refl, tt))), tt)),
+)
 
 -- and of one input more, which asks output 1
 ready_too_apart : (l w : ℕ) → 1 < w → w < l
@@ -27,7 +31,10 @@ ready_too_apart l w more less = (
   (λ e. refl, (λ e. absurd (omega arith), (λ e. absurd (omega arith), (λ e. absurd (omega arith), tt)))),
   (
     (λ e. absurd (omega arith), (λ e. refl, (λ e. refl, (λ e. absurd (omega arith), tt)))),
-    ((λ e. absurd (omega arith), (λ e. refl, (λ e. refl, (λ e. absurd (omega arith), tt)))), ((λ e. absurd (omega arith), (λ e. absurd (omega arith), (λ e. absurd (omega arith), (λ e. refl, tt)))), tt)),
+    (
+      (λ e. absurd (omega arith), (λ e. refl, (λ e. refl, (λ e. absurd (omega arith), tt)))),
+      ((λ e. absurd (omega arith), (λ e. absurd (omega arith), (λ e. absurd (omega arith), (λ e. refl, tt)))), tt),
+    ),
   ),
 )
 
@@ -90,7 +97,10 @@ pub shares_closes : (l x y f u : ℕ) → 0 < x → (u ≡ x → ⊥) → Follow
 shares_closes l x y f u some other = record {
   kept = (inr (inl (refl, refl)), (inr (inr (inl (refl, refl))), (inl (inl (refl, refl)), (inl (inr (inl (refl, refl))), tt))));
   gains = pair x l ∷ pair 0 f ∷ pair u f ∷ [];
-  gained = (inl (inl (refl, refl)), (inl (inr (inl (refl, refl))), (inr (inl (refl, refl)), (inr (inr (inl (refl, refl))), (inr (inr (inr (inl (refl, refl)))), tt)))));
+  gained = (
+    inl (inl (refl, refl)),
+    (inl (inr (inl (refl, refl))), (inr (inl (refl, refl)), (inr (inr (inl (refl, refl))), (inr (inr (inr (inl (refl, refl)))), tt)))),
+  );
   apart = closing_apart l x f u some other;
 }
 
@@ -108,14 +118,20 @@ pub joins_closes : (l x f u : ℕ) → 0 < x → (u ≡ x → ⊥) → Follows (
 joins_closes l x f u some other = record {
   kept = (inr (inl (refl, refl)), (inr (inr (inl (refl, refl))), (inl (inl (refl, refl)), (inl (inr (inl (refl, refl))), tt))));
   gains = pair x l ∷ pair 0 f ∷ pair u f ∷ [];
-  gained = (inl (inl (refl, refl)), (inl (inr (inl (refl, refl))), (inr (inl (refl, refl)), (inr (inr (inl (refl, refl))), (inr (inr (inr (inl (refl, refl)))), tt)))));
+  gained = (
+    inl (inl (refl, refl)),
+    (inl (inr (inl (refl, refl))), (inr (inl (refl, refl)), (inr (inr (inl (refl, refl))), (inr (inr (inr (inl (refl, refl)))), tt)))),
+  );
   apart = closing_apart l x f u some other;
 }
 
 -- the next input begins to ask output 0
 pub closes_joins : (l x f u : ℕ) → x ≡ u + 1 → Follows (closes l x f u) (joins u f)
 closes_joins l x f u e = record {
-  kept = (inr (inl (refl, refl)), (inr (inr (inr (inr (inl (e, refl))))), (inl (inl (refl, refl)), (inl (inr (inl (refl, refl))), (inr (inr (inr (inl (refl, refl)))), tt)))));
+  kept = (
+    inr (inl (refl, refl)),
+    (inr (inr (inr (inr (inl (e, refl))))), (inl (inl (refl, refl)), (inl (inr (inl (refl, refl))), (inr (inr (inr (inl (refl, refl)))), tt)))),
+  );
   gains = pair u 0 ∷ [];
   gained = (inl (inl (refl, refl)), (inr (inl (refl, refl)), (inl (inr (inr (inr (inr (inl (refl, refl)))))), (inl (inr (inl (sym e, refl))), tt))));
   apart = one_apart u 0;
@@ -180,7 +196,10 @@ pub resets_readies_too : (y w l v : ℕ) → 1 < v → v < l → Follows (resets
 resets_readies_too y w l v more less = record {
   kept = (inr (inl (refl, refl)), (inl (inl (refl, refl)), (inl (inr (inl (refl, refl))), tt)));
   gains = pair 0 l ∷ pair 1 2 ∷ pair l 2 ∷ pair v 1 ∷ [];
-  gained = (inl (inl (refl, refl)), (inr (inl (refl, refl)), (inr (inr (inl (refl, refl))), (inr (inr (inr (inl (refl, refl)))), (inr (inr (inr (inr (inl (refl, refl))))), tt)))));
+  gained = (
+    inl (inl (refl, refl)),
+    (inr (inl (refl, refl)), (inr (inr (inl (refl, refl))), (inr (inr (inr (inl (refl, refl)))), (inr (inr (inr (inr (inl (refl, refl))))), tt)))),
+  );
   apart = ready_too_apart l v more less;
 }
 
@@ -196,7 +215,10 @@ readies_shares l = record {
 -- and then output 0
 pub readies_too_shares : (l w : ℕ) → Follows (readies_too l w) (shares l l 2)
 readies_too_shares l w = record {
-  kept = (inr (inl (refl, refl)), (inl (inl (refl, refl)), (inl (inr (inl (refl, refl))), (inr (inr (inr (inl (refl, refl)))), (inl (inr (inr (inl (refl, refl)))), tt)))));
+  kept = (
+    inr (inl (refl, refl)),
+    (inl (inl (refl, refl)), (inl (inr (inl (refl, refl))), (inr (inr (inr (inl (refl, refl)))), (inl (inr (inr (inl (refl, refl)))), tt)))),
+  );
   gains = pair l 0 ∷ [];
   gained = (inl (inl (refl, refl)), (inr (inl (refl, refl)), (inl (inr (inr (inr (inl (refl, refl))))), (inl (inr (inl (refl, refl))), tt))));
   apart = one_apart l 0;

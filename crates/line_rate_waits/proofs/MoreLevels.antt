@@ -11,9 +11,11 @@ use Rattle.line_rate_waits.proofs.ManySlots.{decided_in, IsSwitch-after_in, many
 use Rattle.line_rate_waits.proofs.Shapes.{takes, ends, passes, suits_takes, suits_ends}
 use Rattle.line_rate_waits.proofs.MoreShapes.{shares, closes, resets, readies, readies_too, crosses_by, suits_readies, suits_readies_too, suits_crosses_by}
 use Rattle.line_rate_waits.proofs.Followings.{takes_takes, passes_takes, takes_ends}
-use Rattle.line_rate_waits.proofs.MoreFollowings.{shares_shares, shares_closes, passes_resets, resets_resets, resets_takes, resets_readies, takes_readies, resets_readies_too, readies_shares, readies_too_shares, crosses_by_shares}
+use Rattle.line_rate_waits.proofs.MoreFollowings.{shares_shares, shares_closes, passes_resets, resets_resets, resets_takes, resets_readies}
+use Rattle.line_rate_waits.proofs.MoreFollowings.{takes_readies, resets_readies_too, readies_shares, readies_too_shares, crosses_by_shares}
 use Rattle.line_rate_waits.proofs.OneRoundFamily.{downs, starts_more}
-use Rattle.line_rate_waits.proofs.MoreRoundsFamily.{before, before_other, climbs, level, backs, levels, body, starts_sharings, starts_more_sharings, starts_levels, starts_lowers, IsBase, IsLateIn, late_shares, late_level, late_resets}
+use Rattle.line_rate_waits.proofs.MoreRoundsFamily.{before, before_other, climbs, level, backs, levels, body, starts_sharings, starts_more_sharings}
+use Rattle.line_rate_waits.proofs.MoreRoundsFamily.{starts_levels, starts_lowers, IsBase, IsLateIn, late_shares, late_level, late_resets}
 
 module _ (rounds n l : ℕ) (two : 1 < rounds) (sum : l + 1 ≡ n) (high : 2 < l) where
   -- there are ports
@@ -27,7 +29,8 @@ module _ (rounds n l : ℕ) (two : 1 < rounds) (sum : l + 1 ≡ n) (high : 2 < l
   -- input 0 takes output y
   pub late_takes : (p low above b y t : ℕ) (places : Places) (rest : List Plan) → 0 < low → 0 < y → y < n → IsBase n places p low above b
       → accept_of places 0 0 ≡ y → Starts (Follows (takes 0 y)) rest
-      → ((after : Places) → IsBase n after p low above b → accept_of after 0 0 ≡ (y + 1) % n → grant_of after y 0 ≡ 1 → ((j : ℕ) → (j ≡ y → ⊥) → grant_of after j 0 ≡ grant_of places j 0) → IsLateIn rounds n (t + 1) after rest)
+      → ((after : Places) → IsBase n after p low above b → accept_of after 0 0 ≡ (y + 1) % n → grant_of after y 0 ≡ 1
+      → ((j : ℕ) → (j ≡ y → ⊥) → grant_of after j 0 ≡ grant_of places j 0) → IsLateIn rounds n (t + 1) after rest)
       → IsLateIn rounds n t places (takes 0 y ∷ rest)
   late_takes p low above b y t places rest some_low some_y y_in base at starts then =
       let it = takes 0 y in
@@ -46,8 +49,10 @@ module _ (rounds n l : ℕ) (two : 1 < rounds) (sum : l + 1 ≡ n) (high : 2 < l
 
   -- Input 0 goes down from output y to `stop`, and then output 2 points at input 1. An output n is output 0.
   pub late_lowers : (p low above b stop : ℕ) (rest : List Plan) → 0 < low → stop ≤ n → ((a : ℕ) → a + 1 ≡ stop → Starts (Follows (takes 0 a)) rest)
-      → ((t : ℕ) (places : Places) → IsBase n places p low above b → accept_of places 0 0 ≡ stop % n → (2 < stop → grant_of places 2 0 ≡ 1) → IsLateIn rounds n t places rest)
-      → (k y t : ℕ) (places : Places) → 0 < y → y + k ≡ stop → IsBase n places p low above b → accept_of places 0 0 ≡ y % n → (2 < y → grant_of places 2 0 ≡ 1) → IsLateIn rounds n t places (downs 0 y k rest)
+      → ((t : ℕ) (places : Places) → IsBase n places p low above b → accept_of places 0 0 ≡ stop % n → (2 < stop → grant_of places 2 0 ≡ 1)
+      → IsLateIn rounds n t places rest)
+      → (k y t : ℕ) (places : Places) → 0 < y → y + k ≡ stop → IsBase n places p low above b → accept_of places 0 0 ≡ y % n
+      → (2 < y → grant_of places 2 0 ≡ 1) → IsLateIn rounds n t places (downs 0 y k rest)
   late_lowers p low above b stop rest some_low stop_in starts then zero y t places some_y all base at held =
       let e : y ≡ stop = omega arith in then t places base (at ∙ ap (λ v. v % n) e) (λ more. held (omega arith))
   late_lowers p low above b stop rest some_low stop_in starts then (suc k) y t places some_y all base at held =
@@ -64,8 +69,10 @@ module _ (rounds n l : ℕ) (two : 1 < rounds) (sum : l + 1 ≡ n) (high : 2 < l
 
   -- input 0 goes down from output y to `stop`, while the k inputs from w on take output 1
   late_backs : (p w stop : ℕ) (rest : List Plan) → 0 < w → stop ≤ l → ((y v : ℕ) → y + 1 ≡ stop → Starts (Follows (resets y v)) rest)
-      → ((t : ℕ) (places : Places) → IsBase n places p w n 2 → accept_of places 0 0 ≡ stop → (2 < stop → grant_of places 2 0 ≡ 1) → IsLateIn rounds n t places rest)
-      → (k y t : ℕ) (places : Places) → 1 < y → y + k ≡ stop → w + k ≤ n → IsBase n places p (w + k) n 2 → accept_of places 0 0 ≡ y → (2 < y → grant_of places 2 0 ≡ 1) → IsLateIn rounds n t places (backs w y k rest)
+      → ((t : ℕ) (places : Places) → IsBase n places p w n 2 → accept_of places 0 0 ≡ stop → (2 < stop → grant_of places 2 0 ≡ 1)
+      → IsLateIn rounds n t places rest)
+      → (k y t : ℕ) (places : Places) → 1 < y → y + k ≡ stop → w + k ≤ n → IsBase n places p (w + k) n 2 → accept_of places 0 0 ≡ y
+      → (2 < y → grant_of places 2 0 ≡ 1) → IsLateIn rounds n t places (backs w y k rest)
   late_backs p w stop rest some_w stop_in starts then zero y t places more all w_in base at held =
       let e : y ≡ stop = omega arith in
       let d : w + 0 ≡ w = omega arith in
@@ -74,7 +81,8 @@ module _ (rounds n l : ℕ) (two : 1 < rounds) (sum : l + 1 ≡ n) (high : 2 < l
       let d : w + suc k ≡ w + k + 1 = omega arith in
       late_resets rounds n l two sum (omega arith) p y (w + k) t places (backs w (y + 1) k rest) more (omega arith) (omega arith) (omega arith)
       (subst (λ v. IsBase n places p v n 2) d base) at held (follows k all)
-      (λ after next at held. late_backs p w stop rest some_w stop_in starts then k (y + 1) (t + 1) after (omega arith) (omega arith) (omega arith) next at held) where
+      (λ after next at held. late_backs p w stop rest some_w stop_in starts then k (y + 1) (t + 1) after (omega arith) (omega arith)
+      (omega arith) next at held) where
         follows : (k : ℕ) → y + suc k ≡ stop → Starts (Follows (resets y (w + k))) (backs w (y + 1) k rest)
         follows zero all = starts y (w + 0) (omega arith)
         follows (suc k) all = resets_resets y (w + suc k) (y + 1) (w + k) (omega arith)
@@ -92,8 +100,12 @@ module _ (rounds n l : ℕ) (two : 1 < rounds) (sum : l + 1 ≡ n) (high : 2 < l
       (left_by_input rounds n t places it some base.switch suits some_rounds l (omega arith) (inl (refl, refl)))
       (then after (record {
         switch = IsSwitch-after_in rounds n t places it base.switch;
-        grant = step.grant_stays 0 (λ i is. elim is [ inl s ↦ let e = s.1 in omega arith | inr more ↦ elim more [ inl s ↦ let e = s.1 in omega arith | inr none ↦ none ] ]) ∙ base.grant;
-        fresh = λ i i_low i_high. step.accept_stays i (λ j is. elim is [ inl s ↦ let e = s.0 in omega arith | inr more ↦ elim more [ inl s ↦ let e = s.0 in omega arith | inr none ↦ none ] ]) ∙ base.fresh i i_low i_high;
+        grant = step.grant_stays 0
+            (λ i is. elim is [ inl s ↦ let e = s.1 in omega arith | inr more ↦ elim more [ inl s ↦ let e = s.1 in omega arith | inr none ↦ none ] ])
+            ∙ base.grant;
+        fresh = λ i i_low i_high. step.accept_stays i
+            (λ j is. elim is [ inl s ↦ let e = s.0 in omega arith | inr more ↦ elim more [ inl s ↦ let e = s.0 in omega arith | inr none ↦ none ] ])
+            ∙ base.fresh i i_low i_high;
       }))
 
   -- the same while input 2 takes output 1
@@ -118,7 +130,8 @@ module _ (rounds n l : ℕ) (two : 1 < rounds) (sum : l + 1 ≡ n) (high : 2 < l
             | inl s ↦ let e = s.0 in omega arith
             | inr more ↦ elim more [ inl s ↦ let e = s.0 in omega arith | inr last ↦ elim last [ inl s ↦ let e = s.0 in omega arith | inr none ↦ none ] ]
           ]) ∙ base.fresh i later i_high
-          | inr here ↦ let same : 2 ≡ i = omega arith in subst (λ v. accept_of after v 0 ≡ 2) same (step.accepted 2 1 (inr (inr (inl (refl, refl)))) ∙ mod-eq_of_lt (omega arith))
+          | inr here ↦ let same : 2 ≡ i = omega arith in
+              subst (λ v. accept_of after v 0 ≡ 2) same (step.accepted 2 1 (inr (inr (inl (refl, refl)))) ∙ mod-eq_of_lt (omega arith))
         ];
       }))
 
@@ -131,7 +144,8 @@ module _ (rounds n l : ℕ) (two : 1 < rounds) (sum : l + 1 ≡ n) (high : 2 < l
       let narrow : IsBase n places p p l 2 = record { switch = base.switch; grant = base.grant; fresh = λ i i_low i_high. base.fresh i i_low (omega arith) } in
       late_shares rounds n l two sum (omega arith) p p l 2 l 2 t places (level l p 2 k rest) (omega arith) (omega arith) (omega arith) (omega arith)
       (inr (omega arith)) (omega arith) high narrow (base.fresh l (omega arith) (omega arith))
-      (starts_sharings (Follows (shares l l 2)) l l (2 + 1) (l - (2 + 1)) (closes l l 2 u ∷ climbs l p 2 k (passes p ∷ rest)) (shares_shares l l 2) (shares_closes l l 2 2 u (omega arith) (before_other p k l (omega arith) (sym all))))
+      (starts_sharings (Follows (shares l l 2)) l l (2 + 1) (l - (2 + 1)) (closes l l 2 u ∷ climbs l p 2 k (passes p ∷ rest)) (shares_shares l l 2)
+      (shares_closes l l 2 2 u (omega arith) (before_other p k l (omega arith) (sym all))))
       (λ after next at granted stays. late_level rounds n l two sum (omega arith) p 2 k rest (omega arith) all (omega arith) high starts then
       (t + 1) after next at granted)
 
@@ -195,10 +209,15 @@ module _ (rounds n l : ℕ) (two : 1 < rounds) (sum : l + 1 ≡ n) (high : 2 < l
       let after = (decided_in rounds n t places it).places in
       let u = before 1 (l - 1) in
       IsLateBy-before n (decided_in rounds n) t places it (body l) step.serves
-      (starts_more_sharings (Follows it) l l (1 + 1) (l - (1 + 1)) (closes l l 1 u ∷ climbs l 1 1 (l - 1) (passes 1 ∷ backs 3 2 (l - 2) (readies_too l 2 ∷ levels l 2 (l - 2)))) (omega arith) (crosses_by_shares l l))
+      (starts_more_sharings (Follows it) l l (1 + 1) (l - (1 + 1))
+      (closes l l 1 u ∷ climbs l 1 1 (l - 1) (passes 1 ∷ backs 3 2 (l - 2) (readies_too l 2 ∷ levels l 2 (l - 2)))) (omega arith) (crosses_by_shares l l))
       (left_by_input rounds n t places it some base.switch suits some_rounds l (omega arith) (inl (refl, refl)))
       (late_body (t + 1) after (record {
         switch = IsSwitch-after_in rounds n t places it base.switch;
-        grant = step.grant_stays 0 (λ i is. elim is [ inl s ↦ let e = s.1 in omega arith | inr more ↦ elim more [ inl s ↦ let e = s.1 in omega arith | inr none ↦ none ] ]) ∙ base.grant;
-        fresh = λ i i_low i_high. step.accept_stays i (λ j is. elim is [ inl s ↦ let e = s.0 in omega arith | inr more ↦ elim more [ inl s ↦ let e = s.0 in omega arith | inr none ↦ none ] ]) ∙ base.fresh i i_low i_high;
+        grant = step.grant_stays 0
+            (λ i is. elim is [ inl s ↦ let e = s.1 in omega arith | inr more ↦ elim more [ inl s ↦ let e = s.1 in omega arith | inr none ↦ none ] ])
+            ∙ base.grant;
+        fresh = λ i i_low i_high. step.accept_stays i
+            (λ j is. elim is [ inl s ↦ let e = s.0 in omega arith | inr more ↦ elim more [ inl s ↦ let e = s.0 in omega arith | inr none ↦ none ] ])
+            ∙ base.fresh i i_low i_high;
       }) (step.accepted l 1 (inr (inl (refl, refl))) ∙ mod-eq_of_lt (omega arith)) (step.granted l 1 (inr (inl (refl, refl)))))

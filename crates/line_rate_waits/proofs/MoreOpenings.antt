@@ -19,7 +19,8 @@ use Rattle.service_bound.proofs.PostedSlots.{distance-own}
 use Rattle.service_bound.proofs.PostedRuns.{IsSwitch}
 use Rattle.line_rate_waits.specs.Reached.{ComesLastAtLineRate}
 use Rattle.line_rate_waits.proofs.Plans.{Plan, names, AreWithin-rows, IsClean-rows, IsWithoutMulticast-rows}
-use Rattle.line_rate_waits.proofs.PlannedRuns.{Follows, Starts, IsOneEach, run, length-run, All-run, IsLateBy-before, opens_run, LeadsBy, leads_none, leads_before, led, kept_all}
+use Rattle.line_rate_waits.proofs.PlannedRuns.{Follows, Starts, IsOneEach, run, length-run, All-run, IsLateBy-before, opens_run, LeadsBy, leads_none}
+use Rattle.line_rate_waits.proofs.PlannedRuns.{leads_before, led, kept_all}
 use Rattle.line_rate_waits.proofs.ManySlots.{decided_in, slot_decided_in, IsSwitch-after_in, many_step_of, left_by_input}
 use Rattle.line_rate_waits.proofs.Shapes.{takes, ends, passes, suits_ends}
 use Rattle.line_rate_waits.proofs.MoreShapes.{closes, readies, readies_too, both_by, wins_by, crosses_by, suits_both_by, suits_wins_by}
@@ -145,8 +146,11 @@ late_five rounds n l t places two sum high begins =
     (left_by_input rounds n t places it (omega arith) base.switch suits (omega arith) (l - 1) (omega arith) (inl (refl, refl)))
     (late_crosses rounds n l two sum (omega arith) (t + 1) after (record {
       switch = IsSwitch-after_in rounds n t places it base.switch;
-      grant = step.grant_stays 0 (λ i is. elim is [ inl s ↦ let e = s.1 in omega arith | inr more ↦ elim more [ inl s ↦ let e = s.1 in omega arith | inr none ↦ none ] ]) ∙ base.grant;
-      fresh = λ i i_low i_high. step.accept_stays i (λ j is. elim is [ inl s ↦ let e = s.0 in omega arith | inr more ↦ elim more [ inl s ↦ let e = s.0 in omega arith | inr none ↦ none ] ]) ∙ base.fresh i i_low (omega arith);
+      grant = step.grant_stays 0
+          (λ i is. elim is [ inl s ↦ let e = s.1 in omega arith | inr more ↦ elim more [ inl s ↦ let e = s.1 in omega arith | inr none ↦ none ] ]) ∙ base.grant;
+      fresh = λ i i_low i_high. step.accept_stays i
+          (λ j is. elim is [ inl s ↦ let e = s.0 in omega arith | inr more ↦ elim more [ inl s ↦ let e = s.0 in omega arith | inr none ↦ none ] ])
+          ∙ base.fresh i i_low (omega arith);
     }) last (omega arith)))
     (l - 2) 1 t places (omega arith) (omega arith) begins.base (begins.at ∙ sym (mod-eq_of_lt (omega arith))) (λ none. absurd (omega arith))
 
@@ -201,7 +205,10 @@ record IsOpened (n : ℕ) (places : Places) (x : ℕ) : Type 0 where
 IsSchedule-run : (rounds n t : ℕ) (places : Places) (ps : List Plan) → IsSwitch n places
     → IsSchedule n rounds t places (run n (decided_in rounds n) t places ps)
 IsSchedule-run rounds n t places [] switch = tt
-IsSchedule-run rounds n t places (p ∷ ps) switch = (slot_decided_in rounds n t places p switch, IsSchedule-run rounds n (t + 1) (decided_in rounds n t places p).places ps (IsSwitch-after_in rounds n t places p switch))
+IsSchedule-run rounds n t places (p ∷ ps) switch = (
+  slot_decided_in rounds n t places p switch,
+  IsSchedule-run rounds n (t + 1) (decided_in rounds n t places p).places ps (IsSwitch-after_in rounds n t places p switch),
+)
 
 -- What is late from pointers of a switch is a window in which queue (0, 0) is served in the last slot alone.
 IsServedLast-run : (rounds n t : ℕ) (places : Places) (ps : List Plan) → IsSwitch n places → IsLateIn rounds n t places ps
@@ -239,7 +246,8 @@ module _ (rounds n : ℕ) (two : 1 < rounds) (ports : 1 < n) (rest : List Plan) 
           base = record {
             switch = IsSwitch-after_in rounds n t places (ends 0) opened.switch;
             grant = step.granted 0 0 (inl (refl, refl));
-            fresh = λ i late i_in. step.accept_stays i (λ j is. elim is [ inl s ↦ let e = s.0 in omega arith | inr none ↦ none ]) ∙ opened.accepts i (omega arith);
+            fresh = λ i late i_in. step.accept_stays i (λ j is. elim is [ inl s ↦ let e = s.0 in omega arith | inr none ↦ none ])
+                ∙ opened.accepts i (omega arith);
           };
           at = step.accepted 0 0 (inl (refl, refl)) ∙ mod-eq_of_lt ports;
           others = λ m yes. step.grant_stays m (λ i is. elim is [ inl s ↦ let e = s.1 in omega arith | inr none ↦ none ]) ∙ opened.others m yes;
@@ -260,8 +268,12 @@ module _ (rounds n : ℕ) (two : 1 < rounds) (ports : 1 < n) (rest : List Plan) 
           | inr last ↦ let same : x ≡ i = omega arith in subst (λ v. accept_of after v 0 ≡ 1) same (step.accepted x 0 (inl (refl, refl)) ∙ mod-eq_of_lt ports)
         ];
       } in
-      let later = opens k (x + 1) (t + 1) after (omega arith) next in
-      (later.0, later.1, leads_before n (decided_in rounds n) t places (ends x) (openings (x + 1) k rest) (suc k) later.0 rest step.serves (follows_openings x k rest) later.2)
+      let later = opens k (x + 1) (t + 1) after (omega arith) next in (
+        later.0,
+        later.1,
+        leads_before n (decided_in rounds n) t places (ends x) (openings (x + 1) k rest) (suc k) later.0 rest step.serves
+            (follows_openings x k rest) later.2,
+      )
 
   -- all pointers are at port 0 at first
   IsOpened-at_first : n ≤ MAX_PORTS → IsOpened n (places_at_first n) 0
@@ -289,14 +301,16 @@ module _ (rounds n : ℕ) (two : 1 < rounds) (ports : 1 < n) (rest : List Plan) 
       let late = lates (suc n) after begins in
       let dropped : drop (suc n) slots ≡ run n rule (suc n) after rest = led n rule from ps (suc n) after rest leads in
       let all = kept_all n rule from ps (suc n) after rest leads late.run_kept in
-      let served : IsServedLast n rounds (suc n) 0 0 0 after (run n rule (suc n) after rest) = IsServedLast-run rounds n (suc n) after rest begins.base.switch late in (
+      let served : IsServedLast n rounds (suc n) 0 0 0 after (run n rule (suc n) after rest) =
+      IsServedLast-run rounds n (suc n) after rest begins.base.switch late in (
         slots,
         record {
           comes = record {
             schedule = IsSchedule-run rounds n 0 from ps opened.switch;
             within = All-run n rule 0 from (AreWithin n) (AreWithin-rows n) ps;
             kept = all.kept;
-            last = subst (λ f. IsServedLast n rounds (suc n) 0 0 0 f (drop (suc n) slots)) (sym leads.left) (subst (λ s. IsServedLast n rounds (suc n) 0 0 0 after s) (sym dropped) served);
+            last = subst (λ f. IsServedLast n rounds (suc n) 0 0 0 f (drop (suc n) slots)) (sym leads.left)
+                (subst (λ s. IsServedLast n rounds (suc n) 0 0 0 after s) (sym dropped) served);
           };
           line_rate = all.line;
           opens = opens_run n rule 0 from ps (starts_openings 0 n rest);
@@ -311,7 +325,9 @@ Reached rounds n = (slots : List DecidedSlot) × ComesLastAtLineRate n rounds (n
 -- so many slots from slot `count` on, which is slot n + 1
 counted : (rounds n count : ℕ) (rest : List Plan) → length rest + 1 ≡ longest_service n → count ≡ n + 1
     → (slots : List DecidedSlot) × ComesLastAtLineRate n rounds count slots × (length (drop count slots) ≡ length rest) → Reached rounds n
-counted rounds n count rest long e all = subst (λ m. (slots : List DecidedSlot) × ComesLastAtLineRate n rounds m slots × (length (drop m slots) + 1 ≡ longest_service n)) e (all.0, all.1, ap (λ v. v + 1) all.2 ∙ long)
+counted rounds n count rest long e all =
+    subst (λ m. (slots : List DecidedSlot) × ComesLastAtLineRate n rounds m slots × (length (drop m slots) + 1 ≡ longest_service n)) e
+    (all.0, all.1, ap (λ v. v + 1) all.2 ∙ long)
 
 -- so many slots are those of five ports or more
 length-five : (l : ℕ) → 3 < l → length (five l) ≡ l + length (body l)
@@ -329,12 +345,15 @@ five_comes rounds n two high size =
 
 -- four ports
 four_comes : (rounds : ℕ) → 1 < rounds → Reached rounds 4
-four_comes rounds two = counted rounds 4 5 four (length-all 3 (omega arith)) refl (late_comes rounds 4 two (omega arith) four ends_takes (omega arith) (λ t places begins. late_four rounds t places two begins))
+four_comes rounds two = counted rounds 4 5 four (length-all 3 (omega arith)) refl
+    (late_comes rounds 4 two (omega arith) four ends_takes (omega arith) (λ t places begins. late_four rounds t places two begins))
 
 -- three ports
 three_comes : (rounds : ℕ) → 1 < rounds → Reached rounds 3
 three_comes rounds two =
-    counted rounds 3 4 three refl refl (late_comes rounds 3 two (omega arith) three ends_wins_by (omega arith) (λ t places begins. late_three rounds t places two begins.base begins.at (begins.others 1 (omega arith))))
+    counted rounds 3 4 three refl refl
+    (late_comes rounds 3 two (omega arith) three ends_wins_by (omega arith)
+    (λ t places begins. late_three rounds t places two begins.base begins.at (begins.others 1 (omega arith))))
 
 -- for three ports or more
 pub more_come_at_line_rate : (n rounds : ℕ) → 2 < n → n ≤ MAX_PORTS → 1 < rounds → Reached rounds n

@@ -23,7 +23,8 @@ use Rattle.line_rate_waits.proofs.Plans.{Plan}
 use Rattle.line_rate_waits.proofs.PlannedRuns.{Follows, Starts, AreServed, IsLateBy, IsLateBy-before}
 use Rattle.line_rate_waits.proofs.ManySlots.{decided_in, IsSwitch-after_in, many_step_of, left_by_input, served_second}
 use Rattle.line_rate_waits.proofs.Shapes.{takes, ends, passes, suits_passes, at_first}
-use Rattle.line_rate_waits.proofs.MoreShapes.{shares, closes, joins, joins_first, resets, readies, readies_too, suits_shares, suits_closes, suits_joins, second_joins, suits_resets}
+use Rattle.line_rate_waits.proofs.MoreShapes.{shares, closes, joins, joins_first, resets, readies, readies_too, suits_shares, suits_closes, suits_joins}
+use Rattle.line_rate_waits.proofs.MoreShapes.{second_joins, suits_resets}
 use Rattle.line_rate_waits.proofs.MoreFollowings.{shares_shares, shares_closes, joins_shares, joins_closes, closes_joins, closes_passes, resets_resets}
 use Rattle.line_rate_waits.proofs.OneRoundFamily.{downs}
 
@@ -159,7 +160,8 @@ module _ (rounds n l : ℕ) (two : 1 < rounds) (sum : l + 1 ≡ n) (high : 1 < l
   -- input x takes output y, and input 0 the last one
   pub late_shares : (p low above b x y t : ℕ) (places : Places) (rest : List Plan) → 0 < p → p ≤ x → x < n → 0 < low → (x < low) ⊎ (above ≤ x) → 0 < y
       → y < l → IsBase n places p low above b → accept_of places x 0 ≡ y → Starts (Follows (shares l x y)) rest
-      → ((after : Places) → IsBase n after p low above b → accept_of after x 0 ≡ y + 1 → grant_of after y 0 ≡ (x + 1) % n → ((j : ℕ) → (j ≡ y → ⊥) → (j ≡ l → ⊥) → grant_of after j 0 ≡ grant_of places j 0) → IsLateIn rounds n (t + 1) after rest)
+      → ((after : Places) → IsBase n after p low above b → accept_of after x 0 ≡ y + 1 → grant_of after y 0 ≡ (x + 1) % n
+      → ((j : ℕ) → (j ≡ y → ⊥) → (j ≡ l → ⊥) → grant_of after j 0 ≡ grant_of places j 0) → IsLateIn rounds n (t + 1) after rest)
       → IsLateIn rounds n t places (shares l x y ∷ rest)
   late_shares p low above b x y t places rest some_p x_above x_in some_low outside some_y y_in base at starts then =
       let it = shares l x y in
@@ -169,7 +171,9 @@ module _ (rounds n l : ℕ) (two : 1 < rounds) (sum : l + 1 ≡ n) (high : 1 < l
       let after = (decided_in rounds n t places it).places in
       let next : IsBase n after p low above b = record {
         switch = IsSwitch-after_in rounds n t places it base.switch;
-        grant = step.grant_stays 0 (λ i is. elim is [ inl s ↦ let e = s.1 in omega arith | inr more ↦ elim more [ inl s ↦ let e = s.1 in omega arith | inr none ↦ none ] ]) ∙ base.grant;
+        grant = step.grant_stays 0
+            (λ i is. elim is [ inl s ↦ let e = s.1 in omega arith | inr more ↦ elim more [ inl s ↦ let e = s.1 in omega arith | inr none ↦ none ] ])
+            ∙ base.grant;
         fresh = λ i i_low i_high. step.accept_stays i (λ j is. elim is [
           | inl s ↦ let e = s.0 in elim outside [ inl a ↦ omega arith | inr a ↦ omega arith ]
           | inr more ↦ elim more [ inl s ↦ let e = s.0 in omega arith | inr none ↦ none ]
@@ -192,8 +196,12 @@ module _ (rounds n l : ℕ) (two : 1 < rounds) (sum : l + 1 ≡ n) (high : 1 < l
       let after = (decided_in rounds n t places it).places in
       let next : IsBase n after p p x b = record {
         switch = IsSwitch-after_in rounds n t places it base.switch;
-        grant = step.grant_stays 0 (λ i is. elim is [ inl s ↦ let e = s.1 in omega arith | inr more ↦ elim more [ inl s ↦ let e = s.1 in omega arith | inr none ↦ none ] ]) ∙ base.grant;
-        fresh = λ i i_low i_high. step.accept_stays i (λ j is. elim is [ inl s ↦ let e = s.0 in omega arith | inr more ↦ elim more [ inl s ↦ let e = s.0 in omega arith | inr none ↦ none ] ]) ∙ base.fresh i i_low i_high;
+        grant = step.grant_stays 0
+            (λ i is. elim is [ inl s ↦ let e = s.1 in omega arith | inr more ↦ elim more [ inl s ↦ let e = s.1 in omega arith | inr none ↦ none ] ])
+            ∙ base.grant;
+        fresh = λ i i_low i_high. step.accept_stays i
+            (λ j is. elim is [ inl s ↦ let e = s.0 in omega arith | inr more ↦ elim more [ inl s ↦ let e = s.0 in omega arith | inr none ↦ none ] ])
+            ∙ base.fresh i i_low i_high;
       } in
       IsLateBy-before n (decided_in rounds n) t places it rest step.serves starts
       (left_by_input rounds n t places it some base.switch suits some_rounds f some_f (inr (inl (refl, refl)))) (then after next)
@@ -202,7 +210,8 @@ module _ (rounds n l : ℕ) (two : 1 < rounds) (sum : l + 1 ≡ n) (high : 1 < l
   late_goes : (p x f u : ℕ) (rest : List Plan) → 0 < p → p ≤ x → x < n → 0 < f → f < l → (u ≡ 0) ⊎ (u + 1 ≡ x) → (u ≡ x → ⊥)
       → Starts (Follows (closes l x f u)) rest
       → ((t : ℕ) (places : Places) → IsBase n places p p x f → IsLateIn rounds n t places rest)
-      → (k y t : ℕ) (places : Places) → f < y → y + k ≡ l → IsBase n places p p x f → accept_of places x 0 ≡ y → grant_of places f 0 ≡ (x + 1) % n → IsLateIn rounds n t places (sharings l x y k (closes l x f u ∷ rest))
+      → (k y t : ℕ) (places : Places) → f < y → y + k ≡ l → IsBase n places p p x f → accept_of places x 0 ≡ y → grant_of places f 0 ≡ (x + 1) % n
+      → IsLateIn rounds n t places (sharings l x y k (closes l x f u ∷ rest))
   late_goes p x f u rest some_p x_above x_in some_f f_in how other starts then zero y t places above all base at held =
       late_closes p f x f u t places rest some_p x_above x_in some_f f_in how base (at ∙ omega arith) held starts (λ after next. then (t + 1) after next)
   late_goes p x f u rest some_p x_above x_in some_f f_in how other starts then (suc k) y t places above all base at held =
@@ -216,7 +225,8 @@ module _ (rounds n l : ℕ) (two : 1 < rounds) (sum : l + 1 ≡ n) (high : 1 < l
   -- input x begins to ask, and the input after it is served in the second round
   pub late_joins : (p f x t : ℕ) (places : Places) (rest : List Plan) → 0 < p → p ≤ x → x + 1 < n → 0 < f → f < l → IsBase n places p p (x + 1) f
       → Starts (Follows (joins x f)) rest
-      → ((after : Places) → IsBase n after p p x f → accept_of after x 0 ≡ f + 1 → grant_of after f 0 ≡ (x + 1) % n → IsLateIn rounds n (t + 1) after rest) → IsLateIn rounds n t places (joins x f ∷ rest)
+      → ((after : Places) → IsBase n after p p x f → accept_of after x 0 ≡ f + 1 → grant_of after f 0 ≡ (x + 1) % n → IsLateIn rounds n (t + 1) after rest)
+      → IsLateIn rounds n t places (joins x f ∷ rest)
   late_joins p f x t places rest some_p x_above next_in some_f f_in base starts then =
       let it = joins_first x f in
       let from = grant_of places 0 0 in
@@ -229,21 +239,28 @@ module _ (rounds n l : ℕ) (two : 1 < rounds) (sum : l + 1 ≡ n) (high : 1 < l
       let matched = (decided_in rounds n t places it).matched in
       let serves : AreServed (joins x f) matched = λ i j is. elim is [
         | inl s ↦ step.serves i j (inl s)
-        | inr more ↦ elim more [ inl s ↦ subst (λ v. Serves matched v j 0 Uni) (sym s.0) (subst (λ v. Serves matched (x + 1) v 0 Uni) (sym s.1) second) | inr none ↦ absurd none ]
+        | inr more ↦ elim more [
+          | inl s ↦ subst (λ v. Serves matched v j 0 Uni) (sym s.0)
+              (subst (λ v. Serves matched (x + 1) v 0 Uni) (sym s.1) second)
+          | inr none ↦ absurd none
+        ]
       ] in
       let next : IsBase n after p p x f = record {
         switch = IsSwitch-after_in rounds n t places it base.switch;
         grant = step.grant_stays 0 (λ i is. elim is [ inl s ↦ let e = s.1 in omega arith | inr none ↦ none ]) ∙ base.grant;
-        fresh = λ i i_low i_high. step.accept_stays i (λ j is. elim is [ inl s ↦ let e = s.0 in omega arith | inr none ↦ none ]) ∙ base.fresh i i_low (omega arith);
+        fresh = λ i i_low i_high. step.accept_stays i (λ j is. elim is [ inl s ↦ let e = s.0 in omega arith | inr none ↦ none ])
+            ∙ base.fresh i i_low (omega arith);
       } in
-      IsLateBy-before n (decided_in rounds n) t places (joins x f) rest serves starts (λ zero_served. let e = (Serves-once matched 0 (x + 1) 0 0 0 Uni Uni second zero_served).0 in omega arith)
+      IsLateBy-before n (decided_in rounds n) t places (joins x f) rest serves starts
+      (λ zero_served. let e = (Serves-once matched 0 (x + 1) 0 0 0 Uni Uni second zero_served).0 in omega arith)
       (then after next (step.accepted x f (inl (refl, refl)) ∙ mod-eq_of_lt (omega arith)) (step.granted x f (inl (refl, refl))))
 
   -- the k inputs from p on go down
   late_climbs : (p f : ℕ) (rest : List Plan) → 0 < p → 0 < f → f < l
       → ((t : ℕ) (places : Places) → IsBase n places p p p f → IsLateIn rounds n t places (passes p ∷ rest))
       → (k t : ℕ) (places : Places) → p + k ≤ l → IsBase n places p p (p + k) f → IsLateIn rounds n t places (climbs l p f k (passes p ∷ rest))
-  late_climbs p f rest some_p some_f f_in then zero t places p_in base = let e : p + 0 ≡ p = omega arith in then t places (subst (λ v. IsBase n places p p v f) e base)
+  late_climbs p f rest some_p some_f f_in then zero t places p_in base = let e : p + 0 ≡ p = omega arith in
+      then t places (subst (λ v. IsBase n places p p v f) e base)
   late_climbs p f rest some_p some_f f_in then (suc k) t places p_in base =
       let x = p + k in
       let u = before p k in
@@ -251,7 +268,8 @@ module _ (rounds n l : ℕ) (two : 1 < rounds) (sum : l + 1 ≡ n) (high : 1 < l
       let later = climbs l p f k (passes p ∷ rest) in
       let other = before_other p k x some_p refl in
       late_joins p f x t places (goes l x f u later) some_p (omega arith) (omega arith) some_f f_in (subst (λ v. IsBase n places p p v f) e base)
-      (starts_sharings (Follows (joins x f)) l x (f + 1) (l - (f + 1)) (closes l x f u ∷ later) (joins_shares l x f (omega arith)) (joins_closes l x f u (omega arith) other))
+      (starts_sharings (Follows (joins x f)) l x (f + 1) (l - (f + 1)) (closes l x f u ∷ later) (joins_shares l x f (omega arith))
+      (joins_closes l x f u (omega arith) other))
       (λ after next at held. late_goes p x f u later some_p (omega arith) (omega arith) some_f f_in (before_is p k) other (starts_climbs l p f k x rest refl)
       (λ t places next. late_climbs p f rest some_p some_f f_in then k t places (omega arith) next)
       (l - (f + 1)) (f + 1) (t + 1) after (omega arith) (omega arith) next at held)
@@ -259,7 +277,8 @@ module _ (rounds n l : ℕ) (two : 1 < rounds) (sum : l + 1 ≡ n) (high : 1 < l
   -- the slot in which input p takes output 0, and input 0 output 1
   pub late_passes : (p t : ℕ) (places : Places) (rest : List Plan) → 0 < p → p < n → IsSwitch n places → grant_of places 0 0 ≡ p % n
       → Starts (Follows (passes p)) rest
-      → ((after : Places) → IsBase n after (p + 1) n n 2 → accept_of after 0 0 ≡ 2 → IsLateIn rounds n (t + 1) after rest) → IsLateIn rounds n t places (passes p ∷ rest)
+      → ((after : Places) → IsBase n after (p + 1) n n 2 → accept_of after 0 0 ≡ 2 → IsLateIn rounds n (t + 1) after rest)
+      → IsLateIn rounds n t places (passes p ∷ rest)
   late_passes p t places rest some_p p_in switch grant starts then =
       let it = passes p in
       let suits = suits_passes n places p some_p p_in (grant ∙ mod-eq_of_lt p_in) in
@@ -267,13 +286,18 @@ module _ (rounds n l : ℕ) (two : 1 < rounds) (sum : l + 1 ≡ n) (high : 1 < l
       let after = (decided_in rounds n t places it).places in
       IsLateBy-before n (decided_in rounds n) t places it rest step.serves starts
       (left_by_input rounds n t places it some switch suits some_rounds 1 (omega arith) (inr (inl (refl, refl))))
-      (then after (record { switch = IsSwitch-after_in rounds n t places it switch; grant = step.granted p 0 (inl (refl, refl)); fresh = λ i i_low i_high. absurd (omega arith) })
+      (then after (record {
+        switch = IsSwitch-after_in rounds n t places it switch;
+        grant = step.granted p 0 (inl (refl, refl));
+        fresh = λ i i_low i_high. absurd (omega arith);
+      })
       (step.accepted 0 1 (inr (inl (refl, refl))) ∙ mod-eq_of_lt (omega arith)))
 
   -- a level: the last input points at the output after f, and the inputs from p to the last at f
   pub late_level : (p f k : ℕ) (rest : List Plan) → 0 < p → p + k ≡ l → 0 < f → f < l → Starts (Follows (passes p)) rest
       → ((t : ℕ) (after : Places) → IsBase n after (p + 1) n n 2 → accept_of after 0 0 ≡ 2 → IsLateIn rounds n t after rest)
-      → (t : ℕ) (places : Places) → IsBase n places p p l f → accept_of places l 0 ≡ f + 1 → grant_of places f 0 ≡ (l + 1) % n → IsLateIn rounds n t places (level l p f k rest)
+      → (t : ℕ) (places : Places) → IsBase n places p p l f → accept_of places l 0 ≡ f + 1 → grant_of places f 0 ≡ (l + 1) % n
+      → IsLateIn rounds n t places (level l p f k rest)
   late_level p f k rest some_p all some_f f_in starts then t places base at held =
       let how : (before p k ≡ 0) ⊎ (before p k + 1 ≡ l) = elim (before_is p k) [ inl none ↦ inl none | inr next ↦ inr (omega arith) ] in
       late_goes p l f (before p k) (climbs l p f k (passes p ∷ rest)) some_p (omega arith) (omega arith) some_f f_in how
@@ -286,7 +310,8 @@ module _ (rounds n l : ℕ) (two : 1 < rounds) (sum : l + 1 ≡ n) (high : 1 < l
   -- input 0 takes output y, and input w output 1
   pub late_resets : (p y w t : ℕ) (places : Places) (rest : List Plan) → 1 < y → y < l → 0 < w → w < n → IsBase n places p (w + 1) n 2
       → accept_of places 0 0 ≡ y → (2 < y → grant_of places 2 0 ≡ 1) → Starts (Follows (resets y w)) rest
-      → ((after : Places) → IsBase n after p w n 2 → accept_of after 0 0 ≡ y + 1 → (2 < y + 1 → grant_of after 2 0 ≡ 1) → IsLateIn rounds n (t + 1) after rest) → IsLateIn rounds n t places (resets y w ∷ rest)
+      → ((after : Places) → IsBase n after p w n 2 → accept_of after 0 0 ≡ y + 1 → (2 < y + 1 → grant_of after 2 0 ≡ 1)
+      → IsLateIn rounds n (t + 1) after rest) → IsLateIn rounds n t places (resets y w ∷ rest)
   late_resets p y w t places rest more y_in some_w w_in base at held starts then =
       let it = resets y w in
       let suits = suits_resets n places y w more (omega arith) some_w w_in at in
@@ -294,15 +319,23 @@ module _ (rounds n l : ℕ) (two : 1 < rounds) (sum : l + 1 ≡ n) (high : 1 < l
       let after = (decided_in rounds n t places it).places in
       let next : IsBase n after p w n 2 = record {
         switch = IsSwitch-after_in rounds n t places it base.switch;
-        grant = step.grant_stays 0 (λ i is. elim is [ inl s ↦ let e = s.1 in omega arith | inr more ↦ elim more [ inl s ↦ let e = s.1 in omega arith | inr none ↦ none ] ]) ∙ base.grant;
+        grant = step.grant_stays 0
+            (λ i is. elim is [ inl s ↦ let e = s.1 in omega arith | inr more ↦ elim more [ inl s ↦ let e = s.1 in omega arith | inr none ↦ none ] ])
+            ∙ base.grant;
         fresh = λ i i_low i_high. elim (cases_lt w i) [
-          | inl later ↦ step.accept_stays i (λ j is. elim is [ inl s ↦ let e = s.0 in omega arith | inr more ↦ elim more [ inl s ↦ let e = s.0 in omega arith | inr none ↦ none ] ]) ∙ base.fresh i (omega arith) i_high
-          | inr here ↦ let same : w ≡ i = omega arith in subst (λ v. accept_of after v 0 ≡ 2) same (step.accepted w 1 (inr (inl (refl, refl))) ∙ mod-eq_of_lt (omega arith))
+          | inl later ↦ step.accept_stays i
+              (λ j is. elim is [ inl s ↦ let e = s.0 in omega arith | inr more ↦ elim more [ inl s ↦ let e = s.0 in omega arith | inr none ↦ none ] ])
+              ∙ base.fresh i (omega arith) i_high
+          | inr here ↦ let same : w ≡ i = omega arith in
+              subst (λ v. accept_of after v 0 ≡ 2) same (step.accepted w 1 (inr (inl (refl, refl))) ∙ mod-eq_of_lt (omega arith))
         ];
       } in
       let held_on : 2 < y + 1 → grant_of after 2 0 ≡ 1 = λ yes. elim (cases_lt 2 y) [
-        | inl later ↦ step.grant_stays 2 (λ i is. elim is [ inl s ↦ let e = s.1 in omega arith | inr more ↦ elim more [ inl s ↦ let e = s.1 in omega arith | inr none ↦ none ] ]) ∙ held later
-        | inr now ↦ let same : y ≡ 2 = omega arith in subst (λ v. grant_of after v 0 ≡ 1) same (step.granted 0 y (inl (refl, refl)) ∙ mod-eq_of_lt (omega arith))
+        | inl later ↦ step.grant_stays 2
+            (λ i is. elim is [ inl s ↦ let e = s.1 in omega arith | inr more ↦ elim more [ inl s ↦ let e = s.1 in omega arith | inr none ↦ none ] ])
+            ∙ held later
+        | inr now ↦ let same : y ≡ 2 = omega arith in
+            subst (λ v. grant_of after v 0 ≡ 1) same (step.granted 0 y (inl (refl, refl)) ∙ mod-eq_of_lt (omega arith))
       ] in
       IsLateBy-before n (decided_in rounds n) t places it rest step.serves starts
       (left_by_input rounds n t places it some base.switch suits some_rounds y (omega arith) (inl (refl, refl)))

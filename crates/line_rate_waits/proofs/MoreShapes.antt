@@ -93,9 +93,18 @@ suits_closes n places l x f u some_x x_in some_f f_in l_in before at choice = re
         ),
       ),
     ),
-    ((λ e. inr (x, x_in, inr (inl (refl, refl)), before), (λ e. absurd (omega arith), (λ e. absurd (omega arith), (λ e. inl (omega arith), (λ e. inl (omega arith), tt))))), tt),
+    (
+      (
+        λ e. inr (x, x_in, inr (inl (refl, refl)), before),
+        (λ e. absurd (omega arith), (λ e. absurd (omega arith), (λ e. inl (omega arith), (λ e. inl (omega arith), tt)))),
+      ),
+      tt,
+    ),
   );
-  done = (inl (f, inr (inl (refl, refl))), (inl (l, inl (refl, refl)), (inl (l, inl (refl, refl)), (inl (f, inr (inl (refl, refl))), (inr (inl (0, inr (inl (refl, refl)))), tt)))));
+  done = (
+    inl (f, inr (inl (refl, refl))),
+    (inl (l, inl (refl, refl)), (inl (l, inl (refl, refl)), (inl (f, inr (inl (refl, refl))), (inr (inl (0, inr (inl (refl, refl)))), tt)))),
+  );
 }
 
 -- input x points at output f, and is before all others
@@ -104,8 +113,17 @@ pub suits_joins : (n : ℕ) (places : Places) (x f : ℕ) → x < n → 0 < f �
 suits_joins n places x f x_in some_f f_in before after at = record {
   placed = ((x_in, f_in, inr (inr (inl (refl, refl)))), tt);
   near = ((λ e. absurd (omega arith), (λ e. absurd (omega arith), (λ e. omega arith, (λ e. absurd (omega arith), tt)))), tt);
-  taken = ((λ e. inl (at_first n (accept_of places x 0) f 0 f_in at), (λ e. inl (at_first n (accept_of places x 0) f 0 f_in at), (λ e. inl (omega arith), (λ e. inl (at_first n (accept_of places x 0) f 0 f_in at), tt)))), tt);
-  done = (inr (inr (x, x_in, inr (inl (refl, refl)), before)), (inl (f, inl (refl, refl)), (inl (f, inl (refl, refl)), (inr (inr (x, x_in, inr (inl (refl, refl)), after)), tt))));
+  taken = (
+    (
+      λ e. inl (at_first n (accept_of places x 0) f 0 f_in at),
+      (λ e. inl (at_first n (accept_of places x 0) f 0 f_in at), (λ e. inl (omega arith), (λ e. inl (at_first n (accept_of places x 0) f 0 f_in at), tt))),
+    ),
+    tt,
+  );
+  done = (
+    inr (inr (x, x_in, inr (inl (refl, refl)), before)),
+    (inl (f, inl (refl, refl)), (inl (f, inl (refl, refl)), (inr (inr (x, x_in, inr (inl (refl, refl)), after)), tt))),
+  );
 }
 
 -- and the next input is second
@@ -154,11 +172,17 @@ suits_readies n places l more l_in at granting = record {
 pub suits_readies_too : (n : ℕ) (places : Places) (l w : ℕ) → 2 < l → l < n → 1 < w → w < l → accept_of places 0 0 ≡ l → grant_of places 2 0 ≡ 1
     → Suits n places (readies_too l w)
 suits_readies_too n places l w more l_in some_w w_in at granting = record {
-  placed = ((omega arith, l_in, inr (inl (refl, refl))), ((omega arith, omega arith, inr (inr (inl (refl, refl)))), ((omega arith, omega arith, inr (inr (inr (inr (inl (refl, refl)))))), tt)));
+  placed = (
+    (omega arith, l_in, inr (inl (refl, refl))),
+    ((omega arith, omega arith, inr (inr (inl (refl, refl)))), ((omega arith, omega arith, inr (inr (inr (inr (inl (refl, refl)))))), tt)),
+  );
   near = (
     (λ e. absurd (omega arith), (λ e. omega arith, (λ e. absurd (omega arith), (λ e. absurd (omega arith), (λ e. absurd (omega arith), tt))))),
     (
-      (λ e. absurd (omega arith), (λ e. absurd (omega arith), (λ e. omega arith, (λ e. at_first n (grant_of places 2 0) 1 l (omega arith) granting, (λ e. absurd (omega arith), tt))))),
+      (
+        λ e. absurd (omega arith),
+        (λ e. absurd (omega arith), (λ e. omega arith, (λ e. at_first n (grant_of places 2 0) 1 l (omega arith) granting, (λ e. absurd (omega arith), tt)))),
+      ),
       ((λ e. absurd (omega arith), (λ e. absurd (omega arith), (λ e. absurd (omega arith), (λ e. absurd (omega arith), (λ e. omega arith, tt))))), tt),
     ),
   );
@@ -172,7 +196,10 @@ suits_readies_too n places l w more l_in some_w w_in at granting = record {
       ((λ e. absurd (omega arith), (λ e. absurd (omega arith), (λ e. absurd (omega arith), (λ e. absurd (omega arith), (λ e. inl (omega arith), tt))))), tt),
     ),
   );
-  done = (inl (l, inl (refl, refl)), (inl (l, inl (refl, refl)), (inl (2, inr (inl (refl, refl))), (inr (inl (1, inr (inl (refl, refl)))), (inl (1, inr (inr (inl (refl, refl)))), tt)))));
+  done = (
+    inl (l, inl (refl, refl)),
+    (inl (l, inl (refl, refl)), (inl (2, inr (inl (refl, refl))), (inr (inl (1, inr (inl (refl, refl)))), (inl (1, inr (inr (inl (refl, refl)))), tt)))),
+  );
 }
 
 -- input 0 points at output y

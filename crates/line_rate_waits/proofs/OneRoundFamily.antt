@@ -19,8 +19,10 @@ use Rattle.line_rate_waits.proofs.Plans.{Plan}
 use Rattle.line_rate_waits.proofs.PlannedSlots.{decided, step_of, IsSwitch-after}
 use Rattle.line_rate_waits.proofs.PlannedRuns.{Follows, Starts}
 use Rattle.line_rate_waits.proofs.OneRoundRuns.{IsLate, IsLate-before, IsLate-last}
-use Rattle.line_rate_waits.proofs.Shapes.{takes, ends, passes, crosses, wins, both, suits_takes, suits_ends, suits_passes, suits_crosses, suits_wins, suits_both}
-use Rattle.line_rate_waits.proofs.Followings.{takes_takes, takes_passes, passes_takes, takes_ends, passes_crosses, takes_crosses, crosses_takes, takes_both, both_crosses, takes_wins, wins_crosses, wins_crosses_zero, crosses_zero_takes}
+use Rattle.line_rate_waits.proofs.Shapes.{takes, ends, passes, crosses, wins, both, suits_takes, suits_ends, suits_passes, suits_crosses, suits_wins}
+use Rattle.line_rate_waits.proofs.Shapes.{suits_both}
+use Rattle.line_rate_waits.proofs.Followings.{takes_takes, takes_passes, passes_takes, takes_ends, passes_crosses, takes_crosses, crosses_takes}
+use Rattle.line_rate_waits.proofs.Followings.{takes_both, both_crosses, takes_wins, wins_crosses, wins_crosses_zero, crosses_zero_takes}
 
 -- ---- the plans
 -- input x goes down from output a in k slots, and then come the rest
@@ -72,7 +74,8 @@ starts_more P x (suc k) a rest some here = here
 -- the turns begin with the first output of the first input
 starts_turns : (P : Plan → Type 0) (n k x f : ℕ) → f < n → P (takes x f) → Starts P (turns n x f k)
 starts_turns P n zero x f f_in here = starts_more P x (n - f) f (passes x ∷ downs 0 2 (n - 2) (ends 0 ∷ [])) (omega arith) here
-starts_turns P n (suc k) x f f_in here = starts_more P x (n - f) f (passes x ∷ downs 0 2 (n - 3) (crosses (n - 1) (x + 1) 1 ∷ turns n (x + 1) 1 k)) (omega arith) here
+starts_turns P n (suc k) x f f_in here = starts_more P x (n - f) f (passes x ∷ downs 0 2 (n - 3) (crosses (n - 1) (x + 1) 1 ∷ turns n (x + 1) 1 k))
+    (omega arith) here
 
 -- going down is at line rate
 pub follows_downs : (x a k last : ℕ) (rest : List Plan) → a + suc k ≡ last + 1 → Starts (Follows (takes x last)) rest
@@ -98,7 +101,8 @@ module _ (n : ℕ) (two : 2 < n) where
   -- Input x goes down. All other pointers that matter stay, and queue (0, 0) is not served.
   late_downs : (p low x m g last : ℕ) (rest : List Plan) → x < n → x < low → (x ≡ 0) ⊎ ((0 < x) × (p ≡ x)) → last < n → Starts (Follows (takes x last)) rest
       → ((t : ℕ) (places : Places) → IsStanding n places p low x (last + 1) m g → IsLate n t places rest)
-      → (k a t : ℕ) (places : Places) → 0 < a → (0 < m → (m < a) ⊎ (last < m)) → a + k ≡ last + 1 → IsStanding n places p low x a m g → IsLate n t places (downs x a k rest)
+      → (k a t : ℕ) (places : Places) → 0 < a → (0 < m → (m < a) ⊎ (last < m)) → a + k ≡ last + 1 → IsStanding n places p low x a m g
+      → IsLate n t places (downs x a k rest)
   late_downs p low x m g last rest x_in under front last_in starts then zero a t places some_a aside sum standing =
       let e : a ≡ last + 1 = omega arith in
       then t places (subst (λ v. IsStanding n places p low x v m g) e standing)
@@ -114,11 +118,14 @@ module _ (n : ℕ) (two : 2 < n) where
         grant = step.grant_stays 0 (λ i is. elim is [ inl s ↦ let e = s.1 in omega arith | inr none ↦ none ]) ∙ standing.grant;
         accept = step.accepted x a (inl (refl, refl));
         fresh = λ i late i_in. step.accept_stays i (λ j is. elim is [ inl s ↦ let e = s.0 in omega arith | inr none ↦ none ]) ∙ standing.fresh i late i_in;
-        held = λ some_m. step.grant_stays m (λ i is. elim is [ inl s ↦ let e = s.1 in elim (aside some_m) [ inl l ↦ omega arith | inr h ↦ omega arith ] | inr none ↦ none ]) ∙ standing.held some_m;
+        held = λ some_m. step.grant_stays m
+            (λ i is. elim is [ inl s ↦ let e = s.1 in elim (aside some_m) [ inl l ↦ omega arith | inr h ↦ omega arith ] | inr none ↦ none ])
+            ∙ standing.held some_m;
       } in
       IsLate-before n t places (takes x a) (downs x (a + 1) k rest) step (follows_downs x a k last rest sum starts)
       (λ is. elim is [ inl s ↦ let e = s.1 in omega arith | inr none ↦ none ])
-      (late_downs p low x m g last rest x_in under front last_in starts then k (a + 1) (t + 1) after (omega arith) (λ some_m. elim (aside some_m) [ inl l ↦ inl (omega arith) | inr h ↦ inr h ]) (omega arith) next)
+      (late_downs p low x m g last rest x_in under front last_in starts then k (a + 1) (t + 1) after (omega arith)
+      (λ some_m. elim (aside some_m) [ inl l ↦ inl (omega arith) | inr h ↦ inr h ]) (omega arith) next)
 
   -- the slot in which input x takes output 0, and input 0 output 1
   late_passes : (x a t : ℕ) (places : Places) (rest : List Plan) → 0 < x → x < n → IsStanding n places x (x + 1) x a 0 0 → Starts (Follows (passes x)) rest
@@ -130,7 +137,9 @@ module _ (n : ℕ) (two : 2 < n) where
         switch = IsSwitch-after n t places (passes x) standing.switch;
         grant = step.granted x 0 (inl (refl, refl));
         accept = step.accepted 0 1 (inr (inl (refl, refl)));
-        fresh = λ i late i_in. step.accept_stays i (λ j is. elim is [ inl s ↦ let e = s.0 in omega arith | inr more ↦ elim more [ inl s ↦ let e = s.0 in omega arith | inr none ↦ none ] ]) ∙ standing.fresh i late i_in;
+        fresh = λ i late i_in. step.accept_stays i
+            (λ j is. elim is [ inl s ↦ let e = s.0 in omega arith | inr more ↦ elim more [ inl s ↦ let e = s.0 in omega arith | inr none ↦ none ] ])
+            ∙ standing.fresh i late i_in;
         held = λ yes. step.granted 0 1 (inr (inl (refl, refl))) ∙ mod-eq_of_lt (omega arith);
       } in
       IsLate-before n t places (passes x) rest step starts
@@ -141,7 +150,8 @@ module _ (n : ℕ) (two : 2 < n) where
   -- `low` on stay, and output 0 does.
   late_crosses : (p low u v t : ℕ) (places : Places) (rest : List Plan) → 1 < low → 0 < u → (v ≡ n - 1 → ⊥) → (v ≡ 1 → grant_of places 1 0 ≡ 1)
       → (u ≡ 1 → distance n (accept_of places 1 0) 1 ≤ distance n (accept_of places 1 0) v) → (v ≡ 1) ⊎ (u ≡ 1)
-      → IsSwitch n places → grant_of places 0 0 ≡ p % n → accept_of places 0 0 ≡ n - 1 → ((i : ℕ) → low ≤ i → i < n → accept_of places i 0 ≡ 1) → Starts (Follows (crosses (n - 1) u v)) rest
+      → IsSwitch n places → grant_of places 0 0 ≡ p % n → accept_of places 0 0 ≡ n - 1 → ((i : ℕ) → low ≤ i → i < n → accept_of places i 0 ≡ 1)
+      → Starts (Follows (crosses (n - 1) u v)) rest
       → ((places : Places) → IsStanding n places p low 1 2 0 0 → IsLate n (t + 1) places rest) → IsLate n t places (crosses (n - 1) u v ∷ rest)
   late_crosses p low u v t places rest above some_u other granting accepting how switch grant accept fresh starts then =
       let it = crosses (n - 1) u v in
@@ -149,9 +159,12 @@ module _ (n : ℕ) (two : 2 < n) where
       let step = step_of n t places it some switch suits in
       let next : IsStanding n (decided n t places it).places p low 1 2 0 0 = record {
         switch = IsSwitch-after n t places it switch;
-        grant = step.grant_stays 0 (λ i is. elim is [ inl s ↦ let e = s.1 in omega arith | inr more ↦ elim more [ inl s ↦ let e = s.1 in omega arith | inr none ↦ none ] ]) ∙ grant;
+        grant = step.grant_stays 0
+            (λ i is. elim is [ inl s ↦ let e = s.1 in omega arith | inr more ↦ elim more [ inl s ↦ let e = s.1 in omega arith | inr none ↦ none ] ]) ∙ grant;
         accept = step.accepted 1 1 (inr (inl (refl, refl)));
-        fresh = λ i late i_in. step.accept_stays i (λ j is. elim is [ inl s ↦ let e = s.0 in omega arith | inr more ↦ elim more [ inl s ↦ let e = s.0 in omega arith | inr none ↦ none ] ]) ∙ fresh i late i_in;
+        fresh = λ i late i_in. step.accept_stays i
+            (λ j is. elim is [ inl s ↦ let e = s.0 in omega arith | inr more ↦ elim more [ inl s ↦ let e = s.0 in omega arith | inr none ↦ none ] ])
+            ∙ fresh i late i_in;
         held = λ none. absurd (omega arith);
       } in
       IsLate-before n t places it rest step starts
@@ -203,7 +216,8 @@ module _ (n : ℕ) (two : 2 < n) where
 
   -- the slot before the turns, in which a request of input 1 beside that for output 1 waits
   late_first : (v t : ℕ) (places : Places) → (v ≡ n - 1 → ⊥) → (v ≡ 1 → ⊥) → distance n (accept_of places 1 0) 1 ≤ distance n (accept_of places 1 0) v
-      → IsSwitch n places → grant_of places 0 0 ≡ 1 % n → accept_of places 0 0 ≡ n - 1 → ((i : ℕ) → 2 ≤ i → i < n → accept_of places i 0 ≡ 1) → Follows (crosses (n - 1) 1 v) (takes 1 2)
+      → IsSwitch n places → grant_of places 0 0 ≡ 1 % n → accept_of places 0 0 ≡ n - 1 → ((i : ℕ) → 2 ≤ i → i < n → accept_of places i 0 ≡ 1)
+      → Follows (crosses (n - 1) 1 v) (takes 1 2)
       → IsLate n t places (crosses (n - 1) 1 v ∷ turns n 1 2 (n - 2))
   late_first v t places other not_one near switch grant accept fresh follows =
       late_crosses 1 2 1 v t places (turns n 1 2 (n - 2)) (omega arith) (omega arith) other (λ e. absurd (not_one e)) (λ e. near)
@@ -246,9 +260,15 @@ late_five n t places more begins =
     IsLate-before n t places it rest step (both_crosses (n - 2) (n - 1))
     (λ is. elim is [ inl s ↦ let e = s.1 in omega arith | inr later ↦ elim later [ inl s ↦ let e = s.0 in omega arith | inr none ↦ none ] ])
     (late_first n (omega arith) 2 (t + 1) after (λ e. omega arith) (λ e. omega arith) (omega arith) (IsSwitch-after n t places it standing.switch)
-    (step.grant_stays 0 (λ i is. elim is [ inl s ↦ let e = s.1 in omega arith | inr later ↦ elim later [ inl s ↦ let e = s.1 in omega arith | inr none ↦ none ] ]) ∙ standing.grant)
+    (step.grant_stays 0 (λ i is. elim is [
+      | inl s ↦ let e = s.1 in
+          omega arith
+      | inr later ↦ elim later [ inl s ↦ let e = s.1 in omega arith | inr none ↦ none ]
+    ]) ∙ standing.grant)
     (step.accepted 0 (n - 2) (inl (refl, refl)) ∙ mod-eq_of_lt (omega arith) ∙ omega arith)
-    (λ i late i_in. step.accept_stays i (λ j is. elim is [ inl s ↦ let e = s.0 in omega arith | inr later ↦ elim later [ inl s ↦ let e = s.0 in omega arith | inr none ↦ none ] ]) ∙ standing.fresh i (omega arith) i_in)
+    (λ i late i_in. step.accept_stays i
+    (λ j is. elim is [ inl s ↦ let e = s.0 in omega arith | inr later ↦ elim later [ inl s ↦ let e = s.0 in omega arith | inr none ↦ none ] ])
+    ∙ standing.fresh i (omega arith) i_in)
     (crosses_takes (n - 1) 1 2)))
     (n - 3) 1 t places (omega arith) (λ none. absurd (omega arith)) (omega arith) (begins 0)
 
@@ -280,4 +300,5 @@ late_four t places begins =
 
 -- it is late from the beginning
 pub late_three : (t : ℕ) (places : Places) → IsBeginning 3 places → IsLate 3 t places three
-late_three t places begins = late_wins 3 1 0 t places (omega arith) (omega arith) (λ e. omega arith) (λ e. omega arith) (begins 1) (wins_crosses_zero 2) (crosses_zero_takes 2)
+late_three t places begins = late_wins 3 1 0 t places (omega arith) (omega arith) (λ e. omega arith) (λ e. omega arith) (begins 1) (wins_crosses_zero 2)
+    (crosses_zero_takes 2)

@@ -10,12 +10,14 @@ use Rattle.service_bound.proofs.PostedRuns.{IsSwitch}
 use Rattle.line_rate_waits.specs.Reached.{ComesLastAtLineRate}
 use Rattle.line_rate_waits.proofs.Plans.{In, Plan, names, AreWithin-rows, IsClean-rows, IsWithoutMulticast-rows}
 use Rattle.line_rate_waits.proofs.PlannedSlots.{decided, IsStep, slot_decided, IsSwitch-after}
-use Rattle.line_rate_waits.proofs.PlannedRuns.{Follows, Starts, IsOneEach, run, length-run, All-run, IsLateBy, IsLateBy-before, IsLateBy-last, opens_run, LeadsBy, led, kept_all}
+use Rattle.line_rate_waits.proofs.PlannedRuns.{Follows, Starts, IsOneEach, run, length-run, All-run, IsLateBy, IsLateBy-before, IsLateBy-last}
+use Rattle.line_rate_waits.proofs.PlannedRuns.{opens_run, LeadsBy, led, kept_all}
 
 -- the run is a schedule
 IsSchedule-run : (n t : ℕ) (places : Places) (ps : List Plan) → IsSwitch n places → IsSchedule n 1 t places (run n (decided n) t places ps)
 IsSchedule-run n t places [] switch = tt
-IsSchedule-run n t places (p ∷ ps) switch = (slot_decided n t places p switch, IsSchedule-run n (t + 1) (decided n t places p).places ps (IsSwitch-after n t places p switch))
+IsSchedule-run n t places (p ∷ ps) switch =
+    (slot_decided n t places p switch, IsSchedule-run n (t + 1) (decided n t places p).places ps (IsSwitch-after n t places p switch))
 
 -- requests stay in the run, which is at line rate, and queue (0, 0) is served in its last slot alone
 abbrev pub IsLate : ℕ → ℕ → Places → List Plan → Type 0
@@ -24,7 +26,8 @@ IsLate n = IsLateBy n (decided n)
 -- one slot more in front, which does not serve the queue
 pub IsLate-before : (n t : ℕ) (places : Places) (p : Plan) (ps : List Plan) → IsStep n t places p → Starts (Follows p) ps → (In 0 0 p.serves → ⊥)
     → IsLate n (t + 1) (decided n t places p).places ps → IsLate n t places (p ∷ ps)
-IsLate-before n t places p ps step follows left late = IsLateBy-before n (decided n) t places p ps step.serves follows (λ served. left (step.only 0 0 0 Uni served)) late
+IsLate-before n t places p ps step follows left late =
+    IsLateBy-before n (decided n) t places p ps step.serves follows (λ served. left (step.only 0 0 0 Uni served)) late
 
 -- the last slot, which serves it
 pub IsLate-last : (n t : ℕ) (places : Places) (p : Plan) → IsStep n t places p → In 0 0 p.serves → IsLate n t places (p ∷ [])
@@ -66,7 +69,8 @@ comes n count ps after rest switch one leads later late =
           schedule = IsSchedule-run n 0 from ps switch;
           within = All-run n (decided n) 0 from (AreWithin n) (AreWithin-rows n) ps;
           kept = all.kept;
-          last = subst (λ f. IsServedLast n 1 count 0 0 0 f (drop count slots)) (sym leads.left) (subst (λ s. IsServedLast n 1 count 0 0 0 after s) (sym dropped) served);
+          last = subst (λ f. IsServedLast n 1 count 0 0 0 f (drop count slots)) (sym leads.left)
+              (subst (λ s. IsServedLast n 1 count 0 0 0 after s) (sym dropped) served);
         };
         line_rate = all.line;
         opens = opens_run n (decided n) 0 from ps one;

@@ -17,7 +17,8 @@ use Rattle.line_rate_waits.proofs.PlannedRuns.{Follows, Starts, IsOneEach, Leads
 use Rattle.line_rate_waits.proofs.OneRoundRuns.{IsLate, comes}
 use Rattle.line_rate_waits.proofs.Shapes.{ends, crosses, both, suits_ends}
 use Rattle.line_rate_waits.proofs.Followings.{ends_ends, ends_zero, ends_takes, ends_wins}
-use Rattle.line_rate_waits.proofs.OneRoundFamily.{turns, length-downs, length-all, starts_more, IsBeginning, five, four, three, late_five, late_four, late_three}
+use Rattle.line_rate_waits.proofs.OneRoundFamily.{turns, length-downs, length-all, starts_more, IsBeginning, five, four, three, late_five, late_four}
+use Rattle.line_rate_waits.proofs.OneRoundFamily.{late_three}
 
 -- the k inputs from x on take output 0, then input 0 does, and then come the rest
 abbrev openings : ℕ → ℕ → List Plan → List Plan
@@ -55,7 +56,8 @@ module _ (n : ℕ) (some : 0 < n) (rest : List Plan) (starts : Starts (Follows (
           switch = IsSwitch-after n t places (ends 0) opened.switch;
           grant = step.granted 0 0 (inl (refl, refl));
           accept = step.accepted 0 0 (inl (refl, refl));
-          fresh = λ i late i_in. step.accept_stays i (λ j is. elim is [ inl s ↦ let e = s.0 in omega arith | inr none ↦ none ]) ∙ opened.accepts i (omega arith) ∙ mod-eq_of_lt (omega arith);
+          fresh = λ i late i_in. step.accept_stays i (λ j is. elim is [ inl s ↦ let e = s.0 in omega arith | inr none ↦ none ])
+              ∙ opened.accepts i (omega arith) ∙ mod-eq_of_lt (omega arith);
           held = λ yes. step.grant_stays m (λ i is. elim is [ inl s ↦ let e = s.1 in omega arith | inr none ↦ none ]) ∙ opened.others m yes;
         },
         leads_before n (decided n) t places (ends 0) rest 0 after rest step.serves starts (leads_none n (decided n) (t + 1) after rest),
@@ -73,8 +75,12 @@ module _ (n : ℕ) (some : 0 < n) (rest : List Plan) (starts : Starts (Follows (
           | inr last ↦ let same : x ≡ i = omega arith in subst (λ v. accept_of after v 0 ≡ 1 % n) same (step.accepted x 0 (inl (refl, refl)))
         ];
       } in
-      let later = opens k (x + 1) (t + 1) after (omega arith) next in
-      (later.0, later.1, leads_before n (decided n) t places (ends x) (openings (x + 1) k rest) (suc k) later.0 rest step.serves (follows_openings x k rest) later.2)
+      let later = opens k (x + 1) (t + 1) after (omega arith) next in (
+        later.0,
+        later.1,
+        leads_before n (decided n) t places (ends x) (openings (x + 1) k rest) (suc k) later.0 rest step.serves
+            (follows_openings x k rest) later.2,
+      )
 
   -- all pointers are at port 0 at first
   IsOpened-at_first : n ≤ MAX_PORTS → IsOpened n (places_at_first n) 0

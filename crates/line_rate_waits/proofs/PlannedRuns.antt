@@ -106,7 +106,8 @@ pub All-run : (n : ℕ) (rule : Rule) (t : ℕ) (places : Places) (P : List Row 
     → All (λ slot. P slot.rows) (run n rule t places ps)
 All-run n rule t places P all [] = All-nil (λ slot. P slot.rows)
 All-run n rule t places P all (p ∷ ps) =
-    All-cons (λ slot. P slot.rows) (record { rows = rows_of n p; decision = rule t places p }) (run n rule (t + 1) (rule t places p).places ps) (all p) (All-run n rule (t + 1) (rule t places p).places P all ps)
+    All-cons (λ slot. P slot.rows) (record { rows = rows_of n p; decision = rule t places p }) (run n rule (t + 1) (rule t places p).places ps) (all p)
+    (All-run n rule (t + 1) (rule t places p).places P all ps)
 
 -- requests stay in the run, which is at line rate
 pub record IsKeptRun (n : ℕ) (rule : Rule) (t : ℕ) (places : Places) (ps : List Plan) : Type 0 where
@@ -136,7 +137,8 @@ IsLateBy-before n rule t places p (next ∷ ps) serving follows left late =
 -- the last slot, which serves it
 pub IsLateBy-last : (n : ℕ) (rule : Rule) (t : ℕ) (places : Places) (p : Plan) → AreServed p (rule t places p).matched → In 0 0 p.serves
     → IsLateBy n rule t places (p ∷ [])
-IsLateBy-last n rule t places p serving served = record { run_kept = IsKeptRun-before n rule t places p [] serving tt (record { kept = tt; line = tt }); last = serving 0 0 served }
+IsLateBy-last n rule t places p serving served =
+    record { run_kept = IsKeptRun-before n rule t places p [] serving tt (record { kept = tt; line = tt }); last = serving 0 0 served }
 
 -- in the first slot each input asks for one output at most, where its plan says so
 pub opens_run : (n : ℕ) (rule : Rule) (t : ℕ) (places : Places) (ps : List Plan) → Starts IsOneEach ps → InFirst (AskAtMostOne n 0) (run n rule t places ps)
@@ -176,4 +178,5 @@ led n rule from ps count after rest leads = let same : 0 + count ≡ count = ome
 -- requests stay in all of the run, which is at line rate
 pub kept_all : (n : ℕ) (rule : Rule) (from : Places) (ps : List Plan) (count : ℕ) (after : Places) (rest : List Plan)
     → LeadsBy n rule 0 from ps count after rest → IsKeptRun n rule count after rest → IsKeptRun n rule 0 from ps
-kept_all n rule from ps count after rest leads kept = let same : 0 + count ≡ count = omega arith in leads.keeping (subst (λ s. IsKeptRun n rule s after rest) (sym same) kept)
+kept_all n rule from ps count after rest leads kept = let same : 0 + count ≡ count = omega arith in
+    leads.keeping (subst (λ s. IsKeptRun n rule s after rest) (sym same) kept)

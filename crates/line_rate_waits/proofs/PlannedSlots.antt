@@ -60,7 +60,8 @@ pub record Suits (n : ℕ) (places : Places) (p : Plan) : Type 0 where
   pub taken : Each (AreTaken n places p) p.serves
   pub done : Each (IsDone n places p) (asked p)
 
-module _ (n t : ℕ) (p : Plan) (places : Places) (some : 0 < n) (switch : IsSwitch n places) (suits : Suits n places p) (first : List (Option Fed)) (opening : IsRound n t (rows_of n p) places (unmatched n) first) where
+module _ (n t : ℕ) (p : Plan) (places : Places) (some : 0 < n) (switch : IsSwitch n places) (suits : Suits n places p) (first : List (Option Fed))
+    (opening : IsRound n t (rows_of n p) places (unmatched n) first) where
   -- level 0 is a level
   level_in : 0 < LEVELS
   level_in = omega arith
@@ -80,12 +81,15 @@ module _ (n t : ℕ) (p : Plan) (places : Places) (some : 0 < n) (switch : IsSwi
   -- an output grants the first input from its pointer on that asks it
   grants_it : (i j : ℕ) → j < n → IsFirstFrom n (grant_of places j 0) (Asked j) i → Granted i j
   unfolding Granted Asked
-  grants_it i j j_in nearest = grants_first n t (rows_of n p) places 0 level_in (IsClean-rows n p) Uni (kind_is_first n t 0 (rows_of n p) first places level_in opening pointing (IsClean-rows n p) (IsWithoutMulticast-rows n p)) i j j_in nearest
+  grants_it i j j_in nearest =
+      grants_first n t (rows_of n p) places 0 level_in (IsClean-rows n p) Uni
+      (kind_is_first n t 0 (rows_of n p) first places level_in opening pointing (IsClean-rows n p) (IsWithoutMulticast-rows n p)) i j j_in nearest
 
   -- and no other
   is_first : (i j : ℕ) → Granted i j → IsFirstFrom n (grant_of places j 0) (Asked j) i
   unfolding Granted Asked
-  is_first i j granted = first_granted n t (rows_of n p) places 0 level_in (IsClean-rows n p) Uni (kind_is_first n t 0 (rows_of n p) first places level_in opening pointing (IsClean-rows n p) (IsWithoutMulticast-rows n p)) i j granted
+  is_first i j granted = first_granted n t (rows_of n p) places 0 level_in (IsClean-rows n p) Uni
+      (kind_is_first n t 0 (rows_of n p) first places level_in opening pointing (IsClean-rows n p) (IsWithoutMulticast-rows n p)) i j granted
 
   -- what the plan has is asked
   asks_it : (j i : ℕ) → i < n → j < n → In i j (asked p) → Asked j i
@@ -100,7 +104,9 @@ module _ (n t : ℕ) (p : Plan) (places : Places) (some : 0 < n) (switch : IsSwi
   -- an input that is granted is served by the first such output
   serves_first : (h j : ℕ) → Granted h j → (y : ℕ) × IsFirstFrom n (accept_of places h 0) (Granted h) y × Serves first h y 0 Uni
   unfolding Granted
-  serves_first h j granted = served_by_first n t 0 (rows_of n p) first places level_in opening pointing (IsClean-rows n p) (IsWithoutMulticast-rows n p) h j granted.first.below granted
+  serves_first h j granted =
+      served_by_first n t 0 (rows_of n p) first places level_in opening pointing (IsClean-rows n p)
+      (IsWithoutMulticast-rows n p) h j granted.first.below granted
 
   -- an output that grants is one of the switch
   output_is : (i j : ℕ) → Granted i j → j < n
@@ -125,7 +131,11 @@ module _ (n t : ℕ) (p : Plan) (places : Places) (some : 0 < n) (switch : IsSwi
   -- an input that is no farther from the pointer of an output that it asks than the others that ask it is granted
   nearest_granted : (i j : ℕ) → IsPlaced n p i j → AreNear n places p i j → Granted i j
   nearest_granted i j at nearest =
-      grants_it i j at.1 (record { below = at.0; member = asks_it j i at.0 at.1 at.2; least = λ z z_in named. each (IsNear n places i j) (asked p) nearest z j (asked_is j z z_in named) refl })
+      grants_it i j at.1 (record {
+        below = at.0;
+        member = asks_it j i at.0 at.1 at.2;
+        least = λ z z_in named. each (IsNear n places i j) (asked p) nearest z j (asked_is j z z_in named) refl;
+      })
 
   -- the same by its definition
   pub grants_nearest : (i j : ℕ) → IsPlaced n p i j → AreNear n places p i j → Grants n t (rows_of n p) places (unmatched n) i j 0 Uni
@@ -166,7 +176,8 @@ module _ (n t : ℕ) (p : Plan) (places : Places) (some : 0 < n) (switch : IsSwi
   named_first : (i j level : ℕ) (kind : Kind) → Serves first i j level kind → Names (row_of (rows_of n p) i) level kind j
   named_first i j level kind s = elim ((opening.pairs i j level kind).0 s) [
     | inl old ↦ absurd (nobody_at_first n i j level kind old)
-    | inr accepted ↦ (asks_at_first n (rows_of n p) i j level kind (taken_from kind n (accept_of places i level) (λ y. Grants n t (rows_of n p) places (unmatched n) i y level kind) j accepted.taken).first.member).named
+    | inr accepted ↦ (asks_at_first n (rows_of n p) i j level kind
+        (taken_from kind n (accept_of places i level) (λ y. Grants n t (rows_of n p) places (unmatched n) i y level kind) j accepted.taken).first.member).named
   ]
 
   -- no other pair is served

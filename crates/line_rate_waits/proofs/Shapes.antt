@@ -52,7 +52,13 @@ pub suits_takes : (n : ℕ) (places : Places) (x y : ℕ) → x < n → 0 < y �
 suits_takes n places x y x_in some y_in front at = record {
   placed = ((x_in, y_in, inr (inr (inl (refl, refl)))), tt);
   near = ((λ e. absurd (omega arith), (λ e. absurd (omega arith), (λ e. omega arith, tt))), tt);
-  taken = ((λ e. inl (at_first n (accept_of places x 0) y 0 y_in at), (λ e. inl (at_first n (accept_of places x 0) y 0 y_in at), (λ e. inl (omega arith), tt))), tt);
+  taken = (
+    (
+      λ e. inl (at_first n (accept_of places x 0) y 0 y_in at),
+      (λ e. inl (at_first n (accept_of places x 0) y 0 y_in at), (λ e. inl (omega arith), tt)),
+    ),
+    tt,
+  );
   done = (
     elim front [
       | inl zero ↦ inl (y, inl (sym zero, refl))
@@ -94,7 +100,10 @@ suits_crosses n places y u v more y_in some other at granting accepting how = re
   placed = ((omega arith, y_in, inr (inl (refl, refl))), ((omega arith, omega arith, inr (inr (inl (refl, refl)))), tt));
   near = (
     (λ e. absurd (omega arith), (λ e. omega arith, (λ e. absurd (omega arith), (λ e. absurd (other e), tt)))),
-    ((λ e. absurd (omega arith), (λ e. absurd (omega arith), (λ e. omega arith, (λ e. at_first n (grant_of places 1 0) 1 u (omega arith) (granting e), tt)))), tt),
+    (
+      (λ e. absurd (omega arith), (λ e. absurd (omega arith), (λ e. omega arith, (λ e. at_first n (grant_of places 1 0) 1 u (omega arith) (granting e), tt)))),
+      tt,
+    ),
   );
   taken = (
     (λ e. inl (at_first n (accept_of places 0 0) y 0 y_in at), (λ e. inl (omega arith), (λ e. absurd (omega arith), (λ e. absurd (omega arith), tt)))),

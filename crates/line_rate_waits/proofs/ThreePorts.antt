@@ -48,7 +48,13 @@ suits_meets places at other = record {
   );
   taken = (
     (λ e. inl (at_first 3 (accept_of places 0 0) 2 0 (omega arith) at), (λ e. inl (omega arith), (λ e. absurd (omega arith), (λ e. absurd (omega arith), tt)))),
-    ((λ e. absurd (omega arith), (λ e. absurd (omega arith), (λ e. inl (at_first 3 (accept_of places 2 0) 1 0 (omega arith) other), (λ e. inl (omega arith), tt)))), tt),
+    (
+      (
+        λ e. absurd (omega arith),
+        (λ e. absurd (omega arith), (λ e. inl (at_first 3 (accept_of places 2 0) 1 0 (omega arith) other), (λ e. inl (omega arith), tt))),
+      ),
+      tt,
+    ),
   );
   done = (inl (2, inl (refl, refl)), (inl (2, inl (refl, refl)), (inl (1, inr (inl (refl, refl))), (inl (1, inr (inl (refl, refl))), tt))));
 }
@@ -56,7 +62,10 @@ suits_meets places at other = record {
 -- output 0 points at input 1
 suits_leaves : (places : Places) → grant_of places 0 0 ≡ 1 → Suits 3 places leaves
 suits_leaves places granting = record {
-  placed = ((omega arith, omega arith, inr (inl (refl, refl))), ((omega arith, omega arith, inr (inr (inl (refl, refl)))), ((omega arith, omega arith, inr (inr (inr (inl (refl, refl))))), tt)));
+  placed = (
+    (omega arith, omega arith, inr (inl (refl, refl))),
+    ((omega arith, omega arith, inr (inr (inl (refl, refl)))), ((omega arith, omega arith, inr (inr (inr (inl (refl, refl))))), tt)),
+  );
   near = (
     (λ e. at_first 3 (grant_of places 0 0) 1 0 (omega arith) granting, (λ e. omega arith, (λ e. absurd (omega arith), (λ e. absurd (omega arith), tt)))),
     (
@@ -87,7 +96,13 @@ suits_returns places at granting other = record {
   );
   taken = (
     (λ e. inl (at_first 3 (accept_of places 0 0) 2 0 (omega arith) at), (λ e. inl (omega arith), (λ e. absurd (omega arith), (λ e. absurd (omega arith), tt)))),
-    ((λ e. absurd (omega arith), (λ e. absurd (omega arith), (λ e. inl (omega arith), (λ e. inl (subst (λ f. distance 3 f 1 ≤ distance 3 f 2) (sym other) (omega arith)), tt)))), tt),
+    (
+      (
+        λ e. absurd (omega arith),
+        (λ e. absurd (omega arith), (λ e. inl (omega arith), (λ e. inl (subst (λ f. distance 3 f 1 ≤ distance 3 f 2) (sym other) (omega arith)), tt))),
+      ),
+      tt,
+    ),
   );
   done = (inl (2, inl (refl, refl)), (inl (2, inl (refl, refl)), (inl (1, inr (inl (refl, refl))), (inl (1, inr (inl (refl, refl))), tt))));
 }
@@ -115,7 +130,10 @@ meets_closes : Follows meets (closes 2 2 1 1)
 meets_closes = record {
   kept = (inr (inl (refl, refl)), (inl (inl (refl, refl)), (inr (inr (inl (refl, refl))), (inl (inr (inl (refl, refl))), tt))));
   gains = pair 2 2 ∷ pair 0 1 ∷ pair 1 1 ∷ [];
-  gained = (inl (inl (refl, refl)), (inl (inr (inr (inl (refl, refl)))), (inr (inl (refl, refl)), (inr (inr (inl (refl, refl))), (inr (inr (inr (inl (refl, refl)))), tt)))));
+  gained = (
+    inl (inl (refl, refl)),
+    (inl (inr (inr (inl (refl, refl)))), (inr (inl (refl, refl)), (inr (inr (inl (refl, refl))), (inr (inr (inr (inl (refl, refl)))), tt)))),
+  );
   apart = closing_apart 2 2 1 1 (omega arith) (λ e. omega arith);
 }
 
@@ -142,7 +160,10 @@ returns_closes : Follows returns_to (closes 2 2 1 0)
 returns_closes = record {
   kept = (inr (inl (refl, refl)), (inl (inl (refl, refl)), (inl (inr (inl (refl, refl))), (inr (inr (inr (inl (refl, refl)))), tt))));
   gains = pair 0 1 ∷ pair 2 0 ∷ [];
-  gained = (inl (inl (refl, refl)), (inr (inr (inl (refl, refl))), (inl (inr (inr (inr (inl (refl, refl))))), (inr (inl (refl, refl)), (inr (inl (refl, refl)), tt)))));
+  gained = (
+    inl (inl (refl, refl)),
+    (inr (inr (inl (refl, refl))), (inl (inr (inr (inr (inl (refl, refl))))), (inr (inl (refl, refl)), (inr (inl (refl, refl)), tt)))),
+  );
   apart = pair_apart 2 1 0 (omega arith);
 }
 
@@ -173,12 +194,14 @@ late_returns rounds t places two switch grant at granting other =
     let later = passes 2 ∷ takes 0 2 ∷ ends 0 ∷ [] in
     let next : IsBase 3 after 2 2 2 2 = record {
       switch = IsSwitch-after_in rounds 3 t places it switch;
-      grant = step.grant_stays 0 (λ i is. elim is [ inl s ↦ let e = s.1 in omega arith | inr more ↦ elim more [ inl s ↦ let e = s.1 in omega arith | inr none ↦ none ] ]) ∙ grant;
+      grant = step.grant_stays 0
+          (λ i is. elim is [ inl s ↦ let e = s.1 in omega arith | inr more ↦ elim more [ inl s ↦ let e = s.1 in omega arith | inr none ↦ none ] ]) ∙ grant;
       fresh = λ i i_low i_high. absurd (omega arith);
     } in
     IsLateBy-before 3 (decided_in rounds 3) t places it (closes 2 2 1 0 ∷ later) step.serves returns_closes
     (left_by_input rounds 3 t places it (omega arith) switch suits (omega arith) 2 (omega arith) (inl (refl, refl)))
-    (late_closes rounds 3 2 two refl (omega arith) 2 2 2 1 0 (t + 1) after later (omega arith) (omega arith) (omega arith) (omega arith) (omega arith) (inl refl) next (step.accepted 2 1 (inr (inl (refl, refl)))) (step.granted 2 1 (inr (inl (refl, refl)))) (closes_passes 2 2 1)
+    (late_closes rounds 3 2 two refl (omega arith) 2 2 2 1 0 (t + 1) after later (omega arith) (omega arith) (omega arith) (omega arith) (omega arith)
+    (inl refl) next (step.accepted 2 1 (inr (inl (refl, refl)))) (step.granted 2 1 (inr (inl (refl, refl)))) (closes_passes 2 2 1)
     (λ after base. late_passes rounds 3 2 two refl (omega arith) 2 (t + 1 + 1) after (takes 0 2 ∷ ends 0 ∷ []) (omega arith)
     (omega arith) base.switch base.grant (passes_takes 2)
     (λ after base at. late_last rounds (t + 1 + 1 + 1) after two base at)))
@@ -192,7 +215,8 @@ late_leaves rounds t places two switch grant =
     let after = (decided_in rounds 3 t places it).places in
     IsLateBy-before 3 (decided_in rounds 3) t places it (returns_to ∷ closes 2 2 1 0 ∷ passes 2 ∷ takes 0 2 ∷ ends 0 ∷ []) step.serves leaves_returns
     (left_by_input rounds 3 t places it (omega arith) switch suits (omega arith) 1 (omega arith) (inr (inl (refl, refl))))
-    (late_returns rounds (t + 1) after two (IsSwitch-after_in rounds 3 t places it switch) (step.granted 1 0 (inl (refl, refl))) (step.accepted 0 1 (inr (inl (refl, refl)))) (step.granted 2 2 (inr (inr (inl (refl, refl))))) (step.accepted 2 2 (inr (inr (inl (refl, refl))))))
+    (late_returns rounds (t + 1) after two (IsSwitch-after_in rounds 3 t places it switch) (step.granted 1 0 (inl (refl, refl)))
+    (step.accepted 0 1 (inr (inl (refl, refl)))) (step.granted 2 2 (inr (inr (inl (refl, refl))))) (step.accepted 2 2 (inr (inr (inl (refl, refl))))))
 
 -- the slot in which input 2 takes output 1, and those after it
 late_meets : (rounds t : ℕ) (places : Places) → 1 < rounds → IsBase 3 places 1 1 3 1 → accept_of places 0 0 ≡ 2 → IsLateIn rounds 3 t places (meets ∷ falls)
@@ -203,12 +227,17 @@ late_meets rounds t places two base at =
     let after = (decided_in rounds 3 t places it).places in
     let next : IsBase 3 after 1 1 2 1 = record {
       switch = IsSwitch-after_in rounds 3 t places it base.switch;
-      grant = step.grant_stays 0 (λ i is. elim is [ inl s ↦ let e = s.1 in omega arith | inr more ↦ elim more [ inl s ↦ let e = s.1 in omega arith | inr none ↦ none ] ]) ∙ base.grant;
-      fresh = λ i i_low i_high. step.accept_stays i (λ j is. elim is [ inl s ↦ let e = s.0 in omega arith | inr more ↦ elim more [ inl s ↦ let e = s.0 in omega arith | inr none ↦ none ] ]) ∙ base.fresh i i_low (omega arith);
+      grant = step.grant_stays 0
+          (λ i is. elim is [ inl s ↦ let e = s.1 in omega arith | inr more ↦ elim more [ inl s ↦ let e = s.1 in omega arith | inr none ↦ none ] ]) ∙ base.grant;
+      fresh = λ i i_low i_high. step.accept_stays i
+          (λ j is. elim is [ inl s ↦ let e = s.0 in omega arith | inr more ↦ elim more [ inl s ↦ let e = s.0 in omega arith | inr none ↦ none ] ])
+          ∙ base.fresh i i_low (omega arith);
     } in
     IsLateBy-before 3 (decided_in rounds 3) t places it falls step.serves meets_closes
     (left_by_input rounds 3 t places it (omega arith) base.switch suits (omega arith) 2 (omega arith) (inl (refl, refl)))
-    (late_closes rounds 3 2 two refl (omega arith) 1 1 2 1 1 (t + 1) after (joins 1 1 ∷ closes 2 1 1 0 ∷ rest_of) (omega arith) (omega arith) (omega arith) (omega arith) (omega arith) (inr refl) next (step.accepted 2 1 (inr (inl (refl, refl)))) (step.granted 2 1 (inr (inl (refl, refl)))) (closes_joins 2 2 1 1 refl)
+    (late_closes rounds 3 2 two refl (omega arith) 1 1 2 1 1 (t + 1) after (joins 1 1 ∷ closes 2 1 1 0 ∷ rest_of) (omega arith) (omega arith) (omega arith)
+    (omega arith) (omega arith) (inr refl) next (step.accepted 2 1 (inr (inl (refl, refl)))) (step.granted 2 1 (inr (inl (refl, refl))))
+    (closes_joins 2 2 1 1 refl)
     (λ after base. late_joins rounds 3 2 two refl (omega arith) 1 1 1 (t + 1 + 1) after (closes 2 1 1 0 ∷ rest_of) (omega arith) (omega arith) (omega arith)
     (omega arith) (omega arith) base (joins_closes 2 1 1 0 (omega arith) (λ e. omega arith))
     (λ after base at held. late_closes rounds 3 2 two refl (omega arith) 1 1 1 1 0 (t + 1 + 1 + 1) after rest_of (omega arith) (omega arith) (omega arith)

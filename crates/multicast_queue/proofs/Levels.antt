@@ -1,5 +1,6 @@
 -- The queue of one level changes.
-use Rattle.std.proofs.Common.{◌≡◌, ◌≢◌, ◌∙◌, ℕ, ◌+◌, ◌<◌, ◌≤◌, Bool, true, false, List, [], ◌∷◌, length, map, ap, sym, subst, refl, arith, inl, inr, slice_index, slice_index_or, slice_set, length-append, length-drop}
+use Rattle.std.proofs.Common.{◌≡◌, ◌≢◌, ◌∙◌, ℕ, ◌+◌, ◌<◌, ◌≤◌, Bool, true, false, List, [], ◌∷◌, length, map, ap, sym, subst, refl, arith, inl, inr}
+use Rattle.std.proofs.Common.{slice_index, slice_index_or, slice_set, length-append, length-drop}
 use Rattle.std.proofs.Math.ListN.{get_or-map}
 use Rattle.std.proofs.lemmas.Bool.{cases_eq}
 use Rattle.std.proofs.lemmas.List.{get_or-set_same, get_or-set_other, get_or_default, length-set, length-map, get_or-map as get_or-map-at}
@@ -29,14 +30,17 @@ module _ (ports depth : ℕ) (kept : List Kept) (level : ℕ) (new : Kept) where
   others-set = record {
     ports = refl;
     depth = refl;
-    queues = λ l differ. queue-of_kept ports depth (slice_set kept level new) l ∙ ap (λ k. k.queue) (get_or-set_other kept level l new (empty_kept 0 0) differ) ∙ sym (queue-of_kept ports depth kept l);
+    queues = λ l differ. queue-of_kept ports depth (slice_set kept level new) l
+        ∙ ap (λ k. k.queue) (get_or-set_other kept level l new (empty_kept 0 0) differ) ∙ sym (queue-of_kept ports depth kept l);
   }
 
-  each-set : level < length kept → ((l : ℕ) → l < 4 → IsKept ports depth (kept_at kept l)) → IsKept ports depth new → (l : ℕ) → l < 4 → IsKept ports depth (kept_at (slice_set kept level new) l)
+  each-set : level < length kept → ((l : ℕ) → l < 4 → IsKept ports depth (kept_at kept l)) → IsKept ports depth new → (l : ℕ) → l < 4
+      → IsKept ports depth (kept_at (slice_set kept level new) l)
   each-set inside old one l l_in =
       elim (cases_eq l level) [
         | inl same ↦
-            let here : kept_at (slice_set kept level new) l ≡ new = ap (kept_at (slice_set kept level new)) same ∙ get_or-set_same kept level new (empty_kept 0 0) inside in
+            let here : kept_at (slice_set kept level new) l ≡ new = ap (kept_at (slice_set kept level new)) same
+            ∙ get_or-set_same kept level new (empty_kept 0 0) inside in
             rw here one
         | inr other ↦ rw (get_or-set_other kept level l new (empty_kept 0 0) other) (old l l_in)
       ]
@@ -46,7 +50,8 @@ module _ (ports depth : ℕ) (kept : List Kept) (level : ℕ) (new : Kept) where
 
 -- ---- what is kept of a queue
 -- that gains the cells of a packet
-pub IsKept-admitted : (ports depth packet cells fan : ℕ) (old new : Kept) → IsKept ports depth old → 0 < cells → length old.queue.cells + cells ≤ depth → fan ≢ 0 → IsAmong ports fan → new ≡ kept_with old packet cells fan → IsKept ports depth new
+pub IsKept-admitted : (ports depth packet cells fan : ℕ) (old new : Kept) → IsKept ports depth old → 0 < cells → length old.queue.cells + cells ≤ depth
+    → fan ≢ 0 → IsAmong ports fan → new ≡ kept_with old packet cells fan → IsKept ports depth new
 IsKept-admitted ports depth packet cells fan old new kept some fits somewhere among is =
     let names : length (names_of_packet packet cells) ≡ cells = length-map-range_with_len _ 0 cells in
     let with_fan : CellName → FanCell = λ name. record { name = name; fan = fan } in
@@ -55,12 +60,15 @@ IsKept-admitted ports depth packet cells fan old new kept some fits somewhere am
     rw is record {
       deep = kept.deep;
       within = omega (arith, long, count, names);
-      fans = HaveFans-append ports old.queue.cells (cells_with_fan packet cells fan) kept.fans (HaveFans-packet ports fan (names_of_packet packet cells) somewhere among);
+      fans = HaveFans-append ports old.queue.cells (cells_with_fan packet cells fan) kept.fans
+          (HaveFans-packet ports fan (names_of_packet packet cells) somewhere among);
       rests = IsRest-more old.queue.rest fan old.queue.cells (names_of_packet packet cells) kept.rests somewhere (omega (arith, names));
     }
 
 -- whose head has left, or not
-pub IsKept-served : (ports depth mask : ℕ) (done : Bool) (old new : Kept) → IsKept ports depth old → new.depth ≡ old.depth → (done ≡ true → HeadLeaves old.queue new.queue) → (done ≡ false → HeadStays mask old.queue new.queue) → (done ≡ false → new.queue.rest ≢ 0) → IsKept ports depth new
+pub IsKept-served : (ports depth mask : ℕ) (done : Bool) (old new : Kept) → IsKept ports depth old → new.depth ≡ old.depth
+    → (done ≡ true → HeadLeaves old.queue new.queue) → (done ≡ false → HeadStays mask old.queue new.queue) → (done ≡ false → new.queue.rest ≢ 0)
+    → IsKept ports depth new
 IsKept-served ports depth mask true old new kept same leaves stays some =
     let left = leaves refl in
     let fans : HaveFans ports new.queue.cells = subst (HaveFans ports) (sym left.cells) (HaveFans-next ports old.queue.cells kept.fans) in
@@ -75,7 +83,8 @@ IsKept-served ports depth mask false old new kept same leaves stays some =
       deep = same ∙ kept.deep;
       within = omega (arith, ap length on.cells, kept.within);
       fans = subst (HaveFans ports) (sym on.cells) kept.fans;
-      rests = IsRest-on old.queue.rest new.queue.rest old.queue.cells new.queue.cells on.cells kept.rests (some refl) (λ output has. ((on.rest output).0 has).0);
+      rests = IsRest-on old.queue.rest new.queue.rest old.queue.cells new.queue.cells on.cells kept.rests (some refl)
+          (λ output has. ((on.rest output).0 has).0);
     }
 
 -- ---- what holds of all queues
@@ -103,7 +112,8 @@ queue_at-empty ports depth room level = ap (λ queue. queue.cells) (get_or-map e
 
 each-empty : (ports depth : ℕ) (room : List ℕ) → length room ≡ 4 → (level : ℕ) → level < 4 → IsKept ports depth (kept_at (map (empty_kept depth) room) level)
 each-empty ports depth room four level level_in =
-    let is : kept_at (map (empty_kept depth) room) level ≡ empty_kept depth (slice_index room level) = get_or-map-at (empty_kept depth) room level 0 (empty_kept 0 0) (omega arith) in
+    let is : kept_at (map (empty_kept depth) room) level ≡ empty_kept depth (slice_index room level) =
+    get_or-map-at (empty_kept depth) room level 0 (empty_kept 0 0) (omega arith) in
     rw is record { deep = refl; within = omega arith; fans = tt; rests = refl }
 
 pub AreKept-empty : (ports depth : ℕ) (room : List ℕ) → length room ≡ 4 → AreKept ports depth (map (empty_kept depth) room)
@@ -113,7 +123,8 @@ AreKept-empty ports depth room four = record {
 }
 
 -- the four of them
-pub four_are : (depth : ℕ) (room : List ℕ) → length room ≡ 4 → map (empty_kept depth) room ≡ empty_kept depth (slice_index room 0) ∷ empty_kept depth (slice_index room 1) ∷ empty_kept depth (slice_index room 2) ∷ empty_kept depth (slice_index room 3) ∷ []
+pub four_are : (depth : ℕ) (room : List ℕ) → length room ≡ 4 → map (empty_kept depth) room ≡ empty_kept depth (slice_index room 0)
+    ∷ empty_kept depth (slice_index room 1) ∷ empty_kept depth (slice_index room 2) ∷ empty_kept depth (slice_index room 3) ∷ []
 four_are depth [] four = absurd (omega arith)
 four_are depth (a ∷ []) four = absurd (omega arith)
 four_are depth (a ∷ b ∷ []) four = absurd (omega arith)

@@ -37,7 +37,8 @@ pub HaveFans-append : (ports : ℕ) (a b : List FanCell) → HaveFans ports a �
 HaveFans-append ports [] b fans_a fans_b = fans_b
 HaveFans-append ports (cell ∷ a) b fans_a fans_b = (fans_a.0, HaveFans-append ports a b fans_a.1 fans_b)
 
-pub HaveFans-packet : (ports fan : ℕ) (names : List CellName) → fan ≢ 0 → IsAmong ports fan → HaveFans ports (map (λ name. record { name = name; fan = fan }) names)
+pub HaveFans-packet : (ports fan : ℕ) (names : List CellName) → fan ≢ 0 → IsAmong ports fan
+    → HaveFans ports (map (λ name. record { name = name; fan = fan }) names)
 HaveFans-packet ports fan [] some among = tt
 HaveFans-packet ports fan (name ∷ names) some among = ((some, among), HaveFans-packet ports fan names some among)
 
@@ -45,7 +46,8 @@ IsRest-packet : (fan : ℕ) (names : List CellName) → fan ≢ 0 → 0 < length
 IsRest-packet fan [] some more = absurd (omega arith)
 IsRest-packet fan (name ∷ names) some more = (some, λ output has. has)
 
-pub IsRest-more : (rest fan : ℕ) (cells : List FanCell) (names : List CellName) → IsRest rest cells → fan ≢ 0 → 0 < length names → IsRest (rest_with cells rest fan) (cells ++ map (λ name. record { name = name; fan = fan }) names)
+pub IsRest-more : (rest fan : ℕ) (cells : List FanCell) (names : List CellName) → IsRest rest cells → fan ≢ 0 → 0 < length names
+    → IsRest (rest_with cells rest fan) (cells ++ map (λ name. record { name = name; fan = fan }) names)
 IsRest-more rest fan [] names rests some more = IsRest-packet fan names some more
 IsRest-more rest fan (cell ∷ cells) names rests some more = rests
 
@@ -55,7 +57,8 @@ IsRest-part rest part [] none some within =
     absurd (some (zero-no_members part (λ output has. no_member-zero output (subst (λ set. Has set output) none (within output has)))))
 IsRest-part rest part (cell ∷ cells) rests some within = (some, λ output has. rests.1 output (within output has))
 
-pub IsRest-on : (rest part : ℕ) (cells after : List FanCell) → after ≡ cells → IsRest rest cells → part ≢ 0 → ((output : ℕ) → Has part output → Has rest output) → IsRest part after
+pub IsRest-on : (rest part : ℕ) (cells after : List FanCell) → after ≡ cells → IsRest rest cells → part ≢ 0
+    → ((output : ℕ) → Has part output → Has rest output) → IsRest part after
 IsRest-on rest part cells after same rests some within = rw same (IsRest-part rest part cells rests some within)
 
 -- ---- the head has left
@@ -91,7 +94,8 @@ rest-in ports rest cells fans rests output has =
     first_fan-in ports cells fans output (rest-head rest cells rests output has)
 
 -- where some outputs are of the rest, a cell waits
-pub some_wait : (rest outputs : ℕ) (cells : List FanCell) → IsRest rest cells → outputs ≢ 0 → ((output : ℕ) → Has outputs output → Has rest output) → 0 < length cells
+pub some_wait : (rest outputs : ℕ) (cells : List FanCell) → IsRest rest cells → outputs ≢ 0 → ((output : ℕ) → Has outputs output → Has rest output)
+    → 0 < length cells
 some_wait rest outputs [] rests some within =
     absurd (some (zero-no_members outputs (λ output has. no_member-zero output (subst (λ set. Has set output) rests (within output has)))))
 some_wait rest outputs (cell ∷ cells) rests some within = omega arith

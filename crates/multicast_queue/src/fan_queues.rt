@@ -61,7 +61,8 @@ impl FanQueues {
         // Nothing remains exactly where no cell waits.
         ensures empty { (level : ℕ) → level < LEVELS → ((queue_at self.now level).rest ≡ 0) ↔ (length (queue_at self.now level).cells ≡ 0) }
         // What remains is of the head's fan-out, and of the switch's ports.
-        ensures head { (level output : ℕ) → level < LEVELS → Has (queue_at self.now level).rest output → Has (first_fan (queue_at self.now level).cells) output }
+        ensures head { (level output : ℕ) → level < LEVELS → Has (queue_at self.now level).rest output
+            → Has (first_fan (queue_at self.now level).cells) output }
         ensures ports { (level output : ℕ) → level < LEVELS → Has (queue_at self.now level).rest output → output < self.now.ports }
     {
         self.depth

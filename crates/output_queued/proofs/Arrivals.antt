@@ -1,5 +1,6 @@
 -- The packets of a slot, input by input.
-use Rattle.std.proofs.Common.{◌≡◌, ◌∙◌, ◌↔◌, ◌⊎◌, ℕ, ◌+◌, ◌<◌, ◌≤◌, Bool, true, false, if◌then◌else◌, List, length, Option, Some, slice_set, length-set, refl, sym, ap, subst, arith, inl, inr}
+use Rattle.std.proofs.Common.{◌≡◌, ◌∙◌, ◌↔◌, ◌⊎◌, ℕ, ◌+◌, ◌<◌, ◌≤◌, Bool, true, false, if◌then◌else◌, List, length, Option, Some, slice_set, length-set}
+use Rattle.std.proofs.Common.{refl, sym, ap, subst, arith, inl, inr}
 use Rattle.std.proofs.lemmas.Bool.{cases_eq}
 use Rattle.rotating_pick.specs.PortSets.{Has}
 use Rattle.slot_histories.specs.Tests.{has}
@@ -13,7 +14,8 @@ use Rattle.output_queued.specs.Steps.{IsPart, HasEntered, Stand, HaveEntered, ce
 use Rattle.output_queued.proofs.Totals.{total-more}
 use Rattle.output_queued.proofs.Places.{set-here, set-other, set-case}
 
-tally-by : (a a' b c : ℕ) (l : _) → a ≡ a' → ◌≡◌ {A = Tally} (record { came = a; given = b; ran = c; line = l }) (record { came = a'; given = b; ran = c; line = l })
+tally-by : (a a' b c : ℕ) (l : _) → a ≡ a'
+    → ◌≡◌ {A = Tally} (record { came = a; given = b; ran = c; line = l }) (record { came = a'; given = b; ran = c; line = l })
 tally-by a a' b c l same = rw same refl
 
 pub none-more : (x : Tally) → with_cells x 0 ≡ x
@@ -33,7 +35,8 @@ module _ (ports depth slot : ℕ) (served : ℕ → List (Option Served)) (old :
   }
 
   -- an input that is next stands as before
-  module _ (stand : Stand ports depth slot old served) (k : ℕ) (now : List Source) (counted tallies : List Tally) (so_far : HaveEntered ports depth slot k served old now counted tallies) (inside : k < ports) where
+  module _ (stand : Stand ports depth slot old served) (k : ℕ) (now : List Source) (counted tallies : List Tally)
+      (so_far : HaveEntered ports depth slot k served old now counted tallies) (inside : k < ports) where
     here : source_at now k ≡ source_at old k
     here = so_far.left k (omega arith)
 
@@ -43,21 +46,27 @@ module _ (ports depth slot : ℕ) (served : ℕ → List (Option Served)) (old :
     pub next-before : IsBefore (card_for ports depth (source_at now k).coming) (source_at now k) (served k)
     next-before = rw here (stand.before k inside)
 
-    pub one-entered : (new : Source) (admitted : Option Coming) (after : List Tally) → k < length now → HasEntered ports depth slot (served k) (source_at now k) new admitted
-        → ((j : ℕ) → tally_at after j ≡ with_cells (tally_at tallies j) (cells_to admitted j)) → HaveEntered ports depth slot (k + 1) served old (slice_set now k new) counted after
+    pub one-entered : (new : Source) (admitted : Option Coming) (after : List Tally) → k < length now
+        → HasEntered ports depth slot (served k) (source_at now k) new admitted
+        → ((j : ℕ) → tally_at after j ≡ with_cells (tally_at tallies j) (cells_to admitted j))
+        → HaveEntered ports depth slot (k + 1) served old (slice_set now k new) counted after
     one-entered new admitted after below enters cells = record {
       count = length-set now k new ∙ so_far.count;
-      coming = λ i. set-case no_source (λ m s. s.coming ≡ (source_at old m).coming) now k new below (enters.coming ∙ so_far.coming k) i (λ other. so_far.coming i);
+      coming = λ i. set-case no_source (λ m s. s.coming ≡ (source_at old m).coming) now k new below (enters.coming ∙ so_far.coming k) i
+          (λ other. so_far.coming i);
       entered = λ i less. elim (cases_eq i k) [
-        | inl same ↦ rw (same, set-here no_source now k new below) (subst (λ (s : Source). IsIn (card_for ports depth s.coming) new (served k)) here enters.queues)
+        | inl same ↦ rw (same, set-here no_source now k new below)
+            (subst (λ (s : Source). IsIn (card_for ports depth s.coming) new (served k)) here enters.queues)
         | inr other ↦ rw (set-other no_source now k new i other) (so_far.entered i (omega arith))
       ];
       left = λ i above. set-other no_source now k new i (λ e. omega arith) ∙ so_far.left i (omega arith);
       tallies = λ j.
           let more = total-more (λ i. cells_from (card_for ports depth (source_at old i).coming) (served i) j slot) k (k + 1) refl in
-          let mine : cells_from (card_for ports depth (source_at old k).coming) (served k) j slot ≡ cells_to admitted j = ap (λ (s : Source). cells_from (card_for ports depth s.coming) (served k) j slot) (sym here) ∙ enters.cells j in
+          let mine : cells_from (card_for ports depth (source_at old k).coming) (served k) j slot ≡ cells_to admitted j =
+          ap (λ (s : Source). cells_from (card_for ports depth s.coming) (served k) j slot) (sym here) ∙ enters.cells j in
           cells j ∙ ap (λ x. with_cells x (cells_to admitted j)) (so_far.tallies j)
-          ∙ twice-more (tally_at counted j) (cells_of_first ports depth old served j slot k) (cells_to admitted j) (cells_of_first ports depth old served j slot (k + 1)) (omega arith);
+          ∙ twice-more (tally_at counted j) (cells_of_first ports depth old served j slot k) (cells_to admitted j)
+          (cells_of_first ports depth old served j slot (k + 1)) (omega arith);
     }
 
 -- ---- the outputs to which a cell has come that the run has not served
@@ -73,7 +82,8 @@ cells-few c j = few-if (has c.fan j) where
   few-if true = omega arith
   few-if false = omega arith
 
-pub unserved-more : (old new : ℕ) (c : Coming) (was now : List Tally) → length now ≡ length was → 0 < c.cells → ((j : ℕ) → Has c.fan j → j < length was) → ((j : ℕ) → tally_at now j ≡ with_cells (tally_at was j) (cells_to (Some c) j))
+pub unserved-more : (old new : ℕ) (c : Coming) (was now : List Tally) → length now ≡ length was → 0 < c.cells → ((j : ℕ) → Has c.fan j → j < length was)
+    → ((j : ℕ) → tally_at now j ≡ with_cells (tally_at was j) (cells_to (Some c) j))
     → ((j : ℕ) → Has new j ↔ (Has old j ⊎ Has c.fan j)) → IsUnserved old was → IsUnserved new now
 unserved-more old new c was now long some inside cells members is = record { members = λ j. by j (has c.fan j) refl; behind = λ j. low j } where
   came : (j : ℕ) → (tally_at now j).came ≡ (tally_at was j).came + cells_to (Some c) j

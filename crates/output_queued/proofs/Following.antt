@@ -1,5 +1,6 @@
 -- One slot more: what a reference keeps after it.
-use Rattle.std.proofs.Common.{◌≡◌, ◌∙◌, ℕ, zero, suc, ◌+◌, ◌-◌, ◌<◌, ◌≤◌, ◌&&◌, nat_lt, Bool, true, false, List, [], ◌∷◌, ◌++◌, map, length, Option, None, Some, refl, sym, ap, subst, arith, inl, inr, if◌then◌else◌, length-append}
+use Rattle.std.proofs.Common.{◌≡◌, ◌∙◌, ℕ, zero, suc, ◌+◌, ◌-◌, ◌<◌, ◌≤◌, ◌&&◌, nat_lt, Bool, true, false, List, [], ◌∷◌, ◌++◌, map, length, Option}
+use Rattle.std.proofs.Common.{None, Some, refl, sym, ap, subst, arith, inl, inr, if◌then◌else◌, length-append}
 use Rattle.std.specs.Prelude.{is_some, max}
 use Rattle.std.proofs.lemmas.Bool.{cases_lt, le-ltb}
 use Rattle.std.proofs.lemmas.List.{map-append, length-map}
@@ -57,13 +58,16 @@ greatest-same f g (suc n) same =
     let here = same n (omega arith) in
     rw (here, rest) refl
 
-pub line-fields : (a b c d a' b' c' d' : ℕ) → a ≡ a' → b ≡ b' → c ≡ c' → d ≡ d' → ◌≡◌ {A = RefLine} (record { ends = a; runs = b; lead = c; extra = d }) (record { ends = a'; runs = b'; lead = c'; extra = d' })
+pub line-fields : (a b c d a' b' c' d' : ℕ) → a ≡ a' → b ≡ b' → c ≡ c' → d ≡ d'
+    → ◌≡◌ {A = RefLine} (record { ends = a; runs = b; lead = c; extra = d }) (record { ends = a'; runs = b'; lead = c'; extra = d' })
 line-fields a b c d a' b' c' d' p q r s = rw (p, q, r, s) refl
 
 pub line-same : (f f' g g' : ℕ → ℕ) (n : ℕ) → ((u : ℕ) → u ≤ n → f u ≡ f' u) → ((u : ℕ) → u ≤ n → g u ≡ g' u) → line_by f g n ≡ line_by f' g' n
 line-same f f' g g' n first second =
-    let apart : (u : ℕ) → u < n → ahead f g u ≡ ahead f' g' u = λ u below. let a = first (suc u) (omega arith) in let b = second (suc u) (omega arith) in omega arith in
-    line-fields (end_of f n) (end_of g n) (greatest_of (ahead f g) n) (total (ahead f g) n) (end_of f' n) (end_of g' n) (greatest_of (ahead f' g') n) (total (ahead f' g') n)
+    let apart : (u : ℕ) → u < n → ahead f g u ≡ ahead f' g' u = λ u below. let a = first (suc u) (omega arith) in let b = second (suc u) (omega arith) in
+    omega arith in
+    line-fields (end_of f n) (end_of g n) (greatest_of (ahead f g) n) (total (ahead f g) n) (end_of f' n) (end_of g' n) (greatest_of (ahead f' g') n)
+    (total (ahead f' g') n)
     (end-same f f' n first) (end-same g g' n second) (greatest-same (ahead f g) (ahead f' g') n apart) (total-same (ahead f g) (ahead f' g') n apart)
 
 -- ---- what an input did in earlier slots
@@ -105,7 +109,8 @@ module _ (matches : List Matched) (matched : Matched) where
       ap (λ served. row_at plan served t) (served-more i)
       ∙ row-more plan (served_in matches i) (served_of matched i ∷ []) t (let long = served-long i in omega arith)
 
-  pub cells-before : (plan : Plan) (i j t : ℕ) → t ≤ length matches → cells_from plan (served_in (matches ++ matched ∷ []) i) j t ≡ cells_from plan (served_in matches i) j t
+  pub cells-before : (plan : Plan) (i j t : ℕ) → t ≤ length matches
+      → cells_from plan (served_in (matches ++ matched ∷ []) i) j t ≡ cells_from plan (served_in matches i) j t
   cells-before plan i j t within =
       ap (λ served. cells_from plan served j t) (served-more i)
       ∙ cells-more plan (served_in matches i) (served_of matched i ∷ []) t (let long = served-long i in omega arith) j
@@ -123,7 +128,8 @@ module _ (matches : List Matched) (matched : Matched) where
     pub comes-before : (j t : ℕ) → t ≤ length matches → comes cards (matches ++ matched ∷ []) j t ≡ comes cards matches j t
     unfolding comes
     comes-before j t within =
-        total-same (λ i. cells_from (card_of cards i) (served_in (matches ++ matched ∷ []) i) j t) (λ i. cells_from (card_of cards i) (served_in matches i) j t) (length cards)
+        total-same (λ i. cells_from (card_of cards i) (served_in (matches ++ matched ∷ []) i) j t)
+        (λ i. cells_from (card_of cards i) (served_in matches i) j t) (length cards)
         (λ i below. cells-before (card_of cards i) i j t within)
 
     pub came-before : (j t : ℕ) → t ≤ length matches + 1 → total (comes cards (matches ++ matched ∷ []) j) t ≡ total (comes cards matches j) t
@@ -133,7 +139,8 @@ module _ (matches : List Matched) (matched : Matched) where
     ideal-before j t within = given-same (comes cards (matches ++ matched ∷ []) j) (comes cards matches j) t (λ u below. comes-before j u (omega arith))
 
     -- ---- what is counted at an output
-    module _ (j : ℕ) (old new : Tally) (was : IsTally cards matches (length matches + 1) j old) (ticks : Ticks (length matches) (if is_some (fed_of matched j) then 1 else 0) old new) where
+    module _ (j : ℕ) (old new : Tally) (was : IsTally cards matches (length matches + 1) j old)
+        (ticks : Ticks (length matches) (if is_some (fed_of matched j) then 1 else 0) old new) where
       came-now : new.came ≡ total (comes cards (matches ++ matched ∷ []) j) (length (matches ++ matched ∷ []))
       came-now =
           let more : length matches + 1 ≡ length (matches ++ matched ∷ []) = omega (arith, slots-more) in
@@ -163,17 +170,24 @@ module _ (matches : List Matched) (matched : Matched) where
           let f = ideal cards (matches ++ matched ∷ []) j in
           let g = ran (matches ++ matched ∷ []) j in
           let t = length matches in
-          let line : old.line ≡ line_by f g t = was.line ∙ sym (line-same f (ideal cards matches j) g (ran matches j) t (λ u within. ideal-before j u (omega arith)) (λ u within. ran-before j u within)) in
+          let line : old.line ≡ line_by f g t = was.line
+          ∙ sym (line-same f (ideal cards matches j) g (ran matches j) t (λ u within. ideal-before j u (omega arith))
+          (λ u within. ran-before j u within)) in
           let given-old : old.given ≡ f t = was.given ∙ sym (ideal-before j t (omega arith)) in
           let ran-old : old.ran ≡ g t = was.ran ∙ sym (ran-before j t (omega arith)) in
           let given-new : new.given ≡ f (suc t) = given-next in
           let ran-new : new.ran ≡ g (suc t) = ran-next in
           let one : t + 1 ≡ suc t = omega arith in
-          line-fields new.line.ends new.line.runs new.line.lead new.line.extra (end_of f (suc t)) (end_of g (suc t)) (greatest_of (ahead f g) (suc t)) (total (ahead f g) (suc t))
-          (ticks.ends ∙ ends-by old.given new.given (f t) (f (suc t)) (t + 1) (suc t) old.line.ends (end_of f t) given-old given-new one (ap (λ (l : RefLine). l.ends) line))
-          (ticks.runs ∙ ends-by old.ran new.ran (g t) (g (suc t)) (t + 1) (suc t) old.line.runs (end_of g t) ran-old ran-new one (ap (λ (l : RefLine). l.runs) line))
-          (ticks.lead ∙ lead-by old.line.lead (greatest_of (ahead f g) t) new.given new.ran (f (suc t)) (g (suc t)) (ap (λ (l : RefLine). l.lead) line) given-new ran-new)
-          (ticks.extra ∙ extra-by old.line.extra (total (ahead f g) t) new.given new.ran (f (suc t)) (g (suc t)) (ap (λ (l : RefLine). l.extra) line) given-new ran-new) where
+          line-fields new.line.ends new.line.runs new.line.lead new.line.extra (end_of f (suc t)) (end_of g (suc t)) (greatest_of (ahead f g) (suc t))
+          (total (ahead f g) (suc t))
+          (ticks.ends ∙ ends-by old.given new.given (f t) (f (suc t)) (t + 1) (suc t) old.line.ends (end_of f t) given-old given-new one
+          (ap (λ (l : RefLine). l.ends) line))
+          (ticks.runs ∙ ends-by old.ran new.ran (g t) (g (suc t)) (t + 1) (suc t) old.line.runs (end_of g t) ran-old ran-new one
+          (ap (λ (l : RefLine). l.runs) line))
+          (ticks.lead ∙ lead-by old.line.lead (greatest_of (ahead f g) t) new.given new.ran (f (suc t)) (g (suc t))
+          (ap (λ (l : RefLine). l.lead) line) given-new ran-new)
+          (ticks.extra ∙ extra-by old.line.extra (total (ahead f g) t) new.given new.ran (f (suc t)) (g (suc t))
+          (ap (λ (l : RefLine). l.extra) line) given-new ran-new) where
             ends-by : (a b a' b' s s' e e' : ℕ) → a ≡ a' → b ≡ b' → s ≡ s' → e ≡ e' → (if nat_lt a b then s else e) ≡ (if nat_lt a' b' then s' else e')
             ends-by a b a' b' s s' e e' p q r x = rw (p, q, r, x) refl
 
@@ -200,7 +214,8 @@ if-le : (b : Bool) (x y n : ℕ) → x ≤ n → y ≤ n → (if b then x else y
 if-le true x y n first second = first
 if-le false x y n first second = second
 
-pub small-next : (t fed : ℕ) (old new : Tally) → t < 262145 → IsSmall t old → Ticks t fed old new → fed ≤ 1 → (fed ≡ 1 → old.ran < old.came) → (more : ℕ) → more ≤ 131072
+pub small-next : (t fed : ℕ) (old new : Tally) → t < 262145 → IsSmall t old → Ticks t fed old new → fed ≤ 1 → (fed ≡ 1 → old.ran < old.came) → (more : ℕ)
+    → more ≤ 131072
     → IsSmall (t + 1) (record { came = new.came + more; given = new.given; ran = new.ran; line = new.line })
 small-next t fed old new few small ticks one waits more within =
     let came = ticks.came in
@@ -223,8 +238,10 @@ small-next t fed old new few small ticks one waits more within =
       given = under;
       few = high;
       lead = omega arith;
-      ends = subst (λ x. x ≤ t + 1) (sym ticks.ends) (if-le (nat_lt old.given new.given) (t + 1) old.line.ends (t + 1) (omega arith) (let g = small.ends in omega arith));
-      runs = subst (λ x. x ≤ t + 1) (sym ticks.runs) (if-le (nat_lt old.ran new.ran) (t + 1) old.line.runs (t + 1) (omega arith) (let g = small.runs in omega arith));
+      ends = subst (λ x. x ≤ t + 1) (sym ticks.ends)
+          (if-le (nat_lt old.given new.given) (t + 1) old.line.ends (t + 1) (omega arith) (let g = small.ends in omega arith));
+      runs = subst (λ x. x ≤ t + 1) (sym ticks.runs)
+          (if-le (nat_lt old.ran new.ran) (t + 1) old.line.runs (t + 1) (omega arith) (let g = small.runs in omega arith));
       extra = omega arith;
     }
 

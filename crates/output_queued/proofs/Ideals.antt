@@ -24,7 +24,8 @@ pub given-one : (comes : ℕ → ℕ) (t : ℕ) → given comes (suc t) ≤ give
 given-one comes t = omega arith
 
 -- one that takes one cell a slot at most, of those that came, is never ahead of it
-pub never_behind : (comes second : ℕ → ℕ) (n : ℕ) → second 0 ≡ 0 → ((t : ℕ) → t < n → second (suc t) ≤ second t + 1) → ((t : ℕ) → t ≤ n → second t ≤ total comes t) → (t : ℕ) → t ≤ n → second t ≤ given comes t
+pub never_behind : (comes second : ℕ → ℕ) (n : ℕ) → second 0 ≡ 0 → ((t : ℕ) → t < n → second (suc t) ≤ second t + 1)
+    → ((t : ℕ) → t ≤ n → second t ≤ total comes t) → (t : ℕ) → t ≤ n → second t ≤ given comes t
 never_behind comes second n start one few zero within = omega arith
 never_behind comes second n start one few (suc t) within =
     let rest = never_behind comes second n start one few t (omega arith) in
@@ -74,7 +75,8 @@ module _ (f : ℕ → ℕ) (up : (t : ℕ) → f t ≤ f (suc t)) where
   ]
 
 -- ---- two counts, of which the first is never behind
-module _ (first second : ℕ → ℕ) (n : ℕ) (up : (t : ℕ) → first t ≤ first (suc t)) (up' : (t : ℕ) → second t ≤ second (suc t)) (behind : (t : ℕ) → t ≤ n → second t ≤ first t) where
+module _ (first second : ℕ → ℕ) (n : ℕ) (up : (t : ℕ) → first t ≤ first (suc t)) (up' : (t : ℕ) → second t ≤ second (suc t))
+    (behind : (t : ℕ) → t ≤ n → second t ≤ first t) where
   pub ends_first : first n ≡ second n → end_of first n ≤ end_of second n
   ends_first same =
       let u = end_of second n in
@@ -121,14 +123,16 @@ weighed f start up one (suc t) =
           omega arith
     ]
 
-ahead-sum : (first second : ℕ → ℕ) (n : ℕ) → ((t : ℕ) → t ≤ n → second t ≤ first t) → total (ahead first second) n + total (λ u. second (suc u)) n ≡ total (λ u. first (suc u)) n
+ahead-sum : (first second : ℕ → ℕ) (n : ℕ) → ((t : ℕ) → t ≤ n → second t ≤ first t)
+    → total (ahead first second) n + total (λ u. second (suc u)) n ≡ total (λ u. first (suc u)) n
 ahead-sum first second zero behind = refl
 ahead-sum first second (suc n) behind =
     let rest = ahead-sum first second n (λ t within. behind t (omega arith)) in
     let last = behind (suc n) (omega arith) in
     omega arith
 
-module _ (first second : ℕ → ℕ) (start : first 0 ≡ 0) (start' : second 0 ≡ 0) (up : (t : ℕ) → first t ≤ first (suc t)) (up' : (t : ℕ) → second t ≤ second (suc t))
+module _ (first second : ℕ → ℕ) (start : first 0 ≡ 0) (start' : second 0 ≡ 0) (up : (t : ℕ) → first t ≤ first (suc t))
+    (up' : (t : ℕ) → second t ≤ second (suc t))
     (one : (t : ℕ) → first (suc t) ≤ first t + 1) (one' : (t : ℕ) → second (suc t) ≤ second t + 1) (n : ℕ) (behind : (t : ℕ) → t ≤ n → second t ≤ first t) where
   pub delays_are : first n ≡ second n → total (ahead first second) n + sum (rises first n) ≡ sum (rises second n)
   delays_are same =

@@ -1,5 +1,6 @@
 -- Packets of an input, as far as they were looked at.
-use Rattle.std.proofs.Common.{◌≡◌, ◌∙◌, ℕ, zero, suc, ◌+◌, ◌<◌, ◌≤◌, List, [], ◌∷◌, map, length, Some, slice_get, slice_index_or, refl, sym, ap, subst, arith, inl, inr}
+use Rattle.std.proofs.Common.{◌≡◌, ◌∙◌, ℕ, zero, suc, ◌+◌, ◌<◌, ◌≤◌, List, [], ◌∷◌, map, length, Some, slice_get, slice_index_or, refl, sym, ap, subst}
+use Rattle.std.proofs.Common.{arith, inl, inr}
 use Rattle.std.proofs.lemmas.Bool.{cases_eq}
 use Rattle.std.proofs.lemmas.List.{get_or-map}
 use Rattle.std.proofs.lemmas.Option.{same_Some}
@@ -29,13 +30,15 @@ module _ {X : Type 0} where
   some_lt (y ∷ xs) (suc k) x is = omega (arith, some_lt xs k x is)
 
   -- what holds of those before a place, and of the one there
-  pub each_more : (P : X → Type 0) (xs : List X) (i : ℕ) (d : X) → ((k : ℕ) (x : X) → k < i → slice_get xs k ≡ Some x → P x) → P (slice_index_or xs i d) → (k : ℕ) (x : X) → k < i + 1 → slice_get xs k ≡ Some x → P x
+  pub each_more : (P : X → Type 0) (xs : List X) (i : ℕ) (d : X) → ((k : ℕ) (x : X) → k < i → slice_get xs k ≡ Some x → P x) → P (slice_index_or xs i d)
+      → (k : ℕ) (x : X) → k < i + 1 → slice_get xs k ≡ Some x → P x
   each_more P xs i d before here k x below is = elim (cases_eq k i) [
     | inl same ↦ subst P (get_some xs i x d (ap (slice_get xs) (sym same) ∙ is)) here
     | inr other ↦ before k x (omega arith) is
   ]
 
-pub rising_of : (coming : List Coming) → AreRising (map planned_of coming) → (k m : ℕ) (c d : Coming) → slice_get coming k ≡ Some c → slice_get coming m ≡ Some d → k < m → c.slot < d.slot
+pub rising_of : (coming : List Coming) → AreRising (map planned_of coming) → (k m : ℕ) (c d : Coming) → slice_get coming k ≡ Some c
+    → slice_get coming m ≡ Some d → k < m → c.slot < d.slot
 rising_of coming rising k m c d at there before = rising k m (planned_of c) (planned_of d) (at-planned coming k c at) (at-planned coming m d there) before
 
 pub rising_to : (n : ℕ) (coming : List Coming) → IsInput n coming → AreRising (map planned_of coming)
@@ -47,15 +50,18 @@ rising_to n coming is k j p r a b before =
     let second : d.slot ≡ r.arrival = ap (λ q. q.arrival) same' in
     omega arith
 
-slot_at : (coming : List Coming) (i : ℕ) (d : Coming) → i < length coming → slice_index_or (map planned_of coming) i (planned_of d) ≡ planned_of (slice_index_or coming i d)
+slot_at : (coming : List Coming) (i : ℕ) (d : Coming) → i < length coming
+    → slice_index_or (map planned_of coming) i (planned_of d) ≡ planned_of (slice_index_or coming i d)
 slot_at coming i d inside = get_or-map planned_of coming i d (planned_of d) inside
 
-pub rises_on : (coming : List Coming) (i least : ℕ) (d : Coming) → RisesTo (map planned_of coming) i least → i < length coming → least ≤ (slice_index_or coming i d).slot → RisesTo (map planned_of coming) (i + 1) ((slice_index_or coming i d).slot + 1)
+pub rises_on : (coming : List Coming) (i least : ℕ) (d : Coming) → RisesTo (map planned_of coming) i least → i < length coming
+    → least ≤ (slice_index_or coming i d).slot → RisesTo (map planned_of coming) (i + 1) ((slice_index_or coming i d).slot + 1)
 rises_on coming i least d so_far inside from =
     let same = ap (λ p. p.arrival) (slot_at coming i d inside) in
     subst (λ a. RisesTo (map planned_of coming) (i + 1) (a + 1)) same (rises_more (map planned_of coming) i least (planned_of d) so_far (omega arith))
 
-pub rises_no_more : (n : ℕ) (coming : List Coming) (i least : ℕ) (d : Coming) → RisesTo (map planned_of coming) i least → i < length coming → length (map planned_of coming) ≡ length coming → (slice_index_or coming i d).slot < least → IsInput n coming → ⊥
+pub rises_no_more : (n : ℕ) (coming : List Coming) (i least : ℕ) (d : Coming) → RisesTo (map planned_of coming) i least → i < length coming
+    → length (map planned_of coming) ≡ length coming → (slice_index_or coming i d).slot < least → IsInput n coming → ⊥
 rises_no_more n coming i least d so_far inside long less is =
     let same = ap (λ p. p.arrival) (slot_at coming i d inside) in
     rises_not (map planned_of coming) i least (planned_of d) so_far (omega arith) (omega arith) (rising_to n coming is)

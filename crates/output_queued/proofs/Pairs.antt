@@ -1,5 +1,6 @@
 -- What a pair of a slot's match grants: one cell, of one queue of one input.
-use Rattle.std.proofs.Common.{◌≡◌, ◌∙◌, ℕ, ◌<◌, ◌==◌, Bool, true, false, List, [], length, Option, None, Some, slice_index_or, refl, sym, ap, subst, inl, inr, if◌then◌else◌}
+use Rattle.std.proofs.Common.{◌≡◌, ◌∙◌, ℕ, ◌<◌, ◌==◌, Bool, true, false, List, [], length, Option, None, Some, slice_index_or, refl, sym, ap, subst}
+use Rattle.std.proofs.Common.{inl, inr, if◌then◌else◌}
 use Rattle.std.proofs.lemmas.Bool.{eq-eqb, eqb-true, and_from, and_parts}
 use Rattle.rotating_pick.specs.declared.kinds.Kind.{Kind}
 use Rattle.rotating_pick.specs.declared.kinds.Kind.TheVariants.{Uni, Multi}
@@ -75,7 +76,8 @@ module _ (n : ℕ) (matched : Matched) (whole : IsMatch n matched) (i : ℕ) whe
       let member = (found.2.outputs j).1 (Serves-along matched i j level part.level kind part.kind alike.0 alike.1 pair) in
       ap (λ served. gives served j level kind) found.1 ∙ (Decides-gives (Some part) j level kind).1 (member, alike.0, alike.1)
 
-  serves_pair : (q : Queue) (j : ℕ) → serves q j (served_of matched i) ≡ true → Serves matched i j (level_of q) (kind_of q) × (q ≡ to_queue j (level_of q) (kind_of q))
+  serves_pair : (q : Queue) (j : ℕ) → serves q j (served_of matched i) ≡ true → Serves matched i j (level_of q) (kind_of q)
+      × (q ≡ to_queue j (level_of q) (kind_of q))
   serves_pair (OfOutput k level) j is =
       let both = and_parts (k == j) (gives (served_of matched i) j level Uni) is in
       (given_of j level Uni (served_of matched i) refl both.1, ap (λ x. OfOutput x level) (eqb-true k j both.0))
@@ -92,11 +94,13 @@ module _ (n : ℕ) (matched : Matched) (whole : IsMatch n matched) (i : ℕ) whe
 
   module _ (plan : Plan) (good : IsGoodPlan plan) (served : List (Option Served)) (t : ℕ) (now : slice_index_or served t None ≡ served_of matched i)
       (named : (j level : ℕ) (kind : Kind) → Serves matched i j level kind → Names (row_at plan served t) level kind j) where
-    waits : (j level : ℕ) (kind : Kind) → Names (row_at plan served t) level kind j → has_cells (waiting (queue_in plan (to_queue j level kind) served t)) ≡ true
+    waits : (j level : ℕ) (kind : Kind) → Names (row_at plan served t) level kind j
+        → has_cells (waiting (queue_in plan (to_queue j level kind) served t)) ≡ true
     waits j level Uni names = (uni-in plan good served t level j names).2
     waits j level Multi names = left_waits plan good (OfLevel level) (queue_in plan (OfLevel level) served t) j (multi-in plan good served t level j names).1
 
-    grant_now : (j : ℕ) (q : Queue) → grant_for plan served j q t ≡ length (if serves q j (served_of matched i) then first_of (waiting (queue_in plan q served t)) else [])
+    grant_now : (j : ℕ) (q : Queue)
+        → grant_for plan served j q t ≡ length (if serves q j (served_of matched i) then first_of (waiting (queue_in plan q served t)) else [])
     grant_now j q = ap (λ part. length (if serves q j part then first_of (waiting (queue_in plan q served t)) else [])) now
 
     grant_if : (j level : ℕ) (kind : Kind) → Serves matched i j level kind → (q : Queue) (b : Bool) → is_queue q (to_queue j level kind) ≡ b
@@ -104,7 +108,8 @@ module _ (n : ℕ) (matched : Matched) (whole : IsMatch n matched) (i : ℕ) whe
     grant_if j level kind pair q true is =
         let same = is_queue-same q (to_queue j level kind) is in
         ap (λ r. length (if serves r j (served_of matched i) then first_of (waiting (queue_in plan r served t)) else [])) same
-        ∙ one_first (serves (to_queue j level kind) j (served_of matched i)) (waiting (queue_in plan (to_queue j level kind) served t)) (pair_serves j level kind pair) (waits j level kind (named j level kind pair))
+        ∙ one_first (serves (to_queue j level kind) j (served_of matched i)) (waiting (queue_in plan (to_queue j level kind) served t))
+        (pair_serves j level kind pair) (waits j level kind (named j level kind pair))
     grant_if j level kind pair q false is =
         no_first (serves q j (served_of matched i)) (waiting (queue_in plan q served t)) (λ serving.
         let other = serves_pair q j serving in
@@ -123,4 +128,5 @@ module _ (n : ℕ) (matched : Matched) (whole : IsMatch n matched) (i : ℕ) whe
     -- and where the input does not feed the output, nothing is granted to it
     pub none_granted : (j : ℕ) → ((level : ℕ) (kind : Kind) → Serves matched i j level kind → ⊥) → over j (λ q. grant_for plan served j q t) ≡ 0
     none_granted j never = over-none j (λ q. grant_for plan served j q t) (λ q.
-        grant_now j q ∙ no_first (serves q j (served_of matched i)) (waiting (queue_in plan q served t)) (λ serving. never (level_of q) (kind_of q) (serves_pair q j serving).0))
+        grant_now j q ∙ no_first (serves q j (served_of matched i)) (waiting (queue_in plan q served t))
+        (λ serving. never (level_of q) (kind_of q) (serves_pair q j serving).0))

@@ -15,7 +15,8 @@ module _ {X : Type 0} where
   set-other d xs i x k other = get_or-set_other xs i k x d other
 
   -- what holds of the new one at its place, and of the others, holds of all
-  pub set-case : (d : X) (P : ℕ → X → Type 0) (xs : List X) (i : ℕ) (x : X) → i < length xs → P i x → (k : ℕ) → ((k ≡ i → ⊥) → P k (slice_index_or xs k d)) → P k (slice_index_or (slice_set xs i x) k d)
+  pub set-case : (d : X) (P : ℕ → X → Type 0) (xs : List X) (i : ℕ) (x : X) → i < length xs → P i x → (k : ℕ) → ((k ≡ i → ⊥) → P k (slice_index_or xs k d))
+      → P k (slice_index_or (slice_set xs i x) k d)
   set-case d P xs i x inside here k others = elim (cases_eq k i) [
     | inl same ↦ rw (same, set-here d xs i x inside) here
     | inr other ↦ rw (set-other d xs i x k other) (others other)

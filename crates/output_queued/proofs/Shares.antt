@@ -1,5 +1,6 @@
 -- Of one input: the cells that come to an output, and those that are granted to it, over all queues from which it is fed.
-use Rattle.std.proofs.Common.{◌≡◌, ◌≢◌, ◌∙◌, ℕ, zero, suc, ◌+◌, ◌^◌, ◌<◌, ◌≤◌, ◌==◌, ◌&&◌, not, Bool, true, false, List, [], length, Option, None, Some, slice_index_or, refl, sym, ap, subst, arith, inl, inr, if◌then◌else◌, length-append}
+use Rattle.std.proofs.Common.{◌≡◌, ◌≢◌, ◌∙◌, ℕ, zero, suc, ◌+◌, ◌^◌, ◌<◌, ◌≤◌, ◌==◌, ◌&&◌, not, Bool, true, false, List, [], length, Option, None, Some}
+use Rattle.std.proofs.Common.{slice_index_or, refl, sym, ap, subst, arith, inl, inr, if◌then◌else◌, length-append}
 use Rattle.std.proofs.lemmas.Bool.{eq-eqb, eqb-true}
 use Rattle.std.proofs.lemmas.List.Elements.{filter-append}
 use Rattle.rotating_pick.specs.PortSets.{Has}
@@ -124,7 +125,8 @@ module _ (plan : Plan) (good : IsGoodPlan plan) (served : List (Option Served)) 
       ∙ length-append (to_output j s.entered) (to_output j more)
 
   granted-more : (q : Queue) (t : ℕ) → granted_of q (suc t) ≡ granted_of q t + grant q t
-  granted-more q t = length-append (granted_to plan q j served t) (if serves q j (slice_index_or served t None) then first_of (waiting (queue_in plan q served t)) else [])
+  granted-more q t = length-append (granted_to plan q j served t)
+      (if serves q j (slice_index_or served t None) then first_of (waiting (queue_in plan q served t)) else [])
 
   -- ---- the packet that arrives
   share-if : (a m h : Bool) (x : ℕ) → (h ≡ true → a ≡ true) → (if ((a && true) && m) && h then x else 0) ≡ (if h && m then x else 0)
@@ -173,7 +175,8 @@ module _ (plan : Plan) (good : IsGoodPlan plan) (served : List (Option Served)) 
   shares t k p small below inside true goes = over-one j (brought plan served j t (Some (k, p))) (queue_of p) (queue_is p small below inside goes)
   shares t k p small below inside false goes =
       let none = brought-if (has p.fan j) (is_admitted plan served t p) (size_of p) goes in
-      over-none j (λ q. if is_queue q (queue_of p) then brought plan served j t (Some (k, p)) else 0) (λ q. zero-if (is_queue q (queue_of p)) (brought plan served j t (Some (k, p))) none) ∙ sym none where
+      over-none j (λ q. if is_queue q (queue_of p) then brought plan served j t (Some (k, p)) else 0)
+      (λ q. zero-if (is_queue q (queue_of p)) (brought plan served j t (Some (k, p))) none) ∙ sym none where
         zero-if : (b : Bool) (x : ℕ) → x ≡ 0 → (if b then x else 0) ≡ 0
         zero-if true x none' = none'
         zero-if false x none' = refl
@@ -184,25 +187,32 @@ module _ (plan : Plan) (good : IsGoodPlan plan) (served : List (Option Served)) 
   come_by t (Some (k, p)) inside is =
       let found = arriving-there 0 plan.packets t k p is in
       let planned = good.packets found.0 p found.2 in
-      over-same j (λ q. length (to_output j (coming plan q (before plan q served t) (Some (k, p))))) (λ q. if is_queue q (queue_of p) then brought plan served j t (Some (k, p)) else 0)
+      over-same j (λ q. length (to_output j (coming plan q (before plan q served t) (Some (k, p)))))
+      (λ q. if is_queue q (queue_of p) then brought plan served j t (Some (k, p)) else 0)
       (λ q to. share t k p q (is_queue q (queue_of p)) refl)
       ∙ shares t k p (below_power plan.ports p.fan good.size planned.fan) planned.level inside (has p.fan j) refl
 
   -- ---- over all queues
-  pub all_entered : j < 64 → (t : ℕ) → over j (λ q. entered_for plan served j q (suc t)) ≡ over j (λ q. entered_for plan served j q t) + cells_from plan served j t
+  pub all_entered : j < 64 → (t : ℕ)
+      → over j (λ q. entered_for plan served j q (suc t)) ≡ over j (λ q. entered_for plan served j q t) + cells_from plan served j t
   all_entered inside t =
       over-same j (λ q. entered_to q (suc t)) (λ q. entered_to q t + come q t) (λ q to. entered-more q t)
       ∙ over-plus j (λ q. entered_to q t) (λ q. come q t)
       ∙ ap (λ n. over j (λ q. entered_to q t) + n) (come_by t (arriving plan t) inside refl)
 
-  pub all_granted_more : (t : ℕ) → over j (λ q. granted_for plan served j q (suc t)) ≡ over j (λ q. granted_for plan served j q t) + over j (λ q. grant_for plan served j q t)
-  all_granted_more t = over-same j (λ q. granted_of q (suc t)) (λ q. granted_of q t + grant q t) (λ q to. granted-more q t) ∙ over-plus j (λ q. granted_of q t) (λ q. grant q t)
+  pub all_granted_more : (t : ℕ)
+      → over j (λ q. granted_for plan served j q (suc t)) ≡ over j (λ q. granted_for plan served j q t) + over j (λ q. grant_for plan served j q t)
+  all_granted_more t = over-same j (λ q. granted_of q (suc t)) (λ q. granted_of q t + grant q t) (λ q to. granted-more q t)
+      ∙ over-plus j (λ q. granted_of q t) (λ q. grant q t)
 
   -- what was granted is of the cells that entered and go to the output
-  pub all_granted_few : (t : ℕ) → ((u : ℕ) → u < t → IsServable (row_at plan served u) (slice_index_or served u None)) → over j (λ q. granted_for plan served j q t) ≤ over j (λ q. entered_for plan served j q t)
+  pub all_granted_few : (t : ℕ) → ((u : ℕ) → u < t → IsServable (row_at plan served u) (slice_index_or served u None))
+      → over j (λ q. granted_for plan served j q t) ≤ over j (λ q. entered_for plan served j q t)
   all_granted_few t may = over-le j (λ q. granted_of q t) (λ q. entered_to q t) (λ q. granted_few plan good served q j t may)
 
   -- where no cell waits, these are all
-  pub all_granted_all : (t : ℕ) → ((u : ℕ) → u < t → IsServable (row_at plan served u) (slice_index_or served u None)) → ((q : Queue) → IsTo j q → waiting (before plan q served t) ≡ [])
+  pub all_granted_all : (t : ℕ) → ((u : ℕ) → u < t → IsServable (row_at plan served u) (slice_index_or served u None))
+      → ((q : Queue) → IsTo j q → waiting (before plan q served t) ≡ [])
       → over j (λ q. granted_for plan served j q t) ≡ over j (λ q. entered_for plan served j q t)
-  all_granted_all t may empty = over-same j (λ q. granted_of q t) (λ q. entered_to q t) (λ q to. ap length (all_granted plan good served q j t may (empty q to)))
+  all_granted_all t may empty =
+      over-same j (λ q. granted_of q t) (λ q. entered_to q t) (λ q to. ap length (all_granted plan good served q j t may (empty q to)))

@@ -1,6 +1,7 @@
 -- An input that is told by the cells of its packets: its plan is one that a card can be made of, and what a packet that
 -- arrives makes of its queues.
-use Rattle.std.proofs.Common.{◌≡◌, ◌≢◌, ◌∙◌, ℕ, zero, suc, ◌+◌, ◌*◌, ◌<◌, ◌≤◌, ◌&&◌, Bool, true, false, List, [], ◌∷◌, map, length, replicate, Option, None, Some, slice_get, slice_index_or, refl, sym, ap, subst, arith, inl, inr, if◌then◌else◌}
+use Rattle.std.proofs.Common.{◌≡◌, ◌≢◌, ◌∙◌, ℕ, zero, suc, ◌+◌, ◌*◌, ◌<◌, ◌≤◌, ◌&&◌, Bool, true, false, List, [], ◌∷◌, map, length, replicate, Option}
+use Rattle.std.proofs.Common.{None, Some, slice_get, slice_index_or, refl, sym, ap, subst, arith, inl, inr, if◌then◌else◌}
 use Rattle.std.specs.List.{sum_by}
 use Rattle.std.specs.Option.{option_map}
 use Rattle.std.proofs.lemmas.Bool.{cases_lt, ne_eqb}
@@ -31,7 +32,8 @@ use Rattle.output_queued.proofs.Shares.{routed-if}
 pub size-planned : (c : Coming) → 0 < c.cells → c.cells ≤ 1171 → size_of (planned_of c) ≡ c.cells
 size-planned c some few = omega arith
 
-pub planned-at : (coming : List Coming) (k : ℕ) (p : Planned) → slice_get (map planned_of coming) k ≡ Some p → (c : Coming) × (slice_get coming k ≡ Some c) × (planned_of c ≡ p)
+pub planned-at : (coming : List Coming) (k : ℕ) (p : Planned) → slice_get (map planned_of coming) k ≡ Some p → (c : Coming) × (slice_get coming k ≡ Some c)
+    × (planned_of c ≡ p)
 planned-at [] k p is = absurd (cc)
 planned-at (c ∷ coming) zero p is = (c, refl, same_Some (planned_of c) p is)
 planned-at (c ∷ coming) (suc k) p is = planned-at coming k p is
@@ -114,13 +116,16 @@ few_coming n depth coming part =
     omega arith
 
 -- ---- before any packet
-pub begins_as : (n depth : ℕ) (coming : List Coming) (uni fan : List ℕ) (banks : UniQueues) (fans : FanQueues) → IsPart n depth coming → HasRooms n (map planned_of coming) uni fan → banks ≡ empty_unis n depth uni → fans ≡ empty_fans n depth fan
+pub begins_as : (n depth : ℕ) (coming : List Coming) (uni fan : List ℕ) (banks : UniQueues) (fans : FanQueues) → IsPart n depth coming
+    → HasRooms n (map planned_of coming) uni fan → banks ≡ empty_unis n depth uni → fans ≡ empty_fans n depth fan
     → IsBefore (card_for n depth coming) (record { coming = coming; next = 0; banks = banks; fans = fans }) []
 unfolding card_for
 begins_as n depth coming uni fan banks fans part rooms are fans_are =
-    let sent = begins (card_for n depth coming) empty_row uni fan (good-card n depth coming part) (λ j l inside below. let e = rooms.unis j l inside below in omega arith) (λ l below. let e = rooms.fans l below in omega arith) in
+    let sent = begins (card_for n depth coming) empty_row uni fan (good-card n depth coming part)
+    (λ j l inside below. let e = rooms.unis j l inside below in omega arith) (λ l below. let e = rooms.fans l below in omega arith) in
     subst (λ b. IsBefore (card_for n depth coming) (record { coming = coming; next = 0; banks = b; fans = fans }) []) (sym are)
-    (subst (λ f. IsBefore (card_for n depth coming) (record { coming = coming; next = 0; banks = empty_unis n depth uni; fans = f }) []) (sym fans_are) (record { next = sent.next; queues = sent.queues }))
+    (subst (λ f. IsBefore (card_for n depth coming) (record { coming = coming; next = 0; banks = empty_unis n depth uni; fans = f }) []) (sym fans_are)
+    (record { next = sent.next; queues = sent.queues }))
 
 -- ---- what a packet brings
 none-by : (r a h : Bool) (x : ℕ) → (h ≡ true → r ≡ true) → ◌≡◌ {A = ℕ} (if r && a then 1 else 0) 0 → (if h && a then x else 0) ≡ 0
@@ -139,17 +144,20 @@ and-true : (h a : Bool) (x : ℕ) → a ≡ true → (if h && a then x else 0) �
 and-true true a x is = rw is refl
 and-true false a x is = refl
 
-brought-none : (plan : Plan) (served : List (Option Served)) (j t : ℕ) (arrives : Option (ℕ × Planned)) → count_in true plan served t arrives ≡ 0 → brought plan served j t arrives ≡ 0
+brought-none : (plan : Plan) (served : List (Option Served)) (j t : ℕ) (arrives : Option (ℕ × Planned)) → count_in true plan served t arrives ≡ 0
+    → brought plan served j t arrives ≡ 0
 brought-none plan served j t None none = refl
 brought-none plan served j t (Some (k, p)) none = none-by (is_routed p) (is_admitted plan served t p) (has p.fan j) (size_of p) (routed-if j p) none
 
 brought-some : (plan : Plan) (served : List (Option Served)) (j t : ℕ) (arrives : Option (ℕ × Planned)) → count_in true plan served t arrives ≡ 1
     → (k : ℕ) × (p : Planned) × (arrives ≡ Some (k, p)) × (brought plan served j t arrives ≡ (if has p.fan j then size_of p else 0))
 brought-some plan served j t None one = absurd (cc)
-brought-some plan served j t (Some (k, p)) one = (k, p, refl, and-true (has p.fan j) (is_admitted plan served t p) (size_of p) (some-by (is_routed p) (is_admitted plan served t p) one))
+brought-some plan served j t (Some (k, p)) one =
+    (k, p, refl, and-true (has p.fan j) (is_admitted plan served t p) (size_of p) (some-by (is_routed p) (is_admitted plan served t p) one))
 
 -- ---- the packet of a slot
-module _ (n depth : ℕ) (source : Source) (served : List (Option Served)) (part : IsPart n depth source.coming) (is : IsBefore (card_for n depth source.coming) source served) where
+module _ (n depth : ℕ) (source : Source) (served : List (Option Served)) (part : IsPart n depth source.coming)
+    (is : IsBefore (card_for n depth source.coming) source served) where
   abbrev plan : Plan
   plan = card_for n depth source.coming
 
@@ -157,7 +165,8 @@ module _ (n depth : ℕ) (source : Source) (served : List (Option Served)) (part
   abbrev state : State
   state =
       state_of (card_for n depth source.coming) source.next (length served) false (granted_at (card_for n depth source.coming) served (length served)) empty_row
-      (admitted (card_for n depth source.coming) served (length served)) (dropped (card_for n depth source.coming) served (length served)) source.banks source.fans
+      (admitted (card_for n depth source.coming) served (length served))
+      (dropped (card_for n depth source.coming) served (length served)) source.banks source.fans
 
   was : HasSent state served false
   was = record {
@@ -172,29 +181,37 @@ module _ (n depth : ℕ) (source : Source) (served : List (Option Served)) (part
     queues = is.queues;
   }
 
-  next-is : (found : Option Coming) → option_map planned_of found ≡ next_in (map planned_of source.coming) source.next (length served) → option_map planned_of found ≡ next_in plan.packets source.next (length served)
+  next-is : (found : Option Coming) → option_map planned_of found ≡ next_in (map planned_of source.coming) source.next (length served)
+      → option_map planned_of found ≡ next_in plan.packets source.next (length served)
   next-is found e = e ∙ ap (λ ps. next_in ps source.next (length served)) (sym (packets-are n depth source.coming))
 
-  pub may_come : (c : Coming) → c.fan ≢ 0 → option_map planned_of (Some c) ≡ next_in (map planned_of source.coming) source.next (length served) → MayEnter source.banks source.fans (planned_of c)
+  pub may_come : (c : Coming) → c.fan ≢ 0 → option_map planned_of (Some c) ≡ next_in (map planned_of source.coming) source.next (length served)
+      → MayEnter source.banks source.fans (planned_of c)
   may_come c routed e = may_arrive state served was (Some (planned_of c)) (next-is (Some c) e) routed
 
-  in_of : (packets came lost : ℕ) (banks : UniQueues) (fans : FanQueues) (next : ℕ) → HasSent (posted_state state (record { packets = packets; admitted = came; dropped = lost }) banks fans) served true → next ≡ source.next + packets
+  in_of : (packets came lost : ℕ) (banks : UniQueues) (fans : FanQueues) (next : ℕ)
+      → HasSent (posted_state state (record { packets = packets; admitted = came; dropped = lost }) banks fans) served true → next ≡ source.next + packets
       → IsIn plan (record { coming = source.coming; next = next; banks = banks; fans = fans }) served
   in_of packets came lost banks fans next sent e = record {
     next = subst (IsNext plan.packets (length served + 1)) (sym e) sent.next;
     queues = subst (λ k. AreQueues plan (λ q. queue_in plan q served (length served)) k banks fans) (sym e) sent.queues;
   }
 
-  counted-is : (packets came lost : ℕ) (banks : UniQueues) (fans : FanQueues) → HasSent (posted_state state (record { packets = packets; admitted = came; dropped = lost }) banks fans) served true → came ≡ count_in true plan served (length served) (arriving plan (length served))
+  counted-is : (packets came lost : ℕ) (banks : UniQueues) (fans : FanQueues)
+      → HasSent (posted_state state (record { packets = packets; admitted = came; dropped = lost }) banks fans) served true
+      → came ≡ count_in true plan served (length served) (arriving plan (length served))
   counted-is packets came lost banks fans sent =
       let all : admitted plan served (length served) + came ≡ admitted plan served (length served + 1) = sent.admitted in
       let one : length served + 1 ≡ suc (length served) = omega arith in
-      let more : admitted plan served (length served + 1) ≡ admitted plan served (length served) + count_in true plan served (length served) (arriving plan (length served)) = ap (admitted plan served) one in
+      let more : admitted plan served (length served + 1) ≡ admitted plan served (length served) + count_in true plan served (length served)
+      (arriving plan (length served)) = ap (admitted plan served) one in
       omega arith
 
-  none : option_map planned_of None ≡ next_in (map planned_of source.coming) source.next (length served) → HasEntered n depth (length served) served source source None
+  none : option_map planned_of None ≡ next_in (map planned_of source.coming) source.next (length served)
+      → HasEntered n depth (length served) served source source None
   none e =
-      let sent = posted_is state served was None (record { packets = 0; admitted = 0; dropped = 0 }) source.banks source.fans (next-is None e) (refl, refl, refl, refl, refl) in
+      let sent = posted_is state served was None (record { packets = 0; admitted = 0; dropped = 0 }) source.banks source.fans (next-is None e)
+      (refl, refl, refl, refl, refl) in
       record {
         coming = refl;
         queues = in_of 0 0 0 source.banks source.fans source.next sent (omega arith);
@@ -202,7 +219,8 @@ module _ (n depth : ℕ) (source : Source) (served : List (Option Served)) (part
       }
 
   -- the packet of the slot is the next one
-  same_coming : (c : Coming) (k : ℕ) (p : Planned) → slice_get source.coming source.next ≡ Some c → c.slot ≡ length served → arriving plan (length served) ≡ Some (k, p) → p ≡ planned_of c
+  same_coming : (c : Coming) (k : ℕ) (p : Planned) → slice_get source.coming source.next ≡ Some c → c.slot ≡ length served
+      → arriving plan (length served) ≡ Some (k, p) → p ≡ planned_of c
   same_coming c k p there now arrives =
       let found = arriving-there 0 plan.packets (length served) k p arrives in
       let (d, at, same) = planned-at source.coming found.0 p (ap (λ ps. slice_get ps found.0) (sym (packets-are n depth source.coming)) ∙ found.2) in
@@ -217,21 +235,29 @@ module _ (n depth : ℕ) (source : Source) (served : List (Option Served)) (part
         ]
       ]
 
-  module _ (c : Coming) (there : slice_get source.coming source.next ≡ Some c) (now : c.slot ≡ length served) (e : option_map planned_of (Some c) ≡ next_in (map planned_of source.coming) source.next (length served)) where
+  module _ (c : Coming) (there : slice_get source.coming source.next ≡ Some c) (now : c.slot ≡ length served)
+      (e : option_map planned_of (Some c) ≡ next_in (map planned_of source.coming) source.next (length served)) where
     coming_is : IsComing n c
     coming_is = part.input.packets source.next c there
 
     routed : is_routed (planned_of c) ≡ true
     routed = let some = coming_is.routed in rw (ne_eqb c.fan 0 some) refl
 
-    sent_of : (fits : Bool) (banks : UniQueues) (fans : FanQueues) → Enters source.next (planned_of c) fits source.banks source.fans banks fans → HasSent (posted_state state (record { packets = 1; admitted = counted true (planned_of c) fits; dropped = counted false (planned_of c) fits }) banks fans) served true
-    sent_of fits banks fans enters = posted_is state served was (Some (planned_of c)) (record { packets = 1; admitted = counted true (planned_of c) fits; dropped = counted false (planned_of c) fits }) banks fans (next-is (Some c) e) (fits, enters, refl, refl, refl)
+    sent_of : (fits : Bool) (banks : UniQueues) (fans : FanQueues) → Enters source.next (planned_of c) fits source.banks source.fans banks fans
+        → HasSent (posted_state state
+        (record { packets = 1; admitted = counted true (planned_of c) fits; dropped = counted false (planned_of c) fits }) banks fans) served true
+    sent_of fits banks fans enters =
+        posted_is state served was (Some (planned_of c))
+        (record { packets = 1; admitted = counted true (planned_of c) fits; dropped = counted false (planned_of c) fits }) banks fans (next-is (Some c) e)
+        (fits, enters, refl, refl, refl)
 
     cells-of : (j k : ℕ) (p : Planned) → p ≡ planned_of c → (if has p.fan j then size_of p else 0) ≡ cells_to (Some c) j
-    cells-of j k p same = ap (λ (q : Planned). if has q.fan j then size_of q else 0) same ∙ ap (λ size. if has c.fan j then size else 0) (size-planned c coming_is.some coming_is.few)
+    cells-of j k p same = ap (λ (q : Planned). if has q.fan j then size_of q else 0) same
+        ∙ ap (λ size. if has c.fan j then size else 0) (size-planned c coming_is.some coming_is.few)
 
     one_by : (fits : Bool) (banks : UniQueues) (fans : FanQueues) → Enters source.next (planned_of c) fits source.banks source.fans banks fans
-        → HasEntered n depth (length served) served source (record { coming = source.coming; next = source.next + 1; banks = banks; fans = fans }) (if fits then Some c else None)
+        → HasEntered n depth (length served) served source (record { coming = source.coming; next = source.next + 1; banks = banks; fans = fans })
+        (if fits then Some c else None)
     one_by true banks fans enters =
         let sent = sent_of true banks fans enters in
         let one : counted true (planned_of c) true ≡ 1 = rw routed refl in
@@ -239,7 +265,9 @@ module _ (n depth : ℕ) (source : Source) (served : List (Option Served)) (part
           coming = refl;
           queues = in_of 1 (counted true (planned_of c) true) (counted false (planned_of c) true) banks fans (source.next + 1) sent refl;
           cells = λ j.
-              let (k, p, arrives, brings) = brought-some plan served j (length served) (arriving plan (length served)) (sym (counted-is 1 (counted true (planned_of c) true) (counted false (planned_of c) true) banks fans sent) ∙ one) in
+              let (k, p, arrives, brings) =
+              brought-some plan served j (length served) (arriving plan (length served))
+              (sym (counted-is 1 (counted true (planned_of c) true) (counted false (planned_of c) true) banks fans sent) ∙ one) in
               brings ∙ cells-of j k p (same_coming c k p there now arrives);
         }
     one_by false banks fans enters =
@@ -248,19 +276,29 @@ module _ (n depth : ℕ) (source : Source) (served : List (Option Served)) (part
         record {
           coming = refl;
           queues = in_of 1 (counted true (planned_of c) false) (counted false (planned_of c) false) banks fans (source.next + 1) sent refl;
-          cells = λ j. brought-none plan served j (length served) (arriving plan (length served)) (sym (counted-is 1 (counted true (planned_of c) false) (counted false (planned_of c) false) banks fans sent) ∙ nothing);
+          cells = λ j. brought-none plan served j (length served) (arriving plan (length served))
+              (sym (counted-is 1 (counted true (planned_of c) false) (counted false (planned_of c) false) banks fans sent) ∙ nothing);
         }
 
   -- at a slot that is said
-  pub none_at : (slot : ℕ) → length served ≡ slot → option_map planned_of None ≡ next_in (map planned_of source.coming) source.next slot → HasEntered n depth slot served source source None
-  none_at slot long e = subst (λ s. HasEntered n depth s served source source None) long (none (subst (λ s. option_map planned_of None ≡ next_in (map planned_of source.coming) source.next s) (sym long) e))
+  pub none_at : (slot : ℕ) → length served ≡ slot → option_map planned_of None ≡ next_in (map planned_of source.coming) source.next slot
+      → HasEntered n depth slot served source source None
+  none_at slot long e = subst (λ s. HasEntered n depth s served source source None) long
+      (none (subst (λ s. option_map planned_of None ≡ next_in (map planned_of source.coming) source.next s) (sym long) e))
 
-  pub one_at : (slot : ℕ) → length served ≡ slot → (c : Coming) → slice_get source.coming source.next ≡ Some c → c.slot ≡ slot → option_map planned_of (Some c) ≡ next_in (map planned_of source.coming) source.next slot
+  pub one_at : (slot : ℕ) → length served ≡ slot → (c : Coming) → slice_get source.coming source.next ≡ Some c → c.slot ≡ slot
+      → option_map planned_of (Some c) ≡ next_in (map planned_of source.coming) source.next slot
       → (fits : Bool) (banks : UniQueues) (fans : FanQueues) → Enters source.next (planned_of c) fits source.banks source.fans banks fans
-      → HasEntered n depth slot served source (record { coming = source.coming; next = source.next + 1; banks = banks; fans = fans }) (if fits then Some c else None)
+      → HasEntered n depth slot served source (record { coming = source.coming; next = source.next + 1; banks = banks; fans = fans })
+      (if fits then Some c else None)
   one_at slot long c there now e fits banks fans enters =
-      subst (λ s. HasEntered n depth s served source (record { coming = source.coming; next = source.next + 1; banks = banks; fans = fans }) (if fits then Some c else None)) long
-      (one_by c there (now ∙ sym long) (subst (λ s. option_map planned_of (Some c) ≡ next_in (map planned_of source.coming) source.next s) (sym long) e) fits banks fans enters)
+      subst (λ s. HasEntered n depth s served source (record { coming = source.coming; next = source.next + 1; banks = banks; fans = fans })
+      (if fits then Some c else None)) long
+      (one_by c there (now ∙ sym long)
+      (subst (λ s. option_map planned_of (Some c) ≡ next_in (map planned_of source.coming) source.next s) (sym long) e) fits banks fans enters)
 
-  pub may_at : (slot : ℕ) → length served ≡ slot → (c : Coming) → slice_get source.coming source.next ≡ Some c → option_map planned_of (Some c) ≡ next_in (map planned_of source.coming) source.next slot → MayEnter source.banks source.fans (planned_of c)
-  may_at slot long c there e = may_come c (part.input.packets source.next c there).routed (subst (λ s. option_map planned_of (Some c) ≡ next_in (map planned_of source.coming) source.next s) (sym long) e)
+  pub may_at : (slot : ℕ) → length served ≡ slot → (c : Coming) → slice_get source.coming source.next ≡ Some c
+      → option_map planned_of (Some c) ≡ next_in (map planned_of source.coming) source.next slot → MayEnter source.banks source.fans (planned_of c)
+  may_at slot long c there e =
+      may_come c (part.input.packets source.next c there).routed
+      (subst (λ s. option_map planned_of (Some c) ≡ next_in (map planned_of source.coming) source.next s) (sym long) e)

@@ -12,15 +12,18 @@ use Rattle.output_queued.specs.Noting.{Source, IsBefore, IsIn}
 use Rattle.output_queued.specs.Steps.{IsPart, MayTake, HasTaken}
 use Rattle.output_queued.proofs.Sources.{good-card}
 
-module _ (n depth : ℕ) (source : Source) (served : List (Option Served)) (part : IsPart n depth source.coming) (is : IsIn (card_for n depth source.coming) source served) where
+module _ (n depth : ℕ) (source : Source) (served : List (Option Served)) (part : IsPart n depth source.coming)
+    (is : IsIn (card_for n depth source.coming) source served) where
   abbrev card : Plan
   card = card_for n depth source.coming
 
   -- the card with these queues
   abbrev state : State
   state =
-      state_of (card_for n depth source.coming) source.next (length served) true (granted_at (card_for n depth source.coming) served (length served)) (row_at (card_for n depth source.coming) served (length served))
-      (admitted (card_for n depth source.coming) served (length served + 1)) (dropped (card_for n depth source.coming) served (length served + 1)) source.banks source.fans
+      state_of (card_for n depth source.coming) source.next (length served) true (granted_at (card_for n depth source.coming) served (length served))
+      (row_at (card_for n depth source.coming) served (length served))
+      (admitted (card_for n depth source.coming) served (length served + 1))
+      (dropped (card_for n depth source.coming) served (length served + 1)) source.banks source.fans
 
   was : HasSent state served true
   was = record {
@@ -47,7 +50,8 @@ module _ (n depth : ℕ) (source : Source) (served : List (Option Served)) (part
   coming_same None new same = ap (λ (s : Source). s.coming) same
   coming_same (Some given) new taken = taken.0.coming
 
-  pub taken_off : (given : Option Served) (new : Source) → IsServable (row_at card served (length served)) given → HasTaken given source new → IsBefore card new (served ++ given ∷ [])
+  pub taken_off : (given : Option Served) (new : Source) → IsServable (row_at card served (length served)) given → HasTaken given source new
+      → IsBefore card new (served ++ given ∷ [])
   taken_off None new may same =
       let sent = take_none state served was in
       subst (λ (s : Source). IsBefore card s (served ++ None ∷ [])) (sym same) (record { next = sent.next; queues = sent.queues })
@@ -56,5 +60,6 @@ module _ (n depth : ℕ) (source : Source) (served : List (Option Served)) (part
       let sent = take_some state served was given name new.banks new.fans may left in
       record {
         next = subst (IsNext card.packets (length (served ++ Some given ∷ []))) (sym taken.0.next) sent.next;
-        queues = subst (λ k. AreQueues card (λ q. before card q (served ++ Some given ∷ []) (length (served ++ Some given ∷ []))) k new.banks new.fans) (sym taken.0.next) sent.queues;
+        queues = subst (λ k. AreQueues card (λ q. before card q (served ++ Some given ∷ []) (length (served ++ Some given ∷ []))) k new.banks new.fans)
+            (sym taken.0.next) sent.queues;
       }

@@ -1,6 +1,7 @@
 -- What comes to the outputs of a switch, and what its slots feed them. The switch is the list of what each input is to
 -- send, and the matches of its slots say which input fed which output.
-use Rattle.std.specs.Prelude.{◌≡◌, ◌≢◌, ℕ, ◌+◌, ◌-◌, ◌*◌, ◌<◌, ◌≤◌, ◌&&◌, is_some, if◌then◌else◌, List, [], map, length, replicate, Option, None, Some, slice_get, slice_index_or}
+use Rattle.std.specs.Prelude.{◌≡◌, ◌≢◌, ℕ, ◌+◌, ◌-◌, ◌*◌, ◌<◌, ◌≤◌, ◌&&◌, is_some, if◌then◌else◌, List, [], map, length, replicate, Option, None, Some}
+use Rattle.std.specs.Prelude.{slice_get, slice_index_or}
 use Rattle.std.specs.List.{sum_by, range_with_len}
 use Rattle.rotating_pick.specs.PortSets.{IsAmong}
 use Rattle.rotating_pick.specs.declared.kinds.Kind.{Kind}
@@ -69,12 +70,15 @@ rows_after cards matches = map (λ i. row_at (card_of cards i) (served_in matche
 -- each slot has a match of the switch's ports, and serves only what the rows of the slot name
 pub record AreServed (cards : List Plan) (matches : List Matched) : Type 0 where
   pub whole : (t : ℕ) → t < length matches → IsMatch (length cards) (match_at matches t)
-  pub named : (t i j level : ℕ) (kind : Kind) → t < length matches → Serves (match_at matches t) i j level kind → Names (row_at (card_of cards i) (served_in matches i) t) level kind j
+  pub named : (t i j level : ℕ) (kind : Kind) → t < length matches → Serves (match_at matches t) i j level kind
+      → Names (row_at (card_of cards i) (served_in matches i) t) level kind j
 
 -- after these slots no cell waits in any queue
 pub record AreEmptied (cards : List Plan) (matches : List Matched) : Type 0 where
-  pub unicast : (i j level : ℕ) → i < length cards → j < length cards → level < LEVELS → waiting (before (card_of cards i) (OfOutput j level) (served_in matches i) (length matches)) ≡ []
-  pub multicast : (i level : ℕ) → i < length cards → level < LEVELS → waiting (before (card_of cards i) (OfLevel level) (served_in matches i) (length matches)) ≡ []
+  pub unicast : (i j level : ℕ) → i < length cards → j < length cards → level < LEVELS
+      → waiting (before (card_of cards i) (OfOutput j level) (served_in matches i) (length matches)) ≡ []
+  pub multicast : (i level : ℕ) → i < length cards → level < LEVELS
+      → waiting (before (card_of cards i) (OfLevel level) (served_in matches i) (length matches)) ≡ []
 
 -- the inputs of a switch: of each a plan that a card can be made of, for as many ports as there are inputs
 pub record AreCards (cards : List Plan) : Type 0 where

@@ -6,7 +6,8 @@ use Rattle.output_queued.specs.declared.line.RefLine.{RefLine}
 -- the line of output j
 unfoldable pub reference_line : ℕ → RefLine → List (List ℕ)
 reference_line j line =
-    codes "reference" ∷ decimal j ∷ codes "ends" ∷ decimal line.ends ∷ codes "runs" ∷ decimal line.runs ∷ codes "lead" ∷ decimal line.lead ∷ codes "extra" ∷ decimal line.extra ∷ []
+    codes "reference" ∷ decimal j ∷ codes "ends" ∷ decimal line.ends ∷ codes "runs" ∷ decimal line.runs ∷ codes "lead" ∷ decimal line.lead ∷ codes "extra"
+    ∷ decimal line.extra ∷ []
 
 -- the lines of these outputs, from output 0 on
 abbrev pub reference_lines : List RefLine → List (List (List ℕ))

@@ -33,14 +33,16 @@ pub(crate) fn let_in(
     unserved: Ports,
     slot: u32,
 ) -> Ports
-    requires stand { (ports depth : ℕ) × (served : ℕ → List (Option AServed)) × Stand ports depth slot inputs.old.items served × (length tallies.old.items ≡ ports) }
+    requires stand { (ports depth : ℕ) × (served : ℕ → List (Option AServed)) × Stand ports depth slot inputs.old.items served
+        × (length tallies.old.items ≡ ports) }
     requires size { length inputs.old.items ≤ MAX_PORTS }
     requires small { (j : ℕ) → (tally_at tallies.old.items j).came ≤ 2 ^ 40 }
     requires unserved { IsUnserved unserved tallies.old.items }
     ensures count { length tallies.new.items ≡ length tallies.old.items }
     ensures small { (j : ℕ) → (tally_at tallies.new.items j).came ≤ (tally_at tallies.old.items j).came + 131072 }
     ensures unserved { IsUnserved result tallies.new.items }
-    ensures entered { (ports depth : ℕ) (served : ℕ → List (Option AServed)) → Stand ports depth slot inputs.old.items served → HaveEntered ports depth slot ports served inputs.old.items inputs.new.items tallies.old.items tallies.new.items }
+    ensures entered { (ports depth : ℕ) (served : ℕ → List (Option AServed)) → Stand ports depth slot inputs.old.items served
+        → HaveEntered ports depth slot ports served inputs.old.items inputs.new.items tallies.old.items tallies.new.items }
 {
     let mut unserved = unserved;
     for input in 0..inputs.len() {

@@ -90,8 +90,10 @@ impl Input {
 
     /// Lets in the packet of slot `slot`, if there is one and it fits. Answers it where it was admitted.
     pub(crate) fn arrive(&mut self, slot: u32) -> Option<Coming>
-        requires { (n depth : ℕ) × (served : List (Option AServed)) × IsPart n depth self.old.coming × (length served ≡ slot) × IsBefore (card_for n depth self.old.coming) self.old served }
-        ensures entered { (n depth : ℕ) (served : List (Option AServed)) → IsPart n depth self.old.coming → length served ≡ slot → IsBefore (card_for n depth self.old.coming) self.old served → HasEntered n depth slot served self.old self.new result }
+        requires { (n depth : ℕ) × (served : List (Option AServed)) × IsPart n depth self.old.coming × (length served ≡ slot)
+            × IsBefore (card_for n depth self.old.coming) self.old served }
+        ensures entered { (n depth : ℕ) (served : List (Option AServed)) → IsPart n depth self.old.coming → length served ≡ slot
+            → IsBefore (card_for n depth self.old.coming) self.old served → HasEntered n depth slot served self.old self.new result }
         ensures packet { (n depth : ℕ) → IsPart n depth self.old.coming → IsAdmissible n result }
     {
         let packet = arriving(&self.coming, self.next, slot)?;

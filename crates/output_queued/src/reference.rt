@@ -52,9 +52,18 @@ impl Model for Reference {
 
     ghost Value = { State };
 
-    ghost view = { λ r. record { ports = r.ports; depth = r.depth; slots = r.slots; sources = r.inputs.items; tallies = r.tallies.items; unserved = r.unserved } };
+    ghost view = { λ r. record {
+      ports = r.ports;
+      depth = r.depth;
+      slots = r.slots;
+      sources = r.inputs.items;
+      tallies = r.tallies.items;
+      unserved = r.unserved;
+    } };
 
-    ghost invariant = { λ r. (matches : List Matched) × HasNoted (record { ports = r.ports; depth = r.depth; slots = r.slots; sources = r.inputs.items; tallies = r.tallies.items; unserved = r.unserved }) matches };
+    ghost invariant = { λ r. (matches : List Matched)
+        × HasNoted (record { ports = r.ports; depth = r.depth; slots = r.slots; sources = r.inputs.items; tallies = r.tallies.items; unserved = r.unserved })
+        matches };
 }
 
 impl Reference {
@@ -138,7 +147,8 @@ impl Reference {
     pub fn line(&self, output: u32) -> RefLine
         requires { output < self.now.ports }
         ensures value { (matches : List Matched) → HasNoted self.now matches → result ≡ line_of (cards_in self.now) matches output }
-        ensures never_behind { (matches : List Matched) (t : ℕ) → HasNoted self.now matches → t ≤ length matches → ran matches output t ≤ ideal (cards_in self.now) matches output t }
+        ensures never_behind { (matches : List Matched) (t : ℕ) → HasNoted self.now matches → t ≤ length matches
+            → ran matches output t ≤ ideal (cards_in self.now) matches output t }
     {
         self.tallies[output as usize].line
     }
@@ -160,7 +170,8 @@ fn count_slot(tallies: &mut Vec<Tally>, unserved: Ports, slot: u32, matched: &Ma
     requires unserved { IsUnserved unserved tallies.old.items }
     requires small { (j : ℕ) → j < length tallies.old.items → IsSmall slot (tally_at tallies.old.items j) }
     ensures count { length tallies.new.items ≡ length tallies.old.items }
-    ensures ticks { (j : ℕ) → Has unserved j → Ticks slot (if is_some (fed_of matched.now j) then 1 else 0) (tally_at tallies.old.items j) (tally_at tallies.new.items j) }
+    ensures ticks { (j : ℕ) → Has unserved j
+        → Ticks slot (if is_some (fed_of matched.now j) then 1 else 0) (tally_at tallies.old.items j) (tally_at tallies.new.items j) }
     ensures others { (j : ℕ) → (Has unserved j → ⊥) → tally_at tallies.new.items j ≡ tally_at tallies.old.items j }
     ensures unserved { IsUnserved result tallies.new.items }
 {

@@ -37,7 +37,8 @@ fn count(n: u32, unicast: &mut [u32], multicast: &mut [u32; LEVEL_COUNT], packet
     requires long { length unicast.old ≡ LEVELS * n }
     requires few { AreFew (MAX_ARRIVALS - 1) unicast.old multicast.old }
     requires packet { IsComing n packet }
-    ensures rooms { (before : List AComing) → HasRooms n (map planned_of before) unicast.old multicast.old → HasRooms n (map planned_of (before ++ packet ∷ [])) unicast.new multicast.new }
+    ensures rooms { (before : List AComing) → HasRooms n (map planned_of before) unicast.old multicast.old
+        → HasRooms n (map planned_of (before ++ packet ∷ [])) unicast.new multicast.new }
     ensures few { (k : ℕ) → AreFew k unicast.old multicast.old → AreFew (k + 1) unicast.new multicast.new }
 {
     let level = packet.level as usize;

@@ -12,7 +12,8 @@ abbrev pub DifferBelow : {X : Type 0} → (X → List ℕ) → ℕ → List X �
 DifferBelow {X} text i xs = (j k : ℕ) (d : X) → j < k → k < i → text (get_or xs j d) ≡ text (get_or xs k d) → ⊥
 
 -- one of the first i elements has the text that was found among them
-pub found_before : {X : Type 0} (text : X → List ℕ) (xs : List X) (i : ℕ) (here : List ℕ) → i ≤ length xs → list_any (λ x. bytes_eq (text x) here) (take i xs) ≡ true
+pub found_before : {X : Type 0} (text : X → List ℕ) (xs : List X) (i : ℕ) (here : List ℕ) → i ≤ length xs
+    → list_any (λ x. bytes_eq (text x) here) (take i xs) ≡ true
     → (k : ℕ) × (x : X) × (k < i) × (text (get_or xs k x) ≡ here)
 found_before text xs i here within any =
     let a = Any-from_list_any (λ x. bytes_eq (text x) here) (take i xs) any in
@@ -23,7 +24,8 @@ not_both : (b : Bool) → b ≡ true → b ≡ false → ⊥
 not_both b is isnt = absurd (cc)
 
 -- where its text is none of theirs, it differs too
-pub differ_more : {X : Type 0} (text : X → List ℕ) (xs : List X) (i : ℕ) (d : X) → DifferBelow text i xs → i < length xs → list_any (λ x. bytes_eq (text x) (text (get_or xs i d))) (take i xs) ≡ false
+pub differ_more : {X : Type 0} (text : X → List ℕ) (xs : List X) (i : ℕ) (d : X) → DifferBelow text i xs → i < length xs
+    → list_any (λ x. bytes_eq (text x) (text (get_or xs i d))) (take i xs) ≡ false
     → DifferBelow text (i + 1) xs
 differ_more text xs i d differ within none j k e before below same =
     elim (cases_lt k i) [
@@ -31,7 +33,8 @@ differ_more text xs i d differ within none j k e before below same =
       | inr last ↦
           let is : k ≡ i = omega arith in
           let less : j < i = omega arith in
-          let at : text (get_or (take i xs) j e) ≡ text (get_or xs i d) = ap text (get_or-take i xs j e less) ∙ (same ∙ (ap (λ n. text (get_or xs n e)) is ∙ ap text (get_or_default xs i e d within))) in
+          let at : text (get_or (take i xs) j e) ≡ text (get_or xs i d) = ap text (get_or-take i xs j e less)
+          ∙ (same ∙ (ap (λ n. text (get_or xs n e)) is ∙ ap text (get_or_default xs i e d within))) in
           let short : j < length (take i xs) = omega (arith, length-take-le i xs (omega arith)) in
           not_both _ (list_any_at (λ x. bytes_eq (text x) (text (get_or xs i d))) (take i xs) j e short ((bytes_eq-Decides _ _).1 at)) none
     ]

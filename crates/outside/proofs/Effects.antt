@@ -59,15 +59,18 @@ begun_again true was = refl
 begun_again false was = refl
 
 pub begin_file-begin_file : (name : List ℕ) (c : Contents) → begin_file name (begin_file name c) ≡ begin_file name c
-begin_file-begin_file name c = λ j. record { file = λ n. again_at (bytes_eq n name) (c.file n) j; begun = λ n. begun_again (bytes_eq n name) (c.begun n) j; out = c.out; err = c.err }
+begin_file-begin_file name c =
+    λ j. record { file = λ n. again_at (bytes_eq n name) (c.file n) j; begun = λ n. begun_again (bytes_eq n name) (c.begun n) j; out = c.out; err = c.err }
 
-emptied_at : (here : Bool) (o : Option (List ℕ)) (more : List ℕ) → cond here (Some []) (cond here (option_map (λ bytes. bytes ++ more) o) o) ≡ cond here (Some []) o
+emptied_at : (here : Bool) (o : Option (List ℕ)) (more : List ℕ)
+    → cond here (Some []) (cond here (option_map (λ bytes. bytes ++ more) o) o) ≡ cond here (Some []) o
 emptied_at true o more = refl
 emptied_at false o more = refl
 
 -- what a file held before it was begun is gone
 pub begin_file-append_file : (name more : List ℕ) (c : Contents) → begin_file name (append_file name more c) ≡ begin_file name c
-begin_file-append_file name more c = λ j. record { file = λ n. emptied_at (bytes_eq n name) (c.file n) more j; begun = λ n. bytes_eq n name || c.begun n; out = c.out; err = c.err }
+begin_file-append_file name more c =
+    λ j. record { file = λ n. emptied_at (bytes_eq n name) (c.file n) more j; begun = λ n. bytes_eq n name || c.begun n; out = c.out; err = c.err }
 
 -- What a file holds
 
@@ -117,19 +120,23 @@ pub is_begun : (name : List ℕ) (o : Option Contents) → IfSome (option_map (b
 is_begun name None = tt
 is_begun name (Some c) = begun-begin_file name c
 
-pub is_begun-begin_file : (name n : List ℕ) (o : Option Contents) → IfSome o (λ c. c.begun n ≡ true) → IfSome (option_map (begin_file name) o) (λ c. c.begun n ≡ true)
+pub is_begun-begin_file : (name n : List ℕ) (o : Option Contents) → IfSome o (λ c. c.begun n ≡ true)
+    → IfSome (option_map (begin_file name) o) (λ c. c.begun n ≡ true)
 is_begun-begin_file name n None is = tt
 is_begun-begin_file name n (Some c) is = begun-begin_file-stays name n c is
 
-pub is_begun-append_file : (name more n : List ℕ) (o : Option Contents) → IfSome o (λ c. c.begun n ≡ true) → IfSome (option_map (append_file name more) o) (λ c. c.begun n ≡ true)
+pub is_begun-append_file : (name more n : List ℕ) (o : Option Contents) → IfSome o (λ c. c.begun n ≡ true)
+    → IfSome (option_map (append_file name more) o) (λ c. c.begun n ≡ true)
 is_begun-append_file name more n None is = tt
 is_begun-append_file name more n (Some c) is = is
 
-pub is_begun-append_out : (more n : List ℕ) (o : Option Contents) → IfSome o (λ c. c.begun n ≡ true) → IfSome (option_map (append_out more) o) (λ c. c.begun n ≡ true)
+pub is_begun-append_out : (more n : List ℕ) (o : Option Contents) → IfSome o (λ c. c.begun n ≡ true)
+    → IfSome (option_map (append_out more) o) (λ c. c.begun n ≡ true)
 is_begun-append_out more n None is = tt
 is_begun-append_out more n (Some c) is = is
 
-pub is_begun-append_err : (more n : List ℕ) (o : Option Contents) → IfSome o (λ c. c.begun n ≡ true) → IfSome (option_map (append_err more) o) (λ c. c.begun n ≡ true)
+pub is_begun-append_err : (more n : List ℕ) (o : Option Contents) → IfSome o (λ c. c.begun n ≡ true)
+    → IfSome (option_map (append_err more) o) (λ c. c.begun n ≡ true)
 is_begun-append_err more n None is = tt
 is_begun-append_err more n (Some c) is = is
 
@@ -148,9 +155,11 @@ err_none None = refl
 err_none (Some c) = ap Some (append_err-nothing c)
 
 pub write_more : (name bytes : List ℕ) (n k : ℕ) (o : Option Contents)
-    → option_map (append_file name (take k (drop n bytes))) (option_map (append_file name (take n bytes)) o) ≡ option_map (append_file name (take (n + k) bytes)) o
+    → option_map (append_file name (take k (drop n bytes))) (option_map (append_file name (take n bytes)) o) ≡ option_map
+    (append_file name (take (n + k) bytes)) o
 write_more name bytes n k None = refl
-write_more name bytes n k (Some c) = ap Some (append_file-append_file name (take n bytes) (take k (drop n bytes)) c ∙ ap (λ xs. append_file name xs c) (sym (take-add n k bytes)))
+write_more name bytes n k (Some c) =
+    ap Some (append_file-append_file name (take n bytes) (take k (drop n bytes)) c ∙ ap (λ xs. append_file name xs c) (sym (take-add n k bytes)))
 
 pub out_more : (bytes : List ℕ) (n k : ℕ) (o : Option Contents)
     → option_map (append_out (take k (drop n bytes))) (option_map (append_out (take n bytes)) o) ≡ option_map (append_out (take (n + k) bytes)) o
@@ -163,6 +172,7 @@ err_more bytes n k None = refl
 err_more bytes n k (Some c) = ap Some (append_err-append_err (take n bytes) (take k (drop n bytes)) c ∙ ap (λ xs. append_err xs c) (sym (take-add n k bytes)))
 
 -- a write that failed, or not, leaves a name begun
-pub is_begun-after_write : {E : Type 0} (r : Result ℕ E) (name bytes n : List ℕ) (o : Option Contents) → IfSome o (λ c. c.begun n ≡ true) → IfSome (after_write r name bytes o) (λ c. c.begun n ≡ true)
+pub is_begun-after_write : {E : Type 0} (r : Result ℕ E) (name bytes n : List ℕ) (o : Option Contents) → IfSome o (λ c. c.begun n ≡ true)
+    → IfSome (after_write r name bytes o) (λ c. c.begun n ≡ true)
 is_begun-after_write (Ok k) name bytes n o is = is_begun-append_file name (take k bytes) n o is
 is_begun-after_write (Err e) name bytes n o is = is

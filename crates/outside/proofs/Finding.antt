@@ -23,7 +23,8 @@ place_is : (name : List ℕ) (fs : List FileState) (i : ℕ) → position (λ f.
 place_is name fs i at = sym (some_place _ (position_or_len (λ f. bytes_eq name f.name) fs) i at)
 
 -- the file that a name finds
-pub found : (name : List ℕ) (fs : List FileState) (i : ℕ) (d : FileState) → position (λ f. bytes_eq name f.name) fs ≡ Some i → file_named name fs ≡ Some (get_or fs i d)
+pub found : (name : List ℕ) (fs : List FileState) (i : ℕ) (d : FileState) → position (λ f. bytes_eq name f.name) fs ≡ Some i
+    → file_named name fs ≡ Some (get_or fs i d)
 found name fs i d at =
     let within : i < length fs = (position-Some (λ (f : FileState). bytes_eq name f.name) fs i d at).0 in
     find_at (λ (f : FileState). bytes_eq name f.name) fs ∙ rw (← place_is name fs i at) (slice_get-get_or fs i d within)
@@ -50,7 +51,8 @@ put_at name n fs i d after at is false same =
     find_past (λ (f : FileState). bytes_eq n f.name) fs i after d old new
 
 -- a file that is written over the one that its name finds
-pub put : (name : List ℕ) (fs : List FileState) (i : ℕ) (d after : FileState) → position (λ f. bytes_eq name f.name) fs ≡ Some i → after.name ≡ name → PutsFile fs (set fs i after) name after
+pub put : (name : List ℕ) (fs : List FileState) (i : ℕ) (d after : FileState) → position (λ f. bytes_eq name f.name) fs ≡ Some i → after.name ≡ name
+    → PutsFile fs (set fs i after) name after
 put name fs i d after at is = record { finds = λ n. put_at name n fs i d after at is (bytes_eq n name) refl }
 
 or_none : (o : Option FileState) → option_or o None ≡ o
@@ -66,14 +68,17 @@ pushed_at name n fs f none is false same = rw (is, same) (or_none (file_named n 
 
 -- a file that is added, where its name found none
 pub pushed : (name : List ℕ) (fs : List FileState) (f : FileState) → file_named name fs ≡ None → f.name ≡ name → PutsFile fs (fs ++ f ∷ []) name f
-pushed name fs f none is = record { finds = λ n. find-append (λ (g : FileState). bytes_eq n g.name) fs (f ∷ []) ∙ pushed_at name n fs f none is (bytes_eq n name) refl }
+pushed name fs f none is =
+    record { finds = λ n. find-append (λ (g : FileState). bytes_eq n g.name) fs (f ∷ []) ∙ pushed_at name n fs f none is (bytes_eq n name) refl }
 
 -- the same, at an element that was read there
-pub put_here : (name : List ℕ) (fs : List FileState) (i : ℕ) (d after : FileState) → position (λ f. bytes_eq name f.name) fs ≡ Some i → d ≡ get_or fs i d → after.name ≡ d.name
+pub put_here : (name : List ℕ) (fs : List FileState) (i : ℕ) (d after : FileState) → position (λ f. bytes_eq name f.name) fs ≡ Some i → d ≡ get_or fs i d
+    → after.name ≡ d.name
     → (file_named name fs ≡ Some d) × PutsFile fs (set fs i after) name after
 put_here name fs i d after at here is =
     let own : d.name ≡ name = ap (λ f. f.name) here ∙ sym (name_is name fs i d at) in
     (found name fs i d at ∙ ap Some (sym here), put name fs i d after at (is ∙ own))
 
-pub own_name : (name : List ℕ) (fs : List FileState) (i : ℕ) (d : FileState) → position (λ f. bytes_eq name f.name) fs ≡ Some i → d ≡ get_or fs i d → d.name ≡ name
+pub own_name : (name : List ℕ) (fs : List FileState) (i : ℕ) (d : FileState) → position (λ f. bytes_eq name f.name) fs ≡ Some i → d ≡ get_or fs i d
+    → d.name ≡ name
 own_name name fs i d at here = ap (λ f. f.name) here ∙ sym (name_is name fs i d at)

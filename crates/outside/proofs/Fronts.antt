@@ -19,30 +19,37 @@ whole file out buf room front piece some =
     let e : out ≡ piece.bytes = front.front_is piece.bytes piece.there ∙ take_all (length out) piece.bytes short in
     piece.there ∙ ap Some (sym e)
 
-pub wholes : (o : Option Contents) (name out buf : List ℕ) (room : ℕ) → IfSome o (λ c. IsFrontOf (c.file name) out) → IfSome o (λ c. GivesPiece (c.file name) (length out) room buf 0) → 0 < room → IfSome o (λ c. c.file name ≡ Some out)
+pub wholes : (o : Option Contents) (name out buf : List ℕ) (room : ℕ) → IfSome o (λ c. IsFrontOf (c.file name) out)
+    → IfSome o (λ c. GivesPiece (c.file name) (length out) room buf 0) → 0 < room → IfSome o (λ c. c.file name ≡ Some out)
 wholes None name out buf room front piece some = tt
 wholes (Some c) name out buf room front piece some = whole (c.file name) out buf room front piece some
 
 -- a front, and a piece after it
-longer_front : (out bytes more : List ℕ) (k : ℕ) → length out ≤ length bytes → out ≡ take (length out) bytes → k ≤ length (drop (length out) bytes) → more ≡ take k (drop (length out) bytes) → (length (out ++ more) ≤ length bytes) × (out ++ more ≡ take (length (out ++ more)) bytes)
+longer_front : (out bytes more : List ℕ) (k : ℕ) → length out ≤ length bytes → out ≡ take (length out) bytes → k ≤ length (drop (length out) bytes)
+    → more ≡ take k (drop (length out) bytes) → (length (out ++ more) ≤ length bytes) × (out ++ more ≡ take (length (out ++ more)) bytes)
 longer_front out bytes more k within front_is k_within more_is =
     let n : length more ≡ k = omega (arith, ap length more_is, length-take k (drop (length out) bytes)) in
     let sum : length (out ++ more) ≡ length out + k = omega (arith, length-append out more) in
     let rest : length (drop (length out) bytes) ≡ length bytes - length out = length-drop (length out) bytes in
     (omega arith, rw sum (rw take-add (ap (λ x. x ++ more) front_is ∙ ap (λ x. take (length out) bytes ++ x) more_is)))
 
-pub longer : (file : Option (List ℕ)) (out buf : List ℕ) (room k : ℕ) → IsFrontOf file out → GivesPiece file (length out) room buf k → IsFrontOf file (out ++ take k buf)
+pub longer : (file : Option (List ℕ)) (out buf : List ℕ) (room k : ℕ) → IsFrontOf file out → GivesPiece file (length out) room buf k
+    → IsFrontOf file (out ++ take k buf)
 longer file out buf room k front piece =
-    let both : (bytes : List ℕ) → file ≡ Some bytes → (length (out ++ take k buf) ≤ length bytes) × (out ++ take k buf ≡ take (length (out ++ take k buf)) bytes) = λ bytes there.
+    let both : (bytes : List ℕ) → file ≡ Some bytes → (length (out ++ take k buf) ≤ length bytes)
+    × (out ++ take k buf ≡ take (length (out ++ take k buf)) bytes) = λ bytes there.
     let e : piece.bytes ≡ bytes = same_bytes file _ _ piece.there there in
     longer_front out bytes (take k buf) k (front.within bytes there) (front.front_is bytes there) (rw (← e) piece.within) (rw (← e) piece.same) in
     record { within = λ bytes there. (both bytes there).0; front_is = λ bytes there. (both bytes there).1 }
 
-pub longers : (o : Option Contents) (name out buf : List ℕ) (room k : ℕ) → IfSome o (λ c. IsFrontOf (c.file name) out) → IfSome o (λ c. GivesPiece (c.file name) (length out) room buf k) → IfSome o (λ c. IsFrontOf (c.file name) (out ++ take k buf))
+pub longers : (o : Option Contents) (name out buf : List ℕ) (room k : ℕ) → IfSome o (λ c. IsFrontOf (c.file name) out)
+    → IfSome o (λ c. GivesPiece (c.file name) (length out) room buf k) → IfSome o (λ c. IsFrontOf (c.file name) (out ++ take k buf))
 longers None name out buf room k front piece = tt
 longers (Some c) name out buf room k front piece = longer (c.file name) out buf room k front piece
 
-pub too_long : (o : Option Contents) (name out buf : List ℕ) (room k most : ℕ) → IfSome o (λ c. IsFrontOf (c.file name) out) → IfSome o (λ c. GivesPiece (c.file name) (length out) room buf k) → length out ≤ most → most - length out < k → IfSome o (λ c. (bytes : List ℕ) × (c.file name ≡ Some bytes) × (most < length bytes))
+pub too_long : (o : Option Contents) (name out buf : List ℕ) (room k most : ℕ) → IfSome o (λ c. IsFrontOf (c.file name) out)
+    → IfSome o (λ c. GivesPiece (c.file name) (length out) room buf k) → length out ≤ most → most - length out < k
+    → IfSome o (λ c. (bytes : List ℕ) × (c.file name ≡ Some bytes) × (most < length bytes))
 too_long None name out buf room k most front piece within more = tt
 too_long (Some c) name out buf room k most front piece within more =
     let rest : length (drop (length out) piece.bytes) ≡ length piece.bytes - length out = length-drop (length out) piece.bytes in
@@ -50,7 +57,8 @@ too_long (Some c) name out buf room k most front piece within more =
     (piece.bytes, piece.there, omega arith)
 
 -- what a read said, of the contents at the start and at numbers that are equal
-pub piece_here : (o now : Option Contents) (name : List ℕ) (at : ℕ) (n room : ℕ) (buf : List ℕ) (k m : ℕ) → now ≡ o → at ≡ n → k ≡ m → IfSome now (λ c. GivesPiece (c.file name) at room buf k) → IfSome o (λ c. GivesPiece (c.file name) n room buf m)
+pub piece_here : (o now : Option Contents) (name : List ℕ) (at : ℕ) (n room : ℕ) (buf : List ℕ) (k m : ℕ) → now ≡ o → at ≡ n → k ≡ m
+    → IfSome now (λ c. GivesPiece (c.file name) at room buf k) → IfSome o (λ c. GivesPiece (c.file name) n room buf m)
 piece_here o now name at n room buf k m e a b h = rw (← e, ← a, ← b) h
 
 -- what an append left, where it did not fail

@@ -23,14 +23,16 @@ kept_at : {X : Type 0} (g : FileState → X) (name n : List ℕ) (old : List Fil
 kept_at g name n old f after there e true same = ap Some e ∙ sym (ap (option_map g) (finds_same name n old f there same))
 kept_at g name n old f after there e false same = refl
 
-kept : {X : Type 0} (g : FileState → X) (name n : List ℕ) (old new : List FileState) (f after : FileState) → file_named name old ≡ Some f → PutsFile old new name after → g after ≡ g f
+kept : {X : Type 0} (g : FileState → X) (name n : List ℕ) (old new : List FileState) (f after : FileState) → file_named name old ≡ Some f
+    → PutsFile old new name after → g after ≡ g f
     → option_map g (file_named n new) ≡ option_map g (file_named n old)
 kept g name n old new f after there puts e = ap (option_map g) (puts.finds n) ∙ kept_at g name n old f after there e (bytes_eq n name) refl
 
 -- A failed call
 
 -- a change of a file's counts alone changes no content
-counted_contents : (name : List ℕ) (old new : List FileState) (f after : FileState) → file_named name old ≡ Some f → PutsFile old new name after → after.bytes ≡ f.bytes → after.begun ≡ f.begun
+counted_contents : (name : List ℕ) (old new : List FileState) (f after : FileState) → file_named name old ≡ Some f → PutsFile old new name after
+    → after.bytes ≡ f.bytes → after.begun ≡ f.begun
     → (out err : List ℕ) → contents_among new out err ≡ contents_among old out err
 counted_contents name old new f after there puts bytes begun out err = λ j. record {
   file = λ n. kept (λ (g : FileState). g.bytes) name n old new f after there puts bytes j;
@@ -42,16 +44,19 @@ counted_contents name old new f after there puts bytes begun out err = λ j. rec
 found_counts : (call : Call) (name n : List ℕ) (old : List FileState) (f : FileState) (was : CallCounts) → file_named name old ≡ Some f
     → (same : Bool) → bytes_eq n name ≡ same
     → unwrap_or (option_map (λ (g : FileState). g.faults) (cond same (Some (record f { faults = one_more call f.faults })) (file_named n old))) was
-    ≡ cond (same || (is_none (option_map (λ (g : FileState). g.bytes) (file_named name old)) && is_none (option_map (λ (g : FileState). g.bytes) (file_named n old)))) (one_more call (counts_at old was n)) (counts_at old was n)
+    ≡ cond (same || (is_none (option_map (λ (g : FileState). g.bytes) (file_named name old))
+    && is_none (option_map (λ (g : FileState). g.bytes) (file_named n old)))) (one_more call (counts_at old was n)) (counts_at old was n)
 found_counts call name n old f was there true same = rw (finds_same name n old f there same) refl
 found_counts call name n old f was there false same = rw there refl
 
 -- it counts in the file of its name
-pub counted_found : (call : Call) (name : List ℕ) (old new : List FileState) (f : FileState) (was : CallCounts) → file_named name old ≡ Some f → PutsFile old new name (record f { faults = one_more call f.faults })
+pub counted_found : (call : Call) (name : List ℕ) (old new : List FileState) (f : FileState) (was : CallCounts) → file_named name old ≡ Some f
+    → PutsFile old new name (record f { faults = one_more call f.faults })
     → CountsFault call name old new was was
 counted_found call name old new f was there puts = record {
   contents = counted_contents name old new f (record f { faults = one_more call f.faults }) there puts refl refl;
-  counts = λ n. ap (λ o. unwrap_or (option_map (λ (g : FileState). g.faults) o) was) (puts.finds n) ∙ found_counts call name n old f was there (bytes_eq n name) refl;
+  counts = λ n. ap (λ o. unwrap_or (option_map (λ (g : FileState). g.faults) o) was) (puts.finds n)
+      ∙ found_counts call name n old f was there (bytes_eq n name) refl;
   out = refl;
   err = refl;
 }
@@ -59,7 +64,8 @@ counted_found call name old new f was there puts = record {
 missing_counts : (call : Call) (name n : List ℕ) (old : List FileState) (was : CallCounts) → file_named name old ≡ None
     → (o : Option FileState) → file_named n old ≡ o → (same : Bool) → bytes_eq n name ≡ same
     → unwrap_or (option_map (λ (g : FileState). g.faults) o) (one_more call was)
-    ≡ cond (same || (is_none (option_map (λ (g : FileState). g.bytes) (file_named name old)) && is_none (option_map (λ (g : FileState). g.bytes) o))) (one_more call (unwrap_or (option_map (λ (g : FileState). g.faults) o) was)) (unwrap_or (option_map (λ (g : FileState). g.faults) o) was)
+    ≡ cond (same || (is_none (option_map (λ (g : FileState). g.bytes) (file_named name old)) && is_none (option_map (λ (g : FileState). g.bytes) o)))
+    (one_more call (unwrap_or (option_map (λ (g : FileState). g.faults) o) was)) (unwrap_or (option_map (λ (g : FileState). g.faults) o) was)
 missing_counts call name n old was none None at true same = refl
 missing_counts call name n old was none None at false same = rw none refl
 missing_counts call name n old was none (Some f) at true same =
@@ -75,7 +81,8 @@ others_kept Write was names = (refl, refl)
 others_kept _ was names = absurd names
 
 -- it counts elsewhere, at all names that are not there
-pub counted_missing : (call : Call) (name : List ℕ) (old : List FileState) (was : CallCounts) → NamesFile call → file_named name old ≡ None → CountsFault call name old old was (one_more call was)
+pub counted_missing : (call : Call) (name : List ℕ) (old : List FileState) (was : CallCounts) → NamesFile call → file_named name old ≡ None
+    → CountsFault call name old old was (one_more call was)
 counted_missing call name old was names none = record {
   contents = λ out err. refl;
   counts = λ n. missing_counts call name n old was none (file_named n old) refl (bytes_eq n name) refl;
@@ -94,26 +101,40 @@ part_kept g false a b e = refl
 -- the counts after a failed call that names a file
 
 pub read_counted : (name : List ℕ) (old new : List FileState) (was now : CallCounts) (out err : List ℕ) → CountsFault Read name old new was now
-    → (p : Place) → faults_among new now p ≡ cond (is_counted (contents_among old out err) (ReadOf name) p) (raised (faults_among old was p)) (faults_among old was p)
-read_counted name old new was now out err c (ReadOf n) = ap (λ x. x.read) (c.counts n) ∙ part_of (λ (x : CallCounts). x.read) (is_alike (contents_among old [] []).file name n) (one_more Read (counts_at old was n)) (counts_at old was n)
-read_counted name old new was now out err c (BeginOf n) = ap (λ x. x.begin) (c.counts n) ∙ part_kept (λ (x : CallCounts). x.begin) (is_alike (contents_among old [] []).file name n) (one_more Read (counts_at old was n)) (counts_at old was n) refl
-read_counted name old new was now out err c (WriteOf n) = ap (λ x. x.write) (c.counts n) ∙ part_kept (λ (x : CallCounts). x.write) (is_alike (contents_among old [] []).file name n) (one_more Read (counts_at old was n)) (counts_at old was n) refl
+    → (p : Place) → faults_among new now p ≡ cond (is_counted (contents_among old out err) (ReadOf name) p) (raised (faults_among old was p))
+    (faults_among old was p)
+read_counted name old new was now out err c (ReadOf n) = ap (λ x. x.read) (c.counts n)
+    ∙ part_of (λ (x : CallCounts). x.read) (is_alike (contents_among old [] []).file name n) (one_more Read (counts_at old was n)) (counts_at old was n)
+read_counted name old new was now out err c (BeginOf n) = ap (λ x. x.begin) (c.counts n)
+    ∙ part_kept (λ (x : CallCounts). x.begin) (is_alike (contents_among old [] []).file name n) (one_more Read (counts_at old was n)) (counts_at old was n) refl
+read_counted name old new was now out err c (WriteOf n) = ap (λ x. x.write) (c.counts n)
+    ∙ part_kept (λ (x : CallCounts). x.write) (is_alike (contents_among old [] []).file name n) (one_more Read (counts_at old was n)) (counts_at old was n) refl
 read_counted name old new was now out err c ToOut = c.out
 read_counted name old new was now out err c ToErr = c.err
 
 pub begin_counted : (name : List ℕ) (old new : List FileState) (was now : CallCounts) (out err : List ℕ) → CountsFault Begin name old new was now
-    → (p : Place) → faults_among new now p ≡ cond (is_counted (contents_among old out err) (BeginOf name) p) (raised (faults_among old was p)) (faults_among old was p)
-begin_counted name old new was now out err c (ReadOf n) = ap (λ x. x.read) (c.counts n) ∙ part_kept (λ (x : CallCounts). x.read) (is_alike (contents_among old [] []).file name n) (one_more Begin (counts_at old was n)) (counts_at old was n) refl
-begin_counted name old new was now out err c (BeginOf n) = ap (λ x. x.begin) (c.counts n) ∙ part_of (λ (x : CallCounts). x.begin) (is_alike (contents_among old [] []).file name n) (one_more Begin (counts_at old was n)) (counts_at old was n)
-begin_counted name old new was now out err c (WriteOf n) = ap (λ x. x.write) (c.counts n) ∙ part_kept (λ (x : CallCounts). x.write) (is_alike (contents_among old [] []).file name n) (one_more Begin (counts_at old was n)) (counts_at old was n) refl
+    → (p : Place) → faults_among new now p ≡ cond (is_counted (contents_among old out err) (BeginOf name) p) (raised (faults_among old was p))
+    (faults_among old was p)
+begin_counted name old new was now out err c (ReadOf n) = ap (λ x. x.read) (c.counts n)
+    ∙ part_kept (λ (x : CallCounts). x.read) (is_alike (contents_among old [] []).file name n) (one_more Begin (counts_at old was n)) (counts_at old was n) refl
+begin_counted name old new was now out err c (BeginOf n) = ap (λ x. x.begin) (c.counts n)
+    ∙ part_of (λ (x : CallCounts). x.begin) (is_alike (contents_among old [] []).file name n) (one_more Begin (counts_at old was n)) (counts_at old was n)
+begin_counted name old new was now out err c (WriteOf n) = ap (λ x. x.write) (c.counts n)
+    ∙ part_kept (λ (x : CallCounts). x.write) (is_alike (contents_among old [] []).file name n) (one_more Begin (counts_at old was n))
+    (counts_at old was n) refl
 begin_counted name old new was now out err c ToOut = c.out
 begin_counted name old new was now out err c ToErr = c.err
 
 pub write_counted : (name : List ℕ) (old new : List FileState) (was now : CallCounts) (out err : List ℕ) → CountsFault Write name old new was now
-    → (p : Place) → faults_among new now p ≡ cond (is_counted (contents_among old out err) (WriteOf name) p) (raised (faults_among old was p)) (faults_among old was p)
-write_counted name old new was now out err c (ReadOf n) = ap (λ x. x.read) (c.counts n) ∙ part_kept (λ (x : CallCounts). x.read) (is_alike (contents_among old [] []).file name n) (one_more Write (counts_at old was n)) (counts_at old was n) refl
-write_counted name old new was now out err c (BeginOf n) = ap (λ x. x.begin) (c.counts n) ∙ part_kept (λ (x : CallCounts). x.begin) (is_alike (contents_among old [] []).file name n) (one_more Write (counts_at old was n)) (counts_at old was n) refl
-write_counted name old new was now out err c (WriteOf n) = ap (λ x. x.write) (c.counts n) ∙ part_of (λ (x : CallCounts). x.write) (is_alike (contents_among old [] []).file name n) (one_more Write (counts_at old was n)) (counts_at old was n)
+    → (p : Place) → faults_among new now p ≡ cond (is_counted (contents_among old out err) (WriteOf name) p) (raised (faults_among old was p))
+    (faults_among old was p)
+write_counted name old new was now out err c (ReadOf n) = ap (λ x. x.read) (c.counts n)
+    ∙ part_kept (λ (x : CallCounts). x.read) (is_alike (contents_among old [] []).file name n) (one_more Write (counts_at old was n)) (counts_at old was n) refl
+write_counted name old new was now out err c (BeginOf n) = ap (λ x. x.begin) (c.counts n)
+    ∙ part_kept (λ (x : CallCounts). x.begin) (is_alike (contents_among old [] []).file name n) (one_more Write (counts_at old was n))
+    (counts_at old was n) refl
+write_counted name old new was now out err c (WriteOf n) = ap (λ x. x.write) (c.counts n)
+    ∙ part_of (λ (x : CallCounts). x.write) (is_alike (contents_among old [] []).file name n) (one_more Write (counts_at old was n)) (counts_at old was n)
 write_counted name old new was now out err c ToOut = c.out
 write_counted name old new was now out err c ToErr = c.err
 
@@ -131,7 +152,8 @@ not_below n true true = omega arith
 not_below n true false = omega arith
 not_below n false below = omega arith
 
-pub none_fell : (c : Contents) (place : Place) (before after : Place → ℕ) → ((p : Place) → after p ≡ cond (is_counted c place p) (raised (before p)) (before p)) → NeverFall before after
+pub none_fell : (c : Contents) (place : Place) (before after : Place → ℕ)
+    → ((p : Place) → after p ≡ cond (is_counted c place p) (raised (before p)) (before p)) → NeverFall before after
 none_fell c place before after is p = rw (is p) (not_below (before p) (is_counted c place p) (nat_lt (before p + 1) (2 ^ 64)))
 
 alike : (file : List ℕ → Option (List ℕ)) (name : List ℕ) → is_alike file name name ≡ true
@@ -144,21 +166,25 @@ counts_itself c (WriteOf name) = alike c.file name
 counts_itself c ToOut = refl
 counts_itself c ToErr = refl
 
-pub own_rose : (c : Contents) (place : Place) (before after : Place → ℕ) → ((p : Place) → after p ≡ cond (is_counted c place p) (raised (before p)) (before p)) → Rose (before place) (after place)
+pub own_rose : (c : Contents) (place : Place) (before after : Place → ℕ)
+    → ((p : Place) → after p ≡ cond (is_counted c place p) (raised (before p)) (before p)) → Rose (before place) (after place)
 own_rose c place before after is = rw (is place) (rw (counts_itself c place) (raised-Rose (before place)))
 
 -- A file that is begun
 
-begun_file : (here : Bool) (after : FileState) (o : Option FileState) → after.bytes ≡ [] → option_map (λ (f : FileState). f.bytes) (cond here (Some after) o) ≡ cond here (Some []) (option_map (λ (f : FileState). f.bytes) o)
+begun_file : (here : Bool) (after : FileState) (o : Option FileState) → after.bytes ≡ []
+    → option_map (λ (f : FileState). f.bytes) (cond here (Some after) o) ≡ cond here (Some []) (option_map (λ (f : FileState). f.bytes) o)
 begun_file true after o empty = ap Some empty
 begun_file false after o empty = refl
 
 begun_flag : (here : Bool) (after : FileState) (o : Option FileState) → after.begun ≡ true
-    → unwrap_or (option_map (λ (f : FileState). f.begun) (cond here (Some after) o)) false ≡ (here || unwrap_or (option_map (λ (f : FileState). f.begun) o) false)
+    → unwrap_or (option_map (λ (f : FileState). f.begun) (cond here (Some after) o)) false ≡
+    (here || unwrap_or (option_map (λ (f : FileState). f.begun) o) false)
 begun_flag true after o begun = begun
 begun_flag false after o begun = refl
 
-pub begun_contents : (name : List ℕ) (old new : List FileState) (after : FileState) (out err : List ℕ) → PutsFile old new name after → after.bytes ≡ [] → after.begun ≡ true
+pub begun_contents : (name : List ℕ) (old new : List FileState) (after : FileState) (out err : List ℕ) → PutsFile old new name after → after.bytes ≡ []
+    → after.begun ≡ true
     → contents_among new out err ≡ begin_file name (contents_among old out err)
 begun_contents name old new after out err puts empty begun = λ j. record {
   file = λ n. begun_file_at n j;
@@ -167,14 +193,20 @@ begun_contents name old new after out err puts empty begun = λ j. record {
   err = err;
 }
   where
-    begun_file_at : (n : List ℕ) → option_map (λ (f : FileState). f.bytes) (file_named n new) ≡ cond (bytes_eq n name) (Some []) (option_map (λ (f : FileState). f.bytes) (file_named n old))
+    begun_file_at : (n : List ℕ)
+        → option_map (λ (f : FileState). f.bytes) (file_named n new) ≡ cond (bytes_eq n name) (Some [])
+        (option_map (λ (f : FileState). f.bytes) (file_named n old))
     begun_file_at n = ap (option_map (λ (f : FileState). f.bytes)) (puts.finds n) ∙ begun_file (bytes_eq n name) after (file_named n old) empty
 
-    begun_flag_at : (n : List ℕ) → unwrap_or (option_map (λ (f : FileState). f.begun) (file_named n new)) false ≡ (bytes_eq n name || unwrap_or (option_map (λ (f : FileState). f.begun) (file_named n old)) false)
-    begun_flag_at n = ap (λ o. unwrap_or (option_map (λ (f : FileState). f.begun) o) false) (puts.finds n) ∙ begun_flag (bytes_eq n name) after (file_named n old) begun
+    begun_flag_at : (n : List ℕ)
+        → unwrap_or (option_map (λ (f : FileState). f.begun) (file_named n new)) false ≡
+        (bytes_eq n name || unwrap_or (option_map (λ (f : FileState). f.begun) (file_named n old)) false)
+    begun_flag_at n = ap (λ o. unwrap_or (option_map (λ (f : FileState). f.begun) o) false) (puts.finds n)
+        ∙ begun_flag (bytes_eq n name) after (file_named n old) begun
 
 begun_counts : (name n : List ℕ) (old : List FileState) (after : FileState) (was : CallCounts) → after.faults ≡ counts_at old was name
-    → (same : Bool) → bytes_eq n name ≡ same → unwrap_or (option_map (λ (f : FileState). f.faults) (cond same (Some after) (file_named n old))) was ≡ counts_at old was n
+    → (same : Bool) → bytes_eq n name ≡ same
+    → unwrap_or (option_map (λ (f : FileState). f.faults) (cond same (Some after) (file_named n old))) was ≡ counts_at old was n
 begun_counts name n old after was faults true same = let e : n ≡ name = (bytes_eq-Decides n name).0 same in rw e faults
 begun_counts name n old after was faults false same = refl
 
@@ -188,11 +220,13 @@ begun_is_there (Some f) none begun = absurd (cc)
 appended_file : (name n : List ℕ) (old : List FileState) (f after : FileState) (more : List ℕ) → file_named name old ≡ Some f → after.bytes ≡ f.bytes ++ more
     → (same : Bool) → bytes_eq n name ≡ same
     → option_map (λ (g : FileState). g.bytes) (cond same (Some after) (file_named n old))
-    ≡ cond same (option_map (λ bytes. bytes ++ more) (option_map (λ (g : FileState). g.bytes) (file_named n old))) (option_map (λ (g : FileState). g.bytes) (file_named n old))
+    ≡ cond same (option_map (λ bytes. bytes ++ more) (option_map (λ (g : FileState). g.bytes) (file_named n old)))
+    (option_map (λ (g : FileState). g.bytes) (file_named n old))
 appended_file name n old f after more there e true same = rw (finds_same name n old f there same) (ap Some e)
 appended_file name n old f after more there e false same = refl
 
-pub appended_contents : (name : List ℕ) (old new : List FileState) (f after : FileState) (more out err : List ℕ) → file_named name old ≡ Some f → PutsFile old new name after
+pub appended_contents : (name : List ℕ) (old new : List FileState) (f after : FileState) (more out err : List ℕ) → file_named name old ≡ Some f
+    → PutsFile old new name after
     → after.bytes ≡ f.bytes ++ more → after.begun ≡ f.begun
     → contents_among new out err ≡ append_file name more (contents_among old out err)
 appended_contents name old new f after more out err there puts bytes begun = λ j. record {
@@ -203,24 +237,29 @@ appended_contents name old new f after more out err there puts bytes begun = λ 
 }
   where
     appended_file_at : (n : List ℕ) → option_map (λ (g : FileState). g.bytes) (file_named n new)
-        ≡ cond (bytes_eq n name) (option_map (λ bytes. bytes ++ more) (option_map (λ (g : FileState). g.bytes) (file_named n old))) (option_map (λ (g : FileState). g.bytes) (file_named n old))
+        ≡ cond (bytes_eq n name) (option_map (λ bytes. bytes ++ more) (option_map (λ (g : FileState). g.bytes) (file_named n old)))
+        (option_map (λ (g : FileState). g.bytes) (file_named n old))
     appended_file_at n = ap (option_map (λ (g : FileState). g.bytes)) (puts.finds n) ∙ appended_file name n old f after more there bytes (bytes_eq n name) refl
 
 -- Counts that stay at each name stay at each place
 
-same_faults : (old new : List FileState) (was : CallCounts) → ((n : List ℕ) → counts_at new was n ≡ counts_at old was n) → (p : Place) → faults_among new was p ≡ faults_among old was p
+same_faults : (old new : List FileState) (was : CallCounts) → ((n : List ℕ) → counts_at new was n ≡ counts_at old was n) → (p : Place)
+    → faults_among new was p ≡ faults_among old was p
 same_faults old new was same (ReadOf n) = ap (λ x. x.read) (same n)
 same_faults old new was same (BeginOf n) = ap (λ x. x.begin) (same n)
 same_faults old new was same (WriteOf n) = ap (λ x. x.write) (same n)
 same_faults old new was same ToOut = refl
 same_faults old new was same ToErr = refl
 
-pub begun_faults : (name : List ℕ) (old new : List FileState) (after : FileState) (was : CallCounts) → PutsFile old new name after → after.faults ≡ counts_at old was name
+pub begun_faults : (name : List ℕ) (old new : List FileState) (after : FileState) (was : CallCounts) → PutsFile old new name after
+    → after.faults ≡ counts_at old was name
     → (p : Place) → faults_among new was p ≡ faults_among old was p
 begun_faults name old new after was puts faults =
-    same_faults old new was (λ n. ap (λ o. unwrap_or (option_map (λ (f : FileState). f.faults) o) was) (puts.finds n) ∙ begun_counts name n old after was faults (bytes_eq n name) refl)
+    same_faults old new was (λ n. ap (λ o. unwrap_or (option_map (λ (f : FileState). f.faults) o) was) (puts.finds n)
+    ∙ begun_counts name n old after was faults (bytes_eq n name) refl)
 
-pub appended_faults : (name : List ℕ) (old new : List FileState) (f after : FileState) (was : CallCounts) → file_named name old ≡ Some f → PutsFile old new name after → after.faults ≡ f.faults
+pub appended_faults : (name : List ℕ) (old new : List FileState) (f after : FileState) (was : CallCounts) → file_named name old ≡ Some f
+    → PutsFile old new name after → after.faults ≡ f.faults
     → (p : Place) → faults_among new was p ≡ faults_among old was p
 appended_faults name old new f after was there puts faults =
     same_faults old new was (λ n. ap (λ o. unwrap_or o was) (kept (λ (g : FileState). g.faults) name n old new f after there puts faults))

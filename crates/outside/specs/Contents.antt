@@ -1,5 +1,6 @@
 -- What is told of the outside, and what each call makes of it.
-use Rattle.std.specs.Prelude.{◌≡◌, ◌<◌, ◌≤◌, ◌↔◌, ℕ, Bool, ◌||◌, List, [], ◌++◌, take, drop, length, Option, Some, Result, Ok, Err, option_map, bytes_eq, if◌then◌else◌}
+use Rattle.std.specs.Prelude.{◌≡◌, ◌<◌, ◌≤◌, ◌↔◌, ℕ, Bool, ◌||◌, List, [], ◌++◌, take, drop, length, Option, Some, Result, Ok, Err, option_map}
+use Rattle.std.specs.Prelude.{bytes_eq, if◌then◌else◌}
 
 -- The bytes of each file that is there, by its name; the names that were begun; and all bytes that standard output and standard error were given.
 pub record Contents : Type 0 where
@@ -54,7 +55,8 @@ abbrev pub after_err : {E : Type 0} → Result ℕ E → List ℕ → Option Con
 after_err (Ok k) bytes told = option_map (append_err (take k bytes)) told
 after_err (Err failure) bytes told = told
 
--- The file is there, and the first k places of a buffer with this much room are its bytes from `at` on. There are none exactly where `at` is at or past its end.
+-- The file is there, and the first k places of a buffer with this much room are its bytes from `at` on. There are none
+-- exactly where `at` is at or past its end.
 pub record GivesPiece (file : Option (List ℕ)) (at room : ℕ) (buf : List ℕ) (k : ℕ) : Type 0 where
   pub bytes : List ℕ
   pub there : file ≡ Some bytes

@@ -1,5 +1,6 @@
 -- Files in memory: what they hold, and where a failed call is counted.
-use Rattle.std.specs.Prelude.{◌≡◌, ◌+◌, ◌<◌, ℕ, min, length, drop, Bool, true, false, ◌||◌, ◌&&◌, List, [], Option, Some, Result, Ok, Err, option_map, unwrap_or, is_none, find, bytes_eq, string_bytes, if◌then◌else◌}
+use Rattle.std.specs.Prelude.{◌≡◌, ◌+◌, ◌<◌, ℕ, min, length, drop, Bool, true, false, ◌||◌, ◌&&◌, List, [], Option, Some, Result, Ok, Err, option_map}
+use Rattle.std.specs.Prelude.{unwrap_or, is_none, find, bytes_eq, string_bytes, if◌then◌else◌}
 use Rattle.std.specs.Prelude.{Vec, String, vec_capacity}
 use Rattle.std.specs.Map.{lookup}
 use Rattle.outside.specs.Calls.{Names, count_of, no_calls, one_more, raised}
@@ -17,7 +18,9 @@ pub record FileState : Type 0 where
   pub begun : Bool
   pub faults : CallCounts
 
--- Files in memory: `elsewhere` counts the failed calls that named no file that is there, those of `out` and `err` among them. Each call takes or gives at most `piece` bytes, those in `fails` fail, and `made` counts all calls. There is memory for `out_room` bytes of standard output and `err_room` of standard error.
+-- Files in memory: `elsewhere` counts the failed calls that named no file that is there, those of `out` and `err` among
+-- them. Each call takes or gives at most `piece` bytes, those in `fails` fail, and `made` counts all calls. There is
+-- memory for `out_room` bytes of standard output and `err_room` of standard error.
 pub record MemoryState : Type 0 where
   pub files : List FileState
   pub elsewhere : CallCounts
@@ -120,6 +123,7 @@ pub record PutsFile (old new : List FileState) (name : List ℕ) (put : FileStat
 -- The files hold what they held, and a failed call of this kind and name was counted.
 pub record CountsFault (call : Call) (name : List ℕ) (old new : List FileState) (was now : CallCounts) : Type 0 where
   pub contents : (out err : List ℕ) → contents_among new out err ≡ contents_among old out err
-  pub counts : (n : List ℕ) → counts_at new now n ≡ (if is_alike (contents_among old [] []).file name n then one_more call (counts_at old was n) else counts_at old was n)
+  pub counts : (n : List ℕ)
+      → counts_at new now n ≡ (if is_alike (contents_among old [] []).file name n then one_more call (counts_at old was n) else counts_at old was n)
   pub out : now.out ≡ was.out
   pub err : now.err ≡ was.err

@@ -32,7 +32,8 @@ first_part n f = record { name = f.name; bytes = take n f.bytes }
 -- A call on the file failed: `begin`, and it is as before; or `write`, and it holds a first part of its bytes.
 pub data StopsAt (f : NamedBytes) (was now : Place → ℕ) (before after : Option Contents) : Type 0 where
   AtBegin : Rose (was (BeginOf f.name)) (now (BeginOf f.name)) → after ≡ before → StopsAt f was now before after
-  AtWrite : (n : ℕ) → Rose (was (WriteOf f.name)) (now (WriteOf f.name)) → after ≡ option_map (λ c. put_file c (first_part n f)) before → StopsAt f was now before after
+  AtWrite : (n : ℕ) → Rose (was (WriteOf f.name)) (now (WriteOf f.name)) → after ≡ option_map (λ c. put_file c (first_part n f)) before
+      → StopsAt f was now before after
 
 -- the calls put the file, or one of them failed
 abbrev pub Puts : {T E : Type 0} → Result T E → NamedBytes → (Place → ℕ) → (Place → ℕ) → Option Contents → Option Contents → Type 0
@@ -42,7 +43,8 @@ Puts (Err failure) f was now before after = StopsAt f was now before after
 -- the calls appended all of the bytes to the file; or one of them failed, and a first part of them was appended
 abbrev pub Appends : {T E : Type 0} → Result T E → NamedBytes → (Place → ℕ) → (Place → ℕ) → Option Contents → Option Contents → Type 0
 Appends (Ok done) f was now before after = after ≡ option_map (append_file f.name f.bytes) before
-Appends (Err failure) f was now before after = Rose (was (WriteOf f.name)) (now (WriteOf f.name)) × ((n : ℕ) × (after ≡ option_map (append_file f.name (take n f.bytes)) before))
+Appends (Err failure) f was now before after = Rose (was (WriteOf f.name)) (now (WriteOf f.name))
+    × ((n : ℕ) × (after ≡ option_map (append_file f.name (take n f.bytes)) before))
 
 -- the calls gave standard output all of the text; or one of them failed, and a first part of it was given
 abbrev pub GivesOut : {T E : Type 0} → Result T E → List ℕ → Option Contents → Option Contents → Type 0

@@ -1,4 +1,5 @@
-ghost use Rattle.std.specs.Prelude.{◌≡◌, ◌≢◌, ◌≤◌, ◌<◌, ◌↔◌, ◌⊎◌, ◌+◌, ℕ, ◌++◌, true, Some, vec_capacity, length, take, drop, min, string_bytes, AllPairs, IfOk, IsErr, IsNone, IsTrue, OnErr};
+ghost use Rattle.std.specs.Prelude.{◌≡◌, ◌≢◌, ◌≤◌, ◌<◌, ◌↔◌, ◌⊎◌, ◌+◌, ℕ, ◌++◌, true, Some, vec_capacity, length, take, drop, min, string_bytes};
+ghost use Rattle.std.specs.Prelude.{AllPairs, IfOk, IsErr, IsNone, IsTrue, OnErr};
 ghost use Rattle.std.specs.Option.{option_copied};
 ghost use Rattle.outside.specs.Calls.{no_calls, one_more};
 ghost use Rattle.outside.specs.Contents.{GivesPiece, after_begin, after_err, after_out, after_write};
@@ -40,7 +41,17 @@ impl Model for MemFiles {
 
     ghost Value = { MemoryState };
 
-    ghost view = { λ m. record { files = m.files.items; elsewhere = m.elsewhere; out = m.out.items; err = m.err.items; piece = m.piece; fails = m.plan.fails.items; made = m.plan.made; out_room = vec_capacity m.out; err_room = vec_capacity m.err } };
+    ghost view = { λ m. record {
+      files = m.files.items;
+      elsewhere = m.elsewhere;
+      out = m.out.items;
+      err = m.err.items;
+      piece = m.piece;
+      fails = m.plan.fails.items;
+      made = m.plan.made;
+      out_room = vec_capacity m.out;
+      err_room = vec_capacity m.err;
+    } };
 
     ghost invariant = { λ m. 0 < m.piece };
 }
@@ -225,7 +236,8 @@ impl Files for MemFiles {
 
         ensures count { IfOk result (λ k. k ≡ min self.old.piece (length bytes.now)) }
         ensures planned { IsToFail Call.Out self.old → IsErr result }
-        ensures cause_of_failure { OnErr result (IsToFail Call.Out self.old ⊎ (self.old.out_room < length self.old.out + min self.old.piece (length bytes.now))) }
+        ensures cause_of_failure { OnErr result
+            (IsToFail Call.Out self.old ⊎ (self.old.out_room < length self.old.out + min self.old.piece (length bytes.now))) }
         ensures counts { (p : Place) → faults_of self.new p ≡ faults_after result (contents_of self.old) ToOut (faults_of self.old) p }
         ensures call { MakesCall Call.Out self.old self.new }
     {
@@ -247,7 +259,8 @@ impl Files for MemFiles {
 
         ensures count { IfOk result (λ k. k ≡ min self.old.piece (length bytes.now)) }
         ensures planned { IsToFail Call.Err self.old → IsErr result }
-        ensures cause_of_failure { OnErr result (IsToFail Call.Err self.old ⊎ (self.old.err_room < length self.old.err + min self.old.piece (length bytes.now))) }
+        ensures cause_of_failure { OnErr result
+            (IsToFail Call.Err self.old ⊎ (self.old.err_room < length self.old.err + min self.old.piece (length bytes.now))) }
         ensures counts { (p : Place) → faults_of self.new p ≡ faults_after result (contents_of self.old) ToErr (faults_of self.old) p }
         ensures call { MakesCall Call.Err self.old self.new }
     {

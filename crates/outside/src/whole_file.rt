@@ -96,7 +96,8 @@ pub fn read_whole<F: Files>(
 // Appends all of the bytes to a file that was begun, in as many calls as it takes.
 fn append_all<F: Files>(files: &mut F, name: &str, bytes: &[u8]) -> Result<(), Failed>
     requires begun { IfSome (F.told files.old) (λ c. c.begun name.now ≡ true) }
-    ensures told { Appends result (record { name = name.now; bytes = bytes.now }) (F.faults files.old) (F.faults files.new) (F.told files.old) (F.told files.new) }
+    ensures told { Appends result (record { name = name.now; bytes = bytes.now }) (F.faults files.old) (F.faults files.new) (F.told files.old)
+        (F.told files.new) }
     ensures never_fall { NeverFall (F.faults files.old) (F.faults files.new) }
 {
     let mut at = 0;

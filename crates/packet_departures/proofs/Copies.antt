@@ -1,5 +1,6 @@
 -- As many packets leave by an output as its capture has messages.
-use Rattle.std.proofs.Common.{◌≡◌, ◌∙◌, ℕ, zero, suc, ◌+◌, ◌<◌, ◌≤◌, ◌==◌, ◌&&◌, Bool, true, false, All, List, [], ◌∷◌, map, filter, length, count_by, sum_by, slice_index_or, refl, sym, ap, arith, inl, inr, if◌then◌else◌}
+use Rattle.std.proofs.Common.{◌≡◌, ◌∙◌, ℕ, zero, suc, ◌+◌, ◌<◌, ◌≤◌, ◌==◌, ◌&&◌, Bool, true, false, All, List, [], ◌∷◌, map, filter, length, count_by}
+use Rattle.std.proofs.Common.{sum_by, slice_index_or, refl, sym, ap, arith, inl, inr, if◌then◌else◌}
 use Rattle.std.specs.List.{range_with_len}
 use Rattle.std.proofs.lemmas.Bool.{and_from, and_right, cases_Bool, eq-eqb, ne_eqb}
 use Rattle.std.proofs.lemmas.List.{length-map}

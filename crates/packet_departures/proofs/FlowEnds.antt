@@ -1,5 +1,6 @@
 -- The ends of a flow are the slots of the departures that are of it, as many as packets go by it.
-use Rattle.std.proofs.Common.{◌≡◌, ◌∙◌, ℕ, ◌^◌, ◌<◌, ◌==◌, ◌&&◌, nat_lt, Bool, true, List, map, filter, length, count_by, Option, None, Some, refl, sym, ap, subst, inl, inr}
+use Rattle.std.proofs.Common.{◌≡◌, ◌∙◌, ℕ, ◌^◌, ◌<◌, ◌==◌, ◌&&◌, nat_lt, Bool, true, List, map, filter, length, count_by, Option, None, Some, refl, sym}
+use Rattle.std.proofs.Common.{ap, subst, inl, inr}
 use Rattle.std.specs.List.{range_with_len}
 use Rattle.std.proofs.lemmas.Bool.{and_parts, and_from, cases_eq, lt-ltb}
 use Rattle.std.proofs.lemmas.List.{length-map}

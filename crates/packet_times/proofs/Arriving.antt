@@ -1,5 +1,6 @@
 -- The packet that arrives in a slot, by how many have come before and after it.
-use Rattle.std.proofs.Common.{◌≡◌, ◌≢◌, ◌∙◌, ℕ, zero, suc, ◌+◌, ◌<◌, ◌≤◌, ◌==◌, ◌&&◌, Bool, true, false, List, [], ◌∷◌, ◌++◌, length, map, take, Option, Some, None, refl, sym, ap, subst, arith, inl, inr, slice_get, slice_index_or, if◌then◌else◌, length-append}
+use Rattle.std.proofs.Common.{◌≡◌, ◌≢◌, ◌∙◌, ℕ, zero, suc, ◌+◌, ◌<◌, ◌≤◌, ◌==◌, ◌&&◌, Bool, true, false, List, [], ◌∷◌, ◌++◌, length, map, take, Option}
+use Rattle.std.proofs.Common.{Some, None, refl, sym, ap, subst, arith, inl, inr, slice_get, slice_index_or, if◌then◌else◌, length-append}
 use Rattle.std.specs.Option.{option_map}
 use Rattle.std.proofs.lemmas.Bool.{cases_eq, cases_lt, eqb-true, eq-eqb}
 use Rattle.std.proofs.lemmas.List.{map-append, take_more}
@@ -27,14 +28,17 @@ record IsAt (k : ℕ) (ps : List Planned) (t : ℕ) (x : ℕ × Planned) : Type 
 found_in : (k : ℕ) (ps : List Planned) (t : ℕ) (x : ℕ × Planned) → arriving_from k ps t ≡ Some x → IsAt k ps t x
 found_in k [] t x e = absurd (none-some x e)
 found_in k (p ∷ ps) t x e = go (λ is. found_in (k + 1) ps t x is) (p.arrival == t) refl e where
-  go : (arriving_from (k + 1) ps t ≡ Some x → IsAt (k + 1) ps t x) → (b : Bool) → (p.arrival == t) ≡ b → (if b then Some (k, p) else arriving_from (k + 1) ps t) ≡ Some x → IsAt k (p ∷ ps) t x
-  go later true test is = let same = same_Some (k, p) x is in record { place = 0; there = ap (λ y. Some y.1) same; now = ap (λ (y : ℕ × Planned). y.1.arrival) (sym same) ∙ eqb-true p.arrival t test }
+  go : (arriving_from (k + 1) ps t ≡ Some x → IsAt (k + 1) ps t x) → (b : Bool) → (p.arrival == t) ≡ b
+      → (if b then Some (k, p) else arriving_from (k + 1) ps t) ≡ Some x → IsAt k (p ∷ ps) t x
+  go later true test is = let same = same_Some (k, p) x is in
+      record { place = 0; there = ap (λ y. Some y.1) same; now = ap (λ (y : ℕ × Planned). y.1.arrival) (sym same) ∙ eqb-true p.arrival t test }
   go later false test is = let rest = later is in record { place = suc rest.place; there = rest.there; now = rest.now }
 
 none_in : (k : ℕ) (ps : List Planned) (t : ℕ) → arriving_from k ps t ≡ None → (m : ℕ) (p : Planned) → slice_get ps m ≡ Some p → p.arrival ≢ t
 none_in k [] t e m p there now = none-some p there
 none_in k (q ∷ ps) t e m p there now = go (λ is n at. none_in (k + 1) ps t is n p at now) (q.arrival == t) refl e m there where
-  go : (arriving_from (k + 1) ps t ≡ None → (n : ℕ) → slice_get ps n ≡ Some p → ⊥) → (b : Bool) → (q.arrival == t) ≡ b → (if b then Some (k, q) else arriving_from (k + 1) ps t) ≡ None → (n : ℕ) → slice_get (q ∷ ps) n ≡ Some p → ⊥
+  go : (arriving_from (k + 1) ps t ≡ None → (n : ℕ) → slice_get ps n ≡ Some p → ⊥) → (b : Bool) → (q.arrival == t) ≡ b
+      → (if b then Some (k, q) else arriving_from (k + 1) ps t) ≡ None → (n : ℕ) → slice_get (q ∷ ps) n ≡ Some p → ⊥
   go later true test is n at = none-some (k, q) (sym is)
   go later false test is zero at = let same = ap (λ (y : Planned). y.arrival) (same_Some q p at) in let yes' = eq-eqb q.arrival t (same ∙ now) in absurd (cc)
   go later false test is (suc n) at = later is n at
@@ -97,7 +101,8 @@ module _ (ps : List Planned) (t a : ℕ) (is : IsNext ps t a) where
       (omega arith, first)
 
 -- ---- the packet of a slot
-none-arrives : (plan : Plan) (served : List (Option Served)) (t : ℕ) (x : Option (ℕ × Planned)) → arriving plan t ≡ x → None ≡ arrival_in plan served t → arriving plan t ≡ None
+none-arrives : (plan : Plan) (served : List (Option Served)) (t : ℕ) (x : Option (ℕ × Planned)) → arriving plan t ≡ x → None ≡ arrival_in plan served t
+    → arriving plan t ≡ None
 none-arrives plan served t None is none = is
 none-arrives plan served t (Some x) is none = absurd (cc)
 
@@ -107,29 +112,36 @@ record Arrives (plan : Plan) (served : List (Option Served)) (t : ℕ) (arrival 
   pub found : arriving plan t ≡ Some (number, packet)
   pub admitted : arrival.admitted ≡ (is_routed packet && is_admitted plan served t packet)
 
-some-arrives : (plan : Plan) (served : List (Option Served)) (t : ℕ) (arrival : Arrival) (x : Option (ℕ × Planned)) → arriving plan t ≡ x → Some arrival ≡ arrival_in plan served t → Arrives plan served t arrival
+some-arrives : (plan : Plan) (served : List (Option Served)) (t : ℕ) (arrival : Arrival) (x : Option (ℕ × Planned)) → arriving plan t ≡ x
+    → Some arrival ≡ arrival_in plan served t → Arrives plan served t arrival
 some-arrives plan served t arrival None is some = absurd (cc)
 some-arrives plan served t arrival (Some x) is some =
     let made : Arrival = record { number = x.0; packet = x.1; admitted = is_routed x.1 && is_admitted plan served t x.1 } in
-    let same : arrival ≡ made = same_Some arrival made (some ∙ ap (option_map (λ p. record { number = p.0; packet = p.1; admitted = is_routed p.1 && is_admitted plan served t p.1 })) is) in
+    let same : arrival ≡ made =
+    same_Some arrival made (some
+    ∙ ap (option_map (λ p. record { number = p.0; packet = p.1; admitted = is_routed p.1 && is_admitted plan served t p.1 })) is) in
     record { number = x.0; packet = x.1; found = is; admitted = ap (λ (y : Arrival). y.admitted) same }
 
 module _ (plan : Plan) (old new : Input) (served : List (Option Served)) (was : IsNoted plan old served) (counts : CountIn plan new.counters served) where
   arrived-none : None ≡ arrival_in plan served (length served) → new.admitted ≡ old.admitted → HasArrived plan new served
   arrived-none none same =
       let nothing = none-arrives plan served (length served) (arriving plan (length served)) refl none in
-      let stays = next-none plan.packets (length served) old.counters.next was.counts.next new.counters.next counts.next (none_in 0 plan.packets (length served) nothing) in
+      let stays = next-none plan.packets (length served) old.counters.next was.counts.next new.counters.next counts.next
+      (none_in 0 plan.packets (length served) nothing) in
       record { counts = counts; admitted = same ∙ was.admitted ∙ ap (λ n. map (was_admitted plan served) (take n plan.packets)) (sym stays) }
 
-  arrived-some : (arrival : Arrival) → Some arrival ≡ arrival_in plan served (length served) → new.admitted ≡ old.admitted ++ arrival.admitted ∷ [] → HasArrived plan new served
+  arrived-some : (arrival : Arrival) → Some arrival ≡ arrival_in plan served (length served) → new.admitted ≡ old.admitted ++ arrival.admitted ∷ []
+      → HasArrived plan new served
   arrived-some arrival some more =
       let here = some-arrives plan served (length served) arrival (arriving plan (length served)) refl some in
       let x : ℕ × Planned = (here.number, here.packet) in
       let at = found_in 0 plan.packets (length served) x here.found in
-      let next = next-one plan.packets (length served) old.counters.next was.counts.next was.counts.good.rising new.counters.next at.place here.packet counts.next at.there at.now in
+      let next = next-one plan.packets
+      (length served) old.counters.next was.counts.next was.counts.good.rising new.counters.next at.place here.packet counts.next at.there at.now in
       let place : slice_get plan.packets old.counters.next ≡ Some here.packet = ap (slice_get plan.packets) (sym next.1) ∙ at.there in
       let inside = some_in plan.packets old.counters.next here.packet place in
-      let own : slice_index_or plan.packets old.counters.next no_packet ≡ here.packet = same_Some _ _ (sym (slice_get-get_or plan.packets old.counters.next no_packet inside) ∙ place) in
+      let own : slice_index_or plan.packets old.counters.next no_packet ≡ here.packet =
+      same_Some _ _ (sym (slice_get-get_or plan.packets old.counters.next no_packet inside) ∙ place) in
       let f = was_admitted plan served in
       let bit : arrival.admitted ≡ f here.packet = here.admitted ∙ ap (λ t. is_routed here.packet && is_admitted plan served t here.packet) (sym at.now) in
       record {
@@ -142,7 +154,8 @@ module _ (plan : Plan) (old new : Input) (served : List (Option Served)) (was : 
       }
 
 -- ---- what the slot serves changes no earlier admission
-map-alike : {A : Type 0} (f g : Planned → A) (n : ℕ) (ps : List Planned) → ((k : ℕ) (p : Planned) → slice_get ps k ≡ Some p → k < n → f p ≡ g p) → map f (take n ps) ≡ map g (take n ps)
+map-alike : {A : Type 0} (f g : Planned → A) (n : ℕ) (ps : List Planned) → ((k : ℕ) (p : Planned) → slice_get ps k ≡ Some p → k < n → f p ≡ g p)
+    → map f (take n ps) ≡ map g (take n ps)
 map-alike f g zero ps same = refl
 map-alike f g (suc n) [] same = refl
 map-alike f g (suc n) (p ∷ ps) same =
@@ -150,12 +163,15 @@ map-alike f g (suc n) (p ∷ ps) same =
     let rest = map-alike f g n ps (λ k q at less. same (suc k) q at (omega arith)) in
     cc
 
-pub admitted-later : (plan : Plan) (served : List (Option Served)) (part : Option Served) (packet : Planned) → packet.arrival ≤ length served → was_admitted plan served packet ≡ was_admitted plan (served ++ part ∷ []) packet
+pub admitted-later : (plan : Plan) (served : List (Option Served)) (part : Option Served) (packet : Planned) → packet.arrival ≤ length served
+    → was_admitted plan served packet ≡ was_admitted plan (served ++ part ∷ []) packet
 admitted-later plan served part packet early =
     ap (λ s. is_routed packet && fits plan s packet)
-    (before-alike plan served (served ++ part ∷ []) (length served) (λ u below. sym (get_or-append served (part ∷ []) None u below)) (queue_of packet) packet.arrival early)
+    (before-alike plan served (served ++ part ∷ []) (length served) (λ u below. sym (get_or-append served (part ∷ []) None u below))
+    (queue_of packet) packet.arrival early)
 
-noted-part : (plan : Plan) (mid new : Input) (served : List (Option Served)) (part : Option Served) → HasArrived plan mid served → CountBefore plan new.counters (served ++ part ∷ []) → new.admitted ≡ mid.admitted → IsNoted plan new (served ++ part ∷ [])
+noted-part : (plan : Plan) (mid new : Input) (served : List (Option Served)) (part : Option Served) → HasArrived plan mid served
+    → CountBefore plan new.counters (served ++ part ∷ []) → new.admitted ≡ mid.admitted → IsNoted plan new (served ++ part ∷ [])
 noted-part plan mid new served part was counts same =
     let long : length (served ++ part ∷ []) ≡ length served + 1 = length-append served (part ∷ []) in
     let now = subst (λ n. IsNext plan.packets n new.counters.next) long counts.next in
@@ -176,7 +192,8 @@ module _ (plan : Plan) (old new : Input) (counters : Counters) (served : List (O
       let mid : Input = record { counters = counters; admitted = new.admitted } in
       noted-part plan mid new served part (arrived-none plan old mid served was counts none same) after refl
 
-  pub noted-some : (arrival : Arrival) → Some arrival ≡ arrival_in plan served (length served) → new.admitted ≡ old.admitted ++ arrival.admitted ∷ [] → IsNoted plan new (served ++ part ∷ [])
+  pub noted-some : (arrival : Arrival) → Some arrival ≡ arrival_in plan served (length served) → new.admitted ≡ old.admitted ++ arrival.admitted ∷ []
+      → IsNoted plan new (served ++ part ∷ [])
   noted-some arrival some more =
       let mid : Input = record { counters = counters; admitted = new.admitted } in
       noted-part plan mid new served part (arrived-some plan old mid served was counts arrival some more) after refl

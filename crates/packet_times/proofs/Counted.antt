@@ -1,5 +1,6 @@
 -- How many packets went by each flow of an input, and one packet more.
-use Rattle.std.proofs.Common.{◌≡◌, ◌≢◌, ◌∙◌, ℕ, ◌+◌, ◌*◌, ◌^◌, ◌<◌, ◌≤◌, ◌==◌, ◌&&◌, nat_lt, Bool, true, false, List, length, slice_index, slice_set, refl, sym, ap, subst, arith, inl, inr, get_or-set_same, get_or-set_other, length-set, if◌then◌else◌}
+use Rattle.std.proofs.Common.{◌≡◌, ◌≢◌, ◌∙◌, ℕ, ◌+◌, ◌*◌, ◌^◌, ◌<◌, ◌≤◌, ◌==◌, ◌&&◌, nat_lt, Bool, true, false, List, length, slice_index, slice_set}
+use Rattle.std.proofs.Common.{refl, sym, ap, subst, arith, inl, inr, get_or-set_same, get_or-set_other, length-set, if◌then◌else◌}
 use Rattle.std.proofs.lemmas.Bool.{cases_eq}
 use Rattle.rotating_pick.specs.PortSets.{Has}
 use Rattle.rotating_pick.specs.declared.kinds.Kind.{Kind}
@@ -21,7 +22,8 @@ module _ (fan level : ℕ) (kind : Kind) (old : List ℕ) where
   }
 
   -- and one that is
-  pub counted-yes : (n : ℕ) (now : List ℕ) → own_place n level kind < length old → Has fan n → IsCounted fan level kind n old now → IsCounted fan level kind (n + 1) old (with_one now (own_place n level kind))
+  pub counted-yes : (n : ℕ) (now : List ℕ) → own_place n level kind < length old → Has fan n → IsCounted fan level kind n old now
+      → IsCounted fan level kind (n + 1) old (with_one now (own_place n level kind))
   counted-yes n now inside is were =
       let own = own_place n level kind in
       let new = one_more (slice_index now own) in

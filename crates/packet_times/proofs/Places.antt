@@ -1,5 +1,6 @@
 -- The places of flows, and what a slot adds to the ends of each.
-use Rattle.std.proofs.Common.{◌≡◌, ◌≢◌, ◌∙◌, ℕ, ◌+◌, ◌*◌, ◌/◌, ◌%◌, ◌<◌, ◌==◌, ◌&&◌, Bool, true, false, List, [], ◌∷◌, ◌++◌, length, Option, Some, None, refl, sym, ap, arith, inl, inr, slice_set, slice_index_or, get_or-set_same, get_or-set_other, length-set, if◌then◌else◌}
+use Rattle.std.proofs.Common.{◌≡◌, ◌≢◌, ◌∙◌, ℕ, ◌+◌, ◌*◌, ◌/◌, ◌%◌, ◌<◌, ◌==◌, ◌&&◌, Bool, true, false, List, [], ◌∷◌, ◌++◌, length, Option, Some, None}
+use Rattle.std.proofs.Common.{refl, sym, ap, arith, inl, inr, slice_set, slice_index_or, get_or-set_same, get_or-set_other, length-set, if◌then◌else◌}
 use Rattle.std.proofs.lemmas.Bool.{cases_eq, eqb-true, eq-eqb}
 use Rattle.rotating_pick.specs.declared.limits.TheConstants.{LEVELS}
 use Rattle.std.proofs.lemmas.List.{append-nil}
@@ -89,7 +90,8 @@ module _ (ports slot output : ℕ) (cell : Option Cell) (old new : List (List �
     others = λ flow is other. ap (λ ends. ends_at ports ends flow) same;
   }
 
-  module _ (place : ℕ) (ends : EndsAt ports output cell place) (inside : place < length old) (set : new ≡ slice_set old place (slice_index_or old place [] ++ slot ∷ [])) where
+  module _ (place : ℕ) (ends : EndsAt ports output cell place) (inside : place < length old)
+      (set : new ≡ slice_set old place (slice_index_or old place [] ++ slot ∷ [])) where
     elsewhere : (flow : Flow) → flow_place ports flow ≢ place → ends_at ports new flow ≡ ends_at ports old flow
     elsewhere flow other =
         ap (λ lists. ends_at ports lists flow) set
@@ -102,7 +104,8 @@ module _ (ports slot output : ℕ) (cell : Option Cell) (old new : List (List �
         ∙ get_or-set_same old place (slice_index_or old place [] ++ slot ∷ []) [] inside
         ∙ ap (λ k. slice_index_or old k [] ++ slot ∷ []) (sym at)
 
-    own_of : (flow : Flow) → IsFlow ports flow → flow.output ≡ output → (b : Bool) → is_end_of flow cell ≡ b → ends_at ports new flow ≡ ends_at ports old flow ++ (if b then slot ∷ [] else [])
+    own_of : (flow : Flow) → IsFlow ports flow → flow.output ≡ output → (b : Bool) → is_end_of flow cell ≡ b → ends_at ports new flow ≡ ends_at ports old flow
+        ++ (if b then slot ∷ [] else [])
     own_of flow is goes true e =
         let same = end-same flow ends.flow cell e ends.ends (goes ∙ sym ends.goes) in
         here flow (ap (flow_place ports) same ∙ sym ends.is)
@@ -127,11 +130,13 @@ module _ (ports slot : ℕ) (crosses : ℕ → Option Cell) (old : List (List �
   pub adds-first : AddsEnds ports slot crosses 0 old old
   adds-first = record { count = refl; done = λ flow is none. absurd (omega arith); left = λ flow is all. refl }
 
-  pub adds-more : (k : ℕ) (mid new : List (List ℕ)) → AddsEnds ports slot crosses k old mid → AddsEnd ports slot k (crosses k) mid new → AddsEnds ports slot crosses (k + 1) old new
+  pub adds-more : (k : ℕ) (mid new : List (List ℕ)) → AddsEnds ports slot crosses k old mid → AddsEnd ports slot k (crosses k) mid new
+      → AddsEnds ports slot crosses (k + 1) old new
   adds-more k mid new were adds = record {
     count = adds.count ∙ were.count;
     done = λ flow is less. elim (cases_eq flow.output k) [
-      | inl e ↦ adds.own flow is e ∙ ap (λ ends. ends ++ end_in slot flow (crosses k)) (were.left flow is (omega arith)) ∙ ap (λ j. ends_at ports old flow ++ end_in slot flow (crosses j)) (sym e)
+      | inl e ↦ adds.own flow is e ∙ ap (λ ends. ends ++ end_in slot flow (crosses k)) (were.left flow is (omega arith))
+          ∙ ap (λ j. ends_at ports old flow ++ end_in slot flow (crosses j)) (sym e)
       | inr ne ↦ adds.others flow is ne ∙ were.done flow is (omega arith)
     ];
     left = λ flow is less. adds.others flow is (λ e. absurd (omega arith)) ∙ were.left flow is (omega arith);
@@ -148,7 +153,8 @@ kind-refl Uni = refl
 kind-refl Multi = refl
 
 -- a last cell ends a message of its flow
-pub ends-own : (ports output place input : ℕ) (cell : Option Cell) (c : Cell) → cell ≡ Some c → c.last ≡ true → input ≡ c.input → input < ports → output < ports → c.level < LEVELS
+pub ends-own : (ports output place input : ℕ) (cell : Option Cell) (c : Cell) → cell ≡ Some c → c.last ≡ true → input ≡ c.input → input < ports
+    → output < ports → c.level < LEVELS
     → place ≡ flow_place ports (record { input = input; output = output; level = c.level; kind = c.kind }) → EndsAt ports output cell place
 ends-own ports output place input cell c is last same low few level at =
     let flow : Flow = record { input = input; output = output; level = c.level; kind = c.kind } in
@@ -157,6 +163,7 @@ ends-own ports output place input cell c is last same low few level at =
       is_flow = record { input = low; output = few; level = level };
       goes = refl;
       ends = ap (is_end_of flow) is
-          ∙ all_true c.last (c.input == input) (c.level == c.level) (is_kind c.kind c.kind) last (eq-eqb c.input input (sym same)) (eq-eqb c.level c.level refl) (kind-refl c.kind);
+          ∙ all_true c.last (c.input == input) (c.level == c.level) (is_kind c.kind c.kind) last (eq-eqb c.input input (sym same))
+          (eq-eqb c.level c.level refl) (kind-refl c.kind);
       is = at;
     }

@@ -23,5 +23,6 @@ module _ (plan : Plan) (input : Input) (served : List (Option Served)) (is : IsN
   pub admitted-is : input.admitted ≡ map (was_admitted plan served) plan.packets
   admitted-is = is.admitted ∙ ap (map (was_admitted plan served)) (take_all input.counters.next plan.packets (omega (arith, all-come)))
 
-  pub admitted-at : (k : ℕ) → k < length plan.packets → slice_index_or input.admitted k false ≡ was_admitted plan served (slice_index_or plan.packets k no_packet)
+  pub admitted-at : (k : ℕ) → k < length plan.packets
+      → slice_index_or input.admitted k false ≡ was_admitted plan served (slice_index_or plan.packets k no_packet)
   admitted-at k inside = ap (λ bits. slice_index_or bits k false) admitted-is ∙ get_or-map (was_admitted plan served) plan.packets k no_packet false inside

@@ -1,5 +1,6 @@
 -- The packets of an input, one after the other: what of each is counted, and its departures.
-use Rattle.std.proofs.Common.{◌≡◌, ◌≢◌, ◌∙◌, ℕ, ◌+◌, ◌*◌, ◌^◌, ◌<◌, ◌≤◌, ◌==◌, ◌&&◌, nat_lt, Bool, true, false, List, [], length, take, Some, slice_get, slice_index, slice_index_or, refl, sym, ap, subst, arith, inl, inr, replicate, length-take, if◌then◌else◌}
+use Rattle.std.proofs.Common.{◌≡◌, ◌≢◌, ◌∙◌, ℕ, ◌+◌, ◌*◌, ◌^◌, ◌<◌, ◌≤◌, ◌==◌, ◌&&◌, nat_lt, Bool, true, false, List, [], length, take, Some, slice_get}
+use Rattle.std.proofs.Common.{slice_index, slice_index_or, refl, sym, ap, subst, arith, inl, inr, replicate, length-take, if◌then◌else◌}
 use Rattle.std.specs.Prelude.{count_by}
 use Rattle.std.proofs.lemmas.Bool.{cases_eq, eqb-true, eq-eqb, lt-ltb}
 use Rattle.std.proofs.lemmas.List.{get_or_default, length-replicate}
@@ -105,10 +106,12 @@ module _ (scheduler : Scheduler) (plan : SwitchPlan) (slots k : ℕ) (p : Planne
     here = get_or_from_slice_get (card_at plan flow.input).packets k p no_packet at
 
     more-yes : goes_by scheduler plan slots flow p ≡ true → earlier_by scheduler plan slots flow (k + 1) ≡ earlier_by scheduler plan slots flow k + 1
-    more-yes goes = count_by_more_yes (goes_by scheduler plan slots flow) (card_at plan flow.input).packets k no_packet inside (ap (goes_by scheduler plan slots flow) here ∙ goes)
+    more-yes goes = count_by_more_yes (goes_by scheduler plan slots flow) (card_at plan flow.input).packets k no_packet inside
+        (ap (goes_by scheduler plan slots flow) here ∙ goes)
 
     more-no : goes_by scheduler plan slots flow p ≡ false → earlier_by scheduler plan slots flow (k + 1) ≡ earlier_by scheduler plan slots flow k
-    more-no goes = count_by_more_no (goes_by scheduler plan slots flow) (card_at plan flow.input).packets k no_packet inside (ap (goes_by scheduler plan slots flow) here ∙ goes)
+    more-no goes = count_by_more_no (goes_by scheduler plan slots flow) (card_at plan flow.input).packets k no_packet inside
+        (ap (goes_by scheduler plan slots flow) here ∙ goes)
 
     few : earlier_by scheduler plan slots flow k ≤ 131072
     few =
@@ -121,8 +124,10 @@ module _ (scheduler : Scheduler) (plan : SwitchPlan) (slots k : ℕ) (p : Planne
     counted-one n low = rw (lt-ltb n 4294967295 (omega arith)) refl
 
     module _ (counts new : List ℕ) (was : slice_index counts (own_place flow.output flow.level flow.kind) ≡ earlier_by scheduler plan slots flow k)
-        (admitted : was_admitted (card_at plan flow.input) (parts_under scheduler plan flow.input slots) p ≡ true) (counted : IsCounted p.fan p.level (kind_of (queue_of p)) MAX_PORTS counts new) where
-      step-yes : goes_by scheduler plan slots flow p ≡ true → slice_index new (own_place flow.output flow.level flow.kind) ≡ earlier_by scheduler plan slots flow (k + 1)
+        (admitted : was_admitted (card_at plan flow.input) (parts_under scheduler plan flow.input slots) p ≡ true)
+        (counted : IsCounted p.fan p.level (kind_of (queue_of p)) MAX_PORTS counts new) where
+      step-yes : goes_by scheduler plan slots flow p ≡ true
+          → slice_index new (own_place flow.output flow.level flow.kind) ≡ earlier_by scheduler plan slots flow (k + 1)
       step-yes goes =
           let both = goes-parts _ (is_queue (queue_to flow.output flow.level flow.kind) (queue_of p)) _ (has p.fan flow.output) goes in
           let same = is_queue-same (queue_to flow.output flow.level flow.kind) (queue_of p) (both.0) in
@@ -140,7 +145,8 @@ module _ (scheduler : Scheduler) (plan : SwitchPlan) (slots k : ℕ) (p : Planne
           ∙ counted-one (earlier_by scheduler plan slots flow k) few
           ∙ sym (more-yes goes)
 
-      step-no : goes_by scheduler plan slots flow p ≡ false → slice_index new (own_place flow.output flow.level flow.kind) ≡ earlier_by scheduler plan slots flow (k + 1)
+      step-no : goes_by scheduler plan slots flow p ≡ false
+          → slice_index new (own_place flow.output flow.level flow.kind) ≡ earlier_by scheduler plan slots flow (k + 1)
       step-no goes =
           counted.others (own_place flow.output flow.level flow.kind)
           (λ j less member at.
@@ -155,25 +161,29 @@ module _ (scheduler : Scheduler) (plan : SwitchPlan) (slots k : ℕ) (p : Planne
           let queue : queue_to flow.output flow.level flow.kind ≡ queue_of p =
           ap (λ o. queue_to o flow.level flow.kind) output ∙ ap (λ l. queue_to j l flow.kind) level ∙ ap (queue_to j p.level) kind ∙ own-queue p j member in
           let there : has p.fan flow.output ≡ true = ap (has p.fan) output ∙ eq-eqb _ 1 member in
-          let goes' = goes-all _ (is_queue (queue_to flow.output flow.level flow.kind) (queue_of p)) _ (has p.fan flow.output) admitted (ap (λ q. is_queue q (queue_of p)) queue ∙ is_queue-refl (queue_of p)) there in
+          let goes' = goes-all _ (is_queue (queue_to flow.output flow.level flow.kind) (queue_of p)) _ (has p.fan flow.output) admitted
+          (ap (λ q. is_queue q (queue_of p)) queue ∙ is_queue-refl (queue_of p)) there in
           not-both (goes_by scheduler plan slots flow p) goes' goes)
           ∙ was
           ∙ sym (more-no goes) where
             at' : slice_get (card_at plan flow.input).packets k ≡ Some p
             at' = at
 
-      step-of : (b : Bool) → goes_by scheduler plan slots flow p ≡ b → slice_index new (own_place flow.output flow.level flow.kind) ≡ earlier_by scheduler plan slots flow (k + 1)
+      step-of : (b : Bool) → goes_by scheduler plan slots flow p ≡ b
+          → slice_index new (own_place flow.output flow.level flow.kind) ≡ earlier_by scheduler plan slots flow (k + 1)
       step-of true e = step-yes e
       step-of false e = step-no e
 
   module _ (input : ℕ) (counts : List ℕ) (at : slice_get (card_at plan input).packets k ≡ Some p) (was : HasGone scheduler plan slots input k counts) where
-    pub gone-more : (new : List ℕ) → was_admitted (card_at plan input) (parts_under scheduler plan input slots) p ≡ true → IsCounted p.fan p.level (kind_of (queue_of p)) MAX_PORTS counts new
+    pub gone-more : (new : List ℕ) → was_admitted (card_at plan input) (parts_under scheduler plan input slots) p ≡ true
+        → IsCounted p.fan p.level (kind_of (queue_of p)) MAX_PORTS counts new
         → HasGone scheduler plan slots input (k + 1) new
     gone-more new admitted counted = record {
       long = counted.long ∙ was.long;
       each = λ flow is e.
           step-of flow is (subst (λ i. slice_get (card_at plan i).packets k ≡ Some p) (sym e) at) counts new (was.each flow is e)
-          (subst (λ i. was_admitted (card_at plan i) (parts_under scheduler plan i slots) p ≡ true) (sym e) admitted) counted (goes_by scheduler plan slots flow p) refl;
+          (subst (λ i. was_admitted (card_at plan i) (parts_under scheduler plan i slots) p ≡ true) (sym e) admitted) counted
+          (goes_by scheduler plan slots flow p) refl;
     }
 
     pub gone-same : was_admitted (card_at plan input) (parts_under scheduler plan input slots) p ≡ false → HasGone scheduler plan slots input (k + 1) counts
@@ -182,7 +192,8 @@ module _ (scheduler : Scheduler) (plan : SwitchPlan) (slots k : ℕ) (p : Planne
       each = λ flow is e.
           let none = subst (λ i. was_admitted (card_at plan i) (parts_under scheduler plan i slots) p ≡ false) (sym e) dropped in
           was.each flow is e
-          ∙ sym (more-no flow is (subst (λ i. slice_get (card_at plan i).packets k ≡ Some p) (sym e) at) (goes-none _ (is_queue (queue_to flow.output flow.level flow.kind) (queue_of p)) _ (has p.fan flow.output) none));
+          ∙ sym (more-no flow is (subst (λ i. slice_get (card_at plan i).packets k ≡ Some p) (sym e) at)
+          (goes-none _ (is_queue (queue_to flow.output flow.level flow.kind) (queue_of p)) _ (has p.fan flow.output) none));
     }
 
 pub gone-first : (scheduler : Scheduler) (plan : SwitchPlan) (slots input : ℕ) → HasGone scheduler plan slots input 0 (replicate MOST_FLOWS 0)
@@ -200,17 +211,25 @@ module _ (scheduler : Scheduler) (plan : SwitchPlan) (slots : ℕ) (times : Time
     pub planned-is : IsPlanned (ports_of plan) (length (card_at plan outcome.input).bytes) outcome.packet
     planned-is =
         let card = good-card plan noted.good outcome.input is.input in
-        subst (λ n. IsPlanned n (length (card_at plan outcome.input).bytes) outcome.packet) card.ports (card.good.packets outcome.number outcome.packet is.packet)
+        subst (λ n. IsPlanned n (length (card_at plan outcome.input).bytes) outcome.packet) card.ports
+        (card.good.packets outcome.number outcome.packet is.packet)
 
-    pub departure-is : (output : ℕ) (counts : List ℕ) (kind : Kind) → kind ≡ kind_of (queue_of outcome.packet) → output < ports_of plan → HasGone scheduler plan slots outcome.input outcome.number counts
-        → slice_get (slice_index_or times.ends (flow_place (ports_of plan) (record { input = outcome.input; output = output; level = outcome.packet.level; kind = kind })) []) (slice_index counts (own_place output outcome.packet.level kind))
+    pub departure-is : (output : ℕ) (counts : List ℕ) (kind : Kind) → kind ≡ kind_of (queue_of outcome.packet) → output < ports_of plan
+        → HasGone scheduler plan slots outcome.input outcome.number counts
+        → slice_get (slice_index_or times.ends
+        (flow_place (ports_of plan) (record { input = outcome.input; output = output; level = outcome.packet.level; kind = kind })) [])
+        (slice_index counts (own_place output outcome.packet.level kind))
         ≡ departure_under scheduler plan slots outcome.input output outcome.number outcome.packet
     departure-is output counts kind same inside gone =
         let flow = flow_of outcome.input output outcome.packet in
         let low : level_of (queue_of outcome.packet) < LEVELS = subst (λ l. l < LEVELS) (sym (queue-level outcome.packet)) planned-is.level in
         let flows : IsFlow (ports_of plan) flow = record { input = is.input; output = inside; level = low } in
-        ap (λ (l : ℕ). slice_get (slice_index_or times.ends (flow_place (ports_of plan) (record { input = outcome.input; output = output; level = l; kind = kind })) []) (slice_index counts (own_place output l kind))) (sym (queue-level outcome.packet))
-        ∙ ap (λ (k : Kind). slice_get (slice_index_or times.ends (flow_place (ports_of plan) (record { input = outcome.input; output = output; level = flow.level; kind = k })) []) (slice_index counts (own_place output flow.level k))) same
+        ap (λ (l : ℕ). slice_get (slice_index_or times.ends
+        (flow_place (ports_of plan) (record { input = outcome.input; output = output; level = l; kind = kind })) [])
+        (slice_index counts (own_place output l kind))) (sym (queue-level outcome.packet))
+        ∙ ap (λ (k : Kind). slice_get
+        (slice_index_or times.ends (flow_place (ports_of plan) (record { input = outcome.input; output = output; level = flow.level; kind = k })) [])
+        (slice_index counts (own_place output flow.level k))) same
         ∙ ap (λ (ends : List ℕ). slice_get ends (slice_index counts (own_place output flow.level flow.kind))) (noted.ends flow flows)
         ∙ ap (slice_get (ends_of scheduler plan flow slots)) (gone.each flow flows refl)
 
@@ -222,19 +241,23 @@ module _ (scheduler : Scheduler) (plan : SwitchPlan) (slots : ℕ) (times : Time
     module _ (own : Input) (inside : input < ports_of plan) (mine : own ≡ slice_index_or times.inputs input own) where
       own-noted : IsNoted (card_at plan input) own (parts_under scheduler plan input slots)
       own-noted =
-          subst (λ (x : Input). IsNoted (card_at plan input) x (parts_under scheduler plan input slots)) (get_or_default times.inputs input no_input own (let count = noted.count in omega (arith, count, inside)) ∙ sym mine) (noted.each input inside)
+          subst (λ (x : Input). IsNoted (card_at plan input) x (parts_under scheduler plan input slots))
+          (get_or_default times.inputs input no_input own (let count = noted.count in omega (arith, count, inside)) ∙ sym mine) (noted.each input inside)
 
       pub own-packets : own.counters.packets ≡ (card_at plan input).packets
       own-packets = own-noted.counts.packets
 
-      pub own-admitted : ArrivalsComeFirst plan slots → (k : ℕ) (admitted : Bool) → k < length (card_at plan input).packets → admitted ≡ slice_index_or own.admitted k false
+      pub own-admitted : ArrivalsComeFirst plan slots → (k : ℕ) (admitted : Bool) → k < length (card_at plan input).packets
+          → admitted ≡ slice_index_or own.admitted k false
           → admitted ≡ was_admitted (card_at plan input) (parts_under scheduler plan input slots) (slice_index_or (card_at plan input).packets k no_packet)
       own-admitted come k admitted low is =
           is ∙ admitted-at (card_at plan input) own (parts_under scheduler plan input slots) own-noted
           (λ j less. let early = come input inside j no_packet less in let long = served-length scheduler plan input slots in omega (arith, early, long)) k low
 
-      pub own-outcome : ArrivalsComeFirst plan slots → (k : ℕ) (admitted : Bool) → k < length (card_at plan input).packets → admitted ≡ slice_index_or own.admitted k false
-          → IsOutcome scheduler plan slots (record { input = input; number = k; packet = slice_index_or (card_at plan input).packets k no_packet; admitted = admitted })
+      pub own-outcome : ArrivalsComeFirst plan slots → (k : ℕ) (admitted : Bool) → k < length (card_at plan input).packets
+          → admitted ≡ slice_index_or own.admitted k false
+          → IsOutcome scheduler plan slots
+          (record { input = input; number = k; packet = slice_index_or (card_at plan input).packets k no_packet; admitted = admitted })
       own-outcome come k admitted low is = record {
         input = inside;
         packet = slice_get-get_or (card_at plan input).packets k no_packet low;

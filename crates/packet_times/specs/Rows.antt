@@ -62,7 +62,8 @@ outputs_in ports fan = filter (has fan) (range_with_len 0 ports)
 abbrev pub packet_rows : Scheduler → SwitchPlan → ℕ → ℕ → ℕ → Planned → List (List (List ℕ))
 packet_rows scheduler plan slots i k packet =
     let state = state_of (card_at plan i) (parts_under scheduler plan i slots) packet in
-    if is_routed packet then map (λ j. routed_row i k packet state j (departure_if state (departure_under scheduler plan slots i j k packet))) (outputs_in (ports_of plan) packet.fan)
+    if is_routed packet then map (λ j. routed_row i k packet state j (departure_if state (departure_under scheduler plan slots i j k packet)))
+    (outputs_in (ports_of plan) packet.fan)
     else aside_row i k packet state ∷ []
 
 -- all rows: inputs rising, and of each input its packets in the order of its capture

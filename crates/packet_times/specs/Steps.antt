@@ -41,7 +41,8 @@ pub record AddsEnd (ports slot output : ℕ) (cell : Option Cell) (old new : Lis
 -- what crosses to the first outputs is noted
 pub record AddsEnds (ports slot : ℕ) (crosses : ℕ → Option Cell) (outputs : ℕ) (old new : List (List ℕ)) : Type 0 where
   pub count : length new ≡ length old
-  pub done : (flow : Flow) → IsFlow ports flow → flow.output < outputs → ends_at ports new flow ≡ ends_at ports old flow ++ end_in slot flow (crosses flow.output)
+  pub done : (flow : Flow) → IsFlow ports flow → flow.output < outputs → ends_at ports new flow ≡ ends_at ports old flow
+      ++ end_in slot flow (crosses flow.output)
   pub left : (flow : Flow) → IsFlow ports flow → outputs ≤ flow.output → ends_at ports new flow ≡ ends_at ports old flow
 
 -- what crosses to each output is noted

@@ -47,8 +47,10 @@ impl Input {
 
     // Notes a slot: the packet that arrives, and what the slot serves of the row.
     fn note(&mut self, slot: u32, row: &Row, part: Option<Served>) -> Result<(), OutOfMemory>
-        requires { (plan : APlan) × (served : List (Option AServed)) × IsNoted plan self.old served × (length served ≡ slot) × (row.now ≡ row_at plan served slot) × IsServable row.now part }
-        ensures { (plan : APlan) (served : List (Option AServed)) → IsNoted plan self.old served → length served ≡ slot → row.now ≡ row_at plan served slot → IsServable row.now part
+        requires { (plan : APlan) × (served : List (Option AServed)) × IsNoted plan self.old served × (length served ≡ slot)
+            × (row.now ≡ row_at plan served slot) × IsServable row.now part }
+        ensures { (plan : APlan) (served : List (Option AServed)) → IsNoted plan self.old served → length served ≡ slot → row.now ≡ row_at plan served slot
+            → IsServable row.now part
             → OnOk result (IsNoted plan self.new (served ++ part ∷ [])) }
     {
         let arrival = self.queues.arrive(slot);
@@ -107,7 +109,8 @@ pub(crate) fn note_inputs(
     matched: &Match,
 ) -> Result<(), OutOfMemory>
     requires few { length inputs.old ≤ MAX_PORTS }
-    requires noted { (scheduler : Scheduler) × (plan : SwitchPlan) × AreNoted scheduler plan slot 0 inputs.old × IsSlotUnder scheduler plan slot posts.now matched.now }
+    requires noted { (scheduler : Scheduler) × (plan : SwitchPlan) × AreNoted scheduler plan slot 0 inputs.old
+        × IsSlotUnder scheduler plan slot posts.now matched.now }
     ensures { (scheduler : Scheduler) (plan : SwitchPlan) → AreNoted scheduler plan slot 0 inputs.old → IsSlotUnder scheduler plan slot posts.now matched.now
         → OnOk result (AreNoted scheduler plan slot (ports_of plan) inputs.new) }
 {

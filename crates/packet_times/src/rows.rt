@@ -59,7 +59,8 @@ pub(crate) fn routed_fields(
     output: u32,
     departure: Option<u32>,
 ) -> [Field<'static>; FIELDS]
-    ensures { (input : ℕ) → kind ≡ queue_kind (queue_of packet.now) → decimal input ∷ map field_text result ≡ routed_row input number packet.now state output departure }
+    ensures { (input : ℕ) → kind ≡ queue_kind (queue_of packet.now)
+        → decimal input ∷ map field_text result ≡ routed_row input number packet.now state output departure }
 {
     [
         Field::Number(u64::from(number)),

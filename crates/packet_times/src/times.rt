@@ -56,7 +56,8 @@ impl PacketTimes {
     /// Notes the next slot of the run, from slot 0 on: what its ports posted, and its match. Want of memory is the only
     /// error.
     pub fn note(&mut self, slot: u32, posts: &[Post], matched: &Match) -> Result<(), OutOfMemory>
-        requires { (scheduler : Scheduler) × (plan : SwitchPlan) × HasNoted scheduler plan self.old slot × IsSlotUnder scheduler plan slot posts.now matched.now }
+        requires { (scheduler : Scheduler) × (plan : SwitchPlan) × HasNoted scheduler plan self.old slot
+            × IsSlotUnder scheduler plan slot posts.now matched.now }
         ensures { (scheduler : Scheduler) (plan : SwitchPlan) → HasNoted scheduler plan self.old slot → IsSlotUnder scheduler plan slot posts.now matched.now
             → OnOk result (HasNoted scheduler plan self.new (slot + 1)) }
     {

@@ -9,10 +9,12 @@ use Rattle.pcap_records.proofs.Numbers.{length-number_bytes}
 use borrow.Rule.Slice.PartMut.{put_mid}
 
 -- a write at the front of the rest of a slice
-pub put_at : (at n : ℕ) (old new bytes : List ℕ) → new ≡ bytes ++ drop n (take (length old - at) (drop at old)) → put_mid at (length old - at) old new ≡ take at old ++ (bytes ++ drop (at + n) old)
+pub put_at : (at n : ℕ) (old new bytes : List ℕ) → new ≡ bytes ++ drop n (take (length old - at) (drop at old))
+    → put_mid at (length old - at) old new ≡ take at old ++ (bytes ++ drop (at + n) old)
 put_at at n old new bytes e =
     let past : drop (length old - at) (drop at old) ≡ [] = drop_all (length old - at) (drop at old) (omega (arith, length-drop at old)) in
-    let there : new ≡ bytes ++ drop (at + n) old = e ∙ ap (λ (w : List ℕ). bytes ++ drop n w) (take_rest old at) ∙ ap (λ (w : List ℕ). bytes ++ w) (drop-drop n at old) in
+    let there : new ≡ bytes ++ drop (at + n) old = e ∙ ap (λ (w : List ℕ). bytes ++ drop n w) (take_rest old at)
+    ∙ ap (λ (w : List ℕ). bytes ++ w) (drop-drop n at old) in
     ap (λ (w : List ℕ). take at old ++ (new ++ w)) past ∙ ap (λ (w : List ℕ). take at old ++ w) (append-nil new ∙ there)
 
 -- what is written so far stands before a place, and from there on the buffer is as it was
@@ -31,24 +33,31 @@ filled_more old written now bytes next at n to filled len end e =
     let tail : drop to now ≡ drop to old =
     ap (λ (k : ℕ). drop k now) (sym end) ∙ sym (drop-drop n at now) ∙ ap (drop n) rest ∙ drop-drop n at old ∙ ap (λ (k : ℕ). drop k old) end in
     record {
-      spelled = e ∙ ap (λ (w : List ℕ). w ++ (bytes ++ drop to now)) front ∙ ap (λ (w : List ℕ). written ++ (bytes ++ w)) tail ∙ sym (append_assoc written bytes (drop to old));
+      spelled = e ∙ ap (λ (w : List ℕ). w ++ (bytes ++ drop to now)) front ∙ ap (λ (w : List ℕ). written ++ (bytes ++ w)) tail
+          ∙ sym (append_assoc written bytes (drop to old));
       place = length-append written bytes ∙ omega (arith, filled.place, len, end);
     }
 
 -- a number of four bytes, written at a place
-four_more : (old written now next : List ℕ) (at to n : ℕ) → IsFilled old written at now → at + 4 ≡ to → next ≡ take at now ++ (number_bytes Little 4 n ++ drop (at + 4) now)
+four_more : (old written now next : List ℕ) (at to n : ℕ) → IsFilled old written at now → at + 4 ≡ to
+    → next ≡ take at now ++ (number_bytes Little 4 n ++ drop (at + 4) now)
     → IsFilled old (written ++ number_bytes Little 4 n) to next
 four_more old written now next at to n filled end e =
-    filled_more old written now (number_bytes Little 4 n) next at 4 to filled (length-number_bytes Little 4 n) end (e ∙ ap (λ (k : ℕ). take at now ++ (number_bytes Little 4 n ++ drop k now)) end)
+    filled_more old written now (number_bytes Little 4 n) next at 4 to filled (length-number_bytes Little 4 n) end
+    (e ∙ ap (λ (k : ℕ). take at now ++ (number_bytes Little 4 n ++ drop k now)) end)
 
-two_more : (old written now next : List ℕ) (at to n : ℕ) → IsFilled old written at now → at + 2 ≡ to → next ≡ take at now ++ (number_bytes Little 2 n ++ drop to now)
+two_more : (old written now next : List ℕ) (at to n : ℕ) → IsFilled old written at now → at + 2 ≡ to
+    → next ≡ take at now ++ (number_bytes Little 2 n ++ drop to now)
     → IsFilled old (written ++ number_bytes Little 2 n) to next
-two_more old written now next at to n filled end e = filled_more old written now (number_bytes Little 2 n) next at 2 to filled (length-number_bytes Little 2 n) end e
+two_more old written now next at to n filled end e =
+    filled_more old written now (number_bytes Little 2 n) next at 2 to filled (length-number_bytes Little 2 n) end e
 
 -- a header, written field by field
 pub header_filled : (nano : Bool) (link : Link) (m l : ℕ) (b0 b1 b2 b3 b4 b5 b6 b7 : List ℕ) → m ≡ magic nano → l ≡ link_type link
-    → b1 ≡ take 0 b0 ++ (number_bytes Little 4 m ++ drop 4 b0) → b2 ≡ take 4 b1 ++ (number_bytes Little 2 2 ++ drop 6 b1) → b3 ≡ take 6 b2 ++ (number_bytes Little 2 4 ++ drop 8 b2)
-    → b4 ≡ take 8 b3 ++ (number_bytes Little 4 0 ++ drop 12 b3) → b5 ≡ take 12 b4 ++ (number_bytes Little 4 0 ++ drop 16 b4) → b6 ≡ take 16 b5 ++ (number_bytes Little 4 262144 ++ drop 20 b5)
+    → b1 ≡ take 0 b0 ++ (number_bytes Little 4 m ++ drop 4 b0) → b2 ≡ take 4 b1 ++ (number_bytes Little 2 2 ++ drop 6 b1)
+    → b3 ≡ take 6 b2 ++ (number_bytes Little 2 4 ++ drop 8 b2)
+    → b4 ≡ take 8 b3 ++ (number_bytes Little 4 0 ++ drop 12 b3) → b5 ≡ take 12 b4 ++ (number_bytes Little 4 0 ++ drop 16 b4)
+    → b6 ≡ take 16 b5 ++ (number_bytes Little 4 262144 ++ drop 20 b5)
     → b7 ≡ take 20 b6 ++ (number_bytes Little 4 l ++ drop 24 b6) → b7 ≡ header_text nano link ++ drop 24 b0
 header_filled nano link m l b0 b1 b2 b3 b4 b5 b6 b7 m-is l-is e1 e2 e3 e4 e5 e6 e7 =
     let w0 : IsFilled b0 [] 0 b0 = record { spelled = refl; place = refl } in

@@ -14,7 +14,8 @@ use Rattle.pcap_records.specs.Captures.{HasHeader, records_bytes, IsCapture}
 use Rattle.pcap_records.specs.Faults.{IsCut, in_header, in_bytes, IsLong, IsFault}
 use Rattle.pcap_records.proofs.Numbers.{length-number_bytes}
 use Rattle.pcap_records.proofs.Headers.{header_long}
-use Rattle.pcap_records.proofs.Once.{spelled_apart, link_once, header_once, HasNoRecord, no_record_at_end, no_record_when_cut, no_record_when_long, announced_once, announced_long, records_once}
+use Rattle.pcap_records.proofs.Once.{spelled_apart, link_once, header_once, HasNoRecord, no_record_at_end, no_record_when_cut, no_record_when_long}
+use Rattle.pcap_records.proofs.Once.{announced_once, announced_long, records_once}
 
 pub data Outcome : Type 0 where
   is_capture : Bool → Link → List Packet → Outcome
@@ -84,7 +85,8 @@ not_beyond file (has_fault (ShortHeader len)) is s = omega arith
 not_beyond file (has_fault (BadMagic found)) is s =
     let h = s.0 in
     let front : take 4 file ≡ number_bytes h.order 4 (magic h.nano) =
-    ap (take 4) (s.2.spelled ∙ spelled_apart h s.2.free s.1) ∙ take_at (number_bytes h.order 4 (magic h.nano)) _ 4 (length-number_bytes h.order 4 (magic h.nano)) in
+    ap (take 4) (s.2.spelled ∙ spelled_apart h s.2.free s.1)
+    ∙ take_at (number_bytes h.order 4 (magic h.nano)) _ 4 (length-number_bytes h.order 4 (magic h.nano)) in
     is.2 h.order h.nano front
 not_beyond file (has_fault (BadVersion major minor)) is s =
     let same = (header_once file is.0 s.0 is.1 s.1 is.2 s.2).0 in
@@ -120,7 +122,8 @@ record HasEnd (file : List ℕ) (a : Outcome) : Type 0 where
   pub ends : Ends file order nano link records rest
   pub is : IsEnd file a order nano link records rest
 
-end_of_capture : (file : List ℕ) (nano : Bool) (link : Link) (packets : List Packet) → IsCapture file nano link packets → HasEnd file (is_capture nano link packets)
+end_of_capture : (file : List ℕ) (nano : Bool) (link : Link) (packets : List Packet) → IsCapture file nano link packets
+    → HasEnd file (is_capture nano link packets)
 unfolding IsEnd
 end_of_capture file nano link packets c =
     record {
@@ -129,7 +132,11 @@ end_of_capture file nano link packets c =
       link = link;
       records = c.records;
       rest = [];
-      ends = record { each = c.each; header = subst (λ (w : List ℕ). HasHeader file (header_of c.order nano link) w) (sym (append-nil (records_bytes c.order c.records))) c.header; no_record = no_record_at_end c.order };
+      ends = record {
+        each = c.each;
+        header = subst (λ (w : List ℕ). HasHeader file (header_of c.order nano link) w) (sym (append-nil (records_bytes c.order c.records))) c.header;
+        no_record = no_record_at_end c.order;
+      };
       is = (refl, refl, c.packets_are, refl);
     }
 
@@ -174,7 +181,8 @@ end_is_not_long order len long = omega (arith, announced_long order [] len long.
 place_once : (at at' n m : ℕ) → at + n ≡ m → at' + n ≡ m → at ≡ at'
 place_once at at' n m e e' = omega arith
 
-end_decides : (file : List ℕ) (a b : Outcome) (order : Order) (nano : Bool) (link : Link) (records : List Record) (rest : List ℕ) → IsEnd file a order nano link records rest → IsEnd file b order nano link records rest → a ≡ b
+end_decides : (file : List ℕ) (a b : Outcome) (order : Order) (nano : Bool) (link : Link) (records : List Record) (rest : List ℕ)
+    → IsEnd file a order nano link records rest → IsEnd file b order nano link records rest → a ≡ b
 unfolding IsEnd
 end_decides file (is_capture n l ps) (is_capture n' l' ps') order nano link records rest p q =
     ap (λ x. is_capture x l ps) (p.0 ∙ sym q.0) ∙ ap (λ x. is_capture n' x ps) (p.1 ∙ sym q.1) ∙ ap (λ x. is_capture n' l' x) (p.2 ∙ sym q.2)
@@ -183,10 +191,14 @@ end_decides file (has_fault (CutRecord at)) (has_fault (CutRecord at')) order na
 end_decides file (has_fault (LongRecord at len)) (has_fault (LongRecord at' len')) order nano link records rest p q =
     let same = (announced_once order rest len len' p.1.more q.1.more p.1.announced q.1.announced p.1.fits q.1.fits).0 in
     ap (λ x. has_fault (LongRecord x len)) (place_once at at' (length rest) (length file) p.0 q.0) ∙ ap (λ x. has_fault (LongRecord at' x)) same
-end_decides file (is_capture n l ps) (has_fault (CutRecord at)) order nano link records rest p q = absurd (end_is_not_cut order (subst (λ w. IsCut order w) p.3 q.1))
-end_decides file (is_capture n l ps) (has_fault (LongRecord at len)) order nano link records rest p q = absurd (end_is_not_long order len (subst (λ w. IsLong order w len) p.3 q.1))
-end_decides file (has_fault (CutRecord at)) (is_capture n l ps) order nano link records rest p q = absurd (end_is_not_cut order (subst (λ w. IsCut order w) q.3 p.1))
-end_decides file (has_fault (LongRecord at len)) (is_capture n l ps) order nano link records rest p q = absurd (end_is_not_long order len (subst (λ w. IsLong order w len) q.3 p.1))
+end_decides file (is_capture n l ps) (has_fault (CutRecord at)) order nano link records rest p q =
+    absurd (end_is_not_cut order (subst (λ w. IsCut order w) p.3 q.1))
+end_decides file (is_capture n l ps) (has_fault (LongRecord at len)) order nano link records rest p q =
+    absurd (end_is_not_long order len (subst (λ w. IsLong order w len) p.3 q.1))
+end_decides file (has_fault (CutRecord at)) (is_capture n l ps) order nano link records rest p q =
+    absurd (end_is_not_cut order (subst (λ w. IsCut order w) q.3 p.1))
+end_decides file (has_fault (LongRecord at len)) (is_capture n l ps) order nano link records rest p q =
+    absurd (end_is_not_long order len (subst (λ w. IsLong order w len) q.3 p.1))
 end_decides file (has_fault (CutRecord at)) (has_fault (LongRecord at' len)) order nano link records rest p q = absurd (cut_or_long order rest len p.1 q.1)
 end_decides file (has_fault (LongRecord at len)) (has_fault (CutRecord at')) order nano link records rest p q = absurd (cut_or_long order rest len q.1 p.1)
 end_decides file (has_fault (ShortHeader len)) b order nano link records rest p q = absurd p
@@ -202,12 +214,14 @@ end_decides file a (has_fault OutOfMemory) order nano link records rest p q = ab
 
 same_end : (file : List ℕ) (a b : Outcome) → HasEnd file a → HasEnd file b → a ≡ b
 same_end file a b p q =
-    let head = header_once file (header_of p.order p.nano p.link) (header_of q.order q.nano q.link) (records_bytes p.order p.records ++ p.rest) (records_bytes q.order q.records ++ q.rest) p.ends.header q.ends.header in
+    let head = header_once file (header_of p.order p.nano p.link) (header_of q.order q.nano q.link) (records_bytes p.order p.records ++ p.rest)
+    (records_bytes q.order q.records ++ q.rest) p.ends.header q.ends.header in
     let order : q.order ≡ p.order = sym (ap (λ (h : Header). h.order) head.0) in
     let nano : q.nano ≡ p.nano = sym (ap (λ (h : Header). h.nano) head.0) in
     let link : q.link ≡ p.link = sym (link_once p.link q.link (ap (λ (h : Header). h.link) head.0)) in
     let parts =
-    records_once p.order p.records q.records p.rest q.rest p.ends.each q.ends.each p.ends.no_record (subst (λ (o : Order). HasNoRecord o q.rest) order q.ends.no_record)
+    records_once p.order p.records q.records p.rest q.rest p.ends.each q.ends.each p.ends.no_record
+    (subst (λ (o : Order). HasNoRecord o q.rest) order q.ends.no_record)
     (subst (λ (o : Order). records_bytes p.order p.records ++ p.rest ≡ records_bytes o q.records ++ q.rest) order head.1) in
     let is : IsEnd file b p.order p.nano p.link p.records p.rest =
     subst (λ (o : Order). IsEnd file b o p.nano p.link p.records p.rest) order
@@ -239,13 +253,16 @@ same_rank file (has_fault (ShortHeader len)) (has_fault (ShortHeader len')) e p 
 same_rank file (has_fault (BadMagic found)) (has_fault (BadMagic found')) e p q = ap (λ x. has_fault (BadMagic x)) (p.1 ∙ sym q.1)
 same_rank file (has_fault (BadVersion major minor)) (has_fault (BadVersion major' minor')) e p q =
     let same = (header_once file p.0 q.0 p.1 q.1 p.2 q.2).0 in
-    ap (λ x. has_fault (BadVersion x minor)) (sym p.3 ∙ ap (λ (h : Header). h.major) same ∙ q.3) ∙ ap (λ x. has_fault (BadVersion major' x)) (sym p.4 ∙ ap (λ (h : Header). h.minor) same ∙ q.4)
+    ap (λ x. has_fault (BadVersion x minor)) (sym p.3 ∙ ap (λ (h : Header). h.major) same ∙ q.3)
+    ∙ ap (λ x. has_fault (BadVersion major' x)) (sym p.4 ∙ ap (λ (h : Header). h.minor) same ∙ q.4)
 same_rank file (has_fault (BadLink found)) (has_fault (BadLink found')) e p q =
     let same = (header_once file p.0 q.0 p.1 q.1 p.2 q.2).0 in
     ap (λ x. has_fault (BadLink x)) (sym p.5 ∙ ap (λ (h : Header). h.link) same ∙ q.5)
-same_rank file (is_capture nano link packets) b e p q = same_end file (is_capture nano link packets) b (end_of_capture file nano link packets p) (has_end file b (sym e) q)
+same_rank file (is_capture nano link packets) b e p q =
+    same_end file (is_capture nano link packets) b (end_of_capture file nano link packets p) (has_end file b (sym e) q)
 same_rank file (has_fault (CutRecord at)) b e p q = same_end file (has_fault (CutRecord at)) b (end_when_cut file at p) (has_end file b (sym e) q)
-same_rank file (has_fault (LongRecord at len)) b e p q = same_end file (has_fault (LongRecord at len)) b (end_when_long file at len p) (has_end file b (sym e) q)
+same_rank file (has_fault (LongRecord at len)) b e p q =
+    same_end file (has_fault (LongRecord at len)) b (end_when_long file at len p) (has_end file b (sym e) q)
 same_rank file (has_fault OutOfMemory) b e p q = absurd p
 same_rank file (has_fault (ShortHeader len)) b e p q = absurd (omega arith)
 same_rank file (has_fault (BadMagic found)) b e p q = absurd (omega arith)
@@ -266,7 +283,8 @@ outcome_once file a b p q =
 
 -- ---- what follows for captures and for faults
 
-pub captures_once : (file : List ℕ) (nano nano' : Bool) (link link' : Link) (packets packets' : List Packet) → IsCapture file nano link packets → IsCapture file nano' link' packets'
+pub captures_once : (file : List ℕ) (nano nano' : Bool) (link link' : Link) (packets packets' : List Packet) → IsCapture file nano link packets
+    → IsCapture file nano' link' packets'
     → (nano ≡ nano') × (link ≡ link') × (packets ≡ packets')
 captures_once file nano nano' link link' packets packets' p q =
     let same = outcome_once file (is_capture nano link packets) (is_capture nano' link' packets') p q in
@@ -277,7 +295,8 @@ faults_once file fault fault' p q =
     let same = outcome_once file (has_fault fault) (has_fault fault') p q in
     cc
 
-pub no_fault_of_a_capture : (file : List ℕ) (nano : Bool) (link : Link) (packets : List Packet) (fault : PcapFault) → IsCapture file nano link packets → IsFault file fault → ⊥
+pub no_fault_of_a_capture : (file : List ℕ) (nano : Bool) (link : Link) (packets : List Packet) (fault : PcapFault) → IsCapture file nano link packets
+    → IsFault file fault → ⊥
 no_fault_of_a_capture file nano link packets fault p q =
     let same = outcome_once file (is_capture nano link packets) (has_fault fault) p q in
     cc
@@ -287,7 +306,8 @@ abbrev pub IsAnswer : List ℕ → PcapFault → Type 0
 IsAnswer file answer = (answer ≡ OutOfMemory) ⊎ IsFault file answer
 
 -- such an answer to a capture says that there was no memory
-pub answer_to_capture : (file : List ℕ) (answer : PcapFault) (nano : Bool) (link : Link) (packets : List Packet) → IsAnswer file answer → IsCapture file nano link packets → answer ≡ OutOfMemory
+pub answer_to_capture : (file : List ℕ) (answer : PcapFault) (nano : Bool) (link : Link) (packets : List Packet) → IsAnswer file answer
+    → IsCapture file nano link packets → answer ≡ OutOfMemory
 answer_to_capture file answer nano link packets (inl none) is = none
 answer_to_capture file answer nano link packets (inr fault) is = absurd (no_fault_of_a_capture file nano link packets answer is fault)
 

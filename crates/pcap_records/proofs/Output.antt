@@ -1,5 +1,6 @@
 -- What is written is read again.
-use Rattle.std.proofs.Common.{◌≡◌, ℕ, zero, suc, ◌+◌, ◌%◌, ◌^◌, ◌<◌, ◌≤◌, Bool, true, false, List, [], ◌∷◌, ◌++◌, length, drop, map, All, refl, sym, ap, subst, ◌∙◌, inl, inr, append_assoc, arith, lit<}
+use Rattle.std.proofs.Common.{◌≡◌, ℕ, zero, suc, ◌+◌, ◌%◌, ◌^◌, ◌<◌, ◌≤◌, Bool, true, false, List, [], ◌∷◌, ◌++◌, length, drop, map, All, refl, sym, ap}
+use Rattle.std.proofs.Common.{subst, ◌∙◌, inl, inr, append_assoc, arith, lit<}
 use Rattle.std.specs.List.{flat_map, AllByRecursion}
 use Rattle.std.proofs.lemmas.Bool.{cases_lt}
 use Rattle.std.proofs.lemmas.List.{append-nil, length-append, length-drop, drop_at, drop-drop, get_or_past}
@@ -46,7 +47,8 @@ record_of_message nano m is =
 
 packet_again : (nano : Bool) (m : List ℕ) → IsMessage nano m → message_packet m ≡ packet_of nano (record_of nano (message_packet m))
 packet_again nano m is =
-    ap (λ (n : ℕ). record { seconds = number_in Big 4 m; nanos = n; original = number_in Big 4 (drop 12 m); bytes = drop 16 m }) (sym (nanos_again nano (number_in Big 4 (drop 4 m)) is.below is.whole))
+    ap (λ (n : ℕ). record { seconds = number_in Big 4 m; nanos = n; original = number_in Big 4 (drop 12 m); bytes = drop 16 m })
+    (sym (nanos_again nano (number_in Big 4 (drop 4 m)) is.below is.whole))
 
 -- ---- all messages
 
@@ -57,7 +59,8 @@ text_is : (nano : Bool) (messages : List (List ℕ)) → flat_map (record_text n
 text_is nano [] = refl
 text_is nano (m ∷ ms) = ap (λ (w : List ℕ). record_text nano m ++ w) (text_is nano ms)
 
-each_message : (nano : Bool) (messages : List (List ℕ)) (records : List Record) → AllByRecursion (IsMessage nano) messages → AllByRecursion IsRecord records → AllByRecursion IsRecord (records_of nano messages ++ records)
+each_message : (nano : Bool) (messages : List (List ℕ)) (records : List Record) → AllByRecursion (IsMessage nano) messages → AllByRecursion IsRecord records
+    → AllByRecursion IsRecord (records_of nano messages ++ records)
 each_message nano [] records all each = each
 each_message nano (m ∷ ms) records all each = (record_of_message nano m all.0, each_message nano ms records all.1 each)
 
@@ -87,12 +90,14 @@ length-header_text nano link = length-header_bytes (header_of Little nano link) 
 pub length-record_text : (nano : Bool) (m : List ℕ) → 16 ≤ length m → length (record_text nano m) ≡ length m
 length-record_text nano m long = length-record_bytes Little (record_of nano (message_packet m)) ∙ omega (arith, length-drop 16 m)
 
-pub read_again : (nano : Bool) (link : Link) (messages : List (List ℕ)) (records : List Record) → All (IsMessage nano) messages → AllByRecursion IsRecord records
+pub read_again : (nano : Bool) (link : Link) (messages : List (List ℕ)) (records : List Record) → All (IsMessage nano) messages
+    → AllByRecursion IsRecord records
     → IsCapture (capture_text nano link messages ++ records_bytes Little records) nano link (map message_packet messages ++ map (packet_of nano) records)
 read_again nano link messages records all each =
     let by_one = recursion_from_All (IsMessage nano) messages all in
     let records_follow : flat_map (record_text nano) messages ++ records_bytes Little records ≡ records_bytes Little (records_of nano messages ++ records) =
-    ap (λ (w : List ℕ). w ++ records_bytes Little records) (text_is nano messages) ∙ sym (flat_map-append (record_bytes Little) (records_of nano messages) records) in
+    ap (λ (w : List ℕ). w ++ records_bytes Little records) (text_is nano messages)
+    ∙ sym (flat_map-append (record_bytes Little) (records_of nano messages) records) in
     record {
       order = Little;
       records = records_of nano messages ++ records;
@@ -103,12 +108,14 @@ read_again nano link messages records all each =
         link = link_fits link;
         free = free_text;
         twelve = length-free_text;
-        spelled = append_assoc (header_text nano link) (flat_map (record_text nano) messages) (records_bytes Little records) ∙ ap (λ (w : List ℕ). header_text nano link ++ w) records_follow;
+        spelled = append_assoc (header_text nano link) (flat_map (record_text nano) messages) (records_bytes Little records)
+            ∙ ap (λ (w : List ℕ). header_text nano link ++ w) records_follow;
       };
       packets_are = packets_again nano messages records by_one;
     }
 
-pub read_again_alone : (nano : Bool) (link : Link) (messages : List (List ℕ)) → All (IsMessage nano) messages → IsCapture (capture_text nano link messages) nano link (map message_packet messages)
+pub read_again_alone : (nano : Bool) (link : Link) (messages : List (List ℕ)) → All (IsMessage nano) messages
+    → IsCapture (capture_text nano link messages) nano link (map message_packet messages)
 read_again_alone nano link messages all =
     let whole = read_again nano link messages [] all tt in
     subst (λ (w : List ℕ). IsCapture w nano link (map message_packet messages)) (append-nil (capture_text nano link messages))
@@ -130,7 +137,8 @@ number_fits n x = All-from_recursion (λ b. b < 256) (bytes_high_first n x) (byt
 
 -- where the fields of a message stand
 record IsSpelled (p : Packet) (m : List ℕ) : Type 0 where
-  pub zero_is : m ≡ number_bytes Big 4 p.seconds ++ (number_bytes Big 4 p.nanos ++ (number_bytes Big 4 (length p.bytes) ++ (number_bytes Big 4 p.original ++ p.bytes)))
+  pub zero_is : m ≡ number_bytes Big 4 p.seconds
+      ++ (number_bytes Big 4 p.nanos ++ (number_bytes Big 4 (length p.bytes) ++ (number_bytes Big 4 p.original ++ p.bytes)))
   pub four_is : drop 4 m ≡ number_bytes Big 4 p.nanos ++ (number_bytes Big 4 (length p.bytes) ++ (number_bytes Big 4 p.original ++ p.bytes))
   pub eight_is : drop 8 m ≡ number_bytes Big 4 (length p.bytes) ++ (number_bytes Big 4 p.original ++ p.bytes)
   pub twelve_is : drop 12 m ≡ number_bytes Big 4 p.original ++ p.bytes
@@ -160,7 +168,8 @@ spelled p =
     record { zero_is = e0; four_is = e4; eight_is = e8; twelve_is = e12; sixteen_is = e16 }
 
 nanos_read : (p : Packet) → p.nanos < 256 ^ 4 → number_in Big 4 (drop 4 (message_of p)) ≡ p.nanos
-nanos_read p fits = ap (number_in Big 4) (spelled p).four_is ∙ number_in-number_bytes Big 4 p.nanos (number_bytes Big 4 (length p.bytes) ++ (number_bytes Big 4 p.original ++ p.bytes)) fits
+nanos_read p fits = ap (number_in Big 4) (spelled p).four_is
+    ∙ number_in-number_bytes Big 4 p.nanos (number_bytes Big 4 (length p.bytes) ++ (number_bytes Big 4 p.original ++ p.bytes)) fits
 
 pub length-message_of : (p : Packet) → length (message_of p) ≡ 16 + length p.bytes
 length-message_of p =
@@ -176,7 +185,8 @@ message_is nano p w =
     let len = length-message_of p in
     let read = nanos_read p (omega (arith, w.below)) in
     let captured : number_in Big 4 (drop 8 (message_of p)) ≡ length p.bytes =
-    ap (number_in Big 4) (spelled p).eight_is ∙ number_in-number_bytes Big 4 (length p.bytes) (number_bytes Big 4 p.original ++ p.bytes) (omega (arith, w.size)) in
+    ap (number_in Big 4) (spelled p).eight_is
+    ∙ number_in-number_bytes Big 4 (length p.bytes) (number_bytes Big 4 p.original ++ p.bytes) (omega (arith, w.size)) in
     let s = number_bytes Big 4 p.seconds in
     let n = number_bytes Big 4 p.nanos in
     let l = number_bytes Big 4 (length p.bytes) in
@@ -185,7 +195,9 @@ message_is nano p w =
       bytes =
           subst (All (λ b. b < 256)) (sym (message_of-fields p))
           (All-append (λ b. b < 256) (s ++ n ++ l ++ o) p.bytes
-          (All-append (λ b. b < 256) (s ++ n ++ l) o (All-append (λ b. b < 256) (s ++ n) l (All-append (λ b. b < 256) s n (number_fits 4 p.seconds) (number_fits 4 p.nanos)) (number_fits 4 (length p.bytes))) (number_fits 4 p.original))
+          (All-append (λ b. b < 256) (s ++ n ++ l) o
+          (All-append (λ b. b < 256) (s ++ n) l (All-append (λ b. b < 256) s n (number_fits 4 p.seconds) (number_fits 4 p.nanos))
+          (number_fits 4 (length p.bytes))) (number_fits 4 p.original))
           w.bytes);
       header = omega arith;
       size = omega (arith, w.size);
@@ -200,10 +212,13 @@ packet_is nano p w =
     let made : ℕ → ℕ → ℕ → List ℕ → Packet = λ a b c d. record { seconds = a; nanos = b; original = c; bytes = d } in
     let s : number_in Big 4 m ≡ p.seconds =
     ap (number_in Big 4) (spelled p).zero_is
-    ∙ number_in-number_bytes Big 4 p.seconds (number_bytes Big 4 p.nanos ++ (number_bytes Big 4 (length p.bytes) ++ (number_bytes Big 4 p.original ++ p.bytes))) w.seconds in
+    ∙ number_in-number_bytes Big 4 p.seconds
+    (number_bytes Big 4 p.nanos ++ (number_bytes Big 4 (length p.bytes) ++ (number_bytes Big 4 p.original ++ p.bytes))) w.seconds in
     let n = nanos_read p (omega (arith, w.below)) in
-    let o : number_in Big 4 (drop 12 m) ≡ p.original = ap (number_in Big 4) (spelled p).twelve_is ∙ number_in-number_bytes Big 4 p.original p.bytes w.original in
+    let o : number_in Big 4 (drop 12 m) ≡ p.original = ap (number_in Big 4) (spelled p).twelve_is
+    ∙ number_in-number_bytes Big 4 p.original p.bytes w.original in
     let whole : made (number_in Big 4 m) (number_in Big 4 (drop 4 m)) (number_in Big 4 (drop 12 m)) (drop 16 m) ≡ made p.seconds p.nanos p.original p.bytes =
-    ap (λ a. made a (number_in Big 4 (drop 4 m)) (number_in Big 4 (drop 12 m)) (drop 16 m)) s ∙ ap (λ b. made p.seconds b (number_in Big 4 (drop 12 m)) (drop 16 m)) n
+    ap (λ a. made a (number_in Big 4 (drop 4 m)) (number_in Big 4 (drop 12 m)) (drop 16 m)) s
+    ∙ ap (λ b. made p.seconds b (number_in Big 4 (drop 12 m)) (drop 16 m)) n
     ∙ ap (λ c. made p.seconds p.nanos c (drop 16 m)) o ∙ ap (λ d. made p.seconds p.nanos p.original d) (spelled p).sixteen_is in
     whole

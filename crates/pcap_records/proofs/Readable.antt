@@ -34,7 +34,8 @@ writable nano r is bytes =
       size = is.bytes;
     }
 
-each_writable : (order : Order) (nano : Bool) (records : List Record) → AllByRecursion IsRecord records → AllByRecursion (λ b. b < 256) (records_bytes order records)
+each_writable : (order : Order) (nano : Bool) (records : List Record) → AllByRecursion IsRecord records
+    → AllByRecursion (λ b. b < 256) (records_bytes order records)
     → AllByRecursion (IsWritable nano) (map (packet_of nano) records)
 each_writable order nano [] each bytes = tt
 each_writable order nano (r ∷ rs) each bytes =
@@ -42,7 +43,8 @@ each_writable order nano (r ∷ rs) each bytes =
     let own = each_part (λ b. b < 256) (record_header order r.seconds r.fraction (length r.bytes) r.original) r.bytes parts.0 in
     (writable nano r each.0 own.1, each_writable order nano rs each.1 parts.1)
 
-pub readable : (file : List ℕ) (nano : Bool) (link : Link) (packets : List Packet) → All (λ b. b < 256) file → IsCapture file nano link packets → All (IsWritable nano) packets
+pub readable : (file : List ℕ) (nano : Bool) (link : Link) (packets : List Packet) → All (λ b. b < 256) file → IsCapture file nano link packets
+    → All (IsWritable nano) packets
 readable file nano link packets bytes is =
     let by_one = recursion_from_All (λ b. b < 256) file bytes in
     let spelled = subst (λ (w : List ℕ). AllByRecursion (λ b. b < 256) w) is.header.spelled by_one in
@@ -54,5 +56,7 @@ readable file nano link packets bytes is =
 in_nanos : (nano : Bool) (p : Packet) → IsWritable nano p → IsWritable true p
 in_nanos nano p w = record { seconds = w.seconds; below = w.below; whole = λ micro. absurd (cc); original = w.original; bytes = w.bytes; size = w.size }
 
-pub readable_in_nanos : (file : List ℕ) (nano : Bool) (link : Link) (packets : List Packet) → All (λ b. b < 256) file → IsCapture file nano link packets → All (IsWritable true) packets
-readable_in_nanos file nano link packets bytes is = All-weaker (IsWritable nano) (IsWritable true) (in_nanos nano) packets (readable file nano link packets bytes is)
+pub readable_in_nanos : (file : List ℕ) (nano : Bool) (link : Link) (packets : List Packet) → All (λ b. b < 256) file → IsCapture file nano link packets
+    → All (IsWritable true) packets
+readable_in_nanos file nano link packets bytes is =
+    All-weaker (IsWritable nano) (IsWritable true) (in_nanos nano) packets (readable file nano link packets bytes is)

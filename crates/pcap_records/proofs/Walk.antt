@@ -1,5 +1,6 @@
 -- The records of a file, one after another.
-use Rattle.std.proofs.Common.{◌≡◌, ℕ, ◌+◌, ◌<◌, ◌≤◌, Bool, List, [], ◌∷◌, ◌++◌, length, take, drop, map, get_or, refl, sym, ap, ◌∙◌, subst, append_assoc, arith, All, inl, inr}
+use Rattle.std.proofs.Common.{◌≡◌, ℕ, ◌+◌, ◌<◌, ◌≤◌, Bool, List, [], ◌∷◌, ◌++◌, length, take, drop, map, get_or, refl, sym, ap, ◌∙◌, subst}
+use Rattle.std.proofs.Common.{append_assoc, arith, All, inl, inr}
 use Rattle.std.specs.List.{AllByRecursion}
 use Rattle.std.proofs.lemmas.Bool.{cases_lt}
 use Rattle.std.proofs.lemmas.List.{append-nil, drop_all, length-drop, map_push, get_or_append_left, take-append-le, length_push, get_or_push, take_at}
@@ -52,9 +53,19 @@ in_order_push packets s before own k d below =
 
 pub read_none : (order : Order) (nano : Bool) (file : List ℕ) → 24 ≤ length file → IsReadBefore order nano file 24 []
 read_none order nano file long =
-    record { records = []; each = tt; spelled = refl; within_file = long; packets_are = refl; within = All-nil (IsWithin file); place = refl; in_order = none_in_order }
+    record {
+      records = [];
+      each = tt;
+      spelled = refl;
+      within_file = long;
+      packets_are = refl;
+      within = All-nil (IsWithin file);
+      place = refl;
+      in_order = none_in_order;
+    }
 
-pub read_more : (order : Order) (nano : Bool) (file : List ℕ) (at : ℕ) (packets : List Stored) (s : Stored) → IsReadBefore order nano file at packets → IsStored order nano file at s
+pub read_more : (order : Order) (nano : Bool) (file : List ℕ) (at : ℕ) (packets : List Stored) (s : Stored) → IsReadBefore order nano file at packets
+    → IsStored order nano file at s
     → IsReadBefore order nano file (s.start + s.len) (packets ++ s ∷ [])
 read_more order nano file at packets s before next =
     let r = next.record_there in
@@ -68,14 +79,16 @@ read_more order nano file at packets s before next =
           before.spelled ∙ ap (λ (w : List ℕ). front ++ w) next.spelled ∙ sym (append_assoc front (record_bytes order r) (drop (s.start + s.len) file))
           ∙ ap (λ (w : List ℕ). w ++ drop (s.start + s.len) file) (sym more);
       within_file = next.within;
-      packets_are = map_push (packet_in file) packets s ∙ ap (λ w. w ++ packet_in file s ∷ []) before.packets_are ∙ ap (λ p. map (packet_of nano) before.records ++ p ∷ []) next.packet ∙ sym (map_push (packet_of nano) before.records r);
+      packets_are = map_push (packet_in file) packets s ∙ ap (λ w. w ++ packet_in file s ∷ []) before.packets_are
+          ∙ ap (λ p. map (packet_of nano) before.records ++ p ∷ []) next.packet ∙ sym (map_push (packet_of nano) before.records r);
       within = All-push (IsWithin file) packets s before.within next.within;
       place = omega (arith, sum_by_push (λ (p : Stored). 16 + p.len) packets s, next.place, before.place);
       in_order = in_order_push packets s before.in_order (omega (arith, next.place, before.place));
     }
 
 -- at the end of the file it is a capture with these packets
-pub read_all : (order : Order) (nano : Bool) (link : Link) (file : List ℕ) (at : ℕ) (packets : List Stored) → HasHeader file (header_of order nano link) (drop 24 file)
+pub read_all : (order : Order) (nano : Bool) (link : Link) (file : List ℕ) (at : ℕ) (packets : List Stored)
+    → HasHeader file (header_of order nano link) (drop 24 file)
     → IsReadBefore order nano file at packets → length file ≤ at → IsCapture file nano link (map (packet_in file) packets)
 read_all order nano link file at packets header before done =
     let end : drop 24 file ≡ records_bytes order before.records =
@@ -88,7 +101,8 @@ read_all order nano link file at packets header before done =
       packets_are = before.packets_are;
     }
 
-whole_before : (order : Order) (nano : Bool) (link : Link) (file : List ℕ) (at place : ℕ) (packets : List Stored) → HasHeader file (header_of order nano link) (drop 24 file)
+whole_before : (order : Order) (nano : Bool) (link : Link) (file : List ℕ) (at place : ℕ) (packets : List Stored)
+    → HasHeader file (header_of order nano link) (drop 24 file)
     → IsReadBefore order nano file at packets → place ≡ at → IsWholeBefore file order place (drop at file)
 whole_before order nano link file at place packets header before e =
     record {
@@ -101,12 +115,15 @@ whole_before order nano link file at place packets header before e =
     }
 
 -- where no whole record stands at a place, the file has that fault
-pub broken : (order : Order) (nano : Bool) (link : Link) (file : List ℕ) (at : ℕ) (packets : List Stored) (fault : PcapFault) → HasHeader file (header_of order nano link) (drop 24 file)
+pub broken : (order : Order) (nano : Bool) (link : Link) (file : List ℕ) (at : ℕ) (packets : List Stored) (fault : PcapFault)
+    → HasHeader file (header_of order nano link) (drop 24 file)
     → IsReadBefore order nano file at packets → IsBroken order (drop at file) at fault → IsFault file fault
 broken order nano link file at packets (ShortHeader len) header before is = absurd is
 broken order nano link file at packets (BadMagic found) header before is = absurd is
 broken order nano link file at packets (BadVersion major minor) header before is = absurd is
 broken order nano link file at packets (BadLink found) header before is = absurd is
-broken order nano link file at packets (CutRecord place) header before is = (order, drop at file, whole_before order nano link file at place packets header before is.0, is.1)
-broken order nano link file at packets (LongRecord place len) header before is = (order, drop at file, whole_before order nano link file at place packets header before is.0, is.1)
+broken order nano link file at packets (CutRecord place) header before is =
+    (order, drop at file, whole_before order nano link file at place packets header before is.0, is.1)
+broken order nano link file at packets (LongRecord place len) header before is =
+    (order, drop at file, whole_before order nano link file at place packets header before is.0, is.1)
 broken order nano link file at packets OutOfMemory header before is = absurd is

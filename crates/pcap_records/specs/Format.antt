@@ -42,7 +42,8 @@ header_of order nano link = record { order = order; nano = nano; major = 2; mino
 -- the 24 bytes of a header: the magic, the version, twelve bytes for time zone, accuracy and snap length, and the
 -- link type
 abbrev pub header_bytes : Header → List ℕ → List ℕ
-header_bytes h free = number_bytes h.order 4 (magic h.nano) ++ number_bytes h.order 2 h.major ++ number_bytes h.order 2 h.minor ++ free ++ number_bytes h.order 4 h.link
+header_bytes h free = number_bytes h.order 4 (magic h.nano) ++ number_bytes h.order 2 h.major ++ number_bytes h.order 2 h.minor ++ free
+    ++ number_bytes h.order 4 h.link
 
 -- a record: its seconds, its fraction of a second, the packet's length on the line and its captured bytes
 pub record Record : Type 0 where

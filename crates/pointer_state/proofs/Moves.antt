@@ -1,10 +1,12 @@
 -- Every move leaves the pointers at ports, and what each pointer is after it.
-use Rattle.std.proofs.Common.{◌≡◌, ℕ, ◌+◌, ◌%◌, ◌<◌, ◌≤◌, ◌∙◌, List, length, slice_index, slice_set, inl, inr, arith, length-set, get_or-set_same, get_or-set_other}
+use Rattle.std.proofs.Common.{◌≡◌, ℕ, ◌+◌, ◌%◌, ◌<◌, ◌≤◌, ◌∙◌, List, length, slice_index, slice_set, inl, inr, arith, length-set, get_or-set_same}
+use Rattle.std.proofs.Common.{get_or-set_other}
 use Rattle.std.proofs.lemmas.Bool.{cases_eq}
 use Rattle.std.proofs.lemmas.List.{length-replicate}
 use Rattle.std.proofs.lemmas.Nat.{mod_below}
 use Rattle.rotating_pick.specs.declared.limits.TheConstants.{LEVELS, MAX_PORTS}
-use Rattle.pointer_state.specs.Places.{Places, place_of, grant_of, accept_of, shared_of, with_place, AreAtPorts, places_at_first, places_met, places_passed, places_held}
+use Rattle.pointer_state.specs.Places.{Places, place_of, grant_of, accept_of, shared_of, with_place, AreAtPorts, places_at_first, places_met}
+use Rattle.pointer_state.specs.Places.{places_passed, places_held}
 use Rattle.pointer_state.proofs.Tables.{IsTable-with, place_of-with_same, place_of-with_other, IsTable-at_first, place_of-at_first, shared-at_first}
 
 -- what is equal to a number below n is below n
@@ -12,7 +14,9 @@ pub below_by : (n a b : ℕ) → a ≡ b → b < n → a < n
 below_by n a b e h = omega arith
 
 -- each place of the table is below n, also after another was set
-below-with : (table : List (List ℕ)) (level port place n other x : ℕ) → place_of (with_place table level port place) level port ≡ place → ((l y : ℕ) → (l ≡ level → y ≡ port → ⊥) → place_of (with_place table level port place) l y ≡ place_of table l y) → place < n → place_of table other x < n → place_of (with_place table level port place) other x < n
+below-with : (table : List (List ℕ)) (level port place n other x : ℕ) → place_of (with_place table level port place) level port ≡ place
+    → ((l y : ℕ) → (l ≡ level → y ≡ port → ⊥) → place_of (with_place table level port place) l y ≡ place_of table l y) → place < n
+    → place_of table other x < n → place_of (with_place table level port place) other x < n
 below-with table level port place n other x here others place_in before =
     elim (cases_eq other level) [
       | inr apart ↦ below_by n _ _ (others other x (λ e f. apart e)) before
@@ -22,7 +26,8 @@ below-with table level port place n other x here others place_in before =
       ]
     ]
 
-below-set : (places : List ℕ) (level place n other : ℕ) → level < length places → place < n → slice_index places other < n → slice_index (slice_set places level place) other < n
+below-set : (places : List ℕ) (level place n other : ℕ) → level < length places → place < n → slice_index places other < n
+    → slice_index (slice_set places level place) other < n
 below-set places level place n other level_in place_in before =
     elim (cases_eq other level) [
       | inl same ↦ rw same (below_by n _ _ (get_or-set_same places level place 0 level_in) place_in)
@@ -69,8 +74,12 @@ module _ (p : Places) (at_ports : AreAtPorts p) (level : ℕ) (level_in : level 
           shared_levels = at_ports.shared_levels;
           pointing = λ other other_in.
               let before = at_ports.pointing other other_in in record {
-                grant = λ j j_in. below-with p.grant level output _ p.ports other j (place_of-with_same p.grant g level output _ level_in (fits output output_in)) (place_of-with_other p.grant g level output _ level_in (fits output output_in)) (next_in input) (before.grant j j_in);
-                accept = λ i i_in. below-with p.accept level input _ p.ports other i (place_of-with_same p.accept a level input _ level_in (fits input input_in)) (place_of-with_other p.accept a level input _ level_in (fits input input_in)) (next_in output) (before.accept i i_in);
+                grant = λ j j_in. below-with p.grant level output _ p.ports other j
+                    (place_of-with_same p.grant g level output _ level_in (fits output output_in))
+                    (place_of-with_other p.grant g level output _ level_in (fits output output_in)) (next_in input) (before.grant j j_in);
+                accept = λ i i_in. below-with p.accept level input _ p.ports other i
+                    (place_of-with_same p.accept a level input _ level_in (fits input input_in))
+                    (place_of-with_other p.accept a level input _ level_in (fits input input_in)) (next_in output) (before.accept i i_in);
                 shared = before.shared;
               };
         }
@@ -85,11 +94,13 @@ module _ (p : Places) (at_ports : AreAtPorts p) (level : ℕ) (level_in : level 
 
     pub grant_of-met_other : (j other : ℕ) → (j ≡ output → other ≡ level → ⊥) → grant_of (places_met p input output level) j other ≡ grant_of p j other
     unfolding places_met
-    grant_of-met_other j other apart = place_of-with_other p.grant at_ports.grant_table level output _ level_in (fits output output_in) other j (λ e f. apart f e)
+    grant_of-met_other j other apart =
+        place_of-with_other p.grant at_ports.grant_table level output _ level_in (fits output output_in) other j (λ e f. apart f e)
 
     pub accept_of-met_other : (i other : ℕ) → (i ≡ input → other ≡ level → ⊥) → accept_of (places_met p input output level) i other ≡ accept_of p i other
     unfolding places_met
-    accept_of-met_other i other apart = place_of-with_other p.accept at_ports.accept_table level input _ level_in (fits input input_in) other i (λ e f. apart f e)
+    accept_of-met_other i other apart =
+        place_of-with_other p.accept at_ports.accept_table level input _ level_in (fits input input_in) other i (λ e f. apart f e)
 
     pub AreAtPorts-held : AreAtPorts (places_held p input output level)
     unfolding places_held
@@ -103,7 +114,9 @@ module _ (p : Places) (at_ports : AreAtPorts p) (level : ℕ) (level_in : level 
           shared_levels = at_ports.shared_levels;
           pointing = λ other other_in.
               let before = at_ports.pointing other other_in in record {
-                grant = λ j j_in. below-with p.grant level output input p.ports other j (place_of-with_same p.grant g level output input level_in (fits output output_in)) (place_of-with_other p.grant g level output input level_in (fits output output_in)) input_in (before.grant j j_in);
+                grant = λ j j_in. below-with p.grant level output input p.ports other j
+                    (place_of-with_same p.grant g level output input level_in (fits output output_in))
+                    (place_of-with_other p.grant g level output input level_in (fits output output_in)) input_in (before.grant j j_in);
                 accept = before.accept;
                 shared = before.shared;
               };
@@ -115,7 +128,8 @@ module _ (p : Places) (at_ports : AreAtPorts p) (level : ℕ) (level_in : level 
 
     pub grant_of-held_other : (j other : ℕ) → (j ≡ output → other ≡ level → ⊥) → grant_of (places_held p input output level) j other ≡ grant_of p j other
     unfolding places_held
-    grant_of-held_other j other apart = place_of-with_other p.grant at_ports.grant_table level output input level_in (fits output output_in) other j (λ e f. apart f e)
+    grant_of-held_other j other apart = place_of-with_other p.grant at_ports.grant_table level output input level_in (fits output output_in) other j
+        (λ e f. apart f e)
 
   pub AreAtPorts-passed : (input : ℕ) → AreAtPorts (places_passed p level input)
   unfolding places_passed

@@ -1,5 +1,6 @@
 -- Tables of places: what one has after another place was set.
-use Rattle.std.proofs.Common.{◌≡◌, ◌≢◌, ℕ, ◌<◌, ◌∙◌, List, [], length, replicate, slice_index, slice_index_or, slice_set, sym, ap, inl, inr, arith, length-set, get_or-set_same, get_or-set_other}
+use Rattle.std.proofs.Common.{◌≡◌, ◌≢◌, ℕ, ◌<◌, ◌∙◌, List, [], length, replicate, slice_index, slice_index_or, slice_set, sym, ap, inl, inr, arith}
+use Rattle.std.proofs.Common.{length-set, get_or-set_same, get_or-set_other}
 use Rattle.std.proofs.lemmas.Bool.{cases_eq, cases_lt}
 use Rattle.std.proofs.lemmas.List.{length-replicate, get_or-replicate, get_or_past, ext_get_or}
 use Rattle.rotating_pick.specs.declared.limits.TheConstants.{LEVELS, MAX_PORTS}
@@ -7,10 +8,12 @@ use Rattle.rotating_pick.proofs.Tables.{get_or-same}
 use Rattle.pointer_state.specs.Places.{place_of, with_place, IsTable}
 
 -- a row of the table after one place was set
-row-with_same : (table : List (List ℕ)) (level port place : ℕ) → level < length table → slice_index_or (with_place table level port place) level [] ≡ slice_set (slice_index_or table level []) port place
+row-with_same : (table : List (List ℕ)) (level port place : ℕ) → level < length table
+    → slice_index_or (with_place table level port place) level [] ≡ slice_set (slice_index_or table level []) port place
 row-with_same table level port place level_in = get_or-set_same table level (slice_set (slice_index_or table level []) port place) [] level_in
 
-row-with_other : (table : List (List ℕ)) (level port place other : ℕ) → other ≢ level → slice_index_or (with_place table level port place) other [] ≡ slice_index_or table other []
+row-with_other : (table : List (List ℕ)) (level port place other : ℕ) → other ≢ level
+    → slice_index_or (with_place table level port place) other [] ≡ slice_index_or table other []
 row-with_other table level port place other differ = get_or-set_other table level other (slice_set (slice_index_or table level []) port place) [] differ
 
 module _ (table : List (List ℕ)) (whole : IsTable table) (level port place : ℕ) (level_in : level < LEVELS) (port_in : port < MAX_PORTS) where
@@ -22,7 +25,8 @@ module _ (table : List (List ℕ)) (whole : IsTable table) (level port place : �
       record {
         levels = length-set table level (slice_set (slice_index_or table level []) port place) ∙ whole.levels;
         ports = λ other other_in. elim (cases_eq other level) [
-          | inl same ↦ rw same (ap length (row-with_same table level port place level_there) ∙ (length-set (slice_index_or table level []) port place ∙ whole.ports level level_in))
+          | inl same ↦ rw same (ap length (row-with_same table level port place level_there)
+              ∙ (length-set (slice_index_or table level []) port place ∙ whole.ports level level_in))
           | inr differ ↦ ap length (row-with_other table level port place other differ) ∙ whole.ports other other_in
         ];
       }
@@ -31,7 +35,8 @@ module _ (table : List (List ℕ)) (whole : IsTable table) (level port place : �
   pub place_of-with_same : place_of (with_place table level port place) level port ≡ place
   place_of-with_same =
       let port_there : port < length (slice_index_or table level []) = let long = whole.ports level level_in in omega arith in
-      ap (λ row. slice_index row port) (row-with_same table level port place level_there) ∙ get_or-set_same (slice_index_or table level []) port place 0 port_there
+      ap (λ row. slice_index row port) (row-with_same table level port place level_there)
+      ∙ get_or-set_same (slice_index_or table level []) port place 0 port_there
 
   -- every other place
   pub place_of-with_other : (other x : ℕ) → (other ≡ level → x ≡ port → ⊥) → place_of (with_place table level port place) other x ≡ place_of table other x
@@ -39,7 +44,8 @@ module _ (table : List (List ℕ)) (whole : IsTable table) (level port place : �
       elim (cases_eq other level) [
         | inl same ↦
             let here : place_of (with_place table level port place) level x ≡ place_of table level x =
-            ap (λ row. slice_index row x) (row-with_same table level port place level_there) ∙ get_or-set_other (slice_index_or table level []) port x place 0 (differ same) in
+            ap (λ row. slice_index row x) (row-with_same table level port place level_there)
+            ∙ get_or-set_other (slice_index_or table level []) port x place 0 (differ same) in
             rw same here
         | inr apart ↦ ap (λ row. slice_index row x) (row-with_other table level port place other apart)
       ]
@@ -52,7 +58,8 @@ place_of-at_first level port =
     let table : List (List ℕ) = replicate LEVELS (replicate MAX_PORTS 0) in
     elim (cases_lt level LEVELS) [
       | inl below ↦ ap (λ row. slice_index row port) (get_or-replicate LEVELS level (replicate {A = ℕ} MAX_PORTS 0) [] below) ∙ get_or-same 0 MAX_PORTS port
-      | inr above ↦ ap (λ row. slice_index row port) (get_or_past table level [] (let long : length table ≡ LEVELS = length-replicate LEVELS (replicate {A = ℕ} MAX_PORTS 0) in omega arith))
+      | inr above ↦ ap (λ row. slice_index row port)
+          (get_or_past table level [] (let long : length table ≡ LEVELS = length-replicate LEVELS (replicate {A = ℕ} MAX_PORTS 0) in omega arith))
     ]
 
 pub IsTable-at_first : IsTable (replicate LEVELS (replicate MAX_PORTS 0))
@@ -68,4 +75,5 @@ IsTable-same a b x y same =
     ext_get_or [] a b (x.levels ∙ sym y.levels)
     (λ level below.
     let level_in : level < LEVELS = let long = x.levels in omega arith in
-    ext_get_or 0 (slice_index_or a level []) (slice_index_or b level []) (x.ports level level_in ∙ sym (y.ports level level_in)) (λ port port_in. same level port))
+    ext_get_or 0 (slice_index_or a level []) (slice_index_or b level []) (x.ports level level_in ∙ sym (y.ports level level_in))
+    (λ port port_in. same level port))

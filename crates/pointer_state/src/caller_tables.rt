@@ -41,7 +41,8 @@ fn is_level_pointing(n: u32, tables: &PointerTables, level: usize) -> bool
     requires size { n ≤ MAX_PORTS }
     requires level_in { level < LEVELS }
     ensures below { IsTrue result ↔ ArePointing n level (places_from n tables.now) }
-    ensures whole { IsTrue result → (length (slice_index_or tables.now.grant level []) ≡ MAX_PORTS) × (length (slice_index_or tables.now.accept level []) ≡ MAX_PORTS) }
+    ensures whole { IsTrue result → (length (slice_index_or tables.now.grant level []) ≡ MAX_PORTS)
+        × (length (slice_index_or tables.now.accept level []) ≡ MAX_PORTS) }
 {
     are_below(n, &tables.grant[level])
         && are_below(n, &tables.accept[level])

@@ -1,6 +1,7 @@
 ghost use Rattle.std.specs.Prelude.{◌≡◌, ℕ, ◌+◌, ◌%◌, ◌<◌, ◌≤◌, ◌↔◌, IsSome, IfSome, replicate, slice_index};
 ghost use Rattle.pointer_state.specs.CallerTables.{AreInRange, places_from, tables_of};
-ghost use Rattle.pointer_state.specs.Places.{place_of, grant_of, accept_of, shared_of, with_place, AreAtPorts, places_at_first, places_met, places_passed, places_held};
+ghost use Rattle.pointer_state.specs.Places.{place_of, grant_of, accept_of, shared_of, with_place, AreAtPorts, places_at_first, places_met};
+ghost use Rattle.pointer_state.specs.Places.{places_passed, places_held};
 
 use crate::caller_tables::{PointerTables, are_pointing};
 use rotating_pick::{LEVEL_COUNT, LEVELS, MAX_PORTS, PORT_COUNT, next};

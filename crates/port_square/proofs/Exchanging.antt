@@ -1,5 +1,6 @@
 -- A pair of rows more is exchanged.
-use Rattle.std.proofs.Common.{◌≡◌, ℕ, ◌+◌, ◌-◌, ◌*◌, ◌/◌, ◌%◌, ◌^◌, ◌<◌, ◌≤◌, ◌≢◌, ◌∙◌, List, length, slice_index, slice_set, bit_and, bit_xor, arith, sym, inl, inr, get_or-set_same, get_or-set_other, length-set}
+use Rattle.std.proofs.Common.{◌≡◌, ℕ, ◌+◌, ◌-◌, ◌*◌, ◌/◌, ◌%◌, ◌^◌, ◌<◌, ◌≤◌, ◌≢◌, ◌∙◌, List, length, slice_index, slice_set, bit_and, bit_xor, arith}
+use Rattle.std.proofs.Common.{sym, inl, inr, get_or-set_same, get_or-set_other, length-set}
 use Rattle.std.specs.Int.{bit_at}
 use Rattle.std.proofs.lemmas.Bool.{cases_eq}
 use Rattle.std.proofs.lemmas.Nat.{one_shl, pow_pos, pow_below}
@@ -75,7 +76,8 @@ module _ (k r mask : ℕ) (old : List ℕ) (clear : bit_at r k ≡ 0) (masks : (
         | inr other ↦ omega (arith, without_clear k x (clear_from_ne x k other))
       ]
 
-  pub Exchanging-put : (rows : List ℕ) → k < 6 → r < 64 → length rows ≡ 64 → Exchanging k r old rows → Exchanging k (r + 1) old (slice_set (slice_set rows r new_high) (r + 2 ^ k) new_low)
+  pub Exchanging-put : (rows : List ℕ) → k < 6 → r < 64 → length rows ≡ 64 → Exchanging k r old rows
+      → Exchanging k (r + 1) old (slice_set (slice_set rows r new_high) (r + 2 ^ k) new_low)
   Exchanging-put rows k_in r_in long s =
       let low_in : r + 2 ^ k < 64 = up-lt k r k_in r_in clear in
       let width = pow_pos k in

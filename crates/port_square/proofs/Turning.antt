@@ -51,7 +51,8 @@ made-lt k r b k_in r_in bit =
     let six : 5 - k + (k + 1) ≡ 6 = omega arith in
     let turned : k + 1 + (5 - k) ≡ 6 = omega arith in
     let high : r / 2 ^ (k + 1) < 2 ^ (5 - k) = shr_below r (5 - k) (k + 1) (rw six r_in) in
-    let fits = mul-add-lt (r / 2 ^ (k + 1)) (2 ^ (k + 1)) (b * 2 ^ k + r % 2 ^ k) (2 ^ (5 - k)) high (low_lt k b (r % 2 ^ k) bit (mod_below r (2 ^ k) (pow_pos k))) in
+    let fits = mul-add-lt (r / 2 ^ (k + 1)) (2 ^ (k + 1)) (b * 2 ^ k + r % 2 ^ k) (2 ^ (5 - k)) high
+    (low_lt k b (r % 2 ^ k) bit (mod_below r (2 ^ k) (pow_pos k))) in
     let whole : 2 ^ (k + 1) * 2 ^ (5 - k) ≡ 64 = rw turned at (sym (pow-add 2 (k + 1) (5 - k))) in
     omega (arith, fits, whole)
 

@@ -1,5 +1,6 @@
 -- The counters after the packet that arrives in a slot.
-use Rattle.std.proofs.Common.{◌≡◌, ◌≢◌, ◌∙◌, ℕ, ◌+◌, ◌-◌, ◌^◌, ◌<◌, ◌&&◌, nat_le, Bool, true, false, List, length, Option, Some, None, refl, sym, ap, subst, arith, if◌then◌else◌, slice_get, slice_index, length-set, length-drop}
+use Rattle.std.proofs.Common.{◌≡◌, ◌≢◌, ◌∙◌, ℕ, ◌+◌, ◌-◌, ◌^◌, ◌<◌, ◌&&◌, nat_le, Bool, true, false, List, length, Option, Some, None, refl, sym, ap}
+use Rattle.std.proofs.Common.{subst, arith, if◌then◌else◌, slice_get, slice_index, length-set, length-drop}
 use Rattle.std.proofs.lemmas.Bool.{ne_eqb}
 use Rattle.slot_match.specs.declared.matching.Served.{Served}
 use Rattle.card_core.specs.declared.plan.Planned.{Planned}

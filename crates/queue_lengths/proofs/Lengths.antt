@@ -1,5 +1,6 @@
 -- How many cells wait in a queue: with the packet that arrives, after what is served, and never more than the depth.
-use Rattle.std.proofs.Common.{◌≡◌, ◌∙◌, ℕ, zero, suc, ◌+◌, ◌-◌, ◌≤◌, ◌==◌, ◌&&◌, Bool, true, false, List, [], ◌∷◌, ◌++◌, length, Option, Some, None, refl, ap, arith, slice_index_or, if◌then◌else◌, length-append, length-drop}
+use Rattle.std.proofs.Common.{◌≡◌, ◌∙◌, ℕ, zero, suc, ◌+◌, ◌-◌, ◌≤◌, ◌==◌, ◌&&◌, Bool, true, false, List, [], ◌∷◌, ◌++◌, length, Option, Some, None}
+use Rattle.std.proofs.Common.{refl, ap, arith, slice_index_or, if◌then◌else◌, length-append, length-drop}
 use Rattle.std.proofs.lemmas.Bool.{and_parts, leb-true}
 use Rattle.std.proofs.lemmas.List.{length-map, drop-append-le}
 use Rattle.std.proofs.lemmas.List.FromFn.{length-map-range_with_len}
@@ -8,7 +9,8 @@ use Rattle.multicast_queue.specs.FanQueues.{FanCell}
 use Rattle.cell_rings.specs.CellQueues.{names_of_packet, cells_with_fan}
 use Rattle.card_core.specs.declared.plan.Planned.{Planned}
 use Rattle.card_core.specs.Plans.{Plan, Queue, IsGoodPlan, is_queue, queue_of, size_of, arriving}
-use Rattle.card_core.specs.Queues.{Passed, waiting, rest_of, is_routed, fits, coming, with_arrival, with_since, head_gone, after_part_of, before, queue_in, is_admitted}
+use Rattle.card_core.specs.Queues.{Passed, waiting, rest_of, is_routed, fits, coming, with_arrival, with_since, head_gone, after_part_of, before}
+use Rattle.card_core.specs.Queues.{queue_in, is_admitted}
 use Rattle.card_core.proofs.Passing.{kept-before, is_queue-same}
 use Rattle.card_core.proofs.Taking.{before-more, queue_in-more}
 use Rattle.queue_lengths.specs.Lengths.{length_before, length_in, is_for}

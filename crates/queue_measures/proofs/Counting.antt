@@ -1,5 +1,6 @@
 -- The numbers of all queues of an input, with the packet that arrives in a slot.
-use Rattle.std.proofs.Common.{◌≡◌, ◌≢◌, ◌∙◌, ℕ, zero, suc, ◌+◌, ◌*◌, ◌/◌, ◌%◌, ◌^◌, ◌<◌, ◌≤◌, ◌==◌, ◌&&◌, not, Bool, true, false, List, [], ◌∷◌, ◌++◌, length, Option, Some, None, slice_index, slice_index_or, slice_set, refl, sym, ap, subst, arith, inl, inr, if◌then◌else◌}
+use Rattle.std.proofs.Common.{◌≡◌, ◌≢◌, ◌∙◌, ℕ, zero, suc, ◌+◌, ◌*◌, ◌/◌, ◌%◌, ◌^◌, ◌<◌, ◌≤◌, ◌==◌, ◌&&◌, not, Bool, true, false, List, [], ◌∷◌, ◌++◌}
+use Rattle.std.proofs.Common.{length, Option, Some, None, slice_index, slice_index_or, slice_set, refl, sym, ap, subst, arith, inl, inr, if◌then◌else◌}
 use Rattle.std.specs.Option.{option_map}
 use Rattle.std.proofs.lemmas.Bool.{cases_eq, cases_lt, cases_Bool, eq-eqb, eqb-true, lt-ltb, le-ltb, and_parts}
 use Rattle.std.proofs.lemmas.Grind.{get_or-set_at}
@@ -26,7 +27,8 @@ use Rattle.queue_measures.proofs.SoFar.{so_far, so_far-first, so_far-step, now_f
 
 -- ---- queues and places
 pub place-same : (ports : ℕ) (q r : Queue) → IsQueue ports q → IsQueue ports r → place_of ports q ≡ place_of ports r → q ≡ r
-place-same ports (OfOutput j l) (OfOutput k m) mine yours same = let a : j ≡ k = omega (arith, mine.0, mine.1, yours.0, yours.1, same) in let b : l ≡ m = omega (arith, mine.1, yours.1, same) in cc
+place-same ports (OfOutput j l) (OfOutput k m) mine yours same = let a : j ≡ k = omega (arith, mine.0, mine.1, yours.0, yours.1, same) in let b : l ≡ m =
+    omega (arith, mine.1, yours.1, same) in cc
 place-same ports (OfOutput j l) (OfLevel m) mine yours same = absurd (omega (arith, mine.0, mine.1, yours, same))
 place-same ports (OfLevel l) (OfOutput k m) mine yours same = absurd (omega (arith, mine, yours.0, yours.1, same))
 place-same ports (OfLevel l) (OfLevel m) mine yours same = let b : l ≡ m = omega arith in cc
@@ -45,12 +47,14 @@ at-place ports place inside =
     ]
 
 -- ---- how small the numbers are
-so_far-few : (test : Planned → Bool) (weight : Planned → ℕ) (most : ℕ) (plan : Plan) → IsGoodPlan plan → ((p : Planned) → IsPlanned plan.ports (length plan.bytes) p → test p ≡ true → weight p ≤ most) → (t : ℕ) → so_far test weight t plan.packets ≤ t * most
+so_far-few : (test : Planned → Bool) (weight : Planned → ℕ) (most : ℕ) (plan : Plan) → IsGoodPlan plan
+    → ((p : Planned) → IsPlanned plan.ports (length plan.bytes) p → test p ≡ true → weight p ≤ most) → (t : ℕ) → so_far test weight t plan.packets ≤ t * most
 so_far-few test weight most plan good few zero = let none = so_far-first test weight plan.packets in omega arith
 so_far-few test weight most plan good few (suc t) =
     let before = so_far-few test weight most plan good few t in
     let step = so_far-step test weight t 0 plan.packets good.rising in
-    let now = now_few test weight most (arriving plan t) (λ k p is passes. let there = arriving-there 0 plan.packets t k p is in few p (good.packets there.0 p there.2) passes) in
+    let now = now_few test weight most (arriving plan t)
+    (λ k p is passes. let there = arriving-there 0 plan.packets t k p is in few p (good.packets there.0 p there.2) passes) in
     omega (arith, before, step, now)
 
 routed-somewhere : (fan : ℕ) → not (fan == 0) ≡ true → fan ≢ 0
@@ -61,7 +65,9 @@ numbers-small plan good served q t early =
     let packets = so_far-few (is_for q) (λ p. 1) 1 plan good (λ p planned passes. omega arith) t in
     let dropped = so_far-few (λ p. is_for q p && not (is_admitted plan served p.arrival p)) (λ p. 1) 1 plan good (λ p planned passes. omega arith) t in
     let cells = so_far-few (enters plan q served) size_of 1171 plan good
-    (λ p planned passes. cells_forwarded p.len (planned.forwarded (routed-somewhere p.fan (and_parts (is_routed p) (is_queue q (queue_of p)) (and_parts (is_for q p) (is_admitted plan served p.arrival p) passes).0).0))) t in
+    (λ p planned passes. cells_forwarded p.len
+    (planned.forwarded (routed-somewhere p.fan
+    (and_parts (is_routed p) (is_queue q (queue_of p)) (and_parts (is_for q p) (is_admitted plan served p.arrival p) passes).0).0))) t in
     record {
       packets = omega arith;
       dropped = omega arith;
@@ -69,7 +75,8 @@ numbers-small plan good served q t early =
     }
 
 -- ---- the packet that arrives
-fits-chosen : (ports fan j level : ℕ) (b : Bool) → b ≡ (fan == 2 ^ j) → fan < 2 ^ ports → level < 4 → IsQueue ports (if b then OfOutput j level else OfLevel level)
+fits-chosen : (ports fan j level : ℕ) (b : Bool) → b ≡ (fan == 2 ^ j) → fan < 2 ^ ports → level < 4
+    → IsQueue ports (if b then OfOutput j level else OfLevel level)
 fits-chosen ports fan j level true is among small =
     let power : fan ≡ 2 ^ j = eqb-true fan (2 ^ j) (sym is) in
     (Has-lt ports fan j among (subst (λ set. Has set j) (sym power) (bit_at-pow_same j)), small)
@@ -93,7 +100,8 @@ module _ (plan : Plan) (good : IsGoodPlan plan) (served : List (Option Served)) 
       let q = queue_at plan.ports place in
       subst IsSmall (sym (ap (λ n. slice_index_or numbers n no_numbers) (sym it.1) ∙ are q it.0)) (numbers-small plan good served q here early)
 
-  may-of : (arrives : Option (ℕ × Planned)) (arrival : Arrival) → arriving plan here ≡ arrives → option_map told arrives ≡ Some arrival → MayCount plan.ports long numbers arrival
+  may-of : (arrives : Option (ℕ × Planned)) (arrival : Arrival) → arriving plan here ≡ arrives → option_map told arrives ≡ Some arrival
+      → MayCount plan.ports long numbers arrival
   may-of None arrival is mapped = absurd cc
   may-of (Some (k, p)) arrival is mapped =
       let there = arriving-there 0 plan.packets here k p is in
@@ -112,7 +120,8 @@ module _ (plan : Plan) (good : IsGoodPlan plan) (served : List (Option Served)) 
   pub may-count : (arrival : Arrival) → arrival_in plan served here ≡ Some arrival → MayCount plan.ports long numbers arrival
   may-count arrival is = may-of (arriving plan here) arrival refl is
 
-  module _ (part : Option Served) (are_long : (q : Queue) → IsQueue plan.ports q → slice_index long (place_of plan.ports q) ≡ length_in plan q served here) where
+  module _ (part : Option Served)
+      (are_long : (q : Queue) → IsQueue plan.ports q → slice_index long (place_of plan.ports q) ≡ length_in plan q served here) where
     abbrev after : Queue → QueueNumbers
     after q = numbers_so_far plan (served ++ part ∷ []) (suc here) q
 
@@ -120,16 +129,20 @@ module _ (plan : Plan) (good : IsGoodPlan plan) (served : List (Option Served)) 
     place_for p = place_of plan.ports (queue_of p)
 
     abbrev changed : Planned → QueueNumbers
-    changed p = with_packet here (size_of p) (is_routed p && is_admitted plan served here p) (slice_index long (place_for p)) (slice_index_or numbers (place_for p) no_numbers)
+    changed p = with_packet here (size_of p) (is_routed p && is_admitted plan served here p) (slice_index long (place_for p))
+        (slice_index_or numbers (place_for p) no_numbers)
 
-    others : (q : Queue) (k : ℕ) (p : Planned) → IsQueue plan.ports q → arriving plan here ≡ Some (k, p) → is_for q p ≡ false → slice_index_or numbers (place_of plan.ports q) no_numbers ≡ after q
+    others : (q : Queue) (k : ℕ) (p : Planned) → IsQueue plan.ports q → arriving plan here ≡ Some (k, p) → is_for q p ≡ false
+        → slice_index_or numbers (place_of plan.ports q) no_numbers ≡ after q
     others q k p mine is not_for = are q mine ∙ sym (numbers-stay plan good served part q (ap (is_coming_for q) is ∙ not_for))
 
     own : (k : ℕ) (p : Planned) → IsQueue plan.ports (queue_of p) → arriving plan here ≡ Some (k, p) → is_routed p ≡ true → changed p ≡ after (queue_of p)
     own k p mine is routed =
         let for_it : is_for (queue_of p) p ≡ true = rw (routed, is_queue-refl (queue_of p)) refl in
-        ap (λ b. with_packet here (size_of p) (b && is_admitted plan served here p) (slice_index long (place_for p)) (slice_index_or numbers (place_for p) no_numbers)) routed
-        ∙ ap (λ n. with_packet here (size_of p) (is_admitted plan served here p) n (slice_index_or numbers (place_for p) no_numbers)) (are_long (queue_of p) mine)
+        ap (λ b. with_packet here (size_of p) (b && is_admitted plan served here p) (slice_index long (place_for p))
+        (slice_index_or numbers (place_for p) no_numbers)) routed
+        ∙ ap (λ n. with_packet here (size_of p) (is_admitted plan served here p) n (slice_index_or numbers (place_for p) no_numbers))
+        (are_long (queue_of p) mine)
         ∙ ap (with_packet here (size_of p) (is_admitted plan served here p) (length_in plan (queue_of p) served here)) (are (queue_of p) mine)
         ∙ sym (numbers-with plan good served part (queue_of p) k p is for_it)
 
@@ -139,24 +152,31 @@ module _ (plan : Plan) (good : IsGoodPlan plan) (served : List (Option Served)) 
       | inr miss ↦ miss
     ]
 
-    routed-at : (q : Queue) (k : ℕ) (p : Planned) → IsQueue plan.ports q → arriving plan here ≡ Some (k, p) → is_routed p ≡ true → slice_index_or (slice_set numbers (place_for p) (changed p)) (place_of plan.ports q) no_numbers ≡ after q
+    routed-at : (q : Queue) (k : ℕ) (p : Planned) → IsQueue plan.ports q → arriving plan here ≡ Some (k, p) → is_routed p ≡ true
+        → slice_index_or (slice_set numbers (place_for p) (changed p)) (place_of plan.ports q) no_numbers ≡ after q
     routed-at q k p mine is routed =
         let there = arriving-there 0 plan.packets here k p is in
         let its = queue-fits plan p (good.packets there.0 p there.2) in
         let inside = place-inside plan.ports (queue_of p) its in
         elim (cases_eq (place_of plan.ports q) (place_for p)) [
-          | inl same ↦ get_or-set_at numbers (place_for p) (place_of plan.ports q) (changed p) no_numbers same (omega arith) ∙ own k p its is routed ∙ ap after (sym (place-same plan.ports q (queue_of p) mine its same))
-          | inr differ ↦ get_or-set_other numbers (place_for p) (place_of plan.ports q) (changed p) no_numbers differ ∙ others q k p mine is (is_other q p differ)
+          | inl same ↦ get_or-set_at numbers (place_for p) (place_of plan.ports q) (changed p) no_numbers same (omega arith) ∙ own k p its is routed
+              ∙ ap after (sym (place-same plan.ports q (queue_of p) mine its same))
+          | inr differ ↦ get_or-set_other numbers (place_for p) (place_of plan.ports q) (changed p) no_numbers differ
+              ∙ others q k p mine is (is_other q p differ)
         ]
 
-    counted-of : (arrives : Option (ℕ × Planned)) → arriving plan here ≡ arrives → (q : Queue) → IsQueue plan.ports q → slice_index_or (with_arrivals plan.ports here long (option_map told arrives) numbers) (place_of plan.ports q) no_numbers ≡ after q
+    counted-of : (arrives : Option (ℕ × Planned)) → arriving plan here ≡ arrives → (q : Queue) → IsQueue plan.ports q
+        → slice_index_or (with_arrivals plan.ports here long (option_map told arrives) numbers) (place_of plan.ports q) no_numbers ≡ after q
     counted-of None is q mine = are q mine ∙ sym (numbers-stay plan good served part q (ap (is_coming_for q) is))
     counted-of (Some (k, p)) is q mine = elim (cases_Bool (is_routed p)) [
-      | inl routed ↦ ap (λ b. slice_index_or (if b then slice_set numbers (place_for p) (changed p) else numbers) (place_of plan.ports q) no_numbers) routed ∙ routed-at q k p mine is routed
-      | inr not_routed ↦ ap (λ b. slice_index_or (if b then slice_set numbers (place_for p) (changed p) else numbers) (place_of plan.ports q) no_numbers) not_routed ∙ others q k p mine is (ap (λ b. b && is_queue q (queue_of p)) not_routed)
+      | inl routed ↦ ap (λ b. slice_index_or (if b then slice_set numbers (place_for p) (changed p) else numbers) (place_of plan.ports q) no_numbers) routed
+          ∙ routed-at q k p mine is routed
+      | inr not_routed ↦ ap (λ b. slice_index_or (if b then slice_set numbers (place_for p) (changed p) else numbers) (place_of plan.ports q) no_numbers)
+          not_routed ∙ others q k p mine is (ap (λ b. b && is_queue q (queue_of p)) not_routed)
     ]
 
-    pub counted : (q : Queue) → IsQueue plan.ports q → slice_index_or (with_arrivals plan.ports here long (arrival_in plan served here) numbers) (place_of plan.ports q) no_numbers ≡ after q
+    pub counted : (q : Queue) → IsQueue plan.ports q
+        → slice_index_or (with_arrivals plan.ports here long (arrival_in plan served here) numbers) (place_of plan.ports q) no_numbers ≡ after q
     counted q mine = counted-of (arriving plan here) refl q mine
 
 either : (b : Bool) (numbers : List QueueNumbers) (place : ℕ) (x : QueueNumbers) → length (if b then slice_set numbers place x else numbers) ≡ length numbers
@@ -164,20 +184,25 @@ either true numbers place x = length-set numbers place x
 either false numbers place x = refl
 
 -- as many queues as before
-pub with_arrivals-count : (ports slot : ℕ) (long : List ℕ) (arrival : Option Arrival) (numbers : List QueueNumbers) → length (with_arrivals ports slot long arrival numbers) ≡ length numbers
+pub with_arrivals-count : (ports slot : ℕ) (long : List ℕ) (arrival : Option Arrival) (numbers : List QueueNumbers)
+    → length (with_arrivals ports slot long arrival numbers) ≡ length numbers
 with_arrivals-count ports slot long None numbers = refl
 with_arrivals-count ports slot long (Some arrival) numbers = either (is_routed arrival.packet) numbers (place_of ports (queue_of arrival.packet)) _
 
 -- ---- an input that has noted a slot
-module _ (plan : Plan) (served : List (Option Served)) (counters : Counters) (numbers : List QueueNumbers) (noted : IsNoted plan (record { counters = counters; numbers = numbers }) served)
-    (ports slot : ℕ) (now : length served ≡ slot) (size : plan.ports ≡ ports) (new : Counters) (counts : CountIn plan new served) (arrival : Option Arrival) (comes : arrival ≡ arrival_in plan served slot) where
+module _ (plan : Plan) (served : List (Option Served)) (counters : Counters) (numbers : List QueueNumbers)
+    (noted : IsNoted plan (record { counters = counters; numbers = numbers }) served)
+    (ports slot : ℕ) (now : length served ≡ slot) (size : plan.ports ≡ ports) (new : Counters) (counts : CountIn plan new served) (arrival : Option Arrival)
+    (comes : arrival ≡ arrival_in plan served slot) where
   comes-here : arrival ≡ arrival_in plan served (length served)
   comes-here = comes ∙ ap (arrival_in plan served) (sym now)
 
   pub noted-may : (packet : Arrival) → arrival ≡ Some packet → MayCount ports new.lengths numbers packet
-  noted-may packet is = subst (λ n. MayCount n new.lengths numbers packet) size (may-count plan noted.counts.good served numbers noted.count noted.numbers new.lengths counts.count packet (sym comes-here ∙ is))
+  noted-may packet is = subst (λ n. MayCount n new.lengths numbers packet) size
+      (may-count plan noted.counts.good served numbers noted.count noted.numbers new.lengths counts.count packet (sym comes-here ∙ is))
 
-  pub noted-next : (part : Option Served) (later : List QueueNumbers) (after : Counters) → later ≡ with_arrivals ports slot new.lengths arrival numbers → CountBefore plan after (served ++ part ∷ []) → IsNoted plan (record { counters = after; numbers = later }) (served ++ part ∷ [])
+  pub noted-next : (part : Option Served) (later : List QueueNumbers) (after : Counters) → later ≡ with_arrivals ports slot new.lengths arrival numbers
+      → CountBefore plan after (served ++ part ∷ []) → IsNoted plan (record { counters = after; numbers = later }) (served ++ part ∷ [])
   noted-next part later after are before =
       let same : later ≡ with_arrivals plan.ports (length served) new.lengths (arrival_in plan served (length served)) numbers =
       are ∙ ap (λ n. with_arrivals n slot new.lengths arrival numbers) (sym size) ∙ ap (λ t. with_arrivals plan.ports t new.lengths arrival numbers) (sym now)

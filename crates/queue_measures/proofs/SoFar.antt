@@ -1,5 +1,6 @@
 -- The numbers of a queue over the first slots, with those of one slot more.
-use Rattle.std.proofs.Common.{◌≡◌, ◌≢◌, ◌∙◌, ℕ, zero, suc, ◌+◌, ◌<◌, ◌≤◌, ◌==◌, ◌&&◌, not, nat_lt, max, Bool, true, false, List, [], ◌∷◌, ◌++◌, length, drop, Option, Some, None, slice_get, slice_index_or, refl, sym, ap, arith, inl, inr, if◌then◌else◌, length-drop}
+use Rattle.std.proofs.Common.{◌≡◌, ◌≢◌, ◌∙◌, ℕ, zero, suc, ◌+◌, ◌<◌, ◌≤◌, ◌==◌, ◌&&◌, not, nat_lt, max, Bool, true, false, List, [], ◌∷◌, ◌++◌, length}
+use Rattle.std.proofs.Common.{drop, Option, Some, None, slice_get, slice_index_or, refl, sym, ap, arith, inl, inr, if◌then◌else◌, length-drop}
 use Rattle.std.specs.List.{sum_by}
 use Rattle.std.proofs.lemmas.Bool.{cases_eq, cases_lt, eq-eqb, ne_eqb, lt-ltb, le-ltb, ltb-true}
 use Rattle.std.proofs.lemmas.List.{append-nil}
@@ -8,7 +9,8 @@ use Rattle.slot_match.specs.declared.matching.Served.{Served}
 use Rattle.multicast_queue.specs.FanQueues.{FanCell}
 use Rattle.card_core.specs.declared.plan.Planned.{Planned}
 use Rattle.card_core.specs.Plans.{Plan, Queue, AreRising, IsGoodPlan, is_queue, queue_of, size_of, arriving, arriving_from}
-use Rattle.card_core.specs.Queues.{Passed, waiting, rest_of, with_since, with_arrival, head_gone, after_part_of, is_routed, fits, coming, before, queue_in, is_admitted, enters}
+use Rattle.card_core.specs.Queues.{Passed, waiting, rest_of, with_since, with_arrival, head_gone, after_part_of, is_routed, fits, coming, before}
+use Rattle.card_core.specs.Queues.{queue_in, is_admitted, enters}
 use Rattle.card_core.proofs.Passing.{arriving-there}
 use Rattle.card_core.proofs.Taking.{before-more, queue_in-more}
 use Rattle.queue_lengths.specs.Lengths.{length_in, is_for, greatest, first_greatest, peak_of, peak_slot}
@@ -62,7 +64,15 @@ module _ (test : Planned → Bool) (weight : Planned → ℕ) where
             let later = rest-later p ps t rising now in
             let none = none_so_far (suc t) ps later in
             let none' = none_so_far t ps (λ j r at. omega (arith, later j r at)) in
-            rw (so_far-cons (suc t) p ps, so_far-cons t p ps, lt-ltb p.arrival (suc t) (omega arith), le-ltb p.arrival t (omega arith), eq-eqb p.arrival t now, none, none') (omega arith)
+            rw (
+              so_far-cons (suc t) p ps,
+              so_far-cons t p ps,
+              lt-ltb p.arrival (suc t) (omega arith),
+              le-ltb p.arrival t (omega arith),
+              eq-eqb p.arrival t now,
+              none,
+              none',
+            ) (omega arith)
         | inr differ ↦
             let more = so_far-step t (k + 1) ps (rest-rising p ps rising) in
             rw (so_far-cons (suc t) p ps, so_far-cons t p ps, same_before p.arrival t differ, ne_eqb p.arrival t differ, more) (omega arith)
@@ -73,7 +83,8 @@ chosen : (b : Bool) (w most : ℕ) → (b ≡ true → w ≤ most) → (if b the
 chosen true w most le = le refl
 chosen false w most le = omega arith
 
-pub now_few : (test : Planned → Bool) (weight : Planned → ℕ) (most : ℕ) (arrives : Option (ℕ × Planned)) → ((k : ℕ) (p : Planned) → arrives ≡ Some (k, p) → test p ≡ true → weight p ≤ most) → now_of test weight arrives ≤ most
+pub now_few : (test : Planned → Bool) (weight : Planned → ℕ) (most : ℕ) (arrives : Option (ℕ × Planned))
+    → ((k : ℕ) (p : Planned) → arrives ≡ Some (k, p) → test p ≡ true → weight p ≤ most) → now_of test weight arrives ≤ most
 now_few test weight most None few = omega arith
 now_few test weight most (Some (k, p)) few = chosen (test p) (weight p) most (few k p refl)
 
@@ -82,12 +93,14 @@ under : (a b c : Bool) → (a ≡ true → b ≡ c) → (a && b) ≡ (a && c)
 under true b c same = same refl
 under false b c same = refl
 
-same_tests : (test other : Planned → Bool) (weight : Planned → ℕ) (t : ℕ) (ps : List Planned) → ((p : Planned) → p.arrival < t → test p ≡ other p) → so_far test weight t ps ≡ so_far other weight t ps
+same_tests : (test other : Planned → Bool) (weight : Planned → ℕ) (t : ℕ) (ps : List Planned) → ((p : Planned) → p.arrival < t → test p ≡ other p)
+    → so_far test weight t ps ≡ so_far other weight t ps
 same_tests test other weight t [] same = refl
 same_tests test other weight t (p ∷ ps) same =
     so_far-cons test weight t p ps
     ∙ ap (λ n. (if nat_lt p.arrival t && test p then weight p else 0) + n) (same_tests test other weight t ps same)
-    ∙ ap (λ b. (if b then weight p else 0) + so_far other weight t ps) (under (nat_lt p.arrival t) (test p) (other p) (λ early. same p (ltb-true p.arrival t early)))
+    ∙ ap (λ b. (if b then weight p else 0) + so_far other weight t ps)
+    (under (nat_lt p.arrival t) (test p) (other p) (λ early. same p (ltb-true p.arrival t early)))
     ∙ sym (so_far-cons other weight t p ps)
 
 -- ---- the greatest of the first slots
@@ -128,8 +141,10 @@ module _ (plan : Plan) (q : Queue) where
   none_comes s None not_for = refl
   none_comes s (Some (k, p)) not_for = rw not_for refl
 
-  still : (s : Passed) (arrives : Option (ℕ × Planned)) → is_coming_for q arrives ≡ false → length (waiting (with_arrival plan q arrives s)) ≡ length (waiting s)
-  still s arrives not_for = ap (λ cells. length (drop s.left (s.entered ++ cells))) (none_comes s arrives not_for) ∙ ap (λ cells. length (drop s.left cells)) (append-nil s.entered)
+  still : (s : Passed) (arrives : Option (ℕ × Planned)) → is_coming_for q arrives ≡ false
+      → length (waiting (with_arrival plan q arrives s)) ≡ length (waiting s)
+  still s arrives not_for = ap (λ cells. length (drop s.left (s.entered ++ cells))) (none_comes s arrives not_for)
+      ∙ ap (λ cells. length (drop s.left cells)) (append-nil s.entered)
 
   -- a queue that no packet is for is no longer than it was
   below_peak : (served : List (Option Served)) (t : ℕ) → is_coming_for q (arriving plan t) ≡ false → length_in plan q served t ≤ peak_of plan q served t
@@ -140,7 +155,8 @@ module _ (plan : Plan) (q : Queue) where
       omega (arith, same, fewer)
 
 -- ---- one slot more
-zeros : (n : QueueNumbers) → ◌≡◌ {A = QueueNumbers} (record { packets = n.packets + 0; dropped = n.dropped + 0; cells = n.cells + 0; peak = n.peak; slot = n.slot }) n
+zeros : (n : QueueNumbers)
+    → ◌≡◌ {A = QueueNumbers} (record { packets = n.packets + 0; dropped = n.dropped + 0; cells = n.cells + 0; peak = n.peak; slot = n.slot }) n
 zeros n =
     let a : n.packets + 0 ≡ n.packets = omega arith in
     let b : n.dropped + 0 ≡ n.dropped = omega arith in
@@ -182,13 +198,17 @@ module _ (plan : Plan) (good : IsGoodPlan plan) (served : List (Option Served)) 
   pub numbers-step : numbers_so_far plan later (suc here) q ≡ added (length_in plan q served here)
   numbers-step =
       let packets = so_far-step (is_for q) (λ p. 1) here 0 plan.packets good.rising in
-      let dropped = same_tests (dropped_test later) (dropped_test served) (λ p. 1) (suc here) plan.packets (λ p early. ap (λ b. is_for q p && not b) (admits p early)) ∙ so_far-step (dropped_test served) (λ p. 1) here 0 plan.packets good.rising in
-      let cells = same_tests (enters plan q later) (enters plan q served) size_of (suc here) plan.packets (λ p early. ap (λ b. is_routed p && is_queue q (queue_of p) && b) (admits p early)) ∙ so_far-step (enters plan q served) size_of here 0 plan.packets good.rising in
+      let dropped = same_tests (dropped_test later) (dropped_test served) (λ p. 1) (suc here) plan.packets
+      (λ p early. ap (λ b. is_for q p && not b) (admits p early)) ∙ so_far-step (dropped_test served) (λ p. 1) here 0 plan.packets good.rising in
+      let cells = same_tests (enters plan q later) (enters plan q served) size_of (suc here) plan.packets
+      (λ p early. ap (λ b. is_routed p && is_queue q (queue_of p) && b) (admits p early))
+      ∙ so_far-step (enters plan q served) size_of here 0 plan.packets good.rising in
       let peak = greatest-same (length_in plan q later) (length_in plan q served) (suc here) lengths-same in
       let slot = first_greatest-same (length_in plan q later) (length_in plan q served) (suc here) lengths-same in
       rw (packets, dropped, cells, peak, slot) refl
 
-  none_now : (test : Planned → Bool) (weight : Planned → ℕ) (arrives : Option (ℕ × Planned)) → ((k : ℕ) (p : Planned) → arrives ≡ Some (k, p) → test p ≡ false) → now_of test weight arrives ≡ 0
+  none_now : (test : Planned → Bool) (weight : Planned → ℕ) (arrives : Option (ℕ × Planned))
+      → ((k : ℕ) (p : Planned) → arrives ≡ Some (k, p) → test p ≡ false) → now_of test weight arrives ≡ 0
   none_now test weight None not_for = refl
   none_now test weight (Some (k, p)) not_for = rw (not_for k p refl) refl
 
@@ -206,13 +226,16 @@ module _ (plan : Plan) (good : IsGoodPlan plan) (served : List (Option Served)) 
 
   -- of the queue that the packet is for
   pub numbers-with : (k : ℕ) (p : Planned) → arriving plan here ≡ Some (k, p) → is_for q p ≡ true
-      → numbers_so_far plan later (suc here) q ≡ with_packet here (size_of p) (is_admitted plan served here p) (length_in plan q served here) (numbers_so_far plan served here q)
+      → numbers_so_far plan later (suc here) q ≡ with_packet here (size_of p) (is_admitted plan served here p) (length_in plan q served here)
+      (numbers_so_far plan served here q)
   numbers-with k p is mine =
       let now : p.arrival ≡ here = (arriving-there 0 plan.packets here k p is).3 in
       let same : is_admitted plan served p.arrival p ≡ is_admitted plan served here p = ap (λ t. is_admitted plan served t p) now in
       let packets : now_of (is_for q) (λ p. 1) (arriving plan here) ≡ 1 = ap (now_of (is_for q) (λ p. 1)) is ∙ ap (λ b. if b then 1 else 0) mine in
-      let dropped = ap (now_of (dropped_test served) (λ p. 1)) is ∙ dropped_now (is_for q p) (is_admitted plan served p.arrival p) (is_admitted plan served here p) mine same in
-      let cells = ap (now_of (enters plan q served) size_of) is ∙ cells_now (is_for q p) (is_admitted plan served p.arrival p) (is_admitted plan served here p) (size_of p) mine same in
+      let dropped = ap (now_of (dropped_test served) (λ p. 1)) is
+      ∙ dropped_now (is_for q p) (is_admitted plan served p.arrival p) (is_admitted plan served here p) mine same in
+      let cells = ap (now_of (enters plan q served) size_of) is
+      ∙ cells_now (is_for q p) (is_admitted plan served p.arrival p) (is_admitted plan served here p) (size_of p) mine same in
       numbers-step ∙ rw (packets, dropped, cells) refl
 
 -- before slot 0

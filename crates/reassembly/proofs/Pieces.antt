@@ -1,5 +1,6 @@
 -- The pieces of a flow's cells, with one cell more.
-use Rattle.std.proofs.Common.{ℕ, zero, suc, ◌-◌, ◌*◌, ◌<◌, leb, append_assoc, arith, ◌≡◌, ◌+◌, Bool, true, false, cond, List, [], ◌∷◌, ◌++◌, map, length, refl, sym, ap, ◌∙◌}
+use Rattle.std.proofs.Common.{ℕ, zero, suc, ◌-◌, ◌*◌, ◌<◌, leb, append_assoc, arith, ◌≡◌, ◌+◌, Bool, true, false, cond, List, [], ◌∷◌, ◌++◌, map}
+use Rattle.std.proofs.Common.{length, refl, sym, ap, ◌∙◌}
 use Rattle.std.proofs.lemmas.List.{append-nil, length_push, map_push}
 use Rattle.std.proofs.lemmas.Grind.{flat_map-append}
 use Rattle.std.proofs.lemmas.Bool.{le-leb, lt-leb}
@@ -20,19 +21,23 @@ ap_cond f false x y = refl
 rest_after-push : (before cells : List Cell) (cell : Cell) → rest_after before (cells ++ cell ∷ []) ≡ cond cell.last [] (rest_after before cells ++ cell ∷ [])
 rest_after-push before [] cell = refl
 rest_after-push before (c ∷ cs) cell =
-    let motive : Bool → Type 0 = λ v. cond v (rest_after [] (cs ++ cell ∷ [])) (rest_after (before ++ c ∷ []) (cs ++ cell ∷ [])) ≡ cond cell.last [] (cond v (rest_after [] cs) (rest_after (before ++ c ∷ []) cs) ++ cell ∷ []) in
+    let motive : Bool → Type 0 = λ v. cond v (rest_after [] (cs ++ cell ∷ [])) (rest_after (before ++ c ∷ []) (cs ++ cell ∷ [])) ≡ cond cell.last []
+    (cond v (rest_after [] cs) (rest_after (before ++ c ∷ []) cs) ++ cell ∷ []) in
     elim c.last as motive [
       | true ↦ rest_after-push [] cs cell
       | false ↦ rest_after-push (before ++ c ∷ []) cs cell
     ]
 
-pieces_after-push : (before cells : List Cell) (cell : Cell) → pieces_after before (cells ++ cell ∷ []) ≡ cond cell.last (pieces_after before cells ++ (rest_after before cells ++ cell ∷ []) ∷ []) (pieces_after before cells)
+pieces_after-push : (before cells : List Cell) (cell : Cell)
+    → pieces_after before (cells ++ cell ∷ []) ≡ cond cell.last (pieces_after before cells ++ (rest_after before cells ++ cell ∷ []) ∷ [])
+    (pieces_after before cells)
 pieces_after-push before [] cell = refl
 pieces_after-push before (c ∷ cs) cell =
     let piece : List Cell = before ++ c ∷ [] in
     let pieces : Bool → List (List Cell) = λ v. cond v (piece ∷ pieces_after [] cs) (pieces_after piece cs) in
     let rest : Bool → List Cell = λ v. cond v (rest_after [] cs) (rest_after piece cs) in
-    let motive : Bool → Type 0 = λ v. cond v (piece ∷ pieces_after [] (cs ++ cell ∷ [])) (pieces_after piece (cs ++ cell ∷ [])) ≡ cond cell.last (pieces v ++ (rest v ++ cell ∷ []) ∷ []) (pieces v) in
+    let motive : Bool → Type 0 = λ v. cond v (piece ∷ pieces_after [] (cs ++ cell ∷ [])) (pieces_after piece (cs ++ cell ∷ [])) ≡ cond cell.last
+    (pieces v ++ (rest v ++ cell ∷ []) ∷ []) (pieces v) in
     elim c.last as motive [
       | true ↦ ap (λ ps. piece ∷ ps) (pieces_after-push [] cs cell) ∙ ap_cond (λ ps. piece ∷ ps) cell.last _ _
       | false ↦ pieces_after-push piece cs cell
@@ -47,7 +52,8 @@ bytes_with-is : (flow : Flow) (cells : List Cell) (cell : Cell) → Stands flow 
 bytes_with-is flow cells cell stands =
     ap (λ b. b ++ used_bytes cell) stands.bytes ∙ sym (joined-push (rest_after [] cells) cell)
 
-pub Stands-with_cell : (flow : Flow) (cells : List Cell) (cell : Cell) → Stands flow cells → cell.number ≡ flow.next → Stands (with_cell flow cell) (cells ++ cell ∷ [])
+pub Stands-with_cell : (flow : Flow) (cells : List Cell) (cell : Cell) → Stands flow cells → cell.number ≡ flow.next
+    → Stands (with_cell flow cell) (cells ++ cell ∷ [])
 Stands-with_cell flow cells cell stands next =
     let rest : List Cell = rest_after [] cells in
     let after : Bool → Flow = λ v. cond v (fresh flow.size) (record { size = flow.size; bytes = bytes_with flow cell; next = cell.number + 1 }) in
@@ -55,26 +61,32 @@ Stands-with_cell flow cells cell stands next =
     let same_next : Bool → Type 0 = λ v. (after v).next ≡ length (cond v [] (rest ++ cell ∷ [])) in
     let push = sym (rest_after-push [] cells cell) in
     let bytes : same_bytes cell.last = elim cell.last as same_bytes [ true ↦ refl | false ↦ bytes_with-is flow cells cell stands ] in
-    let number : same_next cell.last = elim cell.last as same_next [ true ↦ refl | false ↦ ap (λ n. n + 1) (next ∙ stands.next) ∙ sym (length_push rest cell) ] in
+    let number : same_next cell.last =
+    elim cell.last as same_next [ true ↦ refl | false ↦ ap (λ n. n + 1) (next ∙ stands.next) ∙ sym (length_push rest cell) ] in
     record { bytes = bytes ∙ ap joined push; next = number ∙ ap length push }
 
-pub messages_of-push : (flow : Flow) (cells : List Cell) (cell : Cell) → Stands flow cells → messages_of (cells ++ cell ∷ []) ≡ cond cell.last (messages_of cells ++ bytes_with flow cell ∷ []) (messages_of cells)
+pub messages_of-push : (flow : Flow) (cells : List Cell) (cell : Cell) → Stands flow cells
+    → messages_of (cells ++ cell ∷ []) ≡ cond cell.last (messages_of cells ++ bytes_with flow cell ∷ []) (messages_of cells)
 messages_of-push flow cells cell stands =
     let pieces : List (List Cell) = pieces_after [] cells in
     let piece : List Cell = rest_after [] cells ++ cell ∷ [] in
-    let more : map joined (pieces ++ piece ∷ []) ≡ map joined pieces ++ bytes_with flow cell ∷ [] = map_push joined pieces piece ∙ ap (λ b. map joined pieces ++ b ∷ []) (sym (bytes_with-is flow cells cell stands)) in
+    let more : map joined (pieces ++ piece ∷ []) ≡ map joined pieces ++ bytes_with flow cell ∷ [] = map_push joined pieces piece
+    ∙ ap (λ b. map joined pieces ++ b ∷ []) (sym (bytes_with-is flow cells cell stands)) in
     ap (map joined) (pieces_after-push [] cells cell)
     ∙ (ap_cond (map joined) cell.last (pieces ++ piece ∷ []) pieces ∙ ap (λ m. cond cell.last m (map joined pieces)) more)
 
 -- a last cell's message is the next of the flow's messages
-pub messages_of-last : (flow : Flow) (cells : List Cell) (cell : Cell) → Stands flow cells → cell.last ≡ true → messages_of (cells ++ cell ∷ []) ≡ messages_of cells ++ bytes_with flow cell ∷ []
+pub messages_of-last : (flow : Flow) (cells : List Cell) (cell : Cell) → Stands flow cells → cell.last ≡ true
+    → messages_of (cells ++ cell ∷ []) ≡ messages_of cells ++ bytes_with flow cell ∷ []
 messages_of-last flow cells cell stands last =
     messages_of-push flow cells cell stands
     ∙ ap (λ v. cond v (messages_of cells ++ bytes_with flow cell ∷ []) (messages_of cells)) last
 
 module _ (input level : ℕ) (kind : Kind) (message : List ℕ) where
   -- the last n + 1 cells of a message are the end of one piece
-  piece_from : (before : List Cell) (a n : ℕ) → a + suc n ≡ cells_in (length message) → pieces_after before (map (cell_of input level kind message) (range_with_len a (suc n))) ≡ (before ++ map (cell_of input level kind message) (range_with_len a (suc n))) ∷ []
+  piece_from : (before : List Cell) (a n : ℕ) → a + suc n ≡ cells_in (length message)
+      → pieces_after before (map (cell_of input level kind message) (range_with_len a (suc n))) ≡
+      (before ++ map (cell_of input level kind message) (range_with_len a (suc n))) ∷ []
   piece_from before a zero all =
       let cell : Cell = cell_of input level kind message a in
       let last : leb (length message) (56 * a + 56) ≡ true = le-leb _ _ (omega arith) in

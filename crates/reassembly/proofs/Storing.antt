@@ -11,7 +11,9 @@ use Rattle.reassembly.specs.Flows.{Flows, fresh, flow_of, with_cell, after_cell,
 use Rattle.reassembly.specs.Buffers.{Stored, begun, flow_in, flows_in, stored_with}
 
 -- the bytes stand where the flow goes on, and do not where it begins anew
-flow_in-next : (size number : ℕ) (bytes : List ℕ) (last : Bool) → flow_in (record { size = size; bytes = bytes; next = cond last 0 (number + 1) }) ≡ cond last (fresh size) (record { size = size; bytes = bytes; next = number + 1 })
+flow_in-next : (size number : ℕ) (bytes : List ℕ) (last : Bool)
+    → flow_in (record { size = size; bytes = bytes; next = cond last 0 (number + 1) }) ≡ cond last (fresh size)
+    (record { size = size; bytes = bytes; next = number + 1 })
 flow_in-next size number bytes true = refl
 flow_in-next size number bytes false =
     let more : number + 1 ≢ 0 = λ e. omega (arith, e) in
@@ -21,25 +23,35 @@ pub flow_in-stored_with : (stored : Stored) (cell : Cell) → flow_in (stored_wi
 flow_in-stored_with stored cell = flow_in-next stored.size cell.number (begun stored ++ used_bytes cell) cell.last
 
 -- the flow of a cell, by its buffer
-pub flow_of-flows_in : (ports : ℕ) (buffers : List Stored) (cell : Cell) (old : Stored) → place_of_cell cell < length buffers → old ≡ get_or buffers (place_of_cell cell) old → flow_of (flows_in ports buffers) cell ≡ flow_in old
+pub flow_of-flows_in : (ports : ℕ) (buffers : List Stored) (cell : Cell) (old : Stored) → place_of_cell cell < length buffers
+    → old ≡ get_or buffers (place_of_cell cell) old → flow_of (flows_in ports buffers) cell ≡ flow_in old
 flow_of-flows_in ports buffers cell old h e = get_or-map flow_in buffers (place_of_cell cell) old (fresh 0) h ∙ ap flow_in (sym e)
 
 -- where its buffer took the cell, the flow is the one after the cell, and the others stay
-pub flows_in-set : (ports : ℕ) (buffers : List Stored) (cell : Cell) (old : Stored) → place_of_cell cell < length buffers → old ≡ get_or buffers (place_of_cell cell) old → flows_in ports (set buffers (place_of_cell cell) (stored_with old cell)) ≡ after_cell (flows_in ports buffers) cell
+pub flows_in-set : (ports : ℕ) (buffers : List Stored) (cell : Cell) (old : Stored) → place_of_cell cell < length buffers
+    → old ≡ get_or buffers (place_of_cell cell) old
+    → flows_in ports (set buffers (place_of_cell cell) (stored_with old cell)) ≡ after_cell (flows_in ports buffers) cell
 flows_in-set ports buffers cell old h e =
-    let flow : flow_in (stored_with old cell) ≡ with_cell (flow_of (flows_in ports buffers) cell) cell = flow_in-stored_with old cell ∙ ap (λ f. with_cell f cell) (sym (flow_of-flows_in ports buffers cell old h e)) in
-    ap (λ fs. record { ports = ports; flows = fs }) (map-set flow_in buffers (place_of_cell cell) (stored_with old cell) ∙ ap (set (map flow_in buffers) (place_of_cell cell)) flow)
+    let flow : flow_in (stored_with old cell) ≡ with_cell (flow_of (flows_in ports buffers) cell) cell = flow_in-stored_with old cell
+    ∙ ap (λ f. with_cell f cell) (sym (flow_of-flows_in ports buffers cell old h e)) in
+    ap (λ fs. record { ports = ports; flows = fs }) (map-set flow_in buffers (place_of_cell cell) (stored_with old cell)
+    ∙ ap (set (map flow_in buffers) (place_of_cell cell)) flow)
 
 -- what stands after a put, where `all` stood before it
-pub flows-put : (ports : ℕ) (buffers : List Stored) (cell : Cell) (place : ℕ) (old new : Stored) (all : Flows) → flows_in ports buffers ≡ all → place ≡ place_of_cell cell → place < length buffers → old ≡ get_or buffers place old → new ≡ stored_with old cell → flows_in ports (set buffers place new) ≡ after_cell all cell
+pub flows-put : (ports : ℕ) (buffers : List Stored) (cell : Cell) (place : ℕ) (old new : Stored) (all : Flows) → flows_in ports buffers ≡ all
+    → place ≡ place_of_cell cell → place < length buffers → old ≡ get_or buffers place old → new ≡ stored_with old cell
+    → flows_in ports (set buffers place new) ≡ after_cell all cell
 flows-put ports buffers cell place old new all stood places h was now =
     let there : place_of_cell cell < length buffers = omega (arith, places) in
     let e : old ≡ get_or buffers (place_of_cell cell) old = was ∙ ap (λ i. get_or buffers i old) places in
     ap (λ n. flows_in ports (set buffers place n)) now
-    ∙ (ap (λ i. flows_in ports (set buffers i (stored_with old cell))) places ∙ (flows_in-set ports buffers cell old there e ∙ ap (λ f. after_cell f cell) stood))
+    ∙ (ap (λ i. flows_in ports (set buffers i (stored_with old cell))) places
+    ∙ (flows_in-set ports buffers cell old there e ∙ ap (λ f. after_cell f cell) stood))
 
 -- and the message that the buffer shows
-pub message-put : (ports : ℕ) (buffers : List Stored) (cell : Cell) (place : ℕ) (old new shown : Stored) (all : Flows) → flows_in ports buffers ≡ all → place ≡ place_of_cell cell → place < length buffers → old ≡ get_or buffers place old → new ≡ stored_with old cell → shown ≡ get_or (set buffers place new) place shown → shown.bytes ≡ bytes_with (flow_of all cell) cell
+pub message-put : (ports : ℕ) (buffers : List Stored) (cell : Cell) (place : ℕ) (old new shown : Stored) (all : Flows) → flows_in ports buffers ≡ all
+    → place ≡ place_of_cell cell → place < length buffers → old ≡ get_or buffers place old → new ≡ stored_with old cell
+    → shown ≡ get_or (set buffers place new) place shown → shown.bytes ≡ bytes_with (flow_of all cell) cell
 message-put ports buffers cell place old new shown all stood places h was now shows =
     let there : place_of_cell cell < length buffers = omega (arith, places) in
     let e : old ≡ get_or buffers (place_of_cell cell) old = was ∙ ap (λ i. get_or buffers i old) places in

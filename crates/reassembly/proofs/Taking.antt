@@ -1,5 +1,6 @@
 -- A flow takes the cells of a message, one after the other.
-use Rattle.std.proofs.Common.{◌≡◌, ◌∙◌, ℕ, zero, suc, ◌+◌, ◌-◌, ◌*◌, ◌<◌, ◌≤◌, Bool, true, false, cond, leb, List, [], ◌++◌, length, length-append, take, drop, refl, ap, sym, subst, arith}
+use Rattle.std.proofs.Common.{◌≡◌, ◌∙◌, ℕ, zero, suc, ◌+◌, ◌-◌, ◌*◌, ◌<◌, ◌≤◌, Bool, true, false, cond, leb, List, [], ◌++◌, length, length-append}
+use Rattle.std.proofs.Common.{take, drop, refl, ap, sym, subst, arith}
 use Rattle.std.proofs.lemmas.Bool.{le-leb, lt-leb}
 use Rattle.std.proofs.lemmas.List.{take_all, length-take}
 use Rattle.std.proofs.Math.Seq.{take-add}
@@ -13,7 +14,8 @@ use Rattle.reassembly.specs.Flows.{Flow, Flows, Fits, fresh, flow_of, bytes_with
 use Rattle.reassembly.specs.Filling.{begun_with}
 
 -- what stands of a message with cell k: its bytes up to the end of the cell
-bytes-more : (size input level k : ℕ) (kind : Kind) (message : List ℕ) → bytes_with (begun_with size message k) (cell_of input level kind message k) ≡ take (56 * k + 56) message
+bytes-more : (size input level k : ℕ) (kind : Kind) (message : List ℕ)
+    → bytes_with (begun_with size message k) (cell_of input level kind message k) ≡ take (56 * k + 56) message
 bytes-more size input level k kind message =
     ap (λ bytes. take (56 * k) message ++ bytes) (take-padded (part k message)) ∙ sym (take-add (56 * k) 56 message)
 
@@ -21,10 +23,13 @@ pub begun_with-none : (size : ℕ) (message : List ℕ) → begun_with size mess
 begun_with-none size message = refl
 
 -- the next cell of a message fits where the message does
-pub Fits-next : (all : Flows) (size input level k : ℕ) (kind : Kind) (message : List ℕ) → all.ports ≤ 64 → input < all.ports → level < 4 → length message ≤ 65551 → length message ≤ size → k < cells_in (length message) → flow_of all (cell_of input level kind message k) ≡ begun_with size message k → Fits all (cell_of input level kind message k)
+pub Fits-next : (all : Flows) (size input level k : ℕ) (kind : Kind) (message : List ℕ) → all.ports ≤ 64 → input < all.ports → level < 4
+    → length message ≤ 65551 → length message ≤ size → k < cells_in (length message)
+    → flow_of all (cell_of input level kind message k) ≡ begun_with size message k → Fits all (cell_of input level kind message k)
 Fits-next all size input level k kind message ports input_in level_in few room more stands =
     let cell : Cell = cell_of input level kind message k in
-    let count : length (take (56 * k) message) + length (part k message) ≡ length (take (56 * k + 56) message) = sym (length-append (take (56 * k) message) (part k message)) ∙ ap length (sym (take-add (56 * k) 56 message)) in
+    let count : length (take (56 * k) message) + length (part k message) ≡ length (take (56 * k + 56) message) =
+    sym (length-append (take (56 * k) message) (part k message)) ∙ ap length (sym (take-add (56 * k) 56 message)) in
     record {
       form = IsCellForm-cell_of input level kind message k (omega arith) level_in few more;
       input = input_in;
@@ -33,20 +38,25 @@ Fits-next all size input level k kind message ports input_in level_in few room m
     }
 
 -- with a cell that is not the last, one cell more stands
-pub with_cell-more : (size input level k : ℕ) (kind : Kind) (message : List ℕ) → k + 1 < cells_in (length message) → with_cell (begun_with size message k) (cell_of input level kind message k) ≡ begun_with size message (k + 1)
+pub with_cell-more : (size input level k : ℕ) (kind : Kind) (message : List ℕ) → k + 1 < cells_in (length message)
+    → with_cell (begun_with size message k) (cell_of input level kind message k) ≡ begun_with size message (k + 1)
 with_cell-more size input level k kind message more =
     let on : leb (length message) (56 * k + 56) ≡ false = lt-leb _ _ (omega arith) in
-    let bytes : bytes_with (begun_with size message k) (cell_of input level kind message k) ≡ take (56 * (k + 1)) message = bytes-more size input level k kind message ∙ ap (λ n. take n message) (omega arith) in
+    let bytes : bytes_with (begun_with size message k) (cell_of input level kind message k) ≡ take (56 * (k + 1)) message =
+    bytes-more size input level k kind message ∙ ap (λ n. take n message) (omega arith) in
     ap (λ v. cond v (fresh size) (record { size = size; bytes = bytes_with (begun_with size message k) (cell_of input level kind message k); next = k + 1 })) on
     ∙ ap (λ b. record { size = size; bytes = b; next = k + 1 }) bytes
 
 -- with the last one, the message is whole, and nothing stands of the next
-pub with_cell-last : (size input level k : ℕ) (kind : Kind) (message : List ℕ) → k + 1 ≡ cells_in (length message) → with_cell (begun_with size message k) (cell_of input level kind message k) ≡ fresh size
+pub with_cell-last : (size input level k : ℕ) (kind : Kind) (message : List ℕ) → k + 1 ≡ cells_in (length message)
+    → with_cell (begun_with size message k) (cell_of input level kind message k) ≡ fresh size
 with_cell-last size input level k kind message last =
     let end : leb (length message) (56 * k + 56) ≡ true = le-leb _ _ (omega arith) in
-    ap (λ v. cond v (fresh size) (record { size = size; bytes = bytes_with (begun_with size message k) (cell_of input level kind message k); next = k + 1 })) end
+    ap (λ v. cond v (fresh size)
+    (record { size = size; bytes = bytes_with (begun_with size message k) (cell_of input level kind message k); next = k + 1 })) end
 
-pub bytes-last : (size input level k : ℕ) (kind : Kind) (message : List ℕ) → k + 1 ≡ cells_in (length message) → bytes_with (begun_with size message k) (cell_of input level kind message k) ≡ message
+pub bytes-last : (size input level k : ℕ) (kind : Kind) (message : List ℕ) → k + 1 ≡ cells_in (length message)
+    → bytes_with (begun_with size message k) (cell_of input level kind message k) ≡ message
 bytes-last size input level k kind message last =
     bytes-more size input level k kind message ∙ take_all (56 * k + 56) message (omega arith)
 

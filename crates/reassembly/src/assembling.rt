@@ -80,7 +80,8 @@ impl Reassembly {
         ensures flow { IfSome result (λ done. (done.input ≡ cell.now.input) × (done.level ≡ cell.now.level) × (done.kind ≡ cell.now.kind)) }
         ensures message { IfSome result (λ done. done.message.now ≡ bytes_with (flow_of self.old cell.now) cell.now) }
         // Of the flow's cells so far, cut after each last cell, it is the next message.
-        ensures cut { (cells : List Cell) → Stands (flow_of self.old cell.now) cells → IfSome result (λ done. messages_of (cells ++ cell.now ∷ []) ≡ messages_of cells ++ done.message.now ∷ []) }
+        ensures cut { (cells : List Cell) → Stands (flow_of self.old cell.now) cells
+            → IfSome result (λ done. messages_of (cells ++ cell.now ∷ []) ≡ messages_of cells ++ done.message.now ∷ []) }
     {
         let place = place_of(cell);
         self.buffers[place].add(cell);

@@ -11,7 +11,10 @@ ghost use Rattle.reassembly.specs.Cutting.{Stands, messages_of};
 /// message. It does nothing; its contract is the law.
 pub fn flow_is_cut()
     ensures begins { (size : ℕ) → Stands (fresh size) [] }
-    ensures stands { (flow : Flow) (cells : List Cell) (cell : Cell) → Stands flow cells → cell.number ≡ flow.next → Stands (with_cell flow cell) (cells ++ cell ∷ []) }
-    ensures message { (flow : Flow) (cells : List Cell) (cell : Cell) → Stands flow cells → messages_of (cells ++ cell ∷ []) ≡ (if cell.last then messages_of cells ++ bytes_with flow cell ∷ [] else messages_of cells) }
-    ensures whole { (input level : ℕ) (kind : Kind) (message : List ℕ) → 0 < length message → messages_of (cells_of_message input level kind message) ≡ message ∷ [] }
+    ensures stands { (flow : Flow) (cells : List Cell) (cell : Cell) → Stands flow cells → cell.number ≡ flow.next
+        → Stands (with_cell flow cell) (cells ++ cell ∷ []) }
+    ensures message { (flow : Flow) (cells : List Cell) (cell : Cell) → Stands flow cells
+        → messages_of (cells ++ cell ∷ []) ≡ (if cell.last then messages_of cells ++ bytes_with flow cell ∷ [] else messages_of cells) }
+    ensures whole { (input level : ℕ) (kind : Kind) (message : List ℕ) → 0 < length message
+        → messages_of (cells_of_message input level kind message) ≡ message ∷ [] }
 {}

@@ -14,10 +14,16 @@ use rotating_pick::{LEVELS, MAX_PORTS};
 /// flows may come between them. It does nothing; its contract is the law.
 pub fn message_is_put()
     ensures begins { (size : ℕ) (message : List ℕ) → begun_with size message 0 ≡ fresh size }
-    ensures fits { (all : Flows) (size input level k : ℕ) (kind : Kind) (message : List ℕ) → all.ports ≤ MAX_PORTS → input < all.ports → level < LEVELS → length message ≤ MAX_MESSAGE_BYTES → length message ≤ size → k < cells_in (length message) → flow_of all (cell_of input level kind message k) ≡ begun_with size message k → Fits all (cell_of input level kind message k) }
-    ensures more { (input level k : ℕ) (kind : Kind) (message : List ℕ) → k + 1 < cells_in (length message) → (cell_of input level kind message k).last ≡ false }
-    ensures stands { (size input level k : ℕ) (kind : Kind) (message : List ℕ) → k + 1 < cells_in (length message) → with_cell (begun_with size message k) (cell_of input level kind message k) ≡ begun_with size message (k + 1) }
+    ensures fits { (all : Flows) (size input level k : ℕ) (kind : Kind) (message : List ℕ) → all.ports ≤ MAX_PORTS → input < all.ports → level < LEVELS
+        → length message ≤ MAX_MESSAGE_BYTES → length message ≤ size → k < cells_in (length message)
+        → flow_of all (cell_of input level kind message k) ≡ begun_with size message k → Fits all (cell_of input level kind message k) }
+    ensures more { (input level k : ℕ) (kind : Kind) (message : List ℕ) → k + 1 < cells_in (length message)
+        → (cell_of input level kind message k).last ≡ false }
+    ensures stands { (size input level k : ℕ) (kind : Kind) (message : List ℕ) → k + 1 < cells_in (length message)
+        → with_cell (begun_with size message k) (cell_of input level kind message k) ≡ begun_with size message (k + 1) }
     ensures last { (input level k : ℕ) (kind : Kind) (message : List ℕ) → k + 1 ≡ cells_in (length message) → (cell_of input level kind message k).last ≡ true }
-    ensures ends { (size input level k : ℕ) (kind : Kind) (message : List ℕ) → k + 1 ≡ cells_in (length message) → with_cell (begun_with size message k) (cell_of input level kind message k) ≡ fresh size }
-    ensures whole { (size input level k : ℕ) (kind : Kind) (message : List ℕ) → k + 1 ≡ cells_in (length message) → bytes_with (begun_with size message k) (cell_of input level kind message k) ≡ message }
+    ensures ends { (size input level k : ℕ) (kind : Kind) (message : List ℕ) → k + 1 ≡ cells_in (length message)
+        → with_cell (begun_with size message k) (cell_of input level kind message k) ≡ fresh size }
+    ensures whole { (size input level k : ℕ) (kind : Kind) (message : List ℕ) → k + 1 ≡ cells_in (length message)
+        → bytes_with (begun_with size message k) (cell_of input level kind message k) ≡ message }
 {}

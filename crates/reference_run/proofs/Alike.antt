@@ -1,6 +1,7 @@
 -- A card, and one that is told by the cells of the packets that go anywhere: their queues hold as many cells, with the
 -- same fan-outs.
-use Rattle.std.proofs.Common.{◌≡◌, ◌∙◌, ℕ, zero, suc, ◌+◌, ◌-◌, ◌<◌, ◌==◌, ◌&&◌, not, nat_le, Bool, true, false, List, [], ◌∷◌, ◌++◌, map, drop, length, Option, None, Some, slice_get, slice_index_or, refl, sym, ap, subst, arith, inl, inr, if◌then◌else◌}
+use Rattle.std.proofs.Common.{◌≡◌, ◌∙◌, ℕ, zero, suc, ◌+◌, ◌-◌, ◌<◌, ◌==◌, ◌&&◌, not, nat_le, Bool, true, false, List, [], ◌∷◌, ◌++◌, map, drop, length}
+use Rattle.std.proofs.Common.{Option, None, Some, slice_get, slice_index_or, refl, sym, ap, subst, arith, inl, inr, if◌then◌else◌}
 use Rattle.std.specs.Prelude.{filter}
 use Rattle.std.specs.List.{range_with_len}
 use Rattle.std.proofs.lemmas.Bool.{cases_eq, eq-eqb, ne_eqb}
@@ -16,7 +17,8 @@ use Rattle.cell_rings.specs.CellQueues.{names_of_packet, cells_with_fan}
 use Rattle.slot_histories.specs.Tests.{has}
 use Rattle.card_core.specs.declared.plan.Planned.{Planned}
 use Rattle.card_core.specs.Plans.{Plan, Queue, OfOutput, OfLevel, IsGoodPlan, AreRising, is_queue, queue_of, size_of, arriving, arriving_from}
-use Rattle.card_core.specs.Queues.{Passed, waiting, remaining, rest_of, is_routed, is_admitted, fits, coming, with_arrival, with_since, head_gone, after_part, after_part_of, before, queue_in}
+use Rattle.card_core.specs.Queues.{Passed, waiting, remaining, rest_of, is_routed, is_admitted, fits, coming, with_arrival, with_since, head_gone}
+use Rattle.card_core.specs.Queues.{after_part, after_part_of, before, queue_in}
 use Rattle.card_core.specs.Posts.{has_cells, row_at}
 use Rattle.card_core.proofs.Passing.{arriving-there}
 use Rattle.output_queued.specs.Switches.{planned_of, card_for, brought, cells_from}
@@ -34,7 +36,8 @@ pub data ArrivesAs : Option (ℕ × Planned) → Option (ℕ × Planned) → Typ
   nothing : ArrivesAs None None
   nowhere : (k : ℕ) (p : Planned) → is_routed p ≡ false → ArrivesAs (Some (k, p)) None
 
-none-step : (p : Planned) (ps : List Planned) (m t : ℕ) → (p.arrival ≡ t → ⊥) → arriving_from (m + 1) (told_of ps) t ≡ None → arriving_from m (told_of ps) t ≡ None → (b : Bool)
+none-step : (p : Planned) (ps : List Planned) (m t : ℕ) → (p.arrival ≡ t → ⊥) → arriving_from (m + 1) (told_of ps) t ≡ None
+    → arriving_from m (told_of ps) t ≡ None → (b : Bool)
     → arriving_from m (map planned_of (map coming_of (if b then p ∷ filter is_routed ps else filter is_routed ps))) t ≡ None
 none-step p ps m t other first second true = rw (ne_eqb p.arrival t other) first
 none-step p ps m t other first second false = second
@@ -43,9 +46,11 @@ none-later : (ps : List Planned) (m t : ℕ) → ((i : ℕ) (r : Planned) → sl
 none-later [] m t later = refl
 none-later (p ∷ ps) m t later =
     let up = later 0 p refl in
-    none-step p ps m t (λ e. omega arith) (none-later ps (m + 1) t (λ i r at. later (suc i) r at)) (none-later ps m t (λ i r at. later (suc i) r at)) (is_routed p)
+    none-step p ps m t (λ e. omega arith) (none-later ps (m + 1) t (λ i r at. later (suc i) r at)) (none-later ps m t (λ i r at. later (suc i) r at))
+    (is_routed p)
 
-arrives-step : (p : Planned) (ps : List Planned) (k m t : ℕ) → ArrivesAs (arriving_from (k + 1) ps t) (arriving_from (m + 1) (told_of ps) t) → ArrivesAs (arriving_from (k + 1) ps t) (arriving_from m (told_of ps) t)
+arrives-step : (p : Planned) (ps : List Planned) (k m t : ℕ) → ArrivesAs (arriving_from (k + 1) ps t) (arriving_from (m + 1) (told_of ps) t)
+    → ArrivesAs (arriving_from (k + 1) ps t) (arriving_from m (told_of ps) t)
     → (p.arrival ≡ t → arriving_from m (told_of ps) t ≡ None) → (b : Bool) → is_routed p ≡ b
     → ArrivesAs (arriving_from k (p ∷ ps) t) (arriving_from m (map planned_of (map coming_of (if b then p ∷ filter is_routed ps else filter is_routed ps))) t)
 arrives-step p ps k m t first second none true routed = elim (cases_eq p.arrival t) [
@@ -53,7 +58,8 @@ arrives-step p ps k m t first second none true routed = elim (cases_eq p.arrival
   | inr later ↦ rw (ne_eqb p.arrival t later) first
 ]
 arrives-step p ps k m t first second none false routed = elim (cases_eq p.arrival t) [
-  | inl now ↦ subst (ArrivesAs (if p.arrival == t then Some (k, p) else arriving_from (k + 1) ps t)) (sym (none now)) (rw (eq-eqb p.arrival t now) (nowhere k p routed))
+  | inl now ↦ subst (ArrivesAs (if p.arrival == t then Some (k, p) else arriving_from (k + 1) ps t)) (sym (none now))
+      (rw (eq-eqb p.arrival t now) (nowhere k p routed))
   | inr later ↦ rw (ne_eqb p.arrival t later) second
 ]
 
@@ -94,7 +100,8 @@ waiting-alike s told alike =
 
 rest-alike : (q : Queue) (s told : Passed) → Alike s told → rest_of q told ≡ rest_of q s
 rest-alike q s told alike =
-    ap (λ fan. remaining q fan told.since) (first-by (waiting s) (waiting told) (waiting-alike s told alike)) ∙ ap (remaining q (first_fan (waiting s))) alike.since
+    ap (λ fan. remaining q fan told.since) (first-by (waiting s) (waiting told) (waiting-alike s told alike))
+    ∙ ap (remaining q (first_fan (waiting s))) alike.since
 
 long-alike : (s told : Passed) → Alike s told → length told.entered ≡ length s.entered
 long-alike s told alike = sym (length-map told.entered (λ (c : FanCell). c.fan)) ∙ ap length alike.cells ∙ length-map s.entered (λ (c : FanCell). c.fan)
@@ -106,7 +113,8 @@ fans-with k m size fan =
     ∙ sym (map-map (λ (name : CellName). fan) (λ i. record { packet = m; number = i; last = i + 1 == size }) (range_with_len 0 size))
     ∙ sym (map-map (λ (c : FanCell). c.fan) (λ (name : CellName). record { name = name; fan = fan }) (names_of_packet m size))
 
-fans-if : (b d : Bool) (k m size other fan : ℕ) → d ≡ b → other ≡ size → fans (if d then cells_with_fan m other fan else []) ≡ fans (if b then cells_with_fan k size fan else [])
+fans-if : (b d : Bool) (k m size other fan : ℕ) → d ≡ b → other ≡ size
+    → fans (if d then cells_with_fan m other fan else []) ≡ fans (if b then cells_with_fan k size fan else [])
 fans-if true d k m size other fan same sizes = rw (same, sizes) (fans-with m k size fan)
 fans-if false d k m size other fan same sizes = rw same refl
 
@@ -124,7 +132,8 @@ module _ (q : Queue) (s told : Passed) (alike : Alike s told) (part : Option Ser
   part-of (c ∷ w) [] same = absurd (cc)
   part-of (c ∷ w) (d ∷ v) same =
       let rest = rest-alike q (with_since s (part ∷ s.since)) (with_since told (part ∷ told.since)) (next-if false) in
-      subst (λ n. Alike (if rest_of q (with_since s (part ∷ s.since)) == 0 then head_gone s else with_since s (part ∷ s.since)) (if n == 0 then head_gone told else with_since told (part ∷ told.since))) (sym rest)
+      subst (λ n. Alike (if rest_of q (with_since s (part ∷ s.since)) == 0 then head_gone s else with_since s (part ∷ s.since))
+      (if n == 0 then head_gone told else with_since told (part ∷ told.since))) (sym rest)
       (next-if (rest_of q (with_since s (part ∷ s.since)) == 0))
 
   pub part-alike : Alike (after_part q s part) (after_part q told part)
@@ -153,12 +162,14 @@ module _ (card : Plan) (good : IsGoodPlan card) where
         fits-by : (a b d e : ℕ) → a ≡ b → d ≡ e → nat_le a d ≡ nat_le b e
         fits-by a b d e x y = rw (x, y) refl
 
-  coming-told : (q : Queue) (s told : Passed) → Alike s told → (t : ℕ) (a b : Option (ℕ × Planned)) → arriving card t ≡ a → ArrivesAs a b → fans (coming told_card q told b) ≡ fans (coming card q s a)
+  coming-told : (q : Queue) (s told : Passed) → Alike s told → (t : ℕ) (a b : Option (ℕ × Planned)) → arriving card t ≡ a → ArrivesAs a b
+      → fans (coming told_card q told b) ≡ fans (coming card q s a)
   coming-told q s told alike t (Some (k, p)) (Some (m, r)) is (both k' m' p' routed) =
       let found = arriving-there 0 card.packets t k p is in
       let size = size-told found.0 p found.2 routed in
       let fit = fits-told s told alike p (planned_of (coming_of p)) size in
-      fans-if (is_routed p && is_queue q (queue_of p) && fits card s p) (is_routed p && is_queue q (queue_of p) && fits told_card told (planned_of (coming_of p))) k m (size_of p) (size_of (planned_of (coming_of p))) p.fan
+      fans-if (is_routed p && is_queue q (queue_of p) && fits card s p)
+      (is_routed p && is_queue q (queue_of p) && fits told_card told (planned_of (coming_of p))) k m (size_of p) (size_of (planned_of (coming_of p))) p.fan
       (ap (λ b. is_routed p && is_queue q (queue_of p) && b) fit) size
   coming-told q s told alike t None None is nothing = refl
   coming-told q s told alike t None (Some b) is as' = elim as' [ ]
@@ -166,15 +177,19 @@ module _ (card : Plan) (good : IsGoodPlan card) where
       sym (ap (λ b. fans (if b && is_queue q (queue_of p) && fits card s p then cells_with_fan k (size_of p) p.fan else [])) unrouted)
 
   told-arrives : (t : ℕ) → ArrivesAs (arriving card t) (arriving told_card t)
-  told-arrives t = subst (λ ps. ArrivesAs (arriving card t) (arriving_from 0 ps t)) (sym (packets-are card.ports card.depth (coming_in card))) (arrives-as card.packets good.rising 0 0 t)
+  told-arrives t = subst (λ ps. ArrivesAs (arriving card t) (arriving_from 0 ps t)) (sym (packets-are card.ports card.depth (coming_in card)))
+      (arrives-as card.packets good.rising 0 0 t)
 
-  arrival-alike : (q : Queue) (s told : Passed) (t : ℕ) → Alike s told → Alike (with_arrival card q (arriving card t) s) (with_arrival told_card q (arriving told_card t) told)
+  arrival-alike : (q : Queue) (s told : Passed) (t : ℕ) → Alike s told
+      → Alike (with_arrival card q (arriving card t) s) (with_arrival told_card q (arriving told_card t) told)
   arrival-alike q s told t alike =
       let fan = λ (c : FanCell). c.fan in
       let come = coming card q s (arriving card t) in
       let come' = coming told_card q told (arriving told_card t) in
       record {
-        cells = map-append fan told.entered come' ∙ ap (λ xs. xs ++ fans come') alike.cells ∙ ap (λ xs. fans s.entered ++ xs) (coming-told q s told alike t (arriving card t) (arriving told_card t) refl (told-arrives t)) ∙ sym (map-append fan s.entered come);
+        cells = map-append fan told.entered come' ∙ ap (λ xs. xs ++ fans come') alike.cells
+            ∙ ap (λ xs. fans s.entered ++ xs) (coming-told q s told alike t (arriving card t) (arriving told_card t) refl (told-arrives t))
+            ∙ sym (map-append fan s.entered come);
         left = alike.left;
         since = alike.since;
       }
@@ -182,7 +197,8 @@ module _ (card : Plan) (good : IsGoodPlan card) where
   pub before-alike : (q : Queue) (served : List (Option Served)) (t : ℕ) → Alike (before card q served t) (before told_card q served t)
   before-alike q served zero = record { cells = refl; left = refl; since = refl }
   before-alike q served (suc t) =
-      part-alike q (queue_in card q served t) (queue_in told_card q served t) (arrival-alike q (before card q served t) (before told_card q served t) t (before-alike q served t)) (slice_index_or served t None)
+      part-alike q (queue_in card q served t) (queue_in told_card q served t)
+      (arrival-alike q (before card q served t) (before told_card q served t) t (before-alike q served t)) (slice_index_or served t None)
 
   pub in-alike : (q : Queue) (served : List (Option Served)) (t : ℕ) → Alike (queue_in card q served t) (queue_in told_card q served t)
   in-alike q served t = arrival-alike q (before card q served t) (before told_card q served t) t (before-alike q served t)
@@ -190,11 +206,14 @@ module _ (card : Plan) (good : IsGoodPlan card) where
   -- the same rows
   pub row-told : (served : List (Option Served)) (t : ℕ) → row_at told_card served t ≡ row_at card served t
   row-told served t =
-      let waits : (λ (l j : ℕ). has_cells (waiting (queue_in told_card (OfOutput j l) served t))) ≡ (λ l j. has_cells (waiting (queue_in card (OfOutput j l) served t))) =
-      λ x l j. has-by (waiting (queue_in card (OfOutput j l) served t)) (waiting (queue_in told_card (OfOutput j l) served t)) (waiting-alike _ _ (in-alike (OfOutput j l) served t)) x in
+      let waits : (λ (l j : ℕ). has_cells (waiting (queue_in told_card (OfOutput j l) served t))) ≡
+      (λ l j. has_cells (waiting (queue_in card (OfOutput j l) served t))) =
+      λ x l j. has-by (waiting (queue_in card (OfOutput j l) served t)) (waiting (queue_in told_card (OfOutput j l) served t))
+      (waiting-alike _ _ (in-alike (OfOutput j l) served t)) x in
       let rests : (λ (l : ℕ). rest_of (OfLevel l) (queue_in told_card (OfLevel l) served t)) ≡ (λ l. rest_of (OfLevel l) (queue_in card (OfLevel l) served t)) =
       λ x l. rest-alike (OfLevel l) (queue_in card (OfLevel l) served t) (queue_in told_card (OfLevel l) served t) (in-alike (OfLevel l) served t) x in
-      ap (λ (n : ℕ). row-by n (λ l j. has_cells (waiting (queue_in told_card (OfOutput j l) served t))) (λ l. rest_of (OfLevel l) (queue_in told_card (OfLevel l) served t))) (ports-are card.ports card.depth (coming_in card))
+      ap (λ (n : ℕ). row-by n (λ l j. has_cells (waiting (queue_in told_card (OfOutput j l) served t)))
+      (λ l. rest_of (OfLevel l) (queue_in told_card (OfLevel l) served t))) (ports-are card.ports card.depth (coming_in card))
       ∙ ap (λ (f : ℕ → ℕ → Bool). row-by card.ports f (λ l. rest_of (OfLevel l) (queue_in told_card (OfLevel l) served t))) waits
       ∙ ap (λ (g : ℕ → ℕ). row-by card.ports (λ l j. has_cells (waiting (queue_in card (OfOutput j l) served t))) g) rests
 
@@ -203,15 +222,19 @@ module _ (card : Plan) (good : IsGoodPlan card) where
   lacks-if true r m x goes none = let e = goes refl in absurd (cc)
   lacks-if false r m x goes none = refl
 
-  brought-told : (served : List (Option Served)) (j t : ℕ) (a b : Option (ℕ × Planned)) → arriving card t ≡ a → ArrivesAs a b → brought told_card served j t b ≡ brought card served j t a
+  brought-told : (served : List (Option Served)) (j t : ℕ) (a b : Option (ℕ × Planned)) → arriving card t ≡ a → ArrivesAs a b
+      → brought told_card served j t b ≡ brought card served j t a
   brought-told served j t (Some (k, p)) (Some (m, r)) is (both k' m' p' routed) =
       let found = arriving-there 0 card.packets t k p is in
       let size = size-told found.0 p found.2 routed in
-      let fit = fits-told (before card (queue_of p) served t) (before told_card (queue_of p) served t) (before-alike (queue_of p) served t) p (planned_of (coming_of p)) size in
-      ap (λ b. if has p.fan j && b then size_of (planned_of (coming_of p)) else 0) fit ∙ ap (λ n. if has p.fan j && is_admitted card served t p then n else 0) size
+      let fit = fits-told (before card (queue_of p) served t) (before told_card (queue_of p) served t) (before-alike (queue_of p) served t) p
+      (planned_of (coming_of p)) size in
+      ap (λ b. if has p.fan j && b then size_of (planned_of (coming_of p)) else 0) fit
+      ∙ ap (λ n. if has p.fan j && is_admitted card served t p then n else 0) size
   brought-told served j t None None is nothing = refl
   brought-told served j t None (Some b) is as' = elim as' [ ]
-  brought-told served j t (Some (k, p)) None is (nowhere k' p' unrouted) = lacks-if (has p.fan j) (is_routed p) (is_admitted card served t p) (size_of p) (routed-if j p) unrouted
+  brought-told served j t (Some (k, p)) None is (nowhere k' p' unrouted) =
+      lacks-if (has p.fan j) (is_routed p) (is_admitted card served t p) (size_of p) (routed-if j p) unrouted
 
   pub cells-told : (served : List (Option Served)) (j t : ℕ) → cells_from told_card served j t ≡ cells_from card served j t
   cells-told served j t = brought-told served j t (arriving card t) (arriving told_card t) refl (told-arrives t)

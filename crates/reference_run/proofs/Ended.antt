@@ -18,7 +18,8 @@ use Rattle.reference_run.specs.RunLines.{run_matches}
 use Rattle.reference_run.proofs.Matches.{matches-long, served-run}
 
 module _ (plan : SwitchPlan) (good : IsGood plan) where
-  queue_ends : (i j level : ℕ) (kind : Kind) (t : ℕ) → i < ports_of plan → j < ports_of plan → level < LEVELS → is_done_at (ports_of plan) (posts_in plan) t ≡ true
+  queue_ends : (i j level : ℕ) (kind : Kind) (t : ℕ) → i < ports_of plan → j < ports_of plan → level < LEVELS
+      → is_done_at (ports_of plan) (posts_in plan) t ≡ true
       → waiting (queue_before (card_at plan i) (queue_to j level kind) (served_in (run_matches plan (suc t)) i) (length (run_matches plan (suc t)))) ≡ []
   queue_ends i j level kind t inside to below done =
       let card = card_at plan i in

@@ -52,7 +52,8 @@ module _ (plan : SwitchPlan) where
   rows-run t = map-map (λ (post : Post). post.row) (λ i. posts_in plan i t) (range_with_len 0 (ports_of plan))
 
   pub row-run : (t i : ℕ) → i < ports_of plan → row_in (run_rows plan t) i ≡ (posts_in plan i t).row
-  row-run t i inside = ap (λ r. row_in r i) (rows-run t) ∙ get_or-map-range_with_len (λ k. row_at (card_at plan k) (served_by plan k t) t) 0 (ports_of plan) i i no_row inside (omega arith)
+  row-run t i inside = ap (λ r. row_in r i) (rows-run t)
+      ∙ get_or-map-range_with_len (λ k. row_at (card_at plan k) (served_by plan k t) t) 0 (ports_of plan) i i no_row inside (omega arith)
 
   module _ (good : IsGood plan) where
     pub run-cards : AreCards plan.cards
@@ -62,7 +63,8 @@ module _ (plan : SwitchPlan) where
     run-whole t = (sound decision_of IsScheduler-decision_of plan good t).matches
 
     pub run-named : (t i j level : ℕ) (kind : Kind) → Serves (match_of t) i j level kind → Names (posts_in plan i t).row level kind j
-    run-named t i j level kind pair = pair-named decision_of (setup_for plan) (posts_in plan) t (sound decision_of IsScheduler-decision_of plan good t) (is-slot decision_of IsScheduler-decision_of plan good t) i j level kind ((run-whole t).input_in i j level kind pair) pair
+    run-named t i j level kind pair = pair-named decision_of (setup_for plan) (posts_in plan) t (sound decision_of IsScheduler-decision_of plan good t)
+        (is-slot decision_of IsScheduler-decision_of plan good t) i j level kind ((run-whole t).input_in i j level kind pair) pair
 
     pub run-served : (slots : ℕ) → AreServed plan.cards (run_matches plan slots)
     run-served slots =
@@ -72,7 +74,8 @@ module _ (plan : SwitchPlan) where
           named = λ t i j level kind below pair.
               let row : row_at (card_at plan i) (served_in (run_matches plan slots) i) t ≡ (posts_in plan i t).row =
               ap (λ served. row_at (card_at plan i) served t) (served-run slots i) ∙ row_at-same decision_of plan i t slots (omega arith) in
-              subst (λ r. Names r level kind j) (sym row) (run-named t i j level kind (subst (λ m. Serves m i j level kind) (match-is slots t (omega arith)) pair));
+              subst (λ r. Names r level kind j) (sym row)
+              (run-named t i j level kind (subst (λ m. Serves m i j level kind) (match-is slots t (omega arith)) pair));
         }
 
     -- ---- a run has few slots

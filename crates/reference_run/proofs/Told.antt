@@ -44,7 +44,8 @@ module _ (plan : SwitchPlan) (good : IsGood plan) (r : State) (matches : List Ma
   comes-told those j t =
       ap (total (λ i. cells_from (card_of (cards_in r) i) (served_in those i) j t)) told-long
       ∙ total-same (λ i. cells_from (card_of (cards_in r) i) (served_in those i) j t) (λ i. cells_from (card_at plan i) (served_in those i) j t) (ports_of plan)
-      (λ i inside. ap (λ card. cells_from card (served_in those i) j t) (card-told i inside) ∙ cells-told (card_at plan i) (good-card plan good i inside).good (served_in those i) j t)
+      (λ i inside. ap (λ card. cells_from card (served_in those i) j t) (card-told i inside)
+      ∙ cells-told (card_at plan i) (good-card plan good i inside).good (served_in those i) j t)
 
   pub line-told : (those : List Matched) (j : ℕ) → line_of (cards_in r) those j ≡ line_of plan.cards those j
   unfolding line_of
@@ -64,7 +65,8 @@ module _ (plan : SwitchPlan) (good : IsGood plan) (r : State) (t : ℕ) (is : Is
       ∙ ext_get_or no_row (map f (range_with_len 0 (ports_of plan))) (rows_after (cards_in r) (run_matches plan t)) (omega arith)
       (λ i inside.
       get_or-map-range_with_len f 0 (ports_of plan) i i no_row (omega arith) (omega arith)
-      ∙ sym (ap (λ card. row_at card (served_in (run_matches plan t) i) (length (run_matches plan t))) (card-told plan good r (run_matches plan t) is i (omega arith))
+      ∙ sym (ap (λ card. row_at card (served_in (run_matches plan t) i) (length (run_matches plan t)))
+      (card-told plan good r (run_matches plan t) is i (omega arith))
       ∙ row-told (card_at plan i) (good-card plan good i (omega arith)).good (served_in (run_matches plan t) i) (length (run_matches plan t))
       ∙ ap (λ served. row_at (card_at plan i) served (length (run_matches plan t))) (served-run plan t i)
       ∙ ap (row_at (card_at plan i) (served_by plan i t)) (matches-long plan t))
@@ -78,5 +80,6 @@ module _ (plan : SwitchPlan) (good : IsGood plan) (r : State) (t : ℕ) (is : Is
         few = omega arith;
         rows_are = rows-told;
         whole = subst (λ n. IsMatch n (match_of plan t)) (sym (told-long plan good r (run_matches plan t) is)) (run-whole plan good t);
-        named = λ i j level kind pair. subst (λ row. Names row level kind j) (sym (row-run plan t i ((run-whole plan good t).input_in i j level kind pair))) (run-named plan good t i j level kind pair);
+        named = λ i j level kind pair. subst (λ row. Names row level kind j) (sym (row-run plan t i ((run-whole plan good t).input_in i j level kind pair)))
+            (run-named plan good t i j level kind pair);
       }

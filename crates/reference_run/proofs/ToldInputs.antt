@@ -1,5 +1,6 @@
 -- What is told of a card's packets is what a reference takes.
-use Rattle.std.proofs.Common.{◌≡◌, ◌≢◌, ◌∙◌, ℕ, zero, suc, ◌+◌, ◌<◌, not, Bool, true, false, List, [], ◌∷◌, ◌++◌, map, take, length, Some, slice_get, slice_index_or, refl, ap, subst, arith, if◌then◌else◌}
+use Rattle.std.proofs.Common.{◌≡◌, ◌≢◌, ◌∙◌, ℕ, zero, suc, ◌+◌, ◌<◌, not, Bool, true, false, List, [], ◌∷◌, ◌++◌, map, take, length, Some, slice_get}
+use Rattle.std.proofs.Common.{slice_index_or, refl, ap, subst, arith, if◌then◌else◌}
 use Rattle.std.specs.Prelude.{filter}
 use Rattle.std.proofs.lemmas.Bool.{eq-eqb}
 use Rattle.std.proofs.lemmas.List.{length-map, map-append}
@@ -27,7 +28,8 @@ pub record StandsAt (ps : List Planned) (c : Coming) : Type 0 where
 abbrev later : (p : Planned) (ps : List Planned) (c : Coming) → StandsAt ps c → StandsAt (p ∷ ps) c
 later p ps c at = record { place = suc at.place; packet = at.packet; found = at.found; routed = at.routed; same = at.same }
 
-stands-step : (p : Planned) (ps : List Planned) (c : Coming) → ((k : ℕ) → slice_get (told ps) k ≡ Some c → StandsAt ps c) → (b : Bool) → is_routed p ≡ b → (k : ℕ)
+stands-step : (p : Planned) (ps : List Planned) (c : Coming) → ((k : ℕ) → slice_get (told ps) k ≡ Some c → StandsAt ps c) → (b : Bool) → is_routed p ≡ b
+    → (k : ℕ)
     → slice_get (map coming_of (if b then p ∷ filter is_routed ps else filter is_routed ps)) k ≡ Some c → StandsAt (p ∷ ps) c
 stands-step p ps c rest true routed zero is = record { place = 0; packet = p; found = refl; routed = routed; same = same_Some (coming_of p) c is }
 stands-step p ps c rest true routed (suc k) is = later p ps c (rest k is)
@@ -45,8 +47,10 @@ pub record StandInOrder (ps : List Planned) (c d : Coming) : Type 0 where
 both-later : (p : Planned) (ps : List Planned) (c d : Coming) → StandInOrder ps c d → StandInOrder (p ∷ ps) c d
 both-later p ps c d two = record { first = later p ps c two.first; second = later p ps d two.second; order = let less = two.order in omega arith }
 
-order-step : (p : Planned) (ps : List Planned) (c d : Coming) → ((k m : ℕ) → slice_get (told ps) k ≡ Some c → slice_get (told ps) m ≡ Some d → k < m → StandInOrder ps c d) → (b : Bool) → is_routed p ≡ b → (k m : ℕ)
-    → slice_get (map coming_of (if b then p ∷ filter is_routed ps else filter is_routed ps)) k ≡ Some c → slice_get (map coming_of (if b then p ∷ filter is_routed ps else filter is_routed ps)) m ≡ Some d → k < m → StandInOrder (p ∷ ps) c d
+order-step : (p : Planned) (ps : List Planned) (c d : Coming)
+    → ((k m : ℕ) → slice_get (told ps) k ≡ Some c → slice_get (told ps) m ≡ Some d → k < m → StandInOrder ps c d) → (b : Bool) → is_routed p ≡ b → (k m : ℕ)
+    → slice_get (map coming_of (if b then p ∷ filter is_routed ps else filter is_routed ps)) k ≡ Some c
+    → slice_get (map coming_of (if b then p ∷ filter is_routed ps else filter is_routed ps)) m ≡ Some d → k < m → StandInOrder (p ∷ ps) c d
 order-step p ps c d rest true routed k zero is there less = absurd (omega arith)
 order-step p ps c d rest true routed zero (suc m) is there less = record {
   first = record { place = 0; packet = p; found = refl; routed = routed; same = same_Some (coming_of p) c is };
@@ -56,9 +60,11 @@ order-step p ps c d rest true routed zero (suc m) is there less = record {
 order-step p ps c d rest true routed (suc k) (suc m) is there less = both-later p ps c d (rest k m is there (omega arith))
 order-step p ps c d rest false routed k m is there less = both-later p ps c d (rest k m is there less)
 
-pub stand-in_order : (ps : List Planned) (k m : ℕ) (c d : Coming) → slice_get (told ps) k ≡ Some c → slice_get (told ps) m ≡ Some d → k < m → StandInOrder ps c d
+pub stand-in_order : (ps : List Planned) (k m : ℕ) (c d : Coming) → slice_get (told ps) k ≡ Some c → slice_get (told ps) m ≡ Some d → k < m
+    → StandInOrder ps c d
 stand-in_order [] k m c d is there less = absurd (cc)
-stand-in_order (p ∷ ps) k m c d is there less = order-step p ps c d (λ a b at at' before. stand-in_order ps a b c d at at' before) (is_routed p) refl k m is there less
+stand-in_order (p ∷ ps) k m c d is there less =
+    order-step p ps c d (λ a b at at' before. stand-in_order ps a b c d at at' before) (is_routed p) refl k m is there less
 
 module _ (card : Plan) (good : IsGoodPlan card) where
   pub some_fan : (p : Planned) → is_routed p ≡ true → p.fan ≢ 0
@@ -103,8 +109,10 @@ pub told-switch : (plan : SwitchPlan) → IsGood plan → IsSwitch (length plan.
 told-switch plan good = record {
   some = good.size.some;
   size = good.size.most;
-  deep = let (card, first) = first-card plan.cards good.size.some in let is = good.cards 0 card first in let deep = is.good.deep in let same = is.depth in omega arith;
-  depth_in = let (card, first) = first-card plan.cards good.size.some in let is = good.cards 0 card first in let deep = is.good.depth in let same = is.depth in omega arith;
+  deep = let (card, first) = first-card plan.cards good.size.some in let is = good.cards 0 card first in let deep = is.good.deep in let same = is.depth in
+      omega arith;
+  depth_in = let (card, first) = first-card plan.cards good.size.some in let is = good.cards 0 card first in let deep = is.good.depth in let same =
+      is.depth in omega arith;
   count = length-map plan.cards coming_in;
   each = λ i coming there.
       let (card, at, same) = mapped-at coming_in plan.cards i coming there in
@@ -118,7 +126,8 @@ told-if true p is = rw is refl
 told-if false p is = rw is refl
 
 pub told-more : (ps : List Planned) (i : ℕ) (d : Planned) → i < length ps → (b : Bool) → is_routed (slice_index_or ps i d) ≡ b
-    → map coming_of (filter is_routed (take (i + 1) ps)) ≡ map coming_of (filter is_routed (take i ps)) ++ (if b then coming_of (slice_index_or ps i d) ∷ [] else [])
+    → map coming_of (filter is_routed (take (i + 1) ps)) ≡ map coming_of (filter is_routed (take i ps))
+    ++ (if b then coming_of (slice_index_or ps i d) ∷ [] else [])
 told-more ps i d inside b is =
     let x = slice_index_or ps i d in
     ap (map coming_of) (filter_more is_routed ps i d inside)

@@ -14,7 +14,8 @@ ghost use Rattle.reference_run.specs.Meeting.{IsReferenceOf, run_rows};
 
 /// The slots of a run may be noted one after the other, to its end.
 pub fn slots_may_be_noted()
-    ensures may { (plan : SwitchPlan) (reference : State) (t slots : ℕ) → IsGood plan → IsLength plan slots → t < slots → IsReferenceOf plan reference (run_matches plan t) → MayNote reference (run_rows plan t) (run_slot plan t).matched }
+    ensures may { (plan : SwitchPlan) (reference : State) (t slots : ℕ) → IsGood plan → IsLength plan slots → t < slots
+        → IsReferenceOf plan reference (run_matches plan t) → MayNote reference (run_rows plan t) (run_slot plan t).matched }
     ensures more { (plan : SwitchPlan) (t : ℕ) → run_matches plan (t + 1) ≡ run_matches plan t ++ (run_slot plan t).matched ∷ [] }
 {}
 
@@ -34,11 +35,15 @@ pub fn reference_is_never_behind()
 /// extra is the sum of the delays: of the slots in which the run served the output, less those in which the
 /// ideal switch did.
 pub fn whole_runs_serve_the_same()
-    ensures count { (plan : SwitchPlan) (slots j : ℕ) → IsGood plan → IsLength plan slots → j < ports_of plan → ran (run_matches plan slots) j slots ≡ ideal plan.cards (run_matches plan slots) j slots }
-    ensures all { (plan : SwitchPlan) (slots j : ℕ) → IsGood plan → IsLength plan slots → j < ports_of plan → ran (run_matches plan slots) j slots ≡ total (comes plan.cards (run_matches plan slots) j) slots }
-    ensures ends { (plan : SwitchPlan) (slots j : ℕ) → IsGood plan → IsLength plan slots → j < ports_of plan → (line_of plan.cards (run_matches plan slots) j).ends ≤ (line_of plan.cards (run_matches plan slots) j).runs }
+    ensures count { (plan : SwitchPlan) (slots j : ℕ) → IsGood plan → IsLength plan slots → j < ports_of plan
+        → ran (run_matches plan slots) j slots ≡ ideal plan.cards (run_matches plan slots) j slots }
+    ensures all { (plan : SwitchPlan) (slots j : ℕ) → IsGood plan → IsLength plan slots → j < ports_of plan
+        → ran (run_matches plan slots) j slots ≡ total (comes plan.cards (run_matches plan slots) j) slots }
+    ensures ends { (plan : SwitchPlan) (slots j : ℕ) → IsGood plan → IsLength plan slots → j < ports_of plan
+        → (line_of plan.cards (run_matches plan slots) j).ends ≤ (line_of plan.cards (run_matches plan slots) j).runs }
     ensures delays { (plan : SwitchPlan) (slots j : ℕ) → IsGood plan → IsLength plan slots → j < ports_of plan
-        → (line_of plan.cards (run_matches plan slots) j).extra + sum (rises (ideal plan.cards (run_matches plan slots) j) slots) ≡ sum (rises (ran (run_matches plan slots) j) slots) }
+        → (line_of plan.cards (run_matches plan slots) j).extra + sum (rises (ideal plan.cards (run_matches plan slots) j) slots) ≡ sum
+        (rises (ran (run_matches plan slots) j) slots) }
 {}
 
 /// At each output the ideal switch ends no later than the run; the run feeds no cell earlier than the ideal switch

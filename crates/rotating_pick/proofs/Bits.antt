@@ -51,7 +51,8 @@ bit_at-turned j by ports x among within =
     ]
 
 -- what `rotate` computes
-pub rotated-is : (n by ports : ℕ) → by < n → n ≤ 64 → 0 < by → ports < 2 ^ n → bit_or (bit_and ports (1 * 2 ^ by % 2 ^ 64 - 1) * 2 ^ (n - by) % 2 ^ 64) (ports / 2 ^ by) ≡ turned (n - by) by ports
+pub rotated-is : (n by ports : ℕ) → by < n → n ≤ 64 → 0 < by → ports < 2 ^ n
+    → bit_or (bit_and ports (1 * 2 ^ by % 2 ^ 64 - 1) * 2 ^ (n - by) % 2 ^ 64) (ports / 2 ^ by) ≡ turned (n - by) by ports
 rotated-is n by ports h size some among =
     let e : n - by + by ≡ n = omega arith in
     let low : ports % 2 ^ by < 2 ^ by = mod_below _ _ (pow_pos by) in

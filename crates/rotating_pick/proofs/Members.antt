@@ -37,7 +37,8 @@ power-same i j same = only_member j i (subst (λ set. Has set i) same (bit_at-po
 -- a set of which a member is taken out and none is left is a power of two
 pub power-left : (ports left j : ℕ) → Has ports j → ((y : ℕ) → Has left y ↔ ((y ≢ j) × Has ports y)) → left ≡ 0 → ports ≡ 2 ^ j
 power-left ports left j member others none =
-    power-of ports j member (λ y there. elim (cases_eq y j) [ inl is ↦ is | inr differ ↦ absurd (no_member-zero y (subst (λ set. Has set y) none ((others y).1 (differ, there)))) ])
+    power-of ports j member (λ y there. elim
+    (cases_eq y j) [ inl is ↦ is | inr differ ↦ absurd (no_member-zero y (subst (λ set. Has set y) none ((others y).1 (differ, there)))) ])
 
 -- and one of which one is left has several members
 pub several-left : (ports left j y : ℕ) → Has ports j → ((x : ℕ) → Has left x ↔ ((x ≢ j) × Has ports x)) → Has left y → HasSeveral ports

@@ -3,7 +3,8 @@ use Rattle.std.proofs.Common.{◌≡◌, ℕ, ◌-◌, ◌*◌, ◌%◌, ◌/◌
 use Rattle.std.specs.Int.{bit_at, bit_not}
 use Rattle.std.proofs.lemmas.Bool.{cases_eq, cases_lt}
 use Rattle.std.proofs.lemmas.Nat.{and_le_l}
-use Rattle.std.proofs.lemmas.Nat.Bits.{bit_at-lt, bit_at_and, bit_at_not, bit_at_ones, bit_at_ones_above, ones_shr, bit_at_set_same, bit_at_set_other, bit_at_clear_same, bit_at_clear_other}
+use Rattle.std.proofs.lemmas.Nat.Bits.{bit_at-lt, bit_at_and, bit_at_not, bit_at_ones, bit_at_ones_above, ones_shr, bit_at_set_same, bit_at_set_other}
+use Rattle.std.proofs.lemmas.Nat.Bits.{bit_at_clear_same, bit_at_clear_other}
 use Rattle.rotating_pick.specs.PortSets.{Has}
 use Rattle.rotating_pick.proofs.Bits.{Has-lt}
 
@@ -18,7 +19,8 @@ pub Has-with : (ports x y : ℕ) → x < 64 → Has (bit_or ports (1 * 2 ^ x % 2
 Has-with ports x y within =
     elim (cases_eq y x) [
       | inl same ↦ (λ h. inl same, λ s. rw same (bit_at_set_same w64 ports x within))
-      | inr other ↦ let e = bit_at_set_other w64 ports x within y other in (λ h. inr (sym e ∙ h), λ s. elim s [ inl here ↦ absurd (other here) | inr h ↦ e ∙ h ])
+      | inr other ↦ let e = bit_at_set_other w64 ports x within y other in
+          (λ h. inr (sym e ∙ h), λ s. elim s [ inl here ↦ absurd (other here) | inr h ↦ e ∙ h ])
     ]
 
 pub Has-without : (ports x y : ℕ) → ports < 2 ^ 64 → x < 64 → Has (bit_and ports (bit_not w64 (1 * 2 ^ x % 2 ^ 64))) y ↔ ((y ≢ x) × Has ports y)

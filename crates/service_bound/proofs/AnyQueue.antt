@@ -15,18 +15,22 @@ use Rattle.service_bound.proofs.Postings.{Posting, posted}
 use Rattle.service_bound.proofs.PostedRuns.{run, length-run, All-run, IsSwitch, IsLate}
 use Rattle.service_bound.proofs.Renumbering.{Renumbers, counted_from, counted_back, Renumbers-from}
 use Rattle.service_bound.proofs.RenumberedSlots.{PointAlike}
-use Rattle.service_bound.proofs.RenumberedRuns.{OnlyAt, rows_for, names_for, AreWithin-for, IsClean-for, IsWithoutMulticast-for, redecided, length-redecided, All-redecided, slots_anew}
-use Rattle.service_bound.proofs.Descents.{IsServedLast-run, places_at, grant_of-places_at, accept_of-places_at, IsSwitch-places_at, places_at_one, IsBeginning-at_one}
+use Rattle.service_bound.proofs.RenumberedRuns.{OnlyAt, rows_for, names_for, AreWithin-for, IsClean-for, IsWithoutMulticast-for, redecided}
+use Rattle.service_bound.proofs.RenumberedRuns.{length-redecided, All-redecided, slots_anew}
+use Rattle.service_bound.proofs.Descents.{IsServedLast-run, places_at, grant_of-places_at, accept_of-places_at, IsSwitch-places_at, places_at_one}
+use Rattle.service_bound.proofs.Descents.{IsBeginning-at_one}
 use Rattle.service_bound.proofs.OneRoundFamily as one
 use Rattle.service_bound.proofs.MoreRoundsFamily as more
 use Rattle.service_bound.proofs.TwoPortsFamily as two
 
 -- a queue is served last in some window of `slot_count` slots
 abbrev pub IsReached : ℕ → ℕ → ℕ → ℕ → ℕ → ℕ → ℕ → Type 0
-IsReached n rounds t i j level slot_count = (places : Places) × (slots : List DecidedSlot) × IsServedLast n rounds t i j level places slots × (length slots ≡ slot_count)
+IsReached n rounds t i j level slot_count = (places : Places) × (slots : List DecidedSlot) × IsServedLast n rounds t i j level places slots
+    × (length slots ≡ slot_count)
 
 OnlyAt-run : (n rounds t : ℕ) (places : Places) (ps : List Posting) → All (λ slot. OnlyAt n 0 slot.rows) (run n rounds t places ps)
-OnlyAt-run n rounds t places ps = All-run n rounds t places (OnlyAt n 0) (λ p x y level kind there. let at = posted n p x y level kind there.0 there.1 in (there.0, at.2, at.0, at.1)) ps
+OnlyAt-run n rounds t places ps =
+    All-run n rounds t places (OnlyAt n 0) (λ p x y level kind there. let at = posted n p x y level kind there.0 there.1 in (there.0, at.2, at.0, at.1)) ps
 
 -- from port a on, port 0 is port a
 counted_from-zero : (n a : ℕ) → a < n → counted_from n a 0 ≡ a
@@ -51,7 +55,8 @@ module _ (n rounds t i j level : ℕ) (i_in : i < n) (j_in : j < n) (level_in : 
 
   IsSwitch-later : IsSwitch n later
   unfolding later
-  IsSwitch-later = IsSwitch-places_at n (counted_from n i (1 % n)) (counted_from n j (1 % n)) some size (inputs.to_in (1 % n) one_in) (outputs.to_in (1 % n) one_in)
+  IsSwitch-later = IsSwitch-places_at n (counted_from n i (1 % n)) (counted_from n j (1 % n)) some size (inputs.to_in (1 % n) one_in)
+      (outputs.to_in (1 % n) one_in)
 
   pointers : PointAlike n (counted_from n i) (counted_from n j) 0 level (places_at_one n) later
   unfolding later places_at_one
@@ -62,8 +67,12 @@ module _ (n rounds t i j level : ℕ) (i_in : i < n) (j_in : j < n) (level_in : 
       record {
         grant_in = λ y y_in. let e = grant y y_in in let below = one_in in omega arith;
         accept_in = λ x x_in. let e = accept x x_in in let below = one_in in omega arith;
-        grants = λ y y_in. let below = outputs.to_in y y_in in grant_of-places_at n (counted_from n i (1 % n)) (counted_from n j (1 % n)) (counted_from n j y) level (omega arith) level_in ∙ ap (counted_from n i) (sym (grant y y_in));
-        accepts = λ x x_in. let below = inputs.to_in x x_in in accept_of-places_at n (counted_from n i (1 % n)) (counted_from n j (1 % n)) (counted_from n i x) level (omega arith) level_in ∙ ap (counted_from n j) (sym (accept x x_in));
+        grants = λ y y_in. let below = outputs.to_in y y_in in
+            grant_of-places_at n (counted_from n i (1 % n)) (counted_from n j (1 % n)) (counted_from n j y) level (omega arith) level_in
+            ∙ ap (counted_from n i) (sym (grant y y_in));
+        accepts = λ x x_in. let below = inputs.to_in x x_in in
+            accept_of-places_at n (counted_from n i (1 % n)) (counted_from n j (1 % n)) (counted_from n i x) level (omega arith) level_in
+            ∙ ap (counted_from n j) (sym (accept x x_in));
       }
 
   -- what is late for queue (0, 0) is so for queue (i, j) of the level
@@ -74,12 +83,17 @@ module _ (n rounds t i j level : ℕ) (i_in : i < n) (j_in : j < n) (level_in : 
       let zero_last = IsServedLast-run n rounds t (places_at_one n) ps begins.switch late in
       let zero_in : 0 < LEVELS = omega arith in
       let only = OnlyAt-run n rounds t (places_at_one n) ps in
-      let new = redecided n rounds (counted_from n i) (counted_back n i) (counted_from n j) (counted_back n j) inputs outputs 0 level zero_in level_in t later slots in
-      let anew = slots_anew n rounds (counted_from n i) (counted_back n i) (counted_from n j) (counted_back n j) inputs outputs 0 level zero_in level_in slots t (places_at_one n) later zero_last.window only IsSwitch-later pointers 0 0 some some in
+      let new = redecided n rounds (counted_from n i) (counted_back n i) (counted_from n j)
+      (counted_back n j) inputs outputs 0 level zero_in level_in t later slots in
+      let anew = slots_anew n rounds (counted_from n i) (counted_back n i) (counted_from n j)
+      (counted_back n j) inputs outputs 0 level zero_in level_in slots t
+      (places_at_one n) later zero_last.window only IsSwitch-later pointers 0 0 some some in
       let i_is = counted_from-zero n i i_in in
       let j_is = counted_from-zero n j j_in in
-      let All-new : (P Q : List Row → Type 0) → ((rows : List Row) → P rows → Q (rows_for n (counted_back n i) (counted_back n j) 0 level rows)) → All (λ slot. P slot.rows) slots → All (λ slot. Q slot.rows) new =
-      λ P Q each all. All-redecided n rounds (counted_from n i) (counted_back n i) (counted_from n j) (counted_back n j) inputs outputs 0 level zero_in level_in P Q each t later slots all in (
+      let All-new : (P Q : List Row → Type 0) → ((rows : List Row) → P rows → Q (rows_for n (counted_back n i) (counted_back n j) 0 level rows))
+      → All (λ slot. P slot.rows) slots → All (λ slot. Q slot.rows) new =
+      λ P Q each all. All-redecided n rounds (counted_from n i) (counted_back n i) (counted_from n j)
+      (counted_back n j) inputs outputs 0 level zero_in level_in P Q each t later slots all in (
         later,
         new,
         record {
@@ -92,14 +106,17 @@ module _ (n rounds t i j level : ℕ) (i_in : i < n) (j_in : j < n) (level_in : 
             kept = anew.kept;
             clean = All-new (OnlyAt n 0) (IsClean n level) (λ rows at. IsClean-for n (counted_back n i) (counted_back n j) 0 level level_in rows) only;
           };
-          alone = All-new (OnlyAt n 0) (IsWithoutMulticast n level) (λ rows at. IsWithoutMulticast-for n (counted_back n i) (counted_back n j) 0 level level_in rows) only;
+          alone = All-new (OnlyAt n 0) (IsWithoutMulticast n level)
+              (λ rows at. IsWithoutMulticast-for n (counted_back n i) (counted_back n j) 0 level level_in rows) only;
           posted = All-new (λ rows. Names (row_of rows 0) 0 Uni 0) (λ rows. Names (row_of rows i) level Uni j)
               (λ rows named. names_for n (counted_back n i) (counted_back n j) 0 level level_in rows i j i_in j_in
-              (subst (λ v. Names (row_of rows v) 0 Uni (counted_back n j j)) (sym (zero_back i i_in inputs i_is)) (subst (λ v. Names (row_of rows 0) 0 Uni v) (sym (zero_back j j_in outputs j_is)) named)))
+              (subst (λ v. Names (row_of rows v) 0 Uni (counted_back n j j)) (sym (zero_back i i_in inputs i_is))
+              (subst (λ v. Names (row_of rows 0) 0 Uni v) (sym (zero_back j j_in outputs j_is)) named)))
               zero_last.posted;
           last = subst (λ u. ServeLast u j level new) i_is (subst (λ v. ServeLast (counted_from n i 0) v level new) j_is (anew.last zero_last.last));
         },
-        length-redecided n rounds (counted_from n i) (counted_back n i) (counted_from n j) (counted_back n j) inputs outputs 0 level zero_in level_in t later slots ∙ length-run n rounds t (places_at_one n) ps,
+        length-redecided n rounds (counted_from n i) (counted_back n i) (counted_from n j)
+            (counted_back n j) inputs outputs 0 level zero_in level_in t later slots ∙ length-run n rounds t (places_at_one n) ps,
       ) where
         zero_back : (a : ℕ) → a < n → Renumbers n (counted_from n a) (counted_back n a) → counted_from n a 0 ≡ a → counted_back n a a ≡ 0
         zero_back a a_in by is = ap (counted_back n a) (sym is) ∙ by.back_to 0 some
@@ -107,12 +124,15 @@ module _ (n rounds t i j level : ℕ) (i_in : i < n) (j_in : j < n) (level_in : 
 pub one_reached : (n t i j level : ℕ) → i < n → j < n → level < LEVELS → n ≤ MAX_PORTS → IsReached n 1 t i j level (longest_service_in_one_round n)
 one_reached n t i j level i_in j_in level_in size =
     let begins = IsBeginning-at_one n (omega arith) size in
-    subst (IsReached n 1 t i j level) (one.length-family n (omega arith)) (any_late n 1 t i j level i_in j_in level_in size (one.family n) (one.late_family n t (places_at_one n) (omega arith) begins))
+    subst (IsReached n 1 t i j level) (one.length-family n (omega arith))
+    (any_late n 1 t i j level i_in j_in level_in size (one.family n) (one.late_family n t (places_at_one n) (omega arith) begins))
 
-pub more_reached : (n rounds t i j level : ℕ) → 2 < n → i < n → j < n → level < LEVELS → n ≤ MAX_PORTS → 1 < rounds → IsReached n rounds t i j level (longest_service n)
+pub more_reached : (n rounds t i j level : ℕ) → 2 < n → i < n → j < n → level < LEVELS → n ≤ MAX_PORTS → 1 < rounds
+    → IsReached n rounds t i j level (longest_service n)
 more_reached n rounds t i j level three i_in j_in level_in size many =
     let begins = IsBeginning-at_one n (omega arith) size in
-    subst (IsReached n rounds t i j level) (more.length-family n three) (any_late n rounds t i j level i_in j_in level_in size (more.family n) (more.late_family n rounds many three t (places_at_one n) begins))
+    subst (IsReached n rounds t i j level) (more.length-family n three)
+    (any_late n rounds t i j level i_in j_in level_in size (more.family n) (more.late_family n rounds many three t (places_at_one n) begins))
 
 pub two_reached : (rounds t i j level : ℕ) → 0 < rounds → i < 2 → j < 2 → level < LEVELS → IsReached 2 rounds t i j level 3
 two_reached rounds t i j level some_rounds i_in j_in level_in =

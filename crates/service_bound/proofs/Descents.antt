@@ -1,5 +1,6 @@
 -- Going down: slots in which an input's pointer goes from an output to output 0, whose grants it refuses.
-use Rattle.std.proofs.Common.{◌≡◌, ℕ, zero, suc, ◌+◌, ◌%◌, ◌<◌, ◌≤◌, ◌⊎◌, ◌∙◌, List, [], ◌∷◌, length, replicate, slice_index, refl, ap, sym, subst, inl, inr, arith}
+use Rattle.std.proofs.Common.{◌≡◌, ℕ, zero, suc, ◌+◌, ◌%◌, ◌<◌, ◌≤◌, ◌⊎◌, ◌∙◌, List, [], ◌∷◌, length, replicate, slice_index, refl, ap, sym, subst, inl}
+use Rattle.std.proofs.Common.{inr, arith}
 use Rattle.std.proofs.Math.Nat.{mod-eq_of_lt}
 use Rattle.std.proofs.lemmas.List.{length-replicate, get_or-replicate}
 use Rattle.std.proofs.lemmas.Nat.{mod_below}
@@ -14,7 +15,8 @@ use Rattle.service_bound.specs.Latest.{IsServedLast}
 use Rattle.service_bound.proofs.Distances.{distance-above, distance-below}
 use Rattle.service_bound.proofs.Postings.{Posting, IsPosted, zero_posted, names, AreWithin-rows, IsClean-rows, IsWithoutMulticast-rows}
 use Rattle.service_bound.proofs.PostedSlots.{Suits}
-use Rattle.service_bound.proofs.PostedRuns.{decided, run, All-run, IsSwitch, IsSwitch-after, IsSchedule-run, Starts, IsLate, IsIn, IsStep, IsLate-before, step_alone, left_alone, left_in_one}
+use Rattle.service_bound.proofs.PostedRuns.{decided, run, All-run, IsSwitch, IsSwitch-after, IsSchedule-run, Starts, IsLate, IsIn, IsStep}
+use Rattle.service_bound.proofs.PostedRuns.{IsLate-before, step_alone, left_alone, left_in_one}
 
 -- a posting of an input and input 0 alone
 abbrev pub plain : ℕ → ℕ → ℕ → Posting
@@ -65,7 +67,8 @@ nearer_standing n from p x e some ahead x_in =
     let at : from ≡ p = e ∙ mod-eq_of_lt (omega arith) in
     subst (λ f. distance n f x ≤ distance n f 0) (sym at) (nearer n p x some ahead x_in)
 
-pub Suits-plain : (n : ℕ) (places : Places) (x y z : ℕ) → (x ≡ 0) ⊎ (distance n (grant_of places 0 0) x ≤ distance n (grant_of places 0 0) 0) → (y ≡ 0) ⊎ (accept_of places x 0 ≡ y) → (z ≡ 0) ⊎ ((0 < x) × (y ≡ z → ⊥)) → Suits n places (plain x y z)
+pub Suits-plain : (n : ℕ) (places : Places) (x y z : ℕ) → (x ≡ 0) ⊎ (distance n (grant_of places 0 0) x ≤ distance n (grant_of places 0 0) 0) → (y ≡ 0)
+    ⊎ (accept_of places x 0 ≡ y) → (z ≡ 0) ⊎ ((0 < x) × (y ≡ z → ⊥)) → Suits n places (plain x y z)
 Suits-plain n places x y z front pointer own =
     let From = grant_of places 0 0 in
     let zero_near : distance n From x ≤ distance n From 0 = elim front [ inl e ↦ let d = ap (distance n From) e in omega arith | inr less ↦ less ] in
@@ -85,15 +88,20 @@ module _ (n rounds : ℕ) (some_rounds : 0 < rounds) where
   abbrev Leaves : ℕ → ℕ → ℕ → Type 0
   Leaves x y z = ((rounds ≡ 1) × ((0 < y) ⊎ (0 < x))) ⊎ (((x ≡ 0) × (0 < y)) ⊎ (0 < z))
 
-  left_plain : (t : ℕ) (places : Places) (x y z : ℕ) → IsSwitch n places → IsIn n (plain x y z) → Suits n places (plain x y z) → IsStep n rounds t places (plain x y z) → Leaves x y z → Serves (decided n rounds t places (plain x y z)).matched 0 0 0 Uni → ⊥
+  left_plain : (t : ℕ) (places : Places) (x y z : ℕ) → IsSwitch n places → IsIn n (plain x y z) → Suits n places (plain x y z)
+      → IsStep n rounds t places (plain x y z) → Leaves x y z → Serves (decided n rounds t places (plain x y z)).matched 0 0 0 Uni → ⊥
   left_plain t places x y z switch ports_in suits step how = elim how [
-    | inl one ↦ subst (λ r. Serves (decided n r t places (plain x y z)).matched 0 0 0 Uni → ⊥) (sym one.0) (left_in_one n t places (plain x y z) switch ports_in suits one.1)
+    | inl one ↦ subst (λ r. Serves (decided n r t places (plain x y z)).matched 0 0 0 Uni → ⊥) (sym one.0)
+        (left_in_one n t places (plain x y z) switch ports_in suits one.1)
     | inr other ↦ left_alone n rounds t places (plain x y z) switch ports_in suits some_rounds step (elim other [ inl a ↦ inl a | inr b ↦ inr (inl b) ])
   ]
 
   -- one slot of going down: input x takes the output that it points at, and input 0 output z
-  pub late_slot : (rest : List Posting) (p low high x a z b t : ℕ) (places : Places) → 0 < a → a < n → x < n → z < n → (x < low) ⊎ (high ≤ x) → (x ≡ 0) ⊎ ((0 < p) × (p ≤ x)) → (z ≡ 0) ⊎ ((0 < x) × (a ≡ z → ⊥) × (0 < low)) → Leaves x a z
-      → IsStanding n places p low high x a b → Starts (λ next. IsPosted next x 0) rest → ((places : Places) → IsStanding n places p low high x (a + 1) b → IsLate n rounds (t + 1) places rest) → IsLate n rounds t places (plain x a z ∷ rest)
+  pub late_slot : (rest : List Posting) (p low high x a z b t : ℕ) (places : Places) → 0 < a → a < n → x < n → z < n → (x < low) ⊎ (high ≤ x) → (x ≡ 0)
+      ⊎ ((0 < p) × (p ≤ x)) → (z ≡ 0) ⊎ ((0 < x) × (a ≡ z → ⊥) × (0 < low)) → Leaves x a z
+      → IsStanding n places p low high x a b → Starts (λ next. IsPosted next x 0) rest
+      → ((places : Places) → IsStanding n places p low high x (a + 1) b → IsLate n rounds (t + 1) places rest)
+      → IsLate n rounds t places (plain x a z ∷ rest)
   late_slot rest p low high x a z b t places some a_in x_in z_in outside front own how standing starts then =
       let it = plain x a z in
       let suits = Suits-plain n places x a z
@@ -116,7 +124,8 @@ module _ (n rounds : ℕ) (some_rounds : 0 < rounds) where
       (then (decided n rounds t places it).places next)
 
   -- Input x goes down, beginning in slot t. All other pointers that matter stay, and queue (0, 0) is not served.
-  pub late_downs : (p low high x b : ℕ) (rest : List Posting) → x < n → (x < low) ⊎ (high ≤ x) → (x ≡ 0) ⊎ ((0 < p) × (p ≤ x)) → (x ≡ 0) ⊎ (rounds ≡ 1) → Starts (λ next. IsPosted next x 0) rest → ((t : ℕ) (places : Places) → IsStanding n places p low high x n b → IsLate n rounds t places rest)
+  pub late_downs : (p low high x b : ℕ) (rest : List Posting) → x < n → (x < low) ⊎ (high ≤ x) → (x ≡ 0) ⊎ ((0 < p) × (p ≤ x)) → (x ≡ 0) ⊎ (rounds ≡ 1)
+      → Starts (λ next. IsPosted next x 0) rest → ((t : ℕ) (places : Places) → IsStanding n places p low high x n b → IsLate n rounds t places rest)
       → (k a t : ℕ) (places : Places) → 0 < a → a + k ≡ n → IsStanding n places p low high x a b → IsLate n rounds t places (downs x a k rest)
   late_downs p low high x b rest x_in outside front how starts then zero a t places some sum standing =
       let e : a ≡ n = omega arith in
@@ -128,10 +137,13 @@ module _ (n rounds : ℕ) (some_rounds : 0 < rounds) where
       (λ places next. late_downs p low high x b rest x_in outside front how starts then k (a + 1) (t + 1) places (omega arith) (omega arith) next)
 
   -- the slot in which output 0 goes beyond input p, and input 0 points at output 2
-  pub late_passes : (rest : List Posting) (p low high a b t : ℕ) (places : Places) → 0 < p → p < n → p < low → IsStanding n places p low high p a b → Starts (λ next. 0 < n) rest → ((places : Places) → IsStanding n places (p + 1) low high 0 2 b → IsLate n rounds (t + 1) places rest) → IsLate n rounds t places (passes p ∷ rest)
+  pub late_passes : (rest : List Posting) (p low high a b t : ℕ) (places : Places) → 0 < p → p < n → p < low → IsStanding n places p low high p a b
+      → Starts (λ next. 0 < n) rest → ((places : Places) → IsStanding n places (p + 1) low high 0 2 b → IsLate n rounds (t + 1) places rest)
+      → IsLate n rounds t places (passes p ∷ rest)
   late_passes rest p low high a b t places some p_in older standing starts then =
       let it = passes p in
-      let suits = Suits-plain n places p 0 1 (inr (nearer_standing n (grant_of places 0 0) p p standing.grant some (omega arith) p_in)) (inl refl) (inr (some, λ e. omega arith)) in
+      let suits = Suits-plain n places p 0 1 (inr (nearer_standing n (grant_of places 0 0) p p standing.grant some (omega arith) p_in)) (inl refl)
+      (inr (some, λ e. omega arith)) in
       let ports_in : IsIn n it = record { input_in = p_in; beside_in = omega arith; own_in = omega arith; other_in = omega arith; output_in = omega arith } in
       let step = step_alone n rounds t places it standing.switch ports_in suits some_rounds (inl refl) in
       let next : IsStanding n (decided n rounds t places it).places (p + 1) low high 0 2 b = record {
@@ -150,7 +162,8 @@ module _ (n rounds : ℕ) (some_rounds : 0 < rounds) where
   -- a slot in which input 0 alone asks output 0, and nothing else
   pub served_last_slot : (t : ℕ) (places : Places) → 0 < n → IsSwitch n places → Serves (decided n rounds t places (lowers 0 0)).matched 0 0 0 Uni
   served_last_slot t places some switch =
-      (step_alone n rounds t places (lowers 0 0) switch (record { input_in = some; beside_in = some; own_in = some; other_in = some; output_in = some }) (Suits-plain n places 0 0 0 (inl refl) (inl refl) (inl refl)) some_rounds (inl refl)).serving.served
+      (step_alone n rounds t places (lowers 0 0) switch (record { input_in = some; beside_in = some; own_in = some; other_in = some; output_in = some })
+      (Suits-plain n places 0 0 0 (inl refl) (inl refl) (inl refl)) some_rounds (inl refl)).serving.served
 
 -- the pointers that the families begin with: output 0 and all inputs point at port 1, or at the only port
 abbrev pub IsBeginning : ℕ → Places → Type 0
@@ -165,12 +178,14 @@ unfolding all_at
 IsTable-all_at place =
     record {
       levels = length-replicate LEVELS (replicate {A = ℕ} MAX_PORTS place);
-      ports = λ level level_in. ap length (get_or-replicate LEVELS level (replicate {A = ℕ} MAX_PORTS place) [] level_in) ∙ length-replicate {A = ℕ} MAX_PORTS place;
+      ports = λ level level_in. ap length (get_or-replicate LEVELS level (replicate {A = ℕ} MAX_PORTS place) [] level_in)
+          ∙ length-replicate {A = ℕ} MAX_PORTS place;
     }
 
 all_at-is : (place level port : ℕ) → level < LEVELS → port < MAX_PORTS → place_of (all_at place) level port ≡ place
 unfolding all_at
-all_at-is place level port level_in port_in = ap (λ row. slice_index row port) (get_or-replicate LEVELS level (replicate {A = ℕ} MAX_PORTS place) [] level_in) ∙ get_or-replicate MAX_PORTS port place 0 port_in
+all_at-is place level port level_in port_in = ap (λ row. slice_index row port) (get_or-replicate LEVELS level (replicate {A = ℕ} MAX_PORTS place) [] level_in)
+    ∙ get_or-replicate MAX_PORTS port place 0 port_in
 
 -- the grant pointers at one port and the accept pointers at another
 pub places_at : ℕ → ℕ → ℕ → Places
@@ -218,7 +233,8 @@ module _ (n : ℕ) (some : 0 < n) (size : n ≤ MAX_PORTS) where
       }
 
 -- What is late from pointers of a switch is a window in which queue (0, 0) is served in the last slot alone.
-pub IsServedLast-run : (n rounds t : ℕ) (places : Places) (ps : List Posting) → IsSwitch n places → IsLate n rounds t places ps → IsServedLast n rounds t 0 0 0 places (run n rounds t places ps)
+pub IsServedLast-run : (n rounds t : ℕ) (places : Places) (ps : List Posting) → IsSwitch n places → IsLate n rounds t places ps
+    → IsServedLast n rounds t 0 0 0 places (run n rounds t places ps)
 IsServedLast-run n rounds t places ps switch late =
     let some : 0 < n = subst (λ m. 0 < m) switch.ports switch.at_ports.some in
     record {

@@ -13,10 +13,12 @@ record IsDistance (n from x d : ℕ) : Type 0 where
   below : x < from → d + from ≡ x + n
 
 pub distance-above : (n from x : ℕ) → from < n → x < n → from ≤ x → distance n from x + from ≡ x
-distance-above n from x f x_in above = let e : (x + (n - from)) % n ≡ x - from = mod_once n (x + (n - from)) (omega arith) (omega arith) ∙ omega arith in rw e (omega arith)
+distance-above n from x f x_in above = let e : (x + (n - from)) % n ≡ x - from = mod_once n (x + (n - from)) (omega arith) (omega arith)
+    ∙ omega arith in rw e (omega arith)
 
 pub distance-below : (n from x : ℕ) → from < n → x < n → x < from → distance n from x + from ≡ x + n
-distance-below n from x f x_in below = let short : x + (n - from) < n = omega arith in let e : (x + (n - from)) % n ≡ x + (n - from) = mod-eq_of_lt short in rw e (omega arith)
+distance-below n from x f x_in below = let short : x + (n - from) < n = omega arith in let e : (x + (n - from)) % n ≡ x + (n - from) = mod-eq_of_lt short in
+    rw e (omega arith)
 
 IsDistance-distance : (n from x : ℕ) → from < n → x < n → IsDistance n from x (distance n from x)
 IsDistance-distance n from x f x_in = record { above = distance-above n from x f x_in; below = distance-below n from x f x_in }
@@ -29,22 +31,26 @@ one_beyond n x x_in =
       | inr long ↦ inr (omega arith, mod_once n (x + 1) long (omega arith) ∙ omega arith)
     ]
 
-passed_by : (n from x y next a b c : ℕ) → from < n → x < n → y < n → IsDistance n from x a → IsDistance n from y b → IsDistance n next y c → a < b → ((x + 1 < n) × (next ≡ x + 1)) ⊎ ((x + 1 ≡ n) × (next ≡ 0)) → c + a + 1 ≡ b
+passed_by : (n from x y next a b c : ℕ) → from < n → x < n → y < n → IsDistance n from x a → IsDistance n from y b → IsDistance n next y c → a < b
+    → ((x + 1 < n) × (next ≡ x + 1)) ⊎ ((x + 1 ≡ n) × (next ≡ 0)) → c + a + 1 ≡ b
 passed_by n from x y next a b c f x_in y_in da db dc less step = grind (arith, da.above, da.below, db.above, db.below, dc.above, dc.below)
 
 -- a pointer that moves one beyond port x comes nearer to a port y farther than x, by all the steps that it moves
-pub distance-passed : (n from x y : ℕ) → from < n → x < n → y < n → distance n from x < distance n from y → distance n ((x + 1) % n) y + distance n from x + 1 ≡ distance n from y
+pub distance-passed : (n from x y : ℕ) → from < n → x < n → y < n → distance n from x < distance n from y
+    → distance n ((x + 1) % n) y + distance n from x + 1 ≡ distance n from y
 distance-passed n from x y f x_in y_in less =
     let step = one_beyond n x x_in in
     let next_in : (x + 1) % n < n = elim step [ inl s ↦ omega (arith, s.0, s.1) | inr s ↦ omega (arith, s.0, s.1) ] in
     passed_by n from x y ((x + 1) % n) (distance n from x) (distance n from y) (distance n ((x + 1) % n) y) f x_in y_in
     (IsDistance-distance n from x f x_in) (IsDistance-distance n from y f y_in) (IsDistance-distance n ((x + 1) % n) y next_in y_in) less step
 
-after_by : (n from x y next a b c : ℕ) → from < n → x < n → y < n → IsDistance n from x a → IsDistance n from y b → IsDistance n next y c → b ≤ a → ((x + 1 < n) × (next ≡ x + 1)) ⊎ ((x + 1 ≡ n) × (next ≡ 0)) → c + a + 1 ≡ b + n
+after_by : (n from x y next a b c : ℕ) → from < n → x < n → y < n → IsDistance n from x a → IsDistance n from y b → IsDistance n next y c → b ≤ a
+    → ((x + 1 < n) × (next ≡ x + 1)) ⊎ ((x + 1 ≡ n) × (next ≡ 0)) → c + a + 1 ≡ b + n
 after_by n from x y next a b c f x_in y_in da db dc less step = grind (arith, da.above, da.below, db.above, db.below, dc.above, dc.below)
 
 -- and a port that is no farther than x then comes after it, at the end of the circle
-pub distance-after : (n from x y : ℕ) → from < n → x < n → y < n → distance n from y ≤ distance n from x → distance n ((x + 1) % n) y + distance n from x + 1 ≡ distance n from y + n
+pub distance-after : (n from x y : ℕ) → from < n → x < n → y < n → distance n from y ≤ distance n from x
+    → distance n ((x + 1) % n) y + distance n from x + 1 ≡ distance n from y + n
 distance-after n from x y f x_in y_in less =
     let step = one_beyond n x x_in in
     let next_in : (x + 1) % n < n = elim step [ inl s ↦ omega (arith, s.0, s.1) | inr s ↦ omega (arith, s.0, s.1) ] in
@@ -69,12 +75,15 @@ reached_by : (n from x y a b c : ℕ) → from < n → x < n → y < n → IsDis
 reached_by n from x y a b c f x_in y_in da db dc less = grind (arith, da.above, da.below, db.above, db.below, dc.above, dc.below)
 
 -- a pointer that moves to a port x comes nearer to a port y no nearer than x, by all the steps that it moves
-pub distance-reached : (n from x y : ℕ) → from < n → x < n → y < n → distance n from x ≤ distance n from y → distance n x y + distance n from x ≡ distance n from y
+pub distance-reached : (n from x y : ℕ) → from < n → x < n → y < n → distance n from x ≤ distance n from y
+    → distance n x y + distance n from x ≡ distance n from y
 distance-reached n from x y f x_in y_in less =
-    reached_by n from x y (distance n from x) (distance n from y) (distance n x y) f x_in y_in (IsDistance-distance n from x f x_in) (IsDistance-distance n from y f y_in) (IsDistance-distance n x y x_in y_in) less
+    reached_by n from x y (distance n from x) (distance n from y) (distance n x y) f x_in y_in (IsDistance-distance n from x f x_in)
+    (IsDistance-distance n from y f y_in) (IsDistance-distance n x y x_in y_in) less
 
 -- the port after port x is one step farther than x, or at the pointer where x is the farthest
-pub distance-next : (n from x : ℕ) → from < n → x < n → (distance n from ((x + 1) % n) ≡ distance n from x + 1) ⊎ ((distance n from ((x + 1) % n) ≡ 0) × (distance n from x + 1 ≡ n))
+pub distance-next : (n from x : ℕ) → from < n → x < n → (distance n from ((x + 1) % n) ≡ distance n from x + 1)
+    ⊎ ((distance n from ((x + 1) % n) ≡ 0) × (distance n from x + 1 ≡ n))
 distance-next n from x f x_in =
     let next_in : (x + 1) % n < n = mod_below (x + 1) n (omega arith) in
     let own = distance-own n ((x + 1) % n) next_in in
@@ -82,7 +91,8 @@ distance-next n from x f x_in =
     let farther = distance-lt n from ((x + 1) % n) f in
     elim (cases_lt (distance n from x) (distance n from ((x + 1) % n))) [
       | inl beyond ↦ let passed = distance-passed n from x ((x + 1) % n) f x_in next_in beyond in inl (omega (arith, passed, own))
-      | inr within ↦ let after = distance-after n from x ((x + 1) % n) f x_in next_in within in inr (omega (arith, after, own, far), omega (arith, after, own, far))
+      | inr within ↦ let after = distance-after n from x ((x + 1) % n) f x_in next_in within in
+          inr (omega (arith, after, own, far), omega (arith, after, own, far))
     ]
 
 -- one beyond a port, that port is the farthest

@@ -19,29 +19,43 @@ use Rattle.service_bound.proofs.AllBelow.{longest_wait-below}
 -- The request of input i for output j has a rank below `bound`, where AsksWithin says of pointers and of the rows posted
 -- next that the input asks and the rank is below a number. The rank falls in each slot that leaves the request, where
 -- the next rows follow the slot's.
-pub record IsFallingWhere (Follows : List Row → List Row → Type 0) (Moves : ℕ → ℕ → List Row → List (Option Fed) → List (Option Fed) → Places → Places → Type 0) (n rounds level i j bound : ℕ) (AsksWithin : Places → ℕ → List Row → Type 0) : Type 0 where
-  pub begins : (t : ℕ) (places : Places) (slot : DecidedSlot) → IsWindowSlotBy Moves n rounds t level places slot → Names (row_of slot.rows i) level Uni j → AsksWithin places bound slot.rows
+pub record IsFallingWhere (Follows : List Row → List Row → Type 0) (Moves : ℕ → ℕ → List Row → List (Option Fed) → List (Option Fed) → Places → Places
+    → Type 0) (n rounds level i j bound : ℕ) (AsksWithin : Places → ℕ → List Row → Type 0) : Type 0 where
+  pub begins : (t : ℕ) (places : Places) (slot : DecidedSlot) → IsWindowSlotBy Moves n rounds t level places slot → Names (row_of slot.rows i) level Uni j
+      → AsksWithin places bound slot.rows
   pub some : (places : Places) (most : ℕ) (rows : List Row) → ArePointing n level places → AreWithin n rows → AsksWithin places most rows → 0 < most
-  pub falls : (t : ℕ) (places : Places) (slot : DecidedSlot) (most : ℕ) → IsWindowSlotBy Moves n rounds t level places slot → IsWithoutMulticast n level slot.rows → (Serves slot.decision.matched i j level Uni → ⊥) → AsksWithin places (most + 1) slot.rows
+  pub falls : (t : ℕ) (places : Places) (slot : DecidedSlot) (most : ℕ) → IsWindowSlotBy Moves n rounds t level places slot
+      → IsWithoutMulticast n level slot.rows → (Serves slot.decision.matched i j level Uni → ⊥) → AsksWithin places (most + 1) slot.rows
       → (later : List Row) → Follows slot.rows later → AskOn n level slot.decision.matched slot.rows later j → AsksWithin slot.decision.places most later
 
-module _ (Follows : List Row → List Row → Type 0) (reflexive : (rows : List Row) → Follows rows rows) (Moves : ℕ → ℕ → List Row → List (Option Fed) → List (Option Fed) → Places → Places → Type 0) (n rounds level i j bound : ℕ) (AsksWithin : Places → ℕ → List Row → Type 0) (keep : KeepPointing Moves n level) (some : 0 < bound) (falling : IsFallingWhere Follows Moves n rounds level i j bound AsksWithin) where
-  module _ (t : ℕ) (places : Places) (slot : DecidedSlot) (slots : List DecidedSlot) (window : IsWindowBy Moves n rounds t level places (slot ∷ slots)) (alone : IsWithoutMulticast n level slot.rows) (left : Serves slot.decision.matched i j level Uni → ⊥) where
+module _ (Follows : List Row → List Row → Type 0) (reflexive : (rows : List Row) → Follows rows rows)
+    (Moves : ℕ → ℕ → List Row → List (Option Fed) → List (Option Fed) → Places → Places → Type 0) (n rounds level i j bound : ℕ)
+    (AsksWithin : Places → ℕ → List Row → Type 0) (keep : KeepPointing Moves n level) (some : 0 < bound)
+    (falling : IsFallingWhere Follows Moves n rounds level i j bound AsksWithin) where
+  module _ (t : ℕ) (places : Places) (slot : DecidedSlot) (slots : List DecidedSlot) (window : IsWindowBy Moves n rounds t level places (slot ∷ slots))
+      (alone : IsWithoutMulticast n level slot.rows) (left : Serves slot.decision.matched i j level Uni → ⊥) where
     -- after a slot that leaves the request the rank is below a lower number
     some_left : (most : ℕ) → AsksWithin places (most + 1) slot.rows → 0 < most
     some_left most asks =
         let now = first_slot_by Moves n rounds t level places slot slots window in
         let later = later_slots_by Moves n rounds t level places slot slots window keep in
-        falling.some slot.decision.places most slot.rows later.pointing now.within (falling.falls t places slot most now alone left asks slot.rows (reflexive slot.rows) (λ x x_in named unserved. named))
+        falling.some slot.decision.places most slot.rows later.pointing now.within
+        (falling.falls t places slot most now alone left asks slot.rows (reflexive slot.rows) (λ x x_in named unserved. named))
 
     -- and the next slot's rows keep the request
     in_next : InFirst (Follows slot.rows) slots → (most : ℕ) → AsksWithin places (most + 1) slot.rows → InFirst (AsksWithin slot.decision.places most) slots
     in_next follow most asks = go slots follow window.kept.0 where
-      go : (rest : List DecidedSlot) → InFirst (Follows slot.rows) rest → InFirst (λ rows. (x : ℕ) → x < n → Keeps slot.decision.matched x (row_of slot.rows x) (row_of rows x)) rest → InFirst (AsksWithin slot.decision.places most) rest
+      go : (rest : List DecidedSlot) → InFirst (Follows slot.rows) rest
+          → InFirst (λ rows. (x : ℕ) → x < n → Keeps slot.decision.matched x (row_of slot.rows x) (row_of rows x)) rest
+          → InFirst (AsksWithin slot.decision.places most) rest
       go [] follow kept = kept
-      go (later ∷ rest) follow kept = falling.falls t places slot most (first_slot_by Moves n rounds t level places slot slots window) alone left asks later.rows follow (λ x x_in named unserved. (kept x x_in).uni level j named unserved)
+      go (later ∷ rest) follow kept =
+          falling.falls t places slot most (first_slot_by Moves n rounds t level places slot slots window) alone left asks later.rows follow
+          (λ x x_in named unserved. (kept x x_in).uni level j named unserved)
 
-  served_by_then : (slots : List DecidedSlot) (t : ℕ) (places : Places) (most : ℕ) → IsWindowBy Moves n rounds t level places slots → All (λ slot. IsWithoutMulticast n level slot.rows) slots → AreFollowing Follows slots → InFirst (AsksWithin places most) slots → 0 < most → most ≤ length slots → Any (λ slot. Serves slot.decision.matched i j level Uni) slots
+  served_by_then : (slots : List DecidedSlot) (t : ℕ) (places : Places) (most : ℕ) → IsWindowBy Moves n rounds t level places slots
+      → All (λ slot. IsWithoutMulticast n level slot.rows) slots → AreFollowing Follows slots → InFirst (AsksWithin places most) slots → 0 < most
+      → most ≤ length slots → Any (λ slot. Serves slot.decision.matched i j level Uni) slots
   served_by_then [] t places most window alone follow asks more short = absurd (omega arith)
   served_by_then (slot ∷ slots) t places zero window alone follow asks more short = absurd (omega arith)
   served_by_then (slot ∷ slots) t places (suc most) window alone follow asks more short =
@@ -54,15 +68,20 @@ module _ (Follows : List Row → List Row → Type 0) (reflexive : (rows : List 
         | inr left ↦
             let alone_here = All-head Without slot slots alone in
             Any-later Served slot slots
-            (served_by_then slots (t + 1) slot.decision.places most (later_slots_by Moves n rounds t level places slot slots window keep) (All-tail Without slot slots alone) follow.1
-            (in_next t places slot slots window alone_here left follow.0 most here) (some_left t places slot slots window alone_here left most here) (omega arith))
+            (served_by_then slots (t + 1) slot.decision.places most (later_slots_by Moves n rounds t level places slot slots window keep)
+            (All-tail Without slot slots alone) follow.1
+            (in_next t places slot slots window alone_here left follow.0 most here) (some_left t places slot slots window alone_here left most here)
+            (omega arith))
       ]
 
   -- as many slots as the bound are enough
-  pub served_where : (t : ℕ) (places : Places) (slots : List DecidedSlot) → IsWindowBy Moves n rounds t level places slots → All (λ slot. IsWithoutMulticast n level slot.rows) slots → AreFollowing Follows slots → InFirst (λ rows. Names (row_of rows i) level Uni j) slots → bound ≤ length slots → Any (λ slot. Serves slot.decision.matched i j level Uni) slots
+  pub served_where : (t : ℕ) (places : Places) (slots : List DecidedSlot) → IsWindowBy Moves n rounds t level places slots
+      → All (λ slot. IsWithoutMulticast n level slot.rows) slots → AreFollowing Follows slots → InFirst (λ rows. Names (row_of rows i) level Uni j) slots
+      → bound ≤ length slots → Any (λ slot. Serves slot.decision.matched i j level Uni) slots
   served_where t places [] window alone follow named long = absurd (omega arith)
   served_where t places (slot ∷ slots) window alone follow named long =
-      served_by_then (slot ∷ slots) t places bound window alone follow (falling.begins t places slot (first_slot_by Moves n rounds t level places slot slots window) named) some long
+      served_by_then (slot ∷ slots) t places bound window alone follow
+      (falling.begins t places slot (first_slot_by Moves n rounds t level places slot slots window) named) some long
 
   -- before these slots the rank leaves room for the wait
   record HasRoom (places : Places) (slots : List DecidedSlot) (wait : ℕ) : Type 0 where
@@ -78,9 +97,11 @@ module _ (Follows : List Row → List Row → Type 0) (reflexive : (rows : List 
   fits : (places : Places) (slots : List DecidedSlot) (wait : ℕ) → IsRoomy places slots wait → wait < bound
   fits places slots wait roomy = elim roomy [ inl none ↦ omega arith | inr has ↦ omega (arith, has.room, has.more) ]
 
-  module _ (t : ℕ) (places : Places) (slot : DecidedSlot) (slots : List DecidedSlot) (window : IsWindowBy Moves n rounds t level places (slot ∷ slots)) (alone : IsWithoutMulticast n level slot.rows) (follow : InFirst (Follows slot.rows) slots) where
+  module _ (t : ℕ) (places : Places) (slot : DecidedSlot) (slots : List DecidedSlot) (window : IsWindowBy Moves n rounds t level places (slot ∷ slots))
+      (alone : IsWithoutMulticast n level slot.rows) (follow : InFirst (Follows slot.rows) slots) where
     -- a slot in which the queue waits takes no more room than the rank falls
-    room_after : (wait most : ℕ) → (Serves slot.decision.matched i j level Uni → ⊥) → 0 < most → most + wait ≤ bound → AsksWithin places most slot.rows → HasRoom slot.decision.places slots (wait + 1)
+    room_after : (wait most : ℕ) → (Serves slot.decision.matched i j level Uni → ⊥) → 0 < most → most + wait ≤ bound → AsksWithin places most slot.rows
+        → HasRoom slot.decision.places slots (wait + 1)
     room_after wait zero left more room asks = absurd (omega arith)
     room_after wait (suc most) left more room asks =
         let e : suc most ≡ most + 1 = omega arith in
@@ -99,35 +120,50 @@ module _ (Follows : List Row → List Row → Type 0) (reflexive : (rows : List 
           | inr none ↦ inl none
           | inl waits ↦
               rw waits.2 (inr (elim roomy [
-                | inl none ↦ room_after wait bound waits.1 some (omega arith) (falling.begins t places slot (first_slot_by Moves n rounds t level places slot slots window) waits.0)
+                | inl none ↦ room_after wait bound waits.1 some (omega arith)
+                    (falling.begins t places slot (first_slot_by Moves n rounds t level places slot slots window) waits.0)
                 | inr has ↦ room_after wait has.most waits.1 has.more has.room has.asks
               ]))
         ]
 
-  waits_fit : (slots : List DecidedSlot) (t : ℕ) (places : Places) (wait : ℕ) → IsWindowBy Moves n rounds t level places slots → All (λ slot. IsWithoutMulticast n level slot.rows) slots → AreFollowing Follows slots → IsRoomy places slots wait → All (λ w. w < bound) (waits_from wait (map noted_of slots) i j level)
+  waits_fit : (slots : List DecidedSlot) (t : ℕ) (places : Places) (wait : ℕ) → IsWindowBy Moves n rounds t level places slots
+      → All (λ slot. IsWithoutMulticast n level slot.rows) slots → AreFollowing Follows slots → IsRoomy places slots wait
+      → All (λ w. w < bound) (waits_from wait (map noted_of slots) i j level)
   waits_fit [] t places wait window alone follow roomy = All-nil (λ w. w < bound)
   waits_fit (slot ∷ slots) t places wait window alone follow roomy =
       let Without : DecidedSlot → Type 0 = λ s. IsWithoutMulticast n level s.rows in
       let next = wait_in (noted_of slot) wait i j level in
       let on = roomy_after t places slot slots window (All-head Without slot slots alone) follow.0 wait roomy in
       All-cons (λ w. w < bound) next (waits_from next (map noted_of slots) i j level) (fits slot.decision.places slots next on)
-      (waits_fit slots (t + 1) slot.decision.places next (later_slots_by Moves n rounds t level places slot slots window keep) (All-tail Without slot slots alone) follow.1 on)
+      (waits_fit slots (t + 1) slot.decision.places next (later_slots_by Moves n rounds t level places slot slots window keep)
+      (All-tail Without slot slots alone) follow.1 on)
 
   -- no wait of the request reaches the bound
-  pub waits_where : (t : ℕ) (places : Places) (slots : List DecidedSlot) → IsWindowBy Moves n rounds t level places slots → All (λ slot. IsWithoutMulticast n level slot.rows) slots → AreFollowing Follows slots → All (λ w. w < bound) (waits_from 0 (map noted_of slots) i j level)
+  pub waits_where : (t : ℕ) (places : Places) (slots : List DecidedSlot) → IsWindowBy Moves n rounds t level places slots
+      → All (λ slot. IsWithoutMulticast n level slot.rows) slots → AreFollowing Follows slots
+      → All (λ w. w < bound) (waits_from 0 (map noted_of slots) i j level)
   waits_where t places slots window alone follow = waits_fit slots t places 0 window alone follow (inl refl)
 
 -- and where each request has such a rank, the longest of all is below the bound
-pub longest_where : (Follows : List Row → List Row → Type 0) → ((rows : List Row) → Follows rows rows) → (Moves : ℕ → ℕ → List Row → List (Option Fed) → List (Option Fed) → Places → Places → Type 0) (n rounds t level bound : ℕ) (AsksWithin : ℕ → ℕ → Places → ℕ → List Row → Type 0) (places : Places) (slots : List DecidedSlot) → KeepPointing Moves n level → 0 < bound → ((i j : ℕ) → i < n → IsFallingWhere Follows Moves n rounds level i j bound (AsksWithin i j))
-    → IsWindowBy Moves n rounds t level places slots → All (λ slot. IsWithoutMulticast n level slot.rows) slots → AreFollowing Follows slots → longest_wait n level (map noted_of slots) < bound
+pub longest_where : (Follows : List Row → List Row → Type 0) → ((rows : List Row) → Follows rows rows)
+    → (Moves : ℕ → ℕ → List Row → List (Option Fed) → List (Option Fed) → Places → Places → Type 0) (n rounds t level bound : ℕ)
+    (AsksWithin : ℕ → ℕ → Places → ℕ → List Row → Type 0) (places : Places) (slots : List DecidedSlot) → KeepPointing Moves n level → 0 < bound
+    → ((i j : ℕ) → i < n → IsFallingWhere Follows Moves n rounds level i j bound (AsksWithin i j))
+    → IsWindowBy Moves n rounds t level places slots → All (λ slot. IsWithoutMulticast n level slot.rows) slots → AreFollowing Follows slots
+    → longest_wait n level (map noted_of slots) < bound
 longest_where Follows reflexive Moves n rounds t level bound AsksWithin places slots keep some falling window alone follow =
-    longest_wait-below n level bound (map noted_of slots) some (λ i j i_in j_in. waits_where Follows reflexive Moves n rounds level i j bound (AsksWithin i j) keep some (falling i j i_in) t places slots window alone follow)
+    longest_wait-below n level bound (map noted_of slots) some
+    (λ i j i_in j_in. waits_where Follows reflexive Moves n rounds level i j bound (AsksWithin i j) keep some
+    (falling i j i_in) t places slots window alone follow)
 
 -- the same where any rows may come next
-pub record IsFalling (Moves : ℕ → ℕ → List Row → List (Option Fed) → List (Option Fed) → Places → Places → Type 0) (n rounds level i j bound : ℕ) (AsksWithin : Places → ℕ → List Row → Type 0) : Type 0 where
-  pub begins : (t : ℕ) (places : Places) (slot : DecidedSlot) → IsWindowSlotBy Moves n rounds t level places slot → Names (row_of slot.rows i) level Uni j → AsksWithin places bound slot.rows
+pub record IsFalling (Moves : ℕ → ℕ → List Row → List (Option Fed) → List (Option Fed) → Places → Places → Type 0) (n rounds level i j bound : ℕ)
+    (AsksWithin : Places → ℕ → List Row → Type 0) : Type 0 where
+  pub begins : (t : ℕ) (places : Places) (slot : DecidedSlot) → IsWindowSlotBy Moves n rounds t level places slot → Names (row_of slot.rows i) level Uni j
+      → AsksWithin places bound slot.rows
   pub some : (places : Places) (most : ℕ) (rows : List Row) → ArePointing n level places → AreWithin n rows → AsksWithin places most rows → 0 < most
-  pub falls : (t : ℕ) (places : Places) (slot : DecidedSlot) (most : ℕ) → IsWindowSlotBy Moves n rounds t level places slot → IsWithoutMulticast n level slot.rows → (Serves slot.decision.matched i j level Uni → ⊥) → AsksWithin places (most + 1) slot.rows
+  pub falls : (t : ℕ) (places : Places) (slot : DecidedSlot) (most : ℕ) → IsWindowSlotBy Moves n rounds t level places slot
+      → IsWithoutMulticast n level slot.rows → (Serves slot.decision.matched i j level Uni → ⊥) → AsksWithin places (most + 1) slot.rows
       → (later : List Row) → AskOn n level slot.decision.matched slot.rows later j → AsksWithin slot.decision.places most later
 
 abbrev AnyFollow : List Row → List Row → Type 0
@@ -141,7 +177,9 @@ any_follow : (slots : List DecidedSlot) → AreFollowing AnyFollow slots
 any_follow [] = tt
 any_follow (slot ∷ slots) = (any_first slot.rows slots, any_follow slots)
 
-falling_anyhow : (Moves : ℕ → ℕ → List Row → List (Option Fed) → List (Option Fed) → Places → Places → Type 0) (n rounds level i j bound : ℕ) (AsksWithin : Places → ℕ → List Row → Type 0) → IsFalling Moves n rounds level i j bound AsksWithin → IsFallingWhere AnyFollow Moves n rounds level i j bound AsksWithin
+falling_anyhow : (Moves : ℕ → ℕ → List Row → List (Option Fed) → List (Option Fed) → Places → Places → Type 0) (n rounds level i j bound : ℕ)
+    (AsksWithin : Places → ℕ → List Row → Type 0) → IsFalling Moves n rounds level i j bound AsksWithin
+    → IsFallingWhere AnyFollow Moves n rounds level i j bound AsksWithin
 falling_anyhow Moves n rounds level i j bound AsksWithin falling =
     record {
       begins = falling.begins;
@@ -150,13 +188,21 @@ falling_anyhow Moves n rounds level i j bound AsksWithin falling =
     }
 
 -- as many slots as the bound are enough
-pub served_by_falling : (Moves : ℕ → ℕ → List Row → List (Option Fed) → List (Option Fed) → Places → Places → Type 0) (n rounds level i j bound : ℕ) (AsksWithin : Places → ℕ → List Row → Type 0) → KeepPointing Moves n level → 0 < bound → IsFalling Moves n rounds level i j bound AsksWithin → (t : ℕ) (places : Places) (slots : List DecidedSlot) → IsWindowBy Moves n rounds t level places slots → All (λ slot. IsWithoutMulticast n level slot.rows) slots → InFirst (λ rows. Names (row_of rows i) level Uni j) slots
+pub served_by_falling : (Moves : ℕ → ℕ → List Row → List (Option Fed) → List (Option Fed) → Places → Places → Type 0) (n rounds level i j bound : ℕ)
+    (AsksWithin : Places → ℕ → List Row → Type 0) → KeepPointing Moves n level → 0 < bound → IsFalling Moves n rounds level i j bound AsksWithin
+    → (t : ℕ) (places : Places) (slots : List DecidedSlot) → IsWindowBy Moves n rounds t level places slots
+    → All (λ slot. IsWithoutMulticast n level slot.rows) slots → InFirst (λ rows. Names (row_of rows i) level Uni j) slots
     → bound ≤ length slots → Any (λ slot. Serves slot.decision.matched i j level Uni) slots
 served_by_falling Moves n rounds level i j bound AsksWithin keep some falling t places slots window alone =
-    served_where AnyFollow (λ rows. tt) Moves n rounds level i j bound AsksWithin keep some (falling_anyhow Moves n rounds level i j bound AsksWithin falling) t places slots window alone (any_follow slots)
+    served_where AnyFollow (λ rows. tt) Moves n rounds level i j bound AsksWithin keep some
+    (falling_anyhow Moves n rounds level i j bound AsksWithin falling) t places slots window alone (any_follow slots)
 
 -- and no wait reaches it
-pub longest_by_falling : (Moves : ℕ → ℕ → List Row → List (Option Fed) → List (Option Fed) → Places → Places → Type 0) (n rounds t level bound : ℕ) (AsksWithin : ℕ → ℕ → Places → ℕ → List Row → Type 0) (places : Places) (slots : List DecidedSlot) → KeepPointing Moves n level → 0 < bound → ((i j : ℕ) → i < n → IsFalling Moves n rounds level i j bound (AsksWithin i j))
-    → IsWindowBy Moves n rounds t level places slots → All (λ slot. IsWithoutMulticast n level slot.rows) slots → longest_wait n level (map noted_of slots) < bound
+pub longest_by_falling : (Moves : ℕ → ℕ → List Row → List (Option Fed) → List (Option Fed) → Places → Places → Type 0) (n rounds t level bound : ℕ)
+    (AsksWithin : ℕ → ℕ → Places → ℕ → List Row → Type 0) (places : Places) (slots : List DecidedSlot) → KeepPointing Moves n level → 0 < bound
+    → ((i j : ℕ) → i < n → IsFalling Moves n rounds level i j bound (AsksWithin i j))
+    → IsWindowBy Moves n rounds t level places slots → All (λ slot. IsWithoutMulticast n level slot.rows) slots
+    → longest_wait n level (map noted_of slots) < bound
 longest_by_falling Moves n rounds t level bound AsksWithin places slots keep some falling window alone =
-    longest_where AnyFollow (λ rows. tt) Moves n rounds t level bound AsksWithin places slots keep some (λ i j i_in. falling_anyhow Moves n rounds level i j bound (AsksWithin i j) (falling i j i_in)) window alone (any_follow slots)
+    longest_where AnyFollow (λ rows. tt) Moves n rounds t level bound AsksWithin places slots keep some
+    (λ i j i_in. falling_anyhow Moves n rounds level i j bound (AsksWithin i j) (falling i j i_in)) window alone (any_follow slots)

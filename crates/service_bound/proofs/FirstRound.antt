@@ -21,23 +21,27 @@ pub record IsFirstKind (n t : ℕ) (rows : List Row) (level : ℕ) (kind : Kind)
 
 -- all inputs are free, so what is asked is asked by the rows
 pub asks_at_first : (n : ℕ) (rows : List Row) (i j level : ℕ) (kind : Kind) → Requests rows (unmatched n) i j level kind → Asks (row_of rows i) j level kind
-asks_at_first n rows i j level kind r = elim r [ inl free ↦ free.1 | inr on ↦ let some = on.going_on.some in absurd (nobody_at_first n i some.0 level _ some.1) ]
+asks_at_first n rows i j level kind r =
+    elim r [ inl free ↦ free.1 | inr on ↦ let some = on.going_on.some in absurd (nobody_at_first n i some.0 level _ some.1) ]
 
 module _ (n t : ℕ) (rows : List Row) (places : Places) (level : ℕ) (level_in : level < LEVELS) (clean : IsClean n level rows) where
   -- what is named at the level is asked
   asked : (i j : ℕ) (kind : Kind) → i < n → Names (row_of rows i) level kind j → Requests rows (unmatched n) i j level kind
-  asked i j kind i_in named = inl (nobody_at_first n i, record { level_in = level_in; named = named; best = λ better other less there. clean i better j other i_in less there })
+  asked i j kind i_in named =
+      inl (nobody_at_first n i, record { level_in = level_in; named = named; best = λ better other less there. clean i better j other i_in less there })
 
   -- and nothing is asked at a better one
   not_better : (i j other : ℕ) (kind : Kind) → i < n → Requests rows (unmatched n) i j other kind → level ≤ other
-  not_better i j other kind i_in r = elim (cases_lt other level) [ inl better ↦ absurd (clean i other j kind i_in better (asks_at_first n rows i j other kind r).named) | inr worse ↦ worse ]
+  not_better i j other kind i_in r =
+      elim (cases_lt other level) [ inl better ↦ absurd (clean i other j kind i_in better (asks_at_first n rows i j other kind r).named) | inr worse ↦ worse ]
 
   named_iff_asked : (kind : Kind) (j i : ℕ) → i < n → Names (row_of rows i) level kind j ↔ Requests rows (unmatched n) i j level kind
   named_iff_asked kind j i i_in = (λ named. asked i j kind i_in named, λ r. (asks_at_first n rows i j level kind r).named)
 
   module _ (kind : Kind) (first_kind : IsFirstKind n t rows level kind) where
     -- an output grants the first input from its pointer on that names it
-    pub grants_first : (i j : ℕ) → j < n → IsFirstFrom n (from_of places j level kind) (λ x. Names (row_of rows x) level kind j) i → Grants n t rows places (unmatched n) i j level kind
+    pub grants_first : (i j : ℕ) → j < n → IsFirstFrom n (from_of places j level kind) (λ x. Names (row_of rows x) level kind j) i
+        → Grants n t rows places (unmatched n) i j level kind
     grants_first i j j_in first =
         record {
           output_in = j_in;
@@ -47,27 +51,32 @@ module _ (n t : ℕ) (rows : List Row) (places : Places) (level : ℕ) (level_in
             least = λ other also some. not_better some.0 j other also some.1 some.2;
             preferred_first = λ some. first_kind.preferred_first some.0 j some.1 (asks_at_first n rows some.0 j level (preferred t) some.2).named;
           };
-          first = IsFirstFrom-along n (from_of places j level kind) (λ x. Names (row_of rows x) level kind j) (λ x. Requests rows (unmatched n) x j level kind) i (named_iff_asked kind j) first;
+          first = IsFirstFrom-along n (from_of places j level kind) (λ x. Names (row_of rows x) level kind j)
+              (λ x. Requests rows (unmatched n) x j level kind) i (named_iff_asked kind j) first;
         }
 
     -- and no other
-    pub first_granted : (i j : ℕ) → Grants n t rows places (unmatched n) i j level kind → IsFirstFrom n (from_of places j level kind) (λ x. Names (row_of rows x) level kind j) i
+    pub first_granted : (i j : ℕ) → Grants n t rows places (unmatched n) i j level kind
+        → IsFirstFrom n (from_of places j level kind) (λ x. Names (row_of rows x) level kind j) i
     first_granted i j granted =
         IsFirstFrom-along n (from_of places j level kind) (λ x. Requests rows (unmatched n) x j level kind) (λ x. Names (row_of rows x) level kind j) i
         (λ x x_in. ((named_iff_asked kind j x x_in).1, (named_iff_asked kind j x x_in).0)) granted.first
 
     -- an input that is granted at the level accepts there
-    pub accepts_there : (i j : ℕ) → Grants n t rows places (unmatched n) i j level kind → IsBest t (λ m k. (y : ℕ) × Grants n t rows places (unmatched n) i y m k) level kind
+    pub accepts_there : (i j : ℕ) → Grants n t rows places (unmatched n) i j level kind
+        → IsBest t (λ m k. (y : ℕ) × Grants n t rows places (unmatched n) i y m k) level kind
     accepts_there i j granted =
         record {
           there = (j, granted);
           least = λ other also some. let first = some.1.first in not_better i some.0 other also first.below first.member;
-          preferred_first = λ some. let first = some.1.first in first_kind.preferred_first i some.0 first.below (asks_at_first n rows i some.0 level (preferred t) first.member).named;
+          preferred_first = λ some. let first = some.1.first in
+              first_kind.preferred_first i some.0 first.below (asks_at_first n rows i some.0 level (preferred t) first.member).named;
         }
 
     pub Grants-decides : (i j : ℕ) → from_of places j level kind < n → j < n → Decides (Grants n t rows places (unmatched n) i j level kind)
     Grants-decides i j from_in j_in =
-        elim (IsFirstFrom-decides n (from_of places j level kind) (λ x. Names (row_of rows x) level kind j) (λ x. Names-decides (row_of rows x) level kind j) from_in i) [
+        elim (IsFirstFrom-decides n (from_of places j level kind) (λ x. Names (row_of rows x) level kind j)
+        (λ x. Names-decides (row_of rows x) level kind j) from_in i) [
           | inl first ↦ inl (grants_first i j j_in first)
           | inr other ↦ inr (λ granted. other (first_granted i j granted))
         ]

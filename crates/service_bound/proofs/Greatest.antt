@@ -38,20 +38,25 @@ greatest-has f n k below = greatest-has_from f 0 n k (omega arith) (omega arith)
 
 pub greatest-same : (f g : ℕ → ℕ) (n : ℕ) → ((k : ℕ) → k < n → f k ≡ g k) → greatest (map f (range_with_len 0 n)) ≡ greatest (map g (range_with_len 0 n))
 greatest-same f g n same =
-    let up = greatest-within f n (greatest (map g (range_with_len 0 n))) (λ k below. let has = greatest-has g n k below in let e = same k below in omega arith) in
-    let down = greatest-within g n (greatest (map f (range_with_len 0 n))) (λ k below. let has = greatest-has f n k below in let e = same k below in omega arith) in
+    let up = greatest-within f n (greatest (map g (range_with_len 0 n)))
+    (λ k below. let has = greatest-has g n k below in let e = same k below in omega arith) in
+    let down = greatest-within g n (greatest (map f (range_with_len 0 n)))
+    (λ k below. let has = greatest-has f n k below in let e = same k below in omega arith) in
     omega arith
 
 -- the greatest of the pairs' greater is the greater of the greatest
-pub greatest-max : (f g h : ℕ → ℕ) (n : ℕ) → ((k : ℕ) → k < n → h k ≡ max (f k) (g k)) → max (greatest (map f (range_with_len 0 n))) (greatest (map g (range_with_len 0 n))) ≡ greatest (map h (range_with_len 0 n))
+pub greatest-max : (f g h : ℕ → ℕ) (n : ℕ) → ((k : ℕ) → k < n → h k ≡ max (f k) (g k))
+    → max (greatest (map f (range_with_len 0 n))) (greatest (map g (range_with_len 0 n))) ≡ greatest (map h (range_with_len 0 n))
 greatest-max f g h n is =
     let fs = greatest-within f n (greatest (map h (range_with_len 0 n))) (λ k below. let has = greatest-has h n k below in let e = is k below in omega arith) in
     let gs = greatest-within g n (greatest (map h (range_with_len 0 n))) (λ k below. let has = greatest-has h n k below in let e = is k below in omega arith) in
-    let hs = greatest-within h n (max (greatest (map f (range_with_len 0 n))) (greatest (map g (range_with_len 0 n)))) (λ k below. let hf = greatest-has f n k below in let hg = greatest-has g n k below in let e = is k below in omega arith) in
+    let hs = greatest-within h n (max (greatest (map f (range_with_len 0 n))) (greatest (map g (range_with_len 0 n))))
+    (λ k below. let hf = greatest-has f n k below in let hg = greatest-has g n k below in let e = is k below in omega arith) in
     omega arith
 
 -- what is 0 from n on adds nothing
-pub greatest-beyond : (f : ℕ → ℕ) (n m : ℕ) → n ≤ m → ((k : ℕ) → n ≤ k → f k ≡ 0) → greatest (map f (range_with_len 0 m)) ≡ greatest (map f (range_with_len 0 n))
+pub greatest-beyond : (f : ℕ → ℕ) (n m : ℕ) → n ≤ m → ((k : ℕ) → n ≤ k → f k ≡ 0)
+    → greatest (map f (range_with_len 0 m)) ≡ greatest (map f (range_with_len 0 n))
 greatest-beyond f n m more none =
     let up = greatest-within f m (greatest (map f (range_with_len 0 n))) (λ k below. elim (cases_lt k n) [
       | inl inside ↦ greatest-has f n k inside

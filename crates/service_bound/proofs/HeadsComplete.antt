@@ -31,19 +31,24 @@ slots_to_go n level places t i = 2 * distance n (shared_of places level) i + (t 
 odd_prefers : (t : ℕ) → t % 2 ≡ 1 → preferred t ≡ Multi
 odd_prefers t odd = rw odd refl
 
-module _ (n t level : ℕ) (rows : List Row) (first matched : List (Option Fed)) (before after : Places) (level_in : level < LEVELS) (begins : BeginsWith n t rows before first matched) (moved : IsPassed n rows matched before after level) (pointing : ArePointing n level before) (clean : IsClean n level rows) (within : AreWithin n rows) where
+module _ (n t level : ℕ) (rows : List Row) (first matched : List (Option Fed)) (before after : Places) (level_in : level < LEVELS)
+    (begins : BeginsWith n t rows before first matched) (moved : IsPassed n rows matched before after level) (pointing : ArePointing n level before)
+    (clean : IsClean n level rows) (within : AreWithin n rows) where
   -- in an odd slot every output of the first head from the shared pointer on grants that head, and it accepts them all
   first_completes : t % 2 ≡ 1 → (p : ℕ) → IsFirstFrom n (shared_of before level) (HasHead rows level) p → Completes rows matched level p
   first_completes odd p head y named =
       let y_in = within.ports p head.below level y Multi named in
       let multicast_first : IsFirstKind n t rows level Multi = record { preferred_first = λ i j i_in there. sym (odd_prefers t odd) } in
-      let granted = grants_first n t rows before level level_in clean Multi multicast_first p y y_in (record { below = head.below; member = named; least = λ z z_in there. head.least z z_in (y, there) }) in
-      let accepted : Accepts n t rows before (unmatched n) p y level Multi = record { best = accepts_there n t rows before level level_in clean Multi multicast_first p y granted; taken = granted } in
+      let granted = grants_first n t rows before level level_in clean Multi multicast_first p y y_in
+      (record { below = head.below; member = named; least = λ z z_in there. head.least z z_in (y, there) }) in
+      let accepted : Accepts n t rows before (unmatched n) p y level Multi =
+      record { best = accepts_there n t rows before level level_in clean Multi multicast_first p y granted; taken = granted } in
       begins.stays p y level Multi ((begins.opening.pairs p y level Multi).1 (inr accepted))
 
   module _ (i : ℕ) (i_in : i < n) (waits : HasHead rows level i) (left : Completes rows matched level i → ⊥) where
     -- past another head, the shared pointer is nearer to the waiting one
-    nearer_past : (p : ℕ) → IsFirstFrom n (shared_of before level) (HasHead rows level) p → Completes rows matched level p → distance n (shared_of after level) i < distance n (shared_of before level) i
+    nearer_past : (p : ℕ) → IsFirstFrom n (shared_of before level) (HasHead rows level) p → Completes rows matched level p
+        → distance n (shared_of after level) i < distance n (shared_of before level) i
     nearer_past p head done =
         let at_most = head.least i i_in waits in
         let apart : distance n (shared_of before level) p ≡ distance n (shared_of before level) i → ⊥ =
@@ -57,7 +62,8 @@ module _ (n t level : ℕ) (rows : List Row) (first matched : List (Option Fed))
           | inl passed ↦ let nearer = nearer_past passed.0 passed.1 passed.2 in omega arith
           | inr none ↦
               let even : t % 2 ≡ 0 = elim (cases_eq (t % 2) 1) [
-                | inl odd ↦ let head = first_head n level rows before within pointing i i_in waits in absurd (none head.0 head.1 (first_completes odd head.0 head.1))
+                | inl odd ↦ let head = first_head n level rows before within pointing i i_in waits in
+                    absurd (none head.0 head.1 (first_completes odd head.0 head.1))
                 | inr other ↦ omega arith
               ] in
               rw (moved.stays none) (omega arith)
@@ -65,21 +71,28 @@ module _ (n t level : ℕ) (rows : List Row) (first matched : List (Option Fed))
 
 -- where pointers move so, the shared pointer of the level moves one beyond the first head from it on, if that completes
 abbrev pub PassHeads : (ℕ → ℕ → List Row → List (Option Fed) → List (Option Fed) → Places → Places → Type 0) → ℕ → ℕ → Type 0
-PassHeads Moves n level = (t : ℕ) (rows : List Row) (first matched : List (Option Fed)) (before after : Places) → Moves n t rows first matched before after → IsPassed n rows matched before after level
+PassHeads Moves n level = (t : ℕ) (rows : List Row) (first matched : List (Option Fed)) (before after : Places) → Moves n t rows first matched before after
+    → IsPassed n rows matched before after level
 
 -- those of iSLIP do
 pub AreMoved-pass : (n level : ℕ) → PassHeads AreMoved n level
 AreMoved-pass n level t rows first matched before after moved = record { passed = λ p. moved.passed p level; stays = moved.shared_stays level }
 
-module _ (Moves : ℕ → ℕ → List Row → List (Option Fed) → List (Option Fed) → Places → Places → Type 0) (n rounds level i : ℕ) (keep : KeepPointing Moves n level) (pass : PassHeads Moves n level) (some : 0 < rounds) (i_in : i < n) where
-  fewer_in_slot : (t : ℕ) (places : Places) (slot : DecidedSlot) → IsWindowSlotBy Moves n rounds t level places slot → HasHead slot.rows level i → (Completes slot.rows slot.decision.matched level i → ⊥) → slots_to_go n level slot.decision.places (t + 1) i + 1 ≤ slots_to_go n level places t i
+module _ (Moves : ℕ → ℕ → List Row → List (Option Fed) → List (Option Fed) → Places → Places → Type 0) (n rounds level i : ℕ)
+    (keep : KeepPointing Moves n level) (pass : PassHeads Moves n level) (some : 0 < rounds) (i_in : i < n) where
+  fewer_in_slot : (t : ℕ) (places : Places) (slot : DecidedSlot) → IsWindowSlotBy Moves n rounds t level places slot → HasHead slot.rows level i
+      → (Completes slot.rows slot.decision.matched level i → ⊥) → slots_to_go n level slot.decision.places (t + 1) i + 1 ≤ slots_to_go n level places t i
   fewer_in_slot t places slot now waits left =
-      fewer_to_go n t level slot.rows (first_of n now.decided.steps) slot.decision.matched places slot.decision.places (now.within.levels i i_in level waits.0 Multi waits.1)
+      fewer_to_go n t level slot.rows (first_of n now.decided.steps) slot.decision.matched places slot.decision.places
+      (now.within.levels i i_in level waits.0 Multi waits.1)
       (BeginsWith-slot n t slot.rows places Moves rounds slot.decision some now.decided)
-      (pass t slot.rows (first_of n now.decided.steps) slot.decision.matched places slot.decision.places now.decided.moved) now.pointing now.clean now.within i i_in waits left
+      (pass t slot.rows (first_of n now.decided.steps) slot.decision.matched places slot.decision.places now.decided.moved) now.pointing now.clean now.within
+          i i_in waits left
 
   -- it completes in one of these slots, where they are more than it has to go
-  completes_by_then : (slots : List DecidedSlot) (t : ℕ) (places : Places) → IsWindowBy Moves n rounds t level places slots → InFirst (λ rows. HasHead rows level i) slots → slots_to_go n level places t i < length slots → Any (λ slot. HasHead slot.rows level i × Completes slot.rows slot.decision.matched level i) slots
+  completes_by_then : (slots : List DecidedSlot) (t : ℕ) (places : Places) → IsWindowBy Moves n rounds t level places slots
+      → InFirst (λ rows. HasHead rows level i) slots → slots_to_go n level places t i < length slots
+      → Any (λ slot. HasHead slot.rows level i × Completes slot.rows slot.decision.matched level i) slots
   completes_by_then [] t places window waits short = absurd (omega arith)
   completes_by_then (slot ∷ slots) t places window waits short =
       let Done : DecidedSlot → Type 0 = λ s. HasHead s.rows level i × Completes s.rows s.decision.matched level i in
@@ -91,18 +104,22 @@ module _ (Moves : ℕ → ℕ → List Row → List (Option Fed) → List (Optio
             let Keeping : List Row → Type 0 = λ rows. (x : ℕ) → x < n → Keeps slot.decision.matched x (row_of slot.rows x) (row_of rows x) in
             Any-later Done slot slots
             (completes_by_then slots (t + 1) slot.decision.places (later_slots_by Moves n rounds t level places slot slots window keep)
-            (InFirst-along Keeping (λ rows. HasHead rows level i) (λ rows keeps. (rest.0, ((keeps i i_in).multi level rest.0 rest.1 rest.2 rest.0).1 (rest.1, rest.2))) slots window.kept.0)
+            (InFirst-along Keeping (λ rows. HasHead rows level i)
+            (λ rows keeps. (rest.0, ((keeps i i_in).multi level rest.0 rest.1 rest.2 rest.0).1 (rest.1, rest.2))) slots window.kept.0)
             (omega (arith, fewer)))
       ]
 
 -- 2 * n slots are enough
-pub completes_by : (Moves : ℕ → ℕ → List Row → List (Option Fed) → List (Option Fed) → Places → Places → Type 0) (n rounds t level i : ℕ) (places : Places) (slots : List DecidedSlot) → KeepPointing Moves n level → PassHeads Moves n level → 0 < rounds → i < n → IsWindowBy Moves n rounds t level places slots → InFirst (λ rows. HasHead rows level i) slots
+pub completes_by : (Moves : ℕ → ℕ → List Row → List (Option Fed) → List (Option Fed) → Places → Places → Type 0) (n rounds t level i : ℕ) (places : Places)
+    (slots : List DecidedSlot) → KeepPointing Moves n level → PassHeads Moves n level → 0 < rounds → i < n → IsWindowBy Moves n rounds t level places slots
+    → InFirst (λ rows. HasHead rows level i) slots
     → 2 * n ≤ length slots → Any (λ slot. HasHead slot.rows level i × Completes slot.rows slot.decision.matched level i) slots
 completes_by Moves n rounds t level i places slots keep pass some i_in window waits long =
     let near = distance-lt n (shared_of places level) i window.pointing.shared in
     completes_by_then Moves n rounds level i keep pass some i_in slots t places window waits (omega (arith, near))
 
 -- where pointers move as those of iSLIP do
-pub completes_in_time : (n rounds t level i : ℕ) (places : Places) (slots : List DecidedSlot) → 0 < rounds → i < n → IsWindow n rounds t level places slots → InFirst (λ rows. HasHead rows level i) slots
+pub completes_in_time : (n rounds t level i : ℕ) (places : Places) (slots : List DecidedSlot) → 0 < rounds → i < n → IsWindow n rounds t level places slots
+    → InFirst (λ rows. HasHead rows level i) slots
     → 2 * n ≤ length slots → Any (λ slot. HasHead slot.rows level i × Completes slot.rows slot.decision.matched level i) slots
 completes_in_time n rounds t level i places slots = completes_by AreMoved n rounds t level i places slots (AreMoved-keep n level) (AreMoved-pass n level)

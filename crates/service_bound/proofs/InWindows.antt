@@ -25,12 +25,14 @@ InFirst-along P Q f (slot ∷ slots) there = f slot.rows there
 
 -- each of these rows names output j where it was named and not served
 abbrev pub AskOn : ℕ → ℕ → List (Option Fed) → List Row → List Row → ℕ → Type 0
-AskOn n level matched rows later j = (x : ℕ) → x < n → Names (row_of rows x) level Uni j → (Serves matched x j level Uni → ⊥) → Names (row_of later x) level Uni j
+AskOn n level matched rows later j = (x : ℕ) → x < n → Names (row_of rows x) level Uni j → (Serves matched x j level Uni → ⊥)
+    → Names (row_of later x) level Uni j
 
 -- where pointers move so, those of the level are at ports again after a slot
 abbrev pub KeepPointing : (ℕ → ℕ → List Row → List (Option Fed) → List (Option Fed) → Places → Places → Type 0) → ℕ → ℕ → Type 0
 KeepPointing Moves n level =
-    (t : ℕ) (rows : List Row) (first matched : List (Option Fed)) (before after : Places) → length first ≡ n → AreWithin n rows → ArePointing n level before → Moves n t rows first matched before after → ArePointing n level after
+    (t : ℕ) (rows : List Row) (first matched : List (Option Fed)) (before after : Places) → length first ≡ n → AreWithin n rows → ArePointing n level before
+    → Moves n t rows first matched before after → ArePointing n level after
 
 -- those of iSLIP do
 pub AreMoved-keep : (n level : ℕ) → KeepPointing AreMoved n level
@@ -47,9 +49,11 @@ module _ (Moves : ℕ → ℕ → List Row → List (Option Fed) → List (Optio
 
   module _ (n rounds t level : ℕ) (places : Places) (slot : DecidedSlot) where
     -- after it the pointers of the level are at ports
-    pub pointing_by : KeepPointing Moves n level → ArePointing n level places → AreWithin n slot.rows → IsSlotBy Moves n rounds t slot.rows places slot.decision → ArePointing n level slot.decision.places
+    pub pointing_by : KeepPointing Moves n level → ArePointing n level places → AreWithin n slot.rows
+        → IsSlotBy Moves n rounds t slot.rows places slot.decision → ArePointing n level slot.decision.places
     pointing_by keep pointing within decided =
-        keep t slot.rows (first_of n decided.steps) slot.decision.matched places slot.decision.places (length-first_of n t slot.rows places decided.steps decided.chain) within pointing decided.moved
+        keep t slot.rows (first_of n decided.steps) slot.decision.matched places slot.decision.places
+        (length-first_of n t slot.rows places decided.steps decided.chain) within pointing decided.moved
 
     module _ (slots : List DecidedSlot) (window : IsWindowBy Moves n rounds t level places (slot ∷ slots)) where
       pub first_slot_by : IsWindowSlotBy n rounds t level places slot
@@ -76,7 +80,8 @@ module _ (Moves : ℕ → ℕ → List Row → List (Option Fed) → List (Optio
 abbrev pub IsWindowSlot : ℕ → ℕ → ℕ → ℕ → Places → DecidedSlot → Type 0
 IsWindowSlot = IsWindowSlotBy AreMoved
 
-module _ (n rounds t level : ℕ) (places : Places) (slot : DecidedSlot) (slots : List DecidedSlot) (window : IsWindow n rounds t level places (slot ∷ slots)) where
+module _ (n rounds t level : ℕ) (places : Places) (slot : DecidedSlot) (slots : List DecidedSlot)
+    (window : IsWindow n rounds t level places (slot ∷ slots)) where
   pub first_slot : IsWindowSlot n rounds t level places slot
   first_slot = first_slot_by AreMoved n rounds t level places slot slots window
 

@@ -18,13 +18,16 @@ abbrev pub first_of : ℕ → List (List (Option Fed)) → List (Option Fed)
 first_of n steps = slice_index_or steps 0 (unmatched n)
 
 -- it has an entry for each output
-pub length-first_of : (n t : ℕ) (rows : List Row) (places : Places) (steps : List (List (Option Fed))) → AreRounds n t rows places (unmatched n) steps → length (first_of n steps) ≡ n
+pub length-first_of : (n t : ℕ) (rows : List Row) (places : Places) (steps : List (List (Option Fed))) → AreRounds n t rows places (unmatched n) steps
+    → length (first_of n steps) ≡ n
 length-first_of n t rows places [] chain = (IsMatch-unmatched n).count
 length-first_of n t rows places (step ∷ steps) chain = chain.0.count
 
 -- a second round of some rounds, of which the pairs stay
-pub second_of : (n t : ℕ) (rows : List Row) (places : Places) (steps : List (List (Option Fed))) → 1 < length steps → AreRounds n t rows places (unmatched n) steps
-    → (second : List (Option Fed)) × IsRound n t rows places (first_of n steps) second × ((i j level : ℕ) (kind : Kind) → Serves second i j level kind → Serves (last_of (unmatched n) steps) i j level kind)
+pub second_of : (n t : ℕ) (rows : List Row) (places : Places) (steps : List (List (Option Fed))) → 1 < length steps
+    → AreRounds n t rows places (unmatched n) steps
+    → (second : List (Option Fed)) × IsRound n t rows places (first_of n steps) second
+    × ((i j level : ℕ) (kind : Kind) → Serves second i j level kind → Serves (last_of (unmatched n) steps) i j level kind)
 second_of n t rows places [] more chain = absurd (omega arith)
 second_of n t rows places (step ∷ []) more chain = absurd (omega arith)
 second_of n t rows places (step ∷ second ∷ steps) more chain =
@@ -39,21 +42,24 @@ pub record BeginsWith (n t : ℕ) (rows : List Row) (places : Places) (first mat
 
 module _ (n t : ℕ) (rows : List Row) (places : Places) where
   -- an input that is matched as unicast is free in no later round, and does not go on
-  AreRounds-no_more : (before : List (Option Fed)) (steps : List (List (Option Fed))) → AreRounds n t rows places before steps → (i j y level other : ℕ) (kind : Kind) → Serves before i j level Uni → Serves (last_of before steps) i y other kind → Serves before i y other kind
+  AreRounds-no_more : (before : List (Option Fed)) (steps : List (List (Option Fed))) → AreRounds n t rows places before steps
+      → (i j y level other : ℕ) (kind : Kind) → Serves before i j level Uni → Serves (last_of before steps) i y other kind → Serves before i y other kind
   AreRounds-no_more before [] chain i j y level other kind served later = later
   AreRounds-no_more before (step ∷ steps) chain i j y level other kind served later =
       let stays : Serves step i j level Uni = (chain.0.pairs i j level Uni).1 (inl served) in
       elim ((chain.0.pairs i y other kind).0 (AreRounds-no_more step steps chain.1 i j y level other kind stays later)) [
         | inl old ↦ old
         | inr accepted ↦
-            let granted : Grants n t rows places before i y other kind = taken_from kind n (accept_of places i other) (λ z. Grants n t rows places before i z other kind) y accepted.taken in
+            let granted : Grants n t rows places before i y other kind =
+            taken_from kind n (accept_of places i other) (λ z. Grants n t rows places before i z other kind) y accepted.taken in
             elim granted.first.member [
               | inl free ↦ absurd (free.0 j level Uni served)
               | inr on ↦ let multicast = (on.going_on.only j level Uni served).1 in absurd (cc)
             ]
       ]
 
-  begins : (steps : List (List (Option Fed))) → 0 < length steps → AreRounds n t rows places (unmatched n) steps → BeginsWith n t rows places (first_of n steps) (last_of (unmatched n) steps)
+  begins : (steps : List (List (Option Fed))) → 0 < length steps → AreRounds n t rows places (unmatched n) steps
+      → BeginsWith n t rows places (first_of n steps) (last_of (unmatched n) steps)
   begins [] some chain = absurd (omega arith)
   begins (step ∷ steps) some chain =
       record {
@@ -63,7 +69,8 @@ module _ (n t : ℕ) (rows : List Row) (places : Places) where
       }
 
   -- every slot of one round or more begins so, however its pointers move
-  pub BeginsWith-slot : (Moves : ℕ → ℕ → List Row → List (Option Fed) → List (Option Fed) → Places → Places → Type 0) (rounds : ℕ) (decision : Decision) → 0 < rounds → (slot : IsSlotBy Moves n rounds t rows places decision) → BeginsWith n t rows places (first_of n slot.steps) decision.matched
+  pub BeginsWith-slot : (Moves : ℕ → ℕ → List Row → List (Option Fed) → List (Option Fed) → Places → Places → Type 0) (rounds : ℕ) (decision : Decision)
+      → 0 < rounds → (slot : IsSlotBy Moves n rounds t rows places decision) → BeginsWith n t rows places (first_of n slot.steps) decision.matched
   BeginsWith-slot Moves rounds decision some slot =
       let count = slot.count in
       subst (BeginsWith n t rows places (first_of n slot.steps)) (sym slot.result) (begins slot.steps (omega arith) slot.chain)

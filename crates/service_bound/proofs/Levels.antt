@@ -33,11 +33,13 @@ some_of began outputs = record { waiting = outputs; began = began; ended = 0 }
 pub longest_of-none : (began : List ℕ) (outputs count : ℕ) → outputs ≡ 0 → longest_of began outputs count ≡ 0
 longest_of-none began outputs count none =
     let all = greatest-within (wait_at (some_of began outputs) count) (length began) 0
-    (λ j below. let rests = wait_at-rests (some_of began outputs) count j (λ has. let clear = bit_at-zero j in let set : bit_at 0 j ≡ 1 = ap (λ ports. bit_at ports j) (sym none) ∙ has in omega arith) in omega arith) in
+    (λ j below. let rests = wait_at-rests (some_of began outputs) count j
+    (λ has. let clear = bit_at-zero j in let set : bit_at 0 j ≡ 1 = ap (λ ports. bit_at ports j) (sym none) ∙ has in omega arith) in omega arith) in
     omega arith
 
 -- of some, one of which is taken out
-pub longest_of-without : (began : List ℕ) (outputs rest x count : ℕ) → Has outputs x → x < length began → ((y : ℕ) → Has rest y ↔ ((y ≢ x) × Has outputs y)) → max (count - slice_index began x) (longest_of began rest count) ≡ longest_of began outputs count
+pub longest_of-without : (began : List ℕ) (outputs rest x count : ℕ) → Has outputs x → x < length began → ((y : ℕ) → Has rest y ↔ ((y ≢ x) × Has outputs y))
+    → max (count - slice_index began x) (longest_of began rest count) ≡ longest_of began outputs count
 longest_of-without began outputs rest x count has inside members =
     let here = wait_at-waits (some_of began outputs) count x has in
     let up = greatest-within (wait_at (some_of began rest) count) (length began) (longest_of began outputs count)
@@ -70,7 +72,12 @@ greater_of-without longest wait rest left all more e step before = omega arith
 
 -- ---- one slot more, in which the queues to `outputs` wait: those that waited and are not among them have
 -- ended, and those among them that did not wait begin
-module _ (count outputs : ℕ) (old : Queues) (began : List ℕ) (ending beginning ended : ℕ) (ends : (j : ℕ) → Has ending j ↔ (Has old.waiting j × (Has outputs j → ⊥))) (begins : (j : ℕ) → Has beginning j ↔ (Has outputs j × (Has old.waiting j → ⊥))) (long : length began ≡ length old.began) (inside : (j : ℕ) → Has outputs j → j < length old.began) (begun : HaveBegun old.began old.waiting count) (now : (j : ℕ) → Has beginning j → slice_index began j ≡ count) (others : (j : ℕ) → (Has beginning j → ⊥) → slice_index began j ≡ slice_index old.began j) (longest : ended ≡ max old.ended (longest_of old.began ending count)) where
+module _ (count outputs : ℕ) (old : Queues) (began : List ℕ) (ending beginning ended : ℕ)
+    (ends : (j : ℕ) → Has ending j ↔ (Has old.waiting j × (Has outputs j → ⊥)))
+    (begins : (j : ℕ) → Has beginning j ↔ (Has outputs j × (Has old.waiting j → ⊥))) (long : length began ≡ length old.began)
+    (inside : (j : ℕ) → Has outputs j → j < length old.began) (begun : HaveBegun old.began old.waiting count)
+    (now : (j : ℕ) → Has beginning j → slice_index began j ≡ count) (others : (j : ℕ) → (Has beginning j → ⊥) → slice_index began j ≡ slice_index old.began j)
+    (longest : ended ≡ max old.ended (longest_of old.began ending count)) where
   abbrev made : Queues
   made = record { waiting = outputs; began = began; ended = ended }
 
@@ -107,7 +114,8 @@ module _ (count outputs : ℕ) (old : Queues) (began : List ℕ) (ending beginni
             let top = greatest-has (wait_at (some_of old.began old.waiting) count) (length old.began) j below in
             omega arith
       ]) in
-      let kept = greatest-within (wait_at (some_of old.began old.waiting) count) (length old.began) (max (longest_of old.began ending count) (longest_of began outputs (count + 1)))
+      let kept = greatest-within (wait_at (some_of old.began old.waiting) count) (length old.began)
+      (max (longest_of old.began ending count) (longest_of began outputs (count + 1)))
       (λ j below. elim (Has-or old.waiting j) [
         | inr rests ↦ let one = wait_at-rests (some_of old.began old.waiting) count j rests in omega arith
         | inl waits ↦
@@ -131,8 +139,11 @@ module _ (count outputs : ℕ) (old : Queues) (began : List ℕ) (ending beginni
   NotesSlot-on = record { long = long; begun = begun-on; among = member-true outputs; waits = wait-on; longest = longest-on }
 
 -- one slot more, in which the queues that waited wait on
-pub NotesSlot-same : (count outputs : ℕ) (old : Queues) → outputs ≡ old.waiting → ((j : ℕ) → Has outputs j → j < length old.began) → HaveBegun old.began old.waiting count → NotesSlot count (λ j. eqb (bit_at outputs j) 1) old old
+pub NotesSlot-same : (count outputs : ℕ) (old : Queues) → outputs ≡ old.waiting → ((j : ℕ) → Has outputs j → j < length old.began)
+    → HaveBegun old.began old.waiting count → NotesSlot count (λ j. eqb (bit_at outputs j) 1) old old
 NotesSlot-same count outputs old same inside begun =
     let lacks : (j : ℕ) → Has 0 j → ⊥ = no_member-zero in
     let none : longest_of old.began 0 count ≡ 0 = longest_of-none old.began 0 count refl in
-    rw same (NotesSlot-on count old.waiting old old.began 0 0 old.ended (λ j. (λ has. absurd (lacks j has), λ both. absurd (both.1 both.0))) (λ j. (λ has. absurd (lacks j has), λ both. absurd (both.1 both.0))) refl (rw same at inside) begun (λ j has. absurd (lacks j has)) (λ j lack. refl) (omega arith))
+    rw same (NotesSlot-on count old.waiting old old.began 0 0 old.ended (λ j. (λ has. absurd (lacks j has), λ both. absurd (both.1 both.0)))
+    (λ j. (λ has. absurd (lacks j has), λ both. absurd (both.1 both.0))) refl (rw same at inside) begun (λ j has. absurd (lacks j has)) (λ j lack. refl)
+    (omega arith))

@@ -32,13 +32,15 @@ below_two n rounds few other = rw (le-ltb 2 n few, ne_eqb n 2 other) refl
 -- Either the number is the general one; or there are two ports and more rounds than one, and it is three; or there are
 -- three ports or more, and it is one less.
 by_ports_and_rounds : (P : ℕ → ℕ → ℕ → Type 0) (n rounds : ℕ)
-    → P n rounds (longest_service_by n rounds) → ((rounds ≡ 1 → ⊥) → n ≡ 2 → P 2 rounds 3) → (2 < n → P n rounds (longest_service_by n rounds - 1)) → P n rounds (longest_service_at_line_rate n rounds)
+    → P n rounds (longest_service_by n rounds) → ((rounds ≡ 1 → ⊥) → n ≡ 2 → P 2 rounds 3) → (2 < n → P n rounds (longest_service_by n rounds - 1))
+    → P n rounds (longest_service_at_line_rate n rounds)
 by_ports_and_rounds P n rounds general two more = elim (cases_lt 2 n) [
   | inl three ↦ subst (P n rounds) (sym (from_three n rounds three)) (more three)
   | inr few ↦ elim (cases_eq n 2) [
     | inr other ↦ subst (P n rounds) (sym (below_two n rounds few other)) general
     | inl same ↦ elim (cases_eq rounds 1) [
-      | inr several ↦ subst (λ m. P m rounds (longest_service_at_line_rate m rounds)) (sym same) (subst (P 2 rounds) (sym (of_two rounds several)) (two several same))
+      | inr several ↦ subst (λ m. P m rounds (longest_service_at_line_rate m rounds)) (sym same)
+          (subst (P 2 rounds) (sym (of_two rounds several)) (two several same))
       | inl one ↦
           let here : longest_service_by n rounds ≡ longest_service_at_line_rate n rounds = rw (same, one) refl in
           subst (P n rounds) here general
@@ -47,38 +49,50 @@ by_ports_and_rounds P n rounds general two more = elim (cases_lt 2 n) [
 ]
 
 -- ---- so many slots are enough
-served_by_rounds : (n rounds t level i j : ℕ) (places : Places) (slots : List DecidedSlot) → 0 < rounds → i < n → IsWindow n rounds t level places slots → All (λ slot. IsWithoutMulticast n level slot.rows) slots
-    → InFirst (λ rows. Names (row_of rows i) level Uni j) slots → longest_service_by n rounds ≤ length slots → Any (λ slot. Serves slot.decision.matched i j level Uni) slots
+served_by_rounds : (n rounds t level i j : ℕ) (places : Places) (slots : List DecidedSlot) → 0 < rounds → i < n → IsWindow n rounds t level places slots
+    → All (λ slot. IsWithoutMulticast n level slot.rows) slots
+    → InFirst (λ rows. Names (row_of rows i) level Uni j) slots → longest_service_by n rounds ≤ length slots
+    → Any (λ slot. Serves slot.decision.matched i j level Uni) slots
 served_by_rounds n rounds t level i j places slots some inside window alone first long =
     elim (eqb_tells rounds 1) [
-      | inl one ↦ one_served_in_time n t level i j places slots inside (subst (λ r. IsWindow n r t level places slots) one.1 window) alone first (rw one.0 at long)
+      | inl one ↦ one_served_in_time n t level i j places slots inside (subst (λ r. IsWindow n r t level places slots) one.1 window) alone first
+          (rw one.0 at long)
       | inr more ↦ served_in_time n rounds t level i j places slots some inside window alone first (rw more.0 at long)
     ]
 
 -- from three ports on, one less
-served_from_three : (n rounds t level i j : ℕ) (places : Places) (slots : List DecidedSlot) → 2 < n → 0 < rounds → i < n → IsWindow n rounds t level places slots → All (λ slot. IsWithoutMulticast n level slot.rows) slots → AreAtLineRate n level slots
-    → InFirst (λ rows. Names (row_of rows i) level Uni j) slots → longest_service_by n rounds - 1 ≤ length slots → Any (λ slot. Serves slot.decision.matched i j level Uni) slots
+served_from_three : (n rounds t level i j : ℕ) (places : Places) (slots : List DecidedSlot) → 2 < n → 0 < rounds → i < n
+    → IsWindow n rounds t level places slots → All (λ slot. IsWithoutMulticast n level slot.rows) slots → AreAtLineRate n level slots
+    → InFirst (λ rows. Names (row_of rows i) level Uni j) slots → longest_service_by n rounds - 1 ≤ length slots
+    → Any (λ slot. Serves slot.decision.matched i j level Uni) slots
 served_from_three n rounds t level i j places slots more some inside window alone gains first long =
     elim (eqb_tells rounds 1) [
       | inl one ↦
           let enough : longest_service_in_one_round n - 1 ≤ length slots = rw one.0 at long in
-          one_served_at_line_rate n t level i j places slots more inside (subst (λ r. IsWindow n r t level places slots) one.1 window) alone gains first (omega (arith, enough))
+          one_served_at_line_rate n t level i j places slots more inside (subst (λ r. IsWindow n r t level places slots) one.1 window) alone gains first
+          (omega (arith, enough))
       | inr several ↦
           let enough : longest_service n - 1 ≤ length slots = rw several.0 at long in
           served_at_line_rate n rounds t level i j places slots more some inside window alone gains first (omega (arith, enough))
     ]
 
-pub served_by_rounds_at_line_rate : (n rounds t level i j : ℕ) (places : Places) (slots : List DecidedSlot) → 0 < rounds → i < n → IsWindow n rounds t level places slots → All (λ slot. IsWithoutMulticast n level slot.rows) slots → AreAtLineRate n level slots
-    → InFirst (λ rows. Names (row_of rows i) level Uni j) slots → longest_service_at_line_rate n rounds ≤ length slots → Any (λ slot. Serves slot.decision.matched i j level Uni) slots
+pub served_by_rounds_at_line_rate : (n rounds t level i j : ℕ) (places : Places) (slots : List DecidedSlot) → 0 < rounds → i < n
+    → IsWindow n rounds t level places slots → All (λ slot. IsWithoutMulticast n level slot.rows) slots → AreAtLineRate n level slots
+    → InFirst (λ rows. Names (row_of rows i) level Uni j) slots → longest_service_at_line_rate n rounds ≤ length slots
+    → Any (λ slot. Serves slot.decision.matched i j level Uni) slots
 served_by_rounds_at_line_rate n rounds t level i j places slots some inside window alone gains first =
-    by_ports_and_rounds (λ n rounds count. 0 < rounds → i < n → IsWindow n rounds t level places slots → All (λ slot. IsWithoutMulticast n level slot.rows) slots → AreAtLineRate n level slots → count ≤ length slots → Any (λ slot. Serves slot.decision.matched i j level Uni) slots) n rounds
+    by_ports_and_rounds (λ n rounds count. 0 < rounds → i < n → IsWindow n rounds t level places slots
+    → All (λ slot. IsWithoutMulticast n level slot.rows) slots → AreAtLineRate n level slots → count ≤ length slots
+    → Any (λ slot. Serves slot.decision.matched i j level Uni) slots) n rounds
     (λ some inside window alone gains. served_by_rounds n rounds t level i j places slots some inside window alone first)
     (λ several same some inside window alone gains. two_served_in_time rounds t level i j places slots (omega (arith, some, several)) inside window alone first)
     (λ more some inside window alone gains. served_from_three n rounds t level i j places slots more some inside window alone gains first)
     some inside window alone gains
 
 -- ---- and no wait reaches the number
-below_from_three : (n rounds t level : ℕ) (places : Places) (slots : List DecidedSlot) → 2 < n → 0 < rounds → IsWindow n rounds t level places slots → All (λ slot. IsWithoutMulticast n level slot.rows) slots → AreAtLineRate n level slots → longest_wait n level (map noted_of slots) < longest_service_by n rounds - 1
+below_from_three : (n rounds t level : ℕ) (places : Places) (slots : List DecidedSlot) → 2 < n → 0 < rounds → IsWindow n rounds t level places slots
+    → All (λ slot. IsWithoutMulticast n level slot.rows) slots → AreAtLineRate n level slots
+    → longest_wait n level (map noted_of slots) < longest_service_by n rounds - 1
 below_from_three n rounds t level places slots more some window alone gains =
     elim (eqb_tells rounds 1) [
       | inl one ↦
@@ -89,10 +103,12 @@ below_from_three n rounds t level places slots more some window alone gains =
           rw several.0 (omega (arith, below))
     ]
 
-pub longest_wait-below_at_line_rate : (n rounds t level : ℕ) (places : Places) (slots : List DecidedSlot) → 0 < n → 0 < rounds → IsWindow n rounds t level places slots → All (λ slot. IsWithoutMulticast n level slot.rows) slots → AreAtLineRate n level slots
+pub longest_wait-below_at_line_rate : (n rounds t level : ℕ) (places : Places) (slots : List DecidedSlot) → 0 < n → 0 < rounds
+    → IsWindow n rounds t level places slots → All (λ slot. IsWithoutMulticast n level slot.rows) slots → AreAtLineRate n level slots
     → longest_wait n level (map noted_of slots) < longest_service_at_line_rate n rounds
 longest_wait-below_at_line_rate n rounds t level places slots ports some window alone gains =
-    by_ports_and_rounds (λ n rounds count. 0 < n → 0 < rounds → IsWindow n rounds t level places slots → All (λ slot. IsWithoutMulticast n level slot.rows) slots → AreAtLineRate n level slots → longest_wait n level (map noted_of slots) < count) n rounds
+    by_ports_and_rounds (λ n rounds count. 0 < n → 0 < rounds → IsWindow n rounds t level places slots
+    → All (λ slot. IsWithoutMulticast n level slot.rows) slots → AreAtLineRate n level slots → longest_wait n level (map noted_of slots) < count) n rounds
     (λ ports some window alone gains. longest_wait-below_service n rounds t level places slots ports some window alone)
     (λ several same ports some window alone gains. two_longest_wait-bound rounds t level places slots (omega (arith, some, several)) window alone)
     (λ more ports some window alone gains. below_from_three n rounds t level places slots more some window alone gains)

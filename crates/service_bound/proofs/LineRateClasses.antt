@@ -66,15 +66,19 @@ decides_other x i = elim (cases_eq x i) [ inl same ↦ inr (λ other. other same
 pub other_asks : (n level : ℕ) (rows : List Row) (j i x : ℕ) → Decides ((y : ℕ) × (y < n) × ((y ≡ i → ⊥) × (y ≡ x → ⊥)) × Names (row_of rows y) level Uni j)
 other_asks n level rows j i x =
     let Apart : ℕ → Type 0 = λ y. (y ≡ i → ⊥) × (y ≡ x → ⊥) in
-    elim (some_below (λ y. Apart y × Names (row_of rows y) level Uni j) (λ y. decides_both (Apart y) (Names (row_of rows y) level Uni j) (decides_both (y ≡ i → ⊥) (y ≡ x → ⊥) (decides_other y i) (decides_other y x)) (Names-decides (row_of rows y) level Uni j)) n) [
+    elim (some_below (λ y. Apart y × Names (row_of rows y) level Uni j)
+    (λ y. decides_both (Apart y) (Names (row_of rows y) level Uni j) (decides_both (y ≡ i → ⊥) (y ≡ x → ⊥) (decides_other y i) (decides_other y x))
+    (Names-decides (row_of rows y) level Uni j)) n) [
       | inl found ↦ inl (found.0, found.1, found.2.0, found.2.1)
       | inr none ↦ inr (λ p. none (p.0, p.1, (p.2, p.3)))
     ]
 
 -- Where input x begins to ask for output j as the only one beside i, and did not ask for output j + 1: class B, since at
 -- line rate x begins to ask for nothing else.
-pub begins_beside : (n level i j x : ℕ) (places : Places) (rows later : List Row) → 2 < n → j < n → x < n → (x ≡ i → ⊥) → IsFarAmongFresh n level i j places → GainAtMostOne n level rows later
-    → (Names (row_of rows x) level Uni j → ⊥) → Names (row_of later x) level Uni j → ((y : ℕ) × (y < n) × ((y ≡ i → ⊥) × (y ≡ x → ⊥)) × Names (row_of later y) level Uni j → ⊥)
+pub begins_beside : (n level i j x : ℕ) (places : Places) (rows later : List Row) → 2 < n → j < n → x < n → (x ≡ i → ⊥) → IsFarAmongFresh n level i j places
+    → GainAtMostOne n level rows later
+    → (Names (row_of rows x) level Uni j → ⊥) → Names (row_of later x) level Uni j
+    → ((y : ℕ) × (y < n) × ((y ≡ i → ⊥) × (y ≡ x → ⊥)) × Names (row_of later y) level Uni j → ⊥)
     → (Names (row_of rows x) level Uni ((j + 1) % n) → ⊥) → IsBeside n level i j places later x
 begins_beside n level i j x places rows later more j_in x_in other base gains silent asks alone not_asked =
     record {
@@ -95,15 +99,20 @@ begins_beside n level i j x places rows later more j_in x_in other base gains si
     }
 
 -- an input whose accept pointer leaves output j is fresh no more
-fresh_at-lost : (n far place turns turns_later : ℕ) → far + 1 ≡ n → place < n → turns + 1 ≡ n → turns_later + 2 ≤ n → fresh_at n far place turns ≡ fresh_at n far place turns_later + 1
+fresh_at-lost : (n far place turns turns_later : ℕ) → far + 1 ≡ n → place < n → turns + 1 ≡ n → turns_later + 2 ≤ n
+    → fresh_at n far place turns ≡ fresh_at n far place turns_later + 1
 fresh_at-lost n far place turns turns_later e place_in full moved = omega arith
 
-module _ (n t level : ℕ) (rows : List Row) (first matched : List (Option Fed)) (before after : Places) (level_in : level < LEVELS) (opening : IsRound n t rows before (unmatched n) first) (moved : AreMoved n t rows first matched before after) (pointing : ArePointing n level before) (clean : IsClean n level rows) (alone : IsWithoutMulticast n level rows) (more : 2 < n) where
+module _ (n t level : ℕ) (rows : List Row) (first matched : List (Option Fed)) (before after : Places) (level_in : level < LEVELS)
+    (opening : IsRound n t rows before (unmatched n) first) (moved : AreMoved n t rows first matched before after) (pointing : ArePointing n level before)
+    (clean : IsClean n level rows) (alone : IsWithoutMulticast n level rows) (more : 2 < n) where
   output_in : (x z : ℕ) → Serves first x z level Uni → z < n
-  output_in x z served = let below = fed_of-lt first z (record { input = x; level = level; kind = Uni }) served in let size = opening.count in omega (arith, below, size)
+  output_in x z served = let below = fed_of-lt first z (record { input = x; level = level; kind = Uni }) served in let size = opening.count in
+      omega (arith, below, size)
 
   input_in : (x z : ℕ) → Serves first x z level Uni → x < n
-  input_in x z served = elim ((opening.pairs x z level Uni).0 served) [ inl old ↦ absurd (nobody_at_first n x z level Uni old) | inr accepted ↦ accepted.taken.member.first.below ]
+  input_in x z served = elim
+      ((opening.pairs x z level Uni).0 served) [ inl old ↦ absurd (nobody_at_first n x z level Uni old) | inr accepted ↦ accepted.taken.member.first.below ]
 
   -- an input is served by one output
   served_once : (x y z : ℕ) → Serves first x y level Uni → Serves first x z level Uni → y ≡ z
@@ -113,7 +122,8 @@ module _ (n t level : ℕ) (rows : List Row) (first matched : List (Option Fed))
       next-injective n y z (output_in x y one) (output_in x z two) (subst (λ p. p ≡ (z + 1) % n) here there)
 
   -- another input than i is matched in the first round, or none is
-  other_matched : (i : ℕ) → ((x : ℕ) × (x < n) × (x ≡ i → ⊥) × (z : ℕ) × Serves first x z level Uni) ⊎ ((x z : ℕ) → (x ≡ i → ⊥) → Serves first x z level Uni → ⊥)
+  other_matched : (i : ℕ) → ((x : ℕ) × (x < n) × (x ≡ i → ⊥) × (z : ℕ) × Serves first x z level Uni)
+      ⊎ ((x z : ℕ) → (x ≡ i → ⊥) → Serves first x z level Uni → ⊥)
   other_matched i =
       let IsMet : ℕ → Type 0 = λ x. (z : ℕ) × (z < n) × Serves first x z level Uni in
       let met : (x : ℕ) → Decides (IsMet x) = λ x. some_below (λ z. Serves first x z level Uni) (λ z. Serves-decides first x z level Uni) n in
@@ -127,19 +137,24 @@ module _ (n t level : ℕ) (rows : List Row) (first matched : List (Option Fed))
       ]
 
   -- where no other is matched and output k points one beyond input i, no other asks for k
-  nobody_asks : (i k : ℕ) → i < n → k < n → distance n (grant_of before k level) i + 1 ≡ n → ((x z : ℕ) → (x ≡ i → ⊥) → Serves first x z level Uni → ⊥) → (x : ℕ) → x < n → Names (row_of rows x) level Uni k → x ≡ i
+  nobody_asks : (i k : ℕ) → i < n → k < n → distance n (grant_of before k level) i + 1 ≡ n → ((x z : ℕ) → (x ≡ i → ⊥) → Serves first x z level Uni → ⊥)
+      → (x : ℕ) → x < n → Names (row_of rows x) level Uni k → x ≡ i
   nobody_asks i k i_in k_in last none x x_in named =
       elim (cases_eq x i) [
         | inl same ↦ same
         | inr other ↦
             let from_in = pointing.grant k k_in in
-            let nearest = IsFirstFrom-some n (grant_of before k level) (λ z. Names (row_of rows z) level Uni k) (λ z. Names-decides (row_of rows z) level Uni k) from_in x x_in named in
-            let granted = grants_first n t rows before level level_in clean Uni (kind_is_first n t level rows first before level_in opening pointing clean alone) nearest.0 k k_in nearest.1 in
+            let nearest = IsFirstFrom-some n (grant_of before k level) (λ z. Names (row_of rows z) level Uni k)
+            (λ z. Names-decides (row_of rows z) level Uni k) from_in x x_in named in
+            let granted = grants_first n t rows before level level_in clean Uni
+            (kind_is_first n t level rows first before level_in opening pointing clean alone) nearest.0 k k_in nearest.1 in
             let met = served_by_first n t level rows first before level_in opening pointing clean alone nearest.0 k nearest.1.below granted in
             let within = nearest.1.least x x_in named in
             let place_in = distance-lt n (grant_of before k level) x from_in in
-            let differ : distance n (grant_of before k level) x ≡ distance n (grant_of before k level) i → ⊥ = λ e. other (distance-injective n (grant_of before k level) x i from_in x_in i_in e) in
-            let not_own : nearest.0 ≡ i → ⊥ = λ same. let e : distance n (grant_of before k level) nearest.0 ≡ distance n (grant_of before k level) i = ap (distance n (grant_of before k level)) same in differ (omega (arith, e, within, place_in, last)) in
+            let differ : distance n (grant_of before k level) x ≡ distance n (grant_of before k level) i
+            → ⊥ = λ e. other (distance-injective n (grant_of before k level) x i from_in x_in i_in e) in
+            let not_own : nearest.0 ≡ i → ⊥ = λ same. let e : distance n (grant_of before k level) nearest.0 ≡ distance n (grant_of before k level) i =
+            ap (distance n (grant_of before k level)) same in differ (omega (arith, e, within, place_in, last)) in
             absurd (none nearest.0 met.0 not_own met.2)
       ]
 
@@ -149,11 +164,14 @@ module _ (n t level : ℕ) (rows : List Row) (first matched : List (Option Fed))
         let beyond = distance-beyond n z j (output_in x z served) j_in (λ same. nobody x (subst (λ y. Serves first x y level Uni) same served)) in
         subst (λ p. distance n p j + 2 ≤ n) (sym (moved.accepted x z level served)) beyond
 
-    own_lost : (x z : ℕ) → distance n (accept_of before x level) j + 1 ≡ n → Serves first x z level Uni → fresh_for n level before i j x ≡ fresh_for n level after i j x + 1
+    own_lost : (x z : ℕ) → distance n (accept_of before x level) j + 1 ≡ n → Serves first x z level Uni
+        → fresh_for n level before i j x ≡ fresh_for n level after i j x + 1
     own_lost x z full served =
         let stays = moved.grant_stays j level nobody in
         let x_in = input_in x z served in
-        let lost = fresh_at-lost n (distance n (grant_of before j level) i) (distance n (grant_of before j level) x) (distance n (accept_of before x level) j) (distance n (accept_of after x level) j) base.far (distance-lt n (grant_of before j level) x (pointing.grant j j_in)) full (turns_after x z served) in
+        let lost = fresh_at-lost n (distance n (grant_of before j level) i) (distance n (grant_of before j level) x) (distance n (accept_of before x level) j)
+        (distance n (accept_of after x level) j) base.far (distance-lt n (grant_of before j level) x (pointing.grant j j_in)) full
+        (turns_after x z served) in
         subst (λ p. fresh_for n level before i j x ≡ fresh_at n (distance n p i) (distance n p x) (distance n (accept_of after x level) j) + 1) (sym stays) lost
 
     no_fresher : (x : ℕ) → x < n → fresh_for n level after i j x ≤ fresh_for n level before i j x
@@ -162,15 +180,18 @@ module _ (n t level : ℕ) (rows : List Row) (first matched : List (Option Fed))
     pub fresh-le : fresh_of n level after i j ≤ fresh_of n level before i j
     fresh-le = sum_below-le (fresh_for n level after i j) (fresh_for n level before i j) n no_fresher
 
-    pub one_lost : (x z : ℕ) → distance n (accept_of before x level) j + 1 ≡ n → Serves first x z level Uni → fresh_of n level after i j + 1 ≤ fresh_of n level before i j
+    pub one_lost : (x z : ℕ) → distance n (accept_of before x level) j + 1 ≡ n → Serves first x z level Uni
+        → fresh_of n level after i j + 1 ≤ fresh_of n level before i j
     one_lost x z full served =
         let sums = sum_below-less (fresh_for n level after i j) (fresh_for n level before i j) n x (input_in x z served) no_fresher in
         let own = own_lost x z full served in
         omega (arith, sums, own)
 
-    two_lost : (x z y w : ℕ) → (x ≡ y → ⊥) → distance n (accept_of before x level) j + 1 ≡ n → distance n (accept_of before y level) j + 1 ≡ n → Serves first x z level Uni → Serves first y w level Uni → fresh_of n level after i j + 2 ≤ fresh_of n level before i j
+    two_lost : (x z y w : ℕ) → (x ≡ y → ⊥) → distance n (accept_of before x level) j + 1 ≡ n → distance n (accept_of before y level) j + 1 ≡ n
+        → Serves first x z level Uni → Serves first y w level Uni → fresh_of n level after i j + 2 ≤ fresh_of n level before i j
     two_lost x z y w apart full also served taken =
-        let sums = sum_below-two (fresh_for n level after i j) (fresh_for n level before i j) n x y (input_in x z served) (input_in y w taken) apart no_fresher in
+        let sums = sum_below-two (fresh_for n level after i j) (fresh_for n level before i j) n x y (input_in x z served)
+        (input_in y w taken) apart no_fresher in
         let own = own_lost x z full served in
         let second = own_lost y w also taken in
         omega (arith, sums, own, second)
@@ -182,33 +203,41 @@ module _ (n t level : ℕ) (rows : List Row) (first matched : List (Option Fed))
     pub base : IsFarAmongFresh n level i j after
     pub passed : HasPassed n level i j after
     pub next : (fresh_of n level after i j + 2 ≤ min (distance n (accept_of before i level) j) (n - 2) + fresh_of n level before i j)
-        ⊎ ((1 ≤ min (distance n (accept_of before i level) j) (n - 2)) × (fresh_of n level after i j ≤ fresh_of n level before i j) × ((x : ℕ) → x < n → Names (row_of rows x) level Uni ((j + 1) % n) → x ≡ i))
+        ⊎ ((1 ≤ min (distance n (accept_of before i level) j) (n - 2)) × (fresh_of n level after i j ≤ fresh_of n level before i j)
+        × ((x : ℕ) → x < n → Names (row_of rows x) level Uni ((j + 1) % n) → x ≡ i))
 
   pub record FallsByTwo (g i j : ℕ) : Type 0 where
     pub fewer : fresh_of n level after i j + 2 ≤ min (distance n (accept_of before g level) j) (n - 2) + fresh_of n level before i j
-    pub nearer : min (distance n (accept_of after g level) j) (n - 2) + fresh_of n level after i j + 2 ≤ min (distance n (accept_of before g level) j) (n - 2) + fresh_of n level before i j
+    pub nearer : min (distance n (accept_of after g level) j) (n - 2) + fresh_of n level after i j + 2 ≤ min (distance n (accept_of before g level) j)
+        (n - 2) + fresh_of n level before i j
 
   module _ (i j : ℕ) (i_in : i < n) (j_in : j < n) (base : IsFarAmongFresh n level i j before) (nobody : (x : ℕ) → Serves first x j level Uni → ⊥) where
     -- the accept pointer of an input that refuses output j for output y comes nearer to j
-    nearer_by : (g y : ℕ) → g < n → Serves first g y level Uni → distance n (accept_of before g level) y ≤ distance n (accept_of before g level) j → distance n (accept_of after g level) j + distance n (accept_of before g level) y + 1 ≡ distance n (accept_of before g level) j
+    nearer_by : (g y : ℕ) → g < n → Serves first g y level Uni → distance n (accept_of before g level) y ≤ distance n (accept_of before g level) j
+        → distance n (accept_of after g level) j + distance n (accept_of before g level) y + 1 ≡ distance n (accept_of before g level) j
     nearer_by g y g_in served at_most =
         let accept_in = pointing.accept g g_in in
         let y_in = output_in g y served in
-        let apart : distance n (accept_of before g level) y ≡ distance n (accept_of before g level) j → ⊥ = λ e. nobody g (subst (λ z. Serves first g z level Uni) (distance-injective n (accept_of before g level) y j accept_in y_in j_in e) served) in
+        let apart : distance n (accept_of before g level) y ≡ distance n (accept_of before g level) j
+        → ⊥ = λ e. nobody g (subst (λ z. Serves first g z level Uni) (distance-injective n (accept_of before g level) y j accept_in y_in j_in e) served) in
         let passed = distance-passed n (accept_of before g level) y j accept_in y_in j_in (omega (arith, at_most, apart)) in
-        subst (λ p. distance n p j + distance n (accept_of before g level) y + 1 ≡ distance n (accept_of before g level) j) (sym (moved.accepted g y level served)) passed
+        subst (λ p. distance n p j + distance n (accept_of before g level) y + 1 ≡ distance n (accept_of before g level) j)
+        (sym (moved.accepted g y level served)) passed
 
     -- a fresh input that takes another output than j + 1 makes two steps or more
-    pub two_steps : (g y : ℕ) → g < n → Serves first g y level Uni → distance n (accept_of before g level) y ≤ distance n (accept_of before g level) j → distance n (accept_of before g level) j + 1 ≡ n → (y ≡ (j + 1) % n → ⊥) → FallsByTwo g i j
+    pub two_steps : (g y : ℕ) → g < n → Serves first g y level Uni → distance n (accept_of before g level) y ≤ distance n (accept_of before g level) j
+        → distance n (accept_of before g level) j + 1 ≡ n → (y ≡ (j + 1) % n → ⊥) → FallsByTwo g i j
     two_steps g y g_in served at_most full other =
         let accept_in = pointing.accept g g_in in
         let y_in = output_in g y served in
         let next_in : (j + 1) % n < n = mod_below (j + 1) n (omega arith) in
         let closer = nearer_by g y g_in served at_most in
-        let apart : distance n (accept_of before g level) y ≡ distance n (accept_of before g level) ((j + 1) % n) → ⊥ = λ e. other (distance-injective n (accept_of before g level) y ((j + 1) % n) accept_in y_in next_in e) in
+        let apart : distance n (accept_of before g level) y ≡ distance n (accept_of before g level) ((j + 1) % n)
+        → ⊥ = λ e. other (distance-injective n (accept_of before g level) y ((j + 1) % n) accept_in y_in next_in e) in
         let lost = one_lost i j i_in j_in base nobody g y full served in
         let next_lt = distance-lt n (accept_of before g level) ((j + 1) % n) accept_in in
-        let zero : distance n (accept_of before g level) ((j + 1) % n) ≡ 0 = elim (distance-next n (accept_of before g level) j accept_in j_in) [ inl beyond ↦ absurd (omega (arith, beyond, next_lt, full)) | inr at ↦ at.0 ] in
+        let zero : distance n (accept_of before g level) ((j + 1) % n) ≡ 0 =
+        elim (distance-next n (accept_of before g level) j accept_in j_in) [ inl beyond ↦ absurd (omega (arith, beyond, next_lt, full)) | inr at ↦ at.0 ] in
         record { fewer = omega (arith, lost, full, more); nearer = omega (arith, lost, full, more, closer, apart, zero) }
 
     -- the accept pointers of all others stay where none of them is matched
@@ -229,7 +258,8 @@ module _ (n t level : ℕ) (rows : List Row) (first matched : List (Option Fed))
             | inr other ↦ inl (two_steps i y i_in served at_most full other)
             | inl same ↦ elim (other_matched i) [
               | inl found ↦
-                  let lost = two_lost i j i_in j_in base nobody i y found.0 found.3 (λ e. found.2 (sym e)) full (base.fresh found.0 found.1 found.2) served found.4 in
+                  let lost = two_lost i j i_in j_in base nobody i y found.0 found.3 (λ e. found.2 (sym e)) full
+                  (base.fresh found.0 found.1 found.2) served found.4 in
                   inl (record { fewer = omega (arith, lost); nearer = omega (arith, lost, closer, full) })
               | inr none ↦
                   let lost = one_lost i j i_in j_in base nobody i y full served in
@@ -255,12 +285,14 @@ module _ (n t level : ℕ) (rows : List Row) (first matched : List (Option Fed))
                 inl (record { fewer = omega (arith, lost, closer, more); nearer = omega (arith, lost, closer, turns_in, stale) })
             | inr none ↦
                 let least = fresh-le i j i_in j_in base nobody in
-                let beyond : distance n (accept_of before i level) ((j + 1) % n) ≡ distance n (accept_of before i level) j + 1 = elim (distance-next n (accept_of before i level) j accept_in j_in) [ inl e ↦ e | inr at ↦ absurd (stale at.1) ] in
+                let beyond : distance n (accept_of before i level) ((j + 1) % n) ≡ distance n (accept_of before i level) j + 1 =
+                elim (distance-next n (accept_of before i level) j accept_in j_in) [ inl e ↦ e | inr at ↦ absurd (stale at.1) ] in
                 let not_taken : (x : ℕ) → Serves first x ((j + 1) % n) level Uni → ⊥ = λ x taken. elim (cases_eq x i) [
                   | inr other ↦ none x ((j + 1) % n) other taken
                   | inl own ↦
                       let same : y ≡ (j + 1) % n = served_once i y ((j + 1) % n) served (subst (λ z. Serves first z ((j + 1) % n) level Uni) own taken) in
-                      let e : distance n (accept_of before i level) y ≡ distance n (accept_of before i level) ((j + 1) % n) = ap (distance n (accept_of before i level)) same in
+                      let e : distance n (accept_of before i level) y ≡ distance n (accept_of before i level) ((j + 1) % n) =
+                      ap (distance n (accept_of before i level)) same in
                       omega (arith, e, beyond, at_most)
                 ] in
                 inr (record {

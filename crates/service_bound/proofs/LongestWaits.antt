@@ -33,17 +33,22 @@ module _ (n rounds level i j : ℕ) (some : 0 < rounds) (i_in : i < n) where
       let least = twice_longest-some n (omega arith) in
       elim roomy [ inl none ↦ omega arith | inr has ↦ omega (arith, has.room) ]
 
-  module _ (t : ℕ) (places : Places) (slot : DecidedSlot) (slots : List DecidedSlot) (window : IsWindow n rounds t level places (slot ∷ slots)) (alone : IsWithoutMulticast n level slot.rows) where
+  module _ (t : ℕ) (places : Places) (slot : DecidedSlot) (slots : List DecidedSlot) (window : IsWindow n rounds t level places (slot ∷ slots))
+      (alone : IsWithoutMulticast n level slot.rows) where
     -- a slot in which the queue waits takes no more room than the rank falls
-    room_after : (wait g : ℕ) → g < n → Names (row_of slot.rows i) level Uni j → Names (row_of slot.rows g) level Uni j → (Serves slot.decision.matched i j level Uni → ⊥) → twice_rank_of n level places i j g + 2 * wait + 2 ≤ twice_longest n → HasRoom slot.decision.places slots (wait + 1)
+    room_after : (wait g : ℕ) → g < n → Names (row_of slot.rows i) level Uni j → Names (row_of slot.rows g) level Uni j
+        → (Serves slot.decision.matched i j level Uni → ⊥) → twice_rank_of n level places i j g + 2 * wait + 2 ≤ twice_longest n
+        → HasRoom slot.decision.places slots (wait + 1)
     room_after wait g g_in named asking left room =
-        let next = falls_in_slot n rounds t level places slot some (first_slot n rounds t level places slot slots window) alone i j g i_in g_in named asking left in
+        let next = falls_in_slot n rounds t level places slot some
+        (first_slot n rounds t level places slot slots window) alone i j g i_in g_in named asking left in
         let by = next.1 in
         let Keeping : List Row → Type 0 = λ rows. (x : ℕ) → x < n → Keeps slot.decision.matched x (row_of slot.rows x) (row_of rows x) in
         record {
           by = next.0;
           input_in = by.input_in;
-          asking = InFirst-along Keeping (λ rows. Names (row_of rows next.0) level Uni j) (λ rows keeps. (keeps next.0 by.input_in).uni level j by.asks by.left) slots window.kept.0;
+          asking = InFirst-along Keeping (λ rows. Names (row_of rows next.0) level Uni j)
+              (λ rows keeps. (keeps next.0 by.input_in).uni level j by.asks by.left) slots window.kept.0;
           room = omega (arith, by.lower);
         }
 
@@ -61,21 +66,27 @@ module _ (n rounds level i j : ℕ) (some : 0 < rounds) (i_in : i < n) where
               ]))
         ]
 
-  waits_fit : (slots : List DecidedSlot) (t : ℕ) (places : Places) (wait : ℕ) → IsWindow n rounds t level places slots → All (λ slot. IsWithoutMulticast n level slot.rows) slots → IsRoomy places slots wait → All (λ w. 2 * w + 2 ≤ twice_longest n) (waits_from wait (map noted_of slots) i j level)
+  waits_fit : (slots : List DecidedSlot) (t : ℕ) (places : Places) (wait : ℕ) → IsWindow n rounds t level places slots
+      → All (λ slot. IsWithoutMulticast n level slot.rows) slots → IsRoomy places slots wait
+      → All (λ w. 2 * w + 2 ≤ twice_longest n) (waits_from wait (map noted_of slots) i j level)
   waits_fit [] t places wait window alone roomy = All-nil (λ w. 2 * w + 2 ≤ twice_longest n)
   waits_fit (slot ∷ slots) t places wait window alone roomy =
       let Without : DecidedSlot → Type 0 = λ s. IsWithoutMulticast n level s.rows in
       let next = wait_in (noted_of slot) wait i j level in
       let on = roomy_after t places slot slots window (All-head Without slot slots alone) wait roomy in
       All-cons (λ w. 2 * w + 2 ≤ twice_longest n) next (waits_from next (map noted_of slots) i j level) (fits slot.decision.places slots next on)
-      (waits_fit slots (t + 1) slot.decision.places next (later_slots n rounds t level places slot slots window (omega arith)) (All-tail Without slot slots alone) on)
+      (waits_fit slots (t + 1) slot.decision.places next (later_slots n rounds t level places slot slots window (omega arith))
+      (All-tail Without slot slots alone) on)
 
-  waits_below : (slots : List DecidedSlot) (t : ℕ) (places : Places) → IsWindow n rounds t level places slots → All (λ slot. IsWithoutMulticast n level slot.rows) slots → All (λ w. w < longest_service n) (waits_from 0 (map noted_of slots) i j level)
+  waits_below : (slots : List DecidedSlot) (t : ℕ) (places : Places) → IsWindow n rounds t level places slots
+      → All (λ slot. IsWithoutMulticast n level slot.rows) slots → All (λ w. w < longest_service n) (waits_from 0 (map noted_of slots) i j level)
   waits_below slots t places window alone =
-      All-weaker (λ w. 2 * w + 2 ≤ twice_longest n) (λ w. w < longest_service n) (λ w fit. omega arith) (waits_from 0 (map noted_of slots) i j level) (waits_fit slots t places 0 window alone (inl refl))
+      All-weaker (λ w. 2 * w + 2 ≤ twice_longest n) (λ w. w < longest_service n) (λ w fit. omega arith) (waits_from 0 (map noted_of slots) i j level)
+      (waits_fit slots t places 0 window alone (inl refl))
 
 -- and so does the longest of all
-pub longest_wait-bound : (n rounds t level : ℕ) (places : Places) (slots : List DecidedSlot) → 0 < n → 0 < rounds → IsWindow n rounds t level places slots → All (λ slot. IsWithoutMulticast n level slot.rows) slots → longest_wait n level (map noted_of slots) < longest_service n
+pub longest_wait-bound : (n rounds t level : ℕ) (places : Places) (slots : List DecidedSlot) → 0 < n → 0 < rounds → IsWindow n rounds t level places slots
+    → All (λ slot. IsWithoutMulticast n level slot.rows) slots → longest_wait n level (map noted_of slots) < longest_service n
 longest_wait-bound n rounds t level places slots ports some window alone =
     let least = twice_longest-some n ports in
     longest_wait-below n level (longest_service n) (map noted_of slots) (omega (arith, least))

@@ -16,7 +16,8 @@ use Rattle.service_bound.proofs.Distances.{distance-above}
 use Rattle.service_bound.proofs.Postings.{Posting, IsPosted, zero_posted}
 use Rattle.service_bound.proofs.PostedSlots.{Suits}
 use Rattle.service_bound.proofs.PostedRuns.{decided, IsSwitch-after, Starts, IsLate, IsIn, IsLate-before, IsLate-last, step_alone, step_second, left_alone}
-use Rattle.service_bound.proofs.Descents.{plain, lowers, passes, downs, length-downs, starts_downs, starts_either, IsStanding, nearer_standing, late_slot, late_downs, late_passes, served_last_slot, IsBeginning}
+use Rattle.service_bound.proofs.Descents.{plain, lowers, passes, downs, length-downs, starts_downs, starts_either, IsStanding, nearer_standing}
+use Rattle.service_bound.proofs.Descents.{late_slot, late_downs, late_passes, served_last_slot, IsBeginning}
 
 -- the output that input 0 takes beside output a
 abbrev pub own_of : ℕ → ℕ
@@ -132,7 +133,9 @@ starts_climbs_all P n p b zero rest each starts = starts
 starts_climbs_all P n p b (suc k) rest each starts = each (joins (p + k) b)
 
 starts_level_of : (P : Posting → Type 0) (n p b k : ℕ) (rest : List Posting) → ((next : Posting) → P next) → Starts P (level_of n p b k rest)
-starts_level_of P n p b k rest each = starts_shares P (n - 1) (n - b) b (climbs n p b k (passes p ∷ rest)) (λ x y. each (plain (n - 1) x y)) (starts_climbs_all P n p b k (passes p ∷ rest) each (each (passes p)))
+starts_level_of P n p b k rest each =
+    starts_shares P (n - 1) (n - b) b (climbs n p b k (passes p ∷ rest)) (λ x y. each (plain (n - 1) x y))
+    (starts_climbs_all P n p b k (passes p ∷ rest) each (each (passes p)))
 
 starts_levels : (P : Posting → Type 0) (n p k : ℕ) → ((next : Posting) → P next) → Starts P (levels n p k)
 starts_levels P n p zero each = starts_downs P 0 (n - 2) 2 (lowers 0 0 ∷ []) (λ b. each (lowers 0 b)) (each (lowers 0 0))
@@ -151,18 +154,21 @@ module _ (n rounds : ℕ) (two : 1 < rounds) (three : 2 < n) where
   some_rounds = omega arith
 
   -- input x goes down while input 0 takes outputs of its own
-  late_shares : (p x b : ℕ) (rest : List Posting) → x < n → 0 < p → p ≤ x → Starts (λ next. IsPosted next x 0) rest → ((t : ℕ) (places : Places) → IsStanding n places p p x x n b → IsLate n rounds t places rest)
+  late_shares : (p x b : ℕ) (rest : List Posting) → x < n → 0 < p → p ≤ x → Starts (λ next. IsPosted next x 0) rest
+      → ((t : ℕ) (places : Places) → IsStanding n places p p x x n b → IsLate n rounds t places rest)
       → (k a t : ℕ) (places : Places) → 0 < a → a + k ≡ n → IsStanding n places p p x x a b → IsLate n rounds t places (shares x a k rest)
   late_shares p x b rest x_in some ahead starts then zero a t places a_some sum standing =
       let e : a ≡ n = omega arith in
       then t places (subst (λ v. IsStanding n places p p x x v b) e standing)
   late_shares p x b rest x_in some ahead starts then (suc k) a t places a_some sum standing =
-      late_slot n rounds some_rounds (shares x (a + 1) k rest) p p x x a (own_of a) b t places a_some (omega arith) x_in (omega arith) (inr (omega arith)) (inr (some, ahead)) (inr (omega arith, λ e. omega arith, some)) (inr (inr (omega arith))) standing
+      late_slot n rounds some_rounds (shares x (a + 1) k rest) p p x x a (own_of a) b t places a_some (omega arith) x_in (omega arith) (inr (omega arith))
+      (inr (some, ahead)) (inr (omega arith, λ e. omega arith, some)) (inr (inr (omega arith))) standing
       (starts_shares (λ next. IsPosted next x 0) x k (a + 1) rest (λ v w. inl (refl, inl refl)) starts)
       (λ places next. late_shares p x b rest x_in some ahead starts then k (a + 1) (t + 1) places (omega arith) (omega arith) next)
 
   -- input x begins to ask, and the one after it, which asks on, is served in the second round
-  late_joins : (p x b a : ℕ) (rest : List Posting) → x + 1 < n → 0 < p → p ≤ x → 0 < b → b < n → Starts (λ next. IsPosted next x 0) rest → ((t : ℕ) (places : Places) → IsStanding n places p p x x (b + 1) b → IsLate n rounds t places rest)
+  late_joins : (p x b a : ℕ) (rest : List Posting) → x + 1 < n → 0 < p → p ≤ x → 0 < b → b < n → Starts (λ next. IsPosted next x 0) rest
+      → ((t : ℕ) (places : Places) → IsStanding n places p p x x (b + 1) b → IsLate n rounds t places rest)
       → (t : ℕ) (places : Places) → IsStanding n places p p (x + 1) (x + 1) a b → IsLate n rounds t places (joins x b ∷ rest)
   late_joins p x b a rest x_in some ahead b_some b_in starts then t places standing =
       let it = joins x b in
@@ -180,19 +186,23 @@ module _ (n rounds : ℕ) (two : 1 < rounds) (three : 2 < n) where
         apart = λ other e. omega arith;
       } in
       let ports_in : IsIn n it = record { input_in = omega arith; beside_in = b_in; own_in = omega arith; other_in = x_in; output_in = omega arith } in
-      let step = step_second n rounds t places it standing.switch ports_in suits some_rounds two refl b_some refl (nearer_standing n From p (x + 1) standing.grant some (omega arith) x_in) in
+      let step = step_second n rounds t places it standing.switch ports_in suits some_rounds two refl b_some refl
+      (nearer_standing n From p (x + 1) standing.grant some (omega arith) x_in) in
       let next : IsStanding n (decided n rounds t places it).places p p x x (b + 1) b = record {
         switch = IsSwitch-after n rounds t places it standing.switch;
         grant = step.moving.grant_stays b_some ∙ standing.grant;
         accept = step.moving.accepted;
-        fresh = λ i i_low i_high. step.moving.accept_stays i (λ e. omega arith) (λ more e. omega arith) (λ more e. omega arith) ∙ standing.fresh i i_low (omega arith);
+        fresh = λ i i_low i_high. step.moving.accept_stays i (λ e. omega arith) (λ more e. omega arith) (λ more e. omega arith)
+            ∙ standing.fresh i i_low (omega arith);
       } in
-      IsLate-before n rounds t places it rest step.serving (left_alone n rounds t places it standing.switch ports_in suits some_rounds step (inr (inr (omega arith, refl))))
+      IsLate-before n rounds t places it rest step.serving
+      (left_alone n rounds t places it standing.switch ports_in suits some_rounds step (inr (inr (omega arith, refl))))
       (starts_either (λ next. b ≡ 0) (λ next. IsPosted next x 0) rest starts)
       (then (t + 1) (decided n rounds t places it).places next)
 
   -- the k inputs from p on go down
-  late_climbs : (p b : ℕ) (rest : List Posting) → 0 < p → 0 < b → b < n → Starts (λ next. IsPosted next p 0) rest → ((t : ℕ) (places : Places) → IsStanding n places p p p p n b → IsLate n rounds t places rest)
+  late_climbs : (p b : ℕ) (rest : List Posting) → 0 < p → 0 < b → b < n → Starts (λ next. IsPosted next p 0) rest
+      → ((t : ℕ) (places : Places) → IsStanding n places p p p p n b → IsLate n rounds t places rest)
       → (k t : ℕ) (places : Places) → p + k < n → IsStanding n places p p (p + k) (p + k) n b → IsLate n rounds t places (climbs n p b k rest)
   late_climbs p b rest some b_some b_in starts then zero t places p_in standing =
       let e : p + 0 ≡ p = omega arith in
@@ -203,11 +213,13 @@ module _ (n rounds : ℕ) (two : 1 < rounds) (three : 2 < n) where
       late_joins p (p + k) b n (shares (p + k) (b + 1) (n - (b + 1)) (climbs n p b k rest)) (omega arith) some (omega arith) b_some b_in
       (starts_shares (λ next. IsPosted next (p + k) 0) (p + k) (n - (b + 1)) (b + 1) (climbs n p b k rest) (λ v w. inl (refl, inl refl)) goes)
       (λ t places next. late_shares p (p + k) b (climbs n p b k rest) (omega arith) some (omega arith) goes
-      (λ t places next. late_climbs p b rest some b_some b_in starts then k t places (omega arith) next) (n - (b + 1)) (b + 1) t places (omega arith) (omega arith) next)
+      (λ t places next. late_climbs p b rest some b_some b_in starts then k t places (omega arith) next) (n - (b + 1)) (b + 1) t places (omega arith)
+      (omega arith) next)
       t places (subst (λ v. IsStanding n places p p v v n b) e standing)
 
   -- the level of p: all inputs from p on point at output b
-  late_level : (p b k x a : ℕ) (rest : List Posting) → 0 < p → p + k + 1 ≡ n → 0 < b → b < n → Starts (λ next. 0 < n) rest → ((t : ℕ) (places : Places) → IsStanding n places (p + 1) n n 0 2 2 → IsLate n rounds t places rest)
+  late_level : (p b k x a : ℕ) (rest : List Posting) → 0 < p → p + k + 1 ≡ n → 0 < b → b < n → Starts (λ next. 0 < n) rest
+      → ((t : ℕ) (places : Places) → IsStanding n places (p + 1) n n 0 2 2 → IsLate n rounds t places rest)
       → (t : ℕ) (places : Places) → IsStanding n places p p n x a b → IsLate n rounds t places (level_of n p b k rest)
   late_level p b k x a rest some sum b_some b_in starts then t places standing =
       let e : n - 1 ≡ p + k = omega arith in
@@ -218,17 +230,21 @@ module _ (n rounds : ℕ) (two : 1 < rounds) (three : 2 < n) where
         fresh = λ i i_low i_high. standing.fresh i i_low (omega arith);
       } in
       late_shares p (n - 1) b (climbs n p b k (passes p ∷ rest)) (omega arith) some (omega arith)
-      (subst (λ v. Starts (λ next. IsPosted next v 0) (climbs n p b k (passes p ∷ rest))) (sym e) (starts_climbs n p b k (passes p ∷ rest) (inl (refl, inl refl))))
+      (subst (λ v. Starts (λ next. IsPosted next v 0) (climbs n p b k (passes p ∷ rest))) (sym e)
+      (starts_climbs n p b k (passes p ∷ rest) (inl (refl, inl refl))))
       (λ t places next. late_climbs p b (passes p ∷ rest) some b_some b_in (inl (refl, inl refl))
       (λ t places next.
-      let wide : IsStanding n places p n n p n b = record { switch = next.switch; grant = next.grant; accept = next.accept; fresh = λ i i_low i_high. absurd (omega arith) } in
+      let wide : IsStanding n places p n n p n b =
+      record { switch = next.switch; grant = next.grant; accept = next.accept; fresh = λ i i_low i_high. absurd (omega arith) } in
       late_passes n rounds some_rounds rest p n n n b t places some (omega arith) (omega arith) wide starts
-      (λ places last. then (t + 1) places (record { switch = last.switch; grant = last.grant; accept = last.accept; fresh = λ i i_low i_high. absurd (omega arith) })))
+      (λ places last. then (t + 1) places
+      (record { switch = last.switch; grant = last.grant; accept = last.accept; fresh = λ i i_low i_high. absurd (omega arith) })))
       k t places (omega arith) (subst (λ v. IsStanding n places p p v v n b) e next))
       (n - b) b t places b_some (omega arith) begins
 
   -- input 0 goes down from output a to c, while k inputs from p on are set back
-  late_backs : (p c : ℕ) (rest : List Posting) → 0 < p → c ≤ n → Starts (λ next. IsPosted next 0 0) rest → ((t : ℕ) (places : Places) → IsStanding n places p p n 0 c 2 → IsLate n rounds t places rest)
+  late_backs : (p c : ℕ) (rest : List Posting) → 0 < p → c ≤ n → Starts (λ next. IsPosted next 0 0) rest
+      → ((t : ℕ) (places : Places) → IsStanding n places p p n 0 c 2 → IsLate n rounds t places rest)
       → (k a t : ℕ) (places : Places) → 1 < a → a + k ≡ c → p + k ≤ n → IsStanding n places p (p + k) n 0 a 2 → IsLate n rounds t places (backs p a k rest)
   late_backs p c rest some c_in starts then zero a t places high sum p_in standing =
       let e : a ≡ c = omega arith in
@@ -261,30 +277,39 @@ module _ (n rounds : ℕ) (two : 1 < rounds) (three : 2 < n) where
           | inr here ↦ let same : p + k ≡ i = omega arith in subst (λ v. accept_of after v 0 ≡ 2) same set
         ];
       } in
-      IsLate-before n rounds t places it (backs p (a + 1) k rest) step.serving (left_alone n rounds t places it standing.switch ports_in suits some_rounds step (inl (refl, omega arith)))
-      (starts_either (λ next. a ≡ 0) (λ next. IsPosted next 0 0) (backs p (a + 1) k rest) (starts_backs (λ next. IsPosted next 0 0) p k (a + 1) rest zero_posted starts))
+      IsLate-before n rounds t places it (backs p (a + 1) k rest) step.serving
+      (left_alone n rounds t places it standing.switch ports_in suits some_rounds step (inl (refl, omega arith)))
+      (starts_either (λ next. a ≡ 0) (λ next. IsPosted next 0 0) (backs p (a + 1) k rest)
+      (starts_backs (λ next. IsPosted next 0 0) p k (a + 1) rest zero_posted starts))
       (late_backs p c rest some c_in starts then k (a + 1) (t + 1) after (omega arith) (omega arith) (omega arith) next)
 
   -- the levels from p on
   late_levels : (k p t : ℕ) (places : Places) → 0 < p → p + k ≡ n → k + 2 ≤ n → IsStanding n places p n n 0 2 2 → IsLate n rounds t places (levels n p k)
   late_levels zero p t places some sum few standing =
       late_downs n rounds some_rounds p n n 0 2 (lowers 0 0 ∷ []) (omega arith) (inl (omega arith)) (inl refl) (inl refl) (inl (refl, inl refl))
-      (λ t places last. IsLate-last n rounds t places (lowers 0 0) (served_last_slot n rounds some_rounds t places (omega arith) last.switch)) (n - 2) 2 t places (omega arith) (omega arith) standing
+      (λ t places last. IsLate-last n rounds t places (lowers 0 0) (served_last_slot n rounds some_rounds t places (omega arith) last.switch))
+      (n - 2) 2 t places (omega arith) (omega arith) standing
   late_levels (suc k) p t places some sum few standing =
       let later = levels n (p + 1) k in
       let level = level_of n p 2 k later in
-      let begins : IsStanding n places p (p + suc k) n 0 2 2 = record { switch = standing.switch; grant = standing.grant; accept = standing.accept; fresh = λ i i_low i_high. absurd (omega arith) } in
+      let begins : IsStanding n places p (p + suc k) n 0 2 2 =
+      record { switch = standing.switch; grant = standing.grant; accept = standing.accept; fresh = λ i i_low i_high. absurd (omega arith) } in
       late_backs p (2 + suc k) (downs 0 (2 + suc k) (n - (2 + suc k)) level) some (omega arith)
-      (starts_downs (λ next. IsPosted next 0 0) 0 (n - (2 + suc k)) (2 + suc k) level (λ b. inl (refl, inl refl)) (starts_level_of (λ next. IsPosted next 0 0) n p 2 k later zero_posted))
-      (λ t places next. late_downs n rounds some_rounds p p n 0 2 level (omega arith) (inl some) (inl refl) (inl refl) (starts_level_of (λ next. IsPosted next 0 0) n p 2 k later zero_posted)
-      (λ t places next. late_level p 2 k 0 n later some (omega arith) (omega arith) (omega arith) (starts_levels (λ next. 0 < n) n (p + 1) k (λ next. omega arith))
+      (starts_downs (λ next. IsPosted next 0 0) 0 (n - (2 + suc k)) (2 + suc k) level (λ b. inl (refl, inl refl))
+      (starts_level_of (λ next. IsPosted next 0 0) n p 2 k later zero_posted))
+      (λ t places next. late_downs n rounds some_rounds p p n 0 2 level (omega arith) (inl some) (inl refl) (inl refl)
+      (starts_level_of (λ next. IsPosted next 0 0) n p 2 k later zero_posted)
+      (λ t places next. late_level p 2 k 0 n later some (omega arith) (omega arith) (omega arith)
+      (starts_levels (λ next. 0 < n) n (p + 1) k (λ next. omega arith))
       (λ t places next. late_levels k (p + 1) t places (omega arith) (omega arith) (omega arith) next) t places next)
       (n - (2 + suc k)) (2 + suc k) t places (omega arith) (omega arith) next)
       (suc k) 2 t places (omega arith) (omega arith) (omega arith) begins
 
   pub late_family : (t : ℕ) (places : Places) → IsBeginning n places → IsLate n rounds t places (family n)
   late_family t places begins =
-      late_downs n rounds some_rounds 1 1 n 0 1 (level_of n 1 1 (n - 2) (levels n 2 (n - 2))) (omega arith) (inl (omega arith)) (inl refl) (inl refl) (starts_level_of (λ next. IsPosted next 0 0) n 1 1 (n - 2) (levels n 2 (n - 2)) zero_posted)
-      (λ t places next. late_level 1 1 (n - 2) 0 n (levels n 2 (n - 2)) (omega arith) (omega arith) (omega arith) (omega arith) (starts_levels (λ next. 0 < n) n 2 (n - 2) (λ next. omega arith))
+      late_downs n rounds some_rounds 1 1 n 0 1 (level_of n 1 1 (n - 2) (levels n 2 (n - 2))) (omega arith) (inl (omega arith)) (inl refl) (inl refl)
+      (starts_level_of (λ next. IsPosted next 0 0) n 1 1 (n - 2) (levels n 2 (n - 2)) zero_posted)
+      (λ t places next. late_level 1 1 (n - 2) 0 n (levels n 2 (n - 2)) (omega arith) (omega arith) (omega arith) (omega arith)
+      (starts_levels (λ next. 0 < n) n 2 (n - 2) (λ next. omega arith))
       (λ t places next. late_levels (n - 2) 2 t places (omega arith) (omega arith) (omega arith) next) t places next)
       (n - 1) 1 t places (omega arith) (omega arith) begins

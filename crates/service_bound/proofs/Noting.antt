@@ -1,5 +1,6 @@
 -- What a meter keeps says of the slots that it has noted, and a slot more keeps it so.
-use Rattle.std.proofs.Common.{◌≡◌, ℕ, ◌+◌, ◌-◌, ◌*◌, ◌/◌, ◌%◌, ◌<◌, ◌≤◌, ◌∙◌, ◌++◌, Bool, true, cond, max, List, [], ◌∷◌, length, map, replicate, slice_index, slice_index_or, slice_set, refl, sym, ap, subst, inl, inr, arith, length-append}
+use Rattle.std.proofs.Common.{◌≡◌, ℕ, ◌+◌, ◌-◌, ◌*◌, ◌/◌, ◌%◌, ◌<◌, ◌≤◌, ◌∙◌, ◌++◌, Bool, true, cond, max, List, [], ◌∷◌, length, map, replicate}
+use Rattle.std.proofs.Common.{slice_index, slice_index_or, slice_set, refl, sym, ap, subst, inl, inr, arith, length-append}
 use Rattle.std.specs.List.{flat_map, range_with_len}
 use Rattle.std.proofs.lemmas.List.{length-replicate, get_or-replicate, get_or_default, get_or-set_same, get_or-set_other}
 use Rattle.std.proofs.lemmas.Bool.{cases_eq}
@@ -9,7 +10,8 @@ use Rattle.rotating_pick.specs.declared.kinds.Kind.TheVariants.{Uni}
 use Rattle.rotating_pick.proofs.Bits.{no_member-zero}
 use Rattle.slot_match.specs.Rows.{AreWithin}
 use Rattle.service_bound.specs.Waits.{NotedSlot, is_waiting, wait_in, waits_from, greatest, longest_wait}
-use Rattle.service_bound.specs.Meters.{Queues, Meter, queues_at_first, place_of, queues_at, wait_at, longest_of, longest_at, AreBegun, NotesSlot, wait_after, HaveNoted, HasNoted}
+use Rattle.service_bound.specs.Meters.{Queues, Meter, queues_at_first, place_of, queues_at, wait_at, longest_of, longest_at, AreBegun, NotesSlot}
+use Rattle.service_bound.specs.Meters.{wait_after, HaveNoted, HasNoted}
 use Rattle.service_bound.proofs.Greatest.{greatest-append, greatest-flat_map, greatest-within, greatest-same, greatest-beyond, greatest-max}
 use Rattle.service_bound.proofs.Levels.{wait_at-rests, longest_of-none}
 use Rattle.service_bound.proofs.Waiting.{Decides-waiting}
@@ -20,7 +22,8 @@ wait_from : ℕ → List NotedSlot → ℕ → ℕ → ℕ → ℕ
 wait_from before [] i j level = before
 wait_from before (slot ∷ slots) i j level = wait_from (wait_in slot before i j level) slots i j level
 
-wait_from-last : (before : ℕ) (slot : NotedSlot) (slots : List NotedSlot) (i j level : ℕ) → slice_index (waits_from before (slot ∷ slots) i j level) (length slots) ≡ wait_from before (slot ∷ slots) i j level
+wait_from-last : (before : ℕ) (slot : NotedSlot) (slots : List NotedSlot) (i j level : ℕ)
+    → slice_index (waits_from before (slot ∷ slots) i j level) (length slots) ≡ wait_from before (slot ∷ slots) i j level
 unfolding wait_from
 wait_from-last before slot [] i j level = refl
 wait_from-last before slot (next ∷ slots) i j level = wait_from-last (wait_in slot before i j level) next slots i j level
@@ -30,27 +33,34 @@ unfolding wait_from
 wait_after-from [] i j level = refl
 wait_after-from (slot ∷ slots) i j level = let e : length (slot ∷ slots) - 1 ≡ length slots = omega arith in rw e (wait_from-last 0 slot slots i j level)
 
-wait_from-more : (before : ℕ) (slots : List NotedSlot) (slot : NotedSlot) (i j level : ℕ) → wait_from before (slots ++ slot ∷ []) i j level ≡ wait_in slot (wait_from before slots i j level) i j level
+wait_from-more : (before : ℕ) (slots : List NotedSlot) (slot : NotedSlot) (i j level : ℕ)
+    → wait_from before (slots ++ slot ∷ []) i j level ≡ wait_in slot (wait_from before slots i j level) i j level
 unfolding wait_from
 wait_from-more before [] slot i j level = refl
 wait_from-more before (first ∷ slots) slot i j level = wait_from-more (wait_in first before i j level) slots slot i j level
 
-waits_from-more : (before : ℕ) (slots : List NotedSlot) (slot : NotedSlot) (i j level : ℕ) → waits_from before (slots ++ slot ∷ []) i j level ≡ waits_from before slots i j level ++ wait_in slot (wait_from before slots i j level) i j level ∷ []
+waits_from-more : (before : ℕ) (slots : List NotedSlot) (slot : NotedSlot) (i j level : ℕ)
+    → waits_from before (slots ++ slot ∷ []) i j level ≡ waits_from before slots i j level ++ wait_in slot (wait_from before slots i j level) i j level ∷ []
 unfolding wait_from
 waits_from-more before [] slot i j level = refl
-waits_from-more before (first ∷ slots) slot i j level = ap (λ waits. wait_in first before i j level ∷ waits) (waits_from-more (wait_in first before i j level) slots slot i j level)
+waits_from-more before (first ∷ slots) slot i j level =
+    ap (λ waits. wait_in first before i j level ∷ waits) (waits_from-more (wait_in first before i j level) slots slot i j level)
 
 -- the wait after a slot more
-wait_after-more : (slots : List NotedSlot) (slot : NotedSlot) (i j level : ℕ) → wait_after (slots ++ slot ∷ []) i j level ≡ wait_in slot (wait_after slots i j level) i j level
+wait_after-more : (slots : List NotedSlot) (slot : NotedSlot) (i j level : ℕ)
+    → wait_after (slots ++ slot ∷ []) i j level ≡ wait_in slot (wait_after slots i j level) i j level
 wait_after-more slots slot i j level =
-    wait_after-from (slots ++ slot ∷ []) i j level ∙ wait_from-more 0 slots slot i j level ∙ ap (λ before. wait_in slot before i j level) (sym (wait_after-from slots i j level))
+    wait_after-from (slots ++ slot ∷ []) i j level ∙ wait_from-more 0 slots slot i j level
+    ∙ ap (λ before. wait_in slot before i j level) (sym (wait_after-from slots i j level))
 
 -- and the longest wait
-greatest-more_waits : (slots : List NotedSlot) (slot : NotedSlot) (i j level : ℕ) → greatest (waits_from 0 (slots ++ slot ∷ []) i j level) ≡ max (greatest (waits_from 0 slots i j level)) (wait_after (slots ++ slot ∷ []) i j level)
+greatest-more_waits : (slots : List NotedSlot) (slot : NotedSlot) (i j level : ℕ)
+    → greatest (waits_from 0 (slots ++ slot ∷ []) i j level) ≡ max (greatest (waits_from 0 slots i j level)) (wait_after (slots ++ slot ∷ []) i j level)
 greatest-more_waits slots slot i j level =
     let now = wait_from-more 0 slots slot i j level in
     let last = wait_after-from (slots ++ slot ∷ []) i j level in
-    let all = ap greatest (waits_from-more 0 slots slot i j level) ∙ greatest-append (waits_from 0 slots i j level) (wait_in slot (wait_from 0 slots i j level) i j level ∷ []) in
+    let all = ap greatest (waits_from-more 0 slots slot i j level)
+    ∙ greatest-append (waits_from 0 slots i j level) (wait_in slot (wait_from 0 slots i j level) i j level ∷ []) in
     omega arith
 
 -- ---- the queues of one input at a level
@@ -69,18 +79,28 @@ HaveNoted-first n i level =
     }
 
 -- after a slot more
-HaveNoted-more : (n : ℕ) (slots : List NotedSlot) (slot : NotedSlot) (i level : ℕ) (old new : Queues) → n ≤ MAX_PORTS → ((j : ℕ) → is_waiting slot i j level ≡ true → j < n) → HaveNoted n slots i level old → NotesSlot (length slots) (λ j. is_waiting slot i j level) old new → HaveNoted n (slots ++ slot ∷ []) i level new
+HaveNoted-more : (n : ℕ) (slots : List NotedSlot) (slot : NotedSlot) (i level : ℕ) (old new : Queues) → n ≤ MAX_PORTS
+    → ((j : ℕ) → is_waiting slot i j level ≡ true → j < n) → HaveNoted n slots i level old → NotesSlot (length slots) (λ j. is_waiting slot i j level) old new
+    → HaveNoted n (slots ++ slot ∷ []) i level new
 HaveNoted-more n slots slot i level old new size within before notes =
     let more : length (slots ++ slot ∷ []) ≡ length slots + 1 = length-append slots (slot ∷ []) in
-    let waits : (j : ℕ) → j < n → wait_at new (length slots + 1) j ≡ wait_after (slots ++ slot ∷ []) i j level = λ j below. notes.waits j ∙ ap (λ wait. cond (is_waiting slot i j level) (wait + 1) 0) (before.waits j below) ∙ sym (wait_after-more slots slot i j level) in
+    let waits : (j : ℕ) → j < n → wait_at new (length slots + 1) j ≡ wait_after (slots ++ slot ∷ []) i j level = λ j below. notes.waits j
+    ∙ ap (λ wait. cond (is_waiting slot i j level) (wait + 1) 0) (before.waits j below) ∙ sym (wait_after-more slots slot i j level) in
     let long : length new.began ≡ MAX_PORTS = notes.long ∙ before.long in
     let among : (j : ℕ) → Has new.waiting j → j < n = λ j has. within j (notes.among j has) in
-    let rests : (j : ℕ) → n ≤ j → wait_at new (length slots + 1) j ≡ 0 = λ j beyond. wait_at-rests new (length slots + 1) j (λ has. let below = among j has in omega arith) in
-    let running : longest_of new.began new.waiting (length slots + 1) ≡ greatest (map (λ j. wait_after (slots ++ slot ∷ []) i j level) (range_with_len 0 n)) = ap (λ m. greatest (map (wait_at new (length slots + 1)) (range_with_len 0 m))) long ∙ greatest-beyond (wait_at new (length slots + 1)) n MAX_PORTS size rests ∙ greatest-same (wait_at new (length slots + 1)) (λ j. wait_after (slots ++ slot ∷ []) i j level) n waits in
+    let rests : (j : ℕ) → n ≤ j → wait_at new (length slots + 1) j ≡ 0 =
+    λ j beyond. wait_at-rests new (length slots + 1) j (λ has. let below = among j has in omega arith) in
+    let running : longest_of new.began new.waiting (length slots + 1) ≡ greatest (map (λ j. wait_after (slots ++ slot ∷ []) i j level) (range_with_len 0 n)) =
+    ap (λ m. greatest (map (wait_at new (length slots + 1)) (range_with_len 0 m))) long
+    ∙ greatest-beyond (wait_at new (length slots + 1)) n MAX_PORTS size rests
+    ∙ greatest-same (wait_at new (length slots + 1)) (λ j. wait_after (slots ++ slot ∷ []) i j level) n waits in
     let old_all = greatest-flat_map (λ j. waits_from 0 slots i j level) (range_with_len 0 n) in
     let new_all = greatest-flat_map (λ j. waits_from 0 (slots ++ slot ∷ []) i j level) (range_with_len 0 n) in
-    let joined = greatest-max (λ j. greatest (waits_from 0 slots i j level)) (λ j. wait_after (slots ++ slot ∷ []) i j level) (λ j. greatest (waits_from 0 (slots ++ slot ∷ []) i j level)) n (λ j below. greatest-more_waits slots slot i j level) in
-    let longest : longest_at new (length slots + 1) ≡ greatest (flat_map (λ j. waits_from 0 (slots ++ slot ∷ []) i j level) (range_with_len 0 n)) = notes.longest ∙ ap (λ x. max x (longest_of new.began new.waiting (length slots + 1))) (before.longest ∙ old_all) ∙ ap (λ x. max (greatest (map (λ j. greatest (waits_from 0 slots i j level)) (range_with_len 0 n))) x) running ∙ joined ∙ sym new_all in
+    let joined = greatest-max (λ j. greatest (waits_from 0 slots i j level)) (λ j. wait_after (slots ++ slot ∷ []) i j level)
+    (λ j. greatest (waits_from 0 (slots ++ slot ∷ []) i j level)) n (λ j below. greatest-more_waits slots slot i j level) in
+    let longest : longest_at new (length slots + 1) ≡ greatest (flat_map (λ j. waits_from 0 (slots ++ slot ∷ []) i j level) (range_with_len 0 n)) =
+    notes.longest ∙ ap (λ x. max x (longest_of new.began new.waiting (length slots + 1))) (before.longest ∙ old_all)
+    ∙ ap (λ x. max (greatest (map (λ j. greatest (waits_from 0 slots i j level)) (range_with_len 0 n))) x) running ∙ joined ∙ sym new_all in
     record {
       long = long;
       begun = rw more notes.begun;
@@ -94,7 +114,8 @@ HaveNoted-more n slots slot i level old new size within before notes =
 pub found_is : (all : List Queues) (place : ℕ) (found : Queues) → place < length all → found ≡ slice_index_or all place found → found ≡ queues_at all place
 found_is all place found inside is = is ∙ get_or_default all place found queues_at_first inside
 
-pub AreBegun-noted : (meter : Meter) (slots : List NotedSlot) → HasNoted meter slots → (place : ℕ) → place < length meter.queues → AreBegun meter.count (queues_at meter.queues place)
+pub AreBegun-noted : (meter : Meter) (slots : List NotedSlot) → HasNoted meter slots → (place : ℕ) → place < length meter.queues
+    → AreBegun meter.count (queues_at meter.queues place)
 AreBegun-noted meter slots noted place inside =
     let long = noted.long in
     let here : place_of (place / 4) (place % 4) ≡ place = omega arith in
@@ -106,10 +127,15 @@ HasNoted-first n size = record {
   size = size;
   count = refl;
   long = length-replicate {A = Queues} (LEVELS * n) queues_at_first;
-  queues = λ i level i_in level_in. rw (get_or-replicate (LEVELS * n) (place_of i level) queues_at_first queues_at_first (omega arith)) (HaveNoted-first n i level);
+  queues = λ i level i_in level_in. rw (get_or-replicate (LEVELS * n) (place_of i level) queues_at_first queues_at_first (omega arith))
+      (HaveNoted-first n i level);
 }
 
-pub HasNoted-more : (old new : Meter) (slots : List NotedSlot) (slot : NotedSlot) → new.ports ≡ old.ports → new.count ≡ old.count + 1 → length new.queues ≡ length old.queues → ((place : ℕ) → place < length old.queues → NotesSlot old.count (λ j. is_waiting slot (place / LEVELS) j (place % LEVELS)) (queues_at old.queues place) (queues_at new.queues place)) → AreWithin old.ports slot.rows → HasNoted old slots → HasNoted new (slots ++ slot ∷ [])
+pub HasNoted-more : (old new : Meter) (slots : List NotedSlot) (slot : NotedSlot) → new.ports ≡ old.ports → new.count ≡ old.count + 1
+    → length new.queues ≡ length old.queues
+    → ((place : ℕ) → place < length old.queues
+    → NotesSlot old.count (λ j. is_waiting slot (place / LEVELS) j (place % LEVELS)) (queues_at old.queues place) (queues_at new.queues place))
+    → AreWithin old.ports slot.rows → HasNoted old slots → HasNoted new (slots ++ slot ∷ [])
 HasNoted-more old new slots slot ports count long notes within noted =
     let old_count = noted.count in
     let old_long = noted.long in
@@ -123,17 +149,25 @@ HasNoted-more old new slots slot ports count long notes within noted =
           let row : place / LEVELS ≡ i = omega arith in
           let column : place % LEVELS ≡ level = omega arith in
           let Notes : ℕ → ℕ → ℕ → Type 0 = λ c r l. NotesSlot c (λ j. is_waiting slot r j l) (queues_at old.queues place) (queues_at new.queues place) in
-          let here : Notes (length slots) i level = subst (λ c. Notes c i level) old_count (subst (λ l. Notes old.count i l) column (subst (λ r. Notes old.count r (place % LEVELS)) row (notes place (omega arith)))) in
-          subst (λ n. HaveNoted n (slots ++ slot ∷ []) i level (queues_at new.queues place)) (sym ports) (HaveNoted-more old.ports slots slot i level (queues_at old.queues place) (queues_at new.queues place) noted.size (λ j waits. within.ports i inside level j Uni ((Decides-waiting slot i j level).0 waits).0) (noted.queues i level inside level_in) here);
+          let here : Notes (length slots) i level =
+          subst (λ c. Notes c i level) old_count
+          (subst (λ l. Notes old.count i l) column (subst (λ r. Notes old.count r (place % LEVELS)) row (notes place (omega arith)))) in
+          subst (λ n. HaveNoted n (slots ++ slot ∷ []) i level (queues_at new.queues place)) (sym ports)
+          (HaveNoted-more old.ports slots slot i level (queues_at old.queues place) (queues_at new.queues place) noted.size
+          (λ j waits. within.ports i inside level j Uni ((Decides-waiting slot i j level).0 waits).0) (noted.queues i level inside level_in) here);
     }
 
 -- the longest wait of a level is the longest of its queues
-pub longest-noted : (meter : Meter) (slots : List NotedSlot) (level : ℕ) → HasNoted meter slots → level < LEVELS → greatest (map (λ i. longest_at (queues_at meter.queues (place_of i level)) meter.count) (range_with_len 0 meter.ports)) ≡ longest_wait meter.ports level slots
+pub longest-noted : (meter : Meter) (slots : List NotedSlot) (level : ℕ) → HasNoted meter slots → level < LEVELS
+    → greatest (map (λ i. longest_at (queues_at meter.queues (place_of i level)) meter.count)
+    (range_with_len 0 meter.ports)) ≡ longest_wait meter.ports level slots
 unfolding longest_wait
 longest-noted meter slots level noted level_in =
     let n = meter.ports in
     let all = greatest-flat_map (λ i. flat_map (λ j. waits_from 0 slots i j level) (range_with_len 0 n)) (range_with_len 0 n) in
-    greatest-same (λ i. longest_at (queues_at meter.queues (place_of i level)) meter.count) (λ i. greatest (flat_map (λ j. waits_from 0 slots i j level) (range_with_len 0 n))) n (λ i below. rw noted.count (noted.queues i level below level_in).longest) ∙ sym all
+    greatest-same (λ i. longest_at (queues_at meter.queues (place_of i level)) meter.count)
+    (λ i. greatest (flat_map (λ j. waits_from 0 slots i j level) (range_with_len 0 n))) n
+    (λ i below. rw noted.count (noted.queues i level below level_in).longest) ∙ sym all
 
 -- ---- place after place
 -- another test of the same queues
@@ -151,7 +185,8 @@ pub left-set : (now : List Queues) (place : ℕ) (new : Queues) (k : ℕ) → (k
 left-set now place new k other = get_or-set_other now place k new queues_at_first other
 
 -- what holds of the place and of the others holds of all
-pub noted-set : (P : ℕ → Queues → Queues → Type 0) (old now : List Queues) (place : ℕ) (new : Queues) → place < length now → P place (queues_at old place) new → (k : ℕ) → ((k ≡ place → ⊥) → P k (queues_at old k) (queues_at now k)) → P k (queues_at old k) (queues_at (slice_set now place new) k)
+pub noted-set : (P : ℕ → Queues → Queues → Type 0) (old now : List Queues) (place : ℕ) (new : Queues) → place < length now → P place (queues_at old place) new
+    → (k : ℕ) → ((k ≡ place → ⊥) → P k (queues_at old k) (queues_at now k)) → P k (queues_at old k) (queues_at (slice_set now place new) k)
 noted-set P old now place new inside here k others =
     elim (cases_eq k place) [
       | inl same ↦ rw (same, get_or-set_same now place new queues_at_first inside) here

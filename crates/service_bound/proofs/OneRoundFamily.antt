@@ -61,14 +61,17 @@ module _ (n : ℕ) where
         accept = standing.fresh p (omega arith) p_in ∙ sym (mod-eq_of_lt (omega arith));
         fresh = λ i late i_in. standing.fresh i (omega arith) i_in;
       } in
-      late_downs n 1 one p (p + 1) n p 1 (passes p ∷ downs 0 2 (n - 2) later) p_in (inl (omega arith)) (inr (some, omega arith)) (inr refl) (inl (refl, inl refl))
+      late_downs n 1 one p (p + 1) n p 1 (passes p ∷ downs 0 2 (n - 2) later) p_in (inl (omega arith)) (inr (some, omega arith)) (inr refl)
+      (inl (refl, inl refl))
       (λ t places standing. late_passes n 1 one (downs 0 2 (n - 2) later) p (p + 1) n n 1 t places some p_in (omega arith) standing
       (starts_downs (λ next. 0 < n) 0 (n - 2) 2 later (λ b. omega arith) (starts_turns (λ next. 0 < n) n k (p + 1) (λ next. omega arith)))
-      (λ places next. late_downs n 1 one (p + 1) (p + 1) n 0 1 later (omega arith) (inl (omega arith)) (inl refl) (inl refl) (starts_turns (λ next. IsPosted next 0 0) n k (p + 1) zero_posted)
+      (λ places next. late_downs n 1 one (p + 1) (p + 1) n 0 1 later (omega arith) (inl (omega arith)) (inl refl) (inl refl)
+      (starts_turns (λ next. IsPosted next 0 0) n k (p + 1) zero_posted)
       (λ t places standing. late_turns k (p + 1) t places (omega arith) (omega arith) standing) (n - 2) 2 (t + 1) places (omega arith) (omega arith) next))
       (n - 1) 1 t places (omega arith) (omega arith) begins
 
   pub late_family : (t : ℕ) (places : Places) → 0 < n → IsBeginning n places → IsLate n 1 t places (family n)
   late_family t places some begins =
-      late_downs n 1 one 1 1 n 0 1 (turns n 1 (n - 1)) some (inl (omega arith)) (inl refl) (inl refl) (starts_turns (λ next. IsPosted next 0 0) n (n - 1) 1 zero_posted)
+      late_downs n 1 one 1 1 n 0 1 (turns n 1 (n - 1)) some (inl (omega arith)) (inl refl) (inl refl)
+      (starts_turns (λ next. IsPosted next 0 0) n (n - 1) 1 zero_posted)
       (λ t places standing. late_turns (n - 1) 1 t places (omega arith) (omega arith) standing) (n - 1) 1 t places (omega arith) (omega arith) begins

@@ -22,7 +22,11 @@ record AsksWithin (n level i j : ℕ) (places : Places) (most : ℕ) (rows : Lis
 one_falling : (n level i j : ℕ) → i < n → IsFalling AreMoved n 1 level i j (longest_service_in_one_round n) (AsksWithin n level i j)
 one_falling n level i j i_in =
     record {
-      begins = λ t places slot now named. record { named = named; below = λ g nearest. let bound = one_rank_of-bound n level places slot.rows i j g now.pointing i_in (now.within.ports i i_in level j Uni named) in omega (arith, bound) };
+      begins = λ t places slot now named. record {
+        named = named;
+        below = λ g nearest. let bound =
+            one_rank_of-bound n level places slot.rows i j g now.pointing i_in (now.within.ports i i_in level j Uni named) in omega (arith, bound);
+      };
       some = λ places most rows pointing within asks.
           let nearest = nearest_of n level places rows i j pointing i_in (within.ports i i_in level j Uni asks.named) asks.named in
           let below = asks.below nearest.0 nearest.1 in
@@ -32,17 +36,22 @@ one_falling n level i j i_in =
           let below = asks.below nearest.0 nearest.1 in
           record {
             named = on i i_in asks.named left;
-            below = λ h next. let falls = one_falls_in_slot n t level places slot now alone later i j nearest.0 h i_in asks.named left on nearest.1 next in omega (arith, falls, below);
+            below = λ h next. let falls = one_falls_in_slot n t level places slot now alone later i j nearest.0 h i_in asks.named left on nearest.1 next in
+                omega (arith, falls, below);
           };
     }
 
 -- the longest service in one round is slots enough
-pub one_served_in_time : (n t level i j : ℕ) (places : Places) (slots : List DecidedSlot) → i < n → IsWindow n 1 t level places slots → All (λ slot. IsWithoutMulticast n level slot.rows) slots → InFirst (λ rows. Names (row_of rows i) level Uni j) slots
+pub one_served_in_time : (n t level i j : ℕ) (places : Places) (slots : List DecidedSlot) → i < n → IsWindow n 1 t level places slots
+    → All (λ slot. IsWithoutMulticast n level slot.rows) slots → InFirst (λ rows. Names (row_of rows i) level Uni j) slots
     → longest_service_in_one_round n ≤ length slots → Any (λ slot. Serves slot.decision.matched i j level Uni) slots
 one_served_in_time n t level i j places slots i_in =
-    served_by_falling AreMoved n 1 level i j (longest_service_in_one_round n) (AsksWithin n level i j) (AreMoved-keep n level) (longest_in_one-some n (omega arith)) (one_falling n level i j i_in) t places slots
+    served_by_falling AreMoved n 1 level i j (longest_service_in_one_round n) (AsksWithin n level i j) (AreMoved-keep n level)
+    (longest_in_one-some n (omega arith)) (one_falling n level i j i_in) t places slots
 
 -- and no queue waits for as many
-pub one_longest_wait-bound : (n t level : ℕ) (places : Places) (slots : List DecidedSlot) → 0 < n → IsWindow n 1 t level places slots → All (λ slot. IsWithoutMulticast n level slot.rows) slots → longest_wait n level (map noted_of slots) < longest_service_in_one_round n
+pub one_longest_wait-bound : (n t level : ℕ) (places : Places) (slots : List DecidedSlot) → 0 < n → IsWindow n 1 t level places slots
+    → All (λ slot. IsWithoutMulticast n level slot.rows) slots → longest_wait n level (map noted_of slots) < longest_service_in_one_round n
 one_longest_wait-bound n t level places slots ports =
-    longest_by_falling AreMoved n 1 t level (longest_service_in_one_round n) (AsksWithin n level) places slots (AreMoved-keep n level) (longest_in_one-some n ports) (one_falling n level)
+    longest_by_falling AreMoved n 1 t level (longest_service_in_one_round n) (AsksWithin n level) places slots (AreMoved-keep n level)
+    (longest_in_one-some n ports) (one_falling n level)

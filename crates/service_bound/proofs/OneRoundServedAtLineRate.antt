@@ -19,7 +19,8 @@ use Rattle.service_bound.proofs.Fresh.{fresh_for, fresh_of, fresh_of-most}
 use Rattle.service_bound.proofs.LaterRounds.{first_of, BeginsWith, BeginsWith-slot}
 use Rattle.service_bound.proofs.InWindows.{AskOn, AreMoved-keep, IsWindowSlot}
 use Rattle.service_bound.proofs.OneRoundRank.{silent_at-most, silent_at-own, silent_at-after, one_rank-bound, one_rank-greatest}
-use Rattle.service_bound.proofs.OneRound.{silent_for, silent_of, silent_of-lt, one_rank_of, IsNearest, nearest_of, one_is_first, one_falls_in_slot, one_rank_of-bound}
+use Rattle.service_bound.proofs.OneRound.{silent_for, silent_of, silent_of-lt, one_rank_of, IsNearest, nearest_of, one_is_first, one_falls_in_slot}
+use Rattle.service_bound.proofs.OneRound.{one_rank_of-bound}
 use Rattle.service_bound.proofs.LineRateClasses.{IsAlone, IsLower}
 use Rattle.service_bound.proofs.OneRoundAtLineRate.{falls_at_line_rate}
 use Rattle.service_bound.proofs.Falling.{IsFallingWhere, served_where, longest_where}
@@ -39,16 +40,19 @@ not_silent f m x i x_in i_in other all zero own =
     omega (arith, sums, ones, zero, own)
 
 -- where the rank is greatest, the rows are of class A
-begins_alone : (n level : ℕ) (places : Places) (rows : List Row) (i j g : ℕ) → 2 < n → ArePointing n level places → i < n → j < n → (one_rank_of n level places rows i j g + 2 ≤ longest_service_in_one_round n) ⊎ IsAlone n level i j places rows
+begins_alone : (n level : ℕ) (places : Places) (rows : List Row) (i j g : ℕ) → 2 < n → ArePointing n level places → i < n → j < n
+    → (one_rank_of n level places rows i j g + 2 ≤ longest_service_in_one_round n) ⊎ IsAlone n level i j places rows
 begins_alone n level places rows i j g more pointing i_in j_in =
     let from_in = pointing.grant j j_in in
     let far_in = distance-lt n (grant_of places j level) i from_in in
     let few = fresh_of-most n level places i j pointing j_in in
     let one : n * min (n - 1) 1 ≡ n * 1 = ap (λ v. n * v) (omega arith) in
-    elim (one_rank-greatest n (distance n (grant_of places j level) i) (silent_of n level places rows i j) (distance n (accept_of places g level) j) (fresh_of n level places i j) more far_in (silent_of-lt n level places rows i j i_in) (omega (arith, few, one))) [
+    elim (one_rank-greatest n (distance n (grant_of places j level) i) (silent_of n level places rows i j) (distance n (accept_of places g level) j)
+    (fresh_of n level places i j) more far_in (silent_of-lt n level places rows i j i_in) (omega (arith, few, one))) [
       | inl less ↦ inl less
       | inr greatest ↦
-          let turns : (x : ℕ) → x < n → distance n (accept_of places x level) j < n = λ x x_in. distance-lt n (accept_of places x level) j (pointing.accept x x_in) in
+          let turns : (x : ℕ) → x < n → distance n (accept_of places x level) j < n =
+          λ x x_in. distance-lt n (accept_of places x level) j (pointing.accept x x_in) in
           let fresh : (x : ℕ) → x < n → distance n (accept_of places x level) j + 1 ≡ n = λ x x_in.
           let some = ones_of (fresh_for n level places i j) n x x_in (λ y y_in. let turns_in = turns y y_in in omega (arith, turns_in)) in
           let turns_in = turns x x_in in
@@ -59,8 +63,11 @@ begins_alone n level places rows i j g more pointing i_in j_in =
             only = λ x x_in asks. elim (cases_eq x i) [
               | inl same ↦ same
               | inr other ↦
-                  let less = not_silent (silent_for n level places rows i j) n x i x_in i_in other (λ y y_in. silent_at-most (distance n (grant_of places j level) i) (distance n (grant_of places j level) y) (is_named (row_of rows y) level Uni j))
-                  (silent_at-after (distance n (grant_of places j level) i) (distance n (grant_of places j level) x) (is_named (row_of rows x) level Uni j) ((Decides-named (row_of rows x) level Uni j).1 asks))
+                  let less = not_silent (silent_for n level places rows i j) n x i x_in i_in other
+                  (λ y y_in. silent_at-most (distance n (grant_of places j level) i) (distance n (grant_of places j level) y)
+                  (is_named (row_of rows y) level Uni j))
+                  (silent_at-after (distance n (grant_of places j level) i) (distance n (grant_of places j level) x) (is_named (row_of rows x) level Uni j)
+                  ((Decides-named (row_of rows x) level Uni j).1 asks))
                   (silent_at-own (distance n (grant_of places j level) i) (is_named (row_of rows i) level Uni j)) in
                   let all = greatest.1 in
                   absurd (omega (arith, less, all))
@@ -72,16 +79,22 @@ begins_alone n level places rows i j g more pointing i_in j_in =
 -- Where these rows are posted: the input asks, and the rank, or in rows of either class the rank less 1, is below `most`.
 record AsksWithinLower (n level i j : ℕ) (places : Places) (most : ℕ) (rows : List Row) : Type 0 where
   named : Names (row_of rows i) level Uni j
-  below : (g : ℕ) → IsNearest n level places rows j g → (one_rank_of n level places rows i j g < most) ⊎ ((one_rank_of n level places rows i j g ≤ most) × IsLower n level i j places rows)
+  below : (g : ℕ) → IsNearest n level places rows j g → (one_rank_of n level places rows i j g < most)
+      ⊎ ((one_rank_of n level places rows i j g ≤ most) × IsLower n level i j places rows)
 
 -- what a slot of a window makes of it
-lower_in_slot : (n t level : ℕ) (places : Places) (slot : DecidedSlot) → 2 < n → IsWindowSlot n 1 t level places slot → IsWithoutMulticast n level slot.rows → (later : List Row) (i j g h : ℕ) → i < n → Names (row_of slot.rows i) level Uni j → (Serves slot.decision.matched i j level Uni → ⊥)
-    → AskOn n level slot.decision.matched slot.rows later j → GainAtMostOne n level slot.rows later → IsNearest n level places slot.rows j g → IsNearest n level slot.decision.places later j h → IsLower n level i j places slot.rows
-    → (one_rank_of n level slot.decision.places later i j h + 2 ≤ one_rank_of n level places slot.rows i j g) ⊎ ((one_rank_of n level slot.decision.places later i j h + 1 ≤ one_rank_of n level places slot.rows i j g) × IsLower n level i j slot.decision.places later)
+lower_in_slot : (n t level : ℕ) (places : Places) (slot : DecidedSlot) → 2 < n → IsWindowSlot n 1 t level places slot → IsWithoutMulticast n level slot.rows
+    → (later : List Row) (i j g h : ℕ) → i < n → Names (row_of slot.rows i) level Uni j → (Serves slot.decision.matched i j level Uni → ⊥)
+    → AskOn n level slot.decision.matched slot.rows later j → GainAtMostOne n level slot.rows later → IsNearest n level places slot.rows j g
+    → IsNearest n level slot.decision.places later j h → IsLower n level i j places slot.rows
+    → (one_rank_of n level slot.decision.places later i j h + 2 ≤ one_rank_of n level places slot.rows i j g)
+    ⊎ ((one_rank_of n level slot.decision.places later i j h + 1 ≤ one_rank_of n level places slot.rows i j g)
+    × IsLower n level i j slot.decision.places later)
 lower_in_slot n t level places slot more now alone later i j g h i_in named left on gains nearest next =
     let same : first_of n now.decided.steps ≡ slot.decision.matched = one_is_first n now.decided.steps now.decided.count ∙ sym now.decided.result in
     falls_at_line_rate n t level slot.rows slot.decision.matched places slot.decision.places (now.within.levels i i_in level j Uni named)
-    (subst (λ first. BeginsWith n t slot.rows places first slot.decision.matched) same (BeginsWith-slot n t slot.rows places AreMoved 1 slot.decision (omega arith) now.decided))
+    (subst (λ first. BeginsWith n t slot.rows places first slot.decision.matched) same
+    (BeginsWith-slot n t slot.rows places AreMoved 1 slot.decision (omega arith) now.decided))
     (subst (λ first. AreMoved n t slot.rows first slot.decision.matched places slot.decision.places) same now.decided.moved)
     now.pointing now.clean alone more later i j g h i_in (now.within.ports i i_in level j Uni named) named left on gains nearest next
 
@@ -92,14 +105,19 @@ lower-some n level places rows i j g more lower = elim lower [
   | inr late ↦ let far = late.1.base.far in omega (arith, far, more)
 ]
 
-lower_falling : (n level i j : ℕ) → 2 < n → i < n → IsFallingWhere (GainAtMostOne n level) AreMoved n 1 level i j (longest_service_in_one_round n - 1) (AsksWithinLower n level i j)
+lower_falling : (n level i j : ℕ) → 2 < n → i < n
+    → IsFallingWhere (GainAtMostOne n level) AreMoved n 1 level i j (longest_service_in_one_round n - 1) (AsksWithinLower n level i j)
 lower_falling n level i j more i_in =
     record {
       begins = λ t places slot now named. record {
         named = named;
         below = λ g nearest.
             let bound = one_rank_of-bound n level places slot.rows i j g now.pointing i_in (now.within.ports i i_in level j Uni named) in
-            elim (begins_alone n level places slot.rows i j g more now.pointing i_in (now.within.ports i i_in level j Uni named)) [ inl less ↦ inl (omega (arith, less)) | inr alone ↦ inr (omega (arith, bound), inl alone) ];
+            elim (begins_alone n level places slot.rows i j g more now.pointing i_in (now.within.ports i i_in level j Uni named)) [
+              | inl less ↦ inl
+                  (omega (arith, less))
+              | inr alone ↦ inr (omega (arith, bound), inl alone)
+            ];
       };
       some = λ places most rows pointing within asks.
           let nearest = nearest_of n level places rows i j pointing i_in (within.ports i i_in level j Uni asks.named) asks.named in
@@ -134,15 +152,21 @@ longest-two : (n : ℕ) → 2 < n → 2 ≤ longest_service_in_one_round n
 longest-two n more = let bound = one_rank-bound n 1 0 0 0 (omega arith) (omega arith) (omega arith) in omega (arith, bound)
 
 -- one slot less is enough
-pub one_served_at_line_rate : (n t level i j : ℕ) (places : Places) (slots : List DecidedSlot) → 2 < n → i < n → IsWindow n 1 t level places slots → All (λ slot. IsWithoutMulticast n level slot.rows) slots → AreAtLineRate n level slots → InFirst (λ rows. Names (row_of rows i) level Uni j) slots
+pub one_served_at_line_rate : (n t level i j : ℕ) (places : Places) (slots : List DecidedSlot) → 2 < n → i < n → IsWindow n 1 t level places slots
+    → All (λ slot. IsWithoutMulticast n level slot.rows) slots → AreAtLineRate n level slots → InFirst (λ rows. Names (row_of rows i) level Uni j) slots
     → longest_service_in_one_round n ≤ length slots + 1 → Any (λ slot. Serves slot.decision.matched i j level Uni) slots
 one_served_at_line_rate n t level i j places slots more i_in window alone gains named long =
     let two = longest-two n more in
-    served_where (GainAtMostOne n level) (gains_nothing n level) AreMoved n 1 level i j (longest_service_in_one_round n - 1) (AsksWithinLower n level i j) (AreMoved-keep n level) (omega (arith, two)) (lower_falling n level i j more i_in) t places slots window alone gains named (omega (arith, long))
+    served_where (GainAtMostOne n level) (gains_nothing n level) AreMoved n 1 level i j (longest_service_in_one_round n - 1) (AsksWithinLower n level i j)
+    (AreMoved-keep n level) (omega (arith, two)) (lower_falling n level i j more i_in) t places slots window alone gains named (omega (arith, long))
 
 -- and no queue waits for as many
-pub one_longest_wait-at_line_rate : (n t level : ℕ) (places : Places) (slots : List DecidedSlot) → 2 < n → IsWindow n 1 t level places slots → All (λ slot. IsWithoutMulticast n level slot.rows) slots → AreAtLineRate n level slots → longest_wait n level (map noted_of slots) + 1 < longest_service_in_one_round n
+pub one_longest_wait-at_line_rate : (n t level : ℕ) (places : Places) (slots : List DecidedSlot) → 2 < n → IsWindow n 1 t level places slots
+    → All (λ slot. IsWithoutMulticast n level slot.rows) slots → AreAtLineRate n level slots
+    → longest_wait n level (map noted_of slots) + 1 < longest_service_in_one_round n
 one_longest_wait-at_line_rate n t level places slots more window alone gains =
     let two = longest-two n more in
-    let below = longest_where (GainAtMostOne n level) (gains_nothing n level) AreMoved n 1 t level (longest_service_in_one_round n - 1) (AsksWithinLower n level) places slots (AreMoved-keep n level) (omega (arith, two)) (λ i j i_in. lower_falling n level i j more i_in) window alone gains in
+    let below = longest_where (GainAtMostOne n level) (gains_nothing n level) AreMoved n 1 t level (longest_service_in_one_round n - 1)
+    (AsksWithinLower n level) places slots (AreMoved-keep n level) (omega (arith, two))
+    (λ i j i_in. lower_falling n level i j more i_in) window alone gains in
     omega (arith, below)

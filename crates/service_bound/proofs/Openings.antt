@@ -18,7 +18,8 @@ use Rattle.service_bound.specs.Waits.{longest_service, longest_service_in_one_ro
 use Rattle.service_bound.specs.Latest.{IsServedLast, ComesLast}
 use Rattle.service_bound.proofs.Postings.{Posting, AreWithin-rows}
 use Rattle.service_bound.proofs.PostedSlots.{distance-own}
-use Rattle.service_bound.proofs.PostedRuns.{decided, run, length-run, All-run, IsSwitch, IsSwitch-after, IsSchedule-run, IsLate, IsStep, step_alone, AreKept-before}
+use Rattle.service_bound.proofs.PostedRuns.{decided, run, length-run, All-run, IsSwitch, IsSwitch-after, IsSchedule-run, IsLate, IsStep, step_alone}
+use Rattle.service_bound.proofs.PostedRuns.{AreKept-before}
 use Rattle.service_bound.proofs.Descents.{lowers, Suits-plain, IsBeginning, IsServedLast-run}
 use Rattle.service_bound.proofs.OneRoundFamily as one
 use Rattle.service_bound.proofs.MoreRoundsFamily as more
@@ -45,10 +46,12 @@ module _ (n rounds : ℕ) (some_rounds : 0 < rounds) (rest : List Posting) where
   step_of : (t x : ℕ) (places : Places) → x < n → IsSwitch n places → grant_of places 0 0 ≡ x → IsStep n rounds t places (lowers x 0)
   step_of t x places x_in switch grant =
       let near : distance n (grant_of places 0 0) x ≡ 0 = ap (λ from. distance n from x) grant ∙ distance-own n x x_in in
-      step_alone n rounds t places (lowers x 0) switch (record { input_in = x_in; beside_in = omega arith; own_in = omega arith; other_in = omega arith; output_in = omega arith })
+      step_alone n rounds t places (lowers x 0) switch
+      (record { input_in = x_in; beside_in = omega arith; own_in = omega arith; other_in = omega arith; output_in = omega arith })
       (Suits-plain n places x 0 0 (inr (omega arith)) (inl refl) (inl refl)) some_rounds (inl refl)
 
-  opens : (k x t : ℕ) (places : Places) → 0 < n → x + k ≡ n → IsOpened n places x → (after : Places) × IsBeginning n after × Follows n rounds t places (openings x k rest) (suc k) after rest
+  opens : (k x t : ℕ) (places : Places) → 0 < n → x + k ≡ n → IsOpened n places x → (after : Places) × IsBeginning n after
+      × Follows n rounds t places (openings x k rest) (suc k) after rest
   opens zero x t places some sum opened =
       let first = decided n rounds t places (lowers 0 0) in
       let round : x % n ≡ 0 = ap (λ v. v % n) sum_is ∙ mod_once n n (omega arith) (omega arith) ∙ omega arith in
@@ -58,7 +61,8 @@ module _ (n rounds : ℕ) (some_rounds : 0 < rounds) (rest : List Posting) where
           switch = IsSwitch-after n rounds t places (lowers 0 0) opened.switch;
           grant = step.moving.granted refl;
           accept = step.moving.accepted;
-          fresh = λ i low high. step.moving.accept_stays i (λ e. omega arith) (λ none e. omega arith) (λ none e. omega arith) ∙ opened.accepts i (omega arith) ∙ mod-eq_of_lt (omega arith);
+          fresh = λ i low high. step.moving.accept_stays i (λ e. omega arith) (λ none e. omega arith) (λ none e. omega arith) ∙ opened.accepts i (omega arith)
+              ∙ mod-eq_of_lt (omega arith);
         },
         record {
           slots = refl;
@@ -88,7 +92,8 @@ module _ (n rounds : ℕ) (some_rounds : 0 < rounds) (rest : List Posting) where
         record {
           slots = follows.slots ∙ ap (λ s. run n rounds s later.0 rest) e;
           left = follows.left;
-          kept = λ kept. AreKept-before n rounds t places (lowers x 0) (openings (x + 1) k rest) step.serving refl (follows.kept (subst (λ s. AreKept n (run n rounds s later.0 rest)) (sym e) kept));
+          kept = λ kept. AreKept-before n rounds t places (lowers x 0) (openings (x + 1) k rest) step.serving refl
+              (follows.kept (subst (λ s. AreKept n (run n rounds s later.0 rest)) (sym e) kept));
         },
       )
 
@@ -101,7 +106,8 @@ module _ (n rounds : ℕ) (some_rounds : 0 < rounds) (rest : List Posting) where
   }
 
   -- what is late from where the openings lead comes in a schedule from all pointers at port 0
-  comes : 0 < n → n ≤ MAX_PORTS → ((t : ℕ) (places : Places) → IsBeginning n places → IsLate n rounds t places rest) → (slots : List DecidedSlot) × ComesLast n rounds (n + 1) 0 0 0 slots × (length (drop (n + 1) slots) ≡ length rest)
+  comes : 0 < n → n ≤ MAX_PORTS → ((t : ℕ) (places : Places) → IsBeginning n places → IsLate n rounds t places rest) → (slots : List DecidedSlot)
+      × ComesLast n rounds (n + 1) 0 0 0 slots × (length (drop (n + 1) slots) ≡ length rest)
   comes some size late =
       let from = places_at_first n in
       let opened = IsOpened-at_first some size in
@@ -114,9 +120,11 @@ module _ (n rounds : ℕ) (some_rounds : 0 < rounds) (rest : List Posting) where
       let lasts = late (suc n) after found.1 in
       let zero_more : 0 + suc n ≡ suc n = omega arith in
       let dropped : drop (suc n) slots ≡ run n rounds (suc n) after rest = follows.slots ∙ ap (λ s. run n rounds s after rest) zero_more in
-      let served : IsServedLast n rounds (suc n) 0 0 0 after (run n rounds (suc n) after rest) = IsServedLast-run n rounds (suc n) after rest found.1.switch lasts in
+      let served : IsServedLast n rounds (suc n) 0 0 0 after (run n rounds (suc n) after rest) =
+      IsServedLast-run n rounds (suc n) after rest found.1.switch lasts in
       let there : IsServedLast n rounds (suc n) 0 0 0 (places_after from (take (suc n) slots)) (drop (suc n) slots) =
-      subst (λ p. IsServedLast n rounds (suc n) 0 0 0 p (drop (suc n) slots)) (sym follows.left) (subst (λ s. IsServedLast n rounds (suc n) 0 0 0 after s) (sym dropped) served) in (
+      subst (λ p. IsServedLast n rounds (suc n) 0 0 0 p (drop (suc n) slots)) (sym follows.left)
+      (subst (λ s. IsServedLast n rounds (suc n) 0 0 0 after s) (sym dropped) served) in (
         slots,
         record {
           schedule = IsSchedule-run n rounds 0 from all opened.switch;
@@ -127,12 +135,14 @@ module _ (n rounds : ℕ) (some_rounds : 0 < rounds) (rest : List Posting) where
         subst (λ c. length (drop c slots) ≡ length rest) e (ap length dropped ∙ length-run n rounds (suc n) after rest),
       )
 
-pub one_comes : (n : ℕ) → 0 < n → n ≤ MAX_PORTS → (slots : List DecidedSlot) × ComesLast n 1 (n + 1) 0 0 0 slots × (length (drop (n + 1) slots) ≡ longest_service_in_one_round n)
+pub one_comes : (n : ℕ) → 0 < n → n ≤ MAX_PORTS → (slots : List DecidedSlot) × ComesLast n 1 (n + 1) 0 0 0 slots
+    × (length (drop (n + 1) slots) ≡ longest_service_in_one_round n)
 one_comes n some size =
     let found = comes n 1 (omega arith) (one.family n) some size (λ t places begins. one.late_family n t places some begins) in
     (found.0, found.1, found.2 ∙ one.length-family n some)
 
-pub more_come : (n rounds : ℕ) → 2 < n → n ≤ MAX_PORTS → 1 < rounds → (slots : List DecidedSlot) × ComesLast n rounds (n + 1) 0 0 0 slots × (length (drop (n + 1) slots) ≡ longest_service n)
+pub more_come : (n rounds : ℕ) → 2 < n → n ≤ MAX_PORTS → 1 < rounds → (slots : List DecidedSlot) × ComesLast n rounds (n + 1) 0 0 0 slots
+    × (length (drop (n + 1) slots) ≡ longest_service n)
 more_come n rounds three size many =
     let found = comes n rounds (omega arith) (more.family n) (omega arith) size (λ t places begins. more.late_family n rounds many three t places begins) in
     (found.0, found.1, found.2 ∙ more.length-family n three)

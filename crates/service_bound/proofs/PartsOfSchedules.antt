@@ -11,7 +11,8 @@ use Rattle.eslip_rounds.specs.Schedules.{DecidedSlot, IsScheduleBy, IsSchedule}
 use Rattle.service_bound.specs.Windows.{IsClean, AreKept, InFirst, IsWindowBy, IsWindow, places_after}
 use Rattle.service_bound.proofs.InWindows.{KeepPointing, AreMoved-keep, pointing_by}
 
-module _ (Moves : ℕ → ℕ → List Row → List (Option Fed) → List (Option Fed) → Places → Places → Type 0) (n rounds level : ℕ) (keep : KeepPointing Moves n level) where
+module _ (Moves : ℕ → ℕ → List Row → List (Option Fed) → List (Option Fed) → Places → Places → Type 0) (n rounds level : ℕ)
+    (keep : KeepPointing Moves n level) where
   -- a schedule of rows that are kept, from pointers at ports
   record IsKeptSchedule (t : ℕ) (places : Places) (slots : List DecidedSlot) : Type 0 where
     pointing : ArePointing n level places
@@ -20,7 +21,8 @@ module _ (Moves : ℕ → ℕ → List Row → List (Option Fed) → List (Optio
     kept : AreKept n slots
 
   -- without its first slots
-  IsKeptSchedule-drop : (first : ℕ) (slots : List DecidedSlot) (t : ℕ) (places : Places) → IsKeptSchedule t places slots → IsKeptSchedule (t + first) (places_after places (take first slots)) (drop first slots)
+  IsKeptSchedule-drop : (first : ℕ) (slots : List DecidedSlot) (t : ℕ) (places : Places) → IsKeptSchedule t places slots
+      → IsKeptSchedule (t + first) (places_after places (take first slots)) (drop first slots)
   IsKeptSchedule-drop zero slots t places s = let same : t ≡ t + 0 = omega arith in subst (λ u. IsKeptSchedule u places slots) same s
   IsKeptSchedule-drop (suc first) [] t places s = record { pointing = s.pointing; schedule = tt; within = s.within; kept = tt }
   IsKeptSchedule-drop (suc first) (slot ∷ slots) t places s =
@@ -31,10 +33,12 @@ module _ (Moves : ℕ → ℕ → List Row → List (Option Fed) → List (Optio
         kept = s.kept.1;
       } in
       let same : t + 1 + first ≡ t + suc first = omega arith in
-      subst (λ u. IsKeptSchedule u (places_after slot.decision.places (take first slots)) (drop first slots)) same (IsKeptSchedule-drop first slots (t + 1) slot.decision.places next)
+      subst (λ u. IsKeptSchedule u (places_after slot.decision.places (take first slots)) (drop first slots)) same
+      (IsKeptSchedule-drop first slots (t + 1) slot.decision.places next)
 
   -- without its last slots
-  IsSchedule-take : (count : ℕ) (slots : List DecidedSlot) (t : ℕ) (places : Places) → IsScheduleBy Moves n rounds t places slots → IsScheduleBy Moves n rounds t places (take count slots)
+  IsSchedule-take : (count : ℕ) (slots : List DecidedSlot) (t : ℕ) (places : Places) → IsScheduleBy Moves n rounds t places slots
+      → IsScheduleBy Moves n rounds t places (take count slots)
   IsSchedule-take zero slots t places s = tt
   IsSchedule-take (suc count) [] t places s = tt
   IsSchedule-take (suc count) (slot ∷ slots) t places s = (s.0, IsSchedule-take count slots (t + 1) slot.decision.places s.1)
@@ -47,11 +51,15 @@ module _ (Moves : ℕ → ℕ → List Row → List (Option Fed) → List (Optio
   AreKept-take : (count : ℕ) (slots : List DecidedSlot) → AreKept n slots → AreKept n (take count slots)
   AreKept-take zero slots kept = tt
   AreKept-take (suc count) [] kept = tt
-  AreKept-take (suc count) (slot ∷ slots) kept =
-      (InFirst-take (λ rows. (i : ℕ) → i < n → Keeps slot.decision.matched i (row_of slot.rows i) (row_of rows i)) count slots kept.0, AreKept-take count slots kept.1)
+  AreKept-take (suc count) (slot ∷ slots) kept = (
+    InFirst-take (λ rows. (i : ℕ) → i < n → Keeps slot.decision.matched i (row_of slot.rows i) (row_of rows i)) count slots kept.0,
+    AreKept-take count slots kept.1,
+  )
 
   -- some slots from slot `first` on
-  IsWindow-part : (t first count : ℕ) (places : Places) (slots : List DecidedSlot) → IsKeptSchedule t places slots → All (λ slot. IsClean n level slot.rows) (take count (drop first slots)) → IsWindowBy Moves n rounds (t + first) level (places_after places (take first slots)) (take count (drop first slots))
+  IsWindow-part : (t first count : ℕ) (places : Places) (slots : List DecidedSlot) → IsKeptSchedule t places slots
+      → All (λ slot. IsClean n level slot.rows) (take count (drop first slots))
+      → IsWindowBy Moves n rounds (t + first) level (places_after places (take first slots)) (take count (drop first slots))
   IsWindow-part t first count places slots s clean =
       let later = IsKeptSchedule-drop first slots t places s in
       record {
@@ -62,12 +70,16 @@ module _ (Moves : ℕ → ℕ → List Row → List (Option Fed) → List (Optio
         clean = clean;
       }
 
-pub part_is_window_by : (Moves : ℕ → ℕ → List Row → List (Option Fed) → List (Option Fed) → Places → Places → Type 0) (n rounds t level first count : ℕ) (places : Places) (slots : List DecidedSlot) → KeepPointing Moves n level → ArePointing n level places → IsScheduleBy Moves n rounds t places slots → All (λ slot. AreWithin n slot.rows) slots → AreKept n slots → All (λ slot. IsClean n level slot.rows) (take count (drop first slots))
+pub part_is_window_by : (Moves : ℕ → ℕ → List Row → List (Option Fed) → List (Option Fed) → Places → Places → Type 0) (n rounds t level first count : ℕ)
+    (places : Places) (slots : List DecidedSlot) → KeepPointing Moves n level → ArePointing n level places → IsScheduleBy Moves n rounds t places slots
+    → All (λ slot. AreWithin n slot.rows) slots → AreKept n slots → All (λ slot. IsClean n level slot.rows) (take count (drop first slots))
     → IsWindowBy Moves n rounds (t + first) level (places_after places (take first slots)) (take count (drop first slots))
 part_is_window_by Moves n rounds t level first count places slots keep pointing schedule within kept clean =
     IsWindow-part Moves n rounds level keep t first count places slots (record { pointing = pointing; schedule = schedule; within = within; kept = kept }) clean
 
 -- where pointers move as those of iSLIP do
-pub part_is_window : (n rounds t level first count : ℕ) (places : Places) (slots : List DecidedSlot) → 0 < n → ArePointing n level places → IsSchedule n rounds t places slots → All (λ slot. AreWithin n slot.rows) slots → AreKept n slots → All (λ slot. IsClean n level slot.rows) (take count (drop first slots))
+pub part_is_window : (n rounds t level first count : ℕ) (places : Places) (slots : List DecidedSlot) → 0 < n → ArePointing n level places
+    → IsSchedule n rounds t places slots → All (λ slot. AreWithin n slot.rows) slots → AreKept n slots
+    → All (λ slot. IsClean n level slot.rows) (take count (drop first slots))
     → IsWindow n rounds (t + first) level (places_after places (take first slots)) (take count (drop first slots))
 part_is_window n rounds t level first count places slots ports = part_is_window_by AreMoved n rounds t level first count places slots (AreMoved-keep n level)

@@ -32,7 +32,8 @@ module _ (n level : ℕ) (rows : List Row) (before : Places) (within : AreWithin
       (first.0, record { below = first.1.below; member = first.1.member.1; least = λ y y_in there. first.1.least y y_in (y_in, there) })
 
   -- the head that the shared pointer passes, if it passes one
-  pub passed_head : (matched : List (Option Fed)) → ((p : ℕ) × IsFirstFrom n (shared_of before level) (HasHead rows level) p × Completes rows matched level p) ⊎ ((p : ℕ) → IsFirstFrom n (shared_of before level) (HasHead rows level) p → Completes rows matched level p → ⊥)
+  pub passed_head : (matched : List (Option Fed)) → ((p : ℕ) × IsFirstFrom n (shared_of before level) (HasHead rows level) p × Completes rows matched level p)
+      ⊎ ((p : ℕ) → IsFirstFrom n (shared_of before level) (HasHead rows level) p → Completes rows matched level p → ⊥)
   passed_head matched =
       elim (some_below (λ x. (x < n) × HasHead rows level x) head n) [
         | inr none ↦ inr (λ p first done. none (p, first.below, (first.below, first.member)))
@@ -46,7 +47,8 @@ module _ (n level : ℕ) (rows : List Row) (before : Places) (within : AreWithin
             ]
       ]
 
-  module _ (t : ℕ) (some : 0 < n) (first matched : List (Option Fed)) (size : length first ≡ n) (after : Places) (moved : AreMoved n t rows first matched before after) where
+  module _ (t : ℕ) (some : 0 < n) (first matched : List (Option Fed)) (size : length first ≡ n) (after : Places)
+      (moved : AreMoved n t rows first matched before after) where
     grant_after : (j : ℕ) → j < n → grant_of after j level < n
     grant_after j j_in = elim (fed_by first j level) [
       | inl met ↦ below_by n (grant_of after j level) ((met.0 + 1) % n) (moved.granted met.0 j level met.1) (mod_below (met.0 + 1) n some)
@@ -57,7 +59,8 @@ module _ (n level : ℕ) (rows : List Row) (before : Places) (within : AreWithin
     accept_after i i_in = elim (some_below (λ j. Serves first i j level Uni) (λ j. Serves-decides first i j level Uni) n) [
       | inl met ↦ below_by n (accept_of after i level) ((met.0 + 1) % n) (moved.accepted i met.0 level met.2) (mod_below (met.0 + 1) n some)
       | inr none ↦
-          let nobody = λ (j : ℕ) (s : Serves first i j level Uni). let below = fed_of-lt first j (record { input = i; level = level; kind = Uni }) s in none (j, omega arith, s) in
+          let nobody = λ (j : ℕ) (s : Serves first i j level Uni). let below = fed_of-lt first j (record { input = i; level = level; kind = Uni }) s in
+          none (j, omega arith, s) in
           below_by n (accept_of after i level) (accept_of before i level) (moved.accept_stays i level nobody) (pointing.accept i i_in)
     ]
 

@@ -31,17 +31,20 @@ decided n rounds t places p = decision_of n rounds t (rows_of n p) places
 -- the slots of some postings
 abbrev pub run : ℕ → ℕ → ℕ → Places → List Posting → List DecidedSlot
 run n rounds t places [] = []
-run n rounds t places (p ∷ ps) = record { rows = rows_of n p; decision = decided n rounds t places p } ∷ run n rounds (t + 1) (decided n rounds t places p).places ps
+run n rounds t places (p ∷ ps) = record { rows = rows_of n p; decision = decided n rounds t places p }
+    ∷ run n rounds (t + 1) (decided n rounds t places p).places ps
 
 pub length-run : (n rounds t : ℕ) (places : Places) (ps : List Posting) → length (run n rounds t places ps) ≡ length ps
 length-run n rounds t places [] = refl
 length-run n rounds t places (p ∷ ps) = ap suc (length-run n rounds (t + 1) (decided n rounds t places p).places ps)
 
 -- what all rows of postings have, all slots have
-pub All-run : (n rounds t : ℕ) (places : Places) (P : List Row → Type 0) → ((p : Posting) → P (rows_of n p)) → (ps : List Posting) → All (λ slot. P slot.rows) (run n rounds t places ps)
+pub All-run : (n rounds t : ℕ) (places : Places) (P : List Row → Type 0) → ((p : Posting) → P (rows_of n p)) → (ps : List Posting)
+    → All (λ slot. P slot.rows) (run n rounds t places ps)
 All-run n rounds t places P each [] = All-nil (λ slot. P slot.rows)
 All-run n rounds t places P each (p ∷ ps) =
-    All-cons (λ slot. P slot.rows) (record { rows = rows_of n p; decision = decided n rounds t places p }) (run n rounds (t + 1) (decided n rounds t places p).places ps) (each p) (All-run n rounds (t + 1) (decided n rounds t places p).places P each ps)
+    All-cons (λ slot. P slot.rows) (record { rows = rows_of n p; decision = decided n rounds t places p })
+    (run n rounds (t + 1) (decided n rounds t places p).places ps) (each p) (All-run n rounds (t + 1) (decided n rounds t places p).places P each ps)
 
 -- a switch of n ports, and its pointers at ports
 pub record IsSwitch (n : ℕ) (places : Places) : Type 0 where
@@ -57,8 +60,10 @@ IsSwitch-after n rounds t places p switch =
 
 pub IsSchedule-run : (n rounds t : ℕ) (places : Places) (ps : List Posting) → IsSwitch n places → IsSchedule n rounds t places (run n rounds t places ps)
 IsSchedule-run n rounds t places [] switch = tt
-IsSchedule-run n rounds t places (p ∷ ps) switch =
-    (IsSlot-decision_of n t (rows_of n p) places (AreWithin-rows n p) switch.at_ports switch.ports rounds, IsSchedule-run n rounds (t + 1) (decided n rounds t places p).places ps (IsSwitch-after n rounds t places p switch))
+IsSchedule-run n rounds t places (p ∷ ps) switch = (
+  IsSlot-decision_of n t (rows_of n p) places (AreWithin-rows n p) switch.at_ports switch.ports rounds,
+  IsSchedule-run n rounds (t + 1) (decided n rounds t places p).places ps (IsSwitch-after n rounds t places p switch),
+)
 
 -- the first posting, which there is, has P
 abbrev pub Starts : (Posting → Type 0) → List Posting → Type 0
@@ -86,7 +91,8 @@ pub record IsMoving (n : ℕ) (p : Posting) (before after : Places) : Type 0 whe
   pub too : 0 < p.output → accept_of after p.other 0 ≡ (p.output + 1) % n
   pub accept_stays : (i : ℕ) → (i ≡ p.input → ⊥) → (0 < p.own → i ≡ 0 → ⊥) → (0 < p.output → i ≡ p.other → ⊥) → accept_of after i 0 ≡ accept_of before i 0
 
-IsMoving-from : (n t : ℕ) (p : Posting) (first matched : List (Option Fed)) (before after : Places) → IsOutcome p first → AreMoved n t (rows_of n p) first matched before after → IsMoving n p before after
+IsMoving-from : (n t : ℕ) (p : Posting) (first matched : List (Option Fed)) (before after : Places) → IsOutcome p first
+    → AreMoved n t (rows_of n p) first matched before after → IsMoving n p before after
 IsMoving-from n t p first matched before after out moved =
     record {
       granted = λ none. moved.granted p.input 0 0 (subst (λ y. Serves first p.input y 0 Uni) none out.served);
@@ -116,7 +122,8 @@ pub record IsIn (n : ℕ) (p : Posting) : Type 0 where
   pub other_in : p.other < n
   pub output_in : p.output < n
 
-module _ (n rounds t : ℕ) (places : Places) (p : Posting) (switch : IsSwitch n places) (ports_in : IsIn n p) (suits : Suits n places p) (some : 0 < rounds) where
+module _ (n rounds t : ℕ) (places : Places) (p : Posting) (switch : IsSwitch n places) (ports_in : IsIn n p) (suits : Suits n places p)
+    (some : 0 < rounds) where
   now : IsSlot n rounds t (rows_of n p) places (decided n rounds t places p)
   now = IsSlot-decision_of n t (rows_of n p) places (AreWithin-rows n p) switch.at_ports switch.ports rounds
 
@@ -128,7 +135,8 @@ module _ (n rounds t : ℕ) (places : Places) (p : Posting) (switch : IsSwitch n
   begins = BeginsWith-slot n t (rows_of n p) places AreMoved rounds (decided n rounds t places p) some now
 
   out : IsOutcome p First
-  out = outcome n t p places switch.at_ports switch.ports ports_in.input_in ports_in.beside_in ports_in.own_in ports_in.other_in ports_in.output_in suits First begins.opening
+  out = outcome n t p places switch.at_ports switch.ports ports_in.input_in ports_in.beside_in ports_in.own_in ports_in.other_in ports_in.output_in suits
+      First begins.opening
 
   IsStep-by : (0 < p.other → p.output ≡ 0 → Serves (decided n rounds t places p).matched p.other 0 0 Uni) → IsStep n rounds t places p
   unfolding First
@@ -139,7 +147,8 @@ module _ (n rounds t : ℕ) (places : Places) (p : Posting) (switch : IsSwitch n
           also = λ own. begins.stays 0 p.own 0 Uni (out.also own);
           too = λ other. elim (cases_lt 0 p.output) [
             | inl output ↦ begins.stays p.other p.output 0 Uni (out.too output)
-            | inr none ↦ let e : 0 ≡ p.output = omega arith in subst (λ v. Serves (decided n rounds t places p).matched p.other v 0 Uni) e (later other (omega arith))
+            | inr none ↦ let e : 0 ≡ p.output = omega arith in
+                subst (λ v. Serves (decided n rounds t places p).matched p.other v 0 Uni) e (later other (omega arith))
           ];
           none = λ zero_other. elim suits.low [ inl z ↦ z | inr q ↦ let other = q.1 in absurd (omega arith) ];
         };
@@ -151,33 +160,40 @@ module _ (n rounds t : ℕ) (places : Places) (p : Posting) (switch : IsSwitch n
   step_alone none = IsStep-by (λ other zero_asked. elim none [ inl e ↦ absurd (omega arith) | inr e ↦ absurd (omega arith) ])
 
   -- a slot of two rounds or more in which the second serves the other input
-  pub step_second : 1 < rounds → p.output ≡ 0 → 0 < p.beside → p.own ≡ 0 → distance n (grant_of places 0 0) p.other ≤ distance n (grant_of places 0 0) 0 → IsStep n rounds t places p
+  pub step_second : 1 < rounds → p.output ≡ 0 → 0 < p.beside → p.own ≡ 0 → distance n (grant_of places 0 0) p.other ≤ distance n (grant_of places 0 0) 0
+      → IsStep n rounds t places p
   unfolding First
   step_second more zero_asked refusing alone next = IsStep-by (λ other none.
       let two = second_of n t (rows_of n p) places now.steps (let count = now.count in omega arith) now.chain in
-      let served = served_second n t p places switch.at_ports switch.ports ports_in.input_in ports_in.beside_in ports_in.own_in ports_in.other_in ports_in.output_in suits First begins.opening two.0 two.1 other zero_asked refusing alone next in
+      let served = served_second n t p places switch.at_ports switch.ports ports_in.input_in ports_in.beside_in ports_in.own_in ports_in.other_in
+          ports_in.output_in suits First begins.opening two.0 two.1 other zero_asked refusing alone next in
       subst (λ m. Serves m p.other 0 0 Uni) (sym now.result) (two.2 p.other 0 0 Uni served))
 
   -- Queue (0, 0) is not served where input 0 or output 0 is matched otherwise.
-  pub left_alone : IsStep n rounds t places p → ((p.input ≡ 0) × (0 < p.beside)) ⊎ ((0 < p.own) ⊎ ((0 < p.other) × (p.output ≡ 0))) → Serves (decided n rounds t places p).matched 0 0 0 Uni → ⊥
+  pub left_alone : IsStep n rounds t places p → ((p.input ≡ 0) × (0 < p.beside)) ⊎ ((0 < p.own) ⊎ ((0 < p.other) × (p.output ≡ 0)))
+      → Serves (decided n rounds t places p).matched 0 0 0 Uni → ⊥
   left_alone step how served =
       let matched = (decided n rounds t places p).matched in
       let whole = IsMatch-slot n rounds t (rows_of n p) places (AreWithin-rows n p) switch.at_ports switch.ports (decided n rounds t places p) now in
       elim how [
-        | inl a ↦ let e = once_unicast n matched whole 0 p.beside 0 0 (subst (λ x. Serves matched x p.beside 0 Uni) a.0 step.serving.served) served in let refusing = a.1 in omega arith
+        | inl a ↦ let e = once_unicast n matched whole 0 p.beside 0 0 (subst (λ x. Serves matched x p.beside 0 Uni) a.0 step.serving.served) served in
+            let refusing = a.1 in omega arith
         | inr more ↦ elim more [
           | inl own ↦ let e = once_unicast n matched whole 0 p.own 0 0 (step.serving.also own) served in omega arith
-          | inr b ↦ let e = (Serves-once matched 0 p.other 0 0 0 Uni Uni (subst (λ v. Serves matched p.other v 0 Uni) b.1 (step.serving.too b.0)) served).0 in let other = b.0 in omega arith
+          | inr b ↦ let e = (Serves-once matched 0 p.other 0 0 0 Uni Uni (subst (λ v. Serves matched p.other v 0 Uni) b.1 (step.serving.too b.0)) served).0 in
+              let other = b.0 in omega arith
         ]
       ]
 
 -- Of one round, it is not served where another input is granted or takes another output.
-pub left_in_one : (n t : ℕ) (places : Places) (p : Posting) → IsSwitch n places → IsIn n p → Suits n places p → (0 < p.beside) ⊎ (0 < p.input) → Serves (decided n 1 t places p).matched 0 0 0 Uni → ⊥
+pub left_in_one : (n t : ℕ) (places : Places) (p : Posting) → IsSwitch n places → IsIn n p → Suits n places p → (0 < p.beside) ⊎ (0 < p.input)
+    → Serves (decided n 1 t places p).matched 0 0 0 Uni → ⊥
 left_in_one n t places p switch ports_in suits how served =
     let step = now n 1 t places p switch ports_in suits (omega arith) in
     let same : first_of n step.steps ≡ (decided n 1 t places p).matched = one_is_first n step.steps step.count ∙ sym step.result in
     let begin = BeginsWith-slot n t (rows_of n p) places AreMoved 1 (decided n 1 t places p) (omega arith) step in
-    let result = outcome n t p places switch.at_ports switch.ports ports_in.input_in ports_in.beside_in ports_in.own_in ports_in.other_in ports_in.output_in suits (first_of n step.steps) begin.opening in
+    let result = outcome n t p places switch.at_ports switch.ports ports_in.input_in ports_in.beside_in ports_in.own_in ports_in.other_in ports_in.output_in
+        suits (first_of n step.steps) begin.opening in
     elim (result.only 0 0 0 Uni (subst (λ m. Serves m 0 0 0 Uni) (sym same) served)) [
       | inl a ↦ let e = a.0 in let d = a.1 in elim how [ inl more ↦ omega arith | inr more ↦ omega arith ]
       | inr rest ↦ elim rest [ inl b ↦ let e = b.1 in let o = b.2 in omega arith | inr c ↦ let e = c.1 in let o = c.2 in omega arith ]
@@ -188,10 +204,15 @@ module _ (n : ℕ) (p next : Posting) (matched : List (Option Fed)) (serving : I
   posted_on : (i j : ℕ) → IsPosted p i j → (Serves matched i j 0 Uni → ⊥) → IsPosted next i j
   posted_on i j is left = elim is [
     | inl a ↦
-        let not_beside : j ≡ p.beside → ⊥ = λ e. left (subst (λ x. Serves matched x j 0 Uni) (sym a.0) (subst (λ y. Serves matched p.input y 0 Uni) (sym e) serving.served)) in
+        let not_beside : j ≡ p.beside
+        → ⊥ = λ e. left (subst (λ x. Serves matched x j 0 Uni) (sym a.0) (subst (λ y. Serves matched p.input y 0 Uni) (sym e) serving.served)) in
         elim a.1 [
           | inr e ↦ absurd (not_beside e)
-          | inl z ↦ elim follows [ inl none ↦ absurd (not_beside (omega arith)) | inr f ↦ subst (λ x. IsPosted next x j) (sym a.0) (subst (IsPosted next p.input) (sym z) f) ]
+          | inl z ↦ elim follows [
+            | inl none ↦ absurd (not_beside (omega arith))
+            | inr f ↦ subst (λ x. IsPosted next x j) (sym a.0)
+                (subst (IsPosted next p.input) (sym z) f)
+          ]
         ]
     | inr more ↦ elim more [
       | inl b ↦ elim b.1 [
@@ -208,10 +229,12 @@ module _ (n : ℕ) (p next : Posting) (matched : List (Option Fed)) (serving : I
     ]
   ]
 
-  named_on : (i j level : ℕ) → i < n → Names (row_of (rows_of n p) i) level Uni j → (Serves matched i j level Uni → ⊥) → Names (row_of (rows_of n next) i) level Uni j
+  named_on : (i j level : ℕ) → i < n → Names (row_of (rows_of n p) i) level Uni j → (Serves matched i j level Uni → ⊥)
+      → Names (row_of (rows_of n next) i) level Uni j
   named_on i j level i_in named left =
       let is = posted n p i j level Uni i_in named in
-      subst (λ l. Names (row_of (rows_of n next) i) l Uni j) (sym is.0) (names n next i j i_in is.2 (posted_on i j is.3 (subst (λ l. Serves matched i j l Uni → ⊥) is.0 left)))
+      subst (λ l. Names (row_of (rows_of n next) i) l Uni j) (sym is.0)
+      (names n next i j i_in is.2 (posted_on i j is.3 (subst (λ l. Serves matched i j l Uni → ⊥) is.0 left)))
 
   pub keeps_on : (i : ℕ) → i < n → Keeps matched i (row_of (rows_of n p) i) (row_of (rows_of n next) i)
   keeps_on i i_in =
@@ -221,12 +244,14 @@ module _ (n : ℕ) (p next : Posting) (matched : List (Option Fed)) (serving : I
       }
 
 -- requests stay over one slot more in front, in which output 0 takes an input that asks for nothing else
-pub AreKept-before : (n rounds t : ℕ) (places : Places) (p : Posting) (ps : List Posting) → IsServing p (decided n rounds t places p).matched → p.beside ≡ 0 → AreKept n (run n rounds (t + 1) (decided n rounds t places p).places ps) → AreKept n (run n rounds t places (p ∷ ps))
+pub AreKept-before : (n rounds t : ℕ) (places : Places) (p : Posting) (ps : List Posting) → IsServing p (decided n rounds t places p).matched → p.beside ≡ 0
+    → AreKept n (run n rounds (t + 1) (decided n rounds t places p).places ps) → AreKept n (run n rounds t places (p ∷ ps))
 AreKept-before n rounds t places p [] serving none kept = (tt, tt)
 AreKept-before n rounds t places p (next ∷ ps) serving none kept = (keeps_on n p next (decided n rounds t places p).matched serving (inl none), kept)
 
 -- one slot more in front
-pub IsLate-before : (n rounds t : ℕ) (places : Places) (p : Posting) (ps : List Posting) → IsServing p (decided n rounds t places p).matched → (Serves (decided n rounds t places p).matched 0 0 0 Uni → ⊥) → Starts (λ next. (p.beside ≡ 0) ⊎ IsPosted next p.input 0) ps
+pub IsLate-before : (n rounds t : ℕ) (places : Places) (p : Posting) (ps : List Posting) → IsServing p (decided n rounds t places p).matched
+    → (Serves (decided n rounds t places p).matched 0 0 0 Uni → ⊥) → Starts (λ next. (p.beside ≡ 0) ⊎ IsPosted next p.input 0) ps
     → IsLate n rounds (t + 1) (decided n rounds t places p).places ps → IsLate n rounds t places (p ∷ ps)
 IsLate-before n rounds t places p [] serving left starts late = absurd starts
 IsLate-before n rounds t places p (next ∷ ps) serving left starts late =

@@ -22,14 +22,16 @@ use Rattle.service_bound.proofs.Postings.{Posting, IsPosted, rows_of, posted, na
 
 -- where there is no other
 first_alone : (n from x : ℕ) (P : ℕ → Type 0) → x < n → P x → ((y : ℕ) → y < n → P y → y ≡ x) → IsFirstFrom n from P x
-first_alone n from x P x_in there alone = record { below = x_in; member = there; least = λ y y_in also. let e = ap (distance n from) (alone y y_in also) in omega arith }
+first_alone n from x P x_in there alone =
+    record { below = x_in; member = there; least = λ y y_in also. let e = ap (distance n from) (alone y y_in also) in omega arith }
 
 pub distance-own : (n x : ℕ) → x < n → distance n x x ≡ 0
 distance-own n x x_in = mod_once n (x + (n - x)) (omega arith) (omega arith) ∙ omega arith
 
 -- where the pointer stands
 first_at : (n from x : ℕ) (P : ℕ → Type 0) → x < n → P x → from ≡ x → IsFirstFrom n from P x
-first_at n from x P x_in there at = record { below = x_in; member = there; least = λ y y_in also. let none : distance n from x ≡ 0 = rw at (distance-own n x x_in) in omega arith }
+first_at n from x P x_in there at =
+    record { below = x_in; member = there; least = λ y y_in also. let none : distance n from x ≡ 0 = rw at (distance-own n x x_in) in omega arith }
 
 -- The pointers suit the posting: its input is the first that asks output 0, and points at the output beside, if
 -- there is one. Where input 0 asks an output of its own, it is another input than the first, and the output
@@ -46,9 +48,11 @@ pub record IsOutcome (p : Posting) (first : List (Option Fed)) : Type 0 where
   pub served : Serves first p.input p.beside 0 Uni
   pub also : 0 < p.own → Serves first 0 p.own 0 Uni
   pub too : 0 < p.output → Serves first p.other p.output 0 Uni
-  pub only : (i j level : ℕ) (kind : Kind) → Serves first i j level kind → ((i ≡ p.input) × (j ≡ p.beside)) ⊎ (((i ≡ 0) × (j ≡ p.own) × (0 < p.own)) ⊎ ((i ≡ p.other) × (j ≡ p.output) × (0 < p.output)))
+  pub only : (i j level : ℕ) (kind : Kind) → Serves first i j level kind → ((i ≡ p.input) × (j ≡ p.beside))
+      ⊎ (((i ≡ 0) × (j ≡ p.own) × (0 < p.own)) ⊎ ((i ≡ p.other) × (j ≡ p.output) × (0 < p.output)))
 
-module _ (n t : ℕ) (p : Posting) (places : Places) (at_ports : AreAtPorts places) (ports : places.ports ≡ n) (input_in : p.input < n) (beside_in : p.beside < n) (own_in : p.own < n) (other_in : p.other < n) (output_in : p.output < n) (suits : Suits n places p)
+module _ (n t : ℕ) (p : Posting) (places : Places) (at_ports : AreAtPorts places) (ports : places.ports ≡ n) (input_in : p.input < n)
+    (beside_in : p.beside < n) (own_in : p.own < n) (other_in : p.other < n) (output_in : p.output < n) (suits : Suits n places p)
     (first : List (Option Fed)) (opening : IsRound n t (rows_of n p) places (unmatched n) first) where
   level_in : 0 < LEVELS
   level_in = omega arith
@@ -67,11 +71,14 @@ module _ (n t : ℕ) (p : Posting) (places : Places) (at_ports : AreAtPorts plac
 
   grants_it : (i j : ℕ) → j < n → IsFirstFrom n (grant_of places j 0) (Asked j) i → Granted i j
   unfolding Granted Asked
-  grants_it i j j_in nearest = grants_first n t (rows_of n p) places 0 level_in (IsClean-rows n p) Uni (kind_is_first n t 0 (rows_of n p) first places level_in opening pointing (IsClean-rows n p) (IsWithoutMulticast-rows n p)) i j j_in nearest
+  grants_it i j j_in nearest =
+      grants_first n t (rows_of n p) places 0 level_in (IsClean-rows n p) Uni
+      (kind_is_first n t 0 (rows_of n p) first places level_in opening pointing (IsClean-rows n p) (IsWithoutMulticast-rows n p)) i j j_in nearest
 
   is_first : (i j : ℕ) → Granted i j → IsFirstFrom n (grant_of places j 0) (Asked j) i
   unfolding Granted Asked
-  is_first i j granted = first_granted n t (rows_of n p) places 0 level_in (IsClean-rows n p) Uni (kind_is_first n t 0 (rows_of n p) first places level_in opening pointing (IsClean-rows n p) (IsWithoutMulticast-rows n p)) i j granted
+  is_first i j granted = first_granted n t (rows_of n p) places 0 level_in (IsClean-rows n p) Uni
+      (kind_is_first n t 0 (rows_of n p) first places level_in opening pointing (IsClean-rows n p) (IsWithoutMulticast-rows n p)) i j granted
 
   is_asked : (i j : ℕ) → Granted i j → IsPosted p i j
   unfolding Asked
@@ -87,7 +94,9 @@ module _ (n t : ℕ) (p : Posting) (places : Places) (at_ports : AreAtPorts plac
 
   serves_first : (h j : ℕ) → Granted h j → (y : ℕ) × IsFirstFrom n (accept_of places h 0) (Granted h) y × Serves first h y 0 Uni
   unfolding Granted
-  serves_first h j granted = served_by_first n t 0 (rows_of n p) first places level_in opening pointing (IsClean-rows n p) (IsWithoutMulticast-rows n p) h j granted.first.below granted
+  serves_first h j granted =
+      served_by_first n t 0 (rows_of n p) first places level_in opening pointing (IsClean-rows n p)
+      (IsWithoutMulticast-rows n p) h j granted.first.below granted
 
   serves_granted : (i j : ℕ) → Serves first i j 0 Uni → Granted i j
   unfolding Granted
@@ -98,15 +107,22 @@ module _ (n t : ℕ) (p : Posting) (places : Places) (at_ports : AreAtPorts plac
 
   -- an output that is asked by one input alone grants that one
   granted_alone : (i j : ℕ) → i < n → j < n → IsPosted p i j → ((y : ℕ) → IsPosted p y j → y ≡ i) → Granted i j
-  granted_alone i j i_in j_in is alone = grants_it i j j_in (first_alone n (grant_of places j 0) i (Asked j) i_in (asked j i i_in j_in is) (λ y y_in named. alone y (asked_is j y y_in named)))
+  granted_alone i j i_in j_in is alone =
+      grants_it i j j_in (first_alone n (grant_of places j 0) i (Asked j) i_in (asked j i i_in j_in is) (λ y y_in named. alone y (asked_is j y y_in named)))
 
   -- output 0 grants the input
   granted_zero : Granted p.input 0
-  granted_zero = grants_it p.input 0 zero_in (record { below = input_in; member = asked 0 p.input input_in zero_in (inl (refl, inl refl)); least = λ y y_in named. suits.first y y_in (asked_is 0 y y_in named) })
+  granted_zero = grants_it p.input 0 zero_in
+      (record {
+        below = input_in;
+        member = asked 0 p.input input_in zero_in (inl (refl, inl refl));
+        least = λ y y_in named. suits.first y y_in (asked_is 0 y y_in named);
+      })
 
   -- and no other
   granted_once : (i : ℕ) → Granted i 0 → i ≡ p.input
-  granted_once i granted = IsFirstFrom-only n (grant_of places 0 0) (Asked 0) i p.input (pointing.grant 0 zero_in) (is_first i 0 granted) (is_first p.input 0 granted_zero)
+  granted_once i granted = IsFirstFrom-only n (grant_of places 0 0) (Asked 0) i p.input (pointing.grant 0 zero_in) (is_first i 0 granted)
+      (is_first p.input 0 granted_zero)
 
   -- the output beside grants it too
   granted_beside : 0 < p.beside → Granted p.input p.beside
@@ -129,10 +145,18 @@ module _ (n t : ℕ) (p : Posting) (places : Places) (at_ports : AreAtPorts plac
     ]
     | inr none ↦
         let e : 0 ≡ p.beside = omega arith in
-        first_alone n (accept_of places p.input 0) p.beside (Granted p.input) beside_in (subst (Granted p.input) e granted_zero) (λ k k_in granted. elim (is_asked p.input k granted) [
+        first_alone n (accept_of places p.input 0) p.beside (Granted p.input) beside_in (subst (Granted p.input) e granted_zero)
+        (λ k k_in granted. elim (is_asked p.input k granted) [
           | inl a ↦ elim a.1 [ inl z ↦ omega arith | inr b ↦ b ]
           | inr more ↦ elim more [
-            | inl b ↦ elim b.1 [ inl z ↦ omega arith | inr o ↦ elim suits.own [ inl z ↦ omega arith | inr q ↦ let x = q.0 in let y = b.0 in absurd (omega arith) ] ]
+            | inl b ↦ elim b.1 [
+              | inl z ↦ omega arith
+              | inr o ↦ elim suits.own [
+                | inl z ↦ omega arith
+                | inr q ↦ let x = q.0 in let y = b.0 in
+                    absurd (omega arith)
+              ]
+            ]
             | inr c ↦ let o = c.1 in elim suits.low [ inl z ↦ omega arith | inr q ↦ let two = q.2 in absurd (omega arith) ]
           ]
         ])
@@ -141,7 +165,8 @@ module _ (n t : ℕ) (p : Posting) (places : Places) (at_ports : AreAtPorts plac
   served : Serves first p.input p.beside 0 Uni
   served =
       let met = serves_first p.input 0 granted_zero in
-      let same : met.0 ≡ p.beside = IsFirstFrom-only n (accept_of places p.input 0) (Granted p.input) met.0 p.beside (pointing.accept p.input input_in) met.1 takes in
+      let same : met.0 ≡ p.beside =
+      IsFirstFrom-only n (accept_of places p.input 0) (Granted p.input) met.0 p.beside (pointing.accept p.input input_in) met.1 takes in
       subst (λ y. Serves first p.input y 0 Uni) same met.2
 
   granted_own : 0 < p.own → Granted 0 p.own
@@ -202,7 +227,8 @@ module _ (n t : ℕ) (p : Posting) (places : Places) (at_ports : AreAtPorts plac
   named_first : (i j level : ℕ) (kind : Kind) → Serves first i j level kind → Names (row_of (rows_of n p) i) level kind j
   named_first i j level kind s = elim ((opening.pairs i j level kind).0 s) [
     | inl old ↦ absurd (nobody_at_first n i j level kind old)
-    | inr accepted ↦ (asks_at_first n (rows_of n p) i j level kind (taken_from kind n (accept_of places i level) (λ y. Grants n t (rows_of n p) places (unmatched n) i y level kind) j accepted.taken).first.member).named
+    | inr accepted ↦ (asks_at_first n (rows_of n p) i j level kind
+        (taken_from kind n (accept_of places i level) (λ y. Grants n t (rows_of n p) places (unmatched n) i y level kind) j accepted.taken).first.member).named
   ]
 
   only_input : (i j level : ℕ) (kind : Kind) → i ≡ p.input → Serves first i j level kind → kind ≡ Uni → j ≡ p.beside
@@ -211,7 +237,8 @@ module _ (n t : ℕ) (p : Posting) (places : Places) (at_ports : AreAtPorts plac
     | inr q ↦ let multi = q.1 in absurd (cc)
   ]
 
-  only : (i j level : ℕ) (kind : Kind) → Serves first i j level kind → ((i ≡ p.input) × (j ≡ p.beside)) ⊎ (((i ≡ 0) × (j ≡ p.own) × (0 < p.own)) ⊎ ((i ≡ p.other) × (j ≡ p.output) × (0 < p.output)))
+  only : (i j level : ℕ) (kind : Kind) → Serves first i j level kind → ((i ≡ p.input) × (j ≡ p.beside))
+      ⊎ (((i ≡ 0) × (j ≡ p.own) × (0 < p.own)) ⊎ ((i ≡ p.other) × (j ≡ p.output) × (0 < p.output)))
   only i j level kind s =
       let is = posted n p i j level kind (whole.input_in i j level kind s) (named_first i j level kind s) in
       elim (cases_eq i p.input) [
@@ -235,7 +262,8 @@ module _ (n t : ℕ) (p : Posting) (places : Places) (at_ports : AreAtPorts plac
   outcome = record { served = served; also = also; too = too; only = only }
 
   -- Where the other input asks output 0 too and nobody is beside the first, the second round serves it.
-  module _ (second : List (Option Fed)) (round : IsRound n t (rows_of n p) places first second) (some : 0 < p.other) (zero_asked : p.output ≡ 0) (refusing : 0 < p.beside) (alone : p.own ≡ 0) (next : distance n (grant_of places 0 0) p.other ≤ distance n (grant_of places 0 0) 0) where
+  module _ (second : List (Option Fed)) (round : IsRound n t (rows_of n p) places first second) (some : 0 < p.other) (zero_asked : p.output ≡ 0)
+      (refusing : 0 < p.beside) (alone : p.own ≡ 0) (next : distance n (grant_of places 0 0) p.other ≤ distance n (grant_of places 0 0) 0) where
     Asking : ℕ → Type 0
     Asking x = Requests (rows_of n p) first x 0 0 Uni
 
@@ -262,7 +290,14 @@ module _ (n t : ℕ) (p : Posting) (places : Places) (at_ports : AreAtPorts plac
 
     asking_other : Asking p.other
     unfolding Asking
-    asking_other = inl (free_other, record { level_in = level_in; named = names n p p.other 0 other_in zero_in (inr (inr (refl, sym zero_asked))); best = λ better other less there. absurd (omega arith) })
+    asking_other = inl (
+      free_other,
+      record {
+        level_in = level_in;
+        named = names n p p.other 0 other_in zero_in (inr (inr (refl, sym zero_asked)));
+        best = λ better other less there. absurd (omega arith);
+      },
+    )
 
     nearest_other : IsFirstFrom n (grant_of places 0 0) Asking p.other
     unfolding Asking
@@ -300,10 +335,11 @@ module _ (n t : ℕ) (p : Posting) (places : Places) (at_ports : AreAtPorts plac
         least = λ other kind grants. omega arith;
         preferred_first = λ grants. sym (request_named p.other grants.0 0 (preferred t) grants.1.first.member other_in).1;
       };
-      taken = first_alone n (accept_of places p.other 0) 0 (λ y. Grants n t (rows_of n p) places first p.other y 0 Uni) zero_in granted_second (λ y y_in granted. elim (request_named p.other y 0 Uni granted.first.member other_in).2 [
-        | inl a ↦ absurd (suits.apart some a.0)
-        | inr more ↦ elim more [ inl b ↦ let e = b.0 in absurd (omega arith) | inr c ↦ c.1 ∙ zero_asked ]
-      ]);
+      taken = first_alone n (accept_of places p.other 0) 0 (λ y. Grants n t (rows_of n p) places first p.other y 0 Uni) zero_in granted_second
+          (λ y y_in granted. elim (request_named p.other y 0 Uni granted.first.member other_in).2 [
+            | inl a ↦ absurd (suits.apart some a.0)
+            | inr more ↦ elim more [ inl b ↦ let e = b.0 in absurd (omega arith) | inr c ↦ c.1 ∙ zero_asked ]
+          ]);
     }
 
     pub served_second : Serves second p.other 0 0 Uni

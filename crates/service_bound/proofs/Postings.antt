@@ -34,7 +34,8 @@ IsPosted p i j = ((i ≡ p.input) × ((j ≡ 0) ⊎ (j ≡ p.beside))) ⊎ (((i 
 Decides-posted : (p : Posting) (i j : ℕ) → Decides (is_posted p i j) (IsPosted p i j)
 Decides-posted p i j =
     Decides-or (i == p.input && (j == 0 || j == p.beside)) ((i == 0 && (j == 0 || j == p.own)) || (i == p.other && j == p.output))
-    (Decides-and (i == p.input) (j == 0 || j == p.beside) (Decides-eqb i p.input) (Decides-or (j == 0) (j == p.beside) (Decides-eqb j 0) (Decides-eqb j p.beside)))
+    (Decides-and (i == p.input) (j == 0 || j == p.beside) (Decides-eqb i p.input)
+    (Decides-or (j == 0) (j == p.beside) (Decides-eqb j 0) (Decides-eqb j p.beside)))
     (Decides-or (i == 0 && (j == 0 || j == p.own)) (i == p.other && j == p.output)
     (Decides-and (i == 0) (j == 0 || j == p.own) (Decides-eqb i 0) (Decides-or (j == 0) (j == p.own) (Decides-eqb j 0) (Decides-eqb j p.own)))
     (Decides-and (i == p.other) (j == p.output) (Decides-eqb i p.other) (Decides-eqb j p.output)))
@@ -74,7 +75,8 @@ unfolding rows_of
 row_is n p i i_in = get_or-map-range_with_len (row_at n p) 0 n i i no_row i_in (omega arith)
 
 -- what a row names is what is posted
-pub posted : (n : ℕ) (p : Posting) (i j level : ℕ) (kind : Kind) → i < n → Names (row_of (rows_of n p) i) level kind j → (level ≡ 0) × (kind ≡ Uni) × (j < n) × IsPosted p i j
+pub posted : (n : ℕ) (p : Posting) (i j level : ℕ) (kind : Kind) → i < n → Names (row_of (rows_of n p) i) level kind j → (level ≡ 0) × (kind ≡ Uni) × (j < n)
+    × IsPosted p i j
 posted n p i j level kind i_in named = posted_at n p i j level kind (subst (λ row. Names row level kind j) (row_is n p i i_in) named)
 
 pub names : (n : ℕ) (p : Posting) (i j : ℕ) → i < n → j < n → IsPosted p i j → Names (row_of (rows_of n p) i) 0 Uni j

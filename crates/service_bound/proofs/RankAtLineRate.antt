@@ -29,10 +29,15 @@ pub record FallsLower (n level i j g : ℕ) (before after : Places) (later : Lis
   pub input : ℕ
   pub input_in : input < n
   pub asks : Names (row_of later input) level Uni j
-  pub lower : (twice_rank_of n level after i j input + 4 ≤ twice_rank_of n level before i j g) ⊎ ((twice_rank_of n level after i j input + 2 ≤ twice_rank_of n level before i j g) × IsLower n level i j after later)
+  pub lower : (twice_rank_of n level after i j input + 4 ≤ twice_rank_of n level before i j g)
+      ⊎ ((twice_rank_of n level after i j input + 2 ≤ twice_rank_of n level before i j g) × IsLower n level i j after later)
 
-module _ (n t level : ℕ) (rows : List Row) (first matched : List (Option Fed)) (before after : Places) (level_in : level < LEVELS) (begins : BeginsWith n t rows before first matched) (moved : AreMoved n t rows first matched before after) (pointing : ArePointing n level before) (clean : IsClean n level rows) (alone : IsWithoutMulticast n level rows) (more : 2 < n) where
-  module _ (later : List Row) (i j g : ℕ) (i_in : i < n) (j_in : j < n) (g_in : g < n) (named : Names (row_of rows i) level Uni j) (asking : Names (row_of rows g) level Uni j) (left : Serves matched i j level Uni → ⊥) (on : AskOn n level matched rows later j) (gains : GainAtMostOne n level rows later) where
+module _ (n t level : ℕ) (rows : List Row) (first matched : List (Option Fed)) (before after : Places) (level_in : level < LEVELS)
+    (begins : BeginsWith n t rows before first matched) (moved : AreMoved n t rows first matched before after) (pointing : ArePointing n level before)
+    (clean : IsClean n level rows) (alone : IsWithoutMulticast n level rows) (more : 2 < n) where
+  module _ (later : List Row) (i j g : ℕ) (i_in : i < n) (j_in : j < n) (g_in : g < n) (named : Names (row_of rows i) level Uni j)
+      (asking : Names (row_of rows g) level Uni j) (left : Serves matched i j level Uni → ⊥) (on : AskOn n level matched rows later j)
+      (gains : GainAtMostOne n level rows later) where
     abbrev Two : ℕ → Type 0
     Two v = FallsByTwo n t level rows first matched before after level_in begins.opening moved pointing clean alone more v i j
 
@@ -43,40 +48,66 @@ module _ (n t level : ℕ) (rows : List Row) (first matched : List (Option Fed))
         record { input = by.0; input_in = by.1.input_in; asks = on by.0 by.1.input_in by.1.asks by.1.left; lower = inr (by.1.lower, into) }
 
     -- any other is nearer than input i
-    nearer_than : IsFarAmongFresh n level i j before → (x : ℕ) → x < n → (x ≡ i → ⊥) → distance n (grant_of before j level) x < distance n (grant_of before j level) i
+    nearer_than : IsFarAmongFresh n level i j before → (x : ℕ) → x < n → (x ≡ i → ⊥)
+        → distance n (grant_of before j level) x < distance n (grant_of before j level) i
     nearer_than base x x_in other =
         let from_in = pointing.grant j j_in in
         let place_in = distance-lt n (grant_of before j level) x from_in in
         let far = base.far in
-        let differ : distance n (grant_of before j level) x ≡ distance n (grant_of before j level) i → ⊥ = λ e. other (distance-injective n (grant_of before j level) x i from_in x_in i_in e) in
+        let differ : distance n (grant_of before j level) x ≡ distance n (grant_of before j level) i
+        → ⊥ = λ e. other (distance-injective n (grant_of before j level) x i from_in x_in i_in e) in
         omega (arith, far, place_in, differ)
 
     module _ (base : IsFarAmongFresh n level i j before) (nobody : (x : ℕ) → Serves first x j level Uni → ⊥) where
       -- a rank after the slot, where output j's grant pointer stayed
-      there : (x : ℕ) → twice_rank n (distance n (grant_of before j level) i) (distance n (grant_of before j level) x) (distance n (accept_of after x level) j) (fresh_of n level after i j) + 4 ≤ twice_rank_of n level before i j g → twice_rank_of n level after i j x + 4 ≤ twice_rank_of n level before i j g
-      there x lower = subst (λ p. twice_rank n (distance n p i) (distance n p x) (distance n (accept_of after x level) j) (fresh_of n level after i j) + 4 ≤ twice_rank_of n level before i j g) (sym (moved.grant_stays j level nobody)) lower
+      there : (x : ℕ) → twice_rank n (distance n (grant_of before j level) i) (distance n (grant_of before j level) x)
+          (distance n (accept_of after x level) j) (fresh_of n level after i j) + 4 ≤ twice_rank_of n level before i j g
+          → twice_rank_of n level after i j x + 4 ≤ twice_rank_of n level before i j g
+      there x lower = subst (λ p. twice_rank n (distance n p i) (distance n p x) (distance n (accept_of after x level) j)
+          (fresh_of n level after i j) + 4 ≤ twice_rank_of n level before i j g) (sym (moved.grant_stays j level nobody)) lower
 
       -- where the input made two steps
       by_steps : Two g → twice_rank_of n level after i j g + 4 ≤ twice_rank_of n level before i j g
-      by_steps two = there g (twice_rank-turns_twice n (distance n (grant_of before j level) i) (distance n (grant_of before j level) g) (distance n (accept_of before g level) j) (fresh_of n level before i j) (distance n (accept_of after g level) j) (fresh_of n level after i j) two.nearer)
+      by_steps two = there g (twice_rank-turns_twice n (distance n (grant_of before j level) i) (distance n (grant_of before j level) g)
+          (distance n (accept_of before g level) j) (fresh_of n level before i j) (distance n (accept_of after g level) j)
+          (fresh_of n level after i j) two.nearer)
 
       -- where a nearer one asks
-      by_nearer : (x : ℕ) → distance n (grant_of before j level) x < distance n (grant_of before j level) g → min (distance n (accept_of after x level) j) (n - 2) + fresh_of n level after i j + 2 ≤ (n - 2) + (min (distance n (accept_of before g level) j) (n - 2) + fresh_of n level before i j) → twice_rank_of n level after i j x + 4 ≤ twice_rank_of n level before i j g
-      by_nearer x less lower = there x (twice_rank-near_twice n (distance n (grant_of before j level) i) (distance n (grant_of before j level) g) (distance n (accept_of before g level) j) (fresh_of n level before i j) (distance n (grant_of before j level) x) (distance n (accept_of after x level) j) (fresh_of n level after i j) less lower)
+      by_nearer : (x : ℕ) → distance n (grant_of before j level) x < distance n (grant_of before j level) g
+          → min (distance n (accept_of after x level) j) (n - 2) + fresh_of n level after i j + 2 ≤ (n - 2) +
+          (min (distance n (accept_of before g level) j) (n - 2) + fresh_of n level before i j)
+          → twice_rank_of n level after i j x + 4 ≤ twice_rank_of n level before i j g
+      by_nearer x less lower = there x
+          (twice_rank-near_twice n (distance n (grant_of before j level) i) (distance n (grant_of before j level) g) (distance n (accept_of before g level) j)
+          (fresh_of n level before i j) (distance n (grant_of before j level) x) (distance n (accept_of after x level) j)
+          (fresh_of n level after i j) less lower)
 
       -- where one nearer by two asks
-      by_two_nearer : (x : ℕ) → distance n (grant_of before j level) x + 2 ≤ distance n (grant_of before j level) g → 1 ≤ min (distance n (accept_of before g level) j) (n - 2) → fresh_of n level after i j ≤ fresh_of n level before i j → twice_rank_of n level after i j x + 4 ≤ twice_rank_of n level before i j g
-      by_two_nearer x less some also = there x (twice_rank-near_by_two n (distance n (grant_of before j level) i) (distance n (grant_of before j level) g) (distance n (accept_of before g level) j) (fresh_of n level before i j) (distance n (grant_of before j level) x) (distance n (accept_of after x level) j) (fresh_of n level after i j) less some also)
+      by_two_nearer : (x : ℕ) → distance n (grant_of before j level) x + 2 ≤ distance n (grant_of before j level) g
+          → 1 ≤ min (distance n (accept_of before g level) j) (n - 2) → fresh_of n level after i j ≤ fresh_of n level before i j
+          → twice_rank_of n level after i j x + 4 ≤ twice_rank_of n level before i j g
+      by_two_nearer x less some also =
+          there x (twice_rank-near_by_two n (distance n (grant_of before j level) i) (distance n (grant_of before j level) g)
+          (distance n (accept_of before g level) j) (fresh_of n level before i j) (distance n (grant_of before j level) x)
+          (distance n (accept_of after x level) j) (fresh_of n level after i j) less some also)
 
       -- class A
-      from_alone : IsAlone n level i j before rows → (y : ℕ) → Serves first i y level Uni → distance n (accept_of before i level) y ≤ distance n (accept_of before i level) j → FallsLower n level i j g before after later
+      from_alone : IsAlone n level i j before rows → (y : ℕ) → Serves first i y level Uni
+          → distance n (accept_of before i level) y ≤ distance n (accept_of before i level) j → FallsLower n level i j g before after later
       from_alone now y served at_most =
           let own : g ≡ i = now.only g g_in asking in
-          let turns : distance n (accept_of before g level) j ≡ distance n (accept_of before i level) j = ap (λ v. distance n (accept_of before v level) j) own in
+          let turns : distance n (accept_of before g level) j ≡ distance n (accept_of before i level) j =
+          ap (λ v. distance n (accept_of before v level) j) own in
           let place : distance n (grant_of before j level) g ≡ distance n (grant_of before j level) i = ap (distance n (grant_of before j level)) own in
           let silent_before : (x : ℕ) → x < n → (x ≡ i → ⊥) → Names (row_of rows x) level Uni j → ⊥ = λ x x_in other asks. other (now.only x x_in asks) in
-          elim (alone_refused n t level rows first matched before after level_in begins.opening moved pointing clean alone more i j i_in j_in base nobody y served at_most now.passed) [
-            | inl two ↦ record { input = g; input_in = g_in; asks = on g g_in asking (subst (λ v. Serves matched v j level Uni → ⊥) (sym own) left); lower = inl (by_steps (subst Two (sym own) two)) }
+          elim (alone_refused n t level rows first matched before after level_in begins.opening moved pointing clean alone more i j i_in j_in base nobody y
+              served at_most now.passed) [
+            | inl two ↦ record {
+              input = g;
+              input_in = g_in;
+              asks = on g g_in asking (subst (λ v. Serves matched v j level Uni → ⊥) (sym own) left);
+              lower = inl (by_steps (subst Two (sym own) two));
+            }
             | inr rest ↦ elim (other_asks n level later j i i) [
               | inr none ↦ once (inl (record {
                 base = rest.base;
@@ -86,30 +117,50 @@ module _ (n t level : ℕ) (rows : List Row) (first matched : List (Option Fed))
               | inl found ↦
                   let less = nearer_than base found.0 found.1 found.2.0 in
                   elim rest.next [
-                    | inl fewer ↦ record { input = found.0; input_in = found.1; asks = found.3; lower = inl (by_nearer found.0 (omega (arith, less, place)) (omega (arith, fewer, turns))) }
+                    | inl fewer ↦ record {
+                      input = found.0;
+                      input_in = found.1;
+                      asks = found.3;
+                      lower = inl (by_nearer found.0 (omega (arith, less, place)) (omega (arith, fewer, turns)));
+                    }
                     | inr stale ↦ elim (other_asks n level later j i found.0) [
                       | inl second ↦
                           let also_less = nearer_than base second.0 second.1 second.2.0 in
-                          let differ : distance n (grant_of before j level) second.0 ≡ distance n (grant_of before j level) found.0 → ⊥ = λ e. second.2.1 (distance-injective n (grant_of before j level) second.0 found.0 (pointing.grant j j_in) second.1 found.1 e) in
+                          let differ : distance n (grant_of before j level) second.0 ≡ distance n (grant_of before j level) found.0
+                          → ⊥ = λ e. second.2.1 (distance-injective n (grant_of before j level) second.0 found.0
+                          (pointing.grant j j_in) second.1 found.1 e) in
                           let some : 1 ≤ min (distance n (accept_of before g level) j) (n - 2) = let here = stale.0 in omega (arith, here, turns) in
                           elim (cases_lt (distance n (grant_of before j level) found.0) (distance n (grant_of before j level) second.0)) [
-                            | inl before_it ↦ record { input = found.0; input_in = found.1; asks = found.3; lower = inl (by_two_nearer found.0 (omega (arith, before_it, also_less, place)) some stale.1) }
-                            | inr after_it ↦ record { input = second.0; input_in = second.1; asks = second.3; lower = inl (by_two_nearer second.0 (omega (arith, after_it, less, differ, place)) some stale.1) }
+                            | inl before_it ↦ record {
+                              input = found.0;
+                              input_in = found.1;
+                              asks = found.3;
+                              lower = inl (by_two_nearer found.0 (omega (arith, before_it, also_less, place)) some stale.1);
+                            }
+                            | inr after_it ↦ record {
+                              input = second.0;
+                              input_in = second.1;
+                              asks = second.3;
+                              lower = inl (by_two_nearer second.0 (omega (arith, after_it, less, differ, place)) some stale.1);
+                            }
                           ]
                       | inr none ↦
                           let x_none = silent_before found.0 found.1 found.2.0 in
                           let not_asked : Names (row_of rows found.0) level Uni ((j + 1) % n) → ⊥ = λ asked. found.2.0 (stale.2 found.0 found.1 asked) in
-                          once (inr (found.0, begins_beside n level i j found.0 after rows later more j_in found.1 found.2.0 rest.base gains x_none found.3 none not_asked))
+                          once (inr (found.0, begins_beside n level i j found.0 after rows later more j_in found.1 found.2.0 rest.base gains x_none found.3
+                              none not_asked))
                     ]
                   ]
             ]
           ]
 
       -- class B: the other input x takes another output y
-      from_beside : (x : ℕ) → IsBeside n level i j before rows x → (y : ℕ) → Serves first x y level Uni → Names (row_of rows x) level Uni y → distance n (accept_of before x level) y ≤ distance n (accept_of before x level) j → FallsLower n level i j g before after later
+      from_beside : (x : ℕ) → IsBeside n level i j before rows x → (y : ℕ) → Serves first x y level Uni → Names (row_of rows x) level Uni y
+          → distance n (accept_of before x level) y ≤ distance n (accept_of before x level) j → FallsLower n level i j g before after later
       from_beside x now y served asked at_most =
           let full : distance n (accept_of before x level) j + 1 ≡ n = base.fresh x now.below now.other in
-          let two = two_steps n t level rows first matched before after level_in begins.opening moved pointing clean alone more i j i_in j_in base nobody x y now.below served at_most full (λ same. now.not_next (subst (Names (row_of rows x) level Uni) same asked)) in
+          let two = two_steps n t level rows first matched before after level_in begins.opening moved pointing clean alone more i j i_in j_in base nobody x y
+              now.below served at_most full (λ same. now.not_next (subst (Names (row_of rows x) level Uni) same asked)) in
           let steps = two.nearer in
           let less = nearer_than base x now.below now.other in
           record {
@@ -133,38 +184,46 @@ module _ (n t level : ℕ) (rows : List Row) (first matched : List (Option Fed))
         let place = moved.granted x j level served in
         let no_fresher = fresh-accepted n t level rows first matched begins.opening.count before after moved pointing i j i_in j_in x now.below served ahead in
         let some : 1 ≤ distance n (grant_of before j level) g + min (distance n (accept_of before g level) j) (n - 2) = elim (now.only g g_in asking) [
-          | inl own ↦ let e : distance n (grant_of before j level) g ≡ distance n (grant_of before j level) i = ap (distance n (grant_of before j level)) own in omega (arith, e, ahead)
+          | inl own ↦ let e : distance n (grant_of before j level) g ≡ distance n (grant_of before j level) i =
+              ap (distance n (grant_of before j level)) own in omega (arith, e, ahead)
           | inr own ↦
-              let e : distance n (accept_of before g level) j ≡ distance n (accept_of before x level) j = ap (λ v. distance n (accept_of before v level) j) own in
+              let e : distance n (accept_of before g level) j ≡ distance n (accept_of before x level) j =
+              ap (λ v. distance n (accept_of before v level) j) own in
               let full = now.base.fresh x now.below now.other in
               omega (arith, e, full, more)
         ] in
-        let lower = twice_rank-far_twice n (distance n (grant_of before j level) i) (distance n (grant_of before j level) g) (distance n (accept_of before g level) j) (fresh_of n level before i j)
-        (distance n ((x + 1) % n) i) (distance n ((x + 1) % n) i) (distance n (accept_of after i level) j) (fresh_of n level after i j) (omega (arith, passed)) (omega arith) no_fresher more some in
+        let lower = twice_rank-far_twice n (distance n (grant_of before j level) i) (distance n (grant_of before j level) g)
+        (distance n (accept_of before g level) j) (fresh_of n level before i j)
+        (distance n ((x + 1) % n) i) (distance n ((x + 1) % n) i) (distance n (accept_of after i level) j) (fresh_of n level after i j)
+        (omega (arith, passed)) (omega arith) no_fresher more some in
         record {
           input = i;
           input_in = i_in;
           asks = on i i_in named left;
-          lower = inl (subst (λ p. twice_rank n (distance n p i) (distance n p i) (distance n (accept_of after i level) j) (fresh_of n level after i j) + 4 ≤ twice_rank_of n level before i j g) (sym place) lower);
+          lower = inl (subst (λ p. twice_rank n (distance n p i) (distance n p i) (distance n (accept_of after i level) j)
+              (fresh_of n level after i j) + 4 ≤ twice_rank_of n level before i j g) (sym place) lower);
         }
 
     -- from rows of either class
     pub falls_lower : IsLower n level i j before rows → FallsLower n level i j g before after later
     falls_lower lower =
         let first_kind = kind_is_first n t level rows first before level_in begins.opening pointing clean alone in
-        let nearest = IsFirstFrom-some n (grant_of before j level) (λ x. Names (row_of rows x) level Uni j) (λ x. Names-decides (row_of rows x) level Uni j) (pointing.grant j j_in) g g_in asking in
+        let nearest = IsFirstFrom-some n (grant_of before j level) (λ x. Names (row_of rows x) level Uni j) (λ x. Names-decides (row_of rows x) level Uni j)
+        (pointing.grant j j_in) g g_in asking in
         let h = nearest.0 in
         let granted = grants_first n t rows before level level_in clean Uni first_kind h j j_in nearest.1 in
         let met = served_by_first n t level rows first before level_in begins.opening pointing clean alone h j nearest.1.below granted in
         let at_most = met.1.least j j_in granted in
         let asked = (first_granted n t rows before level level_in clean Uni first_kind h met.0 met.1.member).member in
-        let refuses : (met.0 ≡ j → ⊥) → (x : ℕ) → Serves first x j level Uni → ⊥ = λ other. refused n t level rows first before level_in begins.opening pointing clean alone h j met.0 nearest.1.below j_in granted met.1 other in
+        let refuses : (met.0 ≡ j → ⊥) → (x : ℕ) → Serves first x j level Uni
+        → ⊥ = λ other. refused n t level rows first before level_in begins.opening pointing clean alone h j met.0 nearest.1.below j_in granted met.1 other in
         elim lower [
           | inl now ↦
               let own : h ≡ i = now.only h nearest.1.below nearest.1.member in
               let served : Serves first i met.0 level Uni = subst (λ v. Serves first v met.0 level Uni) own met.2 in
               let other : met.0 ≡ j → ⊥ = λ same. left (begins.stays i j level Uni (subst (λ v. Serves first i v level Uni) same served)) in
-              from_alone now.base (refuses other) now met.0 served (subst (λ v. distance n (accept_of before v level) met.0 ≤ distance n (accept_of before v level) j) own at_most)
+              from_alone now.base (refuses other) now met.0 served
+              (subst (λ v. distance n (accept_of before v level) met.0 ≤ distance n (accept_of before v level) j) own at_most)
           | inr late ↦
               let x = late.0 in
               let now = late.1 in
@@ -179,6 +238,7 @@ module _ (n t level : ℕ) (rows : List Row) (first matched : List (Option Fed))
               let served : Serves first x met.0 level Uni = subst (λ v. Serves first v met.0 level Uni) own met.2 in
               elim (cases_eq met.0 j) [
                 | inl same ↦ from_accepted x now (subst (λ v. Serves first x v level Uni) same served)
-                | inr other ↦ from_beside now.base (refuses other) x now met.0 served (subst (λ v. Names (row_of rows v) level Uni met.0) own asked) (subst (λ v. distance n (accept_of before v level) met.0 ≤ distance n (accept_of before v level) j) own at_most)
+                | inr other ↦ from_beside now.base (refuses other) x now met.0 served (subst (λ v. Names (row_of rows v) level Uni met.0) own asked)
+                    (subst (λ v. distance n (accept_of before v level) met.0 ≤ distance n (accept_of before v level) j) own at_most)
               ]
         ]

@@ -1,6 +1,7 @@
 -- Slots of unicast of one level alone, renumbered and decided anew at another level: they are a schedule again, of which all is
 -- the same but for the names of the ports and the level.
-use Rattle.std.proofs.Common.{◌≡◌, ℕ, suc, ◌+◌, ◌<◌, ◌∙◌, List, [], ◌∷◌, All, length, map, replicate, slice_index, slice_set, refl, ap, sym, subst, inl, inr, arith}
+use Rattle.std.proofs.Common.{◌≡◌, ℕ, suc, ◌+◌, ◌<◌, ◌∙◌, List, [], ◌∷◌, All, length, map, replicate, slice_index, slice_set, refl, ap, sym, subst, inl}
+use Rattle.std.proofs.Common.{inr, arith}
 use Rattle.std.specs.List.{range_with_len}
 use Rattle.std.proofs.lemmas.Bool.{cases_eq}
 use Rattle.std.proofs.lemmas.List.{length-replicate, get_or-set_same, get_or-set_other}
@@ -56,26 +57,33 @@ module _ (n : ℕ) (ins_back outs_back : ℕ → ℕ) (l m : ℕ) where
     unfolding row_for set_for
     names_in rows x y y_in named =
         let there : m < length (replicate {A = ℕ} LEVELS 0) = let long = length-replicate {A = ℕ} LEVELS 0 in omega arith in
-        let has : Has (set_for rows x) y = (Has-set_of n (λ v. is_named (row_of rows (ins_back x)) l Uni (outs_back v)) y).1 (y_in, (Decides-named (row_of rows (ins_back x)) l Uni (outs_back y)).1 named) in
+        let has : Has (set_for rows x) y =
+        (Has-set_of n (λ v. is_named (row_of rows (ins_back x)) l Uni (outs_back v)) y).1
+        (y_in, (Decides-named (row_of rows (ins_back x)) l Uni (outs_back y)).1 named) in
         subst (λ s. Has s y) (sym (get_or-set_same (replicate LEVELS 0) m (set_for rows x) 0 there)) has
 
-    named_in : (rows : List Row) (x y level : ℕ) (kind : Kind) → Names (row_for rows x) level kind y → (level ≡ m) × (kind ≡ Uni) × (y < n) × Names (row_of rows (ins_back x)) l Uni (outs_back y)
+    named_in : (rows : List Row) (x y level : ℕ) (kind : Kind) → Names (row_for rows x) level kind y → (level ≡ m) × (kind ≡ Uni) × (y < n)
+        × Names (row_of rows (ins_back x)) l Uni (outs_back y)
     unfolding row_for set_for
     named_in rows x y level Multi named = absurd (nothing_in LEVELS level y named)
     named_in rows x y level Uni named = elim (cases_eq level m) [
       | inl same ↦
           let there : m < length (replicate {A = ℕ} LEVELS 0) = let long = length-replicate {A = ℕ} LEVELS 0 in omega arith in
-          let here : Has (slice_index (slice_set (replicate LEVELS 0) m (set_for rows x)) m) y = subst (λ v. Has (slice_index (slice_set (replicate LEVELS 0) m (set_for rows x)) v) y) same named in
-          let has = (Has-set_of n (λ v. is_named (row_of rows (ins_back x)) l Uni (outs_back v)) y).0 (subst (λ s. Has s y) (get_or-set_same (replicate LEVELS 0) m (set_for rows x) 0 there) here) in
+          let here : Has (slice_index (slice_set (replicate LEVELS 0) m (set_for rows x)) m) y =
+          subst (λ v. Has (slice_index (slice_set (replicate LEVELS 0) m (set_for rows x)) v) y) same named in
+          let has = (Has-set_of n (λ v. is_named (row_of rows (ins_back x)) l Uni (outs_back v)) y).0
+          (subst (λ s. Has s y) (get_or-set_same (replicate LEVELS 0) m (set_for rows x) 0 there) here) in
           (same, refl, has.0, (Decides-named (row_of rows (ins_back x)) l Uni (outs_back y)).0 has.1)
       | inr other ↦ absurd (nothing_in LEVELS level y (subst (λ s. Has s y) (get_or-set_other (replicate LEVELS 0) m level (set_for rows x) 0 other) named))
     ]
 
     -- what the renumbered rows name
-    pub names_for : (rows : List Row) (x y : ℕ) → x < n → y < n → Names (row_of rows (ins_back x)) l Uni (outs_back y) → Names (row_of (rows_for rows) x) m Uni y
+    pub names_for : (rows : List Row) (x y : ℕ) → x < n → y < n → Names (row_of rows (ins_back x)) l Uni (outs_back y)
+        → Names (row_of (rows_for rows) x) m Uni y
     names_for rows x y x_in y_in named = subst (λ row. Names row m Uni y) (sym (row_is rows x x_in)) (names_in rows x y y_in named)
 
-    pub named_for : (rows : List Row) (x y level : ℕ) (kind : Kind) → x < n → Names (row_of (rows_for rows) x) level kind y → (level ≡ m) × (kind ≡ Uni) × (y < n) × Names (row_of rows (ins_back x)) l Uni (outs_back y)
+    pub named_for : (rows : List Row) (x y level : ℕ) (kind : Kind) → x < n → Names (row_of (rows_for rows) x) level kind y → (level ≡ m) × (kind ≡ Uni)
+        × (y < n) × Names (row_of rows (ins_back x)) l Uni (outs_back y)
     named_for rows x y level kind x_in named = named_in rows x y level kind (subst (λ row. Names row level kind y) (row_is rows x x_in) named)
 
     pub AreWithin-for : (rows : List Row) → AreWithin n (rows_for rows)
@@ -92,7 +100,8 @@ module _ (n : ℕ) (ins_back outs_back : ℕ → ℕ) (l m : ℕ) where
     pub IsWithoutMulticast-for : (rows : List Row) → IsWithoutMulticast n m (rows_for rows)
     IsWithoutMulticast-for rows x y x_in named = let kind = (named_for rows x y m Multi x_in named).1 in absurd (cc)
 
-module _ (n rounds : ℕ) (ins ins_back outs outs_back : ℕ → ℕ) (inputs : Renumbers n ins ins_back) (outputs : Renumbers n outs outs_back) (l m : ℕ) (l_in : l < LEVELS) (m_in : m < LEVELS) where
+module _ (n rounds : ℕ) (ins ins_back outs outs_back : ℕ → ℕ) (inputs : Renumbers n ins ins_back) (outputs : Renumbers n outs outs_back) (l m : ℕ)
+    (l_in : l < LEVELS) (m_in : m < LEVELS) where
   abbrev New : List Row → List Row
   New rows = rows_for n ins_back outs_back l m rows
 
@@ -103,18 +112,22 @@ module _ (n rounds : ℕ) (ins ins_back outs outs_back : ℕ → ℕ) (inputs : 
   -- the slots decided anew
   abbrev pub redecided : ℕ → Places → List DecidedSlot → List DecidedSlot
   redecided t places [] = []
-  redecided t places (slot ∷ slots) = record { rows = rows_for n ins_back outs_back l m slot.rows; decision = redecision t places slot.rows } ∷ redecided (t + 1) (redecision t places slot.rows).places slots
+  redecided t places (slot ∷ slots) = record { rows = rows_for n ins_back outs_back l m slot.rows; decision = redecision t places slot.rows }
+      ∷ redecided (t + 1) (redecision t places slot.rows).places slots
 
   pub length-redecided : (t : ℕ) (places : Places) (slots : List DecidedSlot) → length (redecided t places slots) ≡ length slots
   length-redecided t places [] = refl
   length-redecided t places (slot ∷ slots) = ap suc (length-redecided (t + 1) (redecision t places slot.rows).places slots)
 
   -- what all renumbered rows have, all slots have
-  pub All-redecided : (P Q : List Row → Type 0) → ((rows : List Row) → P rows → Q (New rows)) → (t : ℕ) (places : Places) (slots : List DecidedSlot) → All (λ slot. P slot.rows) slots → All (λ slot. Q slot.rows) (redecided t places slots)
+  pub All-redecided : (P Q : List Row → Type 0) → ((rows : List Row) → P rows → Q (New rows)) → (t : ℕ) (places : Places) (slots : List DecidedSlot)
+      → All (λ slot. P slot.rows) slots → All (λ slot. Q slot.rows) (redecided t places slots)
   All-redecided P Q each t places [] all = All-nil (λ slot. Q slot.rows)
   All-redecided P Q each t places (slot ∷ slots) all =
-      All-cons (λ slot. Q slot.rows) (record { rows = New slot.rows; decision = redecision t places slot.rows }) (redecided (t + 1) (redecision t places slot.rows).places slots)
-      (each slot.rows (All-head (λ s. P s.rows) slot slots all)) (All-redecided P Q each (t + 1) (redecision t places slot.rows).places slots (All-tail (λ s. P s.rows) slot slots all))
+      All-cons (λ slot. Q slot.rows) (record { rows = New slot.rows; decision = redecision t places slot.rows })
+      (redecided (t + 1) (redecision t places slot.rows).places slots)
+      (each slot.rows (All-head (λ s. P s.rows) slot slots all))
+      (All-redecided P Q each (t + 1) (redecision t places slot.rows).places slots (All-tail (λ s. P s.rows) slot slots all))
 
   rows_to : (rows : List Row) → OnlyAt n l rows → Carries n ins outs l m (Posts n rows) (Posts n (New rows))
   rows_to rows alone = record {
@@ -122,7 +135,8 @@ module _ (n rounds : ℕ) (ins ins_back outs outs_back : ℕ → ℕ) (inputs : 
         let at = alone x y l Uni there in
         let in_back = inputs.back_to x there.0 in
         let out_back = outputs.back_to y at.1 in
-        let named : Names (row_of rows (ins_back (ins x))) l Uni (outs_back (outs y)) = subst (λ v. Names (row_of rows v) l Uni (outs_back (outs y))) (sym in_back) (subst (λ v. Names (row_of rows x) l Uni v) (sym out_back) there.1) in
+        let named : Names (row_of rows (ins_back (ins x))) l Uni (outs_back (outs y)) =
+        subst (λ v. Names (row_of rows v) l Uni (outs_back (outs y))) (sym in_back) (subst (λ v. Names (row_of rows x) l Uni v) (sym out_back) there.1) in
         (inputs.to_in x there.0, names_for n ins_back outs_back l m m_in rows (ins x) (outs y) (inputs.to_in x there.0) (outputs.to_in y at.1) named);
     only = alone;
   }
@@ -133,7 +147,8 @@ module _ (n rounds : ℕ) (ins ins_back outs outs_back : ℕ → ℕ) (inputs : 
     only = λ x y level kind there. let at = named_for n ins_back outs_back l m m_in rows x y level kind there.0 there.1 in (there.0, at.2, at.0, at.1);
   }
 
-  module _ (t : ℕ) (places later : Places) (slot : DecidedSlot) (now : IsWindowSlot n rounds t l places slot) (alone : OnlyAt n l slot.rows) (switch : IsSwitch n later) (pointers : PointAlike n ins outs l m places later) where
+  module _ (t : ℕ) (places later : Places) (slot : DecidedSlot) (now : IsWindowSlot n rounds t l places slot) (alone : OnlyAt n l slot.rows)
+      (switch : IsSwitch n later) (pointers : PointAlike n ins outs l m places later) where
     anew : IsSlot n rounds t (New slot.rows) later (redecision t later slot.rows)
     anew = IsSlot-decision_of n t (New slot.rows) later (AreWithin-for n ins_back outs_back l m m_in slot.rows) switch.at_ports switch.ports rounds
 
@@ -164,25 +179,32 @@ module _ (n rounds : ℕ) (ins ins_back outs outs_back : ℕ → ℕ) (inputs : 
     matched_alike : MatchAlike n ins ins_back outs outs_back l m slot.decision.matched (redecision t later slot.rows).matched
     unfolding before after
     matched_alike =
-        let same = slots_alike n t ins ins_back outs outs_back before after alike now.decided.steps anew.steps now.decided.chain anew.chain (now.decided.count ∙ sym anew.count) in
+        let same = slots_alike n t ins ins_back outs outs_back before after alike now.decided.steps anew.steps now.decided.chain anew.chain
+        (now.decided.count ∙ sym anew.count) in
         subst (λ f. MatchAlike n ins ins_back outs outs_back l m f (redecision t later slot.rows).matched) (sym now.decided.result)
         (subst (λ g. MatchAlike n ins ins_back outs outs_back l m (last_of (unmatched n) now.decided.steps) g) (sym anew.result) same)
 
-    pointers_after : ((y : ℕ) → y < n → grant_of slot.decision.places y l < n) → ((x : ℕ) → x < n → accept_of slot.decision.places x l < n) → PointAlike n ins outs l m slot.decision.places (redecision t later slot.rows).places
+    pointers_after : ((y : ℕ) → y < n → grant_of slot.decision.places y l < n) → ((x : ℕ) → x < n → accept_of slot.decision.places x l < n)
+        → PointAlike n ins outs l m slot.decision.places (redecision t later slot.rows).places
     unfolding before after
     pointers_after grant_in accept_in =
-        pointers_alike n t ins ins_back outs outs_back before after alike (first_of n now.decided.steps) (first_of n anew.steps) slot.decision.matched (redecision t later slot.rows).matched slot.decision.places (redecision t later slot.rows).places
-        (firsts_alike n t ins ins_back outs outs_back before after alike now.decided.steps anew.steps now.decided.chain anew.chain (now.decided.count ∙ sym anew.count))
+        pointers_alike n t ins ins_back outs outs_back before after alike (first_of n now.decided.steps) (first_of n anew.steps) slot.decision.matched
+        (redecision t later slot.rows).matched slot.decision.places (redecision t later slot.rows).places
+        (firsts_alike n t ins ins_back outs outs_back before after alike now.decided.steps anew.steps now.decided.chain anew.chain
+        (now.decided.count ∙ sym anew.count))
         (length-first_of n t slot.rows places now.decided.steps now.decided.chain) now.decided.moved anew.moved grant_in accept_in
 
     -- what is not served is posted again
-    keeps_anew : (next : List Row) → ((x : ℕ) → x < n → Keeps slot.decision.matched x (row_of slot.rows x) (row_of next x)) → (x : ℕ) → x < n → Keeps (redecision t later slot.rows).matched x (row_of (New slot.rows) x) (row_of (New next) x)
+    keeps_anew : (next : List Row) → ((x : ℕ) → x < n → Keeps slot.decision.matched x (row_of slot.rows x) (row_of next x)) → (x : ℕ) → x < n
+        → Keeps (redecision t later slot.rows).matched x (row_of (New slot.rows) x) (row_of (New next) x)
     keeps_anew next keeps x x_in = record {
       uni = λ level y named left.
           let at = named_for n ins_back outs_back l m m_in slot.rows x y level Uni x_in named in
           let Left : ℕ → ℕ → ℕ → Type 0 = λ u v k. Serves (redecision t later slot.rows).matched u v k Uni in
           let again = (keeps (ins_back x) (inputs.back_in x x_in)).uni l (outs_back y) at.3
-          (λ s. left (subst (λ k. Left x y k) (sym at.0) (subst (λ v. Left x v m) (outputs.to_back y at.2) (subst (λ u. Left u (outs (outs_back y)) m) (inputs.to_back x x_in) (matched_alike.to.carried (ins_back x) (outs_back y) s))))) in
+          (λ s. left (subst (λ k. Left x y k) (sym at.0)
+          (subst (λ v. Left x v m) (outputs.to_back y at.2)
+          (subst (λ u. Left u (outs (outs_back y)) m) (inputs.to_back x x_in) (matched_alike.to.carried (ins_back x) (outs_back y) s))))) in
           subst (λ k. Names (row_of (New next) x) k Uni y) (sym at.0) (names_for n ins_back outs_back l m m_in next x y x_in at.2 again);
       multi = λ level y named left. let kind = (named_for n ins_back outs_back l m m_in slot.rows x y level Multi x_in named).1 in absurd (cc);
     }
@@ -190,9 +212,11 @@ module _ (n rounds : ℕ) (ins ins_back outs outs_back : ℕ → ℕ) (inputs : 
     served_anew : (i j : ℕ) → Serves slot.decision.matched i j l Uni → Serves (redecision t later slot.rows).matched (ins i) (outs j) m Uni
     served_anew i j s = matched_alike.to.carried i j s
 
-    left_anew : (i j : ℕ) → i < n → j < n → (Serves slot.decision.matched i j l Uni → ⊥) → Serves (redecision t later slot.rows).matched (ins i) (outs j) m Uni → ⊥
+    left_anew : (i j : ℕ) → i < n → j < n → (Serves slot.decision.matched i j l Uni → ⊥)
+        → Serves (redecision t later slot.rows).matched (ins i) (outs j) m Uni → ⊥
     left_anew i j i_in j_in left s =
-        left (subst (λ u. Serves slot.decision.matched u j l Uni) (inputs.back_to i i_in) (subst (λ v. Serves slot.decision.matched (ins_back (ins i)) v l Uni) (outputs.back_to j j_in) (matched_alike.back.carried (ins i) (outs j) s)))
+        left (subst (λ u. Serves slot.decision.matched u j l Uni) (inputs.back_to i i_in)
+        (subst (λ v. Serves slot.decision.matched (ins_back (ins i)) v l Uni) (outputs.back_to j j_in) (matched_alike.back.carried (ins i) (outs j) s)))
 
   -- the slots decided anew are a schedule, keep what the slots keep, and serve last what they serve last
   pub record IsAnew (t : ℕ) (later : Places) (i j : ℕ) (slots : List DecidedSlot) : Type 0 where
@@ -200,14 +224,16 @@ module _ (n rounds : ℕ) (ins ins_back outs outs_back : ℕ → ℕ) (inputs : 
     pub kept : AreKept n (redecided t later slots)
     pub last : ServeLast i j l slots → ServeLast (ins i) (outs j) m (redecided t later slots)
 
-  pub slots_anew : (slots : List DecidedSlot) (t : ℕ) (places later : Places) → IsWindow n rounds t l places slots → All (λ slot. OnlyAt n l slot.rows) slots → IsSwitch n later → PointAlike n ins outs l m places later → (i j : ℕ) → i < n → j < n → IsAnew t later i j slots
+  pub slots_anew : (slots : List DecidedSlot) (t : ℕ) (places later : Places) → IsWindow n rounds t l places slots → All (λ slot. OnlyAt n l slot.rows) slots
+      → IsSwitch n later → PointAlike n ins outs l m places later → (i j : ℕ) → i < n → j < n → IsAnew t later i j slots
   slots_anew [] t places later window alone switch pointers i j i_in j_in = record { schedule = tt; kept = tt; last = λ none. none }
   slots_anew (slot ∷ slots) t places later window alone switch pointers i j i_in j_in =
       let now = first_slot n rounds t l places slot slots window in
       let rest = later_slots n rounds t l places slot slots window (omega arith) in
       let alone_here = All-head (λ s. OnlyAt n l s.rows) slot slots alone in
       let next = slots_anew slots (t + 1) slot.decision.places (redecision t later slot.rows).places rest (All-tail (λ s. OnlyAt n l s.rows) slot slots alone)
-      (IsSwitch-anew t places later slot now alone_here switch pointers) (pointers_after t places later slot now alone_here switch pointers rest.pointing.grant rest.pointing.accept) i j i_in j_in in
+      (IsSwitch-anew t places later slot now alone_here switch pointers)
+      (pointers_after t places later slot now alone_here switch pointers rest.pointing.grant rest.pointing.accept) i j i_in j_in in
       record {
         schedule = (anew t places later slot now alone_here switch pointers, next.schedule);
         kept = (kept_anew slots window.kept.0, next.kept);
@@ -219,10 +245,14 @@ module _ (n rounds : ℕ) (ins ins_back outs outs_back : ℕ → ℕ) (inputs : 
         only_here : OnlyAt n l slot.rows
         only_here = All-head (λ s. OnlyAt n l s.rows) slot slots alone
 
-        kept_anew : (rest : List DecidedSlot) → InFirst (λ rows. (x : ℕ) → x < n → Keeps slot.decision.matched x (row_of slot.rows x) (row_of rows x)) rest → InFirst (λ rows. (x : ℕ) → x < n → Keeps (redecision t later slot.rows).matched x (row_of (New slot.rows) x) (row_of rows x)) (redecided (t + 1) (redecision t later slot.rows).places rest)
+        kept_anew : (rest : List DecidedSlot) → InFirst (λ rows. (x : ℕ) → x < n → Keeps slot.decision.matched x (row_of slot.rows x) (row_of rows x)) rest
+            → InFirst (λ rows. (x : ℕ) → x < n → Keeps (redecision t later slot.rows).matched x (row_of (New slot.rows) x) (row_of rows x))
+            (redecided (t + 1) (redecision t later slot.rows).places rest)
         kept_anew [] kept = tt
         kept_anew (follows ∷ rest) kept = keeps_anew t places later slot here only_here switch pointers follows.rows kept
 
-        last_anew : (rest : List DecidedSlot) → (ServeLast i j l rest → ServeLast (ins i) (outs j) m (redecided (t + 1) (redecision t later slot.rows).places rest)) → ServeLast i j l (slot ∷ rest) → ServeLast (ins i) (outs j) m (redecided t later (slot ∷ rest))
+        last_anew : (rest : List DecidedSlot)
+            → (ServeLast i j l rest → ServeLast (ins i) (outs j) m (redecided (t + 1) (redecision t later slot.rows).places rest))
+            → ServeLast i j l (slot ∷ rest) → ServeLast (ins i) (outs j) m (redecided t later (slot ∷ rest))
         last_anew [] on last = served_anew t places later slot here only_here switch pointers i j last
         last_anew (follows ∷ rest) on last = (left_anew t places later slot here only_here switch pointers i j i_in j_in last.0, on last.1)

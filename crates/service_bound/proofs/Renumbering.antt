@@ -55,7 +55,8 @@ Renumbers-back n to back by = record {
   to_back = by.back_to;
   back_to = by.to_back;
   steps = λ from x from_in x_in.
-      sym (by.steps (back from) (back x) (by.back_in from from_in) (by.back_in x x_in)) ∙ ap (λ f. distance n f (to (back x))) (by.to_back from from_in) ∙ ap (distance n from) (by.to_back x x_in);
+      sym (by.steps (back from) (back x) (by.back_in from from_in) (by.back_in x x_in)) ∙ ap (λ f. distance n f (to (back x))) (by.to_back from from_in)
+      ∙ ap (distance n from) (by.to_back x x_in);
   beyond = λ x x_in.
       let y_in = by.back_in x x_in in
       let next_in = mod_below (back x + 1) n (omega arith) in
@@ -63,7 +64,8 @@ Renumbers-back n to back by = record {
 }
 
 -- the first of some ports is the first of them renumbered
-pub IsFirstFrom-renumbered : (n : ℕ) (to back : ℕ → ℕ) → Renumbers n to back → (from : ℕ) (P Q : ℕ → Type 0) (x : ℕ) → from < n → (P x → Q (to x)) → ((y : ℕ) → y < n → Q y → P (back y)) → IsFirstFrom n from P x → IsFirstFrom n (to from) Q (to x)
+pub IsFirstFrom-renumbered : (n : ℕ) (to back : ℕ → ℕ) → Renumbers n to back → (from : ℕ) (P Q : ℕ → Type 0) (x : ℕ) → from < n → (P x → Q (to x))
+    → ((y : ℕ) → y < n → Q y → P (back y)) → IsFirstFrom n from P x → IsFirstFrom n (to from) Q (to x)
 IsFirstFrom-renumbered n to back by from P Q x from_in there others first = record {
   below = by.to_in x first.below;
   member = there first.member;

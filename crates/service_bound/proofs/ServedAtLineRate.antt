@@ -33,17 +33,21 @@ record AsksByLower (n level i j : ℕ) (places : Places) (most : ℕ) (rows : Li
   below : (twice_rank_of n level places i j input < 2 * most) ⊎ ((twice_rank_of n level places i j input < 2 * most + 2) × IsLower n level i j places rows)
 
 -- at first
-begins_lower : (n level i j : ℕ) (places : Places) (rows : List Row) → 2 < n → ArePointing n level places → i < n → j < n → Names (row_of rows i) level Uni j → AsksByLower n level i j places (longest_service n - 1) rows
+begins_lower : (n level i j : ℕ) (places : Places) (rows : List Row) → 2 < n → ArePointing n level places → i < n → j < n → Names (row_of rows i) level Uni j
+    → AsksByLower n level i j places (longest_service n - 1) rows
 begins_lower n level i j places rows more pointing i_in j_in named =
     let from_in = pointing.grant j j_in in
     let far_in = distance-lt n (grant_of places j level) i from_in in
     let most = fresh_of-most n level places i j pointing j_in in
     let one : n * min (n - 1) 1 ≡ n * 1 = ap (λ v. n * v) (omega arith) in
     let few : fresh_of n level places i j ≤ n = omega (arith, most, one) in
-    let short : (g : ℕ) → distance n (grant_of places j level) g ≤ distance n (grant_of places j level) i → (distance n (grant_of places j level) g + 1 < n) ⊎ (fresh_of n level places i j < n) → twice_rank_of n level places i j g + 4 ≤ twice_longest n
-    = λ g within less. twice_rank-short n (distance n (grant_of places j level) i) (distance n (grant_of places j level) g) (distance n (accept_of places g level) j) (fresh_of n level places i j) more far_in within few less in
+    let short : (g : ℕ) → distance n (grant_of places j level) g ≤ distance n (grant_of places j level) i → (distance n (grant_of places j level) g + 1 < n)
+    ⊎ (fresh_of n level places i j < n) → twice_rank_of n level places i j g + 4 ≤ twice_longest n
+    = λ g within less. twice_rank-short n (distance n (grant_of places j level) i) (distance n (grant_of places j level) g)
+    (distance n (accept_of places g level) j) (fresh_of n level places i j) more far_in within few less in
     let own : (distance n (grant_of places j level) i + 1 < n) ⊎ (fresh_of n level places i j < n) → AsksByLower n level i j places (longest_service n - 1) rows
-    = λ less. let lower = short i (omega arith) less in record { named = named; input = i; input_in = i_in; asks = named; below = inl (omega (arith, lower)) } in
+    = λ less. let lower = short i (omega arith) less in
+    record { named = named; input = i; input_in = i_in; asks = named; below = inl (omega (arith, lower)) } in
     elim (cases_lt (distance n (grant_of places j level) i + 1) n) [
       | inl nearer ↦ own (inl nearer)
       | inr farthest ↦
@@ -51,13 +55,15 @@ begins_lower n level i j places rows more pointing i_in j_in named =
           elim (other_asks n level rows j i i) [
             | inl found ↦
                 let place_in = distance-lt n (grant_of places j level) found.0 from_in in
-                let differ : distance n (grant_of places j level) found.0 ≡ distance n (grant_of places j level) i → ⊥ = λ e. found.2.0 (distance-injective n (grant_of places j level) found.0 i from_in found.1 i_in e) in
+                let differ : distance n (grant_of places j level) found.0 ≡ distance n (grant_of places j level) i
+                → ⊥ = λ e. found.2.0 (distance-injective n (grant_of places j level) found.0 i from_in found.1 i_in e) in
                 let lower = short found.0 (omega (arith, far, place_in)) (inl (omega (arith, far, place_in, differ))) in
                 record { named = named; input = found.0; input_in = found.1; asks = found.3; below = inl (omega (arith, lower)) }
             | inr none ↦ elim (cases_lt (fresh_of n level places i j) n) [
               | inl fewer ↦ own (inr fewer)
               | inr all ↦
-                  let turns : (x : ℕ) → x < n → distance n (accept_of places x level) j < n = λ x x_in. distance-lt n (accept_of places x level) j (pointing.accept x x_in) in
+                  let turns : (x : ℕ) → x < n → distance n (accept_of places x level) j < n =
+                  λ x x_in. distance-lt n (accept_of places x level) j (pointing.accept x x_in) in
                   let fresh : (x : ℕ) → x < n → distance n (accept_of places x level) j + 1 ≡ n = λ x x_in.
                   let some = ones_of (fresh_for n level places i j) n x x_in (λ y y_in. let turns_in = turns y y_in in omega (arith, turns_in)) in
                   let turns_in = turns x x_in in
@@ -89,12 +95,19 @@ lower-more n level places rows i j g more lower = elim lower [
 ]
 
 -- what a slot of a window makes of it
-lower_after : (n rounds t level : ℕ) (places : Places) (slot : DecidedSlot) → 2 < n → 0 < rounds → IsWindowSlot n rounds t level places slot → IsWithoutMulticast n level slot.rows → (later : List Row) (i j g : ℕ) → i < n → g < n → Names (row_of slot.rows i) level Uni j → Names (row_of slot.rows g) level Uni j → (Serves slot.decision.matched i j level Uni → ⊥)
-    → AskOn n level slot.decision.matched slot.rows later j → GainAtMostOne n level slot.rows later → IsLower n level i j places slot.rows → FallsLower n level i j g places slot.decision.places later
+lower_after : (n rounds t level : ℕ) (places : Places) (slot : DecidedSlot) → 2 < n → 0 < rounds → IsWindowSlot n rounds t level places slot
+    → IsWithoutMulticast n level slot.rows → (later : List Row) (i j g : ℕ) → i < n → g < n → Names (row_of slot.rows i) level Uni j
+    → Names (row_of slot.rows g) level Uni j → (Serves slot.decision.matched i j level Uni → ⊥)
+    → AskOn n level slot.decision.matched slot.rows later j → GainAtMostOne n level slot.rows later → IsLower n level i j places slot.rows
+    → FallsLower n level i j g places slot.decision.places later
 lower_after n rounds t level places slot more some now alone later i j g i_in g_in named asking left on gains =
-    falls_lower n t level slot.rows (first_of n now.decided.steps) slot.decision.matched places slot.decision.places (now.within.levels i i_in level j Uni named) (BeginsWith-slot n t slot.rows places AreMoved rounds slot.decision some now.decided) now.decided.moved now.pointing now.clean alone more later i j g i_in (now.within.ports i i_in level j Uni named) g_in named asking left on gains
+    falls_lower n t level slot.rows (first_of n now.decided.steps) slot.decision.matched places slot.decision.places
+    (now.within.levels i i_in level j Uni named)
+    (BeginsWith-slot n t slot.rows places AreMoved rounds slot.decision some now.decided) now.decided.moved now.pointing now.clean alone more later i j g i_in
+    (now.within.ports i i_in level j Uni named) g_in named asking left on gains
 
-lower_falls : (n rounds level i j : ℕ) → 2 < n → 0 < rounds → i < n → IsFallingWhere (GainAtMostOne n level) AreMoved n rounds level i j (longest_service n - 1) (AsksByLower n level i j)
+lower_falls : (n rounds level i j : ℕ) → 2 < n → 0 < rounds → i < n
+    → IsFallingWhere (GainAtMostOne n level) AreMoved n rounds level i j (longest_service n - 1) (AsksByLower n level i j)
 lower_falls n rounds level i j more rounds_some i_in =
     record {
       begins = λ t places slot now named. begins_lower n level i j places slot.rows more now.pointing i_in (now.within.ports i i_in level j Uni named) named;
@@ -108,10 +121,17 @@ lower_falls n rounds level i j more rounds_some i_in =
             | inl below ↦
                 let by = falls_in_slot n rounds t level places slot rounds_some now alone i j asks.input i_in asks.input_in asks.named asks.asks left in
                 let less = by.1.lower in
-                record { named = here; input = by.0; input_in = by.1.input_in; asks = on by.0 by.1.input_in by.1.asks by.1.left; below = inl (omega (arith, less, below)) }
+                record {
+                  named = here;
+                  input = by.0;
+                  input_in = by.1.input_in;
+                  asks = on by.0 by.1.input_in by.1.asks by.1.left;
+                  below = inl (omega (arith, less, below));
+                }
             | inr lower ↦
                 let within = lower.0 in
-                let by = lower_after n rounds t level places slot more rounds_some now alone later i j asks.input i_in asks.input_in asks.named asks.asks left on gains lower.1 in
+                let by = lower_after n rounds t level places slot more rounds_some now alone later i j asks.input i_in asks.input_in asks.named asks.asks left
+                    on gains lower.1 in
                 record {
                   named = here;
                   input = by.input;
@@ -130,15 +150,23 @@ longest-two : (n : ℕ) → 2 < n → 2 ≤ longest_service n
 longest-two n more = let bound = twice_rank-bound n 2 0 0 0 (omega arith) (omega arith) (omega arith) in omega (arith, bound)
 
 -- one slot less is enough
-pub served_at_line_rate : (n rounds t level i j : ℕ) (places : Places) (slots : List DecidedSlot) → 2 < n → 0 < rounds → i < n → IsWindow n rounds t level places slots → All (λ slot. IsWithoutMulticast n level slot.rows) slots → AreAtLineRate n level slots → InFirst (λ rows. Names (row_of rows i) level Uni j) slots
+pub served_at_line_rate : (n rounds t level i j : ℕ) (places : Places) (slots : List DecidedSlot) → 2 < n → 0 < rounds → i < n
+    → IsWindow n rounds t level places slots → All (λ slot. IsWithoutMulticast n level slot.rows) slots → AreAtLineRate n level slots
+    → InFirst (λ rows. Names (row_of rows i) level Uni j) slots
     → longest_service n ≤ length slots + 1 → Any (λ slot. Serves slot.decision.matched i j level Uni) slots
 served_at_line_rate n rounds t level i j places slots more some i_in window alone gains named long =
     let two = longest-two n more in
-    served_where (GainAtMostOne n level) (gains_nothing n level) AreMoved n rounds level i j (longest_service n - 1) (AsksByLower n level i j) (AreMoved-keep n level) (omega (arith, two)) (lower_falls n rounds level i j more some i_in) t places slots window alone gains named (omega (arith, long))
+    served_where (GainAtMostOne n level) (gains_nothing n level) AreMoved n rounds level i j (longest_service n - 1) (AsksByLower n level i j)
+    (AreMoved-keep n level) (omega (arith, two)) (lower_falls n rounds level i j more some i_in) t places slots window alone gains named
+    (omega (arith, long))
 
 -- and no queue waits for as many
-pub longest_wait-at_line_rate : (n rounds t level : ℕ) (places : Places) (slots : List DecidedSlot) → 2 < n → 0 < rounds → IsWindow n rounds t level places slots → All (λ slot. IsWithoutMulticast n level slot.rows) slots → AreAtLineRate n level slots → longest_wait n level (map noted_of slots) + 1 < longest_service n
+pub longest_wait-at_line_rate : (n rounds t level : ℕ) (places : Places) (slots : List DecidedSlot) → 2 < n → 0 < rounds
+    → IsWindow n rounds t level places slots → All (λ slot. IsWithoutMulticast n level slot.rows) slots → AreAtLineRate n level slots
+    → longest_wait n level (map noted_of slots) + 1 < longest_service n
 longest_wait-at_line_rate n rounds t level places slots more some window alone gains =
     let two = longest-two n more in
-    let below = longest_where (GainAtMostOne n level) (gains_nothing n level) AreMoved n rounds t level (longest_service n - 1) (AsksByLower n level) places slots (AreMoved-keep n level) (omega (arith, two)) (λ i j i_in. lower_falls n rounds level i j more some i_in) window alone gains in
+    let below = longest_where (GainAtMostOne n level) (gains_nothing n level) AreMoved n rounds t level (longest_service n - 1)
+    (AsksByLower n level) places slots (AreMoved-keep n level) (omega (arith, two))
+    (λ i j i_in. lower_falls n rounds level i j more some i_in) window alone gains in
     omega (arith, below)

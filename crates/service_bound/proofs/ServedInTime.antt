@@ -17,7 +17,9 @@ use Rattle.service_bound.proofs.RankFalls.{twice_rank_of, falls_in_slot, twice_r
 
 module _ (n rounds level i j : ℕ) (some : 0 < rounds) (i_in : i < n) where
   -- fewer slots than the rank says are enough, by any input that asks for the output too
-  served_by_rank : (slots : List DecidedSlot) (t : ℕ) (places : Places) (g : ℕ) → IsWindow n rounds t level places slots → All (λ slot. IsWithoutMulticast n level slot.rows) slots → g < n → InFirst (λ rows. Names (row_of rows i) level Uni j) slots → InFirst (λ rows. Names (row_of rows g) level Uni j) slots
+  served_by_rank : (slots : List DecidedSlot) (t : ℕ) (places : Places) (g : ℕ) → IsWindow n rounds t level places slots
+      → All (λ slot. IsWithoutMulticast n level slot.rows) slots → g < n → InFirst (λ rows. Names (row_of rows i) level Uni j) slots
+      → InFirst (λ rows. Names (row_of rows g) level Uni j) slots
       → twice_rank_of n level places i j g < 2 * length slots → Any (λ slot. Serves slot.decision.matched i j level Uni) slots
   served_by_rank [] t places g window alone g_in named asking short = absurd (omega arith)
   served_by_rank (slot ∷ slots) t places g window alone g_in named asking short =
@@ -26,19 +28,23 @@ module _ (n rounds level i j : ℕ) (some : 0 < rounds) (i_in : i < n) where
       elim (Serves-decides slot.decision.matched i j level Uni) [
         | inl served ↦ Any-here Served slot slots served
         | inr left ↦
-            let next = falls_in_slot n rounds t level places slot some (first_slot n rounds t level places slot slots window) (All-head Without slot slots alone) i j g i_in g_in named asking left in
+            let next = falls_in_slot n rounds t level places slot some (first_slot n rounds t level places slot slots window)
+            (All-head Without slot slots alone) i j g i_in g_in named asking left in
             let h = next.0 in
             let by = next.1 in
             let Keeping : List Row → Type 0 = λ rows. (x : ℕ) → x < n → Keeps slot.decision.matched x (row_of slot.rows x) (row_of rows x) in
             Any-later Served slot slots
-            (served_by_rank slots (t + 1) slot.decision.places h (later_slots n rounds t level places slot slots window (omega arith)) (All-tail Without slot slots alone) by.input_in
+            (served_by_rank slots (t + 1) slot.decision.places h (later_slots n rounds t level places slot slots window (omega arith))
+            (All-tail Without slot slots alone) by.input_in
             (InFirst-along Keeping (λ rows. Names (row_of rows i) level Uni j) (λ rows keeps. (keeps i i_in).uni level j named left) slots window.kept.0)
-            (InFirst-along Keeping (λ rows. Names (row_of rows h) level Uni j) (λ rows keeps. (keeps h by.input_in).uni level j by.asks by.left) slots window.kept.0)
+            (InFirst-along Keeping (λ rows. Names (row_of rows h) level Uni j)
+            (λ rows keeps. (keeps h by.input_in).uni level j by.asks by.left) slots window.kept.0)
             (omega (arith, by.lower)))
       ]
 
 -- the longest service is slots enough
-pub served_in_time : (n rounds t level i j : ℕ) (places : Places) (slots : List DecidedSlot) → 0 < rounds → i < n → IsWindow n rounds t level places slots → All (λ slot. IsWithoutMulticast n level slot.rows) slots → InFirst (λ rows. Names (row_of rows i) level Uni j) slots
+pub served_in_time : (n rounds t level i j : ℕ) (places : Places) (slots : List DecidedSlot) → 0 < rounds → i < n → IsWindow n rounds t level places slots
+    → All (λ slot. IsWithoutMulticast n level slot.rows) slots → InFirst (λ rows. Names (row_of rows i) level Uni j) slots
     → longest_service n ≤ length slots → Any (λ slot. Serves slot.decision.matched i j level Uni) slots
 served_in_time n rounds t level i j places [] some i_in window alone named long =
     let least = twice_longest-some n (omega arith) in

@@ -37,7 +37,8 @@ sum_below-most f (suc m) most all =
     omega arith
 
 -- and where those of two ports fall
-pub sum_below-two : (f g : ℕ → ℕ) (m h k : ℕ) → h < m → k < m → (h ≡ k → ⊥) → ((x : ℕ) → x < m → f x ≤ g x) → sum_below f m + g h + g k ≤ sum_below g m + f h + f k
+pub sum_below-two : (f g : ℕ → ℕ) (m h k : ℕ) → h < m → k < m → (h ≡ k → ⊥) → ((x : ℕ) → x < m → f x ≤ g x)
+    → sum_below f m + g h + g k ≤ sum_below g m + f h + f k
 sum_below-two f g zero h k h_in k_in apart all = absurd (omega arith)
 sum_below-two f g (suc m) h k h_in k_in apart all =
     let last = all m (omega arith) in

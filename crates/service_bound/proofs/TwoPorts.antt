@@ -41,14 +41,19 @@ pub nothing_here : (o : Option Fed) (f : Fed) → o ≡ None → o ≡ Some f �
 nothing_here None f free is = cc
 nothing_here (Some g) f free is = cc
 
-module _ (t level : ℕ) (rows : List Row) (first : List (Option Fed)) (places : Places) (level_in : level < LEVELS) (opening : IsRound 2 t rows places (unmatched 2) first) (pointing : ArePointing 2 level places) (clean : IsClean 2 level rows) (alone : IsWithoutMulticast 2 level rows) (length_first : length first ≡ 2) where
-  module _ (i j h y : ℕ) (i_in : i < 2) (j_in : j < 2) (h_in : h < 2) (y_in : y < 2) (named : Names (row_of rows i) level Uni j) (other : h ≡ i → ⊥) (apart : y ≡ j → ⊥) (granted : Grants 2 t rows places (unmatched 2) h j level Uni) (served : Serves first h y level Uni) (nobody : (x : ℕ) → Serves first x j level Uni → ⊥) where
+module _ (t level : ℕ) (rows : List Row) (first : List (Option Fed)) (places : Places) (level_in : level < LEVELS)
+    (opening : IsRound 2 t rows places (unmatched 2) first) (pointing : ArePointing 2 level places) (clean : IsClean 2 level rows)
+    (alone : IsWithoutMulticast 2 level rows) (length_first : length first ≡ 2) where
+  module _ (i j h y : ℕ) (i_in : i < 2) (j_in : j < 2) (h_in : h < 2) (y_in : y < 2) (named : Names (row_of rows i) level Uni j) (other : h ≡ i → ⊥)
+      (apart : y ≡ j → ⊥) (granted : Grants 2 t rows places (unmatched 2) h j level Uni) (served : Serves first h y level Uni)
+      (nobody : (x : ℕ) → Serves first x j level Uni → ⊥) where
     -- an output that grants at the level serves at no other, and no multicast
     at_level : (x l : ℕ) (k : Kind) → Serves first x j l k → (l ≡ level) × (k ≡ Uni)
     at_level x l k s = elim ((opening.pairs x j l k).0 s) [
       | inl old ↦ absurd (nobody_at_first 2 x j l k old)
       | inr accepted ↦
-          let also : Grants 2 t rows places (unmatched 2) x j l k = taken_from k 2 (accept_of places x l) (λ z. Grants 2 t rows places (unmatched 2) x z l k) j accepted.taken in
+          let also : Grants 2 t rows places (unmatched 2) x j l k =
+          taken_from k 2 (accept_of places x l) (λ z. Grants 2 t rows places (unmatched 2) x z l k) j accepted.taken in
           let down = granted.best.least l k also.best.there in
           let up = also.best.least level Uni granted.best.there in
           let same : l ≡ level = omega arith in
@@ -89,12 +94,14 @@ module _ (t level : ℕ) (rows : List Row) (first : List (Option Fed)) (places :
     not_better x z l k x_in asks = elim (cases_lt l level) [ inl better ↦ absurd (clean x l z k x_in better (named_of x z l k asks)) | inr worse ↦ worse ]
 
     first_kind_of : (x z : ℕ) → x < 2 → Requests rows first x z level (preferred t) → Uni ≡ preferred t
-    first_kind_of x z x_in asks = (kind_is_first 2 t level rows first places level_in opening pointing clean alone).preferred_first x z x_in (named_of x z level (preferred t) asks)
+    first_kind_of x z x_in asks = (kind_is_first 2 t level rows first places level_in opening pointing clean alone).preferred_first x z x_in
+        (named_of x z level (preferred t) asks)
 
     -- the input that took the other output asks no more
     asks_alone : (x : ℕ) → x < 2 → Requests rows first x j level Uni → x ≡ i
     asks_alone x x_in asks = elim asks [
-      | inl free ↦ other_of_two x h i x_in h_in i_in (λ same. free.0 y level Uni (subst (λ v. Serves first v y level Uni) (sym same) served)) (λ e. other (sym e))
+      | inl free ↦ other_of_two x h i x_in h_in i_in (λ same. free.0 y level Uni (subst (λ v. Serves first v y level Uni) (sym same) served))
+          (λ e. other (sym e))
       | inr on ↦ let multicast = on.multicast in absurd (cc)
     ]
 
@@ -113,7 +120,12 @@ module _ (t level : ℕ) (rows : List Row) (first : List (Option Fed)) (places :
         least = λ l k asks. not_better asks.0 j l k asks.1 asks.2;
         preferred_first = λ asks. first_kind_of asks.0 j asks.1 asks.2;
       };
-      first = record { below = i_in; member = asks_on; least = λ x x_in asks. let e = ap (distance 2 (grant_of places j level)) (asks_alone x x_in asks) in omega arith };
+      first = record {
+        below = i_in;
+        member = asks_on;
+        least = λ x x_in asks. let e = ap (distance 2 (grant_of places j level)) (asks_alone x x_in asks) in
+            omega arith;
+      };
     }
 
     accepted_second : Accepts 2 t rows places first i j level Uni
@@ -123,7 +135,11 @@ module _ (t level : ℕ) (rows : List Row) (first : List (Option Fed)) (places :
         least = λ l k grants. not_better i grants.0 l k i_in grants.1.first.member;
         preferred_first = λ grants. first_kind_of i grants.0 i_in grants.1.first.member;
       };
-      taken = record { below = j_in; member = granted_second; least = λ z z_in grants. let e = ap (distance 2 (accept_of places i level)) (free_alone z z_in grants.output_free) in omega arith };
+      taken = record {
+        below = j_in;
+        member = granted_second;
+        least = λ z z_in grants. let e = ap (distance 2 (accept_of places i level)) (free_alone z z_in grants.output_free) in omega arith;
+      };
     }
 
     -- the second round serves the request
@@ -140,7 +156,8 @@ record AsksWithin (level i j : ℕ) (places : Places) (most : ℕ) (rows : List 
   below : two_rank level i j places < most
 
 module _ (rounds level i j : ℕ) (two : 1 < rounds) (i_in : i < 2) where
-  module _ (t : ℕ) (places : Places) (slot : DecidedSlot) (now : IsWindowSlot 2 rounds t level places slot) (alone : IsWithoutMulticast 2 level slot.rows) (named : Names (row_of slot.rows i) level Uni j) (left : Serves slot.decision.matched i j level Uni → ⊥) where
+  module _ (t : ℕ) (places : Places) (slot : DecidedSlot) (now : IsWindowSlot 2 rounds t level places slot) (alone : IsWithoutMulticast 2 level slot.rows)
+      (named : Names (row_of slot.rows i) level Uni j) (left : Serves slot.decision.matched i j level Uni → ⊥) where
     First : List (Option Fed)
     First = first_of 2 now.decided.steps
 
@@ -158,12 +175,14 @@ module _ (rounds level i j : ℕ) (two : 1 < rounds) (i_in : i < 2) where
     j_in : j < 2
     j_in = now.within.ports i i_in level j Uni named
 
-    falls_where_accepted : (h : ℕ) → IsFirstFrom 2 (grant_of places j level) (λ x. Names (row_of slot.rows x) level Uni j) h → Serves First h j level Uni → two_rank level i j slot.decision.places + 1 ≤ two_rank level i j places
+    falls_where_accepted : (h : ℕ) → IsFirstFrom 2 (grant_of places j level) (λ x. Names (row_of slot.rows x) level Uni j) h → Serves First h j level Uni
+        → two_rank level i j slot.decision.places + 1 ≤ two_rank level i j places
     falls_where_accepted h nearest served =
         let other : h ≡ i → ⊥ = λ same. left (subst (λ x. Serves slot.decision.matched x j level Uni) same (begins.stays h j level Uni served)) in
         let from_in = now.pointing.grant j j_in in
         let at_most = nearest.least i i_in named in
-        let apart : distance 2 (grant_of places j level) h ≡ distance 2 (grant_of places j level) i → ⊥ = λ e. other (distance-injective 2 (grant_of places j level) h i from_in nearest.below i_in e) in
+        let apart : distance 2 (grant_of places j level) h ≡ distance 2 (grant_of places j level) i
+        → ⊥ = λ e. other (distance-injective 2 (grant_of places j level) h i from_in nearest.below i_in e) in
         let nearer = distance-passed 2 (grant_of places j level) h i from_in nearest.below i_in (omega arith) in
         let place = moved.granted h j level served in
         let closer : distance 2 (grant_of slot.decision.places j level) i + 1 ≤ distance 2 (grant_of places j level) i = rw place (omega arith) in
@@ -172,7 +191,10 @@ module _ (rounds level i j : ℕ) (two : 1 < rounds) (i_in : i < 2) where
           | inr later ↦ elim later [ inl beyond ↦ omega arith | inr stays ↦ omega arith ]
         ]
 
-    falls_where_refused : (h y : ℕ) → IsFirstFrom 2 (grant_of places j level) (λ x. Names (row_of slot.rows x) level Uni j) h → Grants 2 t slot.rows places (unmatched 2) h j level Uni → IsFirstFrom 2 (accept_of places h level) (λ k. Grants 2 t slot.rows places (unmatched 2) h k level Uni) y → Serves First h y level Uni → (y ≡ j → ⊥) → two_rank level i j slot.decision.places + 1 ≤ two_rank level i j places
+    falls_where_refused : (h y : ℕ) → IsFirstFrom 2 (grant_of places j level) (λ x. Names (row_of slot.rows x) level Uni j) h
+        → Grants 2 t slot.rows places (unmatched 2) h j level Uni
+        → IsFirstFrom 2 (accept_of places h level) (λ k. Grants 2 t slot.rows places (unmatched 2) h k level Uni) y → Serves First h y level Uni → (y ≡ j → ⊥)
+        → two_rank level i j slot.decision.places + 1 ≤ two_rank level i j places
     unfolding First
     falls_where_refused h y nearest granted accepted served other =
         let h_in = nearest.below in
@@ -184,23 +206,28 @@ module _ (rounds level i j : ℕ) (two : 1 < rounds) (i_in : i < 2) where
               let goes = moved.accepted h y level served in
               let beyond = distance-beyond 2 y j y_in j_in other in
               let before = accepted.least j j_in granted in
-              let apart : distance 2 (accept_of places h level) y ≡ distance 2 (accept_of places h level) j → ⊥ = λ e. other (distance-injective 2 (accept_of places h level) y j (now.pointing.accept h h_in) y_in j_in e) in
+              let apart : distance 2 (accept_of places h level) y ≡ distance 2 (accept_of places h level) j
+              → ⊥ = λ e. other (distance-injective 2 (accept_of places h level) y j (now.pointing.accept h h_in) y_in j_in e) in
               let fewer : distance 2 (accept_of slot.decision.places h level) j + 1 ≤ distance 2 (accept_of places h level) j = rw goes (omega arith) in
-              let own : distance 2 (accept_of slot.decision.places i level) j + 1 ≤ distance 2 (accept_of places i level) j = subst (λ x. distance 2 (accept_of slot.decision.places x level) j + 1 ≤ distance 2 (accept_of places x level) j) same fewer in
+              let own : distance 2 (accept_of slot.decision.places i level) j + 1 ≤ distance 2 (accept_of places i level) j =
+              subst (λ x. distance 2 (accept_of slot.decision.places x level) j + 1 ≤ distance 2 (accept_of places x level) j) same fewer in
               let far = ap (λ from. distance 2 from i) stays in
               omega arith
           | inr differs ↦
               let count = now.decided.count in
               let second = second_of 2 t slot.rows places now.decided.steps (omega arith) now.decided.chain in
-              let serves = served_second t level slot.rows First places level_in begins.opening now.pointing now.clean alone begins.opening.count i j h y i_in j_in h_in y_in named differs other granted served nobody second.0 second.1 in
+              let serves = served_second t level slot.rows First places level_in begins.opening now.pointing now.clean alone begins.opening.count i j h y i_in
+                  j_in h_in y_in named differs other granted served nobody second.0 second.1 in
               absurd (left (subst (λ m. Serves m i j level Uni) (sym now.decided.result) (second.2 i j level Uni serves)))
         ]
 
     rank_falls : two_rank level i j slot.decision.places + 1 ≤ two_rank level i j places
     rank_falls =
-        let nearest = IsFirstFrom-some 2 (grant_of places j level) (λ x. Names (row_of slot.rows x) level Uni j) (λ x. Names-decides (row_of slot.rows x) level Uni j) (now.pointing.grant j j_in) i i_in named in
+        let nearest = IsFirstFrom-some 2 (grant_of places j level) (λ x. Names (row_of slot.rows x) level Uni j)
+        (λ x. Names-decides (row_of slot.rows x) level Uni j) (now.pointing.grant j j_in) i i_in named in
         let h = nearest.0 in
-        let granted = grants_first 2 t slot.rows places level level_in now.clean Uni (kind_is_first 2 t level slot.rows First places level_in begins.opening now.pointing now.clean alone) h j j_in nearest.1 in
+        let granted = grants_first 2 t slot.rows places level level_in now.clean Uni
+        (kind_is_first 2 t level slot.rows First places level_in begins.opening now.pointing now.clean alone) h j j_in nearest.1 in
         let met = served_by_first 2 t level slot.rows First places level_in begins.opening now.pointing now.clean alone h j nearest.1.below granted in
         elim (cases_eq met.0 j) [
           | inl same ↦ falls_where_accepted h nearest.1 (subst (λ y. Serves First h y level Uni) same met.2)
@@ -222,12 +249,16 @@ module _ (rounds level i j : ℕ) (two : 1 < rounds) (i_in : i < 2) where
       }
 
 -- three slots are enough
-pub two_served_in_time : (rounds t level i j : ℕ) (places : Places) (slots : List DecidedSlot) → 1 < rounds → i < 2 → IsWindow 2 rounds t level places slots → All (λ slot. IsWithoutMulticast 2 level slot.rows) slots → InFirst (λ rows. Names (row_of rows i) level Uni j) slots
+pub two_served_in_time : (rounds t level i j : ℕ) (places : Places) (slots : List DecidedSlot) → 1 < rounds → i < 2 → IsWindow 2 rounds t level places slots
+    → All (λ slot. IsWithoutMulticast 2 level slot.rows) slots → InFirst (λ rows. Names (row_of rows i) level Uni j) slots
     → 3 ≤ length slots → Any (λ slot. Serves slot.decision.matched i j level Uni) slots
 two_served_in_time rounds t level i j places slots two i_in =
-    served_by_falling AreMoved 2 rounds level i j 3 (AsksWithin level i j) (AreMoved-keep 2 level) (omega arith) (two_falling rounds level i j two i_in) t places slots
+    served_by_falling AreMoved 2 rounds level i j 3 (AsksWithin level i j) (AreMoved-keep 2 level) (omega arith)
+    (two_falling rounds level i j two i_in) t places slots
 
 -- and no queue waits for as many
-pub two_longest_wait-bound : (rounds t level : ℕ) (places : Places) (slots : List DecidedSlot) → 1 < rounds → IsWindow 2 rounds t level places slots → All (λ slot. IsWithoutMulticast 2 level slot.rows) slots → longest_wait 2 level (map noted_of slots) < 3
+pub two_longest_wait-bound : (rounds t level : ℕ) (places : Places) (slots : List DecidedSlot) → 1 < rounds → IsWindow 2 rounds t level places slots
+    → All (λ slot. IsWithoutMulticast 2 level slot.rows) slots → longest_wait 2 level (map noted_of slots) < 3
 two_longest_wait-bound rounds t level places slots two =
-    longest_by_falling AreMoved 2 rounds t level 3 (AsksWithin level) places slots (AreMoved-keep 2 level) (omega arith) (λ i j i_in. two_falling rounds level i j two i_in)
+    longest_by_falling AreMoved 2 rounds t level 3 (AsksWithin level) places slots (AreMoved-keep 2 level) (omega arith)
+    (λ i j i_in. two_falling rounds level i j two i_in)

@@ -48,7 +48,8 @@ AreAtLineRate n level = AreFollowing (GainAtMostOne n level)
 
 -- Slots from slot t on, decided from these pointers, of rows that are kept, where `Moves` says how pointers move. None
 -- names an output at a better level, and the level's pointers are at ports.
-pub record IsWindowBy (Moves : ℕ → ℕ → List Row → List (Option Fed) → List (Option Fed) → Places → Places → Type 0) (n rounds t level : ℕ) (places : Places) (slots : List DecidedSlot) : Type 0 where
+pub record IsWindowBy (Moves : ℕ → ℕ → List Row → List (Option Fed) → List (Option Fed) → Places → Places → Type 0) (n rounds t level : ℕ) (places : Places)
+    (slots : List DecidedSlot) : Type 0 where
   pub pointing : ArePointing n level places
   pub schedule : IsScheduleBy Moves n rounds t places slots
   pub within : All (λ slot. AreWithin n slot.rows) slots

@@ -11,7 +11,8 @@ ghost use Rattle.eslip_rounds.specs.Schedules.{DecidedSlot, IsSchedule};
 ghost use Rattle.service_bound.specs.Windows.{IsWindow, InFirst, AreKept, IsClean, IsWithoutMulticast, AreAtLineRate, places_after};
 ghost use Rattle.service_bound.specs.declared.limits.TheConstants.{MAX_NOTED};
 ghost use Rattle.service_bound.specs.Latest.{IsServedLast, ComesLast};
-ghost use Rattle.service_bound.specs.Waits.{noted_of, longest_wait, longest_service, longest_service_in_one_round, longest_service_by, longest_service_at_line_rate};
+ghost use Rattle.service_bound.specs.Waits.{noted_of, longest_wait, longest_service, longest_service_in_one_round, longest_service_by};
+ghost use Rattle.service_bound.specs.Waits.{longest_service_at_line_rate};
 
 /// In a window of `n * (n * n - n + 2) / 2` slots without multicast at the level, a unicast queue that is
 /// posted in the first slot is served in one of them. (McKeown argues for `n * n` slots; where a new
@@ -62,25 +63,30 @@ pub fn two_ports_served()
 /// That many are needed, for every number of ports and every queue: in some window of as many slots of one
 /// round, the queue is posted in every slot and served in the last one alone.
 pub fn one_round_is_reached()
-    ensures { (n t i j level : ℕ) → i < n → j < n → level < LEVELS → n ≤ MAX_PORTS → (places : Places) × (slots : List DecidedSlot) × IsServedLast n 1 t i j level places slots × (length slots ≡ longest_service_in_one_round n) }
+    ensures { (n t i j level : ℕ) → i < n → j < n → level < LEVELS → n ≤ MAX_PORTS → (places : Places) × (slots : List DecidedSlot)
+        × IsServedLast n 1 t i j level places slots × (length slots ≡ longest_service_in_one_round n) }
 {}
 
 /// For three ports or more and two rounds or more, `n * (n * n - n + 2) / 2` slots are needed: a later round
 /// serves a request and moves no pointer, so more rounds make the longest wait longer.
 pub fn more_rounds_are_reached()
-    ensures { (n rounds t i j level : ℕ) → 2 < n → i < n → j < n → level < LEVELS → n ≤ MAX_PORTS → 1 < rounds → (places : Places) × (slots : List DecidedSlot) × IsServedLast n rounds t i j level places slots × (length slots ≡ longest_service n) }
+    ensures { (n rounds t i j level : ℕ) → 2 < n → i < n → j < n → level < LEVELS → n ≤ MAX_PORTS → 1 < rounds → (places : Places)
+        × (slots : List DecidedSlot) × IsServedLast n rounds t i j level places slots × (length slots ≡ longest_service n) }
 {}
 
 /// And of two ports, three slots.
 pub fn two_ports_are_reached()
-    ensures { (rounds t i j level : ℕ) → 0 < rounds → i < 2 → j < 2 → level < LEVELS → (places : Places) × (slots : List DecidedSlot) × IsServedLast 2 rounds t i j level places slots × (length slots ≡ 3) }
+    ensures { (rounds t i j level : ℕ) → 0 < rounds → i < 2 → j < 2 → level < LEVELS → (places : Places) × (slots : List DecidedSlot)
+        × IsServedLast 2 rounds t i j level places slots × (length slots ≡ 3) }
 {}
 
 /// Such windows come about from all pointers at port 0: before slot `n + 1`, each input in turn, and input 0 again,
 /// is served with output 0.
 pub fn longest_waits_come()
-    ensures one_round { (n : ℕ) → 0 < n → n ≤ MAX_PORTS → (slots : List DecidedSlot) × ComesLast n 1 (n + 1) 0 0 0 slots × (length (drop (n + 1) slots) ≡ longest_service_in_one_round n) }
-    ensures more_rounds { (n rounds : ℕ) → 2 < n → n ≤ MAX_PORTS → 1 < rounds → (slots : List DecidedSlot) × ComesLast n rounds (n + 1) 0 0 0 slots × (length (drop (n + 1) slots) ≡ longest_service n) }
+    ensures one_round { (n : ℕ) → 0 < n → n ≤ MAX_PORTS → (slots : List DecidedSlot) × ComesLast n 1 (n + 1) 0 0 0 slots
+        × (length (drop (n + 1) slots) ≡ longest_service_in_one_round n) }
+    ensures more_rounds { (n rounds : ℕ) → 2 < n → n ≤ MAX_PORTS → 1 < rounds → (slots : List DecidedSlot) × ComesLast n rounds (n + 1) 0 0 0 slots
+        × (length (drop (n + 1) slots) ≡ longest_service n) }
     ensures two_ports { (rounds : ℕ) → 0 < rounds → (slots : List DecidedSlot) × ComesLast 2 rounds 3 0 0 0 slots × (length (drop 3 slots) ≡ 3) }
 {}
 

@@ -78,7 +78,8 @@ impl WaitMeter {
         requires rows { AreWithin self.old.ports rows.now }
         requires matched { length matched.now ≡ self.old.ports }
         requires few { self.old.count < MAX_NOTED }
-        ensures noted { (slots : List NotedSlot) → HasNoted self.old slots → HasNoted self.new (slots ++ record { rows = rows.now; matched = matched.now } ∷ []) }
+        ensures noted { (slots : List NotedSlot) → HasNoted self.old slots
+            → HasNoted self.new (slots ++ record { rows = rows.now; matched = matched.now } ∷ []) }
         ensures ports { self.new.ports ≡ self.old.ports }
         ensures count { self.new.count ≡ self.old.count + 1 }
     {
@@ -115,7 +116,9 @@ fn note_slot(queues: &mut Vec<LevelQueues>, count: u32, rows: &[Row], matched: &
     requires few { count < MAX_NOTED }
     requires begun { (place : ℕ) → place < length queues.old.items → AreBegun count (queues_at queues.old.items place) }
     ensures long { length queues.new.items ≡ length queues.old.items }
-    ensures noted { (place : ℕ) → place < length queues.old.items → NotesSlot count (λ j. is_waiting (record { rows = rows.now; matched = matched.now }) (place / LEVELS) j (place % LEVELS)) (queues_at queues.old.items place) (queues_at queues.new.items place) }
+    ensures noted { (place : ℕ) → place < length queues.old.items
+        → NotesSlot count (λ j. is_waiting (record { rows = rows.now; matched = matched.now }) (place / LEVELS) j (place % LEVELS))
+        (queues_at queues.old.items place) (queues_at queues.new.items place) }
 {
     let mut parts = [None; PORT_COUNT];
     matched.put_parts(&mut parts);
@@ -141,7 +144,9 @@ fn note_input(
     requires served { served ≡ served_of matched.now input }
     requires begun { (place : ℕ) → place / LEVELS ≡ input → AreBegun count (queues_at queues.old.items place) }
     ensures long { length queues.new.items ≡ length queues.old.items }
-    ensures noted { (place : ℕ) → place / LEVELS ≡ input → NotesSlot count (λ j. is_waiting (record { rows = rows.now; matched = matched.now }) (place / LEVELS) j (place % LEVELS)) (queues_at queues.old.items place) (queues_at queues.new.items place) }
+    ensures noted { (place : ℕ) → place / LEVELS ≡ input
+        → NotesSlot count (λ j. is_waiting (record { rows = rows.now; matched = matched.now }) (place / LEVELS) j (place % LEVELS))
+        (queues_at queues.old.items place) (queues_at queues.new.items place) }
     ensures others { (place : ℕ) → place / LEVELS ≢ input → queues_at queues.new.items place ≡ queues_at queues.old.items place }
 {
     let _ = matched.ports();

@@ -18,14 +18,17 @@ use Rattle.slot_board.specs.declared.waits.TakeWait.TheVariants.{Busy, NotYet}
 use Rattle.slot_board.specs.Turns.{post_entries, decision_entries}
 use Rattle.slot_histories.specs.Columns.{slots_taken, has_ended}
 use Rattle.slot_histories.proofs.Telling.{IsTold-legal}
-use Rattle.slot_board.specs.Seats.{column_at, setup_at, events_seen, slot_of, IsPosted, refusals, events_before, HasCardTurn, HasPosted, HasTaken, IsUndecided, IsWait}
+use Rattle.slot_board.specs.Seats.{column_at, setup_at, events_seen, slot_of, IsPosted, refusals, events_before, HasCardTurn, HasPosted, HasTaken}
+use Rattle.slot_board.specs.Seats.{IsUndecided, IsWait}
 use Rattle.slot_board.specs.Columns.{IsBoard, IsCardSeat}
 use Rattle.slot_board.specs.Calls.{IsSeat, AfterPost, AfterTaking, AfterRefusal}
 use Rattle.slot_board.proofs.RefusedTries.{refusals-acted, refusals-idle}
-use Rattle.slot_board.proofs.SeatColumns.{HasPosted-posts, HasPosted-takes, HasPosted-column, HasTaken-posts, HasTaken-takes, HasTaken-column, IsUndecided-column, takes_of-beyond, between_allowed}
+use Rattle.slot_board.proofs.SeatColumns.{HasPosted-posts, HasPosted-takes, HasPosted-column, HasTaken-posts, HasTaken-takes, HasTaken-column}
+use Rattle.slot_board.proofs.SeatColumns.{IsUndecided-column, takes_of-beyond, between_allowed}
 
 -- what is kept of a seat tells it
-pub IsSeat-kept : (seat : SeatValue Event) (ports card slot : ℕ) (has_posted done : Bool) (last : Row) (served : Option Served) (count : ℕ) (room : List (SeatValue Event)) (capacity : ℕ) → IsCardSeat seat ports card slot has_posted done last served count room capacity → IsSeat seat
+pub IsSeat-kept : (seat : SeatValue Event) (ports card slot : ℕ) (has_posted done : Bool) (last : Row) (served : Option Served) (count : ℕ)
+    (room : List (SeatValue Event)) (capacity : ℕ) → IsCardSeat seat ports card slot has_posted done last served count room capacity → IsSeat seat
 IsSeat-kept seat ports card slot has_posted done last served count room capacity kept =
     let inside : seat.number < (setup_at seat).ports = let below = kept.card_in in let is = kept.ports_are in let card_is = kept.card_is in omega arith in
     record {
@@ -36,13 +39,15 @@ IsSeat-kept seat ports card slot has_posted done last served count room capacity
     }
 
 -- after a turn it is told as before
-module _ (adds : List Event → List Event) (old new : SeatValue Event) (between : List (TurnOf Event)) (seat : IsSeat old) (has : HasCardTurn adds old new between) where
+module _ (adds : List Event → List Event) (old new : SeatValue Event) (between : List (TurnOf Event)) (seat : IsSeat old)
+    (has : HasCardTurn adds old new between) where
   pub IsSeat-turn : IsSeat new
   IsSeat-turn =
       let turn = ap (λ s. s.turn) has.turn in
       let number = ap (λ s. s.number) has.turn in
       let setup : setup_at new ≡ setup_at old = ap setup_at has.turn in
-      let inside : new.number < (setup_at new).ports = subst (λ s. new.number < s.ports) (sym setup) (subst (λ i. i < (setup_at old).ports) (sym number) seat.card_in) in
+      let inside : new.number < (setup_at new).ports =
+      subst (λ s. new.number < s.ports) (sym setup) (subst (λ i. i < (setup_at old).ports) (sym number) seat.card_in) in
       let legal : IsLegal (setup_at new) (events_seen new) = subst (λ s. IsLegal s (events_seen new)) (sym setup) has.legal in
       record {
         board = subst IsBoard (sym turn) seat.board;
@@ -59,14 +64,17 @@ module _ (post : CardPost) (old new : SeatValue Event) (seat : IsSeat old) (has 
       let number : new.number ≡ old.number = ap (λ s. s.number) has.turn.turn in
       let after : IsSeat new = IsSeat-turn (λ events. post_entries s events old.number post) old new has.between seat has.turn in
       let slot : slot_of new ≡ slot_of old = ap (λ i. takes_of i (events_seen new)) number ∙ HasPosted-takes post old new has in
-      let posts : length (posts_of new.number (events_seen new)) ≡ length (posts_of old.number (events_seen old)) + 1 = ap (λ i. length (posts_of i (events_seen new))) number ∙ ap length (HasPosted-posts post old new has) ∙ length_push (posts_of old.number (events_seen old)) post in
+      let posts : length (posts_of new.number (events_seen new)) ≡ length (posts_of old.number (events_seen old)) + 1 =
+      ap (λ i. length (posts_of i (events_seen new))) number ∙ ap length (HasPosted-posts post old new has)
+      ∙ length_push (posts_of old.number (events_seen old)) post in
       let from = seat.told.posts_from in
       let taken = seat.told.slot in
       record {
         slot = slot;
         posted = omega arith;
         done = after.told.done ∙ ap has_ended (HasPosted-column post old new has) ∙ sym seat.told.done;
-        tries = ap refusals has.turn.turn ∙ refusals-acted old has.between (Post old.number post) (decision_entries s (before ++ Post old.number post ∷ [])) has.turn.others;
+        tries = ap refusals has.turn.turn
+            ∙ refusals-acted old has.between (Post old.number post) (decision_entries s (before ++ Post old.number post ∷ [])) has.turn.others;
       }
 
 or_last : (a b : Bool) → a ≡ false → (a || (b || false)) ≡ b
@@ -82,7 +90,8 @@ module _ (taken : Taken) (old new : SeatValue Event) (seat : IsSeat old) (it : I
       let adds : List Event → List Event = λ events. Take old.number ∷ [] in
       let after : IsSeat new = IsSeat-turn adds old new has.between seat has.turn in
       let slot : slot_of new ≡ slot_of old + 1 = ap (λ i. takes_of i (events_seen new)) number ∙ HasTaken-takes taken old new has in
-      let posts : length (posts_of new.number (events_seen new)) ≡ length (posts_of old.number (events_seen old)) = ap (λ i. length (posts_of i (events_seen new))) number ∙ ap length (HasTaken-posts taken old new has) in
+      let posts : length (posts_of new.number (events_seen new)) ≡ length (posts_of old.number (events_seen old)) =
+      ap (λ i. length (posts_of i (events_seen new))) number ∙ ap length (HasTaken-posts taken old new has) in
       let to = seat.told.posts_to in
       let is = seat.told.slot in
       let less : slots_taken (column_at old) < length (column_at old).posts = omega arith in
@@ -91,12 +100,15 @@ module _ (taken : Taken) (old new : SeatValue Event) (seat : IsSeat old) (it : I
         own = ap (λ t. t.slot) has.answer ∙ at_turn;
         slot = slot;
         free = λ again. absurd (omega arith);
-        done = after.told.done ∙ ap has_ended (HasTaken-column taken old new has) ∙ list_any-append (λ (t : Taken). t.done) (column_at old).takings (taken ∷ []) ∙ or_last (has_ended (column_at old)) taken.done (seat.told.going less);
+        done = after.told.done ∙ ap has_ended (HasTaken-column taken old new has)
+            ∙ list_any-append (λ (t : Taken). t.done) (column_at old).takings (taken ∷ [])
+            ∙ or_last (has_ended (column_at old)) taken.done (seat.told.going less);
         tries = ap refusals has.turn.turn ∙ refusals-acted old has.between (Take old.number) [] has.turn.others;
       }
 
 -- a column, seen from the seat
-module _ (old new : SeatValue Event) (seat : IsSeat old) (after : IsSeat new) (column : column_at new ≡ column_at old) (tries : refusals new ≡ refusals old + 1) where
+module _ (old new : SeatValue Event) (seat : IsSeat old) (after : IsSeat new) (column : column_at new ≡ column_at old)
+    (tries : refusals new ≡ refusals old + 1) where
   AfterRefusal-column : AfterRefusal old new
   AfterRefusal-column =
       let slot : slot_of new ≡ slot_of old = after.told.slot ∙ ap slots_taken column ∙ sym seat.told.slot in
@@ -114,7 +126,8 @@ AfterRefusal-busy old = record { column = refl; slot = refl; posted = (λ it. it
 
 pub AfterRefusal-undecided : (ports : ℕ) (old new : SeatValue Event) → IsSeat old → IsUndecided ports old new → AfterRefusal old new
 AfterRefusal-undecided ports old new seat has =
-    AfterRefusal-column old new seat (IsSeat-turn (λ events. []) old new has.between seat has.turn) (IsUndecided-column ports old new has) (ap refusals has.turn.turn ∙ refusals-idle old has.between has.turn.others)
+    AfterRefusal-column old new seat (IsSeat-turn (λ events. []) old new has.between seat has.turn) (IsUndecided-column ports old new has)
+    (ap refusals has.turn.turn ∙ refusals-idle old has.between has.turn.others)
 
 pub AfterRefusal-wait : (wait : TakeWait) (old new : SeatValue Event) → IsSeat old → IsWait wait old new → AfterRefusal old new
 AfterRefusal-wait Busy old new seat is = subst (AfterRefusal old) (sym is) (AfterRefusal-busy old)

@@ -17,11 +17,13 @@ use Rattle.slot_board.specs.Columns.{IsColumn, IsCardSeat, slots_posted}
 use Rattle.slot_board.proofs.OtherTurns.{posts_of-others, takes_of-others}
 use Rattle.slot_board.proofs.ColumnSteps.{IsColumn-more}
 
-posted_cases : (has_posted : Bool) (slot takes count : ℕ) → count ≡ slots_posted has_posted slot → slot ≡ takes → (takes < count → has_posted ≡ true) × ((takes < count → ⊥) → has_posted ≡ false)
+posted_cases : (has_posted : Bool) (slot takes count : ℕ) → count ≡ slots_posted has_posted slot → slot ≡ takes → (takes < count → has_posted ≡ true)
+    × ((takes < count → ⊥) → has_posted ≡ false)
 posted_cases true slot takes count is same = (λ less. refl, λ free. absurd (free (omega arith)))
 posted_cases false slot takes count is same = (λ less. absurd (omega arith), λ free. refl)
 
-module _ (old : SeatValue Event) (ports card slot : ℕ) (has_posted done : Bool) (last : Row) (served : Option Served) (count : ℕ) (room : List (SeatValue Event)) (capacity : ℕ) (kept : IsCardSeat old ports card slot has_posted done last served count room capacity) where
+module _ (old : SeatValue Event) (ports card slot : ℕ) (has_posted done : Bool) (last : Row) (served : Option Served) (count : ℕ)
+    (room : List (SeatValue Event)) (capacity : ℕ) (kept : IsCardSeat old ports card slot has_posted done last served count room capacity) where
   pub card_below : card < (setup_at old).ports
   card_below = let inside = kept.card_in in let is = kept.ports_are in omega arith
 
@@ -42,12 +44,14 @@ module _ (old : SeatValue Event) (ports card slot : ℕ) (has_posted done : Bool
   posted-false free = (posted_cases has_posted slot (slot_of old) (length (posts_of old.number seen)) posts-are slot-is).1 free
 
   pub served-is : served ≡ last_served old
-  served-is = kept.column.served_is ∙ ap (served_before (setup_at old) (posted seen) card) slot-is ∙ ap (λ i. served_before (setup_at old) (posted seen) i (slot_of old)) kept.card_is
+  served-is = kept.column.served_is ∙ ap (served_before (setup_at old) (posted seen) card) slot-is
+      ∙ ap (λ i. served_before (setup_at old) (posted seen) i (slot_of old)) kept.card_is
 
   pub last-is : (IsPosted old → ⊥) → last ≡ last_row old
   last-is free =
       let none : slots_posted has_posted slot ≡ slot = ap (λ b. slots_posted b slot) (posted-false free) in
-      kept.column.last_is ∙ ap (row_before (posted seen) card) (kept.column.posts_are ∙ none ∙ slot-is) ∙ ap (λ i. row_before (posted seen) i (slot_of old)) kept.card_is
+      kept.column.last_is ∙ ap (row_before (posted seen) card) (kept.column.posts_are ∙ none ∙ slot-is)
+      ∙ ap (λ i. row_before (posted seen) i (slot_of old)) kept.card_is
 
   -- no slot is beyond the most that a board has
   pub slot-small : slot ≤ 262145
@@ -65,26 +69,33 @@ module _ (old : SeatValue Event) (ports card slot : ℕ) (has_posted done : Bool
   before-is between = ap (λ events. events ++ events_before old between) kept.board.first
 
   -- turns of others change nothing of the card
-  pub column-before : (between : List (TurnOf Event)) → turns_of old.number between ≡ [] → IsAllowed MayAdd between → IsLegal (setup_at old) (events_before old between) → IsColumn (setup_at old) card slot has_posted done last served (events_before old between)
+  pub column-before : (between : List (TurnOf Event)) → turns_of old.number between ≡ [] → IsAllowed MayAdd between
+      → IsLegal (setup_at old) (events_before old between) → IsColumn (setup_at old) card slot has_posted done last served (events_before old between)
   column-before between others allowed legal =
       let split : events_before old between ≡ seen ++ entries_of between = entries_of-append old.seen between in
       let none : turns_of card between ≡ [] = ap (λ i. turns_of i between) kept.card_is ∙ others in
       subst (λ events. IsColumn (setup_at old) card slot has_posted done last served events) (sym split)
-      (IsColumn-more (setup_at old) card slot has_posted done last served seen kept.column card_below (entries_of between) (subst (IsLegal (setup_at old)) split legal) (posts_of-others card between allowed none) (takes_of-others card between allowed none))
+      (IsColumn-more (setup_at old) card slot has_posted done last served seen kept.column card_below (entries_of between)
+      (subst (IsLegal (setup_at old)) split legal) (posts_of-others card between allowed none) (takes_of-others card between allowed none))
 
   -- the events after the seat's turn
   pub seen-after : (between : List (TurnOf Event)) (entries : List Event) → events_seen (after_turn old between entries) ≡ events_before old between ++ entries
   seen-after between entries = entries_of-snoc (old.seen ++ between) (record { seat = old.number; entries = entries })
 
   -- what is kept after the turn, where it fits the events and the refused tries then
-  pub kept-after : (between : List (TurnOf Event)) (entries : List Event) (new_slot : ℕ) (new_posted new_done : Bool) (new_last : Row) (new_served : Option Served) (new_count : ℕ) → IsColumn (setup_at old) card new_slot new_posted new_done new_last new_served (events_before old between ++ entries) → new_count ≡ min (refusals (after_turn old between entries)) (2 ^ 64 - 1) → IsCardSeat (after_turn old between entries) ports card new_slot new_posted new_done new_last new_served new_count room capacity
+  pub kept-after : (between : List (TurnOf Event)) (entries : List Event) (new_slot : ℕ) (new_posted new_done : Bool) (new_last : Row)
+      (new_served : Option Served) (new_count : ℕ)
+      → IsColumn (setup_at old) card new_slot new_posted new_done new_last new_served (events_before old between ++ entries)
+      → new_count ≡ min (refusals (after_turn old between entries)) (2 ^ 64 - 1)
+      → IsCardSeat (after_turn old between entries) ports card new_slot new_posted new_done new_last new_served new_count room capacity
   kept-after between entries new_slot new_posted new_done new_last new_served new_count column counted =
       record {
         board = kept.board;
         ports_are = kept.ports_are;
         card_is = kept.card_is;
         card_in = kept.card_in;
-        column = subst (λ events. IsColumn (setup_at old) card new_slot new_posted new_done new_last new_served events) (sym (seen-after between entries)) column;
+        column = subst (λ events. IsColumn (setup_at old) card new_slot new_posted new_done new_last new_served events)
+            (sym (seen-after between entries)) column;
         count_is = counted;
         empty = kept.empty;
         room_for_all = kept.room_for_all;

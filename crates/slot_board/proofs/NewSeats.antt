@@ -14,7 +14,8 @@ slice_get-seam [] ys x = refl
 slice_get-seam (y ∷ xs) ys x = slice_get-seam xs ys x
 
 -- a turn lock round the state of a board on which nothing has happened
-pub IsBoard-new : (turn : TurnValue Event) (board : BoardValue) → IsSetup board.setup → board.events ≡ [] → turn.first ≡ board.events → turn.numbers ≡ numbers_of board.setup → turn.seats ≡ board.setup.ports → IsBoard turn
+pub IsBoard-new : (turn : TurnValue Event) (board : BoardValue) → IsSetup board.setup → board.events ≡ [] → turn.first ≡ board.events
+    → turn.numbers ≡ numbers_of board.setup → turn.seats ≡ board.setup.ports → IsBoard turn
 IsBoard-new turn board setup none first numbers seats =
     let same : setup_of turn.numbers ≡ board.setup = ap setup_of numbers in
     record {
@@ -25,7 +26,8 @@ IsBoard-new turn board setup none first numbers seats =
     }
 
 -- each of its seats is that of a card
-pub IsNewCard-new : (turn : TurnValue Event) (ports : ℕ) (seats : List (SeatValue Event)) → IsBoard turn → turn.seats ≡ ports → AreNewSeats turn seats → (i : ℕ) (seat : SeatValue Event) → slice_get seats i ≡ Some seat → IsNewCard ports i seat
+pub IsNewCard-new : (turn : TurnValue Event) (ports : ℕ) (seats : List (SeatValue Event)) → IsBoard turn → turn.seats ≡ ports → AreNewSeats turn seats
+    → (i : ℕ) (seat : SeatValue Event) → slice_get seats i ≡ Some seat → IsNewCard ports i seat
 IsNewCard-new turn ports seats board count new i seat at =
     let within : i < length seats = slice_get_within seats i seat at in
     let all : length seats ≡ turn.seats = new.count in

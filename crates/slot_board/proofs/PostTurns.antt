@@ -23,15 +23,18 @@ use Rattle.slot_board.proofs.ColumnSteps.{IsColumn-more, MayPost-column, IsColum
 use Rattle.slot_board.proofs.RefusedTries.{refusals-acted}
 use Rattle.slot_board.proofs.CardTurns.{card_below, slot-is, posted-false, served-is, last-is, before-is, column-before, seen-after, kept-after}
 
-module _ (old : SeatValue Event) (ports card slot : ℕ) (has_posted done : Bool) (last : Row) (served : Option Served) (count : ℕ) (room : List (SeatValue Event)) (capacity : ℕ) (kept : IsCardSeat old ports card slot has_posted done last served count room capacity) where
-  module _ (free : IsPosted old → ⊥) (between : List (TurnOf Event)) (others : turns_of old.number between ≡ []) (allowed : IsAllowed MayAdd between) (legal : IsLegal (setup_at old) (events_before old between)) where
+module _ (old : SeatValue Event) (ports card slot : ℕ) (has_posted done : Bool) (last : Row) (served : Option Served) (count : ℕ)
+    (room : List (SeatValue Event)) (capacity : ℕ) (kept : IsCardSeat old ports card slot has_posted done last served count room capacity) where
+  module _ (free : IsPosted old → ⊥) (between : List (TurnOf Event)) (others : turns_of old.number between ≡ []) (allowed : IsAllowed MayAdd between)
+      (legal : IsLegal (setup_at old) (events_before old between)) where
     abbrev events : List Event
     events = events_before old between
 
     column : IsColumn (setup_at old) card slot false done last served events
     column =
         let is = posted-false old ports card slot has_posted done last served count room capacity kept free in
-        subst (λ b. IsColumn (setup_at old) card slot b done last served events) is (column-before old ports card slot has_posted done last served count room capacity kept between others allowed legal)
+        subst (λ b. IsColumn (setup_at old) card slot b done last served events) is
+        (column-before old ports card slot has_posted done last served count room capacity kept between others allowed legal)
 
     inside : card < (setup_at old).ports
     inside = card_below old ports card slot has_posted done last served count room capacity kept
@@ -50,7 +53,9 @@ module _ (old : SeatValue Event) (ports card slot : ℕ) (has_posted done : Bool
         MayPost-column (setup_at old) card slot done last served events column inside post (same_done ∙ going) (omega arith) by_card
 
     -- what is kept after it
-    pub kept-posted : (post : CardPost) → MayPost (setup_at old) events card post → IsLegal (setup_at old) (events ++ post_entries (setup_at old) events card post) → IsCardSeat (after_turn old between (post_entries (setup_at old) events card post)) ports card slot true done post.row served count room capacity
+    pub kept-posted : (post : CardPost) → MayPost (setup_at old) events card post
+        → IsLegal (setup_at old) (events ++ post_entries (setup_at old) events card post)
+        → IsCardSeat (after_turn old between (post_entries (setup_at old) events card post)) ports card slot true done post.row served count room capacity
     kept-posted post may after =
         let s = setup_at old in
         let first = Post card post ∷ [] in
@@ -58,18 +63,24 @@ module _ (old : SeatValue Event) (ports card slot : ℕ) (has_posted done : Bool
         let rest = decision_entries s (events ++ first) in
         let split : (events ++ first) ++ rest ≡ events ++ post_entries s events card post = append_assoc events first rest in
         let posts = IsColumn-post s card slot done last served events column inside post may in
-        let whole = IsColumn-more s card slot true done post.row served (events ++ first) posts inside rest (subst (IsLegal s) (sym split) after) (posts_of-decision card decided) (takes_of-decision card decided) in
-        kept-after old ports card slot has_posted done last served count room capacity kept between (post_entries s events card post) slot true done post.row served count
+        let whole = IsColumn-more s card slot true done post.row served (events ++ first) posts inside rest (subst (IsLegal s) (sym split) after)
+        (posts_of-decision card decided) (takes_of-decision card decided) in
+        kept-after old ports card slot has_posted done last served count room capacity kept between
+        (post_entries s events card post) slot true done post.row served count
         (subst (λ es. IsColumn s card slot true done post.row served es) split whole)
         (kept.count_is ∙ ap (λ tries. min tries (2 ^ 64 - 1)) (sym (refusals-acted old between (Post card post) rest others)))
 
   -- the seat had a turn with a try to post
-  module _ (new : SeatValue Event) (post : CardPost) (has : HasTurn MayAdd (λ numbers events. post_adds card post numbers events) (λ numbers events. StayLegal (setup_of numbers) events (post_adds card post numbers events)) old new) (free : IsPosted old → ⊥) (going : is_done old ≡ false) (left : slot_of old < (setup_at old).max_slots) (accepted : Accepts old post) where
+  module _ (new : SeatValue Event) (post : CardPost)
+      (has : HasTurn MayAdd (λ numbers events. post_adds card post numbers events)
+      (λ numbers events. StayLegal (setup_of numbers) events (post_adds card post numbers events)) old new) (free : IsPosted old → ⊥)
+      (going : is_done old ≡ false) (left : slot_of old < (setup_at old).max_slots) (accepted : Accepts old post) where
     abbrev at_turn : List Event
     at_turn = events_before old has.between
 
     others_allowed : IsAllowed MayAdd has.between
-    others_allowed = HasTurn-between MayAdd (λ numbers events. post_adds card post numbers events) (λ numbers events. StayLegal (setup_of numbers) events (post_adds card post numbers events)) old new has
+    others_allowed = HasTurn-between MayAdd (λ numbers events. post_adds card post numbers events)
+        (λ numbers events. StayLegal (setup_of numbers) events (post_adds card post numbers events)) old new has
 
     same_events : entries_before old has.between ≡ at_turn
     same_events = before-is old ports card slot has_posted done last served count room capacity kept has.between
@@ -87,7 +98,9 @@ module _ (old : SeatValue Event) (ports card slot : ℕ) (has_posted done : Bool
         ap (post_adds card post old.turn.numbers) same_events ∙ ap (λ b. if b then post_entries s at_turn card post else []) test
 
     legal_after : IsLegal (setup_at old) (at_turn ++ post_entries (setup_at old) at_turn card post)
-    legal_after = subst (λ added. IsLegal (setup_at old) (at_turn ++ added)) adds_is (subst (λ events. IsLegal (setup_at old) (events ++ post_adds card post old.turn.numbers (entries_before old has.between))) same_events has.answer.after)
+    legal_after = subst (λ added. IsLegal (setup_at old) (at_turn ++ added)) adds_is
+        (subst (λ events. IsLegal (setup_at old)
+        (events ++ post_adds card post old.turn.numbers (entries_before old has.between))) same_events has.answer.after)
 
     turn_is : new ≡ after_turn old has.between (post_entries (setup_at old) at_turn card post)
     turn_is = has.turn ∙ ap (after_turn old has.between) adds_is
@@ -99,7 +112,10 @@ module _ (old : SeatValue Event) (ports card slot : ℕ) (has_posted done : Bool
           turn = record {
             others = has.others;
             turn = turn_is ∙ ap (λ i. after_turn old has.between (post_entries (setup_at old) at_turn i post)) kept.card_is;
-            legal = subst (IsLegal (setup_at old)) (sym (ap events_seen turn_is ∙ seen-after old ports card slot has_posted done last served count room capacity kept has.between (post_entries (setup_at old) at_turn card post))) legal_after;
+            legal = subst (IsLegal (setup_at old))
+                (sym (ap events_seen turn_is
+                ∙ seen-after old ports card slot has_posted done last served count room capacity kept has.between
+                (post_entries (setup_at old) at_turn card post))) legal_after;
             allowed = has.allowed;
             in_range = has.in_range;
           };

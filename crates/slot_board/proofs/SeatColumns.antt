@@ -28,7 +28,8 @@ use Rattle.slot_board.proofs.OtherTurns.{posts_of-others, takes_of-others, posts
 module _ (i : ℕ) (seen more : List (TurnOf Event)) (allowed : IsAllowed MayAdd more) (others : turns_of i more ≡ []) where
   pub posts_of-beyond : posts_of i (entries_of (seen ++ more)) ≡ posts_of i (entries_of seen)
   posts_of-beyond =
-      ap (posts_of i) (entries_of-append seen more) ∙ posts_of-append i (entries_of seen) (entries_of more) ∙ ap (λ ps. posts_of i (entries_of seen) ++ ps) (posts_of-others i more allowed others) ∙ append-nil (posts_of i (entries_of seen))
+      ap (posts_of i) (entries_of-append seen more) ∙ posts_of-append i (entries_of seen) (entries_of more)
+      ∙ ap (λ ps. posts_of i (entries_of seen) ++ ps) (posts_of-others i more allowed others) ∙ append-nil (posts_of i (entries_of seen))
 
   pub takes_of-beyond : takes_of i (entries_of (seen ++ more)) ≡ takes_of i (entries_of seen)
   takes_of-beyond =
@@ -38,7 +39,8 @@ module _ (i : ℕ) (seen more : List (TurnOf Event)) (allowed : IsAllowed MayAdd
       omega arith
 
   pub takings_of-others : (s : Setup) → takings_of s i (entries_of (seen ++ more)) ≡ takings_of s i (entries_of seen)
-  takings_of-others s = ap (takings_of s i) (entries_of-append seen more) ∙ takings_of-beyond s i (entries_of seen) (entries_of more) (takes_of-others i more allowed others)
+  takings_of-others s = ap (takings_of s i) (entries_of-append seen more)
+      ∙ takings_of-beyond s i (entries_of seen) (entries_of more) (takes_of-others i more allowed others)
 
 module _ (adds : List Event → List Event) (old new : SeatValue Event) (between : List (TurnOf Event)) (has : HasCardTurn adds old new between) where
   abbrev at_turn : List Event
@@ -55,11 +57,13 @@ module _ (adds : List Event → List Event) (old new : SeatValue Event) (between
 
   pub HasCardTurn-posts : posts_of old.number (events_seen new) ≡ posts_of old.number (events_seen old) ++ posts_of old.number (adds at_turn)
   HasCardTurn-posts =
-      ap (posts_of old.number) HasCardTurn-events ∙ posts_of-append old.number at_turn (adds at_turn) ∙ ap (λ ps. ps ++ posts_of old.number (adds at_turn)) (posts_of-beyond old.number old.seen between between_allowed has.others)
+      ap (posts_of old.number) HasCardTurn-events ∙ posts_of-append old.number at_turn (adds at_turn)
+      ∙ ap (λ ps. ps ++ posts_of old.number (adds at_turn)) (posts_of-beyond old.number old.seen between between_allowed has.others)
 
   pub HasCardTurn-takes : takes_of old.number (events_seen new) ≡ slot_of old + takes_of old.number (adds at_turn)
   HasCardTurn-takes =
-      ap (takes_of old.number) HasCardTurn-events ∙ takes_of-append old.number at_turn (adds at_turn) ∙ ap (λ k. k + takes_of old.number (adds at_turn)) (takes_of-beyond old.number old.seen between between_allowed has.others)
+      ap (takes_of old.number) HasCardTurn-events ∙ takes_of-append old.number at_turn (adds at_turn)
+      ∙ ap (λ k. k + takes_of old.number (adds at_turn)) (takes_of-beyond old.number old.seen between between_allowed has.others)
 
   pub HasCardTurn-setup : setup_at new ≡ setup_at old
   HasCardTurn-setup = ap setup_at has.turn
@@ -72,7 +76,8 @@ module _ (adds : List Event → List Event) (old new : SeatValue Event) (between
   HasCardTurn-taken = takings_of-others old.number old.seen between between_allowed has.others (setup_at old)
 
   -- the new column, by its posts and its takings
-  pub HasCardTurn-column : (posts : List CardPost) (takings : List Taken) → posts_of old.number (events_seen new) ≡ posts → takings_of (setup_at old) old.number (at_turn ++ adds at_turn) ≡ takings → column_at new ≡ record { posts = posts; takings = takings }
+  pub HasCardTurn-column : (posts : List CardPost) (takings : List Taken) → posts_of old.number (events_seen new) ≡ posts
+      → takings_of (setup_at old) old.number (at_turn ++ adds at_turn) ≡ takings → column_at new ≡ record { posts = posts; takings = takings }
   HasCardTurn-column posts takings posts_are takings_are =
       rw (HasCardTurn-setup, HasCardTurn-number, posts_are, HasCardTurn-events, takings_are) refl
 
@@ -89,7 +94,8 @@ module _ (post : CardPost) (old new : SeatValue Event) (has : HasPosted post old
       let i = old.number in
       let mine : (i == i) ≡ true = eq-eqb i i refl in
       let rest = decision_entries (setup_at old) (before ++ Post i post ∷ []) in
-      let own : posts_of i (post_entries (setup_at old) before i post) ≡ post ∷ [] = ap (λ b. if b then post ∷ posts_of i rest else posts_of i rest) mine ∙ ap (λ ps. post ∷ ps) (posts_of-decision i decided) in
+      let own : posts_of i (post_entries (setup_at old) before i post) ≡ post ∷ [] = ap (λ b. if b then post ∷ posts_of i rest else posts_of i rest) mine
+      ∙ ap (λ ps. post ∷ ps) (posts_of-decision i decided) in
       HasCardTurn-posts (λ events. post_entries (setup_at old) events i post) old new has.between has.turn ∙ ap (λ ps. posts_of i (events_seen old) ++ ps) own
 
   pub HasPosted-takes : takes_of old.number (events_seen new) ≡ slot_of old
@@ -102,7 +108,8 @@ module _ (post : CardPost) (old new : SeatValue Event) (has : HasPosted post old
   HasPosted-column =
       let adds : List Event → List Event = λ events. post_entries (setup_at old) events old.number post in
       let none = takings_of-beyond (setup_at old) old.number before (adds before) (takes_of-decision old.number decided) in
-      HasCardTurn-column adds old new has.between has.turn (posts_of old.number (events_seen old) ++ post ∷ []) (takings_of (setup_at old) old.number (events_seen old)) HasPosted-posts
+      HasCardTurn-column adds old new has.between has.turn (posts_of old.number (events_seen old) ++ post ∷ [])
+      (takings_of (setup_at old) old.number (events_seen old)) HasPosted-posts
       (none ∙ HasCardTurn-taken adds old new has.between has.turn)
 
 module _ (taken : Taken) (old new : SeatValue Event) (has : HasTaken taken old new) where
@@ -119,8 +126,11 @@ module _ (taken : Taken) (old new : SeatValue Event) (has : HasTaken taken old n
   HasTaken-column =
       let adds : List Event → List Event = λ events. Take old.number ∷ [] in
       let before = events_before old has.between in
-      HasCardTurn-column adds old new has.between has.turn (posts_of old.number (events_seen old)) (takings_of (setup_at old) old.number (events_seen old) ++ taken ∷ []) HasTaken-posts
-      (takings_of-take (setup_at old) old.number before ∙ ap (λ takings. takings ++ taken_at (setup_at old) (posted before) old.number (takes_of old.number before) ∷ []) (HasCardTurn-taken adds old new has.between has.turn) ∙ ap (λ t. takings_of (setup_at old) old.number (events_seen old) ++ t ∷ []) (sym has.answer))
+      HasCardTurn-column adds old new has.between has.turn (posts_of old.number (events_seen old))
+      (takings_of (setup_at old) old.number (events_seen old) ++ taken ∷ []) HasTaken-posts
+      (takings_of-take (setup_at old) old.number before
+      ∙ ap (λ takings. takings ++ taken_at (setup_at old) (posted before) old.number (takes_of old.number before) ∷ [])
+      (HasCardTurn-taken adds old new has.between has.turn) ∙ ap (λ t. takings_of (setup_at old) old.number (events_seen old) ++ t ∷ []) (sym has.answer))
 
 module _ (ports : ℕ) (old new : SeatValue Event) (has : IsUndecided ports old new) where
   pub IsUndecided-posts : posts_of old.number (events_seen new) ≡ posts_of old.number (events_seen old)
@@ -133,7 +143,8 @@ module _ (ports : ℕ) (old new : SeatValue Event) (has : IsUndecided ports old 
   IsUndecided-column =
       let adds : List Event → List Event = λ events. [] in
       let before = events_before old has.between in
-      HasCardTurn-column adds old new has.between has.turn (posts_of old.number (events_seen old)) (takings_of (setup_at old) old.number (events_seen old)) IsUndecided-posts
+      HasCardTurn-column adds old new has.between has.turn (posts_of old.number (events_seen old))
+      (takings_of (setup_at old) old.number (events_seen old)) IsUndecided-posts
       (ap (takings_of (setup_at old) old.number) (append-nil before) ∙ HasCardTurn-taken adds old new has.between has.turn)
 
 -- a wait leaves the column
@@ -142,7 +153,8 @@ IsWait-column Busy old new is = ap column_at is
 IsWait-column (NotYet ports) old new is = IsUndecided-column ports old new is
 
 -- a seat's column is that of the whole history, which goes on without it
-module _ (history : List (TurnOf Event)) (allowed : IsAllowed MayAdd history) (i : ℕ) (seat : SeatValue Event) (seen : IsPrefixOf seat.seen history) (own : turns_of i history ≡ turns_of i seat.seen) where
+module _ (history : List (TurnOf Event)) (allowed : IsAllowed MayAdd history) (i : ℕ) (seat : SeatValue Event) (seen : IsPrefixOf seat.seen history)
+    (own : turns_of i history ≡ turns_of i seat.seen) where
   abbrev further : List (TurnOf Event)
   further = seen.0
 
@@ -152,10 +164,12 @@ module _ (history : List (TurnOf Event)) (allowed : IsAllowed MayAdd history) (i
   of_others : turns_of i further ≡ []
   of_others = append_same-nil (turns_of i seat.seen) (turns_of i further) (sym (turns_of-append i seat.seen further) ∙ ap (turns_of i) (sym seen.1) ∙ own)
 
-  pub column_of-history : (s : Setup) (events : List Event) → s ≡ setup_at seat → events ≡ entries_of history → seat.number ≡ i → column_of s i events ≡ column_at seat
+  pub column_of-history : (s : Setup) (events : List Event) → s ≡ setup_at seat → events ≡ entries_of history → seat.number ≡ i
+      → column_of s i events ≡ column_at seat
   column_of-history s events setup events_are number =
       ap (column_of s i) (events_are ∙ ap entries_of seen.1)
-      ∙ ap (λ posts. record { posts = posts; takings = takings_of s i (entries_of (seat.seen ++ further)) }) (posts_of-beyond i seat.seen further further_allowed of_others)
+      ∙ ap (λ posts. record { posts = posts; takings = takings_of s i (entries_of (seat.seen ++ further)) })
+      (posts_of-beyond i seat.seen further further_allowed of_others)
       ∙ ap (λ takings. record { posts = posts_of i (events_seen seat); takings = takings }) (takings_of-others i seat.seen further further_allowed of_others s)
       ∙ ap (λ s. column_of s i (events_seen seat)) setup
       ∙ ap (λ number. column_of (setup_at seat) number (events_seen seat)) (sym number)

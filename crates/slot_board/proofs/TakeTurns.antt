@@ -1,5 +1,6 @@
 -- A turn in which a card tries to take its part of its slot.
-use Rattle.std.proofs.Common.{◌≡◌, ◌∙◌, ℕ, ◌+◌, ◌-◌, ◌^◌, ◌<◌, ◌≤◌, ◌≢◌, zero, suc, inl, inr, min, Bool, true, false, List, [], ◌∷◌, ◌++◌, length, Option, refl, sym, ap, subst, arith}
+use Rattle.std.proofs.Common.{◌≡◌, ◌∙◌, ℕ, ◌+◌, ◌-◌, ◌^◌, ◌<◌, ◌≤◌, ◌≢◌, zero, suc, inl, inr, min, Bool, true, false, List, [], ◌∷◌, ◌++◌, length}
+use Rattle.std.proofs.Common.{Option, refl, sym, ap, subst, arith}
 use Rattle.std.specs.Prelude.{if◌then◌else◌, Result, Ok, Err}
 use Rattle.std.proofs.lemmas.Bool.{cases_eq, cases_lt, both_ways}
 use Rattle.std.proofs.lemmas.List.{append-nil}
@@ -43,7 +44,10 @@ other_one f k (suc n) not_all =
 abbrev Answered : ℕ → Result Taken ℕ → List ℕ → List Event → Type 0
 Answered card out numbers events = StayLegal (setup_of numbers) events (take_adds card numbers events) × TakeAnswers (setup_of numbers) card events out
 
-module _ (old : SeatValue Event) (ports card slot : ℕ) (has_posted done : Bool) (last : Row) (served : Option Served) (count : ℕ) (room : List (SeatValue Event)) (capacity : ℕ) (kept : IsCardSeat old ports card slot has_posted done last served count room capacity) (new : SeatValue Event) (out : Result Taken ℕ) (has : HasTurn MayAdd (λ numbers events. take_adds card numbers events) (Answered card out) old new) (it : IsPosted old) where
+module _ (old : SeatValue Event) (ports card slot : ℕ) (has_posted done : Bool) (last : Row) (served : Option Served) (count : ℕ)
+    (room : List (SeatValue Event)) (capacity : ℕ) (kept : IsCardSeat old ports card slot has_posted done last served count room capacity)
+    (new : SeatValue Event) (out : Result Taken ℕ) (has : HasTurn MayAdd (λ numbers events. take_adds card numbers events) (Answered card out) old new)
+    (it : IsPosted old) where
   abbrev at_turn : List Event
   at_turn = events_before old has.between
 
@@ -57,7 +61,8 @@ module _ (old : SeatValue Event) (ports card slot : ℕ) (has_posted done : Bool
   column =
       let allowed = HasTurn-between MayAdd (λ numbers events. take_adds card numbers events) (Answered card out) old new has in
       let is = posted-true old ports card slot has_posted done last served count room capacity kept it in
-      subst (λ b. IsColumn (setup_at old) card slot b done last served at_turn) is (column-before old ports card slot has_posted done last served count room capacity kept has.between has.others allowed legal_before)
+      subst (λ b. IsColumn (setup_at old) card slot b done last served at_turn) is
+      (column-before old ports card slot has_posted done last served count room capacity kept has.between has.others allowed legal_before)
 
   inside : card < (setup_at old).ports
   inside = card_below old ports card slot has_posted done last served count room capacity kept
@@ -66,7 +71,8 @@ module _ (old : SeatValue Event) (ports card slot : ℕ) (has_posted done : Bool
   answered = subst (λ events. TakeAnswers (setup_at old) card events out) same_events has.answer.1
 
   -- the entries that the test of a taking gives
-  adds_are : (b : Bool) (entries : List Event) → is_allowed (setup_at old) at_turn (Take card) ≡ b → (if b then Take card ∷ [] else []) ≡ entries → take_adds card old.turn.numbers (entries_before old has.between) ≡ entries
+  adds_are : (b : Bool) (entries : List Event) → is_allowed (setup_at old) at_turn (Take card) ≡ b → (if b then Take card ∷ [] else []) ≡ entries
+      → take_adds card old.turn.numbers (entries_before old has.between) ≡ entries
   adds_are b entries test is = ap (take_adds card old.turn.numbers) same_events ∙ ap (λ x. if x then Take card ∷ [] else []) test ∙ is
 
   module _ (entries : List Event) (adds : take_adds card old.turn.numbers (entries_before old has.between) ≡ entries) where
@@ -75,8 +81,12 @@ module _ (old : SeatValue Event) (ports card slot : ℕ) (has_posted done : Bool
 
     legal_after : IsLegal (setup_at old) (events_seen new)
     legal_after =
-        let whole : IsLegal (setup_at old) (at_turn ++ entries) = subst (λ added. IsLegal (setup_at old) (at_turn ++ added)) adds (subst (λ events. IsLegal (setup_at old) (events ++ take_adds card old.turn.numbers (entries_before old has.between))) same_events has.answer.0.after) in
-        subst (IsLegal (setup_at old)) (sym (ap events_seen turn_is ∙ seen-after old ports card slot has_posted done last served count room capacity kept has.between entries)) whole
+        let whole : IsLegal (setup_at old) (at_turn ++ entries) =
+        subst (λ added. IsLegal (setup_at old) (at_turn ++ added)) adds
+        (subst (λ events. IsLegal (setup_at old)
+        (events ++ take_adds card old.turn.numbers (entries_before old has.between))) same_events has.answer.0.after) in
+        subst (IsLegal (setup_at old))
+        (sym (ap events_seen turn_is ∙ seen-after old ports card slot has_posted done last served count room capacity kept has.between entries)) whole
 
   -- ---- the card took
   module _ (taken : Taken) (is_ok : out ≡ Ok taken) where
@@ -113,7 +123,8 @@ module _ (old : SeatValue Event) (ports card slot : ℕ) (has_posted done : Bool
     pub kept_taken : IsCardSeat new ports card (slot + 1) false taken.done last taken.served count room capacity
     kept_taken =
         subst (λ seat. IsCardSeat seat ports card (slot + 1) false taken.done last taken.served count room capacity) (sym (turn_is (Take card ∷ []) adds_take))
-        (kept-after old ports card slot has_posted done last served count room capacity kept has.between (Take card ∷ []) (slot + 1) false taken.done last taken.served count
+        (kept-after old ports card slot has_posted done last served count room capacity kept has.between (Take card ∷ [])
+        (slot + 1) false taken.done last taken.served count
         (IsColumn-take (setup_at old) card slot done last served at_turn column inside taken may took.1)
         (kept.count_is ∙ ap (λ tries. min tries (2 ^ 64 - 1)) (sym (refusals-acted old has.between (Take card) [] has.others))))
 
@@ -133,7 +144,8 @@ module _ (old : SeatValue Event) (ports card slot : ℕ) (has_posted done : Bool
               let posts = column.posts_are in
               let takes = column.slot_is in
               let may : MayTake (setup_at old) at_turn card = record { card_in = inside; posted = omega arith; decided = omega arith } in
-              absurd (both_ways (is_allowed (setup_at old) at_turn (Take card)) waits.0 ((is_allowed-iff (setup_at old) at_turn (Take card) legal_before).1 may))
+              absurd (both_ways (is_allowed (setup_at old) at_turn (Take card)) waits.0
+              ((is_allowed-iff (setup_at old) at_turn (Take card) legal_before).1 may))
           | inr last ↦ omega arith
         ]
 
@@ -168,5 +180,6 @@ module _ (old : SeatValue Event) (ports card slot : ℕ) (has_posted done : Bool
         let is = posted-true old ports card slot has_posted done last served count room capacity kept it in
         subst (λ seat. IsCardSeat seat ports card slot has_posted done last served next room capacity) (sym (turn_is [] adds_none))
         (kept-after old ports card slot has_posted done last served count room capacity kept has.between [] slot has_posted done last served next
-        (subst (λ b. IsColumn (setup_at old) card slot b done last served (at_turn ++ [])) (sym is) (subst (λ events. IsColumn (setup_at old) card slot true done last served events) (sym (append-nil at_turn)) column))
+        (subst (λ b. IsColumn (setup_at old) card slot b done last served (at_turn ++ [])) (sym is)
+        (subst (λ events. IsColumn (setup_at old) card slot true done last served events) (sym (append-nil at_turn)) column))
         (count-more count _ next _ kept.count_is (refusals-idle old has.between has.others) raised))

@@ -31,5 +31,6 @@ pub record IsClosed (turn : TurnValue Event) (seats : List (SeatValue Event)) (b
   pub in_range : IsBelow turn.seats history
   pub seen : (i : ℕ) (seat : SeatValue Event) → slice_get seats i ≡ Some seat → IsPrefixOf seat.seen history
   pub own : (i : ℕ) (seat : SeatValue Event) → slice_get seats i ≡ Some seat → turns_of i history ≡ turns_of i seat.seen
-  pub overtaken : (i : ℕ) (seat : SeatValue Event) → slice_get seats i ≡ Some seat → 0 < seat.since → (length seat.seen < length history) ⊎ (2 ^ 64 ≤ length history + 1)
+  pub overtaken : (i : ℕ) (seat : SeatValue Event) → slice_get seats i ≡ Some seat → 0 < seat.since → (length seat.seen < length history)
+      ⊎ (2 ^ 64 ≤ length history + 1)
   pub refused : board.refused ≡ least_refused seats

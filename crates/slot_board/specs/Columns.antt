@@ -33,7 +33,8 @@ pub record IsBoard (turn : TurnValue Event) : Type 0 where
   pub setup : IsSetup (setup_of turn.numbers)
 
 -- the seat is one of a board, and this is kept of its card; the count stops at the last value of a u64
-pub record IsCardSeat (seat : SeatValue Event) (ports card slot : ℕ) (has_posted done : Bool) (last : Row) (served : Option Served) (count : ℕ) (room : List (SeatValue Event)) (capacity : ℕ) : Type 0 where
+pub record IsCardSeat (seat : SeatValue Event) (ports card slot : ℕ) (has_posted done : Bool) (last : Row) (served : Option Served) (count : ℕ)
+    (room : List (SeatValue Event)) (capacity : ℕ) : Type 0 where
   pub board : IsBoard seat.turn
   pub ports_are : ports ≡ (setup_at seat).ports
   pub card_is : card ≡ seat.number

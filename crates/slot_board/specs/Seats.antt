@@ -107,7 +107,8 @@ refusals seat = seat.finds + count_by is_idle (turns_of seat.number seat.seen)
 
 -- A card is due where it has posted its slot, or where it is not done and a slot is left.
 abbrev pub is_due : SeatValue Event → Bool
-is_due seat = nat_lt (slot_of seat) (length (posts_of seat.number (events_seen seat))) || (not (is_done seat) && nat_lt (slot_of seat) (setup_at seat).max_slots)
+is_due seat = nat_lt (slot_of seat) (length (posts_of seat.number (events_seen seat)))
+    || (not (is_done seat) && nat_lt (slot_of seat) (setup_at seat).max_slots)
 
 -- its refused tries as a u64 where the card is due, and the last value of a u64 where it is not
 abbrev pub due_tries : SeatValue Event → ℕ

@@ -76,7 +76,8 @@ impl Act<KeptState> for TakeAct {
 
     ghost adds = { λ act numbers events. take_adds act.card numbers events };
 
-    ghost answers = { λ act numbers events out. StayLegal (setup_of numbers) events (take_adds act.card numbers events) × DrawnAnswers (setup_of numbers) act.card events out };
+    ghost answers = { λ act numbers events out. StayLegal (setup_of numbers) events (take_adds act.card numbers events)
+        × DrawnAnswers (setup_of numbers) act.card events out };
 
     fn apply(self, kept: &mut KeptState) -> Drawn {
         add_take(&mut kept.state, self.card)

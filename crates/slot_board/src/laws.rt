@@ -16,7 +16,8 @@ ghost use Rattle.slot_board.specs.Schedules.{decided_slots};
 /// The slots that a legal list of events decides are a schedule, from slot 0 and all pointers at port 0.
 /// Their rows name none but the switch's ports, and are kept until they are served.
 pub fn histories_are_schedules()
-    ensures schedule { (s : Setup) (events : List Event) → 0 < s.ports → s.ports ≤ MAX_PORTS → IsLegal s events → IsSchedule s.ports s.rounds 0 (places_at_first s.ports) (decided_slots s events) }
+    ensures schedule { (s : Setup) (events : List Event) → 0 < s.ports → s.ports ≤ MAX_PORTS → IsLegal s events
+        → IsSchedule s.ports s.rounds 0 (places_at_first s.ports) (decided_slots s events) }
     ensures within { (s : Setup) (events : List Event) → IsLegal s events → All (λ slot. AreWithin s.ports slot.rows) (decided_slots s events) }
     ensures kept { (s : Setup) (events : List Event) → 0 < s.ports → s.ports ≤ MAX_PORTS → IsLegal s events → AreKept s.ports (decided_slots s events) }
 {}

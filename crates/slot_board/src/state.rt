@@ -114,7 +114,12 @@ impl BoardState {
 
     /// The decided slots. The rows of each are within the ports, and are kept until they are served.
     pub fn journal(self) -> Journal
-        ensures journal { result ≡ record { setup = self.setup; slots = journal_of self.setup self.events; events = length self.events; refused = self.refused } }
+        ensures journal { result ≡ record {
+          setup = self.setup;
+          slots = journal_of self.setup self.events;
+          events = length self.events;
+          refused = self.refused;
+        } }
         ensures rows { AreJournalRows result.setup.ports result.slots }
     {
         Journal {

@@ -4,7 +4,8 @@ use Rattle.std.specs.List.{range_with_len, list_all}
 use Rattle.slot_match.specs.Parts.{served_of}
 use Rattle.crossbar.specs.declared.cards.Post.{Post as CardPost}
 use Rattle.slot_histories.specs.Events.{Setup}
-use Rattle.slot_histories.specs.Slots.{slot_posts, slot_rows, places_at, decision_at, served_at, is_done_at, is_done_before, crossed, taken_at, row_before, served_before}
+use Rattle.slot_histories.specs.Slots.{slot_posts, slot_rows, places_at, decision_at, served_at, is_done_at, is_done_before, crossed, taken_at}
+use Rattle.slot_histories.specs.Slots.{row_before, served_before}
 
 -- two functions that agree on a range give one list there
 pub map_range-same : {X : Type 0} (f g : ℕ → X) (a n : ℕ) → ((i : ℕ) → i < a + n → f i ≡ g i) → map f (range_with_len a n) ≡ map g (range_with_len a n)

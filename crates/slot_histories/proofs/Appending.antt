@@ -82,5 +82,6 @@ pub decides-take : (events : List Event) (card : ℕ) → decides (events ++ Tak
 decides-take events card = omega (arith, decides-append events (Take card ∷ []))
 
 -- how many the card has posted with one post more
-pub posted_more : (events : List Event) (card : ℕ) (post : CardPost) → length (posts_of card (events ++ Post card post ∷ [])) ≡ length (posts_of card events) + 1
+pub posted_more : (events : List Event) (card : ℕ) (post : CardPost)
+    → length (posts_of card (events ++ Post card post ∷ [])) ≡ length (posts_of card events) + 1
 posted_more events card post = ap length (posts_of-same events card post) ∙ length_push (posts_of card events) post

@@ -13,7 +13,8 @@ sum_by-range_same a (suc n) f g same =
     omega (arith, sum_by-cons f a (range_with_len (a + 1) n), sum_by-cons g a (range_with_len (a + 1) n))
 
 -- one more at one of them is one more in the sum
-pub sum_by-range_one : (a n : ℕ) (f g : ℕ → ℕ) (card : ℕ) → a ≤ card → card < a + n → g card ≡ f card + 1 → ((i : ℕ) → a ≤ i → i < a + n → card ≢ i → g i ≡ f i) → sum_by g (range_with_len a n) ≡ sum_by f (range_with_len a n) + 1
+pub sum_by-range_one : (a n : ℕ) (f g : ℕ → ℕ) (card : ℕ) → a ≤ card → card < a + n → g card ≡ f card + 1
+    → ((i : ℕ) → a ≤ i → i < a + n → card ≢ i → g i ≡ f i) → sum_by g (range_with_len a n) ≡ sum_by f (range_with_len a n) + 1
 sum_by-range_one a zero f g card from below more same = absurd (omega arith)
 sum_by-range_one a (suc n) f g card from below more same =
     elim (cases_eq card a) [

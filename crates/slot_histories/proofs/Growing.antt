@@ -22,12 +22,14 @@ module _ (old : Column) (posts : List CardPost) (takings : List Taken) where
   same posts_are takings_are =
       ap (λ ps. column ps takings) (posts_are ∙ append-nil old.posts) ∙ ap (λ ts. column old.posts ts) (takings_are ∙ append-nil old.takings)
 
-  by_post : (b : Bool) (post : CardPost) → posts ≡ old.posts ++ (if b then post ∷ [] else []) → takings ≡ old.takings ++ [] → column posts takings ≡ (if b then with_post old post else old)
+  by_post : (b : Bool) (post : CardPost) → posts ≡ old.posts ++ (if b then post ∷ [] else []) → takings ≡ old.takings ++ []
+      → column posts takings ≡ (if b then with_post old post else old)
   by_post true post posts_are takings_are =
       ap (λ ps. column ps takings) posts_are ∙ ap (λ ts. column (old.posts ++ post ∷ []) ts) (takings_are ∙ append-nil old.takings)
   by_post false post posts_are takings_are = same posts_are takings_are
 
-  by_taking : (b : Bool) (taken : Taken) → posts ≡ old.posts ++ [] → takings ≡ old.takings ++ (if b then taken ∷ [] else []) → column posts takings ≡ (if b then with_taking old taken else old)
+  by_taking : (b : Bool) (taken : Taken) → posts ≡ old.posts ++ [] → takings ≡ old.takings ++ (if b then taken ∷ [] else [])
+      → column posts takings ≡ (if b then with_taking old taken else old)
   by_taking true taken posts_are takings_are =
       ap (λ ps. column ps takings) (posts_are ∙ append-nil old.posts) ∙ ap (λ ts. column old.posts ts) takings_are
   by_taking false taken posts_are takings_are = same posts_are takings_are
@@ -38,8 +40,11 @@ module _ (s : Setup) (i : ℕ) (events : List Event) where
 
   pub column_of-grown : (event : Event) → column_of s i (events ++ event ∷ []) ≡ column_after s i events event
   column_of-grown (Post card post) =
-      by_post (column_of s i events) (posts_of i (events ++ Post card post ∷ [])) (takings_of s i (events ++ Post card post ∷ [])) (card == i) post (posts_grow (Post card post)) (takings_after-append s i [] events (Post card post ∷ []))
+      by_post (column_of s i events) (posts_of i (events ++ Post card post ∷ [])) (takings_of s i (events ++ Post card post ∷ [])) (card == i) post
+      (posts_grow (Post card post)) (takings_after-append s i [] events (Post card post ∷ []))
   column_of-grown Decide =
-      same (column_of s i events) (posts_of i (events ++ Decide ∷ [])) (takings_of s i (events ++ Decide ∷ [])) (posts_grow Decide) (takings_after-append s i [] events (Decide ∷ []))
+      same (column_of s i events) (posts_of i (events ++ Decide ∷ [])) (takings_of s i (events ++ Decide ∷ [])) (posts_grow Decide)
+      (takings_after-append s i [] events (Decide ∷ []))
   column_of-grown (Take card) =
-      by_taking (column_of s i events) (posts_of i (events ++ Take card ∷ [])) (takings_of s i (events ++ Take card ∷ [])) (card == i) (taken_at s (posted events) i (takes_of i events)) (posts_grow (Take card)) (takings_after-append s i [] events (Take card ∷ []))
+      by_taking (column_of s i events) (posts_of i (events ++ Take card ∷ [])) (takings_of s i (events ++ Take card ∷ [])) (card == i)
+      (taken_at s (posted events) i (takes_of i events)) (posts_grow (Take card)) (takings_after-append s i [] events (Take card ∷ []))

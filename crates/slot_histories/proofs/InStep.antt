@@ -8,7 +8,8 @@ use Rattle.slot_histories.specs.declared.events.Event.{Event}
 use Rattle.slot_histories.specs.declared.events.Event.TheVariants.{Post, Decide, Take}
 use Rattle.slot_histories.specs.Events.{Setup, posts_of, takes_of, decides, posted}
 use Rattle.slot_histories.specs.Legal.{MayPost, MayDecide, MayTake, Allows}
-use Rattle.slot_histories.proofs.Appending.{posted-append, posts_of-other, posts_of-decide, posts_of-take, takes_of-same, takes_of-other, takes_of-post, takes_of-decide, decides-post, decides-decide, decides-take, posted_more}
+use Rattle.slot_histories.proofs.Appending.{posted-append, posts_of-other, posts_of-decide, posts_of-take, takes_of-same, takes_of-other, takes_of-post}
+use Rattle.slot_histories.proofs.Appending.{takes_of-decide, decides-post, decides-decide, decides-take, posted_more}
 use Rattle.slot_histories.proofs.CardSums.{sum_by-range_same, sum_by-range_one, sum_by-range_le}
 
 -- how many posts and takes of the card stand in the list
@@ -34,10 +35,12 @@ AreInStep-none s =
       total = let none = sum_by-range_le 0 s.ports (acts_of []) 0 (λ i from below. omega arith) in omega arith;
     }
 
-pub AreInStep-post : (s : Setup) (events : List Event) (card : ℕ) (post : CardPost) → AreInStep s events → MayPost s events card post → AreInStep s (events ++ Post card post ∷ [])
+pub AreInStep-post : (s : Setup) (events : List Event) (card : ℕ) (post : CardPost) → AreInStep s events → MayPost s events card post
+    → AreInStep s (events ++ Post card post ∷ [])
 AreInStep-post s events card post step may =
     let same = posted_more events card post in
-    let other : (i : ℕ) → card ≢ i → length (posts_of i (events ++ Post card post ∷ [])) ≡ length (posts_of i events) = λ i ne. ap length (posts_of-other events card i post ne) in
+    let other : (i : ℕ) → card ≢ i → length (posts_of i (events ++ Post card post ∷ [])) ≡ length (posts_of i events) =
+    λ i ne. ap length (posts_of-other events card i post ne) in
     let slots = decides-post events card post in
     let takes : (i : ℕ) → takes_of i (events ++ Post card post ∷ []) ≡ takes_of i events = λ i. takes_of-post events card i post in
     record {
@@ -46,16 +49,19 @@ AreInStep-post s events card post step may =
         | inr ne ↦ omega (arith, other i ne, step.posts_within i below)
       ];
       decided_posted = λ i below. elim (cases_eq card i) [
-        | inl is ↦ subst (λ j. decides (events ++ Post card post ∷ []) ≤ length (posts_of j (events ++ Post card post ∷ []))) is (omega (arith, same, slots, step.decided_posted card may.card_in))
+        | inl is ↦ subst (λ j. decides (events ++ Post card post ∷ []) ≤ length (posts_of j (events ++ Post card post ∷ []))) is
+            (omega (arith, same, slots, step.decided_posted card may.card_in))
         | inr ne ↦ omega (arith, other i ne, slots, step.decided_posted i below)
       ];
       posted_next = λ i below. elim (cases_eq card i) [
-        | inl is ↦ subst (λ j. length (posts_of j (events ++ Post card post ∷ [])) ≤ decides (events ++ Post card post ∷ []) + 1) is (omega (arith, same, slots, may.taken, step.taken_decided card may.card_in))
+        | inl is ↦ subst (λ j. length (posts_of j (events ++ Post card post ∷ [])) ≤ decides (events ++ Post card post ∷ []) + 1) is
+            (omega (arith, same, slots, may.taken, step.taken_decided card may.card_in))
         | inr ne ↦ omega (arith, other i ne, slots, step.posted_next i below)
       ];
       taken_decided = λ i below. omega (arith, takes i, slots, step.taken_decided i below);
       total =
-          let sums = sum_by-range_one 0 s.ports (acts_of events) (acts_of (events ++ Post card post ∷ [])) card (omega arith) (omega (arith, may.card_in)) (omega (arith, same, takes card)) (λ i from below ne. omega (arith, other i ne, takes i)) in
+          let sums = sum_by-range_one 0 s.ports (acts_of events) (acts_of (events ++ Post card post ∷ [])) card (omega arith) (omega (arith, may.card_in))
+          (omega (arith, same, takes card)) (λ i from below ne. omega (arith, other i ne, takes i)) in
           omega (arith, sums, slots, step.total, length_push events (Post card post));
     }
 
@@ -88,7 +94,8 @@ AreInStep-take s events card step may =
         | inr ne ↦ omega (arith, slots, takes_of-other events card i ne, step.taken_decided i below)
       ];
       total =
-          let sums = sum_by-range_one 0 s.ports (acts_of events) (acts_of (events ++ Take card ∷ [])) card (omega arith) (omega (arith, may.card_in)) (omega (arith, same, lengths card)) (λ i from below ne. omega (arith, takes_of-other events card i ne, lengths i)) in
+          let sums = sum_by-range_one 0 s.ports (acts_of events) (acts_of (events ++ Take card ∷ [])) card (omega arith) (omega (arith, may.card_in))
+          (omega (arith, same, lengths card)) (λ i from below ne. omega (arith, takes_of-other events card i ne, lengths i)) in
           omega (arith, sums, slots, step.total, length_push events (Take card));
     }
 
@@ -100,9 +107,11 @@ AreInStep-more s events (Take card) step may = AreInStep-take s events card step
 -- how long such a list is at most
 pub length-in_step : (s : Setup) (events : List Event) → 0 < s.ports → AreInStep s events → length events ≤ (2 * s.ports + 1) * s.max_slots
 length-in_step s events some step =
-    let sums = sum_by-range_le 0 s.ports (acts_of events) (2 * s.max_slots) (λ i from below. omega (arith, step.posts_within i (omega arith), step.taken_decided i (omega arith), step.decided_posted i (omega arith))) in
+    let sums = sum_by-range_le 0 s.ports (acts_of events) (2 * s.max_slots)
+    (λ i from below. omega (arith, step.posts_within i (omega arith), step.taken_decided i (omega arith), step.decided_posted i (omega arith))) in
     omega (arith, sums, step.total, step.posts_within 0 some, step.decided_posted 0 some)
 
 -- a post of a decided slot stays with more events
-pub posted-stays : (s : Setup) (events more : List Event) → AreInStep s events → (i t : ℕ) → i < s.ports → t < decides events → posted events i t ≡ posted (events ++ more) i t
+pub posted-stays : (s : Setup) (events more : List Event) → AreInStep s events → (i t : ℕ) → i < s.ports → t < decides events
+    → posted events i t ≡ posted (events ++ more) i t
 posted-stays s events more step i t inside below = posted-append events more i t (omega (arith, step.decided_posted i inside))

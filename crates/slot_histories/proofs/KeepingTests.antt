@@ -1,5 +1,6 @@
 -- What the test of keeping tells: the new row keeps the old one, where both name none but the n ports.
-use Rattle.std.proofs.Common.{◌≡◌, ◌↔◌, ℕ, zero, suc, ◌+◌, ◌<◌, ◌≤◌, ◌⊎◌, ◌==◌, ◌&&◌, ◌||◌, not, Bool, slice_index, Option, None, Some, refl, sym, subst, arith, inl, inr}
+use Rattle.std.proofs.Common.{◌≡◌, ◌↔◌, ℕ, zero, suc, ◌+◌, ◌<◌, ◌≤◌, ◌⊎◌, ◌==◌, ◌&&◌, ◌||◌, not, Bool, slice_index, Option, None, Some, refl, sym}
+use Rattle.std.proofs.Common.{subst, arith, inl, inr}
 use Rattle.std.specs.Bool.{Decides}
 use Rattle.std.specs.List.{list_all, range_with_len}
 use Rattle.std.proofs.lemmas.Bool.{cases_eq, and_parts, and_from}
@@ -21,14 +22,16 @@ use Rattle.slot_histories.specs.Tests.{has, gives, rest_of, is_subset, keeps_lev
 use Rattle.slot_histories.proofs.SetTests.{Decides-has, Decides-is_subset, Decides-no_members}
 
 -- a test of each number from a on tells of each
-pub Decides-each : (test : ℕ → Bool) (P : ℕ → Type 0) → ((i : ℕ) → Decides (test i) (P i)) → (a n : ℕ) → Decides (list_all test (range_with_len a n)) ((i : ℕ) → a ≤ i → i < a + n → P i)
+pub Decides-each : (test : ℕ → Bool) (P : ℕ → Type 0) → ((i : ℕ) → Decides (test i) (P i)) → (a n : ℕ)
+    → Decides (list_all test (range_with_len a n)) ((i : ℕ) → a ≤ i → i < a + n → P i)
 Decides-each test P tells a zero = (λ e i from below. absurd (omega arith), λ all. refl)
 Decides-each test P tells a (suc n) =
     let rest = Decides-each test P tells (a + 1) n in (
       λ e i from below.
           let parts = and_parts (test a) (list_all test (range_with_len (a + 1) n)) e in
           elim (cases_eq i a) [ inl is ↦ subst P (sym is) ((tells a).0 parts.0) | inr other ↦ rest.0 parts.1 i (omega arith) (omega arith) ],
-      λ all. and_from (test a) (list_all test (range_with_len (a + 1) n)) ((tells a).1 (all a (omega arith) (omega arith))) (rest.1 (λ i from below. all i (omega arith) (omega arith))),
+      λ all. and_from (test a) (list_all test (range_with_len (a + 1) n)) ((tells a).1 (all a (omega arith) (omega arith)))
+          (rest.1 (λ i from below. all i (omega arith) (omega arith))),
     )
 
 pub Decides-gives : (served : Option Served) (j level : ℕ) (kind : Kind) → Decides (gives served j level kind) (Gives served j level kind)
@@ -42,7 +45,8 @@ Decides-gives (Some served) j level kind =
 
 -- what is left of a head of the level, if anything is, is the new head
 abbrev IsHeadKept : Option Served → Row → Row → ℕ → Type 0
-IsHeadKept served old new level = (j : ℕ) → Names old level Multi j → (Gives served j level Multi → ⊥) → (y : ℕ) → Names new level Multi y ↔ (Names old level Multi y × (Gives served y level Multi → ⊥))
+IsHeadKept served old new level = (j : ℕ) → Names old level Multi j → (Gives served j level Multi → ⊥) → (y : ℕ) → Names new level Multi y
+    ↔ (Names old level Multi y × (Gives served y level Multi → ⊥))
 
 module _ (n : ℕ) (served : Option Served) (old : Row) (within : IsWithin n old) where
   -- the rest has the outputs that the old row names and the part does not serve
@@ -50,19 +54,23 @@ module _ (n : ℕ) (served : Option Served) (old : Row) (within : IsWithin n old
   unfolding rest_of
   Has-rest_of level kind j =
       let of = Has-set_of n (λ k. is_named old level kind k && not (gives served k level kind)) j in
-      let tells : Decides (is_named old level kind j && not (gives served j level kind)) (Names old level kind j × (Gives served j level kind → ⊥)) = Decides-and (is_named old level kind j) (not (gives served j level kind)) (Decides-named old level kind j) (Decides-not (gives served j level kind) (Decides-gives served j level kind)) in
+      let tells : Decides (is_named old level kind j && not (gives served j level kind)) (Names old level kind j × (Gives served j level kind → ⊥)) =
+      Decides-and (is_named old level kind j) (not (gives served j level kind)) (Decides-named old level kind j)
+      (Decides-not (gives served j level kind) (Decides-gives served j level kind)) in
       (λ member. tells.0 (of.0 member).1, λ p. of.1 (within level j kind p.0, tells.1 p))
 
   rest_within : (level : ℕ) (kind : Kind) (j : ℕ) → Has (rest_of n served old level kind) j → j < n
   rest_within level kind j member = within level j kind ((Has-rest_of level kind j).0 member).0
 
-  head_from : (new : Row) (level : ℕ) → ((j : ℕ) → Has (rest_of n served old level Multi) j → ⊥) ⊎ (slice_index new.multi level ≡ rest_of n served old level Multi) → IsHeadKept served old new level
+  head_from : (new : Row) (level : ℕ) → ((j : ℕ) → Has (rest_of n served old level Multi) j → ⊥)
+      ⊎ (slice_index new.multi level ≡ rest_of n served old level Multi) → IsHeadKept served old new level
   head_from new level (inl none) j named unserved y = absurd (none j ((Has-rest_of level Multi j).1 (named, unserved)))
   head_from new level (inr same) j named unserved y =
       let rest = Has-rest_of level Multi y in
       (λ stands. rest.0 (subst (λ ports. Has ports y) same stands), λ p. subst (λ ports. Has ports y) (sym same) (rest.1 p))
 
-  head_or_none : (new : Row) (level : ℕ) → IsHeadKept served old new level → ((j : ℕ) → Has (rest_of n served old level Multi) j → ⊥) ⊎ (slice_index new.multi level ≡ rest_of n served old level Multi)
+  head_or_none : (new : Row) (level : ℕ) → IsHeadKept served old new level → ((j : ℕ) → Has (rest_of n served old level Multi) j → ⊥)
+      ⊎ (slice_index new.multi level ≡ rest_of n served old level Multi)
   head_or_none new level head =
       let rest = rest_of n served old level Multi in
       elim (least (Has rest) (Has-or rest) n) [

@@ -1,5 +1,6 @@
 -- What the test of a post tells.
-use Rattle.std.proofs.Common.{◌≡◌, ◌∙◌, ℕ, ◌-◌, ◌≤◌, ◌==◌, ◌&&◌, ◌||◌, nat_lt, nat_le, Bool, true, false, List, [], ◌∷◌, drop, replicate, length, Option, None, Some, refl, sym, ap, arith}
+use Rattle.std.proofs.Common.{◌≡◌, ◌∙◌, ℕ, ◌-◌, ◌≤◌, ◌==◌, ◌&&◌, ◌||◌, nat_lt, nat_le, Bool, true, false, List, [], ◌∷◌, drop, replicate, length}
+use Rattle.std.proofs.Common.{Option, None, Some, refl, sym, ap, arith}
 use Rattle.std.specs.Bool.{Decides}
 use Rattle.std.specs.List.{list_all}
 use Rattle.std.proofs.lemmas.Bool.{and_parts, and_from, leb-true, le-leb, eqb-true, eq-eqb}
@@ -55,17 +56,27 @@ Decides-is_cell_form cell =
     let blank = list_all (λ byte. byte == 0) unused in
     let count : length cell.payload ≡ PAYLOAD_BYTES → length unused ≡ PAYLOAD_BYTES - cell.used = λ long. omega (arith, length-drop cell.used cell.payload) in
     Decides-like (input && level && used && number && room && blank)
-    (λ p. record { input = p.0.0.0.0.0; level = p.0.0.0.0.1; used = p.0.0.0.1; number = p.0.0.1; room = p.0.1; rest = p.1 ∙ ap (λ m. replicate m 0) (count p.0.1) })
+    (λ p. record {
+      input = p.0.0.0.0.0;
+      level = p.0.0.0.0.1;
+      used = p.0.0.0.1;
+      number = p.0.0.1;
+      room = p.0.1;
+      rest = p.1
+          ∙ ap (λ m. replicate m 0) (count p.0.1);
+    })
     (λ form. (((((form.input, form.level), form.used), form.number), form.room), form.rest ∙ sym (ap (λ m. replicate m 0) (count form.room))))
     (Decides-and (input && level && used && number && room) blank
     (Decides-and (input && level && used && number) room
     (Decides-and (input && level && used) number
-    (Decides-and (input && level) used (Decides-and input level (Decides-ltb cell.input MAX_PORTS) (Decides-ltb cell.level LEVELS)) (Decides-is_used cell.last cell.used))
+    (Decides-and (input && level) used (Decides-and input level (Decides-ltb cell.input MAX_PORTS) (Decides-ltb cell.level LEVELS))
+    (Decides-is_used cell.last cell.used))
     (Decides-leb cell.number MAX_NUMBER))
     (Decides-eqb (length cell.payload) PAYLOAD_BYTES))
     (Decides-zeros unused))
 
-pub Decides-is_granted_cell : (card : ℕ) (served : Option Served) (cell : Option Cell) → Decides (is_granted_cell card served cell) (IsGrantedCell card served cell)
+pub Decides-is_granted_cell : (card : ℕ) (served : Option Served) (cell : Option Cell)
+    → Decides (is_granted_cell card served cell) (IsGrantedCell card served cell)
 unfolding is_granted_cell
 Decides-is_granted_cell card None None = (λ e. tt, λ e. refl)
 Decides-is_granted_cell card None (Some cell) = (λ e. absurd (cc), λ no_cell. absurd no_cell)
@@ -76,10 +87,13 @@ Decides-is_granted_cell card (Some served) (Some cell) =
     let level = cell.level == served.level in
     let kind = is_kind cell.kind served.kind in
     Decides-like (form && input && level && kind) (λ p. (p.0.0.0, p.0.0.1, p.0.1, p.1)) (λ g. (((g.0, g.1), g.2), g.3))
-    (Decides-and (form && input && level) kind (Decides-and (form && input) level (Decides-and form input (Decides-is_cell_form cell) (Decides-eqb cell.input card)) (Decides-eqb cell.level served.level)) (Decides-kind cell.kind served.kind))
+    (Decides-and (form && input && level) kind
+    (Decides-and (form && input) level (Decides-and form input (Decides-is_cell_form cell) (Decides-eqb cell.input card))
+    (Decides-eqb cell.level served.level)) (Decides-kind cell.kind served.kind))
 
 -- the test of a post tells whether it is accepted, after a row that names none but the n ports at the four levels
-pub Decides-is_accepted : (n card : ℕ) (last : Row) (served : Option Served) (post : CardPost) → IsWithin n last → IsOfLevels last → Decides (is_accepted n card last served post) (IsAccepted n card last served post)
+pub Decides-is_accepted : (n card : ℕ) (last : Row) (served : Option Served) (post : CardPost) → IsWithin n last → IsOfLevels last
+    → Decides (is_accepted n card last served post) (IsAccepted n card last served post)
 unfolding is_accepted
 Decides-is_accepted n card last served post within levels =
     let in_ports = is_within n post.row in
@@ -92,6 +106,7 @@ Decides-is_accepted n card last served post within levels =
     (λ a. ((((a.within, a.levels), a.keeps), a.cell), a.more))
     (Decides-and (in_ports && in_levels && keeps && granted) more
     (Decides-and (in_ports && in_levels && keeps) granted
-    (Decides-and (in_ports && in_levels) keeps (Decides-and in_ports in_levels (Decides-is_within n post.row) (Decides-is_of_levels post.row)) (Decides-keeps_rest n served last within levels post.row))
+    (Decides-and (in_ports && in_levels) keeps (Decides-and in_ports in_levels (Decides-is_within n post.row) (Decides-is_of_levels post.row))
+    (Decides-keeps_rest n served last within levels post.row))
     (Decides-is_granted_cell card served post.cell))
     (Decides-or (is_empty post.row) post.more (Decides-is_empty post.row) (Decides-bool post.more)))

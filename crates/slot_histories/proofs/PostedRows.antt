@@ -25,7 +25,8 @@ row_of-slot_rows n posts t i inside =
     ∙ ap row (get_or-map-range_with_len (λ j. posts j t) 0 n i i no_post inside (omega arith))
 
 -- the rows of a slot that all cards have posted are within the ports
-pub posted_rows-within : (s : Setup) (events : List Event) (t : ℕ) → IsLegal s events → ((i : ℕ) → i < s.ports → t < length (posts_of i events)) → AreWithin s.ports (slot_rows s.ports (posted events) t)
+pub posted_rows-within : (s : Setup) (events : List Event) (t : ℕ) → IsLegal s events → ((i : ℕ) → i < s.ports → t < length (posts_of i events))
+    → AreWithin s.ports (slot_rows s.ports (posted events) t)
 posted_rows-within s events t legal all =
     let stand = AreAccepted-legal s events legal in
     let posts = posted events in
@@ -36,4 +37,5 @@ posted_rows-within s events t legal all =
     }
 
 pub rows_within : (s : Setup) (events : List Event) (t : ℕ) → IsLegal s events → t < decides events → AreWithin s.ports (slot_rows s.ports (posted events) t)
-rows_within s events t legal below = let step = AreInStep-legal s events legal in posted_rows-within s events t legal (λ i inside. omega (arith, step.decided_posted i inside))
+rows_within s events t legal below = let step = AreInStep-legal s events legal in
+    posted_rows-within s events t legal (λ i inside. omega (arith, step.decided_posted i inside))

@@ -28,28 +28,33 @@ not_both : {A : Type 0} (kind again : Kind) → kind ≡ Uni → kind ≡ Multi 
 not_both kind again uni multi = cc
 
 -- a granted cell, against the part for which it was granted
-granted : (card : ℕ) (part : Served) (cell : Option Cell) (found : Cell) (fed : Fed) → cell ≡ Some found → IsGrantedCell card (Some part) cell → card ≡ fed.input → fed.level ≡ part.level → fed.kind ≡ part.kind → IsCellOf fed found
+granted : (card : ℕ) (part : Served) (cell : Option Cell) (found : Cell) (fed : Fed) → cell ≡ Some found → IsGrantedCell card (Some part) cell
+    → card ≡ fed.input → fed.level ≡ part.level → fed.kind ≡ part.kind → IsCellOf fed found
 granted card part cell found fed is grant own level kind =
     let that = subst (IsGrantedCell card (Some part)) is grant in
     record { form = that.0; input = that.1 ∙ own; level = that.2 ∙ sym level; kind = that.3 ∙ sym kind }
 
 module _ (s : Setup) (events : List Event) (some : 0 < s.ports) (size : s.ports ≤ MAX_PORTS) (legal : IsLegal s events) where
-  named_pair : (t : ℕ) → t < decides events → (i j level : ℕ) (kind : Kind) → i < s.ports → Serves (decision_at s (posted events) t).matched i j level kind → Names (posted events i t).row level kind j
+  named_pair : (t : ℕ) → t < decides events → (i j level : ℕ) (kind : Kind) → i < s.ports → Serves (decision_at s (posted events) t).matched i j level kind
+      → Names (posted events i t).row level kind j
   named_pair t below i j level kind inside serves =
       subst (λ row. Names row level kind j) (row_of-slot_rows s.ports (posted events) t i inside)
-      (Serves-named s.ports s.rounds t (slot_rows s.ports (posted events) t) (places_at s (posted events) t) (decision_at s (posted events) t) (decision_at-slot s events some size legal t below) i j level kind serves)
+      (Serves-named s.ports s.rounds t (slot_rows s.ports (posted events) t) (places_at s (posted events) t) (decision_at s (posted events) t)
+      (decision_at-slot s events some size legal t below) i j level kind serves)
 
-  pub served-part : (i t : ℕ) (served : Served) → t < decides events → i < s.ports → served_at s (posted events) i t ≡ Some served → IsPartOf (posted events i t).row served
+  pub served-part : (i t : ℕ) (served : Served) → t < decides events → i < s.ports → served_at s (posted events) i t ≡ Some served
+      → IsPartOf (posted events i t).row served
   served-part i t served below inside is =
       let matches = (decision_at-legal s events some size legal t below).matches in
       let part = served_of-is s.ports (decision_at s (posted events) t).matched matches i served is in
       record {
         some = part.some;
         named = λ j has. named_pair t below i j served.level served.kind inside ((part.outputs j).0 has);
-        one = λ uni j k has again. elim (matches.once i j served.level served.kind k served.level served.kind ((part.outputs j).0 has) ((part.outputs k).0 again)) [
-          | inl same ↦ same
-          | inr twice ↦ not_both served.kind served.kind uni twice.1
-        ];
+        one = λ uni j k has again. elim
+            (matches.once i j served.level served.kind k served.level served.kind ((part.outputs j).0 has) ((part.outputs k).0 again)) [
+              | inl same ↦ same
+              | inr twice ↦ not_both served.kind served.kind uni twice.1
+            ];
         level = let first = part.some in matches.level_in i first.0 served.level served.kind ((part.outputs first.0).0 first.1);
       }
 
@@ -61,7 +66,8 @@ module _ (s : Setup) (events : List Event) (some : 0 < s.ports) (size : s.ports 
       ∙ ap cell (get_or-map-range_with_len (λ j. posted events j t) 0 s.ports i i no_post inside (omega arith))
 
   module _ (j t : ℕ) (cell : Cell) (below : suc t < decides events) where
-    from_input : (fed : Fed) → fed_of (decision_at s (posted events) t).matched j ≡ Some fed → deposit_by (map (λ post. post.cell) (slot_posts s.ports (posted events) (suc t))) (Some fed) ≡ Some cell → IsCellOf fed cell
+    from_input : (fed : Fed) → fed_of (decision_at s (posted events) t).matched j ≡ Some fed
+        → deposit_by (map (λ post. post.cell) (slot_posts s.ports (posted events) (suc t))) (Some fed) ≡ Some cell → IsCellOf fed cell
     from_input fed feeds is =
         let step = AreInStep-legal s events legal in
         let stand = AreAccepted-legal s events legal in
@@ -74,9 +80,12 @@ module _ (s : Setup) (events : List Event) (some : 0 < s.ports) (size : s.ports 
         granted fed.input part.0 post cell fed (sym (posted_cell (suc t) fed.input inside) ∙ is)
         (subst (λ served. IsGrantedCell fed.input served post) part.1 accepted) refl only.0 only.1
 
-    by_feed : (o : Option Fed) → fed_of (decision_at s (posted events) t).matched j ≡ o → deposit_by (map (λ post. post.cell) (slot_posts s.ports (posted events) (suc t))) o ≡ Some cell → (fed : Fed) × (fed_of (decision_at s (posted events) t).matched j ≡ Some fed) × IsCellOf fed cell
+    by_feed : (o : Option Fed) → fed_of (decision_at s (posted events) t).matched j ≡ o
+        → deposit_by (map (λ post. post.cell) (slot_posts s.ports (posted events) (suc t))) o ≡ Some cell → (fed : Fed)
+        × (fed_of (decision_at s (posted events) t).matched j ≡ Some fed) × IsCellOf fed cell
     by_feed None feeds is = absurd (cc)
     by_feed (Some fed) feeds is = (fed, feeds, from_input fed feeds is)
 
-    pub crossed-cell : crossed s (posted events) j (suc t) ≡ Some cell → (fed : Fed) × (fed_of (decision_at s (posted events) t).matched j ≡ Some fed) × IsCellOf fed cell
+    pub crossed-cell : crossed s (posted events) j (suc t) ≡ Some cell → (fed : Fed) × (fed_of (decision_at s (posted events) t).matched j ≡ Some fed)
+        × IsCellOf fed cell
     crossed-cell is = by_feed (fed_of (decision_at s (posted events) t).matched j) refl is

@@ -1,5 +1,6 @@
 -- What the tests of sets and rows tell.
-use Rattle.std.proofs.Common.{◌≡◌, ◌∙◌, ℕ, zero, suc, ◌+◌, ◌-◌, ◌^◌, ◌<◌, ◌==◌, ◌&&◌, not, nat_lt, Bool, true, List, [], ◌∷◌, drop, slice_index, refl, sym, ap, subst, arith, inl, inr}
+use Rattle.std.proofs.Common.{◌≡◌, ◌∙◌, ℕ, zero, suc, ◌+◌, ◌-◌, ◌^◌, ◌<◌, ◌==◌, ◌&&◌, not, nat_lt, Bool, true, List, [], ◌∷◌, drop, slice_index, refl}
+use Rattle.std.proofs.Common.{sym, ap, subst, arith, inl, inr}
 use Rattle.std.specs.Bool.{Decides}
 use Rattle.std.specs.Int.{bit_at}
 use Rattle.std.specs.List.{list_all}
@@ -22,17 +23,20 @@ Decides-has ports j = Decides-eqb (bit_at ports j) 1
 
 -- a number is below 2 ^ n where, as a set, it has none but the n ports
 pub Decides-below : (n ports : ℕ) → Decides (nat_lt ports (2 ^ n)) ((j : ℕ) → Has ports j → j < n)
-Decides-below n ports = Decides-like (nat_lt ports (2 ^ n)) (λ among j member. Has-lt n ports j among member) (IsAmong-from_members n ports) (Decides-ltb ports (2 ^ n))
+Decides-below n ports = Decides-like (nat_lt ports (2 ^ n)) (λ among j member. Has-lt n ports j among member) (IsAmong-from_members n ports)
+    (Decides-ltb ports (2 ^ n))
 
 pub Decides-no_members : (ports : ℕ) → Decides (ports == 0) ((j : ℕ) → Has ports j → ⊥)
 Decides-no_members ports = Decides-like (ports == 0) (λ e j member. zero-has ports j e member) (zero-no_members ports) (Decides-eqb ports 0)
 
 -- a test of each set of a list is one of the sets of all levels, where the empty set passes
-each_from : (test : ℕ → Bool) (P : ℕ → Type 0) → ((ports : ℕ) → Decides (test ports) (P ports)) → (ports : ℕ) (sets : List ℕ) → ((level : ℕ) → P (slice_index sets level)) → test ports ≡ true → (level : ℕ) → P (slice_index (ports ∷ sets) level)
+each_from : (test : ℕ → Bool) (P : ℕ → Type 0) → ((ports : ℕ) → Decides (test ports) (P ports)) → (ports : ℕ) (sets : List ℕ)
+    → ((level : ℕ) → P (slice_index sets level)) → test ports ≡ true → (level : ℕ) → P (slice_index (ports ∷ sets) level)
 each_from test P tells ports sets rest first zero = (tells ports).0 first
 each_from test P tells ports sets rest first (suc level) = rest level
 
-Decides-each_set : (test : ℕ → Bool) (P : ℕ → Type 0) → ((ports : ℕ) → Decides (test ports) (P ports)) → P 0 → (sets : List ℕ) → Decides (list_all test sets) ((level : ℕ) → P (slice_index sets level))
+Decides-each_set : (test : ℕ → Bool) (P : ℕ → Type 0) → ((ports : ℕ) → Decides (test ports) (P ports)) → P 0 → (sets : List ℕ)
+    → Decides (list_all test sets) ((level : ℕ) → P (slice_index sets level))
 Decides-each_set test P tells none [] = (λ e level. none, λ all. refl)
 Decides-each_set test P tells none (ports ∷ sets) =
     let rest = Decides-each_set test P tells none sets in (
@@ -40,11 +44,13 @@ Decides-each_set test P tells none (ports ∷ sets) =
       λ all. and_from (test ports) (list_all test sets) ((tells ports).1 (all 0)) (rest.1 (λ level. all (suc level))),
     )
 
-by_kind : (row : Row) (P : ℕ → Type 0) → ((level : ℕ) → P (slice_index row.uni level)) → ((level : ℕ) → P (slice_index row.multi level)) → (level : ℕ) (kind : Kind) → P (slice_index (sets_of row kind) level)
+by_kind : (row : Row) (P : ℕ → Type 0) → ((level : ℕ) → P (slice_index row.uni level)) → ((level : ℕ) → P (slice_index row.multi level))
+    → (level : ℕ) (kind : Kind) → P (slice_index (sets_of row kind) level)
 by_kind row P unis multis level Uni = unis level
 by_kind row P unis multis level Multi = multis level
 
-Decides-all_sets : (test : ℕ → Bool) (P : ℕ → Type 0) → ((ports : ℕ) → Decides (test ports) (P ports)) → P 0 → (row : Row) → Decides (all_sets test row) ((level : ℕ) (kind : Kind) → P (slice_index (sets_of row kind) level))
+Decides-all_sets : (test : ℕ → Bool) (P : ℕ → Type 0) → ((ports : ℕ) → Decides (test ports) (P ports)) → P 0 → (row : Row)
+    → Decides (all_sets test row) ((level : ℕ) (kind : Kind) → P (slice_index (sets_of row kind) level))
 Decides-all_sets test P tells none row =
     Decides-like (all_sets test row) (λ both. by_kind row P both.0 both.1) (λ all. (λ level. all level Uni, λ level. all level Multi))
     (Decides-and (list_all test row.uni) (list_all test row.multi) (Decides-each_set test P tells none row.uni) (Decides-each_set test P tells none row.multi))
@@ -67,7 +73,8 @@ Decides-is_empty row =
 abbrev without_first : ℕ → Row → Row
 without_first k row = record { uni = drop k row.uni; multi = drop k row.multi }
 
-sets_of-without : (k : ℕ) (row : Row) (level : ℕ) (kind : Kind) → slice_index (sets_of (without_first k row) kind) level ≡ slice_index (sets_of row kind) (k + level)
+sets_of-without : (k : ℕ) (row : Row) (level : ℕ) (kind : Kind)
+    → slice_index (sets_of (without_first k row) kind) level ≡ slice_index (sets_of row kind) (k + level)
 sets_of-without k row level Uni = get_or-drop k row.uni level 0
 sets_of-without k row level Multi = get_or-drop k row.multi level 0
 
@@ -95,12 +102,14 @@ Decides-is_of_levels row =
 -- a set of those that pass is empty where none passes
 pub set_of-none : (n : ℕ) (test : ℕ → Bool) → Decides (set_of n test == 0) ((j : ℕ) → j < n → test j ≡ true → ⊥)
 set_of-none n test =
-    Decides-like (set_of n test == 0) (λ none j inside passes. none j ((Has-set_of n test j).1 (inside, passes))) (λ none j member. let m = (Has-set_of n test j).0 member in none j m.0 m.1) (Decides-no_members (set_of n test))
+    Decides-like (set_of n test == 0) (λ none j inside passes. none j ((Has-set_of n test j).1 (inside, passes)))
+    (λ none j member. let m = (Has-set_of n test j).0 member in none j m.0 m.1) (Decides-no_members (set_of n test))
 
 pub Decides-is_subset : (n inner outer : ℕ) → ((j : ℕ) → Has inner j → j < n) → Decides (is_subset n inner outer) ((j : ℕ) → Has inner j → Has outer j)
 unfolding is_subset
 Decides-is_subset n inner outer within =
-    let tells : (j : ℕ) → Decides (has inner j && not (has outer j)) (Has inner j × (Has outer j → ⊥)) = λ j. Decides-and (has inner j) (not (has outer j)) (Decides-has inner j) (Decides-not (has outer j) (Decides-has outer j)) in
+    let tells : (j : ℕ) → Decides (has inner j && not (has outer j)) (Has inner j × (Has outer j → ⊥)) =
+    λ j. Decides-and (has inner j) (not (has outer j)) (Decides-has inner j) (Decides-not (has outer j) (Decides-has outer j)) in
     Decides-like (is_subset n inner outer)
     (λ none j member. elim (Has-or outer j) [ inl stands ↦ stands | inr not_there ↦ absurd (none j (within j member) ((tells j).1 (member, not_there))) ])
     (λ all j inside lost. let parts = (tells j).0 lost in parts.1 (all j parts.0))

@@ -24,7 +24,8 @@ takings_after s i events [] = []
 takings_after s i events (Post card post ∷ more) = takings_after s i (events ++ Post card post ∷ []) more
 takings_after s i events (Decide ∷ more) = takings_after s i (events ++ Decide ∷ []) more
 takings_after s i events (Take card ∷ more) =
-    if card == i then taken_at s (posted events) i (takes_of i events) ∷ takings_after s i (events ++ Take card ∷ []) more else takings_after s i (events ++ Take card ∷ []) more
+    if card == i then taken_at s (posted events) i (takes_of i events) ∷ takings_after s i (events ++ Take card ∷ []) more else takings_after s i
+    (events ++ Take card ∷ []) more
 
 -- what card i takes in all of the events, in order
 abbrev pub takings_of : Setup → ℕ → List Event → List Taken

@@ -36,7 +36,8 @@ pub record MayPost (s : Setup) (events : List Event) (card : ℕ) (post : CardPo
   pub taken : takes_of card events ≡ length (posts_of card events)
   pub room : length (posts_of card events) < s.max_slots
   pub not_done : is_done_before s.ports (posted events) (takes_of card events) ≡ false
-  pub accepted : IsAccepted s.ports card (row_before (posted events) card (takes_of card events)) (served_before s (posted events) card (takes_of card events)) post
+  pub accepted : IsAccepted s.ports card (row_before (posted events) card (takes_of card events))
+      (served_before s (posted events) card (takes_of card events)) post
 
 -- After these events the next slot may be decided: all cards have posted for it.
 abbrev pub MayDecide : Setup → List Event → Type 0

@@ -91,4 +91,5 @@ is_allowed s events (Post card post) =
     && not (is_done_before s.ports (posted events) (takes_of card events))
     && is_accepted s.ports card (row_before (posted events) card (takes_of card events)) (served_before s (posted events) card (takes_of card events)) post
 is_allowed s events Decide = list_all (λ i. length (posts_of i events) == decides events + 1) (range_with_len 0 s.ports)
-is_allowed s events (Take card) = nat_lt card s.ports && nat_lt (takes_of card events) (length (posts_of card events)) && nat_lt (takes_of card events) (decides events)
+is_allowed s events (Take card) = nat_lt card s.ports && nat_lt (takes_of card events) (length (posts_of card events))
+    && nat_lt (takes_of card events) (decides events)

@@ -40,7 +40,8 @@ pub fn rows_are_within()
 pub fn rows_are_kept()
     ensures decided { (s : Setup) (events : List Event) (i t : ℕ) → 0 < s.ports → s.ports ≤ MAX_PORTS → IsLegal s events → t + 1 < decides events → i < s.ports
         → Keeps (decision_at s (posted events) t).matched i (posted events i t).row (posted events i (t + 1)).row }
-    ensures posted { (s : Setup) (events : List Event) (i t : ℕ) → 0 < s.ports → s.ports ≤ MAX_PORTS → IsLegal s events → t + 1 < length (posts_of i events) → i < s.ports
+    ensures posted { (s : Setup) (events : List Event) (i t : ℕ) → 0 < s.ports → s.ports ≤ MAX_PORTS → IsLegal s events → t + 1 < length (posts_of i events)
+        → i < s.ports
         → Keeps (decision_at s (posted events) t).matched i (posted events i t).row (posted events i (t + 1)).row }
 {}
 
@@ -64,7 +65,8 @@ pub fn columns_tell_all()
 /// What a slot serves a card is asked for in the row that the card posted for it: the part has an output,
 /// lies in the row's set of its level and kind, and has one output for unicast.
 pub fn parts_are_requested()
-    ensures { (s : Setup) (events : List Event) (i t : ℕ) (served : Served) → 0 < s.ports → s.ports ≤ MAX_PORTS → IsLegal s events → t < decides events → i < s.ports
+    ensures { (s : Setup) (events : List Event) (i t : ℕ) (served : Served) → 0 < s.ports → s.ports ≤ MAX_PORTS → IsLegal s events → t < decides events
+        → i < s.ports
         → served_at s (posted events) i t ≡ Some served → IsPartOf (posted events i t).row served }
 {}
 

@@ -18,7 +18,8 @@ pub record IsAdded (old new : List (Option Fed)) (input outputs level : ℕ) (ki
   pub fed : (j : ℕ) → Has outputs j → Serves new input j level kind
   pub stays : (j : ℕ) → (Has outputs j → ⊥) → fed_of new j ≡ fed_of old j
 
-module _ (n : ℕ) (old new : List (Option Fed)) (input outputs level : ℕ) (kind : Kind) (whole : IsMatch n old) (may : MayAdd n old input outputs level kind) (input_in : input < n) (level_in : level < LEVELS) (added : IsAdded old new input outputs level kind) where
+module _ (n : ℕ) (old new : List (Option Fed)) (input outputs level : ℕ) (kind : Kind) (whole : IsMatch n old) (may : MayAdd n old input outputs level kind)
+    (input_in : input < n) (level_in : level < LEVELS) (added : IsAdded old new input outputs level kind) where
   Mine : ℕ → ℕ → ℕ → Kind → Type 0
   Mine i j l k = (i ≡ input) × Has outputs j × (l ≡ level) × (k ≡ kind)
 
@@ -29,7 +30,8 @@ module _ (n : ℕ) (old new : List (Option Fed)) (input outputs level : ℕ) (ki
       λ s. let once = Serves-once new j i input l level k kind s (added.fed j has) in inr (once.0, has, once.1, once.2),
       λ s. elim s [
         | inl before ↦ absurd (none-some (record { input = i; level = l; kind = k }) (sym (may.free j has).1 ∙ before))
-        | inr p ↦ let P : ℕ → Type 0 = λ x. Serves new x j l k in subst P (sym p.0) (Serves-along new input j level l kind k (sym p.2) (sym p.3) (added.fed j has))
+        | inr p ↦ let P : ℕ → Type 0 = λ x. Serves new x j l k in
+            subst P (sym p.0) (Serves-along new input j level l kind k (sym p.2) (sym p.3) (added.fed j has))
       ],
     )
     | inr lacks ↦ (λ s. inl (sym (added.stays j lacks) ∙ s), λ s. elim s [ inl before ↦ added.stays j lacks ∙ before | inr p ↦ absurd (lacks p.1) ])
@@ -65,8 +67,10 @@ module _ (n : ℕ) (old new : List (Option Fed)) (input outputs level : ℕ) (ki
   IsMatch-added =
       record {
         count = added.count ∙ whole.count;
-        input_in = λ i j l k s. elim ((Serves-added i j l k).0 s) [ inl before ↦ whole.input_in i j l k before | inr p ↦ subst (λ x. x < n) (sym p.0) input_in ];
-        level_in = λ i j l k s. elim ((Serves-added i j l k).0 s) [ inl before ↦ whole.level_in i j l k before | inr p ↦ subst (λ x. x < LEVELS) (sym p.2) level_in ];
+        input_in = λ i j l k s. elim
+            ((Serves-added i j l k).0 s) [ inl before ↦ whole.input_in i j l k before | inr p ↦ subst (λ x. x < n) (sym p.0) input_in ];
+        level_in = λ i j l k s. elim
+            ((Serves-added i j l k).0 s) [ inl before ↦ whole.level_in i j l k before | inr p ↦ subst (λ x. x < LEVELS) (sym p.2) level_in ];
         once = λ i j l k y m q s r. elim (cases_eq i input) [
           | inl same ↦
               let P : ℕ → Type 0 = λ x. Serves new x j l k in
@@ -89,7 +93,10 @@ module _ (n : ℕ) (old new : List (Option Fed)) (input outputs level : ℕ) (ki
   -- the free inputs
   pub IsFreeInput-added : (i : ℕ) → IsFreeInput new i ↔ ((i ≢ input) × IsFreeInput old i)
   IsFreeInput-added i = (
-    λ free. (λ same. let P : ℕ → Type 0 = IsFreeInput new in subst P same free may.some.0 level kind (added.fed may.some.0 may.some.1), λ j l k s. free j l k (kept i j l k s)),
+    λ free. (
+      λ same. let P : ℕ → Type 0 = IsFreeInput new in subst P same free may.some.0 level kind (added.fed may.some.0 may.some.1),
+      λ j l k s. free j l k (kept i j l k s),
+    ),
     λ p j l k s. elim ((Serves-added i j l k).0 s) [ inl before ↦ p.1 j l k before | inr q ↦ p.0 q.0 ],
   )
 
@@ -116,7 +123,8 @@ module _ (n : ℕ) (old new : List (Option Fed)) (input outputs level : ℕ) (ki
           let mine = (subst P same on).only may.some.0 level kind (added.fed may.some.0 may.some.1) in
           inl (same, sym mine.0, mine.1)
       | inr other ↦
-          let back = λ (j m : ℕ) (k : Kind) (s : Serves new i j m k). elim ((Serves-added i j m k).0 s) as (λ _. Serves old i j m k) [ inl before ↦ before | inr p ↦ absurd (other p.0) ] in
+          let back = λ (j m : ℕ) (k : Kind) (s : Serves new i j m k). elim ((Serves-added i j m k).0 s) as
+          (λ _. Serves old i j m k) [ inl before ↦ before | inr p ↦ absurd (other p.0) ] in
           inr (record { some = (on.some.0, back on.some.0 l Multi on.some.1); only = λ j m k s. on.only j m k (kept i j m k s) })
     ],
     λ s. elim s [
@@ -137,7 +145,11 @@ module _ (n : ℕ) (old new : List (Option Fed)) (input outputs level : ℕ) (ki
   )
 
   -- what is kept beside the match follows it
-  pub AreSets-added : (count more : ℕ) (free_inputs later_inputs free_outputs later_outputs : ℕ) (on later_on : List ℕ) → AreSets n old count free_inputs free_outputs on → count_by is_some new ≡ count_by is_some old + more → ((i : ℕ) → Has later_inputs i ↔ ((i ≢ input) × Has free_inputs i)) → ((j : ℕ) → Has later_outputs j ↔ (Has free_outputs j × (Has outputs j → ⊥))) → ((l i : ℕ) → Has (slice_index later_on l) i ↔ (((i ≡ input) × (l ≡ level) × (kind ≡ Multi)) ⊎ Has (slice_index on l) i)) → AreSets n new (count + more) later_inputs later_outputs later_on
+  pub AreSets-added : (count more : ℕ) (free_inputs later_inputs free_outputs later_outputs : ℕ) (on later_on : List ℕ)
+      → AreSets n old count free_inputs free_outputs on → count_by is_some new ≡ count_by is_some old + more
+      → ((i : ℕ) → Has later_inputs i ↔ ((i ≢ input) × Has free_inputs i)) → ((j : ℕ) → Has later_outputs j ↔ (Has free_outputs j × (Has outputs j → ⊥)))
+      → ((l i : ℕ) → Has (slice_index later_on l) i ↔ (((i ≡ input) × (l ≡ level) × (kind ≡ Multi)) ⊎ Has (slice_index on l) i))
+      → AreSets n new (count + more) later_inputs later_outputs later_on
   AreSets-added count more free_inputs later_inputs free_outputs later_outputs on later_on sets counted inputs outs ons =
       record {
         some = sets.some;

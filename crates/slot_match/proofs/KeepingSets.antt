@@ -11,8 +11,11 @@ use Rattle.slot_match.specs.Rows.{Names}
 use Rattle.slot_match.specs.Keeping.{KeepsLevel, KeepsRest}
 use Rattle.slot_match.proofs.Sets.{zero-has, Has-same, Has-some}
 
-module _ (Given : ℕ → ℕ → Kind → Type 0) (old new : Row) (level uni rest : ℕ) (fits : rest < 2 ^ 64) (unis : (j : ℕ) → Has uni j ↔ (Names old level Uni j × (Given j level Uni → ⊥))) (rests : (j : ℕ) → Has rest j ↔ (Names old level Multi j × (Given j level Multi → ⊥))) where
-  pub KeepsLevel-from : ((j : ℕ) → Has uni j → Names new level Uni j) → (((j : ℕ) → Has rest j → ⊥) → ⊥) → (eqb (slice_index new.multi level) rest ≡ true) ↔ KeepsLevel Given old new level
+module _ (Given : ℕ → ℕ → Kind → Type 0) (old new : Row) (level uni rest : ℕ) (fits : rest < 2 ^ 64)
+    (unis : (j : ℕ) → Has uni j ↔ (Names old level Uni j × (Given j level Uni → ⊥)))
+    (rests : (j : ℕ) → Has rest j ↔ (Names old level Multi j × (Given j level Multi → ⊥))) where
+  pub KeepsLevel-from : ((j : ℕ) → Has uni j → Names new level Uni j) → (((j : ℕ) → Has rest j → ⊥) → ⊥) → (eqb (slice_index new.multi level) rest ≡ true)
+      ↔ KeepsLevel Given old new level
   KeepsLevel-from within some = (
     λ same.
         let e : slice_index new.multi level ≡ rest = eqb-true (slice_index new.multi level) rest same in record {
@@ -23,7 +26,8 @@ module _ (Given : ℕ → ℕ → Kind → Type 0) (old new : Row) (level uni re
         let there = Has-some rest fits some in
         let p = (rests there.0).0 there.1 in
         eq-eqb (slice_index new.multi level) rest
-        (Has-same (slice_index new.multi level) rest (λ y. let rule = keeps.multi there.0 p.0 p.1 y in (λ has. (rests y).1 (rule.0 has), λ has. rule.1 ((rests y).0 has)))),
+        (Has-same (slice_index new.multi level) rest
+        (λ y. let rule = keeps.multi there.0 p.0 p.1 y in (λ has. (rests y).1 (rule.0 has), λ has. rule.1 ((rests y).0 has)))),
   )
 
 -- a row names no output past its levels
@@ -32,11 +36,22 @@ no_level row level j Uni unis multis above has = zero-has (slice_index row.uni l
 no_level row level j Multi unis multis above has = zero-has (slice_index row.multi level) j (get_or_past row.multi level 0 (omega arith)) has
 
 -- keeping at each level is keeping
-pub KeepsRest-from : (Given : ℕ → ℕ → Kind → Type 0) (old new : Row) → length old.uni ≡ LEVELS → length old.multi ≡ LEVELS → ((level : ℕ) → level < LEVELS → KeepsLevel Given old new level) → KeepsRest Given old new
+pub KeepsRest-from : (Given : ℕ → ℕ → Kind → Type 0) (old new : Row) → length old.uni ≡ LEVELS → length old.multi ≡ LEVELS
+    → ((level : ℕ) → level < LEVELS → KeepsLevel Given old new level) → KeepsRest Given old new
 KeepsRest-from Given old new unis multis each =
     record {
-      uni = λ level j named not_given. elim (cases_lt level LEVELS) [ inl below ↦ (each level below).uni j named not_given | inr above ↦ absurd (no_level old level j Uni unis multis above named) ];
-      multi = λ level j named not_given. elim (cases_lt level LEVELS) [ inl below ↦ (each level below).multi j named not_given | inr above ↦ absurd (no_level old level j Multi unis multis above named) ];
+      uni = λ level j named not_given. elim
+          (cases_lt level LEVELS) [
+            | inl below ↦ (each level below).uni j named not_given
+            | inr above ↦ absurd
+                (no_level old level j Uni unis multis above named)
+          ];
+      multi = λ level j named not_given. elim
+          (cases_lt level LEVELS) [
+            | inl below ↦ (each level below).multi j named not_given
+            | inr above ↦ absurd
+                (no_level old level j Multi unis multis above named)
+          ];
     }
 
 pub KeepsLevel-at : (Given : ℕ → ℕ → Kind → Type 0) (old new : Row) (level : ℕ) → KeepsRest Given old new → KeepsLevel Given old new level

@@ -1,5 +1,6 @@
 -- The fields of a match: at first, and after some pairs were added.
-use Rattle.std.proofs.Common.{◌≡◌, ◌≢◌, ℕ, zero, ◌+◌, ◌^◌, ◌<◌, ◌≤◌, ◌↔◌, ◌⊎◌, ◌∙◌, List, Option, None, Some, length, replicate, take, count_by, is_some, slice_index, sym, ap, subst, inl, inr, arith}
+use Rattle.std.proofs.Common.{◌≡◌, ◌≢◌, ℕ, zero, ◌+◌, ◌^◌, ◌<◌, ◌≤◌, ◌↔◌, ◌⊎◌, ◌∙◌, List, Option, None, Some, length, replicate, take, count_by}
+use Rattle.std.proofs.Common.{is_some, slice_index, sym, ap, subst, inl, inr, arith}
 use Rattle.std.proofs.lemmas.Bool.{cases_lt}
 use Rattle.std.proofs.lemmas.Option.{none-some}
 use Rattle.std.proofs.lemmas.List.{get_or-replicate, get_or_past, length-replicate, length-take-le, take-replicate}
@@ -38,7 +39,8 @@ IsMatch-unmatched n =
       once = λ i j level kind k other again s r. absurd (nobody_at_first n i j level kind s);
     }
 
-pub AreKept-new : (n : ℕ) (fed : List (Option Fed)) (inputs outputs : ℕ) → 0 < n → n ≤ MAX_PORTS → fed ≡ unmatched MAX_PORTS → ((x : ℕ) → Has inputs x ↔ (x < n)) → ((x : ℕ) → Has outputs x ↔ (x < n)) → AreKept n fed 0 inputs outputs (replicate LEVELS 0)
+pub AreKept-new : (n : ℕ) (fed : List (Option Fed)) (inputs outputs : ℕ) → 0 < n → n ≤ MAX_PORTS → fed ≡ unmatched MAX_PORTS
+    → ((x : ℕ) → Has inputs x ↔ (x < n)) → ((x : ℕ) → Has outputs x ↔ (x < n)) → AreKept n fed 0 inputs outputs (replicate LEVELS 0)
 AreKept-new n fed inputs outputs some size e all_inputs all_outputs =
     let nothing : Option Fed = None in
     let front : take n fed ≡ unmatched n = ap (take n) e ∙ take-replicate n MAX_PORTS nothing size in
@@ -64,7 +66,8 @@ module _ (n count : ℕ) (table : List (Option Fed)) (free_inputs free_outputs :
   long = let e = kept.long in let size = kept.sets.size in omega arith
 
   -- the part of an input, from one of the outputs that it feeds
-  pub IsServed-from_fan : (i fan j : ℕ) (f : Fed) → ((y : ℕ) → Has fan y ↔ ((level : ℕ) × (kind : Kind) × Serves (take n table) i y level kind)) → Has fan j → fed_of table j ≡ Some f → IsServed (take n table) i (record { outputs = fan; level = f.level; kind = f.kind })
+  pub IsServed-from_fan : (i fan j : ℕ) (f : Fed) → ((y : ℕ) → Has fan y ↔ ((level : ℕ) × (kind : Kind) × Serves (take n table) i y level kind)) → Has fan j
+      → fed_of table j ≡ Some f → IsServed (take n table) i (record { outputs = fan; level = f.level; kind = f.kind })
   IsServed-from_fan i fan j f feeds has e =
       let m = take n table in
       let whole = kept.sets.whole in
@@ -77,14 +80,16 @@ module _ (n count : ℕ) (table : List (Option Fed)) (free_inputs free_outputs :
       record {
         some = (j, has);
         outputs = λ y. (
-          λ h. let s = (feeds y).0 h in let alike = Serves-alike n m whole i y j s.0 f.level s.1 f.kind s.2 mine in Serves-along m i y s.0 f.level s.1 f.kind alike.0 alike.1 s.2,
+          λ h. let s = (feeds y).0 h in let alike = Serves-alike n m whole i y j s.0 f.level s.1 f.kind s.2 mine in
+              Serves-along m i y s.0 f.level s.1 f.kind alike.0 alike.1 s.2,
           λ s. (feeds y).1 (f.level, f.kind, s),
         );
         only = λ y l k s. Serves-alike n m whole i y j l f.level k f.kind s mine;
       }
 
   -- an output that an input feeds is fed
-  pub fan_is_fed : (i fan j : ℕ) → ((y : ℕ) → Has fan y ↔ ((level : ℕ) × (kind : Kind) × Serves (take n table) i y level kind)) → Has fan j → fed_of table j ≡ None → ⊥
+  pub fan_is_fed : (i fan j : ℕ) → ((y : ℕ) → Has fan y ↔ ((level : ℕ) × (kind : Kind) × Serves (take n table) i y level kind)) → Has fan j
+      → fed_of table j ≡ None → ⊥
   fan_is_fed i fan j feeds has e =
       let there = (feeds j).0 has in
       let f : Fed = record { input = i; level = there.0; kind = there.1 } in
@@ -92,16 +97,21 @@ module _ (n count : ℕ) (table : List (Option Fed)) (free_inputs free_outputs :
       let below : j < n = let count = kept.sets.whole.count in omega arith in
       none-some f (sym (fed_of-take n table j below ∙ e) ∙ there.2)
 
-  module _ (now : List (Option Fed)) (view : take n table ≡ now) (input outputs level : ℕ) (kind : Kind) (input_in : input < length now) (level_in : level < LEVELS) (may : MayAdd (length now) now input outputs level kind) (after : List (Option Fed)) (more : ℕ) (after_long : length after ≡ MAX_PORTS) (fed : (j : ℕ) → Has outputs j → fed_of after j ≡ Some (record { input = input; level = level; kind = kind })) (stays : (j : ℕ) → (Has outputs j → ⊥) → fed_of after j ≡ fed_of table j) (counted : count_by is_some after ≡ count_by is_some table + more) where
+  module _ (now : List (Option Fed)) (view : take n table ≡ now) (input outputs level : ℕ) (kind : Kind) (input_in : input < length now)
+      (level_in : level < LEVELS) (may : MayAdd (length now) now input outputs level kind) (after : List (Option Fed)) (more : ℕ)
+      (after_long : length after ≡ MAX_PORTS) (fed : (j : ℕ) → Has outputs j → fed_of after j ≡ Some (record { input = input; level = level; kind = kind }))
+      (stays : (j : ℕ) → (Has outputs j → ⊥) → fed_of after j ≡ fed_of table j) (counted : count_by is_some after ≡ count_by is_some table + more) where
     ports : length now ≡ n
     ports = sym (ap length view) ∙ kept.sets.whole.count
 
     -- none of the outputs that are added is fed
     pub waiting : (j : ℕ) → Has outputs j → fed_of table j ≡ None
-    waiting j has = let free = may.free j has in let below : j < n = let lt = free.0 in let size = ports in omega arith in sym (fed_of-take n table j below) ∙ (ap (λ m. fed_of m j) view ∙ free.1)
+    waiting j has = let free = may.free j has in let below : j < n = let lt = free.0 in let size = ports in omega arith in sym (fed_of-take n table j below)
+        ∙ (ap (λ m. fed_of m j) view ∙ free.1)
 
     may_here : MayAdd n (take n table) input outputs level kind
-    may_here = let P : ℕ → Type 0 = λ k. MayAdd k now input outputs level kind in subst (λ m. MayAdd n m input outputs level kind) (sym view) (subst P ports may)
+    may_here = let P : ℕ → Type 0 = λ k. MayAdd k now input outputs level kind in
+        subst (λ m. MayAdd n m input outputs level kind) (sym view) (subst P ports may)
 
     outside : (j : ℕ) → n ≤ j → Has outputs j → ⊥
     outside j above has = let below = (may_here.free j has).0 in absurd (omega arith)
@@ -133,13 +143,18 @@ module _ (n count : ℕ) (table : List (Option Fed)) (free_inputs free_outputs :
         let whole = count_by-take n table kept.beyond in
         omega arith
 
-    pub AreKept-added : (later_inputs later_outputs : ℕ) (later_on : List ℕ) → ((i : ℕ) → Has later_inputs i ↔ ((i ≢ input) × Has free_inputs i)) → ((j : ℕ) → Has later_outputs j ↔ (Has free_outputs j × (Has outputs j → ⊥))) → ((l i : ℕ) → Has (slice_index later_on l) i ↔ (((i ≡ input) × (l ≡ level) × (kind ≡ Multi)) ⊎ Has (slice_index on l) i)) → AreKept n after (count + more) later_inputs later_outputs later_on
+    pub AreKept-added : (later_inputs later_outputs : ℕ) (later_on : List ℕ) → ((i : ℕ) → Has later_inputs i ↔ ((i ≢ input) × Has free_inputs i))
+        → ((j : ℕ) → Has later_outputs j ↔ (Has free_outputs j × (Has outputs j → ⊥)))
+        → ((l i : ℕ) → Has (slice_index later_on l) i ↔ (((i ≡ input) × (l ≡ level) × (kind ≡ Multi)) ⊎ Has (slice_index on l) i))
+        → AreKept n after (count + more) later_inputs later_outputs later_on
     AreKept-added later_inputs later_outputs later_on inputs outs ons =
         let input_here : input < n = let size = ports in omega arith in
         record {
           long = after_long;
           beyond = beyond;
-          sets = AreSets-added n (take n table) (take n after) input outputs level kind kept.sets.whole may_here input_here level_in added count more free_inputs later_inputs free_outputs later_outputs on later_on kept.sets counts inputs outs ons;
+          sets = AreSets-added n (take n table)
+              (take n after) input outputs level kind kept.sets.whole may_here input_here level_in added count more free_inputs later_inputs free_outputs
+                  later_outputs on later_on kept.sets counts inputs outs ons;
         }
 
     -- the new match, as callers see it

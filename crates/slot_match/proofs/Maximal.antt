@@ -7,7 +7,8 @@ use Rattle.slot_match.specs.Rows.{row_of}
 use Rattle.slot_match.specs.Matches.{IsFreeOutput, IsMaximal}
 use Rattle.slot_match.specs.Steps.{Wants}
 
-module _ (n : ℕ) (rows : List Row) (matched : List (Option Fed)) (free_outputs : ℕ) (outputs_left : (j : ℕ) → Has free_outputs j ↔ ((j < n) × IsFreeOutput matched j)) where
+module _ (n : ℕ) (rows : List Row) (matched : List (Option Fed)) (free_outputs : ℕ)
+    (outputs_left : (j : ℕ) → Has free_outputs j ↔ ((j < n) × IsFreeOutput matched j)) where
   pub IsMaximal-from : ((i j : ℕ) → i < n → Wants matched i (row_of rows i) j → Has free_outputs j → ⊥) → IsMaximal n rows matched
   IsMaximal-from none =
       record {

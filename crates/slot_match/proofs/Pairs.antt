@@ -32,10 +32,12 @@ Serves-once matched j x y l m k q s r =
 
 -- none but an output of the list is fed
 pub fed_of-lt : (matched : List (Option Fed)) (j : ℕ) (f : Fed) → fed_of matched j ≡ Some f → j < length matched
-fed_of-lt matched j f e = elim (cases_lt j (length matched)) [ inl below ↦ below | inr above ↦ absurd (none-some f (sym (get_or_past matched j None above) ∙ e)) ]
+fed_of-lt matched j f e =
+    elim (cases_lt j (length matched)) [ inl below ↦ below | inr above ↦ absurd (none-some f (sym (get_or_past matched j None above) ∙ e)) ]
 
 -- an input is served at one level with one kind
-pub Serves-alike : (n : ℕ) (matched : List (Option Fed)) → IsMatch n matched → (i j k l m : ℕ) (a b : Kind) → Serves matched i j l a → Serves matched i k m b → (l ≡ m) × (a ≡ b)
+pub Serves-alike : (n : ℕ) (matched : List (Option Fed)) → IsMatch n matched → (i j k l m : ℕ) (a b : Kind) → Serves matched i j l a → Serves matched i k m b
+    → (l ≡ m) × (a ≡ b)
 Serves-alike n matched whole i j k l m a b s r =
     elim (whole.once i j l a k m b s r) [
       | inl same ↦

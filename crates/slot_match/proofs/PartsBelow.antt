@@ -14,7 +14,8 @@ use Rattle.slot_match.proofs.ServedParts.{served_of-free, served_of-only}
 
 module _ (n : ℕ) (matched : List (Option Fed)) (whole : IsMatch n matched) where
   -- an input that the next output is not fed by stands as before
-  pub StandsBelow-other : (k i : ℕ) (p : Option Served) → ((level : ℕ) (kind : Kind) → Serves matched i k level kind → ⊥) → StandsBelow matched k i p → StandsBelow matched (k + 1) i p
+  pub StandsBelow-other : (k i : ℕ) (p : Option Served) → ((level : ℕ) (kind : Kind) → Serves matched i k level kind → ⊥) → StandsBelow matched k i p
+      → StandsBelow matched (k + 1) i p
   StandsBelow-other k i None not before = λ j level kind below s. elim (cases_eq j k) [
     | inl same ↦ not level kind (subst (λ y. Serves matched i y level kind) same s)
     | inr other ↦ before j level kind (omega arith) s
@@ -34,35 +35,48 @@ module _ (n : ℕ) (matched : List (Option Fed)) (whole : IsMatch n matched) whe
       }
 
   -- the next output is added to the part of the input that feeds it
-  pub StandsBelow-added : (k i : ℕ) (p : Option Served) (f : Fed) (part : Served) → fed_of matched k ≡ Some f → f.input ≡ i → part.level ≡ f.level → part.kind ≡ f.kind → ((j : ℕ) → Has part.outputs j ↔ ((j ≡ k) ⊎ Has (outputs_in p) j)) → StandsBelow matched k i p → StandsBelow matched (k + 1) i (Some part)
+  pub StandsBelow-added : (k i : ℕ) (p : Option Served) (f : Fed) (part : Served) → fed_of matched k ≡ Some f → f.input ≡ i → part.level ≡ f.level
+      → part.kind ≡ f.kind → ((j : ℕ) → Has part.outputs j ↔ ((j ≡ k) ⊎ Has (outputs_in p) j)) → StandsBelow matched k i p
+      → StandsBelow matched (k + 1) i (Some part)
   StandsBelow-added k i p f part fed same level_is kind_is made before =
       let there : Serves matched i k f.level f.kind = subst (λ x. Serves matched x k f.level f.kind) same (Serves-from matched k f fed) in
       let here : Serves matched i k part.level part.kind = Serves-along matched i k f.level part.level f.kind part.kind (sym level_is) (sym kind_is) there in
-      let alike = λ (j level : ℕ) (kind : Kind) (s : Serves matched i j level kind). Serves-alike n matched whole i j k level part.level kind part.kind s here in
+      let alike = λ (j level : ℕ) (kind : Kind)
+      (s : Serves matched i j level kind). Serves-alike n matched whole i j k level part.level kind part.kind s here in
       record {
         some = (k, (made k).1 (inl refl));
         outputs = λ j. (
           λ has. elim ((made j).0 has) [
             | inl at ↦ (omega arith, subst (λ y. Serves matched i y part.level part.kind) (sym at) here)
-            | inr old ↦ let q = held p before j old in (let lt = q.0 in omega arith, let a = alike j q.1 q.2 q.3 in Serves-along matched i j q.1 part.level q.2 part.kind a.0 a.1 q.3)
+            | inr old ↦ let q = held p before j old in
+                (let lt = q.0 in omega arith, let a = alike j q.1 q.2 q.3 in Serves-along matched i j q.1 part.level q.2 part.kind a.0 a.1 q.3)
           ],
-          λ q. (made j).1 (elim (cases_eq j k) [ inl at ↦ inl at | inr other ↦ inr (listed p before j part.level part.kind (let lt = q.0 in omega arith) q.1) ]),
+          λ q. (made j).1 (elim (cases_eq j k) [
+            | inl at ↦ inl at
+            | inr other ↦ inr
+                (listed p before j part.level part.kind (let lt = q.0 in omega arith) q.1)
+          ]),
         );
         only = λ j level kind below s. alike j level kind s;
       } where
-        held : (o : Option Served) → StandsBelow matched k i o → (j : ℕ) → Has (outputs_in o) j → (j < k) × (level : ℕ) × (kind : Kind) × Serves matched i j level kind
+        held : (o : Option Served) → StandsBelow matched k i o → (j : ℕ) → Has (outputs_in o) j → (j < k) × (level : ℕ) × (kind : Kind)
+            × Serves matched i j level kind
         held None stands j has = absurd (no_member-zero j has)
         held (Some q) stands j has = let s = (stands.outputs j).0 has in (s.0, q.level, q.kind, s.1)
 
         listed : (o : Option Served) → StandsBelow matched k i o → (j level : ℕ) (kind : Kind) → j < k → Serves matched i j level kind → Has (outputs_in o) j
         listed None stands j level kind below s = absurd (stands j level kind below s)
-        listed (Some q) stands j level kind below s = let a = stands.only j level kind below s in (stands.outputs j).1 (below, Serves-along matched i j level q.level kind q.kind a.0 a.1 s)
+        listed (Some q) stands j level kind below s = let a = stands.only j level kind below s in
+            (stands.outputs j).1 (below, Serves-along matched i j level q.level kind q.kind a.0 a.1 s)
 
   -- among all outputs it is the input's part
   pub StandsBelow-all : (i : ℕ) (p : Option Served) → StandsBelow matched n i p → p ≡ served_of matched i
-  StandsBelow-all i None stands = sym (served_of-free matched i (λ j level kind s. let lt = fed_of-lt matched j (record { input = i; level = level; kind = kind }) s in stands j level kind (let count = whole.count in omega arith) s))
+  StandsBelow-all i None stands =
+      sym (served_of-free matched i (λ j level kind s. let lt = fed_of-lt matched j (record { input = i; level = level; kind = kind }) s in
+      stands j level kind (let count = whole.count in omega arith) s))
   StandsBelow-all i (Some part) stands =
-      let within : (j level : ℕ) (kind : Kind) → Serves matched i j level kind → j < n = λ j level kind s. let lt = fed_of-lt matched j (record { input = i; level = level; kind = kind }) s in let count = whole.count in omega arith in
+      let within : (j level : ℕ) (kind : Kind) → Serves matched i j level kind → j < n = λ j level kind s. let lt =
+      fed_of-lt matched j (record { input = i; level = level; kind = kind }) s in let count = whole.count in omega arith in
       let served : IsServed matched i part = record {
         some = stands.some;
         outputs = λ j. (λ has. ((stands.outputs j).0 has).1, λ s. (stands.outputs j).1 (within j part.level part.kind s, s));

@@ -17,7 +17,8 @@ abbrev pub one_if_some : {X : Type 0} → Option X → ℕ
 one_if_some o = cond (is_some o) 1 0
 
 -- one output more is fed
-pub count_by-set : (fed : List (Option Fed)) (j : ℕ) (by : Fed) → j < length fed → fed_of fed j ≡ None → count_by is_some (set fed j (Some by)) ≡ count_by is_some fed + 1
+pub count_by-set : (fed : List (Option Fed)) (j : ℕ) (by : Fed) → j < length fed → fed_of fed j ≡ None
+    → count_by is_some (set fed j (Some by)) ≡ count_by is_some fed + 1
 count_by-set fed j by below none =
     let e = sum_by-set one_if_some fed j (Some by) None below in
     let before : one_if_some (fed_of fed j) ≡ 0 = ap one_if_some none in

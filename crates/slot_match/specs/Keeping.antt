@@ -13,12 +13,14 @@ use Rattle.slot_match.specs.Matches.{Serves}
 -- output that was not served, and where some of a head was not served, that rest is the head's fan-out.
 pub record KeepsRest (Given : ℕ → ℕ → Kind → Type 0) (old new : Row) : Type 0 where
   pub uni : (level j : ℕ) → Names old level Uni j → (Given j level Uni → ⊥) → Names new level Uni j
-  pub multi : (level j : ℕ) → Names old level Multi j → (Given j level Multi → ⊥) → (y : ℕ) → Names new level Multi y ↔ (Names old level Multi y × (Given y level Multi → ⊥))
+  pub multi : (level j : ℕ) → Names old level Multi j → (Given j level Multi → ⊥) → (y : ℕ) → Names new level Multi y
+      ↔ (Names old level Multi y × (Given y level Multi → ⊥))
 
 -- the same for the sets of one level alone
 pub record KeepsLevel (Given : ℕ → ℕ → Kind → Type 0) (old new : Row) (level : ℕ) : Type 0 where
   pub uni : (j : ℕ) → Names old level Uni j → (Given j level Uni → ⊥) → Names new level Uni j
-  pub multi : (j : ℕ) → Names old level Multi j → (Given j level Multi → ⊥) → (y : ℕ) → Names new level Multi y ↔ (Names old level Multi y × (Given y level Multi → ⊥))
+  pub multi : (j : ℕ) → Names old level Multi j → (Given j level Multi → ⊥) → (y : ℕ) → Names new level Multi y
+      ↔ (Names old level Multi y × (Given y level Multi → ⊥))
 
 -- input i's next row keeps the old one, of which the match served its pairs
 abbrev pub Keeps : List (Option Fed) → ℕ → Row → Row → Type 0

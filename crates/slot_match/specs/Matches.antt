@@ -46,7 +46,8 @@ pub record IsMatch (n : ℕ) (matched : List (Option Fed)) : Type 0 where
   pub count : length matched ≡ n
   pub input_in : (i j level : ℕ) (kind : Kind) → Serves matched i j level kind → i < n
   pub level_in : (i j level : ℕ) (kind : Kind) → Serves matched i j level kind → level < LEVELS
-  pub once : (i j level : ℕ) (kind : Kind) (k other : ℕ) (again : Kind) → Serves matched i j level kind → Serves matched i k other again → (j ≡ k) ⊎ ((level ≡ other) × (kind ≡ Multi) × (again ≡ Multi))
+  pub once : (i j level : ℕ) (kind : Kind) (k other : ℕ) (again : Kind) → Serves matched i j level kind → Serves matched i k other again → (j ≡ k)
+      ⊎ ((level ≡ other) × (kind ≡ Multi) × (again ≡ Multi))
 
 -- a match of n ports may gain these pairs: the outputs are free, one of them for unicast, and the
 -- input is free or goes on as multicast of the level

@@ -17,7 +17,8 @@ IsReady matched input outputs level kind =
 -- an input with this row could take output j: it is free and names it, or goes on for the rest of its head
 abbrev pub Wants : List (Option Fed) → ℕ → Row → ℕ → Type 0
 Wants matched input row j =
-    (IsFreeInput matched input × ((level : ℕ) × (kind : Kind) × Names row level kind j)) ⊎ ((level : ℕ) × IsMulticasting matched input level × Names row level Multi j)
+    (IsFreeInput matched input × ((level : ℕ) × (kind : Kind) × Names row level kind j))
+    ⊎ ((level : ℕ) × IsMulticasting matched input level × Names row level Multi j)
 
 -- the outputs of a part, none where there is no part
 abbrev pub outputs_in : Option Served → ℕ

@@ -11,7 +11,8 @@ ghost use Rattle.slot_match.specs.Keeping.{KeepsRest, Keeps, Gives};
 /// An input's next row keeps its last one by its own part of the match exactly where it keeps it over
 /// the whole match.
 pub fn keeping_needs_only_the_part()
-    ensures { (n i : ℕ) (matched : List (Option Fed)) (old new : Row) → IsMatch n matched → KeepsRest (Gives (served_of matched i)) old new ↔ Keeps matched i old new }
+    ensures { (n i : ℕ) (matched : List (Option Fed)) (old new : Row) → IsMatch n matched → KeepsRest (Gives (served_of matched i)) old new
+        ↔ Keeps matched i old new }
 {}
 
 /// An input's part of a match is the one that serves it, and it has none exactly where it is free.

@@ -36,7 +36,8 @@ impl Match {
 // Adds the output, which is fed so, to the part of its input.
 fn add_output(part: &mut Option<Served>, output: u32, fed: Fed)
     requires { output < MAX_PORTS }
-    ensures some { (part_new : _) × (part.new ≡ Some part_new) × (part_new.level ≡ fed.level) × (part_new.kind ≡ fed.kind) × ((j : ℕ) → Has part_new.outputs j ↔ ((j ≡ output) ⊎ Has (outputs_in part.old) j)) }
+    ensures some { (part_new : _) × (part.new ≡ Some part_new) × (part_new.level ≡ fed.level) × (part_new.kind ≡ fed.kind)
+        × ((j : ℕ) → Has part_new.outputs j ↔ ((j ≡ output) ⊎ Has (outputs_in part.old) j)) }
 {
     let outputs = outputs_in(*part);
     *part = Some(Served {

@@ -17,7 +17,8 @@ use Rattle.card_core.specs.Deliveries.{ended_by, messages_after}
 use Rattle.card_worker.proofs.Grouping.{at_place}
 
 -- a sum over a list, where each term is told by its place
-pub sum_of : {X : Type 0} (f : X → ℕ) (g : ℕ → ℕ) (xs : List X) (n : ℕ) → length xs ≡ n → ((i : ℕ) (x : X) → slice_get xs i ≡ Some x → f x ≡ g i) → sum_by f xs ≡ sum_by g (range_with_len 0 n)
+pub sum_of : {X : Type 0} (f : X → ℕ) (g : ℕ → ℕ) (xs : List X) (n : ℕ) → length xs ≡ n → ((i : ℕ) (x : X) → slice_get xs i ≡ Some x → f x ≡ g i)
+    → sum_by f xs ≡ sum_by g (range_with_len 0 n)
 sum_of {X} f g xs n long each =
     let term : (k : ℕ) → k < n → get_or (map f xs) k 0 ≡ g k = λ k below.
     let inside : k < length xs = omega arith in
@@ -46,7 +47,8 @@ one_at_most : (b : Bool) → cond b 1 0 ≤ 1
 one_at_most true = omega arith
 one_at_most false = omega arith
 
-count_in-le : (wanted : Bool) (plan : CardPlan) (served : List (Option Served)) (t : ℕ) (arrives : Option (ℕ × Planned)) → count_in wanted plan served t arrives ≤ 1
+count_in-le : (wanted : Bool) (plan : CardPlan) (served : List (Option Served)) (t : ℕ) (arrives : Option (ℕ × Planned))
+    → count_in wanted plan served t arrives ≤ 1
 count_in-le wanted plan served t None = omega arith
 count_in-le wanted plan served t (Some (k, packet)) = one_at_most _
 
@@ -88,12 +90,14 @@ pub cells-le : {X : Type 0} (f : ℕ → Option X) (n : ℕ) → length (flat_ma
 cells-le f n = let most = one_each-le f (range_with_len 0 n) in let long = length-range_with_len 0 n in omega arith
 
 -- ---- the least of some numbers
-least_more : {X : Type 0} (b : Bool) (f : X → ℕ) (x : X) (rest : List X) (n : ℕ) → n ≤ least_of (map f rest) → (b ≡ true → n ≤ f x) → n ≤ least_of (map f (cond b (x ∷ rest) rest))
+least_more : {X : Type 0} (b : Bool) (f : X → ℕ) (x : X) (rest : List X) (n : ℕ) → n ≤ least_of (map f rest) → (b ≡ true → n ≤ f x)
+    → n ≤ least_of (map f (cond b (x ∷ rest) rest))
 least_more true f x rest n more own = let here = own refl in omega (arith, more, here)
 least_more false f x rest n more own = more
 
 -- a number that none of those that count is below
-pub least-from : {X : Type 0} (p : X → Bool) (f : X → ℕ) (xs : List X) (n : ℕ) → n < 2 ^ 64 → ((i : ℕ) (x : X) → slice_get xs i ≡ Some x → p x ≡ true → n ≤ f x) → n ≤ least_of (map f (filter p xs))
+pub least-from : {X : Type 0} (p : X → Bool) (f : X → ℕ) (xs : List X) (n : ℕ) → n < 2 ^ 64
+    → ((i : ℕ) (x : X) → slice_get xs i ≡ Some x → p x ≡ true → n ≤ f x) → n ≤ least_of (map f (filter p xs))
 least-from p f [] n small each = omega arith
 least-from p f (x ∷ xs) n small each =
     least_more (p x) f x (filter p xs) n (least-from p f xs n small (λ i y at passes. each (suc i) y at passes)) (each 0 x refl)

@@ -26,14 +26,16 @@ module _ (groups : List Group) (seats : List (SeatValue Event)) (hands : List Ha
   pub planned_left : (plans : List CardPlan) (after : List Hand) → ArePlanned plans groups → plans_of after ≡ plans_of hands → AreOfPlans plans after
   planned_left plans after planned same i hand at =
       let plan = λ (h : Hand). h.card.sends.plan in
-      let own : slice_get (plans_of hands) i ≡ Some hand.card.sends.plan = ap (λ ps. slice_get ps i) (sym same) ∙ (slice_get-map plan after i ∙ ap (option_map plan) at) in
+      let own : slice_get (plans_of hands) i ≡ Some hand.card.sends.plan = ap (λ ps. slice_get ps i) (sym same)
+      ∙ (slice_get-map plan after i ∙ ap (option_map plan) at) in
       let inside = slice_get_within (plans_of hands) i hand.card.sends.plan own in
       let long = length-map hands plan in
       let seats_are = from.seats_are in
       let hands_are = from.hands_are in
       let (old, was) = at_place hands i (omega arith) in
       let (seat, too) = at_place seats i (omega arith) in
-      let is : old.card.sends.plan ≡ hand.card.sends.plan = some_same old.card.sends.plan hand.card.sends.plan (slice_get (plans_of hands) i) (slice_get-map plan hands i ∙ ap (option_map plan) was) own in
+      let is : old.card.sends.plan ≡ hand.card.sends.plan =
+      some_same old.card.sends.plan hand.card.sends.plan (slice_get (plans_of hands) i) (slice_get-map plan hands i ∙ ap (option_map plan) was) own in
       let each = from.each i old seat was too in
       ap (slice_get plans) (sym each.0) ∙ (planned (record { hand = old; seat = seat }) each.1 ∙ ap Some is)
 
@@ -48,7 +50,8 @@ module _ (groups : List Group) (seats : List (SeatValue Event)) (hands : List Ha
       waited (record { hand = hand; seat = seat }) (from.each i hand seat mine at).1 due)
 
 -- one more card left something
-pub AreLeft-more : (hands : List Hand) (outputs : List CardOut) (hand : Hand) (out : CardOut) → AreLeft hands outputs → Leaves hand.card out → AreLeft (hands ++ hand ∷ []) (outputs ++ out ∷ [])
+pub AreLeft-more : (hands : List Hand) (outputs : List CardOut) (hand : Hand) (out : CardOut) → AreLeft hands outputs → Leaves hand.card out
+    → AreLeft (hands ++ hand ∷ []) (outputs ++ out ∷ [])
 AreLeft-more hands outputs hand out left own =
     let count = left.count in
     record {

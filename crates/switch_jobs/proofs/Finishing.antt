@@ -22,7 +22,8 @@ use Rattle.whole_run.specs.Runs.{ports_of, setup_for, posts_in, run_slot, run_jo
 use Rattle.whole_run.specs.Sums.{run_schedule}
 use Rattle.whole_run.specs.Crossings.{cells_under}
 use Rattle.switch_jobs.specs.declared.ready.Terms.{Terms}
-use Rattle.switch_jobs.specs.Outcomes.{messages_under, admitted_count, dropped_count, longest_under, longest_at, summary_under, summary_of, IsOutputUnder, IsOutput}
+use Rattle.switch_jobs.specs.Outcomes.{messages_under, admitted_count, dropped_count, longest_under, longest_at, summary_under, summary_of}
+use Rattle.switch_jobs.specs.Outcomes.{IsOutputUnder, IsOutput}
 use Rattle.switch_jobs.specs.Readiness.{plan_with}
 use Rattle.switch_jobs.specs.Journals.{noted_in, longest_in, HaveSums, summary_with, summary_in}
 use Rattle.switch_jobs.specs.Ending.{AreLeft, IsRunOf}
@@ -48,16 +49,20 @@ numbers_with terms ports rounds slots packets dropped forwarded copies cells lon
 }
 
 -- the numbers of a run are the same where each of them is
-same_numbers : (terms : Terms) (p p' r r' s s' k k' d d' f f' c c' w w' : ℕ) (l l' : List ℕ) → p ≡ p' → r ≡ r' → s ≡ s' → k ≡ k' → d ≡ d' → f ≡ f' → c ≡ c' → w ≡ w' → l ≡ l'
+same_numbers : (terms : Terms) (p p' r r' s s' k k' d d' f f' c c' w w' : ℕ) (l l' : List ℕ) → p ≡ p' → r ≡ r' → s ≡ s' → k ≡ k' → d ≡ d' → f ≡ f' → c ≡ c'
+    → w ≡ w' → l ≡ l'
     → numbers_with terms p r s k d f c w l ≡ numbers_with terms p' r' s' k' d' f' c' w' l'
 same_numbers terms p p' r r' s s' k k' d d' f f' c c' w w' l l' ports rounds slots packets dropped forwarded copies cells longest = cc
 
 -- the waits of a run are those of its journal
 noted_same : (plan : SwitchPlan) (slots : ℕ) → map noted_in (run_journal plan slots) ≡ map noted_of (run_schedule plan slots)
-noted_same plan slots = map-map noted_in (run_slot plan) (range_with_len 0 slots) ∙ sym (map-map noted_of (decided_slot (setup_for plan) (posts_in plan)) (range_with_len 0 slots))
+noted_same plan slots = map-map noted_in (run_slot plan) (range_with_len 0 slots)
+    ∙ sym (map-map noted_of (decided_slot (setup_for plan) (posts_in plan)) (range_with_len 0 slots))
 
 -- ---- the outputs of a run under any scheduler
-module _ (scheduler : Scheduler) (terms : Terms) (cards : List CardPlan) (good : IsGood (plan_with terms cards)) (slots : ℕ) (few : slots ≤ 262145) (outputs : List CardOut) (ports_left : length outputs ≡ length cards) (output_is : (j : ℕ) (out : CardOut) → slice_get outputs j ≡ Some out → IsOutputUnder scheduler (plan_with terms cards) slots j out) where
+module _ (scheduler : Scheduler) (terms : Terms) (cards : List CardPlan) (good : IsGood (plan_with terms cards)) (slots : ℕ) (few : slots ≤ 262145)
+    (outputs : List CardOut) (ports_left : length outputs ≡ length cards) (output_is : (j : ℕ) (out : CardOut) → slice_get outputs j ≡ Some out
+    → IsOutputUnder scheduler (plan_with terms cards) slots j out) where
   abbrev run_plan : SwitchPlan
   run_plan = plan_with terms cards
 
@@ -77,17 +82,23 @@ module _ (scheduler : Scheduler) (terms : Terms) (cards : List CardPlan) (good :
       }
 
   -- are summed up to the numbers of the run
-  pub summary-is : (ports rounds count : ℕ) (longest : List ℕ) → ports ≡ length cards → rounds ≡ terms.rounds → count ≡ slots → longest ≡ map (longest_under scheduler run_plan slots) (range_with_len 0 LEVELS) → terms.packets ≡ sum_by length (packets_in run_plan)
+  pub summary-is : (ports rounds count : ℕ) (longest : List ℕ) → ports ≡ length cards → rounds ≡ terms.rounds → count ≡ slots
+      → longest ≡ map (longest_under scheduler run_plan slots) (range_with_len 0 LEVELS) → terms.packets ≡ sum_by length (packets_in run_plan)
       → summary_with terms ports rounds count outputs longest ≡ summary_under scheduler run_plan slots
   unfolding summary_under
   summary-is ports rounds count longest size same slots_are waits packets =
-      let drops = sum_of (λ (out : CardOut). out.dropped) (dropped_count scheduler run_plan slots) outputs (ports_of run_plan) ports_left (λ j out at. (output_is j out at).dropped) in
-      let admits = sum_of (λ (out : CardOut). out.admitted) (admitted_count scheduler run_plan slots) outputs (ports_of run_plan) ports_left (λ j out at. (output_is j out at).admitted) in
-      let copies = sum_of (λ (out : CardOut). out.packets) (λ j. length (messages_under scheduler run_plan j slots)) outputs (ports_of run_plan) ports_left (λ j out at. (output_is j out at).packets) in
-      let cells = sum_of (λ (out : CardOut). out.cells) (λ j. length (cells_under scheduler run_plan j slots)) outputs (ports_of run_plan) ports_left (λ j out at. (output_is j out at).cells) in
+      let drops = sum_of (λ (out : CardOut). out.dropped) (dropped_count scheduler run_plan slots) outputs (ports_of run_plan) ports_left
+      (λ j out at. (output_is j out at).dropped) in
+      let admits = sum_of (λ (out : CardOut). out.admitted) (admitted_count scheduler run_plan slots) outputs (ports_of run_plan) ports_left
+      (λ j out at. (output_is j out at).admitted) in
+      let copies = sum_of (λ (out : CardOut). out.packets) (λ j. length (messages_under scheduler run_plan j slots)) outputs (ports_of run_plan) ports_left
+      (λ j out at. (output_is j out at).packets) in
+      let cells = sum_of (λ (out : CardOut). out.cells) (λ j. length (cells_under scheduler run_plan j slots)) outputs (ports_of run_plan) ports_left
+      (λ j out at. (output_is j out at).cells) in
       same_numbers terms _ _ _ _ _ _ _ _ _ _ _ _ _ _ _ _ _ _ size same slots_are packets drops admits copies cells waits
 
-module _ (terms : Terms) (cards : List CardPlan) (good : IsGood (plan_with terms cards)) (state : StateValue) (hands : List Hand) (is : IsRunOf (plan_with terms cards) state hands) where
+module _ (terms : Terms) (cards : List CardPlan) (good : IsGood (plan_with terms cards)) (state : StateValue) (hands : List Hand)
+    (is : IsRunOf (plan_with terms cards) state hands) where
   abbrev plan : SwitchPlan
   plan = plan_with terms cards
 
@@ -115,7 +126,8 @@ module _ (terms : Terms) (cards : List CardPlan) (good : IsGood (plan_with terms
     pub sums_fit : HaveSums outputs
     sums_fit = sums-fit decision_of terms cards good slots few_slots outputs ports_left output_is
 
-    pub summary_is : (journal : JournalValue) → journal.setup ≡ state.setup → journal.slots ≡ journal_of state.setup state.events → terms.packets ≡ sum_by length (packets_in plan) → summary_in terms journal outputs ≡ summary_of plan slots
+    pub summary_is : (journal : JournalValue) → journal.setup ≡ state.setup → journal.slots ≡ journal_of state.setup state.events
+        → terms.packets ≡ sum_by length (packets_in plan) → summary_in terms journal outputs ≡ summary_of plan slots
     summary_is journal same decided packets =
         let ports : journal.setup.ports ≡ ports_of plan = ap (λ (s : Setup). s.ports) (same ∙ is.setup) in
         let rounds : journal.setup.rounds ≡ terms.rounds = ap (λ (s : Setup). s.rounds) (same ∙ is.setup) in
@@ -125,4 +137,5 @@ module _ (terms : Terms) (cards : List CardPlan) (good : IsGood (plan_with terms
         ap (λ n. longest_in n journal.slots) ports
         ∙ (ap (longest_in (ports_of plan)) journal_same
         ∙ ap (λ (noted : List NotedSlot). map (λ level. longest_wait (ports_of plan) level noted) (range_with_len 0 LEVELS)) (noted_same plan slots)) in
-        summary-is decision_of terms cards good slots few_slots outputs ports_left output_is journal.setup.ports journal.setup.rounds (length journal.slots) (longest_in journal.setup.ports journal.slots) ports rounds count waits packets
+        summary-is decision_of terms cards good slots few_slots outputs ports_left output_is journal.setup.ports journal.setup.rounds (length journal.slots)
+        (longest_in journal.setup.ports journal.slots) ports rounds count waits packets

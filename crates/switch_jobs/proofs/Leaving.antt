@@ -57,8 +57,10 @@ module _ (scheduler : Scheduler) (plan : SwitchPlan) (slots j : ℕ) where
         lens = left.lens ∙ ap (λ (cs : List Cell). map length (delivered cs)) cells;
         packets = left.packets ∙ ap (λ (cs : List Cell). length (delivered cs)) cells;
         cells = left.cells ∙ ap (λ (cs : List Cell). length cs) cells;
-        admitted = left.admitted ∙ (ap (λ (parts : List (Option Served)). admitted card parts (length takings)) served ∙ ap (admitted card (parts_under scheduler plan j slots)) long);
-        dropped = left.dropped ∙ (ap (λ (parts : List (Option Served)). dropped card parts (length takings)) served ∙ ap (dropped card (parts_under scheduler plan j slots)) long);
+        admitted = left.admitted ∙ (ap (λ (parts : List (Option Served)). admitted card parts (length takings)) served
+            ∙ ap (admitted card (parts_under scheduler plan j slots)) long);
+        dropped = left.dropped ∙ (ap (λ (parts : List (Option Served)). dropped card parts (length takings)) served
+            ∙ ap (dropped card (parts_under scheduler plan j slots)) long);
       }
 
   -- the numbers of a port are within its slots
@@ -78,16 +80,28 @@ module _ (scheduler : Scheduler) (plan : SwitchPlan) (slots j : ℕ) where
       let b = is.cells in
       let c = is.admitted in
       let d = is.dropped in
-      record { packets = omega (arith, a, cells, messages); cells = omega (arith, b, cells); admitted = omega (arith, c, admits); dropped = omega (arith, d, drops) }
+      record {
+        packets = omega (arith, a, cells, messages);
+        cells = omega (arith, b, cells);
+        admitted = omega (arith, c, admits);
+        dropped = omega (arith, d, drops);
+      }
 
 -- what the card of a hand leaves at the end
 module _ (plan : SwitchPlan) (slots j : ℕ) (ends : IsLength plan slots) where
-  pub output_left : (hand : Hand) (column : Column) (out : CardOut) → IsInStep hand.kept hand.card column → hand.card.sends.plan ≡ card_at plan j → column.takings ≡ run_takings plan j slots
-      → ((given : List Taken) → AreGiven (card_at plan j) (run_takings plan j slots) given → given ≡ run_takings plan j slots) → Leaves hand.card out → IsOutput plan slots j out
+  pub output_left : (hand : Hand) (column : Column) (out : CardOut) → IsInStep hand.kept hand.card column → hand.card.sends.plan ≡ card_at plan j
+      → column.takings ≡ run_takings plan j slots
+      → ((given : List Taken) → AreGiven (card_at plan j) (run_takings plan j slots) given → given ≡ run_takings plan j slots) → Leaves hand.card out
+      → IsOutput plan slots j out
   output_left hand column out step planned took all leaves =
       let s = stands hand.kept hand.card column step in
-      let are : AreGiven (card_at plan j) (run_takings plan j slots) s.given = subst (λ (p : CardPlan). AreGiven p (run_takings plan j slots) s.given) planned (subst (λ (ts : List Taken). AreGiven hand.card.sends.plan ts s.given) took s.are_given) in
-      let after : IsAfter hand.card (run_takings plan j slots) s.posted = subst (λ (ts : List Taken). IsAfter hand.card ts s.posted) (all s.given are) s.after in
+      let are : AreGiven (card_at plan j) (run_takings plan j slots) s.given =
+      subst (λ (p : CardPlan). AreGiven p (run_takings plan j slots) s.given) planned
+      (subst (λ (ts : List Taken). AreGiven hand.card.sends.plan ts s.given) took s.are_given) in
+      let after : IsAfter hand.card (run_takings plan j slots) s.posted =
+      subst (λ (ts : List Taken). IsAfter hand.card ts s.posted) (all s.given are) s.after in
       let free : s.posted ≡ false = not_posted s.posted hand.card.done after.going (after.done ∙ takings_end decision_of plan j slots ends) in
       let left : IsOut hand.card.sends.plan (run_takings plan j slots) s.posted out = leaves (run_takings plan j slots) s.posted after in
-      output_of decision_of plan slots j out (subst (λ (p : CardPlan). IsOut p (run_takings plan j slots) false out) planned (subst (λ b. IsOut hand.card.sends.plan (run_takings plan j slots) b out) free left))
+      output_of decision_of plan slots j out
+      (subst (λ (p : CardPlan). IsOut p (run_takings plan j slots) false out) planned
+      (subst (λ b. IsOut hand.card.sends.plan (run_takings plan j slots) b out) free left))

@@ -12,4 +12,5 @@ module _ (plan : SwitchPlan) (good : IsGood plan) where
   slots_few = let is = good.max_slots in let a = greatest-le plan good in let b = good.cells in let c = most_few (length plan.cards) in omega arith
 
   pub slots_halved : 32 < length plan.cards → plan.max_slots ≤ 131073
-  slots_halved many = let is = good.max_slots in let a = greatest-le plan good in let b = good.cells in let c = most-halved (length plan.cards) many in omega arith
+  slots_halved many = let is = good.max_slots in let a = greatest-le plan good in let b = good.cells in let c = most-halved (length plan.cards) many in
+      omega arith

@@ -35,10 +35,12 @@ pub record Laws (plan : SwitchPlan) (events : List Event) : Type 0 where
   pub takings : AreDriven plan events → (i : ℕ) → i < ports_of plan → takings_of (setup_for plan) i events ≡ run_takings plan i (takes_of i events)
   pub ends : AreDriven plan events → AreOver plan events → IsLength plan (decides events)
   pub taken : AreDriven plan events → AreOver plan events → (i : ℕ) → i < ports_of plan → takes_of i events ≡ decides events
-  pub given : (j slots : ℕ) (given : List Taken) → j < ports_of plan → AreGiven (card_at plan j) (run_takings plan j slots) given → given ≡ run_takings plan j slots
+  pub given : (j slots : ℕ) (given : List Taken) → j < ports_of plan → AreGiven (card_at plan j) (run_takings plan j slots) given
+      → given ≡ run_takings plan j slots
   pub most : (slots : ℕ) → IsLength plan slots → slots ≤ plan.max_slots
 
-module _ (plan : SwitchPlan) (state : StateValue) (hands : List Hand) (setup : state.setup ≡ setup_for plan) (are : AreHandsOf hands state) (over : (i : ℕ) → i < state.setup.ports → IsOver state.setup i state.events) (planned : AreOfPlans plan.cards hands) (laws : Laws plan state.events) where
+module _ (plan : SwitchPlan) (state : StateValue) (hands : List Hand) (setup : state.setup ≡ setup_for plan) (are : AreHandsOf hands state)
+    (over : (i : ℕ) → i < state.setup.ports → IsOver state.setup i state.events) (planned : AreOfPlans plan.cards hands) (laws : Laws plan state.events) where
   ports_are : state.setup.ports ≡ ports_of plan
   ports_are = ap (λ (s : Setup). s.ports) setup
 
@@ -52,7 +54,8 @@ module _ (plan : SwitchPlan) (state : StateValue) (hands : List Hand) (setup : s
   driven i below =
       let (hand, at) = hand_at i below in
       let own = (are.each i hand at).driven in
-      subst (λ (p : CardPlan). IsDriven p (column_of (setup_for plan) i state.events)) (plan_at i hand at) (subst (λ (s : Setup). IsDriven hand.card.sends.plan (column_of s i state.events)) setup own)
+      subst (λ (p : CardPlan). IsDriven p (column_of (setup_for plan) i state.events)) (plan_at i hand at)
+      (subst (λ (s : Setup). IsDriven hand.card.sends.plan (column_of s i state.events)) setup own)
 
   ended : AreOver plan state.events
   ended i below = let ports = ports_are in subst (λ (s : Setup). IsOver s i state.events) setup (over i (omega arith))
@@ -68,7 +71,8 @@ module _ (plan : SwitchPlan) (state : StateValue) (hands : List Hand) (setup : s
       let below : j < ports_of plan = omega arith in
       let took : takings_of state.setup j state.events ≡ run_takings plan j (decides state.events) =
       ap (λ (s : Setup). takings_of s j state.events) setup ∙ (laws.takings driven j below ∙ ap (run_takings plan j) (laws.taken driven ended j below)) in
-      output_left plan (decides state.events) j ends hand (column_of state.setup j state.events) out (are.each j hand at).step (plan_at j hand at) took (λ given is. laws.given j (decides state.events) given below is) leaves
+      output_left plan (decides state.events) j ends hand (column_of state.setup j state.events) out (are.each j hand at).step (plan_at j hand at) took
+      (λ given is. laws.given j (decides state.events) given below is) leaves
 
   pub run_made : IsRunOf plan state hands
   run_made = record {

@@ -27,14 +27,16 @@ here_of ys rest xs all x whole next = ap (λ zs. slice_get zs (length ys)) (sym 
 abbrev pub AreInPlace : TurnValue Event → List Member → Type 0
 AreInPlace board members = (i : ℕ) (member : Member) → slice_get members i ≡ Some member → IsMember board member × (member.seat.number ≡ i)
 
-pub AreInPlace-more : (board : TurnValue Event) (members : List Member) (member : Member) → AreInPlace board members → IsMember board member → member.seat.number ≡ length members → AreInPlace board (members ++ member ∷ [])
+pub AreInPlace-more : (board : TurnValue Event) (members : List Member) (member : Member) → AreInPlace board members → IsMember board member
+    → member.seat.number ≡ length members → AreInPlace board (members ++ member ∷ [])
 AreInPlace-more board members member each own number i m at =
     elim (get-snoc members member m i at) [
       | inl early ↦ each i m early
       | inr last ↦ (subst (IsMember board) last.1 own, ap (λ (x : Member). x.seat.number) (sym last.1) ∙ (number ∙ sym last.0))
     ]
 
-pub plans_more : (members : List Member) (member : Member) (cards : List CardPlan) (card : CardPlan) → plans_in members ≡ map plan_of cards → member.hand.card.sends.plan ≡ plan_of card → plans_in (members ++ member ∷ []) ≡ map plan_of (cards ++ card ∷ [])
+pub plans_more : (members : List Member) (member : Member) (cards : List CardPlan) (card : CardPlan) → plans_in members ≡ map plan_of cards
+    → member.hand.card.sends.plan ≡ plan_of card → plans_in (members ++ member ∷ []) ≡ map plan_of (cards ++ card ∷ [])
 plans_more members member cards card so_far own =
     map_push (λ (m : Member). m.hand.card.sends.plan) members member
     ∙ (ap (λ ps. ps ++ member.hand.card.sends.plan ∷ []) so_far

@@ -26,7 +26,8 @@ ArePlanned-none plans groups empty m among =
     absurd (omega arith)
 
 -- ---- a member more
-module _ (groups : List Group) (p : ℕ) (group new : Group) (member : Member) (found : slice_get groups p ≡ Some group) (items : new.members.items ≡ group.members.items ++ member ∷ []) where
+module _ (groups : List Group) (p : ℕ) (group new : Group) (member : Member) (found : slice_get groups p ≡ Some group)
+    (items : new.members.items ≡ group.members.items ++ member ∷ []) where
   now_found : slice_get (set groups p new) p ≡ Some new
   now_found = get-set_same groups p new (slice_get_within groups p group found)
 
@@ -34,24 +35,35 @@ module _ (groups : List Group) (p : ℕ) (group new : Group) (member : Member) (
   each_more P each own m among =
       elim (cases_eq among.place p) [
         | inl same ↦
-            let is : among.group ≡ new = some_same among.group new (slice_get (set groups p new) among.place) among.found (ap (slice_get (set groups p new)) same ∙ now_found) in
-            let at : slice_get (group.members.items ++ member ∷ []) among.within ≡ Some m = ap (λ ms. slice_get ms among.within) (sym items) ∙ ap (λ (g : Group). slice_get g.members.items among.within) (sym is) ∙ among.at in
+            let is : among.group ≡ new =
+            some_same among.group new (slice_get (set groups p new) among.place) among.found (ap (slice_get (set groups p new)) same ∙ now_found) in
+            let at : slice_get (group.members.items ++ member ∷ []) among.within ≡ Some m = ap (λ ms. slice_get ms among.within) (sym items)
+            ∙ ap (λ (g : Group). slice_get g.members.items among.within) (sym is) ∙ among.at in
             elim (get-snoc group.members.items member m among.within at) [
               | inl early ↦ each m (record { place = p; group = group; within = among.within; found = found; at = early })
               | inr last ↦ subst P last.1 own
             ]
-        | inr other ↦ each m (record { place = among.place; group = among.group; within = among.within; found = sym (get-set_other groups p among.place new other) ∙ among.found; at = among.at })
+        | inr other ↦ each m (record {
+          place = among.place;
+          group = among.group;
+          within = among.within;
+          found = sym (get-set_other groups p among.place new other) ∙ among.found;
+          at = among.at;
+        })
       ]
 
-  pub ArePlanned-more : (plans : List CardPlan) → ArePlanned plans groups → slice_get plans member.seat.number ≡ Some member.hand.card.sends.plan → ArePlanned plans (set groups p new)
+  pub ArePlanned-more : (plans : List CardPlan) → ArePlanned plans groups → slice_get plans member.seat.number ≡ Some member.hand.card.sends.plan
+      → ArePlanned plans (set groups p new)
   ArePlanned-more plans planned own = each_more (λ m. slice_get plans m.seat.number ≡ Some m.hand.card.sends.plan) planned own
 
 -- a group that gets a member keeps its room
-pub HaveRoomFor-set : (groups : List Group) (p : ℕ) (group new : Group) (room : ℕ) → slice_get groups p ≡ Some group → vec_capacity new.members ≡ vec_capacity group.members → HaveRoomFor room groups → HaveRoomFor room (set groups p new)
+pub HaveRoomFor-set : (groups : List Group) (p : ℕ) (group new : Group) (room : ℕ) → slice_get groups p ≡ Some group
+    → vec_capacity new.members ≡ vec_capacity group.members → HaveRoomFor room groups → HaveRoomFor room (set groups p new)
 HaveRoomFor-set groups p group new room found same have place g at =
     elim (cases_eq place p) [
       | inl here ↦
-          let is : g ≡ new = some_same g new (slice_get (set groups p new) place) at (ap (slice_get (set groups p new)) here ∙ get-set_same groups p new (slice_get_within groups p group found)) in
+          let is : g ≡ new = some_same g new (slice_get (set groups p new) place) at
+          (ap (slice_get (set groups p new)) here ∙ get-set_same groups p new (slice_get_within groups p group found)) in
           let wide = have p group found in
           let capacity : vec_capacity g.members ≡ vec_capacity group.members = ap (λ (x : Group). vec_capacity x.members) is ∙ same in
           omega arith
@@ -60,12 +72,14 @@ HaveRoomFor-set groups p group new room found same have place g at =
 
 -- ---- groups that were driven
 -- each by its place
-pub driven_at : (board : TurnValue Event) (patience : ℕ) (olds news : List Group) → ((p : ℕ) (d : Group) → p < length olds → IsDrivenGroup board patience (get_or olds p d) (get_or news p d))
+pub driven_at : (board : TurnValue Event) (patience : ℕ) (olds news : List Group)
+    → ((p : ℕ) (d : Group) → p < length olds → IsDrivenGroup board patience (get_or olds p d) (get_or news p d))
     → (p : ℕ) (old new : Group) → slice_get olds p ≡ Some old → slice_get news p ≡ Some new → IsDrivenGroup board patience old new
 driven_at board patience olds news driven p old new at too =
     let was : get_or olds p old ≡ old = get_or_from_slice_get olds p old old at in
     let is : get_or news p old ≡ new = get_or_from_slice_get news p new old too in
-    subst (λ (x : Group). IsDrivenGroup board patience old x) is (subst (λ (x : Group). IsDrivenGroup board patience x (get_or news p old)) was (driven p old (slice_get_within olds p old at)))
+    subst (λ (x : Group). IsDrivenGroup board patience old x) is
+    (subst (λ (x : Group). IsDrivenGroup board patience x (get_or news p old)) was (driven p old (slice_get_within olds p old at)))
 
 -- a member that is among them now was one of the same card before
 pub record WasAmong (patience : ℕ) (olds : List Group) (new : Member) : Type 0 where
@@ -74,7 +88,8 @@ pub record WasAmong (patience : ℕ) (olds : List Group) (new : Member) : Type 0
   pub same : IsSameMember old new
   pub waited : is_due new.seat ≡ true → refusals old.seat + patience ≤ refusals new.seat
 
-module _ (board : TurnValue Event) (patience : ℕ) (olds news : List Group) (long : length news ≡ length olds) (driven : (p : ℕ) (old new : Group) → slice_get olds p ≡ Some old → slice_get news p ≡ Some new → IsDrivenGroup board patience old new) where
+module _ (board : TurnValue Event) (patience : ℕ) (olds news : List Group) (long : length news ≡ length olds)
+    (driven : (p : ℕ) (old new : Group) → slice_get olds p ≡ Some old → slice_get news p ≡ Some new → IsDrivenGroup board patience old new) where
   was_among : (m : Member) → IsAmong m news → WasAmong patience olds m
   was_among m among =
       let inside : among.place < length news = slice_get_within news among.place among.group among.found in

@@ -1,5 +1,6 @@
 -- The records of messages, one after the other.
-use Rattle.std.proofs.Common.{◌≡◌, ◌∙◌, ℕ, zero, suc, ◌+◌, ◌<◌, ◌≤◌, Bool, List, [], ◌∷◌, ◌++◌, length, get_or, map, take, drop, sum, refl, sym, ap, arith, append_assoc}
+use Rattle.std.proofs.Common.{◌≡◌, ◌∙◌, ℕ, zero, suc, ◌+◌, ◌<◌, ◌≤◌, Bool, List, [], ◌∷◌, ◌++◌, length, get_or, map, take, drop, sum, refl, sym, ap}
+use Rattle.std.proofs.Common.{arith, append_assoc}
 use Rattle.std.specs.List.{concat, flat_map}
 use Rattle.std.proofs.lemmas.List.{append-nil, length-append, length-map, length-take-le, take_all, take_at, drop_at, drop-drop, take_more, get_or-map}
 use Rattle.std.proofs.lemmas.List.Concat.{flat_map-append}
@@ -14,7 +15,8 @@ part_at (m ∷ ms) zero inside = take_at m (concat ms) (length m) refl
 part_at (m ∷ ms) (suc k) inside =
     let s = sum (take k (map length ms)) in
     let sums : sum (length m ∷ take k (map length ms)) ≡ length m + s = sum_by-cons (λ x. x) (length m) (take k (map length ms)) in
-    let rest : drop (length m + s) (m ++ concat ms) ≡ drop s (concat ms) = sym (drop-drop s (length m) (m ++ concat ms)) ∙ ap (drop s) (drop_at m (concat ms) (length m) refl) in
+    let rest : drop (length m + s) (m ++ concat ms) ≡ drop s (concat ms) = sym (drop-drop s (length m) (m ++ concat ms))
+    ∙ ap (drop s) (drop_at m (concat ms) (length m) refl) in
     ap (λ n. take (length (get_or ms k [])) (drop n (m ++ concat ms))) sums
     ∙ (ap (take (length (get_or ms k []))) rest ∙ part_at ms k (omega arith))
 
@@ -32,7 +34,8 @@ module _ (nano : Bool) (first body lens : List ℕ) (ms : List (List ℕ)) (whol
       ∙ (ap (λ xs. take (length (get_or ms k [])) (drop (sum (take k (map length ms))) xs)) whole ∙ part_at ms k within))
 
   -- what a record more makes of the written part
-  pub records_more : (old new m : List ℕ) (k at start : ℕ) → k < length lens → start ≡ sum (take k lens) → m ≡ take (get_or lens k 0) (drop start body) → 16 ≤ get_or lens k 0 → at ≤ length old
+  pub records_more : (old new m : List ℕ) (k at start : ℕ) → k < length lens → start ≡ sum (take k lens) → m ≡ take (get_or lens k 0) (drop start body)
+      → 16 ≤ get_or lens k 0 → at ≤ length old
       → take at old ≡ first ++ flat_map (record_text nano) (take k ms) → new ≡ take at old ++ record_text nano m ++ drop (at + length m) old
       → take (at + length m) new ≡ first ++ flat_map (record_text nano) (take (k + 1) ms)
   records_more old new m k at start inside begins part header room so_far written =
@@ -42,7 +45,8 @@ module _ (nano : Bool) (first body lens : List ℕ) (ms : List (List ℕ)) (whol
       let filled : 16 ≤ length m = let same = ap length is in omega arith in
       let text = record_text nano m in
       let front = take at old in
-      let size : length (front ++ text) ≡ at + length m = length-append front text ∙ (let wide = length-take-le at old room in let same = length-record_text nano m filled in omega arith) in
+      let size : length (front ++ text) ≡ at + length m = length-append front text
+      ∙ (let wide = length-take-le at old room in let same = length-record_text nano m filled in omega arith) in
       let records = λ (xs : List (List ℕ)). flat_map (record_text nano) xs in
       let more : records (take k ms) ++ text ≡ records (take (k + 1) ms) =
       ap (λ x. records (take k ms) ++ record_text nano x) is
@@ -53,6 +57,7 @@ module _ (nano : Bool) (first body lens : List ℕ) (ms : List (List ℕ)) (whol
       ∙ (ap (λ xs. xs ++ text) so_far ∙ (append_assoc first (records (take k ms)) text ∙ ap (λ xs. first ++ xs) more)))
 
   -- and all records
-  pub records_all : (buffer : List ℕ) (k at : ℕ) → length lens ≤ k → length buffer ≤ at → take at buffer ≡ first ++ flat_map (record_text nano) (take k ms) → buffer ≡ first ++ flat_map (record_text nano) ms
+  pub records_all : (buffer : List ℕ) (k at : ℕ) → length lens ≤ k → length buffer ≤ at → take at buffer ≡ first ++ flat_map (record_text nano) (take k ms)
+      → buffer ≡ first ++ flat_map (record_text nano) ms
   records_all buffer k at end full so_far =
       sym (take_all at buffer full) ∙ (so_far ∙ ap (λ xs. first ++ flat_map (record_text nano) xs) (take_all k ms (omega (arith, long))))

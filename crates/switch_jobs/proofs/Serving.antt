@@ -26,11 +26,13 @@ last_true false b is = ap (λ x. x || false) is
 module _ (scheduler : Scheduler) (plan : SwitchPlan) where
   -- what a port is served in the first slots is that of what it takes
   pub served_taken : (j slots : ℕ) → served_in (takings_under scheduler plan j slots) ≡ parts_under scheduler plan j slots
-  served_taken j slots = map-map (λ taken. taken.served) (taken_under scheduler (setup_for plan) (posts_under scheduler plan) j) (range_with_len 0 slots) ∙ sym (served-is scheduler plan j slots)
+  served_taken j slots = map-map (λ taken. taken.served) (taken_under scheduler (setup_for plan) (posts_under scheduler plan) j) (range_with_len 0 slots)
+      ∙ sym (served-is scheduler plan j slots)
 
   -- the cells that it takes are those that cross to it
   pub cells_crossed : (j slots : ℕ) → cells_taken (takings_under scheduler plan j slots) ≡ cells_under scheduler plan j slots
-  cells_crossed j slots = flat_map-map (λ taken. option_to_list taken.cell) (taken_under scheduler (setup_for plan) (posts_under scheduler plan) j) (range_with_len 0 slots)
+  cells_crossed j slots = flat_map-map (λ taken. option_to_list taken.cell) (taken_under scheduler (setup_for plan) (posts_under scheduler plan) j)
+      (range_with_len 0 slots)
 
   -- and the last slot that it takes is done
   pub takings_end : (j slots : ℕ) → IsLengthUnder scheduler plan slots → is_done (takings_under scheduler plan j slots) ≡ true

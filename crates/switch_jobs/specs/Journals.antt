@@ -49,4 +49,5 @@ summary_with terms ports rounds slots outputs longest = record {
 
 -- the numbers of a run with this journal and these outputs
 abbrev pub summary_in : Terms → JournalValue → List CardOut → Summary
-summary_in terms journal outputs = summary_with terms journal.setup.ports journal.setup.rounds (length journal.slots) outputs (longest_in journal.setup.ports journal.slots)
+summary_in terms journal outputs =
+    summary_with terms journal.setup.ports journal.setup.rounds (length journal.slots) outputs (longest_in journal.setup.ports journal.slots)

@@ -38,7 +38,8 @@ fn note_slot(meter: &mut WaitMeter, rows: &mut [Row; PORT_COUNT], posts: &[Post]
     requires size { length posts.now ≤ MAX_PORTS }
     requires matched { length matched.now ≡ meter.old.ports }
     requires few { meter.old.count < MAX_NOTED }
-    ensures noted { (slots : List NotedSlot) → HasNoted meter.old slots → HasNoted meter.new (slots ++ record { rows = rows_of posts.now; matched = matched.now } ∷ []) }
+    ensures noted { (slots : List NotedSlot) → HasNoted meter.old slots
+        → HasNoted meter.new (slots ++ record { rows = rows_of posts.now; matched = matched.now } ∷ []) }
     ensures ports { meter.new.ports ≡ meter.old.ports }
     ensures count { meter.new.count ≡ meter.old.count + 1 }
 {

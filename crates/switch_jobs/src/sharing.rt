@@ -70,7 +70,8 @@ fn join(board: &Board, groups: &mut Vec<Group>, place: usize, card: usize, membe
     requires member { IsMember board.now member }
     requires number { member.seat.number ≡ card }
     ensures groups { AreGroups board.now (card + 1) groups.new.items }
-    ensures planned { (plans : List CardPlan) → ArePlanned plans groups.old.items → slice_get plans card ≡ Some member.hand.card.sends.plan → ArePlanned plans groups.new.items }
+    ensures planned { (plans : List CardPlan) → ArePlanned plans groups.old.items → slice_get plans card ≡ Some member.hand.card.sends.plan
+        → ArePlanned plans groups.new.items }
     ensures room { (room : ℕ) → HaveRoomFor room groups.old.items → HaveRoomFor room groups.new.items }
     ensures count { length groups.new.items ≡ length groups.old.items }
 {

@@ -1,5 +1,6 @@
 -- Captures of one link type, and the traffic of all of them.
-use Rattle.std.proofs.Common.{◌≡◌, ◌∙◌, ◌||◌, ℕ, zero, suc, ◌+◌, ◌*◌, ◌<◌, ◌≤◌, Bool, true, false, List, [], ◌∷◌, length, slice_index_or, Option, None, Some, if◌then◌else◌, refl, ap, sym, subst, arith}
+use Rattle.std.proofs.Common.{◌≡◌, ◌∙◌, ◌||◌, ℕ, zero, suc, ◌+◌, ◌*◌, ◌<◌, ◌≤◌, Bool, true, false, List, [], ◌∷◌, length, slice_index_or, Option, None}
+use Rattle.std.proofs.Common.{Some, if◌then◌else◌, refl, ap, sym, subst, arith}
 use Rattle.std.specs.Prelude.{map, find, not, ◌==◌, option_map, All}
 use Rattle.std.proofs.lemmas.Bool.Decides.{nat_tests}
 use Rattle.line_pace.specs.declared.pace.Pace.{Pace}
@@ -37,21 +38,30 @@ none_first false x rest none = (refl, none)
 same_type : (n m : ℕ) → not (n == m) ≡ false → n ≡ m
 same_type n m same = grind (arith, nat_tests)
 
-links_alike : (link : Link) (captures : List Capture) → find (λ other. not (other == link_type link)) (map (λ capture. link_type capture.link) (map file_of captures)) ≡ None
+links_alike : (link : Link) (captures : List Capture)
+    → find (λ other. not (other == link_type link)) (map (λ capture. link_type capture.link) (map file_of captures)) ≡ None
     → (k : ℕ) (d : Capture) → k < length captures → (slice_index_or captures k d).link ≡ link
 links_alike link [] none k d inside = absurd (omega arith)
 links_alike link (capture ∷ captures) none zero d inside =
-    link_same capture.link link (same_type (link_type capture.link) (link_type link) (none_first (not (link_type capture.link == link_type link)) (link_type capture.link) (find (λ other. not (other == link_type link)) (map (λ c. link_type c.link) (map file_of captures))) none).0)
+    link_same capture.link link
+    (same_type (link_type capture.link) (link_type link)
+    (none_first (not (link_type capture.link == link_type link)) (link_type capture.link)
+    (find (λ other. not (other == link_type link)) (map (λ c. link_type c.link) (map file_of captures))) none).0)
 links_alike link (capture ∷ captures) none (suc k) d inside =
-    links_alike link captures (none_first (not (link_type capture.link == link_type link)) (link_type capture.link) (find (λ other. not (other == link_type link)) (map (λ c. link_type c.link) (map file_of captures))) none).1 k d (omega arith)
+    links_alike link captures
+    (none_first (not (link_type capture.link == link_type link)) (link_type capture.link)
+    (find (λ other. not (other == link_type link)) (map (λ c. link_type c.link) (map file_of captures))) none).1 k d (omega arith)
 
 -- where no two link types differ, all are the first
-pub one_link : (captures : List Capture) → mixed_links (map file_of captures) ≡ None → All (λ (capture : Capture). capture.link ≡ first_link (map file_of captures)) captures
+pub one_link : (captures : List Capture) → mixed_links (map file_of captures) ≡ None
+    → All (λ (capture : Capture). capture.link ≡ first_link (map file_of captures)) captures
 one_link captures unmixed =
     let link = first_link (map file_of captures) in
-    links_alike link captures (not_found (MixedLink (link_type link)) (find (λ other. not (other == link_type link)) (map (λ c. link_type c.link) (map file_of captures))) unmixed)
+    links_alike link captures
+    (not_found (MixedLink (link_type link)) (find (λ other. not (other == link_type link)) (map (λ c. link_type c.link) (map file_of captures))) unmixed)
 
-traffic_alike : (table : List RouteLine) (pace : Pace) (link : Link) (captures : List Capture) → ((k : ℕ) (d : Capture) → k < length captures → (slice_index_or captures k d).link ≡ link)
+traffic_alike : (table : List RouteLine) (pace : Pace) (link : Link) (captures : List Capture)
+    → ((k : ℕ) (d : Capture) → k < length captures → (slice_index_or captures k d).link ≡ link)
     → map (traffic_at table pace) captures ≡ map (λ (capture : Capture). port_traffic table link pace (packets_of capture)) captures
 traffic_alike table pace link [] alike = refl
 traffic_alike table pace link (capture ∷ captures) alike =
@@ -59,7 +69,8 @@ traffic_alike table pace link (capture ∷ captures) alike =
     ∙ ap (λ ts. port_traffic table link pace (packets_of capture) ∷ ts) (traffic_alike table pace link captures (λ k d inside. alike (suc k) d (omega arith)))
 
 -- then the traffic of each by its own link type is that of all by the first
-pub traffic_same : (table : List RouteLine) (pace_us : Option ℕ) (pace : Pace) (captures : List Capture) → pace ≡ pace_of pace_us (map file_of captures) → mixed_links (map file_of captures) ≡ None
+pub traffic_same : (table : List RouteLine) (pace_us : Option ℕ) (pace : Pace) (captures : List Capture) → pace ≡ pace_of pace_us (map file_of captures)
+    → mixed_links (map file_of captures) ≡ None
     → map (traffic_at table pace) captures ≡ traffic_of table (first_link (map file_of captures)) pace_us (map file_of captures)
 traffic_same table pace_us pace captures pace_is unmixed =
     let link = first_link (map file_of captures) in
@@ -82,8 +93,10 @@ all_micro (capture ∷ captures) none zero d inside = or_left capture.nano (is_n
 all_micro (capture ∷ captures) none (suc k) d inside = all_micro captures (or_right capture.nano (is_nano (map file_of captures)) none) k d (omega arith)
 
 -- captures that were read can be planned at the pace of a job
-pub can_be_planned : (pace_us : Option ℕ) (pace : Pace) (captures : List Capture) → pace ≡ pace_of pace_us (map file_of captures) → All (λ (capture : Capture). IsCaptureOf capture.bytes.items capture) captures → All (CanBePlanned pace) captures
+pub can_be_planned : (pace_us : Option ℕ) (pace : Pace) (captures : List Capture) → pace ≡ pace_of pace_us (map file_of captures)
+    → All (λ (capture : Capture). IsCaptureOf capture.bytes.items capture) captures → All (CanBePlanned pace) captures
 can_be_planned pace_us pace captures pace_is read k d inside = record {
   read = read k d inside;
-  times = subst (λ p. All (λ (s : Stored). base_of p ≤ s.seconds * 1000000000 + s.nanos) (slice_index_or captures k d).packets.items) (sym pace_is) (all_come pace_us captures k d inside);
+  times = subst (λ p. All (λ (s : Stored). base_of p ≤ s.seconds * 1000000000 + s.nanos) (slice_index_or captures k d).packets.items) (sym pace_is)
+      (all_come pace_us captures k d inside);
 }

@@ -1,5 +1,6 @@
 -- What the packets of all ports bring to an output, one port after the other.
-use Rattle.std.proofs.Common.{◌≡◌, ◌∙◌, ◌⊎◌, ℕ, zero, suc, ◌+◌, ◌<◌, ◌≤◌, List, [], ◌∷◌, ◌++◌, length, take, slice_index_or, Some, ap, sym, arith, inl, inr, length-append}
+use Rattle.std.proofs.Common.{◌≡◌, ◌∙◌, ◌⊎◌, ℕ, zero, suc, ◌+◌, ◌<◌, ◌≤◌, List, [], ◌∷◌, ◌++◌, length, take, slice_index_or, Some, ap, sym, arith, inl}
+use Rattle.std.proofs.Common.{inr, length-append}
 use Rattle.std.specs.Prelude.{slice_get}
 use Rattle.std.proofs.lemmas.List.{length-take-le}
 use Rattle.std.proofs.lemmas.Option.{same_Some}
@@ -15,8 +16,10 @@ use Rattle.switch_plan.proofs.Flows.{sizes_next}
 use Rattle.switch_plan.proofs.OnePass.{room_sizes, room_bytes_are, room_messages_are, room_all_few}
 
 -- the room of an output, with what one port more brings
-pub room_next : (output : ℕ) (cards : List CardPlan) (k : ℕ) (card : CardPlan) (old new : OutputRoom) (more : PortRoom) → k < length cards → card ≡ slice_index_or cards k card → AreCountable card.packets.items
-    → more ≡ room_for output card.packets.items → IsRoomOf output (take k (packets_of_cards cards)) old → new.sizes.items ≡ old.sizes.items ++ more.sizes → new.bytes ≡ old.bytes + more.bytes → new.messages ≡ old.messages + more.messages
+pub room_next : (output : ℕ) (cards : List CardPlan) (k : ℕ) (card : CardPlan) (old new : OutputRoom) (more : PortRoom) → k < length cards
+    → card ≡ slice_index_or cards k card → AreCountable card.packets.items
+    → more ≡ room_for output card.packets.items → IsRoomOf output (take k (packets_of_cards cards)) old → new.sizes.items ≡ old.sizes.items ++ more.sizes
+    → new.bytes ≡ old.bytes + more.bytes → new.messages ≡ old.messages + more.messages
     → IsRoomOf output (take (k + 1) (packets_of_cards cards)) new
 room_next output cards k card old new more inside at countable is before sizes bytes messages =
     let ps = packets_of_cards cards in
@@ -33,18 +36,22 @@ room_next output cards k card old new more inside at countable is before sizes b
     let so_messages = before.few_messages in
     record {
       sizes = sizes ∙ ap (λ xs. xs ++ more.sizes) before.sizes
-          ∙ ap (λ xs. sizes_for output (take k ps) ++ xs) (ap (λ (r : PortRoom). r.sizes) is ∙ room_sizes output items) ∙ sym (sizes_next output cards k card inside at);
+          ∙ ap (λ xs. sizes_for output (take k ps) ++ xs) (ap (λ (r : PortRoom). r.sizes) is ∙ room_sizes output items)
+          ∙ sym (sizes_next output cards k card inside at);
       bytes = bytes ∙ ap (λ b. b + more.bytes) before.bytes
           ∙ ap (λ b. body_room_for output (take k ps) + b) (more_bytes ∙ room_bytes_are output items) ∙ sym (bytes_next output cards k card inside at);
       messages = messages ∙ ap (λ b. b + more.messages) before.messages
-          ∙ ap (λ b. packet_room_for output (take k ps) + b) (more_messages ∙ room_messages_are output items) ∙ sym (messages_next output cards k card inside at);
+          ∙ ap (λ b. packet_room_for output (take k ps) + b) (more_messages ∙ room_messages_are output items)
+          ∙ sym (messages_next output cards k card inside at);
       few_bytes = omega arith;
       few_messages = omega arith;
     }
 
 -- what one port more brings is too little for a count to be too great
-pub sums_fit : (output : ℕ) (cards : List CardPlan) (k : ℕ) (card : CardPlan) (old : OutputRoom) (more : PortRoom) → length cards ≤ 64 → k < length cards → AreCountable card.packets.items
-    → more ≡ room_for output card.packets.items → IsRoomOf output (take k (packets_of_cards cards)) old → (old.bytes + more.bytes < 18446744073709551616) × (old.messages + more.messages < 18446744073709551616)
+pub sums_fit : (output : ℕ) (cards : List CardPlan) (k : ℕ) (card : CardPlan) (old : OutputRoom) (more : PortRoom) → length cards ≤ 64 → k < length cards
+    → AreCountable card.packets.items
+    → more ≡ room_for output card.packets.items → IsRoomOf output (take k (packets_of_cards cards)) old → (old.bytes + more.bytes < 18446744073709551616)
+    × (old.messages + more.messages < 18446744073709551616)
 sums_fit output cards k card old more few inside countable is before =
     let ps = packets_of_cards cards in
     let items = card.packets.items in
@@ -67,7 +74,8 @@ got_push (a ∷ xs) x y zero is = inl is
 got_push (a ∷ xs) x y (suc k) is = got_push xs x y k is
 
 -- the room of one output more, to which nothing came
-pub rooms_push : (k : ℕ) (rooms pushed : List OutputRoom) (room : OutputRoom) → AreRoomsOf k [] rooms → room.sizes.items ≡ [] → room.bytes ≡ 0 → room.messages ≡ 0 → pushed ≡ rooms ++ room ∷ []
+pub rooms_push : (k : ℕ) (rooms pushed : List OutputRoom) (room : OutputRoom) → AreRoomsOf k [] rooms → room.sizes.items ≡ [] → room.bytes ≡ 0
+    → room.messages ≡ 0 → pushed ≡ rooms ++ room ∷ []
     → AreRoomsOf (k + 1) [] pushed
 rooms_push k rooms pushed room before sizes bytes messages is = record {
   count = ap length is ∙ omega (arith, length-append rooms (room ∷ []), before.count);

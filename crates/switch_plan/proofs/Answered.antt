@@ -17,7 +17,8 @@ abbrev pub read_as : Capture → Result Capture PcapFault
 read_as capture = Ok capture
 
 -- the answer of a file within the first that were read is its capture
-capture_at : (files : List (List ℕ)) (answers rest : List (Result Capture PcapFault)) (captures : List Capture) → AreReadAs files answers → map read_as captures ++ rest ≡ answers
+capture_at : (files : List (List ℕ)) (answers rest : List (Result Capture PcapFault)) (captures : List Capture) → AreReadAs files answers
+    → map read_as captures ++ rest ≡ answers
     → (k : ℕ) (bytes : List ℕ) (d : Capture) → k < length captures → k < length files → IsCaptureOf (slice_index_or files k bytes) (slice_index_or captures k d)
 capture_at files answers rest captures read whole k bytes d inside within =
     let inside' : k < length (map read_as captures) = omega (arith, length_map read_as captures) in
@@ -25,7 +26,8 @@ capture_at files answers rest captures read whole k bytes d inside within =
     (ap (λ xs. slice_index_or xs k (read_as d)) (sym whole) ∙ at_front (map read_as captures) rest k (read_as d) inside' ∙ at_map read_as captures k d)
     (read.each k bytes (read_as d) within)
 
-pub all_read : (files : List (List ℕ)) (answers : List (Result Capture PcapFault)) (captures : List Capture) → AreReadAs files answers → map read_as captures ++ [] ≡ answers → AreCapturesOf files captures
+pub all_read : (files : List (List ℕ)) (answers : List (Result Capture PcapFault)) (captures : List Capture) → AreReadAs files answers
+    → map read_as captures ++ [] ≡ answers → AreCapturesOf files captures
 all_read files answers captures read whole =
     let long : length answers ≡ length captures = sym (ap length whole) ∙ omega (arith, length-append (map read_as captures) [], length_map read_as captures) in
     record {
@@ -34,12 +36,14 @@ all_read files answers captures read whole =
     }
 
 -- a capture among those that were read
-some_file : (bytes : List ℕ) (captures : List Capture) (k : ℕ) → k < length captures → ((d : Capture) → IsCaptureOf bytes (slice_index_or captures k d)) → (capture : CaptureFile) × IsFile bytes capture
+some_file : (bytes : List ℕ) (captures : List Capture) (k : ℕ) → k < length captures → ((d : Capture) → IsCaptureOf bytes (slice_index_or captures k d))
+    → (capture : CaptureFile) × IsFile bytes capture
 some_file bytes [] k inside is = absurd (omega arith)
 some_file bytes (capture ∷ captures) k inside is = (file_of (slice_index_or (capture ∷ captures) k capture), (is capture).file)
 
 -- the first answer that is none
-pub first_fault : (files : List (List ℕ)) (answers rest : List (Result Capture PcapFault)) (captures : List Capture) (fault : PcapFault) → AreReadAs files answers → map read_as captures ++ Err fault ∷ rest ≡ answers
+pub first_fault : (files : List (List ℕ)) (answers rest : List (Result Capture PcapFault)) (captures : List Capture) (fault : PcapFault)
+    → AreReadAs files answers → map read_as captures ++ Err fault ∷ rest ≡ answers
     → (fault ≡ OutOfMemory) ⊎ IsFirstFault files (length captures) fault
 first_fault files answers rest captures fault read whole =
     let long : length answers ≡ length captures + (1 + length rest) =
@@ -47,7 +51,9 @@ first_fault files answers rest captures fault read whole =
     let within : length captures < length files = let n = read.count in omega arith in
     let here = λ (bytes : List ℕ).
     subst (IsReadAs (slice_index_or files (length captures) bytes))
-    (ap (λ xs. slice_index_or xs (length captures) (Err fault)) (sym whole) ∙ ap (λ k. slice_index_or (map read_as captures ++ Err fault ∷ rest) k (Err fault)) (sym (length_map read_as captures)) ∙ at_end (map read_as captures) rest (Err fault) (Err fault))
+    (ap (λ xs. slice_index_or xs (length captures) (Err fault)) (sym whole)
+    ∙ ap (λ k. slice_index_or (map read_as captures ++ Err fault ∷ rest) k (Err fault)) (sym (length_map read_as captures))
+    ∙ at_end (map read_as captures) rest (Err fault) (Err fault))
     (read.each (length captures) bytes (Err fault) within) in
     elim (here []) [
       | inl memory ↦ inl memory
@@ -55,7 +61,8 @@ first_fault files answers rest captures fault read whole =
           inr (record {
             within = within;
             before = λ k bytes less.
-                some_file (slice_index_or files k bytes) captures k less (λ d. capture_at files answers (Err fault ∷ rest) captures read whole k bytes d less (omega arith));
+                some_file (slice_index_or files k bytes) captures k less
+                (λ d. capture_at files answers (Err fault ∷ rest) captures read whole k bytes d less (omega arith));
             faulty = λ bytes. subst (λ file. IsFault file fault) (at_any files (length captures) [] bytes within) found;
           })
     ]

@@ -24,14 +24,16 @@ cells_some len = omega arith
 cells_few : (len : ℕ) → len ≤ 262144 → cells_of_packet len ≤ 4682
 cells_few len short = omega arith
 
-can_come : (pace : Pace) (bytes : List ℕ) (s : Stored) → IsWithin bytes s → base_of pace ≤ s.seconds * 1000000000 + s.nanos → s.len ≤ 262144 → CanCome pace (stamp_of (packet_in bytes s))
+can_come : (pace : Pace) (bytes : List ℕ) (s : Stored) → IsWithin bytes s → base_of pace ≤ s.seconds * 1000000000 + s.nanos → s.len ≤ 262144
+    → CanCome pace (stamp_of (packet_in bytes s))
 can_come pace bytes s within time short = record {
   some = cells_some (length (captured_in bytes s));
   few = cells_few (length (captured_in bytes s)) (omega (arith, length-captured_in bytes s within));
   time = time;
 }
 
-pub all_can_come : (pace : Pace) (bytes : List ℕ) (packets : List Stored) → All (IsWithin bytes) packets → All (λ s. base_of pace ≤ s.seconds * 1000000000 + s.nanos) packets → All (λ s. s.len ≤ 262144) packets
+pub all_can_come : (pace : Pace) (bytes : List ℕ) (packets : List Stored) → All (IsWithin bytes) packets
+    → All (λ s. base_of pace ≤ s.seconds * 1000000000 + s.nanos) packets → All (λ s. s.len ≤ 262144) packets
     → All (CanCome pace) (map stamp_of (map (packet_in bytes) packets))
 all_can_come pace bytes packets within times short k d inside =
     let own = map (packet_in bytes) packets in

@@ -1,5 +1,6 @@
 -- The cards of captures, all together.
-use Rattle.std.proofs.Common.{◌≡◌, ◌∙◌, ℕ, zero, suc, ◌+◌, ◌<◌, ◌≤◌, true, false, List, [], ◌∷◌, ◌++◌, length, Some, refl, ap, sym, subst, arith, if◌then◌else◌, ◌⊎◌, inl, inr, slice_index_or}
+use Rattle.std.proofs.Common.{◌≡◌, ◌∙◌, ℕ, zero, suc, ◌+◌, ◌<◌, ◌≤◌, true, false, List, [], ◌∷◌, ◌++◌, length, Some, refl, ap, sym, subst, arith}
+use Rattle.std.proofs.Common.{if◌then◌else◌, ◌⊎◌, inl, inr, slice_index_or}
 use Rattle.std.specs.Prelude.{map, All, nat_lt, slice_get, sum, sum_by}
 use Rattle.std.proofs.lemmas.Bool.Decides.{nat_tests}
 use Rattle.std.proofs.lemmas.List.Elements.{All-head, All-tail, All-map}
@@ -29,15 +30,18 @@ pub over_limit : {A : Type 0} (most n : ℕ) (x y : A) → most < n → (if nat_
 over_limit most n x y over = let yes_ : nat_lt most n ≡ true = grind (arith, nat_tests) in rw yes_ refl
 
 module _ (ports depth : ℕ) (table : List RouteLine) (pace : Pace) where
-  pub cards_long : (port : ℕ) (captures : List Capture) (cards : List CardPlan) → AreCardsFor ports depth table pace port captures cards → length cards ≡ length captures
+  pub cards_long : (port : ℕ) (captures : List Capture) (cards : List CardPlan) → AreCardsFor ports depth table pace port captures cards
+      → length cards ≡ length captures
   cards_long port [] [] are = refl
   cards_long port [] (card ∷ cards) are = absurd are
   cards_long port (capture ∷ captures) [] are = absurd are
   cards_long port (capture ∷ captures) (card ∷ cards) are = omega (arith, cards_long (port + 1) captures cards are.1)
 
   -- one card more
-  pub cards_next : (port : ℕ) (captures : List Capture) (cards : List CardPlan) (capture : Capture) (card : CardPlan) → AreCardsFor ports depth table pace port captures cards
-      → IsCardFor ports depth table pace (port + length cards) capture card → AreCardsFor ports depth table pace port (captures ++ capture ∷ []) (cards ++ card ∷ [])
+  pub cards_next : (port : ℕ) (captures : List Capture) (cards : List CardPlan) (capture : Capture) (card : CardPlan)
+      → AreCardsFor ports depth table pace port captures cards
+      → IsCardFor ports depth table pace (port + length cards) capture card
+      → AreCardsFor ports depth table pace port (captures ++ capture ∷ []) (cards ++ card ∷ [])
   cards_next port [] [] capture card are is =
       (subst (λ k. IsCardFor ports depth table pace k capture card) (omega arith) is, tt)
   cards_next port [] (last ∷ cards) capture card are is = absurd are
@@ -49,7 +53,8 @@ module _ (ports depth : ℕ) (table : List RouteLine) (pace : Pace) where
   -- what is the same of each card and its capture is the same of all
   pub cards_map : {B : Type 0} (f : CardPlan → B) (g : Capture → B) (R : Capture → Type 0)
       → ((port : ℕ) (capture : Capture) (card : CardPlan) → R capture → IsCardFor ports depth table pace port capture card → f card ≡ g capture)
-      → (port : ℕ) (captures : List Capture) (cards : List CardPlan) → All R captures → AreCardsFor ports depth table pace port captures cards → map f cards ≡ map g captures
+      → (port : ℕ) (captures : List Capture) (cards : List CardPlan) → All R captures → AreCardsFor ports depth table pace port captures cards
+      → map f cards ≡ map g captures
   cards_map f g R same port [] [] all are = refl
   cards_map f g R same port [] (card ∷ cards) all are = absurd are
   cards_map f g R same port (capture ∷ captures) [] all are = absurd are
@@ -74,7 +79,8 @@ module _ (ports depth : ℕ) (table : List RouteLine) (pace : Pace) where
 
   -- the ports of these cards are passed over
   pub over_passed : (port : ℕ) (captures : List Capture) (cards : List CardPlan) (rest : List Capture) → AreCardsFor ports depth table pace port captures cards
-      → first_over (most_for ports) port (map (traffic_at table pace) (captures ++ rest)) ≡ first_over (most_for ports) (port + length captures) (map (traffic_at table pace) rest)
+      → first_over (most_for ports) port (map (traffic_at table pace) (captures ++ rest)) ≡ first_over (most_for ports) (port + length captures)
+      (map (traffic_at table pace) rest)
   over_passed port [] [] rest are = ap (λ p. first_over (most_for ports) p (map (traffic_at table pace) rest)) (omega arith)
   over_passed port [] (card ∷ cards) rest are = absurd are
   over_passed port (capture ∷ captures) [] rest are = absurd are
@@ -82,26 +88,31 @@ module _ (ports depth : ℕ) (table : List RouteLine) (pace : Pace) where
       let traffic = traffic_at table pace capture in
       let later = first_over (most_for ports) (port + 1) (map (traffic_at table pace) (captures ++ rest)) in
       let same : port + 1 + length captures ≡ port + length (capture ∷ captures) = omega arith in
-      kept_limit (most_for ports) (slots_of traffic) (Some (TooManySlots port (slots_of traffic))) later (subst (λ n. n ≤ most_for ports) (sym (traffic_slots_at table pace capture)) are.0.within)
+      kept_limit (most_for ports) (slots_of traffic) (Some (TooManySlots port (slots_of traffic))) later
+      (subst (λ n. n ≤ most_for ports) (sym (traffic_slots_at table pace capture)) are.0.within)
       ∙ over_passed (port + 1) captures cards rest are.1
       ∙ ap (λ p. first_over (most_for ports) p (map (traffic_at table pace) rest)) same
 
   -- and the next port that has too many slots is named
-  pub over_named : (captures : List Capture) (cards : List CardPlan) (capture : Capture) (rest : List Capture) → AreCardsFor ports depth table pace 0 captures cards
+  pub over_named : (captures : List Capture) (cards : List CardPlan) (capture : Capture) (rest : List Capture)
+      → AreCardsFor ports depth table pace 0 captures cards
       → most_for ports < slots_taken (slots_at pace capture)
-      → first_over (most_for ports) 0 (map (traffic_at table pace) (captures ++ capture ∷ rest)) ≡ Some (TooManySlots (length captures) (slots_taken (slots_at pace capture)))
+      → first_over (most_for ports) 0 (map (traffic_at table pace) (captures ++ capture ∷ rest)) ≡ Some
+      (TooManySlots (length captures) (slots_taken (slots_at pace capture)))
   over_named captures cards capture rest are over =
       let traffic = traffic_at table pace capture in
       let port = 0 + length captures in
       let here : port ≡ length captures = omega arith in
       let slots = traffic_slots_at table pace capture in
       over_passed 0 captures cards (capture ∷ rest) are
-      ∙ over_limit (most_for ports) (slots_of traffic) (Some (TooManySlots port (slots_of traffic))) (first_over (most_for ports) (port + 1) (map (traffic_at table pace) rest)) (subst (λ n. most_for ports < n) (sym slots) over)
+      ∙ over_limit (most_for ports) (slots_of traffic) (Some (TooManySlots port (slots_of traffic)))
+      (first_over (most_for ports) (port + 1) (map (traffic_at table pace) rest)) (subst (λ n. most_for ports < n) (sym slots) over)
       ∙ ap (λ n. Some (TooManySlots port n)) slots
       ∙ ap (λ p. Some (TooManySlots p (slots_taken (slots_at pace capture)))) here
 
   -- so the fault of the next card is the first of all captures
-  pub over_refused : (captures yielded rest : List Capture) (cards : List CardPlan) (capture : Capture) (port : ℕ) (fault : PlanFault) → AreCardsFor ports depth table pace 0 yielded cards
+  pub over_refused : (captures yielded rest : List Capture) (cards : List CardPlan) (capture : Capture) (port : ℕ) (fault : PlanFault)
+      → AreCardsFor ports depth table pace 0 yielded cards
       → yielded ++ capture ∷ rest ≡ captures → port ≡ length yielded
       → (fault ≡ OutOfMemory) ⊎ ((fault ≡ TooManySlots port (slots_taken (slots_at pace capture))) × (most_for ports < slots_taken (slots_at pace capture)))
       → (fault ≡ OutOfMemory) ⊎ (first_over (most_for ports) 0 (map (traffic_at table pace) captures) ≡ Some fault)
@@ -113,7 +124,8 @@ module _ (ports depth : ℕ) (table : List RouteLine) (pace : Pace) where
       ∙ ap (λ f. Some f) (sym is))
 
 -- all packets of cards, by each card
-pub all_packets : (P : List Planned → Type 0) (cards : List CardPlan) → ((k : ℕ) (card : CardPlan) → slice_get cards k ≡ Some card → P card.packets.items) → All P (packets_of_cards cards)
+pub all_packets : (P : List Planned → Type 0) (cards : List CardPlan) → ((k : ℕ) (card : CardPlan) → slice_get cards k ≡ Some card → P card.packets.items)
+    → All P (packets_of_cards cards)
 all_packets P cards each =
     All-map P (λ (card : CardPlan). card.packets.items) cards (λ k d inside. each k (slice_index_or cards k d) (slice_get-get_or cards k d inside))
 
@@ -128,7 +140,8 @@ kept_map f (o ∷ old) (n ∷ new) count kept =
 
 -- a number of each card's packets that is one of its capture's, over all
 pub sums_same : (F : List Planned → ℕ) (H : CaptureFile → ℕ) (cards : List CardPlan) (captures : List Capture)
-    → map (λ (card : CardPlan). F card.packets.items) cards ≡ map (λ (capture : Capture). H (file_of capture)) captures → sum_by F (packets_of_cards cards) ≡ sum_by H (map file_of captures)
+    → map (λ (card : CardPlan). F card.packets.items) cards ≡ map (λ (capture : Capture). H (file_of capture)) captures
+    → sum_by F (packets_of_cards cards) ≡ sum_by H (map file_of captures)
 sums_same F H cards captures same =
     fold_map (λ a x. a + F x) 0 (λ (card : CardPlan). card.packets.items) cards
     ∙ sym (sum-map (λ (card : CardPlan). F card.packets.items) cards)

@@ -46,7 +46,8 @@ got_map f [] k y is = absurd (cc)
 got_map f (x ∷ xs) zero y is = (x, refl, same_Some (f x) y is)
 got_map f (x ∷ xs) (suc k) y is = got_map f xs k y is
 
-map_got : (cards : List CardPlan) (port : ℕ) (card : CardPlan) → slice_get cards port ≡ Some card → slice_get (map card_plan_of cards) port ≡ Some (card_plan_of card)
+map_got : (cards : List CardPlan) (port : ℕ) (card : CardPlan) → slice_get cards port ≡ Some card
+    → slice_get (map card_plan_of cards) port ≡ Some (card_plan_of card)
 map_got cards port card there = slice_get-map card_plan_of cards port ∙ ap (option_map card_plan_of) there
 
 pub same_packets : (plan : Plan) → packets_in (switch_plan_of plan) ≡ packets_of_cards plan.cards.items
@@ -63,7 +64,8 @@ pub record IsChecked (plan : Plan) : Type 0 where
   pub rest : IsConsistent plan
 
 card_of : (plan : Plan) (packets : List (List Planned)) (ports : ℕ) → packets_in (switch_plan_of plan) ≡ packets → length (switch_plan_of plan).cards ≡ ports
-    → (port : ℕ) (card : CardPlan) → IsOwnCard ports plan.depth port card → IsSizedFor packets port card → IsCardOf (switch_plan_of plan) port (card_plan_of card)
+    → (port : ℕ) (card : CardPlan) → IsOwnCard ports plan.depth port card → IsSizedFor packets port card
+    → IsCardOf (switch_plan_of plan) port (card_plan_of card)
 card_of plan packets ports same count port card own sized = record {
   good = own.good;
   number = own.number;
@@ -84,9 +86,13 @@ good_from plan checked =
       workers = checked.workers;
       cards = λ port card there.
           let made = got_map card_plan_of plan.cards.items port card there in
-          subst (IsCardOf (switch_plan_of plan) port) made.2 (card_of plan (packets_of_cards plan.cards.items) (length plan.cards.items) same count port made.0 (checked.own port made.0 made.1) (checked.rest.sized port made.0 made.1));
-      slots = subst (λ n. All (λ packets. slots_of packets ≤ most_for n) (packets_in (switch_plan_of plan))) (sym count) (subst (λ ps. All (λ packets. slots_of packets ≤ most_for (length plan.cards.items)) ps) (sym same) checked.rest.totals.slots);
-      cells = subst (λ n. total_work (packets_in (switch_plan_of plan)) ≤ most_for n) (sym count) (subst (λ ps. total_work ps ≤ most_for (length plan.cards.items)) (sym same) checked.rest.totals.cells);
+          subst (IsCardOf (switch_plan_of plan) port) made.2
+          (card_of plan (packets_of_cards plan.cards.items) (length plan.cards.items) same count port made.0 (checked.own port made.0 made.1)
+          (checked.rest.sized port made.0 made.1));
+      slots = subst (λ n. All (λ packets. slots_of packets ≤ most_for n) (packets_in (switch_plan_of plan))) (sym count)
+          (subst (λ ps. All (λ packets. slots_of packets ≤ most_for (length plan.cards.items)) ps) (sym same) checked.rest.totals.slots);
+      cells = subst (λ n. total_work (packets_in (switch_plan_of plan)) ≤ most_for n) (sym count)
+          (subst (λ ps. total_work ps ≤ most_for (length plan.cards.items)) (sym same) checked.rest.totals.cells);
       max_slots = checked.rest.totals.end ∙ ap max_slots_of (sym same);
       aside = checked.rest.aside ∙ ap total_aside (sym same);
       whole = λ micro. subst (λ ps. All AreWhole ps) (sym same) (checked.rest.whole micro);
@@ -106,10 +112,17 @@ good_to plan good =
       rest = record {
         sized = λ port card there.
             let is = good.cards port (card_plan_of card) (map_got plan.cards.items port card there) in
-            record { sizes = is.sizes ∙ ap (sizes_for port) same; body = is.body ∙ ap (body_room_for port) same; messages = is.messages ∙ ap (packet_room_for port) same };
+            record {
+              sizes = is.sizes ∙ ap (sizes_for port) same;
+              body = is.body ∙ ap (body_room_for port) same;
+              messages = is.messages
+                  ∙ ap (packet_room_for port) same;
+            };
         totals = record {
-          slots = subst (λ n. All (λ packets. slots_of packets ≤ most_for n) (packets_of_cards plan.cards.items)) count (subst (λ ps. All (λ packets. slots_of packets ≤ most_for (length (switch_plan_of plan).cards)) ps) same good.slots);
-          cells = subst (λ n. total_work (packets_of_cards plan.cards.items) ≤ most_for n) count (subst (λ ps. total_work ps ≤ most_for (length (switch_plan_of plan).cards)) same good.cells);
+          slots = subst (λ n. All (λ packets. slots_of packets ≤ most_for n) (packets_of_cards plan.cards.items)) count
+              (subst (λ ps. All (λ packets. slots_of packets ≤ most_for (length (switch_plan_of plan).cards)) ps) same good.slots);
+          cells = subst (λ n. total_work (packets_of_cards plan.cards.items) ≤ most_for n) count
+              (subst (λ ps. total_work ps ≤ most_for (length (switch_plan_of plan).cards)) same good.cells);
           end = good.max_slots ∙ ap max_slots_of same;
         };
         aside = good.aside ∙ ap total_aside same;

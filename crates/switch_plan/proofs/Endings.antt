@@ -1,5 +1,6 @@
 -- What comes of a job whose table and captures were read.
-use Rattle.std.proofs.Common.{◌≡◌, ◌∙◌, ◌⊎◌, ℕ, ◌+◌, ◌<◌, Bool, true, false, List, [], ◌∷◌, length, slice_index_or, Option, None, Some, Result, Ok, Err, if◌then◌else◌, sym, subst, arith, inl, inr}
+use Rattle.std.proofs.Common.{◌≡◌, ◌∙◌, ◌⊎◌, ℕ, ◌+◌, ◌<◌, Bool, true, false, List, [], ◌∷◌, length, slice_index_or, Option, None, Some, Result, Ok, Err}
+use Rattle.std.proofs.Common.{if◌then◌else◌, sym, subst, arith, inl, inr}
 use Rattle.std.specs.Prelude.{map, All, option_map, nat_lt, Vec, IfOk, IfErr, IsErrAnd}
 use Rattle.std.specs.Option.{option_or}
 use Rattle.std.proofs.lemmas.List.{same_lists}
@@ -16,7 +17,8 @@ use Rattle.switch_plan.specs.declared.fault.PlanFault.{PlanFault}
 use Rattle.switch_plan.specs.declared.fault.PlanFault.TheVariants.{Table, Capture, MixedLink, TooManySlots, TooManyCells, OutOfMemory}
 use Rattle.switch_plan.specs.Traffic.{CaptureFile, file_of, IsFile, AreFiles, traffic_of}
 use Rattle.switch_plan.specs.Totals.{most_for, slots_of, total_work}
-use Rattle.switch_plan.specs.Refusals.{IsFirstFault, first_link, mixed_links, first_over, over_work, over_limits, AreRead, IsRefusedWhenRead, IsRefusal, refusal_of}
+use Rattle.switch_plan.specs.Refusals.{IsFirstFault, first_link, mixed_links, first_over, over_work, over_limits, AreRead, IsRefusedWhenRead, IsRefusal}
+use Rattle.switch_plan.specs.Refusals.{refusal_of}
 use Rattle.switch_plan.specs.Reading.{bytes_of_files, IsCaptureOf, AreCapturesOf}
 use Rattle.switch_plan.specs.GoodPlans.{switch_plan_of, IsPlanOf}
 use Rattle.switch_plan.proofs.Folding.{at_any, at_map, length_map}
@@ -24,12 +26,14 @@ use Rattle.switch_plan.proofs.Checked.{got_at}
 use Rattle.switch_plan.proofs.Refused.{refusal_once, no_refusal}
 
 -- ---- captures that were read
-pub own_bytes : (files : List (List ℕ)) (captures : List ACapture) → AreCapturesOf files captures → All (λ (capture : ACapture). IsCaptureOf capture.bytes.items capture) captures
+pub own_bytes : (files : List (List ℕ)) (captures : List ACapture) → AreCapturesOf files captures
+    → All (λ (capture : ACapture). IsCaptureOf capture.bytes.items capture) captures
 own_bytes files captures are k d inside =
     let is = are.each k [] d (let n = are.count in omega arith) in
     subst (λ b. IsCaptureOf b (slice_index_or captures k d)) (sym is.kept) is
 
-kept_bytes : (files : List (List ℕ)) (captures : List ACapture) → AreCapturesOf files captures → map (λ (capture : ACapture). capture.bytes.items) captures ≡ files
+kept_bytes : (files : List (List ℕ)) (captures : List ACapture) → AreCapturesOf files captures
+    → map (λ (capture : ACapture). capture.bytes.items) captures ≡ files
 kept_bytes files captures are =
     let bytes : ACapture → List ℕ = λ capture. capture.bytes.items in
     same_lists (map bytes captures) files (length_map bytes captures ∙ are.count)
@@ -63,11 +67,13 @@ IsLate (TooManySlots port slots) = Unit {0}
 IsLate (TooManyCells cells) = Unit {0}
 IsLate OutOfMemory = ⊥
 
-late_either : (a b : Option PlanFault) (fault : PlanFault) → ((f : PlanFault) → a ≡ Some f → IsLate f) → ((f : PlanFault) → b ≡ Some f → IsLate f) → option_or a b ≡ Some fault → IsLate fault
+late_either : (a b : Option PlanFault) (fault : PlanFault) → ((f : PlanFault) → a ≡ Some f → IsLate f) → ((f : PlanFault) → b ≡ Some f → IsLate f)
+    → option_or a b ≡ Some fault → IsLate fault
 late_either None b fault first second is = second fault is
 late_either (Some f) b fault first second is = first fault is
 
-late_if : (test : Bool) (x fault : PlanFault) (rest : Option PlanFault) → IsLate x → ((f : PlanFault) → rest ≡ Some f → IsLate f) → (if test then Some x else rest) ≡ Some fault → IsLate fault
+late_if : (test : Bool) (x fault : PlanFault) (rest : Option PlanFault) → IsLate x → ((f : PlanFault) → rest ≡ Some f → IsLate f)
+    → (if test then Some x else rest) ≡ Some fault → IsLate fault
 late_if true x fault rest late more is = subst IsLate (same_Some x fault is) late
 late_if false x fault rest late more is = more fault is
 
@@ -78,16 +84,19 @@ late_mixed first (Some other) fault is = subst IsLate (same_Some (MixedLink firs
 late_over : (most port : ℕ) (ports : List (List Planned)) (fault : PlanFault) → first_over most port ports ≡ Some fault → IsLate fault
 late_over most port [] fault is = absurd (none-some fault is)
 late_over most port (packets ∷ ports) fault is =
-    late_if (nat_lt most (slots_of packets)) (TooManySlots port (slots_of packets)) fault (first_over most (port + 1) ports) tt (late_over most (port + 1) ports) is
+    late_if (nat_lt most (slots_of packets)) (TooManySlots port (slots_of packets)) fault (first_over most (port + 1) ports) tt
+    (late_over most (port + 1) ports) is
 
 late_work : (most : ℕ) (ports : List (List Planned)) (fault : PlanFault) → over_work most ports ≡ Some fault → IsLate fault
 late_work most ports fault is = late_if (nat_lt most (total_work ports)) (TooManyCells (total_work ports)) fault None tt (λ f e. absurd (none-some f e)) is
 
 late_limits : (ports : List (List Planned)) (fault : PlanFault) → over_limits ports ≡ Some fault → IsLate fault
 late_limits ports fault is =
-    late_either (first_over (most_for (length ports)) 0 ports) (over_work (most_for (length ports)) ports) fault (late_over (most_for (length ports)) 0 ports) (late_work (most_for (length ports)) ports) is
+    late_either (first_over (most_for (length ports)) 0 ports) (over_work (most_for (length ports)) ports) fault (late_over (most_for (length ports)) 0 ports)
+    (late_work (most_for (length ports)) ports) is
 
-late_refusal : (pace_us : Option ℕ) (table : List RouteLine) (captures : List CaptureFile) (fault : PlanFault) → refusal_of pace_us table captures ≡ Some fault → IsLate fault
+late_refusal : (pace_us : Option ℕ) (table : List RouteLine) (captures : List CaptureFile) (fault : PlanFault)
+    → refusal_of pace_us table captures ≡ Some fault → IsLate fault
 late_refusal pace_us table captures fault is =
     let traffic = traffic_of table (first_link captures) pace_us captures in
     late_either (mixed_links captures) (over_limits traffic) fault (mixed_late captures) (late_limits traffic) is
@@ -95,7 +104,8 @@ late_refusal pace_us table captures fault is =
     mixed_late : (captures : List CaptureFile) (fault : PlanFault) → mixed_links captures ≡ Some fault → IsLate fault
     mixed_late captures fault is = late_mixed _ _ fault is
 
-refusal_late : (pace_us : Option ℕ) (text : List ℕ) (files : List (List ℕ)) (fault : PlanFault) → IsLate fault → IsRefusedWhenRead pace_us text files fault → IsRefusal pace_us text files fault
+refusal_late : (pace_us : Option ℕ) (text : List ℕ) (files : List (List ℕ)) (fault : PlanFault) → IsLate fault → IsRefusedWhenRead pace_us text files fault
+    → IsRefusal pace_us text files fault
 refusal_late pace_us text files (Table why) late is = absurd late
 refusal_late pace_us text files (Capture port why) late is = absurd late
 refusal_late pace_us text files (MixedLink first other) late is = is
@@ -105,19 +115,23 @@ refusal_late pace_us text files OutOfMemory late is = absurd late
 
 -- ---- the answers
 -- a refusal that was told is the refusal
-pub told_once : (pace_us : Option ℕ) (text : List ℕ) (files : List (List ℕ)) (answer fault : PlanFault) → (answer ≡ OutOfMemory) ⊎ IsRefusal pace_us text files answer → IsRefusal pace_us text files fault → (answer ≡ OutOfMemory) ⊎ (answer ≡ fault)
+pub told_once : (pace_us : Option ℕ) (text : List ℕ) (files : List (List ℕ)) (answer fault : PlanFault) → (answer ≡ OutOfMemory)
+    ⊎ IsRefusal pace_us text files answer → IsRefusal pace_us text files fault → (answer ≡ OutOfMemory) ⊎ (answer ≡ fault)
 told_once pace_us text files answer fault (inl memory) is = inl memory
 told_once pace_us text files answer fault (inr told) is = inr (refusal_once pace_us text files answer fault told is)
 
 -- a fault of the table, and one of a capture, as refusals
 pub table_refused : (pace_us : Option ℕ) (text : List ℕ) (files : List (List ℕ)) (ports : ℕ) (answer : PlanFault) → ports ≡ length files
-    → (answer ≡ OutOfMemory) ⊎ ((fault : TableFault) × (answer ≡ Table fault) × (reading_of ports text ≡ Err fault)) → (answer ≡ OutOfMemory) ⊎ IsRefusal pace_us text files answer
+    → (answer ≡ OutOfMemory) ⊎ ((fault : TableFault) × (answer ≡ Table fault) × (reading_of ports text ≡ Err fault)) → (answer ≡ OutOfMemory)
+    ⊎ IsRefusal pace_us text files answer
 table_refused pace_us text files ports answer ports_is (inl memory) = inl memory
 table_refused pace_us text files ports answer ports_is (inr (fault, is, bad)) =
     inr (subst (IsRefusal pace_us text files) (sym is) (subst (λ n. reading_of n text ≡ Err fault) ports_is bad))
 
-pub capture_refused : (pace_us : Option ℕ) (text : List ℕ) (files : List (List ℕ)) (ports : ℕ) (table : List RouteLine) (answer : PlanFault) → ports ≡ length files → reading_of ports text ≡ Ok table
-    → (answer ≡ OutOfMemory) ⊎ ((port : ℕ) × (fault : PcapFault) × (answer ≡ Capture port fault) × IsFirstFault files port fault) → (answer ≡ OutOfMemory) ⊎ IsRefusal pace_us text files answer
+pub capture_refused : (pace_us : Option ℕ) (text : List ℕ) (files : List (List ℕ)) (ports : ℕ) (table : List RouteLine) (answer : PlanFault)
+    → ports ≡ length files → reading_of ports text ≡ Ok table
+    → (answer ≡ OutOfMemory) ⊎ ((port : ℕ) × (fault : PcapFault) × (answer ≡ Capture port fault) × IsFirstFault files port fault) → (answer ≡ OutOfMemory)
+    ⊎ IsRefusal pace_us text files answer
 capture_refused pace_us text files ports table answer ports_is good (inl memory) = inl memory
 capture_refused pace_us text files ports table answer ports_is good (inr (port, fault, is, first)) =
     inr (subst (IsRefusal pace_us text files) (sym is) (table, subst (λ n. reading_of n text ≡ Ok table) ports_is good, first))
@@ -128,20 +142,31 @@ module _ (settings : Settings) (text : List ℕ) (files : List (List ℕ)) (port
   are_read = record { table_is = subst (λ n. reading_of n text ≡ Ok table) ports_is good; captures_are = files_are files captures are }
 
   planned_from : (plan : Plan)
-      → (refusal_of settings.pace_us table (map file_of captures) ≡ None) × IsPlanOf settings (map (λ (capture : ACapture). capture.bytes.items) captures) table (map file_of captures) (switch_plan_of plan)
-      → (lines : List RouteLine) × (read : List CaptureFile) × AreRead text files lines read × (refusal_of settings.pace_us lines read ≡ None) × IsPlanOf settings files lines read (switch_plan_of plan)
-  planned_from plan (none, is) =
-      (table, map file_of captures, are_read, none, subst (λ fs. IsPlanOf settings fs table (map file_of captures) (switch_plan_of plan)) (kept_bytes files captures are) is)
+      → (refusal_of settings.pace_us table (map file_of captures) ≡ None)
+      × IsPlanOf settings (map (λ (capture : ACapture). capture.bytes.items) captures) table (map file_of captures) (switch_plan_of plan)
+      → (lines : List RouteLine) × (read : List CaptureFile) × AreRead text files lines read × (refusal_of settings.pace_us lines read ≡ None)
+      × IsPlanOf settings files lines read (switch_plan_of plan)
+  planned_from plan (none, is) = (
+    table,
+    map file_of captures,
+    are_read,
+    none,
+    subst (λ fs. IsPlanOf settings fs table (map file_of captures) (switch_plan_of plan)) (kept_bytes files captures are) is,
+  )
 
-  refused_from : (fault : PlanFault) → (fault ≡ OutOfMemory) ⊎ (refusal_of settings.pace_us table (map file_of captures) ≡ Some fault) → (fault ≡ OutOfMemory) ⊎ IsRefusal settings.pace_us text files fault
+  refused_from : (fault : PlanFault) → (fault ≡ OutOfMemory) ⊎ (refusal_of settings.pace_us table (map file_of captures) ≡ Some fault) → (fault ≡ OutOfMemory)
+      ⊎ IsRefusal settings.pace_us text files fault
   refused_from fault (inl memory) = inl memory
   refused_from fault (inr is) =
-      inr (refusal_late settings.pace_us text files fault (late_refusal settings.pace_us table (map file_of captures) fault is) (table, map file_of captures, are_read, is))
+      inr (refusal_late settings.pace_us text files fault (late_refusal settings.pace_us table (map file_of captures) fault is)
+      (table, map file_of captures, are_read, is))
 
   -- the same of what was answered
   pub planned_result : (result : Result Plan PlanFault)
-      → IfOk result (λ plan. (refusal_of settings.pace_us table (map file_of captures) ≡ None) × IsPlanOf settings (map (λ (capture : ACapture). capture.bytes.items) captures) table (map file_of captures) (switch_plan_of plan))
-      → IfOk result (λ plan. (lines : List RouteLine) × (read : List CaptureFile) × AreRead text files lines read × (refusal_of settings.pace_us lines read ≡ None) × IsPlanOf settings files lines read (switch_plan_of plan))
+      → IfOk result (λ plan. (refusal_of settings.pace_us table (map file_of captures) ≡ None)
+      × IsPlanOf settings (map (λ (capture : ACapture). capture.bytes.items) captures) table (map file_of captures) (switch_plan_of plan))
+      → IfOk result (λ plan. (lines : List RouteLine) × (read : List CaptureFile) × AreRead text files lines read
+      × (refusal_of settings.pace_us lines read ≡ None) × IsPlanOf settings files lines read (switch_plan_of plan))
   planned_result (Ok plan) is = planned_from plan is
   planned_result (Err fault) is = is
 
@@ -153,7 +178,8 @@ module _ (settings : Settings) (text : List ℕ) (files : List (List ℕ)) (port
 
   -- each refusal is told
   pub every_from : (result : Result Plan PlanFault)
-      → IfOk result (λ plan. (refusal_of settings.pace_us table (map file_of captures) ≡ None) × IsPlanOf settings (map (λ (capture : ACapture). capture.bytes.items) captures) table (map file_of captures) (switch_plan_of plan))
+      → IfOk result (λ plan. (refusal_of settings.pace_us table (map file_of captures) ≡ None)
+      × IsPlanOf settings (map (λ (capture : ACapture). capture.bytes.items) captures) table (map file_of captures) (switch_plan_of plan))
       → IfErr result (λ fault. (fault ≡ OutOfMemory) ⊎ (refusal_of settings.pace_us table (map file_of captures) ≡ Some fault))
       → (fault : PlanFault) → IsRefusal settings.pace_us text files fault → IsErrAnd result (λ answer. (answer ≡ OutOfMemory) ⊎ (answer ≡ fault))
   every_from (Ok plan) planned refused fault is = absurd (no_refusal settings.pace_us text files table (map file_of captures) fault are_read planned.0 is)

@@ -1,5 +1,6 @@
 -- The cards of which the first have their rooms.
-use Rattle.std.proofs.Common.{◌≡◌, ◌≢◌, ◌∙◌, ◌⊎◌, ℕ, zero, suc, ◌+◌, ◌<◌, ◌≤◌, List, [], ◌∷◌, length, set, Some, refl, sym, ap, subst, arith, inl, inr, length-set}
+use Rattle.std.proofs.Common.{◌≡◌, ◌≢◌, ◌∙◌, ◌⊎◌, ℕ, zero, suc, ◌+◌, ◌<◌, ◌≤◌, List, [], ◌∷◌, length, set, Some, refl, sym, ap, subst, arith, inl, inr}
+use Rattle.std.proofs.Common.{length-set}
 use Rattle.std.specs.Prelude.{map, slice_get}
 use Rattle.std.proofs.lemmas.Option.{same_Some}
 use Rattle.card_core.specs.declared.plan.Planned.{Planned}
@@ -41,7 +42,8 @@ got_set (a ∷ xs) (suc k) (suc j) x y is = elim (got_set xs k j x y is) [
   | inr both ↦ inr (λ e. both.0 (omega arith), both.1)
 ]
 
-pub AreFilled-more : (k : ℕ) (old now : List CardPlan) (card with_room : CardPlan) → AreFilled k old now → slice_get now k ≡ Some card → IsSized (packets_of_cards now) k card with_room → AreFilled (k + 1) old (set now k with_room)
+pub AreFilled-more : (k : ℕ) (old now : List CardPlan) (card with_room : CardPlan) → AreFilled k old now → slice_get now k ≡ Some card
+    → IsSized (packets_of_cards now) k card with_room → AreFilled (k + 1) old (set now k with_room)
 AreFilled-more k old now card with_room before here sized = record {
   count = omega (arith, length-set now k with_room, before.count);
   packets = map_kept (λ (c : CardPlan). c.packets.items) now k card with_room here sized.kept.3 ∙ before.packets;
@@ -62,7 +64,8 @@ AreFilled-more k old now card with_room before here sized = record {
 
 -- a card that has its room
 pub IsSized-made : (packets : List (List Planned)) (port : ℕ) (card made : CardPlan) (room : OutputRoom)
-    → made ≡ record card { sizes = room.sizes; body_room = room.bytes; packet_room = room.messages } → IsRoomOf port packets room → IsSized packets port card made
+    → made ≡ record card { sizes = room.sizes; body_room = room.bytes; packet_room = room.messages } → IsRoomOf port packets room
+    → IsSized packets port card made
 IsSized-made packets port card made room is rooms = subst (IsSized packets port card) (sym is) (record {
   kept = (refl, refl, refl, refl, refl);
   sizes = rooms.sizes;

@@ -1,5 +1,6 @@
 -- The flow of a packet, and the greatest messages as far as a loop has come.
-use Rattle.std.proofs.Common.{◌≡◌, ◌≢◌, ◌∙◌, ◌⊎◌, ℕ, ◌+◌, ◌*◌, ◌^◌, ◌<◌, ◌==◌, ◌&&◌, max, true, false, List, [], ◌++◌, length, take, drop, slice_index_or, refl, ap, sym, arith, append_assoc}
+use Rattle.std.proofs.Common.{◌≡◌, ◌≢◌, ◌∙◌, ◌⊎◌, ℕ, ◌+◌, ◌*◌, ◌^◌, ◌<◌, ◌==◌, ◌&&◌, max, true, false, List, [], ◌++◌, length, take, drop}
+use Rattle.std.proofs.Common.{slice_index_or, refl, ap, sym, arith, append_assoc}
 use Rattle.std.specs.Prelude.{if◌then◌else◌, map}
 use Rattle.std.specs.List.{range_with_len}
 use Rattle.std.proofs.lemmas.List.{flat_map_more, append_cancel_left, take-append-drop}
@@ -26,17 +27,25 @@ flow-multicast p none some = ap (λ q. 2 * p.level + kind_byte (kind_of q)) (que
 
 -- the greatest message of one flow, with one packet more
 pub greatest_next : (output flow : ℕ) (packets : List Planned) (k : ℕ) (p : Planned) → k < length packets → p ≡ slice_index_or packets k p
-    → greatest_message output flow (take (k + 1) packets) ≡ (if goes_to output p && (flow_of p == flow) then max (greatest_message output flow (take k packets)) (message_length p) else greatest_message output flow (take k packets))
+    → greatest_message output flow (take (k + 1) packets) ≡
+    (if goes_to output p && (flow_of p == flow) then max (greatest_message output flow (take k packets))
+    (message_length p) else greatest_message output flow (take k packets))
 greatest_next output flow packets k p inside is =
-    fold_next (λ most (packet : Planned). if goes_to output packet && (flow_of packet == flow) then max most (message_length packet) else most) 0 packets k p inside
-    ∙ ap (λ (packet : Planned). if goes_to output packet && (flow_of packet == flow) then max (greatest_message output flow (take k packets)) (message_length packet) else greatest_message output flow (take k packets)) (sym is)
+    fold_next (λ most (packet : Planned). if goes_to output packet && (flow_of packet == flow) then max most (message_length packet) else most) 0 packets k p
+    inside
+    ∙ ap (λ (packet : Planned). if goes_to output packet
+    && (flow_of packet == flow) then max (greatest_message output flow (take k packets)) (message_length packet) else greatest_message output flow
+    (take k packets)) (sym is)
 
-pub greatest_aside : (output flow : ℕ) (packets : List Planned) (k : ℕ) (p : Planned) → k < length packets → p ≡ slice_index_or packets k p → goes_to output p ≡ false
+pub greatest_aside : (output flow : ℕ) (packets : List Planned) (k : ℕ) (p : Planned) → k < length packets → p ≡ slice_index_or packets k p
+    → goes_to output p ≡ false
     → greatest_message output flow (take (k + 1) packets) ≡ greatest_message output flow (take k packets)
 greatest_aside output flow packets k p inside is goes = greatest_next output flow packets k p inside is ∙ rw goes refl
 
-pub greatest_more : (output flow : ℕ) (packets : List Planned) (k : ℕ) (p : Planned) → k < length packets → p ≡ slice_index_or packets k p → goes_to output p ≡ true
-    → greatest_message output flow (take (k + 1) packets) ≡ (if flow_of p == flow then max (greatest_message output flow (take k packets)) (message_length p) else greatest_message output flow (take k packets))
+pub greatest_more : (output flow : ℕ) (packets : List Planned) (k : ℕ) (p : Planned) → k < length packets → p ≡ slice_index_or packets k p
+    → goes_to output p ≡ true
+    → greatest_message output flow (take (k + 1) packets) ≡
+    (if flow_of p == flow then max (greatest_message output flow (take k packets)) (message_length p) else greatest_message output flow (take k packets))
 greatest_more output flow packets k p inside is goes = greatest_next output flow packets k p inside is ∙ rw goes refl
 
 -- ---- the greatest messages of all flows of an input
@@ -47,22 +56,28 @@ greatest_of output packets = map (λ flow. greatest_message output flow packets)
 pub sizes_next : (output : ℕ) (cards : List CardPlan) (k : ℕ) (card : CardPlan) → k < length cards → card ≡ slice_index_or cards k card
     → sizes_for output (take (k + 1) (packets_of_cards cards)) ≡ sizes_for output (take k (packets_of_cards cards)) ++ greatest_of output card.packets.items
 sizes_next output cards k card inside is =
-    ap (sizes_for output) (take_next (packets_of_cards cards) k card.packets.items (let l = length_map (λ (c : CardPlan). c.packets.items) cards in omega arith))
+    ap (sizes_for output) (take_next (packets_of_cards cards) k card.packets.items
+    (let l = length_map (λ (c : CardPlan). c.packets.items) cards in omega arith))
     ∙ sym (flat_map_more (greatest_of output) [] (take k (packets_of_cards cards)) (slice_index_or (packets_of_cards cards) k card.packets.items))
     ∙ ap (λ ps. sizes_for output (take k (packets_of_cards cards)) ++ greatest_of output ps) (packets_at cards k card is)
 
 -- sizes of which those of the first inputs were taken off: what is left begins with those of the next
 pub sizes_left : (output : ℕ) (cards : List CardPlan) (k : ℕ) (card : CardPlan) (sizes rest : List ℕ) → k < length cards → card ≡ slice_index_or cards k card
-    → sizes ≡ sizes_for output (take k (packets_of_cards cards)) ++ rest → sizes ≡ sizes_for output (packets_of_cards cards) → rest ≡ greatest_of output card.packets.items ++ sizes_for output (drop (k + 1) (packets_of_cards cards))
+    → sizes ≡ sizes_for output (take k (packets_of_cards cards)) ++ rest → sizes ≡ sizes_for output (packets_of_cards cards)
+    → rest ≡ greatest_of output card.packets.items ++ sizes_for output (drop (k + 1) (packets_of_cards cards))
 sizes_left output cards k card sizes rest inside is before all =
     let ps = packets_of_cards cards in
     append_cancel_left (sizes_for output (take k ps)) rest (greatest_of output card.packets.items ++ sizes_for output (drop (k + 1) ps))
     (sym before ∙ all ∙ ap (sizes_for output) (sym (take-append-drop (k + 1) ps)) ∙ flat_map-append (greatest_of output) (take (k + 1) ps) (drop (k + 1) ps)
-    ∙ ap (λ xs. xs ++ sizes_for output (drop (k + 1) ps)) (sizes_next output cards k card inside is) ∙ append_assoc (sizes_for output (take k ps)) (greatest_of output card.packets.items) (sizes_for output (drop (k + 1) ps)))
+    ∙ ap (λ xs. xs ++ sizes_for output (drop (k + 1) ps)) (sizes_next output cards k card inside is)
+    ∙ append_assoc (sizes_for output (take k ps)) (greatest_of output card.packets.items) (sizes_for output (drop (k + 1) ps)))
 
-pub sizes_more : (output : ℕ) (cards : List CardPlan) (k : ℕ) (card : CardPlan) (sizes rest more : List ℕ) → k < length cards → card ≡ slice_index_or cards k card
-    → sizes ≡ sizes_for output (take k (packets_of_cards cards)) ++ rest → rest ≡ greatest_of output card.packets.items ++ more → sizes ≡ sizes_for output (take (k + 1) (packets_of_cards cards)) ++ more
+pub sizes_more : (output : ℕ) (cards : List CardPlan) (k : ℕ) (card : CardPlan) (sizes rest more : List ℕ) → k < length cards
+    → card ≡ slice_index_or cards k card
+    → sizes ≡ sizes_for output (take k (packets_of_cards cards)) ++ rest → rest ≡ greatest_of output card.packets.items ++ more
+    → sizes ≡ sizes_for output (take (k + 1) (packets_of_cards cards)) ++ more
 sizes_more output cards k card sizes rest more inside is before begins =
     let ps = packets_of_cards cards in
-    before ∙ ap (λ xs. sizes_for output (take k ps) ++ xs) begins ∙ sym (append_assoc (sizes_for output (take k ps)) (greatest_of output card.packets.items) more)
+    before ∙ ap (λ xs. sizes_for output (take k ps) ++ xs) begins
+    ∙ sym (append_assoc (sizes_for output (take k ps)) (greatest_of output card.packets.items) more)
     ∙ ap (λ xs. xs ++ more) (sym (sizes_next output cards k card inside is))

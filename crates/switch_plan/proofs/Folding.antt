@@ -90,7 +90,8 @@ map_append f [] x = refl
 map_append f (y ∷ xs) x = ap (λ ys. f y ∷ ys) (map_append f xs x)
 
 -- a list that was made so far, with one more
-pub made_next : {A B : Type 0} (f : A → B) (made pushed : List A) (wanted : List B) (x : A) (k : ℕ) (d : B) → pushed ≡ made ++ x ∷ [] → f x ≡ slice_index_or wanted k d → k < length wanted
+pub made_next : {A B : Type 0} (f : A → B) (made pushed : List A) (wanted : List B) (x : A) (k : ℕ) (d : B) → pushed ≡ made ++ x ∷ []
+    → f x ≡ slice_index_or wanted k d → k < length wanted
     → map f made ≡ take k wanted → map f pushed ≡ take (k + 1) wanted
 made_next f made pushed wanted x k d push here inside so_far =
     ap (map f) push ∙ map_append f made x ∙ ap (λ ys. ys ++ f x ∷ []) so_far ∙ ap (λ y. take k wanted ++ y ∷ []) here ∙ sym (take_next wanted k d inside)

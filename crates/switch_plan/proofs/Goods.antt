@@ -1,5 +1,6 @@
 -- A plan of cards that were made of captures: that it is good, and that it is the plan of the table and the captures.
-use Rattle.std.proofs.Common.{◌≡◌, ◌∙◌, ℕ, ◌+◌, ◌*◌, ◌<◌, ◌≤◌, ◌==◌, Bool, false, List, [], ◌∷◌, length, take, drop, Option, None, Some, if◌then◌else◌, refl, ap, sym, subst, arith, slice_index_or}
+use Rattle.std.proofs.Common.{◌≡◌, ◌∙◌, ℕ, ◌+◌, ◌*◌, ◌<◌, ◌≤◌, ◌==◌, Bool, false, List, [], ◌∷◌, length, take, drop, Option, None, Some, if◌then◌else◌}
+use Rattle.std.proofs.Common.{refl, ap, sym, subst, arith, slice_index_or}
 use Rattle.std.specs.Prelude.{map, All, nat_lt, slice_get, sum_by, count_by}
 use Rattle.std.specs.Option.{option_or}
 use Rattle.std.proofs.lemmas.List.{append-nil}
@@ -56,21 +57,24 @@ total_unplaced (packets ∷ ports) =
     ∙ ap (λ n. sum_by work_of packets + n) (total_unplaced ports)
     ∙ sym (sum_by-cons (sum_by work_of) packets ports)
 
-pub over_work_named : (most cells : ℕ) (ports : List (List Planned)) → cells ≡ total_work ports → most < cells → over_work most ports ≡ Some (TooManyCells cells)
+pub over_work_named : (most cells : ℕ) (ports : List (List Planned)) → cells ≡ total_work ports → most < cells
+    → over_work most ports ≡ Some (TooManyCells cells)
 over_work_named most cells ports is over =
     over_limit most (total_work ports) (Some (TooManyCells (total_work ports))) None (subst (λ n. most < n) is over) ∙ ap (λ n. Some (TooManyCells n)) (sym is)
 
 refusal_by : (mixed first work refusal : Option PlanFault) → mixed ≡ None → first ≡ None → work ≡ refusal → option_or mixed (option_or first work) ≡ refusal
 refusal_by mixed first work refusal unmixed none is = ap (λ m. option_or m (option_or first work)) unmixed ∙ ap (λ f. option_or f work) none ∙ is
 
-refusal_first : (mixed first work : Option PlanFault) (fault : PlanFault) → mixed ≡ None → first ≡ Some fault → option_or mixed (option_or first work) ≡ Some fault
+refusal_first : (mixed first work : Option PlanFault) (fault : PlanFault) → mixed ≡ None → first ≡ Some fault
+    → option_or mixed (option_or first work) ≡ Some fault
 refusal_first mixed first work fault unmixed is = ap (λ m. option_or m (option_or first work)) unmixed ∙ ap (λ f. option_or f work) is
 
 -- no more packets go nowhere than there can be
 pub aside_few : (ports : List (List Planned)) → All AreCountable ports → length ports ≤ 64 → total_aside ports ≤ 8388608
 aside_few ports all few =
     let aside : Planned → Bool = λ p. p.fan == 0 in
-    let most = sum_by-le (count_by aside) 131072 ports (λ k d inside. let short = (all k d inside).few in omega (arith, count_by-le-length aside (slice_index_or ports k d))) in
+    let most = sum_by-le (count_by aside) 131072 ports
+    (λ k d inside. let short = (all k d inside).few in omega (arith, count_by-le-length aside (slice_index_or ports k d))) in
     omega (arith, most)
 
 module _ (table : List RouteLine) (pace_us : Option ℕ) (pace : Pace) (n : ℕ) (captures : List Capture)
@@ -80,14 +84,16 @@ module _ (table : List RouteLine) (pace_us : Option ℕ) (pace : Pace) (n : ℕ)
       sym (ap length (traffic_same table pace_us pace captures pace_is unmixed)) ∙ length_map (traffic_at table pace) captures ∙ sym n_is
 
   -- a port that has too many slots is why the job is refused
-  pub refused_over : (fault : PlanFault) → first_over (most_for n) 0 (map (traffic_at table pace) captures) ≡ Some fault → refusal_of pace_us table (map file_of captures) ≡ Some fault
+  pub refused_over : (fault : PlanFault) → first_over (most_for n) 0 (map (traffic_at table pace) captures) ≡ Some fault
+      → refusal_of pace_us table (map file_of captures) ≡ Some fault
   refused_over fault over =
       let traffic = traffic_of table (first_link (map file_of captures)) pace_us (map file_of captures) in
       let first : first_over (most_for (length traffic)) 0 traffic ≡ Some fault =
       ap (λ p. first_over (most_for p) 0 traffic) ports_are
       ∙ sym (ap (first_over (most_for n) 0) (traffic_same table pace_us pace captures pace_is unmixed))
       ∙ over in
-      refusal_first (mixed_links (map file_of captures)) (first_over (most_for (length traffic)) 0 traffic) (over_work (most_for (length traffic)) traffic) fault unmixed first
+      refusal_first (mixed_links (map file_of captures)) (first_over (most_for (length traffic)) 0 traffic)
+      (over_work (most_for (length traffic)) traffic) fault unmixed first
 
 module _ (table : List RouteLine) (settings : Settings) (pace : Pace) (n : ℕ) (captures : List Capture) (cards : List CardPlan)
     (n_is : n ≡ length captures) (pace_is : pace ≡ pace_of settings.pace_us (map file_of captures)) (unmixed : mixed_links (map file_of captures) ≡ None)
@@ -106,16 +112,21 @@ module _ (table : List RouteLine) (settings : Settings) (pace : Pace) (n : ℕ) 
   cards_traffic : map (map unplaced) (packets_of_cards cards) ≡ traffic_of table (first_link (map file_of captures)) settings.pace_us (map file_of captures)
   cards_traffic =
       map_map (map unplaced) (λ (card : CardPlan). card.packets.items) cards
-      ∙ cards_map n depth table pace (λ (card : CardPlan). map unplaced card.packets.items) (traffic_at table pace) Read (λ port capture card has is. traffic_is n depth table pace port capture card routes has is) 0 captures cards read are
+      ∙ cards_map n depth table pace (λ (card : CardPlan). map unplaced card.packets.items) (traffic_at table pace) Read
+      (λ port capture card has is. traffic_is n depth table pace port capture card routes has is) 0 captures cards read are
       ∙ traffic_same table settings.pace_us pace captures pace_is unmixed
 
   pub countable_all : All AreCountable (packets_of_cards cards)
   countable_all =
-      all_packets AreCountable cards (cards_each n depth table pace (λ port card. AreCountable card.packets.items) Read (λ port capture card has is. countable n depth table pace port capture card routes has is) 0 captures cards read are)
+      all_packets AreCountable cards
+      (cards_each n depth table pace (λ port card. AreCountable card.packets.items) Read
+      (λ port capture card has is. countable n depth table pace port capture card routes has is) 0 captures cards read are)
 
   slots_all : All (λ packets. slots_of packets ≤ most_for n) (packets_of_cards cards)
   slots_all =
-      all_packets (λ packets. slots_of packets ≤ most_for n) cards (cards_each n depth table pace (λ port card. slots_of card.packets.items ≤ most_for n) Read (λ port capture card has is. card_slots n depth table pace port capture card routes has is) 0 captures cards read are)
+      all_packets (λ packets. slots_of packets ≤ most_for n) cards
+      (cards_each n depth table pace (λ port card. slots_of card.packets.items ≤ most_for n) Read
+      (λ port capture card has is. card_slots n depth table pace port capture card routes has is) 0 captures cards read are)
 
   pub slots_few : greatest_slots (packets_of_cards cards) ≤ 131072
   slots_few =
@@ -124,13 +135,17 @@ module _ (table : List RouteLine) (settings : Settings) (pace : Pace) (n : ℕ) 
       omega arith
 
   -- the packets that are too long, and all that go nowhere
-  long_all : sum_by (count_by is_long) (packets_of_cards cards) ≡ sum_by (λ (file : CaptureFile). count_by (λ (p : Packet). is_oversize p.bytes) file.packets) (map file_of captures)
+  long_all : sum_by (count_by is_long) (packets_of_cards cards) ≡ sum_by (λ (file : CaptureFile). count_by (λ (p : Packet). is_oversize p.bytes) file.packets)
+      (map file_of captures)
   long_all =
       sums_same (count_by is_long) (λ (file : CaptureFile). count_by (λ (p : Packet). is_oversize p.bytes) file.packets) cards captures
-      (cards_map n depth table pace (λ (card : CardPlan). count_by is_long card.packets.items) (λ (capture : Capture). count_by (λ (p : Packet). is_oversize p.bytes) (packets_of capture)) Read (λ port capture card has is. long_are n depth table pace port capture card routes has is) 0 captures cards read are)
+      (cards_map n depth table pace (λ (card : CardPlan). count_by is_long card.packets.items)
+      (λ (capture : Capture). count_by (λ (p : Packet). is_oversize p.bytes) (packets_of capture)) Read
+      (λ port capture card has is. long_are n depth table pace port capture card routes has is) 0 captures cards read are)
 
   aside_all : total_aside (packets_of_cards cards)
-      ≡ sum_by (λ (file : CaptureFile). count_by (λ (p : Packet). is_oversize p.bytes) file.packets) (map file_of captures) + sum_by (λ (file : CaptureFile). count_by (λ (p : Packet). is_unrouted table (first_link (map file_of captures)) p.bytes) file.packets) (map file_of captures)
+      ≡ sum_by (λ (file : CaptureFile). count_by (λ (p : Packet). is_oversize p.bytes) file.packets) (map file_of captures) + sum_by
+      (λ (file : CaptureFile). count_by (λ (p : Packet). is_unrouted table (first_link (map file_of captures)) p.bytes) file.packets) (map file_of captures)
   aside_all =
       let link = first_link (map file_of captures) in
       let Linked : Capture → Type 0 = λ capture. Read capture × (capture.link ≡ link) in
@@ -138,7 +153,8 @@ module _ (table : List RouteLine) (settings : Settings) (pace : Pace) (n : ℕ) 
       let long : CaptureFile → ℕ = λ file. count_by (λ (p : Packet). is_oversize p.bytes) file.packets in
       let lost : CaptureFile → ℕ = λ file. count_by (λ (p : Packet). is_unrouted table link p.bytes) file.packets in
       sums_same (count_by (λ (p : Planned). p.fan == 0)) (λ file. long file + lost file) cards captures
-      (cards_map n depth table pace (λ (card : CardPlan). count_by (λ (p : Planned). p.fan == 0) card.packets.items) (λ (capture : Capture). long (file_of capture) + lost (file_of capture)) Linked
+      (cards_map n depth table pace (λ (card : CardPlan). count_by (λ (p : Planned). p.fan == 0) card.packets.items)
+      (λ (capture : Capture). long (file_of capture) + lost (file_of capture)) Linked
       (λ port capture card has is.
       aside_are n depth table pace port capture card routes has.0 is
       ∙ ap (λ l. long (file_of capture) + count_by (λ (p : Packet). is_unrouted table l p.bytes) (packets_of capture)) has.1)
@@ -149,7 +165,8 @@ module _ (table : List RouteLine) (settings : Settings) (pace : Pace) (n : ℕ) 
   long_within = let a = long_all in let b = aside_all in omega arith
 
   -- ---- why the job is refused, or that it is not
-  by_work : (refusal : Option PlanFault) → over_work (most_for (length cards)) (packets_of_cards cards) ≡ refusal → refusal_of settings.pace_us table (map file_of captures) ≡ refusal
+  by_work : (refusal : Option PlanFault) → over_work (most_for (length cards)) (packets_of_cards cards) ≡ refusal
+      → refusal_of settings.pace_us table (map file_of captures) ≡ refusal
   by_work refusal is =
       let traffic = traffic_of table (first_link (map file_of captures)) settings.pace_us (map file_of captures) in
       let ports = ports_are table settings.pace_us pace n captures n_is pace_is unmixed in
@@ -163,17 +180,20 @@ module _ (table : List RouteLine) (settings : Settings) (pace : Pace) (n : ℕ) 
       ap (λ p. over_work (most_for p) traffic) (ports ∙ sym count_is)
       ∙ same_work (most_for (length cards)) traffic (packets_of_cards cards) work_same
       ∙ is in
-      refusal_by (mixed_links (map file_of captures)) (first_over (most_for (length traffic)) 0 traffic) (over_work (most_for (length traffic)) traffic) refusal unmixed first work
+      refusal_by (mixed_links (map file_of captures)) (first_over (most_for (length traffic)) 0 traffic)
+      (over_work (most_for (length traffic)) traffic) refusal unmixed first work
     where
       same_work : (most : ℕ) (a b : List (List Planned)) → total_work a ≡ total_work b → over_work most a ≡ over_work most b
       same_work most a b same = ap (λ w. if nat_lt most w then Some (TooManyCells w) else None) same
 
-  pub refused_work : (fault : PlanFault) → over_work (most_for (length cards)) (packets_of_cards cards) ≡ Some fault → refusal_of settings.pace_us table (map file_of captures) ≡ Some fault
+  pub refused_work : (fault : PlanFault) → over_work (most_for (length cards)) (packets_of_cards cards) ≡ Some fault
+      → refusal_of settings.pace_us table (map file_of captures) ≡ Some fault
   refused_work fault over = by_work (Some fault) over
 
   pub unrefused : total_work (packets_of_cards cards) ≤ most_for (length cards) → refusal_of settings.pace_us table (map file_of captures) ≡ None
   unrefused within =
-      by_work None (kept_limit (most_for (length cards)) (total_work (packets_of_cards cards)) (Some (TooManyCells (total_work (packets_of_cards cards)))) None within)
+      by_work None (kept_limit (most_for (length cards)) (total_work (packets_of_cards cards))
+      (Some (TooManyCells (total_work (packets_of_cards cards)))) None within)
 
   -- ---- the plan
   made_all : (port : ℕ) (card : CardPlan) → slice_get cards port ≡ Some card → IsMade n depth (0 + port) card
@@ -188,20 +208,24 @@ module _ (table : List RouteLine) (settings : Settings) (pace : Pace) (n : ℕ) 
       })
       0 captures cards read are
 
-  module _ (limits : AreWithinLimits settings) (some : 0 < n) (few : n ≤ 64) (nano : Bool) (link : Link) (plan : Plan) (with : IsPlanWith settings nano link cards plan) where
-    cards_kept : {B : Type 0} (f : CardPlan → B) → ((port : ℕ) (o new : CardPlan) → IsSized (packets_of_cards cards) port o new → f new ≡ f o) → map f plan.cards.items ≡ map f cards
+  module _ (limits : AreWithinLimits settings) (some : 0 < n) (few : n ≤ 64) (nano : Bool) (link : Link) (plan : Plan)
+      (with : IsPlanWith settings nano link cards plan) where
+    cards_kept : {B : Type 0} (f : CardPlan → B) → ((port : ℕ) (o new : CardPlan) → IsSized (packets_of_cards cards) port o new → f new ≡ f o)
+        → map f plan.cards.items ≡ map f cards
     cards_kept f same = kept_map f cards plan.cards.items with.count (λ port o new at_old at_new. same port o new (with.sized port o new at_old at_new))
 
     packets_kept : packets_of_cards plan.cards.items ≡ packets_of_cards cards
     packets_kept = cards_kept (λ (card : CardPlan). card.packets.items) (λ port o new sized. sized.kept.3)
 
-    old_at : (port : ℕ) (new : CardPlan) → slice_get plan.cards.items port ≡ Some new → (old : CardPlan) × (slice_get cards port ≡ Some old) × IsSized (packets_of_cards cards) port old new
+    old_at : (port : ℕ) (new : CardPlan) → slice_get plan.cards.items port ≡ Some new → (old : CardPlan) × (slice_get cards port ≡ Some old)
+        × IsSized (packets_of_cards cards) port old new
     old_at port new there =
         let inside = slice_get_within plan.cards.items port new there in
         let old = got_at cards port (let c = with.count in omega arith) in
         (old.0, old.1, with.sized port old.0 new old.1 there)
 
-    own_card : (port : ℕ) (old new : CardPlan) → port < n → IsMade n depth (0 + port) old → IsSized (packets_of_cards cards) port old new → IsOwnCard (length plan.cards.items) plan.depth port new
+    own_card : (port : ℕ) (old new : CardPlan) → port < n → IsMade n depth (0 + port) old → IsSized (packets_of_cards cards) port old new
+        → IsOwnCard (length plan.cards.items) plan.depth port new
     own_card port old new inside made sized =
         let ps = packets_of_cards cards in
         let number : new.card ≡ port = let a = made.number in let b = sized.kept.1 in omega arith in
@@ -223,7 +247,8 @@ module _ (table : List RouteLine) (settings : Settings) (pace : Pace) (n : ℕ) 
                 subst (λ m. IsPlanned m (length new.bytes.items) packet) (sym size)
                 (subst (λ (b : List ℕ). IsPlanned n (length b) packet) (sym sized.kept.4) (made.placed k packet at_old));
             rising = subst (λ (xs : List Planned). AreRising xs) (sym sized.kept.3) made.rises;
-            flows = ap length sized.sizes ∙ sizes_long port ps ∙ ap (λ m. 8 * m) (length_map (λ (card : CardPlan). card.packets.items) cards ∙ count_is ∙ sym size);
+            flows = ap length sized.sizes ∙ sizes_long port ps
+                ∙ ap (λ m. 8 * m) (length_map (λ (card : CardPlan). card.packets.items) cards ∙ count_is ∙ sym size);
             sizes = subst (λ (xs : List ℕ). All (λ size. size ≤ 65551) xs) (sym sized.sizes) (sizes_few port ps countable_all);
             messages = subst (λ m. m ≤ 131072) (sym sized.messages) (packet_room_few port (length cards) ps cells);
             body = subst (λ m. m ≤ 7340032) (sym sized.body) (body_room_few port (length cards) ps cells);
@@ -247,7 +272,9 @@ module _ (table : List RouteLine) (settings : Settings) (pace : Pace) (n : ℕ) 
         let Micro : Capture → Type 0 = λ capture. Read capture × (capture.nano ≡ false) in
         let micro : All Micro captures = λ k d inside. (read k d inside, all_micro captures none k d inside) in
         subst (λ ps. All AreWhole ps) (sym packets_kept)
-        (all_packets AreWhole cards (cards_each n depth table pace (λ port card. AreWhole card.packets.items) Micro (λ port capture card has is. whole n depth table pace port capture card routes has.0 is has.1) 0 captures cards micro are))
+        (all_packets AreWhole cards
+        (cards_each n depth table pace (λ port card. AreWhole card.packets.items) Micro
+        (λ port capture card has is. whole n depth table pace port capture card routes has.0 is has.1) 0 captures cards micro are))
 
     -- it is good
     pub plan_good : nano ≡ is_nano (map file_of captures) → IsGood (switch_plan_of plan)
@@ -260,8 +287,10 @@ module _ (table : List RouteLine) (settings : Settings) (pace : Pace) (n : ℕ) 
           own = own_all;
           rest = record {
             totals = record {
-              slots = subst (λ m. All (λ packets. slots_of packets ≤ most_for m) (packets_of_cards plan.cards.items)) (sym count) (subst (λ ps. All (λ packets. slots_of packets ≤ most_for n) ps) (sym packets_kept) slots_all);
-              cells = subst (λ m. total_work (packets_of_cards plan.cards.items) ≤ most_for m) (sym with.count) (subst (λ ps. total_work ps ≤ most_for (length cards)) (sym packets_kept) with.cells);
+              slots = subst (λ m. All (λ packets. slots_of packets ≤ most_for m) (packets_of_cards plan.cards.items)) (sym count)
+                  (subst (λ ps. All (λ packets. slots_of packets ≤ most_for n) ps) (sym packets_kept) slots_all);
+              cells = subst (λ m. total_work (packets_of_cards plan.cards.items) ≤ most_for m) (sym with.count)
+                  (subst (λ ps. total_work ps ≤ most_for (length cards)) (sym packets_kept) with.cells);
               end = with.max_slots ∙ ap max_slots_of (sym packets_kept);
             };
             aside = with.aside ∙ ap total_aside (sym packets_kept);
@@ -285,18 +314,23 @@ module _ (table : List RouteLine) (settings : Settings) (pace : Pace) (n : ℕ) 
       places =
           ap (map (map (λ (packet : Planned). packet.start))) (same_packets plan ∙ packets_kept)
           ∙ map_map (map (λ (packet : Planned). packet.start)) (λ (card : CardPlan). card.packets.items) cards
-          ∙ cards_map n depth table pace (λ (card : CardPlan). map (λ (packet : Planned). packet.start) card.packets.items) (λ (capture : Capture). places_from 40 (packets_of capture)) Read (λ port capture card has is. starts_are n depth table pace port capture card routes has is) 0 captures cards read are
+          ∙ cards_map n depth table pace (λ (card : CardPlan). map (λ (packet : Planned). packet.start) card.packets.items)
+          (λ (capture : Capture). places_from 40 (packets_of capture)) Read
+          (λ port capture card has is. starts_are n depth table pace port capture card routes has is) 0 captures cards read are
           ∙ sym (map_map (λ (file : CaptureFile). places_from 40 file.packets) file_of captures);
       kept =
           map_map (λ (card : CardView). card.bytes) card_plan_of plan.cards.items
           ∙ cards_kept (λ (card : CardPlan). card.bytes.items) (λ port o new sized. sized.kept.4)
-          ∙ cards_map n depth table pace (λ (card : CardPlan). card.bytes.items) (λ (capture : Capture). capture.bytes.items) Read (λ port capture card has is. is.kept) 0 captures cards read are;
+          ∙ cards_map n depth table pace (λ (card : CardPlan). card.bytes.items) (λ (capture : Capture). capture.bytes.items) Read
+          (λ port capture card has is. is.kept) 0 captures cards read are;
       bodies =
           map_map (λ (card : CardView). map (bytes_of card) card.packets) card_plan_of plan.cards.items
           ∙ cards_kept (λ (card : CardPlan). map (bytes_of (card_plan_of card)) card.packets.items)
           (λ port o new sized.
           ap (λ (b : List ℕ). map (λ (p : Planned). take p.len (drop p.start b)) new.packets.items) sized.kept.4
           ∙ ap (λ (xs : List Planned). map (bytes_of (card_plan_of o)) xs) sized.kept.3)
-          ∙ cards_map n depth table pace (λ (card : CardPlan). map (bytes_of (card_plan_of card)) card.packets.items) (λ (capture : Capture). map (λ (p : Packet). p.bytes) (packets_of capture)) Read (λ port capture card has is. bodies_are n depth table pace port capture card routes has is) 0 captures cards read are
+          ∙ cards_map n depth table pace (λ (card : CardPlan). map (bytes_of (card_plan_of card)) card.packets.items)
+          (λ (capture : Capture). map (λ (p : Packet). p.bytes) (packets_of capture)) Read
+          (λ port capture card has is. bodies_are n depth table pace port capture card routes has is) 0 captures cards read are
           ∙ sym (map_map (λ (file : CaptureFile). map (λ (p : Packet). p.bytes) file.packets) file_of captures);
     }

@@ -39,7 +39,8 @@ by_files least (capture ∷ captures) time by =
     by_files (least_in least capture.packets) captures time (by_all least (map time_of capture.packets) time by)
 
 -- for each packet of each capture
-by_packet : (least : Option ℕ) (captures : List Capture) (i k : ℕ) (c : Capture) (d : Packet) → i < length captures → k < length (packets_of (slice_index_or captures i c))
+by_packet : (least : Option ℕ) (captures : List Capture) (i k : ℕ) (c : Capture) (d : Packet) → i < length captures
+    → k < length (packets_of (slice_index_or captures i c))
     → IsBy (least_of least (map file_of captures)) (time_of (slice_index_or (packets_of (slice_index_or captures i c)) k d))
 by_packet least [] i k c d inside within = absurd (omega arith)
 by_packet least (capture ∷ captures) zero k c d inside within =
@@ -62,6 +63,7 @@ all_come pace_us captures i c inside k d within =
     let capture = slice_index_or captures i c in
     let own = packet_in capture.bytes.items in
     let here = by_packet None captures i k c (own d) inside (omega (arith, length_map own capture.packets.items)) in
-    let at : time_of (slice_index_or (packets_of capture) k (own d)) ≡ time_of (own (slice_index_or capture.packets.items k d)) = ap time_of (at_map own capture.packets.items k d) in
+    let at : time_of (slice_index_or (packets_of capture) k (own d)) ≡ time_of (own (slice_index_or capture.packets.items k d)) =
+    ap time_of (at_map own capture.packets.items k d) in
     base_by pace_us (least_time (map file_of captures)) (time_of (own (slice_index_or capture.packets.items k d)))
     (subst (IsBy (least_time (map file_of captures))) at here)

@@ -31,7 +31,8 @@ map-append g (y ∷ xs) x = ap (λ ys. g y ∷ ys) (map-append g xs x)
 pub map_next : {A B : Type 0} (g : A → B) (f : ℕ → B) (xs : List A) (x : A) (k : ℕ)
     → map g xs ≡ map f (range_with_len 0 k) → g x ≡ f k → map g (xs ++ x ∷ []) ≡ map f (range_with_len 0 (k + 1))
 map_next g f xs x k before here =
-    map-append g xs x ∙ ap (λ ys. ys ++ g x ∷ []) before ∙ ap (λ y. map f (range_with_len 0 k) ++ y ∷ []) here ∙ sym (map-range_with_len_more f 0 k k (omega arith))
+    map-append g xs x ∙ ap (λ ys. ys ++ g x ∷ []) before ∙ ap (λ y. map f (range_with_len 0 k) ++ y ∷ []) here
+    ∙ sym (map-range_with_len_more f 0 k k (omega arith))
 
 replicate_length : (n b : ℕ) → length (replicate n b) ≡ n
 replicate_length zero b = refl
@@ -54,5 +55,6 @@ record_made job port k number old mid new same header frame =
   where
     new_is : new ≡ old ++ (record_header Little k port (length (made_frame job.ports number)) (made_length number) ++ made_frame job.ports number)
     new_is =
-        frame ∙ ap (λ x. x ++ made_frame job.ports number) header ∙ append_assoc old (record_header Little k port (made_length number) (made_length number)) (made_frame job.ports number)
+        frame ∙ ap (λ x. x ++ made_frame job.ports number) header
+        ∙ append_assoc old (record_header Little k port (made_length number) (made_length number)) (made_frame job.ports number)
         ∙ ap (λ n. old ++ (record_header Little k port n (made_length number) ++ made_frame job.ports number)) (sym (frame_length job.ports number))

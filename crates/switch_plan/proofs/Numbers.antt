@@ -1,5 +1,6 @@
 -- How many packets go nowhere, and why.
-use Rattle.std.proofs.Common.{◌≡◌, ◌∙◌, ℕ, ◌+◌, ◌<◌, Bool, true, false, cond, List, [], ◌∷◌, length, Option, None, Some, refl, ap, sym, subst, arith, if◌then◌else◌}
+use Rattle.std.proofs.Common.{◌≡◌, ◌∙◌, ℕ, ◌+◌, ◌<◌, Bool, true, false, cond, List, [], ◌∷◌, length, Option, None, Some, refl, ap, sym, subst, arith}
+use Rattle.std.proofs.Common.{if◌then◌else◌}
 use Rattle.std.specs.Prelude.{map, sum_by, count_by, not, is_none, ◌==◌, ◌&&◌, option_map}
 use Rattle.std.specs.List.{zip}
 use Rattle.std.proofs.lemmas.Bool.Decides.{nat_tests}
@@ -29,7 +30,8 @@ count_left {A = A} {B = B} p (x ∷ xs) (y ∷ ys) same =
     ∙ sym (sum_by-cons (λ x. cond (p x) 1 0) x xs)
 
 -- the route of an address is one of the table's
-routed_by : (n : ℕ) (table : List RouteLine) (address : Option ℕ) (route : Route) (served : Option RouteLine) → AreRoutesOf n table → serving_line table address ≡ served → option_map (λ (line : RouteLine). line.route) served ≡ Some route → IsRouteOf n route
+routed_by : (n : ℕ) (table : List RouteLine) (address : Option ℕ) (route : Route) (served : Option RouteLine) → AreRoutesOf n table
+    → serving_line table address ≡ served → option_map (λ (line : RouteLine). line.route) served ≡ Some route → IsRouteOf n route
 routed_by n table address route None routes is e = absurd (none-some route e)
 routed_by n table address route (Some line) routes is e =
     let there = Contains-serving table address line is in
@@ -37,10 +39,12 @@ routed_by n table address route (Some line) routes is e =
     let inside : k < length table = let h = there.1 in omega (arith, length_map (λ (l : RouteLine). l.route) table) in
     subst (IsRouteOf n) (sym (at_map (λ (l : RouteLine). l.route) table k line) ∙ there.2 ∙ same_Some line.route route e) (routes k line inside)
 
-pub routed : (n : ℕ) (table : List RouteLine) (address : Option ℕ) (route : Route) → AreRoutesOf n table → route_of table address ≡ Some route → IsRouteOf n route
+pub routed : (n : ℕ) (table : List RouteLine) (address : Option ℕ) (route : Route) → AreRoutesOf n table → route_of table address ≡ Some route
+    → IsRouteOf n route
 routed n table address route routes e = routed_by n table address route (serving_line table address) routes refl e
 
-aside_one : (long : Bool) (route : Option Route) → ((r : Route) → route ≡ Some r → 0 < r.fan) → cond (fan_of (if long then None else route) == 0) 1 0 ≡ cond long 1 0 + cond (not long && is_none route) 1 0
+aside_one : (long : Bool) (route : Option Route) → ((r : Route) → route ≡ Some r → 0 < r.fan)
+    → cond (fan_of (if long then None else route) == 0) 1 0 ≡ cond long 1 0 + cond (not long && is_none route) 1 0
 aside_one true route some = refl
 aside_one false None some = refl
 aside_one false (Some route) some =
@@ -50,13 +54,16 @@ aside_one false (Some route) some =
 
 -- of some packets those that go nowhere are those too long and those with no route
 pub aside_split : (n : ℕ) (table : List RouteLine) (link : Link) (packets : List Packet) → AreRoutesOf n table
-    → count_by (λ p. fan_of (route_for table link p.bytes) == 0) packets ≡ count_by (λ p. is_oversize p.bytes) packets + count_by (λ p. is_unrouted table link p.bytes) packets
+    → count_by (λ p. fan_of (route_for table link p.bytes) == 0) packets ≡ count_by (λ p. is_oversize p.bytes) packets + count_by
+    (λ p. is_unrouted table link p.bytes) packets
 aside_split n table link [] routes = refl
 aside_split n table link (packet ∷ packets) routes =
     let aside : Packet → ℕ = λ p. cond (fan_of (route_for table link p.bytes) == 0) 1 0 in
     let long : Packet → ℕ = λ p. cond (is_oversize p.bytes) 1 0 in
     let lost : Packet → ℕ = λ p. cond (is_unrouted table link p.bytes) 1 0 in
-    let here : aside packet ≡ long packet + lost packet = aside_one (is_oversize packet.bytes) (route_of table (destination_of link packet.bytes)) (λ r e. (routed n table (destination_of link packet.bytes) r routes e).fan.some) in
+    let here : aside packet ≡ long packet + lost packet =
+    aside_one (is_oversize packet.bytes) (route_of table (destination_of link packet.bytes))
+    (λ r e. (routed n table (destination_of link packet.bytes) r routes e).fan.some) in
     let more = aside_split n table link packets routes in
     sum_by-cons aside packet packets
     ∙ ap (λ m. m + sum_by aside packets) here

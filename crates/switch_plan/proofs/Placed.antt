@@ -1,5 +1,6 @@
 -- The packets of one card: what the table and the line make of those of its capture.
-use Rattle.std.proofs.Common.{◌≡◌, ◌∙◌, ◌≢◌, ℕ, zero, suc, ◌+◌, ◌%◌, ◌<◌, ◌≤◌, ◌==◌, ◌^◌, Bool, true, false, List, [], ◌∷◌, length, take, drop, slice_index_or, Option, None, Some, if◌then◌else◌, refl, ap, sym, subst, arith}
+use Rattle.std.proofs.Common.{◌≡◌, ◌∙◌, ◌≢◌, ℕ, zero, suc, ◌+◌, ◌%◌, ◌<◌, ◌≤◌, ◌==◌, ◌^◌, Bool, true, false, List, [], ◌∷◌, length, take, drop}
+use Rattle.std.proofs.Common.{slice_index_or, Option, None, Some, if◌then◌else◌, refl, ap, sym, subst, arith}
 use Rattle.std.specs.Prelude.{map, count_by, All, nat_lt, slice_get}
 use Rattle.std.specs.List.{zip}
 use Rattle.std.proofs.lemmas.Bool.Decides.{nat_tests}
@@ -54,7 +55,8 @@ fan_within n None of = (omega (arith, pow_pos n), omega arith)
 fan_within n (Some route) of = let is = of route refl in (is.fan.among, is.level)
 
 -- the slots of a capture's traffic are those of the line
-pub traffic_slots_at : (table : List RouteLine) (pace : Pace) (capture : Capture) → slots_of (traffic_at table pace capture) ≡ slots_taken (slots_at pace capture)
+pub traffic_slots_at : (table : List RouteLine) (pace : Pace) (capture : Capture)
+    → slots_of (traffic_at table pace capture) ≡ slots_taken (slots_at pace capture)
 traffic_slots_at table pace capture =
     let pairs = zip (packets_of capture) (slots_at pace capture) in
     ap slots_taken
@@ -62,13 +64,15 @@ traffic_slots_at table pace capture =
     ∙ zip_right (packets_of capture) (slots_at pace capture) (sym (slots_long pace (packets_of capture))))
 
 -- packets that stand in a file each after the record before, the first of them at this place
-starts_from : (bytes : List ℕ) (at : ℕ) (stored : List Stored) → All (IsWithin bytes) stored → ((k : ℕ) (d : Stored) → k < length stored → (slice_index_or stored k d).start ≡ at + records_length (take k stored))
+starts_from : (bytes : List ℕ) (at : ℕ) (stored : List Stored) → All (IsWithin bytes) stored
+    → ((k : ℕ) (d : Stored) → k < length stored → (slice_index_or stored k d).start ≡ at + records_length (take k stored))
     → map (λ (s : Stored). s.start) stored ≡ places_from at (map (packet_in bytes) stored)
 starts_from bytes at [] within order = refl
 starts_from bytes at (s ∷ stored) within order =
     let len = length-captured_in bytes s (within 0 s (omega arith)) in
     let first : s.start ≡ at = let o = order 0 s (omega arith) in omega arith in
-    let next : (k : ℕ) (d : Stored) → k < length stored → (slice_index_or stored k d).start ≡ at + length (captured_in bytes s) + 16 + records_length (take k stored) =
+    let next : (k : ℕ) (d : Stored) → k < length stored
+    → (slice_index_or stored k d).start ≡ at + length (captured_in bytes s) + 16 + records_length (take k stored) =
     λ k d inside. let o = order (suc k) d (omega arith) in let c = sum_by-cons (λ (x : Stored). 16 + x.len) s (take k stored) in omega arith in
     let rest = starts_from bytes (at + length (captured_in bytes s) + 16) stored (λ k d inside. within (suc k) d (omega arith)) next in
     cc
@@ -88,7 +92,8 @@ module _ (ports depth : ℕ) (table : List RouteLine) (pace : Pace) (port : ℕ)
       ∙ length_map (λ (s : Stored). s.start) capture.packets.items
 
   packet_from : (k : ℕ) (d : Planned) → k < length card.packets.items
-      → IsFrom table capture.link capture.bytes.items (slice_index_or capture.packets.items k no_stored) (slice_index_or (slots_at pace capture) k 0) (slice_index_or card.packets.items k d)
+      → IsFrom table capture.link capture.bytes.items (slice_index_or capture.packets.items k no_stored) (slice_index_or (slots_at pace capture) k 0)
+      (slice_index_or card.packets.items k d)
   packet_from k d inside =
       let f : Packet × ℕ → Planned = λ pair. planned table capture.link pair.0 pair.1 in
       let pairs = zip (packets_of capture) (slots_at pace capture) in
@@ -96,7 +101,8 @@ module _ (ports depth : ℕ) (table : List RouteLine) (pace : Pace) (port : ℕ)
       let s = slice_index_or capture.packets.items k no_stored in
       let slot = slice_index_or (slots_at pace capture) k 0 in
       let in_stored : k < length capture.packets.items = omega (arith, card_long) in
-      let in_pairs : k < length (map f pairs) = omega (arith, length_map f pairs, length_zip (packets_of capture) (slots_at pace capture) (stored_long ∙ sym taken_long), stored_long) in
+      let in_pairs : k < length (map f pairs) =
+      omega (arith, length_map f pairs, length_zip (packets_of capture) (slots_at pace capture) (stored_long ∙ sym taken_long), stored_long) in
       let same : unplaced (slice_index_or card.packets.items k d) ≡ planned table capture.link (packet_in capture.bytes.items s) slot =
       sym (at_map unplaced card.packets.items k d)
       ∙ ap (λ xs. slice_index_or xs k (unplaced d)) is.packets.packets_are
@@ -107,7 +113,8 @@ module _ (ports depth : ℕ) (table : List RouteLine) (pace : Pace) (port : ℕ)
       let place : (slice_index_or card.packets.items k d).start ≡ s.start =
       sym (at_map (λ (p : Planned). p.start) card.packets.items k d)
       ∙ ap (λ xs. slice_index_or xs k d.start) is.packets.places
-      ∙ at_any (map (λ (s : Stored). s.start) capture.packets.items) k d.start no_stored.start (omega (arith, length_map (λ (s : Stored). s.start) capture.packets.items))
+      ∙ at_any (map (λ (s : Stored). s.start) capture.packets.items) k d.start no_stored.start
+      (omega (arith, length_map (λ (s : Stored). s.start) capture.packets.items))
       ∙ at_map (λ (s : Stored). s.start) capture.packets.items k no_stored in
       record {
         nanos = ap (λ (p : Planned). p.nanos) same;
@@ -131,7 +138,8 @@ module _ (ports depth : ℕ) (table : List RouteLine) (pace : Pace) (port : ℕ)
       let from = packet_from k d inside in
       let frame = captured_in capture.bytes.items s in
       let long = length-captured_in capture.bytes.items s (read.within k no_stored (omega (arith, card_long))) in
-      let short : length frame ≤ 65535 = short_one (is_oversize frame) (length frame) (route_of table (destination_of capture.link frame)) refl (λ none. goes (from.fan ∙ none)) in
+      let short : length frame ≤ 65535 =
+      short_one (is_oversize frame) (length frame) (route_of table (destination_of capture.link frame)) refl (λ none. goes (from.fan ∙ none)) in
       omega (arith, from.len)
     where
       short_one : (long : Bool) (n : ℕ) (route : Option Route) → nat_lt 65535 n ≡ long → fan_of (if long then None else route) ≢ 0 → n ≤ 65535
@@ -147,10 +155,13 @@ module _ (ports depth : ℕ) (table : List RouteLine) (pace : Pace) (port : ℕ)
       let at = get_or_from_slice_get card.packets.items k packet packet there in
       let s = slice_index_or capture.packets.items k no_stored in
       let slot = slice_index_or (slots_at pace capture) k 0 in
-      let from : IsFrom table capture.link capture.bytes.items s slot packet = subst (λ (p : Planned). IsFrom table capture.link capture.bytes.items s slot p) at (packet_from k packet inside) in
+      let from : IsFrom table capture.link capture.bytes.items s slot packet =
+      subst (λ (p : Planned). IsFrom table capture.link capture.bytes.items s slot p) at (packet_from k packet inside) in
       let frame = captured_in capture.bytes.items s in
       let route = route_of table (destination_of capture.link frame) in
-      let fan = fan_within ports (route_for table capture.link frame) (kept_route (λ o. (r : Route) → o ≡ Some r → IsRouteOf ports r) (is_oversize frame) route (λ r e. absurd (none-some r e)) (λ r e. routed ports table (destination_of capture.link frame) r routes e)) in
+      let fan = fan_within ports (route_for table capture.link frame)
+      (kept_route (λ o. (r : Route) → o ≡ Some r → IsRouteOf ports r) (is_oversize frame) route (λ r e. absurd (none-some r e))
+      (λ r e. routed ports table (destination_of capture.link frame) r routes e)) in
       let here = read.within k no_stored (omega (arith, card_long)) in
       let early = rising_below 0 (slots_at pace capture) k 0 (arrivals_rise pace 0 (packets_of capture)) (omega (arith, card_long, taken_long)) in
       let within = is.within in
@@ -207,7 +218,8 @@ module _ (ports depth : ℕ) (table : List RouteLine) (pace : Pace) (port : ℕ)
       ∙ body
       ∙ sym (ap (λ (x : Packet). x.bytes) (at_map (packet_in capture.bytes.items) capture.packets.items k no_stored))
       ∙ sym (at_map (λ (x : Packet). x.bytes) (packets_of capture) k own)
-      ∙ sym (at_any (map (λ (x : Packet). x.bytes) (packets_of capture)) k d own.bytes (omega (arith, length_map (λ (x : Packet). x.bytes) (packets_of capture), stored_long, card_long))))
+      ∙ sym (at_any (map (λ (x : Packet). x.bytes) (packets_of capture)) k d own.bytes
+      (omega (arith, length_map (λ (x : Packet). x.bytes) (packets_of capture), stored_long, card_long))))
 
   -- and stand where the capture has them
   pub starts_are : map (λ (p : Planned). p.start) card.packets.items ≡ places_from 40 (packets_of capture)
@@ -223,14 +235,16 @@ module _ (ports depth : ℕ) (table : List RouteLine) (pace : Pace) (port : ℕ)
       ∙ count_left (λ (p : Packet). is_oversize p.bytes) (packets_of capture) (slots_at pace capture) (stored_long ∙ sym taken_long)
 
   pub aside_are : count_by (λ (p : Planned). p.fan == 0) card.packets.items
-      ≡ count_by (λ (p : Packet). is_oversize p.bytes) (packets_of capture) + count_by (λ (p : Packet). is_unrouted table capture.link p.bytes) (packets_of capture)
+      ≡ count_by (λ (p : Packet). is_oversize p.bytes) (packets_of capture) + count_by (λ (p : Packet). is_unrouted table capture.link p.bytes)
+      (packets_of capture)
   aside_are =
       let pairs = zip (packets_of capture) (slots_at pace capture) in
       let aside : Planned → Bool = λ p. p.fan == 0 in
       sym (count_map aside unplaced card.packets.items)
       ∙ ap (count_by aside) traffic_is
       ∙ count_map aside (λ pair. planned table capture.link pair.0 pair.1) pairs
-      ∙ count_left (λ (p : Packet). fan_of (route_for table capture.link p.bytes) == 0) (packets_of capture) (slots_at pace capture) (stored_long ∙ sym taken_long)
+      ∙ count_left (λ (p : Packet). fan_of (route_for table capture.link p.bytes) == 0) (packets_of capture) (slots_at pace capture)
+      (stored_long ∙ sym taken_long)
       ∙ aside_split ports table capture.link (packets_of capture) routes
 
   -- where the capture counts in microseconds, so do its packets
@@ -240,14 +254,16 @@ module _ (ports depth : ℕ) (table : List RouteLine) (pace : Pace) (port : ℕ)
       let from = packet_from k d inside in
       let records = read.file.records in
       let own = packet_in capture.bytes.items no_stored in
-      let here : k < length records = let e = ap length read.file.packets_are in omega (arith, e, length_map (packet_of capture.nano) records, stored_long, card_long) in
+      let here : k < length records = let e = ap length read.file.packets_are in
+      omega (arith, e, length_map (packet_of capture.nano) records, stored_long, card_long) in
       let same : packet_in capture.bytes.items s ≡ slice_index_or (map (packet_of capture.nano) records) k own =
       sym (at_map (packet_in capture.bytes.items) capture.packets.items k no_stored) ∙ ap (λ xs. slice_index_or xs k own) read.file.packets_are in
       let stored : s.nanos % 1000 ≡ 0 =
       ap (λ (p : Packet). p.nanos % 1000) same ∙ micros_are capture.nano micro records k own here in
       ap (λ n. n % 1000) from.nanos ∙ stored
     where
-      micros_are : (nano : Bool) → nano ≡ false → (records : List Record) (k : ℕ) (d : Packet) → k < length records → (slice_index_or (map (packet_of nano) records) k d).nanos % 1000 ≡ 0
+      micros_are : (nano : Bool) → nano ≡ false → (records : List Record) (k : ℕ) (d : Packet) → k < length records
+          → (slice_index_or (map (packet_of nano) records) k d).nanos % 1000 ≡ 0
       micros_are true micro records k d inside = absurd (cc micro)
       micros_are false micro [] k d inside = absurd (omega arith)
       micros_are false micro (r ∷ records) zero d inside = omega arith

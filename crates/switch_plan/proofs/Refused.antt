@@ -1,5 +1,6 @@
 -- A job is refused for one cause at most, and not if it can be planned.
-use Rattle.std.proofs.Common.{◌≡◌, ◌∙◌, ◌⊎◌, ℕ, zero, suc, ◌<◌, List, [], ◌∷◌, length, slice_index_or, Option, None, Some, Ok, Err, refl, ap, sym, subst, arith, inl, inr}
+use Rattle.std.proofs.Common.{◌≡◌, ◌∙◌, ◌⊎◌, ℕ, zero, suc, ◌<◌, List, [], ◌∷◌, length, slice_index_or, Option, None, Some, Ok, Err, refl, ap, sym}
+use Rattle.std.proofs.Common.{subst, arith, inl, inr}
 use Rattle.std.proofs.lemmas.List.{same_lists}
 use Rattle.std.proofs.lemmas.Option.{none-some, same_Some}
 use Rattle.pcap_records.specs.declared.fault.PcapFault.{PcapFault}
@@ -15,7 +16,8 @@ use Rattle.switch_plan.specs.Refusals.{IsFirstFault, AreRead, IsRefusedWhenRead,
 file_once : (bytes : List ℕ) (a b : CaptureFile) → IsFile bytes a → IsFile bytes b → a ≡ b
 file_once bytes a b is_a is_b =
     let same = captures_once bytes a.nano b.nano a.link b.link a.packets b.packets is_a is_b in
-    ap (λ n. record a { nano = n }) same.0 ∙ ap (λ l. record { nano = b.nano; link = l; packets = a.packets }) same.1 ∙ ap (λ p. record { nano = b.nano; link = b.link; packets = p }) same.2
+    ap (λ n. record a { nano = n }) same.0 ∙ ap (λ l. record { nano = b.nano; link = l; packets = a.packets }) same.1
+    ∙ ap (λ p. record { nano = b.nano; link = b.link; packets = p }) same.2
 
 -- files are these captures in one way
 pub files_once : (files : List (List ℕ)) (a b : List CaptureFile) → AreFiles files a → AreFiles files b → a ≡ b
@@ -31,13 +33,15 @@ no_file files [] port within count = absurd (omega arith)
 no_file files (capture ∷ captures) port within count = capture
 
 -- a capture has no fault
-no_fault_of_files : (files : List (List ℕ)) (captures : List CaptureFile) (port : ℕ) (fault : PcapFault) (d : CaptureFile) → AreFiles files captures → IsFirstFault files port fault → ⊥
+no_fault_of_files : (files : List (List ℕ)) (captures : List CaptureFile) (port : ℕ) (fault : PcapFault) (d : CaptureFile) → AreFiles files captures
+    → IsFirstFault files port fault → ⊥
 no_fault_of_files files captures port fault d are first =
     let capture = slice_index_or captures port d in
     no_fault_of_a_capture (slice_index_or files port []) capture.nano capture.link capture.packets fault (are.each port [] d first.within) (first.faulty [])
 
 -- before the first fault there is none
-no_fault_before : (files : List (List ℕ)) (port later : ℕ) (fault other : PcapFault) → IsFirstFault files port fault → IsFirstFault files later other → port < later → ⊥
+no_fault_before : (files : List (List ℕ)) (port later : ℕ) (fault other : PcapFault) → IsFirstFault files port fault → IsFirstFault files later other
+    → port < later → ⊥
 no_fault_before files port later fault other first second less =
     let capture = second.before port [] less in
     no_fault_of_a_capture (slice_index_or files port []) capture.0.nano capture.0.link capture.0.packets fault capture.1 (first.faulty [])
@@ -64,7 +68,8 @@ same_port files port later fault other first second =
 -- a job's cause, by where it comes from
 data IsCause (pace_us : Option ℕ) (text : List ℕ) (files : List (List ℕ)) (fault : PlanFault) : Type 0 where
   of_table : (why : TableFault) → fault ≡ Table why → reading_of (length files) text ≡ Err why → IsCause pace_us text files fault
-  of_capture : (port : ℕ) (why : PcapFault) (table : List RouteLine) → fault ≡ Capture port why → reading_of (length files) text ≡ Ok table → IsFirstFault files port why → IsCause pace_us text files fault
+  of_capture : (port : ℕ) (why : PcapFault) (table : List RouteLine) → fault ≡ Capture port why → reading_of (length files) text ≡ Ok table
+      → IsFirstFault files port why → IsCause pace_us text files fault
   of_both : IsRefusedWhenRead pace_us text files fault → IsCause pace_us text files fault
 
 module _ (pace_us : Option ℕ) (text : List ℕ) (files : List (List ℕ)) where
@@ -77,7 +82,8 @@ module _ (pace_us : Option ℕ) (text : List ℕ) (files : List (List ℕ)) wher
   cause_of OutOfMemory is = absurd is
 
   -- a table and captures that are read are refused for one cause, or for none
-  outcome_once : (table other_table : List RouteLine) (captures other_captures : List CaptureFile) (a b : Option PlanFault) → AreRead text files table captures → AreRead text files other_table other_captures
+  outcome_once : (table other_table : List RouteLine) (captures other_captures : List CaptureFile) (a b : Option PlanFault)
+      → AreRead text files table captures → AreRead text files other_table other_captures
       → refusal_of pace_us table captures ≡ a → refusal_of pace_us other_table other_captures ≡ b → a ≡ b
   outcome_once table other_table captures other_captures a b read other is_a is_b =
       let tables : table ≡ other_table = let p = read.table_is in let q = other.table_is in cc in
@@ -110,10 +116,12 @@ module _ (pace_us : Option ℕ) (text : List ℕ) (files : List (List ℕ)) wher
   refusal_once a b is_a is_b = same_cause a b (cause_of a is_a) (cause_of b is_b)
 
   -- and what can be planned has none
-  pub no_refusal : (table : List RouteLine) (captures : List CaptureFile) (fault : PlanFault) → AreRead text files table captures → refusal_of pace_us table captures ≡ None → IsRefusal pace_us text files fault → ⊥
+  pub no_refusal : (table : List RouteLine) (captures : List CaptureFile) (fault : PlanFault) → AreRead text files table captures
+      → refusal_of pace_us table captures ≡ None → IsRefusal pace_us text files fault → ⊥
   no_refusal table captures fault read none is = unrefused table captures fault read none (cause_of fault is)
     where
-      unrefused : (table : List RouteLine) (captures : List CaptureFile) (fault : PlanFault) → AreRead text files table captures → refusal_of pace_us table captures ≡ None → IsCause pace_us text files fault → ⊥
+      unrefused : (table : List RouteLine) (captures : List CaptureFile) (fault : PlanFault) → AreRead text files table captures
+          → refusal_of pace_us table captures ≡ None → IsCause pace_us text files fault → ⊥
       unrefused table captures fault read none (of_table why is bad) = not_both why table bad read.table_is
       unrefused table captures fault read none (of_capture port why table' is good first) =
           no_fault_of_files files captures port why (no_file files captures port first.within read.captures_are.count) read.captures_are first

@@ -38,7 +38,8 @@ rising_from free (slot ∷ slots) (suc k) d rise inside =
     let more = rising_from (slot + 1) slots k d rise.1 (omega arith) in
     omega arith
 
-pub rising_apart : (free : ℕ) (slots : List ℕ) (k j d : ℕ) → AreRisingFrom free slots → k < j → j < length slots → slice_index_or slots k d < slice_index_or slots j d
+pub rising_apart : (free : ℕ) (slots : List ℕ) (k j d : ℕ) → AreRisingFrom free slots → k < j → j < length slots
+    → slice_index_or slots k d < slice_index_or slots j d
 rising_apart free [] k j d rise less inside = absurd (omega arith)
 rising_apart free (slot ∷ slots) k zero d rise less inside = absurd (omega arith)
 rising_apart free (slot ∷ slots) zero (suc j) d rise less inside =

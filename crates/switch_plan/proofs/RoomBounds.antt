@@ -1,5 +1,6 @@
 -- What comes to an output is within what the cells of all packets allow.
-use Rattle.std.proofs.Common.{◌≡◌, ◌≢◌, ◌∙◌, ℕ, zero, suc, ◌*◌, ◌/◌, ◌≤◌, ◌==◌, ◌&&◌, max, Bool, true, false, List, [], ◌∷◌, length, slice_index_or, refl, ap, sym, subst, arith}
+use Rattle.std.proofs.Common.{◌≡◌, ◌≢◌, ◌∙◌, ℕ, zero, suc, ◌*◌, ◌/◌, ◌≤◌, ◌==◌, ◌&&◌, max, Bool, true, false, List, [], ◌∷◌, length, slice_index_or}
+use Rattle.std.proofs.Common.{refl, ap, sym, subst, arith}
 use Rattle.std.specs.Prelude.{map, fold, sum_by, count_by, count_ones, if◌then◌else◌, All}
 use Rattle.std.specs.Int.{bit_at}
 use Rattle.std.specs.List.{range_with_len}
@@ -11,7 +12,8 @@ use Rattle.std.proofs.lemmas.List.Sums.{sum_by-cons, sum_by-le-sum_by}
 use lib.Count.{ones_step}
 use Rattle.cell_cutter.specs.Messages.{cells_of_packet}
 use Rattle.card_core.specs.declared.plan.Planned.{Planned}
-use Rattle.switch_plan.specs.Totals.{most_for, goes_to, message_length, flow_of, bytes_to, work_of, total_work, greatest_message, sizes_for, body_room_for, packet_room_for}
+use Rattle.switch_plan.specs.Totals.{most_for, goes_to, message_length, flow_of, bytes_to, work_of, total_work, greatest_message, sizes_for}
+use Rattle.switch_plan.specs.Totals.{body_room_for, packet_room_for}
 use Rattle.switch_plan.specs.Counting.{IsForwardable, AreCountable}
 
 -- ---- a packet
@@ -91,22 +93,26 @@ goes_some output p goes none =
     let clear : bit_at p.fan output ≡ 0 = ap (λ fan. bit_at fan output) none ∙ bit_at-zero output in
     absurd (omega arith)
 
-size_step : (output flow most : ℕ) (p : Planned) → IsForwardable p → most ≤ 65551 → (if goes_to output p && (flow_of p == flow) then max most (message_length p) else most) ≤ 65551
+size_step : (output flow most : ℕ) (p : Planned) → IsForwardable p → most ≤ 65551
+    → (if goes_to output p && (flow_of p == flow) then max most (message_length p) else most) ≤ 65551
 size_step output flow most p may few =
     pick_within (goes_to output p && (flow_of p == flow)) (max most (message_length p)) most 65551
     (λ both. let short = may (goes_some output p (and_first (goes_to output p) (flow_of p == flow) both)) in omega arith) few
 
-size_few : (output flow most : ℕ) (packets : List Planned) → All IsForwardable packets → most ≤ 65551 → fold (λ most packet. if goes_to output packet && (flow_of packet == flow) then max most (message_length packet) else most) most packets ≤ 65551
+size_few : (output flow most : ℕ) (packets : List Planned) → All IsForwardable packets → most ≤ 65551
+    → fold (λ most packet. if goes_to output packet && (flow_of packet == flow) then max most (message_length packet) else most) most packets ≤ 65551
 size_few output flow most [] all few = few
 size_few output flow most (p ∷ packets) all few =
-    size_few output flow (if goes_to output p && (flow_of p == flow) then max most (message_length p) else most) packets (All-tail IsForwardable p packets all) (size_step output flow most p (All-head IsForwardable p packets all) few)
+    size_few output flow (if goes_to output p && (flow_of p == flow) then max most (message_length p) else most) packets
+    (All-tail IsForwardable p packets all) (size_step output flow most p (All-head IsForwardable p packets all) few)
 
 -- no message to an output is longer than one of a packet that is forwarded
 pub sizes_few : (output : ℕ) (packets : List (List Planned)) → All AreCountable packets → All (λ size. size ≤ 65551) (sizes_for output packets)
 sizes_few output [] all = All-nil (λ size. size ≤ 65551)
 sizes_few output (ps ∷ packets) all =
     All-append (λ size. size ≤ 65551) (map (λ flow. greatest_message output flow ps) (range_with_len 0 8)) (sizes_for output packets)
-    (All-map (λ size. size ≤ 65551) (λ flow. greatest_message output flow ps) (range_with_len 0 8) (λ k d inside. size_few output (slice_index_or (range_with_len 0 8) k d) 0 ps (All-head AreCountable ps packets all).forwarded (omega arith)))
+    (All-map (λ size. size ≤ 65551) (λ flow. greatest_message output flow ps) (range_with_len 0 8)
+    (λ k d inside. size_few output (slice_index_or (range_with_len 0 8) k d) 0 ps (All-head AreCountable ps packets all).forwarded (omega arith)))
     (sizes_few output packets (All-tail AreCountable ps packets all))
 
 -- eight flows of each input

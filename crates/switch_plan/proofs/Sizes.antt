@@ -10,18 +10,21 @@ use Rattle.switch_plan.specs.Traffic.{IsFile, file_of}
 use Rattle.switch_plan.proofs.Folding.{length_map, at_map}
 use Rattle.switch_plan.proofs.Times.{no_stored, length-captured_in}
 
-records_short : (nano : Bool) (records : List Record) → AllByRecursion IsRecord records → (k : ℕ) (d : Packet) → k < length records → length (slice_index_or (map (packet_of nano) records) k d).bytes ≤ 262144
+records_short : (nano : Bool) (records : List Record) → AllByRecursion IsRecord records → (k : ℕ) (d : Packet) → k < length records
+    → length (slice_index_or (map (packet_of nano) records) k d).bytes ≤ 262144
 records_short nano [] each k d inside = absurd (omega arith)
 records_short nano (r ∷ records) each zero d inside = each.0.bytes
 records_short nano (r ∷ records) each (suc k) d inside = records_short nano records each.1 k d (omega arith)
 
 -- no packet of a capture has more captured bytes than a record may have
-pub capture_short : (bytes : List ℕ) (capture : Capture) → IsFile bytes (file_of capture) → All (IsWithin capture.bytes.items) capture.packets.items → All (λ s. s.len ≤ 262144) capture.packets.items
+pub capture_short : (bytes : List ℕ) (capture : Capture) → IsFile bytes (file_of capture) → All (IsWithin capture.bytes.items) capture.packets.items
+    → All (λ s. s.len ≤ 262144) capture.packets.items
 capture_short bytes capture file within k d inside =
     let stored = slice_index_or capture.packets.items k d in
     let own = packet_in capture.bytes.items d in
     let long : length (packets_of capture) ≡ length file.records = ap length file.packets_are ∙ length_map (packet_of capture.nano) file.records in
-    let short = records_short capture.nano file.records file.each k own (omega (arith, long, length_map (packet_in capture.bytes.items) capture.packets.items)) in
+    let short = records_short capture.nano file.records file.each k own
+    (omega (arith, long, length_map (packet_in capture.bytes.items) capture.packets.items)) in
     let same : slice_index_or (map (packet_of capture.nano) file.records) k own ≡ packet_in capture.bytes.items stored =
     ap (λ xs. slice_index_or xs k own) (sym file.packets_are) ∙ at_map (packet_in capture.bytes.items) capture.packets.items k d in
     let here : length (captured_in capture.bytes.items stored) ≤ 262144 = subst (λ (p : Packet). length p.bytes ≤ 262144) same short in
@@ -39,7 +42,8 @@ front_length (x ∷ xs) zero inside = refl
 front_length (x ∷ xs) (suc k) inside = omega (arith, front_length xs k (omega arith))
 
 -- and a file of at most 16,777,216 bytes at most 1,048,576 of them
-pub capture_few : (bytes : List ℕ) (packets : List Stored) → AreInOrder packets → All (IsWithin bytes) packets → length bytes ≤ 16777216 → length packets ≤ 1048576
+pub capture_few : (bytes : List ℕ) (packets : List Stored) → AreInOrder packets → All (IsWithin bytes) packets → length bytes ≤ 16777216
+    → length packets ≤ 1048576
 capture_few bytes [] order within size = omega arith
 capture_few bytes (s ∷ packets) order within size =
     let inside : length packets < length (s ∷ packets) = omega arith in

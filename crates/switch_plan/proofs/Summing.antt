@@ -26,14 +26,16 @@ pub cells_forwarded : (len : ℕ) → len ≤ 65535 → cells_of_packet len ≤ 
 cells_forwarded len short = omega arith
 
 -- the packets of a card among those of all
-pub packets_at : (cards : List CardPlan) (k : ℕ) (card : CardPlan) → card ≡ slice_index_or cards k card → slice_index_or (packets_of_cards cards) k card.packets.items ≡ card.packets.items
+pub packets_at : (cards : List CardPlan) (k : ℕ) (card : CardPlan) → card ≡ slice_index_or cards k card
+    → slice_index_or (packets_of_cards cards) k card.packets.items ≡ card.packets.items
 packets_at cards k card is =
     at_map (λ (c : CardPlan). c.packets.items) cards k card ∙ ap (λ (c : CardPlan). c.packets.items) (sym is)
 
 cards_long : (cards : List CardPlan) → length (packets_of_cards cards) ≡ length cards
 cards_long cards = length_map (λ (c : CardPlan). c.packets.items) cards
 
-pub countable_at : (cards : List CardPlan) (k : ℕ) (card : CardPlan) → All AreCountable (packets_of_cards cards) → k < length cards → card ≡ slice_index_or cards k card → AreCountable card.packets.items
+pub countable_at : (cards : List CardPlan) (k : ℕ) (card : CardPlan) → All AreCountable (packets_of_cards cards) → k < length cards
+    → card ≡ slice_index_or cards k card → AreCountable card.packets.items
 countable_at cards k card all inside is =
     subst AreCountable (packets_at cards k card is) (all k card.packets.items (omega (arith, cards_long cards)))
 
@@ -44,21 +46,27 @@ work_next cards k card inside is =
     ∙ ap (λ packets. total_work (take k (packets_of_cards cards)) + sum_by work_of packets) (packets_at cards k card is)
 
 pub aside_next : (cards : List CardPlan) (k : ℕ) (card : CardPlan) → k < length cards → card ≡ slice_index_or cards k card
-    → total_aside (take (k + 1) (packets_of_cards cards)) ≡ total_aside (take k (packets_of_cards cards)) + count_by (λ packet. packet.fan == 0) card.packets.items
+    → total_aside (take (k + 1) (packets_of_cards cards)) ≡ total_aside (take k (packets_of_cards cards)) + count_by
+    (λ packet. packet.fan == 0) card.packets.items
 aside_next cards k card inside is =
-    fold_next (λ a (packets : List Planned). a + count_by (λ (packet : Planned). packet.fan == 0) packets) 0 (packets_of_cards cards) k card.packets.items (omega (arith, cards_long cards))
+    fold_next (λ a (packets : List Planned). a + count_by (λ (packet : Planned). packet.fan == 0) packets) 0 (packets_of_cards cards) k card.packets.items
+    (omega (arith, cards_long cards))
     ∙ ap (λ packets. total_aside (take k (packets_of_cards cards)) + count_by (λ (packet : Planned). packet.fan == 0) packets) (packets_at cards k card is)
 
 pub bytes_next : (output : ℕ) (cards : List CardPlan) (k : ℕ) (card : CardPlan) → k < length cards → card ≡ slice_index_or cards k card
-    → body_room_for output (take (k + 1) (packets_of_cards cards)) ≡ body_room_for output (take k (packets_of_cards cards)) + sum_by (bytes_to output) card.packets.items
+    → body_room_for output (take (k + 1) (packets_of_cards cards)) ≡ body_room_for output (take k (packets_of_cards cards)) + sum_by
+    (bytes_to output) card.packets.items
 bytes_next output cards k card inside is =
-    fold_next (λ a (packets : List Planned). a + sum_by (bytes_to output) packets) 0 (packets_of_cards cards) k card.packets.items (omega (arith, cards_long cards))
+    fold_next (λ a (packets : List Planned). a + sum_by (bytes_to output) packets) 0 (packets_of_cards cards) k card.packets.items
+    (omega (arith, cards_long cards))
     ∙ ap (λ packets. body_room_for output (take k (packets_of_cards cards)) + sum_by (bytes_to output) packets) (packets_at cards k card is)
 
 pub messages_next : (output : ℕ) (cards : List CardPlan) (k : ℕ) (card : CardPlan) → k < length cards → card ≡ slice_index_or cards k card
-    → packet_room_for output (take (k + 1) (packets_of_cards cards)) ≡ packet_room_for output (take k (packets_of_cards cards)) + count_by (goes_to output) card.packets.items
+    → packet_room_for output (take (k + 1) (packets_of_cards cards)) ≡ packet_room_for output (take k (packets_of_cards cards)) + count_by
+    (goes_to output) card.packets.items
 messages_next output cards k card inside is =
-    fold_next (λ a (packets : List Planned). a + count_by (goes_to output) packets) 0 (packets_of_cards cards) k card.packets.items (omega (arith, cards_long cards))
+    fold_next (λ a (packets : List Planned). a + count_by (goes_to output) packets) 0 (packets_of_cards cards) k card.packets.items
+    (omega (arith, cards_long cards))
     ∙ ap (λ packets. packet_room_for output (take k (packets_of_cards cards)) + count_by (goes_to output) packets) (packets_at cards k card is)
 
 pub slots_next : (cards : List CardPlan) (k : ℕ) (card : CardPlan) → k < length cards → card ≡ slice_index_or cards k card
@@ -74,7 +82,8 @@ slots_last packets k long =
     ∙ ap (λ n. n + 1) (at_map (λ packet. packet.arrival) packets k no_packet)
 
 pub oversize_next : (cards : List CardPlan) (k : ℕ) (card : CardPlan) → k < length cards → card ≡ slice_index_or cards k card
-    → sum_by (count_by is_long) (take (k + 1) (packets_of_cards cards)) ≡ sum_by (count_by is_long) (take k (packets_of_cards cards)) + count_by is_long card.packets.items
+    → sum_by (count_by is_long) (take (k + 1) (packets_of_cards cards)) ≡ sum_by (count_by is_long)
+    (take k (packets_of_cards cards)) + count_by is_long card.packets.items
 oversize_next cards k card inside is =
     fold_next (λ a (packets : List Planned). a + count_by is_long packets) 0 (packets_of_cards cards) k card.packets.items (omega (arith, cards_long cards))
     ∙ ap (λ packets. sum_by (count_by is_long) (take k (packets_of_cards cards)) + count_by is_long packets) (packets_at cards k card is)

@@ -1,5 +1,6 @@
 -- The times of packets, as far as they were looked at.
-use Rattle.std.proofs.Common.{◌≡◌, ◌∙◌, ℕ, ◌+◌, ◌<◌, ◌≤◌, List, [], ◌∷◌, ◌++◌, length, take, drop, slice_index_or, Option, None, ap, sym, arith, length-take, length-drop}
+use Rattle.std.proofs.Common.{◌≡◌, ◌∙◌, ℕ, ◌+◌, ◌<◌, ◌≤◌, List, [], ◌∷◌, ◌++◌, length, take, drop, slice_index_or, Option, None, ap, sym, arith}
+use Rattle.std.proofs.Common.{length-take, length-drop}
 use Rattle.std.specs.Prelude.{map, fold}
 use Rattle.std.specs.List.{zip}
 use Rattle.cell_cutter.specs.Messages.{cells_of_packet}
@@ -18,12 +19,14 @@ abbrev pub no_stored : Stored
 no_stored = record { seconds = 0; nanos = 0; original = 0; start = 0; len = 0 }
 
 -- the least time as a walk over what is stored
-least_walk : (least : Option ℕ) (bytes : List ℕ) (packets : List Stored) → least_in least (map (packet_in bytes) packets) ≡ fold (λ l s. earlier l (time_of (packet_in bytes s))) least packets
+least_walk : (least : Option ℕ) (bytes : List ℕ) (packets : List Stored)
+    → least_in least (map (packet_in bytes) packets) ≡ fold (λ l s. earlier l (time_of (packet_in bytes s))) least packets
 least_walk least bytes packets =
     fold_map earlier least time_of (map (packet_in bytes) packets) ∙ fold_map (λ l p. earlier l (time_of p)) least (packet_in bytes) packets
 
 pub least_next : (least : Option ℕ) (bytes : List ℕ) (packets : List Stored) (k : ℕ) (d : Stored) → k < length packets
-    → least_in least (map (packet_in bytes) (take (k + 1) packets)) ≡ earlier (least_in least (map (packet_in bytes) (take k packets))) (time_of (packet_in bytes (slice_index_or packets k d)))
+    → least_in least (map (packet_in bytes) (take (k + 1) packets)) ≡ earlier (least_in least (map (packet_in bytes) (take k packets)))
+    (time_of (packet_in bytes (slice_index_or packets k d)))
 least_next least bytes packets k d inside =
     least_walk least bytes (take (k + 1) packets)
     ∙ fold_next (λ l s. earlier l (time_of (packet_in bytes s))) least packets k d inside
@@ -33,14 +36,16 @@ least_next least bytes packets k d inside =
 pub length-captured_in : (bytes : List ℕ) (s : Stored) → IsWithin bytes s → length (captured_in bytes s) ≡ s.len
 length-captured_in bytes s within = omega (arith, length-take s.len (drop s.start bytes), length-drop s.start bytes)
 
-pub stamp_is : (bytes : List ℕ) (s : Stored) (stamp : Stamp) → IsWithin bytes s → stamp.time ≡ time_of (packet_in bytes s) → stamp.cells ≡ cells_of_packet s.len → stamp ≡ stamp_of (packet_in bytes s)
+pub stamp_is : (bytes : List ℕ) (s : Stored) (stamp : Stamp) → IsWithin bytes s → stamp.time ≡ time_of (packet_in bytes s)
+    → stamp.cells ≡ cells_of_packet s.len → stamp ≡ stamp_of (packet_in bytes s)
 stamp_is bytes s stamp within time cells =
     let all : stamp.cells ≡ cells_of_packet (length (captured_in bytes s)) = cells ∙ ap cells_of_packet (sym (length-captured_in bytes s within)) in
     ap (λ t. record { time = t; cells = stamp.cells }) time ∙ ap (λ n. record { time = time_of (packet_in bytes s); cells = n }) all
 
 pub stamps_next : (bytes : List ℕ) (packets : List Stored) (k : ℕ) (d : Stored) (stamps pushed : List Stamp) (stamp : Stamp) → k < length packets
     → stamp ≡ stamp_of (packet_in bytes (slice_index_or packets k d)) → pushed ≡ stamps ++ stamp ∷ []
-    → stamps ≡ map (λ (s : Stored). stamp_of (packet_in bytes s)) (take k packets) → pushed ≡ map (λ (s : Stored). stamp_of (packet_in bytes s)) (take (k + 1) packets)
+    → stamps ≡ map (λ (s : Stored). stamp_of (packet_in bytes s)) (take k packets)
+    → pushed ≡ map (λ (s : Stored). stamp_of (packet_in bytes s)) (take (k + 1) packets)
 stamps_next bytes packets k d stamps pushed stamp inside is push so_far =
     push
     ∙ ap (λ (front : List Stamp). front ++ stamp ∷ []) so_far
@@ -63,7 +68,8 @@ least_time_next captures k capture inside is =
     ∙ ap (λ l. step l capture) (sym (fold_map (λ l (file : CaptureFile). least_in l file.packets) None file_of (take k captures)))
 
 -- the packets of a port so far, with one more
-pub planned_next : (table : List RouteLine) (link : Link) (bytes : List ℕ) (stored : List Stored) (slots : List ℕ) (k : ℕ) (made pushed : List Planned) (packet : Planned) → pushed ≡ made ++ packet ∷ []
+pub planned_next : (table : List RouteLine) (link : Link) (bytes : List ℕ) (stored : List Stored) (slots : List ℕ) (k : ℕ) (made pushed : List Planned)
+    (packet : Planned) → pushed ≡ made ++ packet ∷ []
     → k < length stored → length slots ≡ length stored
     → unplaced packet ≡ planned table link (packet_in bytes (slice_index_or stored k no_stored)) (slice_index_or slots k 0)
     → map unplaced made ≡ take k (map (λ pair. planned table link pair.0 pair.1) (zip (map (packet_in bytes) stored) slots))
@@ -73,7 +79,8 @@ planned_next table link bytes stored slots k made pushed packet push inside same
     let packets = map (packet_in bytes) stored in
     let d : Packet × ℕ = (packet_in bytes no_stored, 0) in
     let long = length_map (packet_in bytes) stored in
-    let there : slice_index_or (map f (zip packets slots)) k (f d) ≡ planned table link (packet_in bytes (slice_index_or stored k no_stored)) (slice_index_or slots k 0) =
+    let there : slice_index_or (map f (zip packets slots)) k (f d) ≡ planned table link (packet_in bytes (slice_index_or stored k no_stored))
+    (slice_index_or slots k 0) =
     at_map f (zip packets slots) k d
     ∙ ap f (at_zip packets slots k (packet_in bytes no_stored) 0 (omega arith) (omega arith))
     ∙ ap (λ p. planned table link p (slice_index_or slots k 0)) (at_map (packet_in bytes) stored k no_stored) in

@@ -13,27 +13,31 @@ use Rattle.switch_plan.proofs.Folding.{length_map, take_all}
 use Rattle.switch_plan.proofs.Summing.{packets_at}
 
 -- ---- the greatest number of slots
-greatest_tells : (most a : ℕ) (ports : List (List Planned)) → fold (λ m packets. max m (slots_of packets)) a ports ≤ most → (a ≤ most) × All (λ packets. slots_of packets ≤ most) ports
+greatest_tells : (most a : ℕ) (ports : List (List Planned)) → fold (λ m packets. max m (slots_of packets)) a ports ≤ most → (a ≤ most)
+    × All (λ packets. slots_of packets ≤ most) ports
 greatest_tells most a [] few = (few, All-nil (λ packets. slots_of packets ≤ most))
 greatest_tells most a (packets ∷ ports) few =
     let rest = greatest_tells most (max a (slots_of packets)) ports few in
     let both = rest.0 in
     (omega arith, All-cons (λ packets. slots_of packets ≤ most) packets ports (omega arith) rest.1)
 
-pub greatest_few : (most a : ℕ) (ports : List (List Planned)) → a ≤ most → All (λ packets. slots_of packets ≤ most) ports → fold (λ m packets. max m (slots_of packets)) a ports ≤ most
+pub greatest_few : (most a : ℕ) (ports : List (List Planned)) → a ≤ most → All (λ packets. slots_of packets ≤ most) ports
+    → fold (λ m packets. max m (slots_of packets)) a ports ≤ most
 greatest_few most a [] few all = few
 greatest_few most a (packets ∷ ports) few all =
     let first = All-head (λ packets. slots_of packets ≤ most) packets ports all in
     greatest_few most (max a (slots_of packets)) ports (omega arith) (All-tail (λ packets. slots_of packets ≤ most) packets ports all)
 
-pub totals_from : (ports max_slots slots cells : ℕ) (packets : List (List Planned)) → slots ≡ greatest_slots packets → cells ≡ total_work packets → slots ≤ most_for ports → cells ≤ most_for ports → max_slots ≡ slots + cells + 1 → AreTotals ports max_slots packets
+pub totals_from : (ports max_slots slots cells : ℕ) (packets : List (List Planned)) → slots ≡ greatest_slots packets → cells ≡ total_work packets
+    → slots ≤ most_for ports → cells ≤ most_for ports → max_slots ≡ slots + cells + 1 → AreTotals ports max_slots packets
 totals_from ports max_slots slots cells packets slots_is cells_is slots_few cells_few end_is = record {
   slots = (greatest_tells (most_for ports) 0 packets (subst (λ n. n ≤ most_for ports) slots_is slots_few)).1;
   cells = subst (λ n. n ≤ most_for ports) cells_is cells_few;
   end = end_is ∙ ap (λ n. n + cells + 1) slots_is ∙ ap (λ n. greatest_slots packets + n + 1) cells_is;
 }
 
-pub totals_to : (ports max_slots slots cells : ℕ) (packets : List (List Planned)) → slots ≡ greatest_slots packets → cells ≡ total_work packets → AreTotals ports max_slots packets → (slots ≤ most_for ports) × (cells ≤ most_for ports) × (max_slots ≡ slots + cells + 1)
+pub totals_to : (ports max_slots slots cells : ℕ) (packets : List (List Planned)) → slots ≡ greatest_slots packets → cells ≡ total_work packets
+    → AreTotals ports max_slots packets → (slots ≤ most_for ports) × (cells ≤ most_for ports) × (max_slots ≡ slots + cells + 1)
 totals_to ports max_slots slots cells packets slots_is cells_is totals = (
   subst (λ n. n ≤ most_for ports) (sym slots_is) (greatest_few (most_for ports) 0 packets (omega arith) totals.slots),
   subst (λ n. n ≤ most_for ports) (sym cells_is) totals.cells,
@@ -42,20 +46,25 @@ totals_to ports max_slots slots cells packets slots_is cells_is totals = (
 
 -- ---- all cards as far as a loop has come
 -- by the packets of each card
-pub all_at : (P : List Planned → Type 0) (cards : List CardPlan) (k : ℕ) (card : CardPlan) → All P (packets_of_cards cards) → k < length cards → card ≡ slice_index_or cards k card → P card.packets.items
+pub all_at : (P : List Planned → Type 0) (cards : List CardPlan) (k : ℕ) (card : CardPlan) → All P (packets_of_cards cards) → k < length cards
+    → card ≡ slice_index_or cards k card → P card.packets.items
 all_at P cards k card all inside is =
     subst P (packets_at cards k card is) (all k card.packets.items (let l = length_map (λ (c : CardPlan). c.packets.items) cards in omega arith))
 
-pub all_next : (P : List Planned → Type 0) (cards : List CardPlan) (k : ℕ) (card : CardPlan) → k < length cards → card ≡ slice_index_or cards k card → All P (take k (packets_of_cards cards)) → P card.packets.items → All P (take (k + 1) (packets_of_cards cards))
+pub all_next : (P : List Planned → Type 0) (cards : List CardPlan) (k : ℕ) (card : CardPlan) → k < length cards → card ≡ slice_index_or cards k card
+    → All P (take k (packets_of_cards cards)) → P card.packets.items → All P (take (k + 1) (packets_of_cards cards))
 all_next P cards k card inside is before here =
-    All-more P (packets_of_cards cards) k card.packets.items (let l = length_map (λ (c : CardPlan). c.packets.items) cards in omega arith) before (subst P (sym (packets_at cards k card is)) here)
+    All-more P (packets_of_cards cards) k card.packets.items (let l = length_map (λ (c : CardPlan). c.packets.items) cards in omega arith) before
+    (subst P (sym (packets_at cards k card is)) here)
 
-pub all_end : (P : List Planned → Type 0) (cards : List CardPlan) (k : ℕ) → length cards ≤ k → All P (take k (packets_of_cards cards)) → All P (packets_of_cards cards)
+pub all_end : (P : List Planned → Type 0) (cards : List CardPlan) (k : ℕ) → length cards ≤ k → All P (take k (packets_of_cards cards))
+    → All P (packets_of_cards cards)
 all_end P cards k past before =
     subst (All P) (take_all (packets_of_cards cards) k (let l = length_map (λ (c : CardPlan). c.packets.items) cards in omega arith)) before
 
 -- by the number of each card
-pub each_next : (P : ℕ → CardPlan → Type 0) (cards : List CardPlan) (k : ℕ) (card : CardPlan) → card ≡ slice_index_or cards k card → ((j : ℕ) (c : CardPlan) → j < k → slice_get cards j ≡ Some c → P j c) → P k card
+pub each_next : (P : ℕ → CardPlan → Type 0) (cards : List CardPlan) (k : ℕ) (card : CardPlan) → card ≡ slice_index_or cards k card
+    → ((j : ℕ) (c : CardPlan) → j < k → slice_get cards j ≡ Some c → P j c) → P k card
     → (j : ℕ) (c : CardPlan) → j < k + 1 → slice_get cards j ≡ Some c → P j c
 each_next P cards k card is before here j c less there = elim (cases_eq j k) [
   | inl same ↦

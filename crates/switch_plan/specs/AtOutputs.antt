@@ -1,5 +1,6 @@
 -- What packets bring to each output, as far as a pass over them has come: the words of the calls inside.
-use Rattle.std.specs.Prelude.{◌≡◌, ℕ, ◌+◌, ◌*◌, ◌≤◌, max, if◌then◌else◌, List, [], length, fold, replicate, Some, slice_get, slice_index, slice_index_or, slice_set}
+use Rattle.std.specs.Prelude.{◌≡◌, ℕ, ◌+◌, ◌*◌, ◌≤◌, max, if◌then◌else◌, List, [], length, fold, replicate, Some, slice_get, slice_index}
+use Rattle.std.specs.Prelude.{slice_index_or, slice_set}
 use Rattle.cell_cutter.specs.declared.sizes.TheConstants.{MAX_MESSAGE_BYTES}
 use Rattle.reassembly.specs.declared.limits.TheConstants.{FLOWS_PER_INPUT}
 use Rattle.card_core.specs.declared.limits.TheConstants.{MAX_ARRIVALS}

@@ -63,4 +63,5 @@ pub record IsPlanWith (settings : Settings) (nanoseconds : Bool) (type : Link) (
   pub aside : plan.oversize + plan.unrouted ≡ total_aside (packets_of_cards cards)
   pub cells : total_work (packets_of_cards cards) ≤ most_for (length cards)
   pub count : length plan.cards.items ≡ length cards
-  pub sized : (port : ℕ) (old new : CardPlan) → slice_get cards port ≡ Some old → slice_get plan.cards.items port ≡ Some new → IsSized (packets_of_cards cards) port old new
+  pub sized : (port : ℕ) (old new : CardPlan) → slice_get cards port ≡ Some old → slice_get plan.cards.items port ≡ Some new
+      → IsSized (packets_of_cards cards) port old new

@@ -33,7 +33,8 @@ IsReadAs bytes (Err fault) = (fault ≡ OutOfMemory) ⊎ IsFault bytes fault
 -- what reading each file gave
 pub record AreReadAs (files : List (List ℕ)) (answers : List (Result Capture PcapFault)) : Type 0 where
   pub count : length answers ≡ length files
-  pub each : (k : ℕ) (bytes : List ℕ) (answer : Result Capture PcapFault) → k < length files → IsReadAs (slice_index_or files k bytes) (slice_index_or answers k answer)
+  pub each : (k : ℕ) (bytes : List ℕ) (answer : Result Capture PcapFault) → k < length files
+      → IsReadAs (slice_index_or files k bytes) (slice_index_or answers k answer)
 
 -- the captures of all files
 pub record AreCapturesOf (files : List (List ℕ)) (captures : List Capture) : Type 0 where

@@ -1,5 +1,6 @@
 -- Why a job is refused before its first slot: the first of these causes, in this order.
-use Rattle.std.specs.Prelude.{◌≡◌, ℕ, ◌+◌, ◌<◌, nat_lt, not, ◌==◌, if◌then◌else◌, List, [], ◌∷◌, length, map, find, Option, None, Some, Ok, Err, option_map, slice_index_or}
+use Rattle.std.specs.Prelude.{◌≡◌, ℕ, ◌+◌, ◌<◌, nat_lt, not, ◌==◌, if◌then◌else◌, List, [], ◌∷◌, length, map, find, Option, None, Some, Ok, Err}
+use Rattle.std.specs.Prelude.{option_map, slice_index_or}
 use Rattle.std.specs.Option.{option_or}
 use Rattle.pcap_records.specs.declared.fault.PcapFault.{PcapFault}
 use Rattle.pcap_records.specs.declared.link.Link.{Link}
@@ -28,7 +29,8 @@ first_link (capture ∷ captures) = capture.link
 -- the number of the first capture's link type, and that of the first capture of another
 abbrev pub mixed_links : List CaptureFile → Option PlanFault
 mixed_links captures =
-    option_map (MixedLink (link_type (first_link captures))) (find (λ other. not (other == link_type (first_link captures))) (map (λ capture. link_type capture.link) captures))
+    option_map (MixedLink (link_type (first_link captures)))
+    (find (λ other. not (other == link_type (first_link captures))) (map (λ capture. link_type capture.link) captures))
 
 -- the first of these ports that has more than `most` arrival slots; they are numbered from `port` on
 abbrev pub first_over : ℕ → ℕ → List (List Planned) → Option PlanFault

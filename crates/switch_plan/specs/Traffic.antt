@@ -1,5 +1,6 @@
 -- A job's captures, and their packets as they come to the switch.
-use Rattle.std.specs.Prelude.{◌≡◌, ℕ, ◌+◌, ◌*◌, ◌<◌, min, nat_lt, not, is_none, ◌&&◌, Bool, if◌then◌else◌, List, [], ◌∷◌, length, map, fold, Option, None, Some, slice_index_or}
+use Rattle.std.specs.Prelude.{◌≡◌, ℕ, ◌+◌, ◌*◌, ◌<◌, min, nat_lt, not, is_none, ◌&&◌, Bool, if◌then◌else◌, List, [], ◌∷◌, length, map, fold, Option}
+use Rattle.std.specs.Prelude.{None, Some, slice_index_or}
 use Rattle.std.specs.List.{list_any, zip}
 use Rattle.cell_cutter.specs.declared.sizes.TheConstants.{MAX_FORWARDED_BYTES}
 use Rattle.cell_cutter.specs.Messages.{cells_of_packet}

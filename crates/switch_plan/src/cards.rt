@@ -28,7 +28,9 @@ pub(crate) fn cards_of(
     requires few { vec_len captures ≤ MAX_PORTS }
     requires captures { All (CanBePlanned pace) captures.items }
     ensures cards { IfOk result (λ cards. AreCardsFor (vec_len captures) depth table.now pace 0 captures.items cards.items) }
-    ensures over { IfErr result (λ fault. (fault ≡ PlanFault.OutOfMemory) ⊎ (first_over (most_for (vec_len captures)) 0 (map (traffic_at table.now pace) captures.items) ≡ Some fault)) }
+    ensures over { IfErr result
+        (λ fault. (fault ≡ PlanFault.OutOfMemory)
+        ⊎ (first_over (most_for (vec_len captures)) 0 (map (traffic_at table.now pace) captures.items) ≡ Some fault)) }
 {
     let ports = captures.len() as u32;
     let mut cards = Vec::with_capacity(alloc, captures.len())?;
@@ -52,7 +54,9 @@ fn card_of(
     requires pace { IsPace pace }
     requires capture { CanBePlanned pace capture }
     ensures card { IfOk result (IsCardFor ports depth table.now pace port capture) }
-    ensures over { IfErr result (λ fault. (fault ≡ PlanFault.OutOfMemory) ⊎ ((fault ≡ PlanFault.TooManySlots port (slots_taken (slots_at pace capture))) × (most_for ports < slots_taken (slots_at pace capture)))) }
+    ensures over { IfErr result
+        (λ fault. (fault ≡ PlanFault.OutOfMemory)
+        ⊎ ((fault ≡ PlanFault.TooManySlots port (slots_taken (slots_at pace capture))) × (most_for ports < slots_taken (slots_at pace capture)))) }
 {
     let slots = slots_of(alloc, pace, most_for(ports as usize), port, &capture)?;
     let packets = packets_of(alloc, table, &capture, &slots)?;

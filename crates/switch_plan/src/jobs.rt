@@ -51,9 +51,11 @@ pub fn plan<R: Threads + Sync>(
     requires table { vec_len table ≤ MAX_FILE_BYTES }
     requires files { All (λ file. vec_len file ≤ MAX_FILE_BYTES) captures.items }
     ensures good { IfOk result (λ plan. IsGood (switch_plan_of plan)) }
-    ensures planned { IfOk result (λ plan. (lines : List RouteLine) × (read : List CaptureFile) × AreRead table.items (bytes_of_files captures) lines read × (refusal_of settings.now.pace_us lines read ≡ None) × IsPlanOf settings.now (bytes_of_files captures) lines read (switch_plan_of plan)) }
+    ensures planned { IfOk result (λ plan. (lines : List RouteLine) × (read : List CaptureFile) × AreRead table.items (bytes_of_files captures) lines read
+        × (refusal_of settings.now.pace_us lines read ≡ None) × IsPlanOf settings.now (bytes_of_files captures) lines read (switch_plan_of plan)) }
     ensures refused { IfErr result (λ fault. (fault ≡ PlanFault.OutOfMemory) ⊎ IsRefusal settings.now.pace_us table.items (bytes_of_files captures) fault) }
-    ensures every_refusal { (fault : PlanFault) → IsRefusal settings.now.pace_us table.items (bytes_of_files captures) fault → IsErrAnd result (λ answer. (answer ≡ PlanFault.OutOfMemory) ⊎ (answer ≡ fault)) }
+    ensures every_refusal { (fault : PlanFault) → IsRefusal settings.now.pace_us table.items (bytes_of_files captures) fault
+        → IsErrAnd result (λ answer. (answer ≡ PlanFault.OutOfMemory) ⊎ (answer ≡ fault)) }
 {
     let table = table_of(alloc, &table, captures.len() as u32)?;
     let captures = read_captures(rt, alloc, captures)?;
@@ -67,7 +69,8 @@ fn table_of(alloc: Global, text: &[u8], ports: u32) -> Result<Table, PlanFault>
     requires length { length text.now ≤ MAX_FILE_BYTES }
     ensures table { IfOk result (λ table. reading_of ports text.now ≡ Ok table) }
     ensures routes { IfOk result (AreRoutesOf ports) }
-    ensures refused { IfErr result (λ answer. (answer ≡ PlanFault.OutOfMemory) ⊎ ((fault : TableFault) × (answer ≡ PlanFault.Table fault) × (reading_of ports text.now ≡ Err fault))) }
+    ensures refused { IfErr result
+        (λ answer. (answer ≡ PlanFault.OutOfMemory) ⊎ ((fault : TableFault) × (answer ≡ PlanFault.Table fault) × (reading_of ports text.now ≡ Err fault))) }
 {
     match read_table(alloc, text, ports) {
         Ok(table) => Ok(table),
@@ -89,8 +92,10 @@ fn plan_of(
     requires routes { AreRoutesOf (vec_len captures) table.now }
     requires read { All (λ capture. IsCaptureOf capture.bytes.items capture) captures.items }
     ensures good { IfOk result (λ plan. IsGood (switch_plan_of plan)) }
-    ensures planned { IfOk result (λ plan. (refusal_of settings.now.pace_us table.now (map file_of captures.items) ≡ None) × IsPlanOf settings.now (map (λ capture. capture.bytes.items) captures.items) table.now (map file_of captures.items) (switch_plan_of plan)) }
-    ensures refused { IfErr result (λ fault. (fault ≡ PlanFault.OutOfMemory) ⊎ (refusal_of settings.now.pace_us table.now (map file_of captures.items) ≡ Some fault)) }
+    ensures planned { IfOk result (λ plan. (refusal_of settings.now.pace_us table.now (map file_of captures.items) ≡ None)
+        × IsPlanOf settings.now (map (λ capture. capture.bytes.items) captures.items) table.now (map file_of captures.items) (switch_plan_of plan)) }
+    ensures refused { IfErr result
+        (λ fault. (fault ≡ PlanFault.OutOfMemory) ⊎ (refusal_of settings.now.pace_us table.now (map file_of captures.items) ≡ Some fault)) }
 {
     let link = common_link(&captures)?;
     let nano = is_nano(&captures);
@@ -112,7 +117,8 @@ fn plan_with(
     requires slots { greatest_slots (packets_of_cards cards.items) ≤ MAX_CELLS }
     requires long { sum_by (count_by is_long) (packets_of_cards cards.items) ≤ total_aside (packets_of_cards cards.items) }
     ensures plan { IfOk result (IsPlanWith settings.now nano link cards.items) }
-    ensures over { IfErr result (λ fault. (fault ≡ PlanFault.OutOfMemory) ⊎ (over_work (most_for (length cards.items)) (packets_of_cards cards.items) ≡ Some fault)) }
+    ensures over { IfErr result
+        (λ fault. (fault ≡ PlanFault.OutOfMemory) ⊎ (over_work (most_for (length cards.items)) (packets_of_cards cards.items) ≡ Some fault)) }
 {
     let cells = total_work(&cards);
     if cells > most_for(cards.len()) {

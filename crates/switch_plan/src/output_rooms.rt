@@ -27,7 +27,9 @@ pub(crate) fn with_rooms(alloc: Global, cards: Vec<CardPlan>) -> Result<Vec<Card
     requires few { length cards.items ≤ MAX_PORTS }
     requires packets { All AreCountable (packets_of_cards cards.items) }
     requires work { total_work (packets_of_cards cards.items) ≤ most_for (length cards.items) }
-    ensures { IfOk result (λ sized. (length sized.items ≡ length cards.items) × ((port : ℕ) (old new : ACardPlan) → slice_get cards.items port ≡ Some old → slice_get sized.items port ≡ Some new → IsSized (packets_of_cards cards.items) port old new)) }
+    ensures { IfOk result (λ sized. (length sized.items ≡ length cards.items)
+        × ((port : ℕ) (old new : ACardPlan) → slice_get cards.items port ≡ Some old → slice_get sized.items port ≡ Some new
+        → IsSized (packets_of_cards cards.items) port old new)) }
 {
     let mut rooms = output_rooms(alloc, &cards)?;
     let mut cards = cards;

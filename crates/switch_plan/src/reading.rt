@@ -20,7 +20,9 @@ pub(crate) fn read_captures<R: Threads + Sync>(
     requires few { vec_len files ≤ MAX_PORTS }
     requires sizes { All (λ file. vec_len file ≤ MAX_FILE_BYTES) files.items }
     ensures read { IfOk result (λ captures. AreCapturesOf (bytes_of_files files) captures.items) }
-    ensures refused { IfErr result (λ answer. (answer ≡ PlanFault.OutOfMemory) ⊎ ((port : ℕ) × (fault : PcapFault) × (answer ≡ PlanFault.Capture port fault) × IsFirstFault (bytes_of_files files) port fault)) }
+    ensures refused { IfErr result
+        (λ answer. (answer ≡ PlanFault.OutOfMemory)
+        ⊎ ((port : ℕ) × (fault : PcapFault) × (answer ≡ PlanFault.Capture port fault) × IsFirstFault (bytes_of_files files) port fault)) }
 {
     in_order(alloc, read_each(rt, alloc, files)?)
 }
@@ -63,7 +65,9 @@ fn in_order(
 ) -> Result<Vec<Capture>, PlanFault>
     requires few { vec_len answers ≤ MAX_PORTS }
     ensures read { (files : List (List ℕ)) → AreReadAs files answers.items → IfOk result (λ captures. AreCapturesOf files captures.items) }
-    ensures refused { (files : List (List ℕ)) → AreReadAs files answers.items → IfErr result (λ answer. (answer ≡ PlanFault.OutOfMemory) ⊎ ((port : ℕ) × (fault : PcapFault) × (answer ≡ PlanFault.Capture port fault) × IsFirstFault files port fault)) }
+    ensures refused { (files : List (List ℕ)) → AreReadAs files answers.items
+        → IfErr result (λ answer. (answer ≡ PlanFault.OutOfMemory)
+        ⊎ ((port : ℕ) × (fault : PcapFault) × (answer ≡ PlanFault.Capture port fault) × IsFirstFault files port fault)) }
 {
     let mut captures = Vec::new(alloc);
     for answer in answers {

@@ -1,7 +1,8 @@
 ghost use Rattle.std.specs.Prelude.{◌≡◌, ◌≢◌, ℕ, ◌==◌, if◌then◌else◌, ◌<◌, ◌≤◌, Some, max, map, length, slice_get, slice_index, All, sum_by, count_by, IfOk};
 ghost use Rattle.std.specs.List.{range_with_len};
 ghost use Rattle.card_core.specs.declared.plan.CardPlan.{CardPlan as ACardPlan};
-ghost use Rattle.switch_plan.specs.Totals.{most_for, total_work, goes_to, bytes_to, flow_of, message_length, greatest_message, sizes_for, body_room_for, packet_room_for};
+ghost use Rattle.switch_plan.specs.Totals.{most_for, total_work, goes_to, bytes_to, flow_of, message_length, greatest_message, sizes_for, body_room_for};
+ghost use Rattle.switch_plan.specs.Totals.{packet_room_for};
 ghost use Rattle.switch_plan.specs.Counting.{IsForwardable, AreCountable, packets_of_cards};
 ghost use Rattle.switch_plan.specs.Sizing.{IsSized};
 
@@ -110,7 +111,9 @@ pub(crate) fn flow_of(packet: &Planned) -> usize
 fn count_message(sizes: &mut [u32; FLOWS_PER_INPUT], packet: &Planned)
     requires some { packet.now.fan ≢ 0 }
     requires short { packet.now.len ≤ MAX_FORWARDED_BYTES }
-    ensures { (flow : ℕ) → flow < FLOWS_PER_INPUT → slice_index sizes.new flow ≡ (if flow_of packet.now == flow then max (slice_index sizes.old flow) (message_length packet.now) else slice_index sizes.old flow) }
+    ensures { (flow : ℕ) → flow < FLOWS_PER_INPUT
+        → slice_index sizes.new flow ≡
+        (if flow_of packet.now == flow then max (slice_index sizes.old flow) (message_length packet.now) else slice_index sizes.old flow) }
 {
     let flow = flow_of(packet);
     if flow < FLOWS_PER_INPUT {

@@ -26,7 +26,10 @@ pub(crate) fn slots_of(
     requires few { length capture.now.packets.items ≤ MAX_CAPTURE_PACKETS }
     ensures slots { IfOk result (λ slots. slots.items ≡ arrival_slots pace (map stamp_of (packets_of capture.now))) }
     ensures within { OnOk result (slots_taken (arrival_slots pace (map stamp_of (packets_of capture.now))) ≤ most) }
-    ensures over { IfErr result (λ fault. (fault ≡ PlanFault.OutOfMemory) ⊎ ((fault ≡ PlanFault.TooManySlots port (slots_taken (arrival_slots pace (map stamp_of (packets_of capture.now))))) × (most < slots_taken (arrival_slots pace (map stamp_of (packets_of capture.now)))))) }
+    ensures over { IfErr result
+        (λ fault. (fault ≡ PlanFault.OutOfMemory)
+        ⊎ ((fault ≡ PlanFault.TooManySlots port (slots_taken (arrival_slots pace (map stamp_of (packets_of capture.now)))))
+        × (most < slots_taken (arrival_slots pace (map stamp_of (packets_of capture.now)))))) }
 {
     let stamps = stamps(alloc, &capture.packets)?;
     match arrivals(alloc, &stamps, pace) {

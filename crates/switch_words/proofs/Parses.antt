@@ -1,5 +1,6 @@
 -- What a whole parse by clap gives.
-use Rattle.std.proofs.Common.{◌≡◌, ◌⊎◌, ◌∙◌, ap, ap₂, subst, sym, true, false, List, [], ◌∷◌, Option, None, Some, refl, inl, inr, drop, codes, map, string_bytes, String}
+use Rattle.std.proofs.Common.{◌≡◌, ◌⊎◌, ◌∙◌, ap, ap₂, subst, sym, true, false, List, [], ◌∷◌, Option, None, Some, refl, inl, inr, drop, codes, map}
+use Rattle.std.proofs.Common.{string_bytes, String}
 use Rattle.std.specs.Prelude.{◌++◌, fold, unwrap_or}
 use Rattle.std.proofs.lemmas.Str.{IsUtf8-string_bytes}
 use Rattle.clap.specs.Walk.{Held, Row, Rule, Text, finished, has_row, idle, nothing_held, rows_after, rows_of, settled, walk, walk_from, with_default}
@@ -36,7 +37,8 @@ abbrev pub AreUsual : List Rule → Type 0
 AreUsual [] = Unit {0}
 AreUsual (a ∷ rest) = IsUsual a × AreUsual rest
 
-no_default_fault : (rows : List Row) (a : Rule) (rest : List Rule) → IsUsual a → defaults_fault (with_default rows a) rest ≡ [] → defaults_fault rows (a ∷ rest) ≡ []
+no_default_fault : (rows : List Row) (a : Rule) (rest : List Rule) → IsUsual a → defaults_fault (with_default rows a) rest ≡ []
+    → defaults_fault rows (a ∷ rest) ≡ []
 unfolding defaults_fault
 no_default_fault rows a rest (inl none) h = elim (tells (has_row a.id rows)) [
   | inl there ↦ rw there (rw there at h)
@@ -79,12 +81,15 @@ no_more a b d e o no_d no_e = rw (no_d, no_e) (unless-or_else a (or_else b []) o
 
 level : (n : Text) (command : Command) (c : List Rule) (words : List Text) → HasRules command c → AreUsual c → AreTexts words
     → ((rows : List Row) → check_fault (shape_with n c) rows false ≡ [])
-    → unless (level_fault (shape_with n c) [] nothing_held words false []) (Some (parts_in (lookup_in (rows_after c [] words)))) ≡ parts_from command None no_parts words
+    → unless (level_fault (shape_with n c) [] nothing_held words false [])
+    (Some (parts_in (lookup_in (rows_after c [] words)))) ≡ parts_from command None no_parts words
 level n command c words has usual texts optional =
     let end : Held = (walk c [] nothing_held words).held in
-    no_more (walk_fault (shape_with n c) [] (walk_from nothing_held) words) (settle_fault c false end) (defaults_fault (settled c end).rows c) (check_fault (shape_with n c) (finished c end) false) _
+    no_more (walk_fault (shape_with n c) [] (walk_from nothing_held) words) (settle_fault c false end) (defaults_fault (settled c end).rows c)
+    (check_fault (shape_with n c) (finished c end) false) _
     (no_faults c usual (settled c end).rows) (optional (finished c end))
-    ∙ (ap (λ p. unless (walk_fault (shape_with n c) [] (walk_from nothing_held) words) (unless (settle_fault c false end) (Some p))) (same_defaults c usual (settled c end).rows)
+    ∙ (ap (λ p. unless (walk_fault (shape_with n c) [] (walk_from nothing_held) words) (unless (settle_fault c false end) (Some p)))
+    (same_defaults c usual (settled c end).rows)
     ∙ (reads n command c has words texts).anywhere [] None idle idle_open (λ none. nothing_sound))
 
 -- ---- the command line of a command
@@ -107,14 +112,16 @@ usual Check = (inl refl, tt)
 usual Firm = (inl refl, (inl refl, (inl refl, (inl refl, tt))))
 
 -- a command has no subcommand: one level is all
-one_level : (command : Command) (words : List Text) → fault_of (line_for command) words ≡ level_fault (shape_with (codes "tiny_tera") (rules_for command)) [] nothing_held (drop 1 words) false []
+one_level : (command : Command) (words : List Text)
+    → fault_of (line_for command) words ≡ level_fault (shape_with (codes "tiny_tera") (rules_for command)) [] nothing_held (drop 1 words) false []
 one_level Run words = leaf_fault (built (line_for Run)) nothing_held (drop 1 words) refl
 one_level Gen words = leaf_fault (built (line_for Gen)) nothing_held (drop 1 words) refl
 one_level Check words = leaf_fault (built (line_for Check)) nothing_held (drop 1 words) refl
 one_level Firm words = leaf_fault (built (line_for Firm)) nothing_held (drop 1 words) refl
 
 pub parse_reads : (command : Command) (words : List Text) → AreTexts (drop 1 words)
-    → unless (fault_of (line_for command) words) (Some (parts_in (lookup_in (matches_of (line_for command) words)))) ≡ parts_from command None no_parts (drop 1 words)
+    → unless (fault_of (line_for command) words) (Some (parts_in (lookup_in (matches_of (line_for command) words)))) ≡ parts_from command None no_parts
+    (drop 1 words)
 parse_reads Run words texts =
     ap (λ (k : Kinds). unless k (Some (parts_in (lookup_in (matches_of (line_for Run) words))))) (one_level Run words)
     ∙ level (codes "tiny_tera") Run (rules_for Run) (drop 1 words) (has_rules Run) (usual Run) texts (λ rows. refl)

@@ -10,9 +10,12 @@ use Rattle.switch_words.specs.declared.options.Command.{Command}
 use Rattle.switch_words.specs.Options.{Setting, Switch, value, flag, option_of}
 use Rattle.switch_words.specs.Lines.{lookup_in, parts_in}
 use Rattle.switch_words.specs.Parts.{Parts, closing, name, option, parts_from, refused, with_names, word_of}
-use Rattle.switch_words.proofs.Rules.{HasRules, IsMet, IsSound, flag_id, flag_is_set, flag_rule, id_of, names_rule, option_rule, parts_name, set_value, sound_name, sound_use, under, unless, unless-then}
+use Rattle.switch_words.proofs.Rules.{HasRules, IsMet, IsSound, flag_id, flag_is_set, flag_rule, id_of, names_rule, option_rule, parts_name, set_value}
+use Rattle.switch_words.proofs.Rules.{sound_name, sound_use, under, unless, unless-then}
 use Rattle.switch_words.proofs.Lexing.{Lexed, char_after_dash, closes, lexed, longs, plains, shorts}
-use Rattle.switch_words.proofs.Turns.{IsOpen, Pending, after, ended, held_at, idle_open, out-closing, out-flag, out-flag_value, out-given, out-plain, out-short, out-trailing, out-unknown, out-value, out-wait, outcome, outcome-end, positional_open, settles, walk_at}
+use Rattle.switch_words.proofs.Turns.{IsOpen, Pending, after, ended, held_at, idle_open, out-closing, out-flag, out-flag_value, out-given, out-plain}
+use Rattle.switch_words.proofs.Turns.{out-short, out-trailing, out-unknown, out-value, out-wait, outcome, outcome-end, positional_open, settles}
+use Rattle.switch_words.proofs.Turns.{walk_at}
 
 -- ---- options of parts
 
@@ -67,7 +70,8 @@ Goes n command c words rows pending waiting =
     outcome n c (walk_at rows pending waiting false) words ≡ option_and_then (λ p. parts_from command None p words) (ended c (held_at rows pending))
 
 pub record Reads (n : Text) (command : Command) (c : List Rule) (words : List Text) : Type 0 where
-  pub anywhere : (rows : List Row) (pending : Pending) (waiting : Waiting) → IsOpen waiting → IsSoundAfter c rows pending → Goes n command c words rows pending waiting
+  pub anywhere : (rows : List Row) (pending : Pending) (waiting : Waiting) → IsOpen waiting → IsSoundAfter c rows pending
+      → Goes n command c words rows pending waiting
   pub awaiting : (rows : List Row) (s : Setting) → arg_by_id c (id_of s) ≡ Some (option_rule (id_of s)) → IsSound (lookup_in rows)
       → outcome n c (walk_at rows (Some (id_of s, [])) (awaits (id_of s)) false) words ≡ parts_from command (Some s) (parts_in (lookup_in rows)) words
 
@@ -145,12 +149,15 @@ plain_goes n command c word rest has reads is rows pending waiting out sound =
 -- the value in the next word
 given_goes : (n : Text) (command : Command) (c : List Rule) (word : Text) (rest : List Text) → Reads n command c rest → word_of word ≡ name
     → (rows : List Row) (s : Setting) → arg_by_id c (id_of s) ≡ Some (option_rule (id_of s)) → IsSound (lookup_in rows)
-    → outcome n c (walk_at rows (Some (id_of s, [])) (awaits (id_of s)) false) (word ∷ rest) ≡ outcome n c (walk_at rows (Some (id_of s, word ∷ [])) idle false) rest
-    → outcome n c (walk_at rows (Some (id_of s, [])) (awaits (id_of s)) false) (word ∷ rest) ≡ parts_from command (Some s) (parts_in (lookup_in rows)) (word ∷ rest)
+    → outcome n c (walk_at rows (Some (id_of s, [])) (awaits (id_of s)) false) (word ∷ rest) ≡ outcome n c
+    (walk_at rows (Some (id_of s, word ∷ [])) idle false) rest
+    → outcome n c (walk_at rows (Some (id_of s, [])) (awaits (id_of s)) false) (word ∷ rest) ≡ parts_from command (Some s) (parts_in (lookup_in rows))
+    (word ∷ rest)
 unfolding parts_from
 given_goes n command c word rest reads is rows s found sound out =
     out ∙ (reads.anywhere rows (Some (id_of s, word ∷ [])) idle idle_open (rw found (λ none. sound_use s word rows sound none))
-    ∙ rw found (unless-then (use_fault false (option_rule (id_of s)) (word ∷ []) rows) (λ p. parts_from command None p rest) (Some (parts_in (lookup_in (used (option_rule (id_of s)) (word ∷ []) rows))))
+    ∙ rw found (unless-then (use_fault false (option_rule (id_of s)) (word ∷ []) rows) (λ p. parts_from command None p rest)
+    (Some (parts_in (lookup_in (used (option_rule (id_of s)) (word ∷ []) rows))))
     ∙ (set_value s word rows sound (λ p. parts_from command None p rest) _ (λ sound2. refl)
     ∙ rw is refl)))
 
@@ -170,20 +177,25 @@ reads_word : (n : Text) (command : Command) (c : List Rule) (word : Text) (rest 
 unfolding parts_from
 reads_word n command c word rest has utf8 reads (closes e is) = record {
   anywhere = λ rows pending waiting is_open sound. closing_goes n command c word rest has e is rows pending waiting;
-  awaiting = λ rows s found sound. no_value n command c word rest rows s found (λ h. closing_goes n command c word rest has e is rows (Some (id_of s, [])) (awaits (id_of s))) ∙ rw is refl;
+  awaiting = λ rows s found sound. no_value n command c word rest rows s found
+      (λ h. closing_goes n command c word rest has e is rows (Some (id_of s, [])) (awaits (id_of s))) ∙ rw is refl;
 }
 reads_word n command c word rest has utf8 reads (longs text v e long is) = record {
-  anywhere = λ rows pending waiting is_open sound. long_goes n command c word rest has reads text v e long is (option_of command text) refl (has.long text) rows pending waiting sound;
+  anywhere = λ rows pending waiting is_open sound. long_goes n command c word rest has reads text v e long is (option_of command text) refl
+      (has.long text) rows pending waiting sound;
   awaiting = λ rows s found sound. no_value n command c word rest rows s found
-      (λ h. long_goes n command c word rest has reads text v e long is (option_of command text) refl (has.long text) rows (Some (id_of s, [])) (awaits (id_of s)) h) ∙ rw is refl;
+      (λ h. long_goes n command c word rest has reads text v e long is (option_of command text) refl (has.long text) rows (Some (id_of s, []))
+      (awaits (id_of s)) h) ∙ rw is refl;
 }
 reads_word n command c word rest has utf8 reads (shorts b flags e long short is word_is) =
     let char : is_some (slice_get (chars (b ∷ flags)) 0) ≡ true = char_after_dash b flags (subst IsUtf8 word_is utf8) in record {
-      anywhere = λ rows pending waiting is_open sound. short_goes n command c word rest is rows pending waiting (out-short n c rows pending waiting word rest b flags e long short char has.short);
+      anywhere = λ rows pending waiting is_open sound. short_goes n command c word rest is rows pending waiting
+          (out-short n c rows pending waiting word rest b flags e long short char has.short);
       awaiting = λ rows s found sound. out-short n c rows (Some (id_of s, [])) (awaits (id_of s)) word rest b flags e long short char has.short ∙ rw is refl;
     }
 reads_word n command c word rest has utf8 reads (plains e long short is) = record {
-  anywhere = λ rows pending waiting is_open sound. plain_goes n command c word rest has reads is rows pending waiting (out-plain n c rows pending waiting word rest has.place is_open e long short) sound;
+  anywhere = λ rows pending waiting is_open sound. plain_goes n command c word rest has reads is rows pending waiting
+      (out-plain n c rows pending waiting word rest has.place is_open e long short) sound;
   awaiting = λ rows s found sound. given_goes n command c word rest reads is rows s found sound
       (out-given n c rows word rest (id_of s) found ((bytes_eq-Decides (id_of s) (id_of s)).1 refl) e long short);
 }

@@ -111,7 +111,8 @@ data Named (name : Text) : Type 0 where
   setting : (s : Setting) → id_of s ≡ name → Named name
   switch : (f : Flag) → flag_id f ≡ name → Named name
   unknown : bytes_eq (codes "rounds") name ≡ false → bytes_eq (codes "depth") name ≡ false → bytes_eq (codes "workers") name ≡ false
-      → bytes_eq (codes "pace-us") name ≡ false → bytes_eq (codes "slots") name ≡ false → bytes_eq (codes "journal") name ≡ false → bytes_eq (codes "reference") name ≡ false
+      → bytes_eq (codes "pace-us") name ≡ false → bytes_eq (codes "slots") name ≡ false → bytes_eq (codes "journal") name ≡ false
+      → bytes_eq (codes "reference") name ≡ false
       → bytes_eq (codes "queues") name ≡ false → bytes_eq (codes "packets") name ≡ false → Named name
 
 is_text : (a b : Text) → bytes_eq a b ≡ true → a ≡ b
@@ -151,7 +152,8 @@ named name = elim (tells (bytes_eq (codes "rounds") name)) [
 none_met : (command : Command) (name : Text)
     → bytes_eq (codes "rounds") name ≡ false → bytes_eq (codes "depth") name ≡ false → bytes_eq (codes "workers") name ≡ false
     → bytes_eq (codes "pace-us") name ≡ false → bytes_eq (codes "slots") name ≡ false → bytes_eq (codes "journal") name ≡ false
-    → bytes_eq (codes "reference") name ≡ false → bytes_eq (codes "queues") name ≡ false → bytes_eq (codes "packets") name ≡ false → IsMet (rules_for command) name (option_of command name)
+    → bytes_eq (codes "reference") name ≡ false → bytes_eq (codes "queues") name ≡ false → bytes_eq (codes "packets") name ≡ false
+    → IsMet (rules_for command) name (option_of command name)
 none_met Run name a b d e f g k m n = rw (a, b, d, e, f, g, k, m, n) (rw (a, b, d, e, f, g, k, m, n) refl)
 none_met Gen name a b d e f g k m n = rw (a, b, d, e, f, g, k, m, n) (rw (a, b, d) refl)
 none_met Check name a b d e f g k m n = rw (a, b, d, e, f, g, k, m, n) refl
@@ -253,7 +255,8 @@ is_given-parts_in reference lookup = refl
 is_given-parts_in queues lookup = refl
 is_given-parts_in packets lookup = refl
 
-parts_in-put_flag : (f : Flag) (lookup : Lookup) → parts_in (put (flag_id f) (codes "true" ∷ []) lookup) ≡ record (parts_in lookup) { flags = set_flag (parts_in lookup).flags f }
+parts_in-put_flag : (f : Flag) (lookup : Lookup)
+    → parts_in (put (flag_id f) (codes "true" ∷ []) lookup) ≡ record (parts_in lookup) { flags = set_flag (parts_in lookup).flags f }
 parts_in-put_flag slots lookup = refl
 parts_in-put_flag journal lookup = refl
 parts_in-put_flag reference lookup = refl
@@ -304,11 +307,14 @@ absent None h = refl
 absent (Some x) h = cc
 
 -- a first use adds the values
-first_use : (id : Text) (v : Text) (rows : List Row) → has_row id rows ≡ false → lookup_in (used (option_rule id) (v ∷ []) rows) ≡ put id (v ∷ []) (lookup_in rows)
+first_use : (id : Text) (v : Text) (rows : List Row) → has_row id rows ≡ false
+    → lookup_in (used (option_rule id) (v ∷ []) rows) ≡ put id (v ∷ []) (lookup_in rows)
 first_use id v rows h =
     let none : lookup_in rows id ≡ None = absent _ (sym (has_row-lookup id rows) ∙ h) in
     let each : (other : Text) → lookup_in (used (option_rule id) (v ∷ []) rows) other ≡ put id (v ∷ []) (lookup_in rows) other =
-    λ other. rw (without-none id rows none) (lookup-with id AsWritten CommandLine (v ∷ []) rows other ∙ ap (λ (o : Option (List Text)). put id (unwrap_or o [] ++ v ∷ []) (lookup_in rows) other) none) in
+    λ other. rw (without-none id rows none)
+    (lookup-with id AsWritten CommandLine (v ∷ []) rows other
+    ∙ ap (λ (o : Option (List Text)). put id (unwrap_or o [] ++ v ∷ []) (lookup_in rows) other) none) in
     λ i other. each other i
 
 cons_nil : {A : Type 0} (x : A) (xs : List A) → x ∷ xs ≡ [] → ⊥
@@ -340,20 +346,23 @@ pub flag_is_set : (f : Flag) (rows : List Row) → IsSound (lookup_in rows) → 
     → (IsSound (lookup_in (used (flag_rule (flag_id f)) [] rows)) → x ≡ k (parts_in (lookup_in (used (flag_rule (flag_id f)) [] rows))))
     → unless (use_fault false (flag_rule (flag_id f)) [] rows) x ≡ option_and_then k (with_flag (parts_in (lookup_in rows)) f)
 flag_is_set f rows sound k x next =
-    let there : is_given (parts_in (lookup_in rows)).flags f ≡ has_row (flag_id f) rows = is_given-parts_in f (lookup_in rows) ∙ (sound.flag f ∙ sym (has_row-lookup (flag_id f) rows)) in
+    let there : is_given (parts_in (lookup_in rows)).flags f ≡ has_row (flag_id f) rows = is_given-parts_in f (lookup_in rows)
+    ∙ (sound.flag f ∙ sym (has_row-lookup (flag_id f) rows)) in
     elim (tells (has_row (flag_id f) rows)) [
       | inl h ↦ rw (there, h) refl
       | inr h ↦
           let none : lookup_in rows (flag_id f) ≡ None = absent _ (sym (has_row-lookup (flag_id f) rows) ∙ h) in
           let each : (other : Text) → lookup_in (used (flag_rule (flag_id f)) [] rows) other ≡ put (flag_id f) (codes "true" ∷ []) (lookup_in rows) other =
-          λ other. rw (without-none (flag_id f) rows none) (lookup-with (flag_id f) AsWritten CommandLine (codes "true" ∷ []) rows other ∙ ap (λ (o : Option (List Text)). put (flag_id f) (unwrap_or o [] ++ codes "true" ∷ []) (lookup_in rows) other) none) in
+          λ other. rw (without-none (flag_id f) rows none) (lookup-with (flag_id f) AsWritten CommandLine (codes "true" ∷ []) rows other
+          ∙ ap (λ (o : Option (List Text)). put (flag_id f) (unwrap_or o [] ++ codes "true" ∷ []) (lookup_in rows) other) none) in
           let is : lookup_in (used (flag_rule (flag_id f)) [] rows) ≡ put (flag_id f) (codes "true" ∷ []) (lookup_in rows) = λ i other. each other i in
           let goes = next (subst IsSound (sym is) (sound_flag f (lookup_in rows) sound)) in
           rw (there, h) (goes ∙ ap k (ap parts_in is ∙ parts_in-put_flag f (lookup_in rows)))
     ]
 
 -- a name is added to the names
-pub add_name : (x : Text) (rows : List Row) → lookup_in (used names_rule (x ∷ []) rows) ≡ put (codes "names") (unwrap_or (lookup_in rows (codes "names")) [] ++ x ∷ []) (lookup_in rows)
+pub add_name : (x : Text) (rows : List Row)
+    → lookup_in (used names_rule (x ∷ []) rows) ≡ put (codes "names") (unwrap_or (lookup_in rows (codes "names")) [] ++ x ∷ []) (lookup_in rows)
 add_name x rows = λ i other. lookup-with (codes "names") AsWritten CommandLine (x ∷ []) rows other i
 
 pub sound_name : (x : Text) (rows : List Row) → IsSound (lookup_in rows) → IsSound (lookup_in (used names_rule (x ∷ []) rows))

@@ -3,7 +3,8 @@ use Rattle.std.proofs.Common.{◌≡◌, ◌∙◌, ◌&&◌, ap₂, Bool, true,
 use Rattle.std.specs.Prelude.{fold, slice_get}
 use Rattle.std.specs.Str.{bytes_eq, chars}
 use Rattle.clap.specs.Lexer.{long_of, short_of}
-use Rattle.clap.specs.Walk.{Held, Row, Rule, Text, Waiting, Walk, idle, option as awaits, positional, value as to_positional_step, arg_by_id, arg_by_index, arg_by_long, arg_by_short, is_pending, plain_word, settled, settled_rows, subcommand_met, used, walked}
+use Rattle.clap.specs.Walk.{Held, Row, Rule, Text, Waiting, Walk, idle, option as awaits, positional, value as to_positional_step, arg_by_id}
+use Rattle.clap.specs.Walk.{arg_by_index, arg_by_long, arg_by_short, is_pending, plain_word, settled, settled_rows, subcommand_met, used, walked}
 use Rattle.clap.specs.Kinds.{Kinds, or_else}
 use Rattle.clap.specs.Faults.{settle_fault, turn_fault, use_fault, walk_fault, flags_fault}
 use Rattle.clap.specs.declared.error.kind.ErrorKind.TheVariants.{UnknownArgument, TooManyValues}
@@ -42,7 +43,8 @@ outcome-end n c w = refl
 outcome-step : (n : Text) (c : List Rule) (w : Walk) (word : Text) (rest : List Text)
     → outcome n c w (word ∷ rest) ≡ unless (turn_fault (shape_with n c) [] w word) (outcome n c (walked c [] w word) rest)
 unfolding walk_fault
-outcome-step n c w word rest = unless-or_else (turn_fault (shape_with n c) [] w word) (walk_fault (shape_with n c) [] (walked c [] w word) rest) (ended c (fold (walked c []) (walked c [] w word) rest).held)
+outcome-step n c w word rest = unless-or_else (turn_fault (shape_with n c) [] w word) (walk_fault (shape_with n c) [] (walked c [] w word) rest)
+    (ended c (fold (walked c []) (walked c [] w word) rest).held)
 
 step-by : (n : Text) (c : List Rule) (w next : Walk) (word : Text) (rest : List Text) (kinds : Kinds) → turn_fault (shape_with n c) [] w word ≡ kinds
     → walked c [] w word ≡ next → outcome n c w (word ∷ rest) ≡ unless kinds (outcome n c next rest)
@@ -99,7 +101,8 @@ pub out-trailing : (n : Text) (c : List Rule) (rows : List Row) (pending : Pendi
     ≡ unless (settles c rows pending) (outcome n c (walk_at (after c rows pending) (Some (codes "names", word ∷ [])) positional true) rest)
 unfolding walked
 out-trailing n c rows pending waiting word rest place =
-    step-by n c (walk_at rows pending waiting true) (walk_at (after c rows pending) (Some (codes "names", word ∷ [])) positional true) word rest (settles c rows pending)
+    step-by n c (walk_at rows pending waiting true) (walk_at (after c rows pending) (Some (codes "names", word ∷ [])) positional true) word rest
+    (settles c rows pending)
     (rw (place, and_false (is_pending names_rule pending)) refl) (rw (place, and_false (is_pending names_rule pending)) refl)
 
 pub out-plain : (n : Text) (c : List Rule) (rows : List Row) (pending : Pending) (waiting : Waiting) (word : Text) (rest : List Text)
@@ -109,13 +112,15 @@ pub out-plain : (n : Text) (c : List Rule) (rows : List Row) (pending : Pending)
     ≡ unless (settles c rows pending) (outcome n c (walk_at (after c rows pending) (Some (codes "names", word ∷ [])) positional false) rest)
 unfolding walked
 out-plain n c rows pending waiting word rest place is_open e long short =
-    step-by n c (walk_at rows pending waiting false) (walk_at (after c rows pending) (Some (codes "names", word ∷ [])) positional false) word rest (settles c rows pending)
+    step-by n c (walk_at rows pending waiting false) (walk_at (after c rows pending) (Some (codes "names", word ∷ [])) positional false) word rest
+    (settles c rows pending)
     (rw (no_sub waiting word, e, long, short, is_open c word (held_at rows pending), place, and_false (is_pending names_rule pending)) refl)
     (rw (no_sub waiting word, e, long, short, is_open c word (held_at rows pending), place, and_false (is_pending names_rule pending)) refl)
 
 -- ---- an option
 
-pub out-unknown : (n : Text) (c : List Rule) (rows : List Row) (pending : Pending) (waiting : Waiting) (word : Text) (rest : List Text) (name : Text) (v : Option Text)
+pub out-unknown : (n : Text) (c : List Rule) (rows : List Row) (pending : Pending) (waiting : Waiting) (word : Text) (rest : List Text) (name : Text)
+    (v : Option Text)
     → bytes_eq word (45 ∷ 45 ∷ []) ≡ false → long_of word ≡ Some (name, v) → arg_by_long c name ≡ None
     → outcome n c (walk_at rows pending waiting false) (word ∷ rest) ≡ None
 out-unknown n c rows pending waiting word rest name v e long found =
@@ -139,7 +144,8 @@ pub out-wait : (n : Text) (c : List Rule) (rows : List Row) (pending : Pending) 
     ≡ unless (settles c rows pending) (outcome n c (walk_at (after c rows pending) (Some (id, [])) (awaits id) false) rest)
 unfolding walked
 out-wait n c rows pending waiting word rest name id e long found =
-    step-by n c (walk_at rows pending waiting false) (walk_at (after c rows pending) (Some (id, [])) (awaits id) false) word rest (or_else (settles c rows pending) [])
+    step-by n c (walk_at rows pending waiting false) (walk_at (after c rows pending) (Some (id, [])) (awaits id) false) word rest
+    (or_else (settles c rows pending) [])
     (rw (no_sub waiting word, e, long, found) refl) (rw (no_sub waiting word, e, long, found) refl)
     ∙ or_once (settles c rows pending) _
 

@@ -22,7 +22,8 @@ pub begun_raised : (p : Phase) → p ≡ Begun → p ≡ Raised → ⊥
 begun_raised p a b = cc
 
 module _ {E : Type 0} where
-  pub after_one : (P : ℕ → View E → Type 0) (views : List (View E)) (id : ℕ) (w : View E) → P id w → ((j : ℕ) (u : View E) → j ≢ id → get_elem? views j ≡ some u → P j u) → (j : ℕ) (u : View E) → get_elem? (set views id w) j ≡ some u → P j u
+  pub after_one : (P : ℕ → View E → Type 0) (views : List (View E)) (id : ℕ) (w : View E) → P id w
+      → ((j : ℕ) (u : View E) → j ≢ id → get_elem? views j ≡ some u → P j u) → (j : ℕ) (u : View E) → get_elem? (set views id w) j ≡ some u → P j u
   after_one P views id w mine others j u e =
       ⊎_elim
       (λ (x : (j ≡ id) × (w ≡ u)). subst (λ (y : ℕ × View E). P y.0 y.1) (λ k. (sym x.0 k, x.1 k)) mine)
@@ -36,23 +37,28 @@ module _ {E : Type 0} where
   set_at (x ∷ xs) (suc id) v w at = set_at xs id v w at
 
   -- the same of each live view
-  pub live_after : (P : ℕ → View E → Type 0) (views : List (View E)) (id : ℕ) (w : View E) → P id w → ((j : ℕ) (u : View E) → j ≢ id → Live views j u → P j u) → (j : ℕ) (u : View E) → Live (set views id w) j u → P j u
-  live_after P views id w mine others j u live = after_one (λ k y. y.spent ≡ false → P k y) views id w (λ _. mine) (λ k y ne g alive. others k y ne (g, alive)) j u live.0 live.1
+  pub live_after : (P : ℕ → View E → Type 0) (views : List (View E)) (id : ℕ) (w : View E) → P id w → ((j : ℕ) (u : View E) → j ≢ id → Live views j u → P j u)
+      → (j : ℕ) (u : View E) → Live (set views id w) j u → P j u
+  live_after P views id w mine others j u live =
+      after_one (λ k y. y.spent ≡ false → P k y) views id w (λ _. mine) (λ k y ne g alive. others k y ne (g, alive)) j u live.0 live.1
 
   -- of a live view that changed: what it was
   pub Was : List (View E) → ℕ → View E → Type 0
   Was views k y = (z : View E) × Live views k z × (z.number ≡ y.number) × (z.joined ≡ y.joined) × (z.given ≡ y.given)
 
-  was : (views : List (View E)) (id : ℕ) (v w : View E) → Live views id v → w.number ≡ v.number → w.joined ≡ v.joined → w.given ≡ v.given → (j : ℕ) (u : View E) → Live (set views id w) j u → Was views j u
+  was : (views : List (View E)) (id : ℕ) (v w : View E) → Live views id v → w.number ≡ v.number → w.joined ≡ v.joined → w.given ≡ v.given
+      → (j : ℕ) (u : View E) → Live (set views id w) j u → Was views j u
   unfolding Was
   was views id v w at a b c j u live =
-      after_one (λ k y. y.spent ≡ false → Was views k y) views id w (λ _. (v, at, sym a, sym b, sym c)) (λ k y ne g alive. (y, (g, alive), refl, refl, refl)) j u live.0 live.1
+      after_one (λ k y. y.spent ≡ false → Was views k y) views id w (λ _. (v, at, sym a, sym b, sym c))
+      (λ k y ne g alive. (y, (g, alive), refl, refl, refl)) j u live.0 live.1
 
   same_numbers : (z y : View E) → z.number ≡ y.number → z.joined ≡ y.joined → numbers_of y ≡ numbers_of z
   same_numbers z y a b = λ k. sym a k ∷ joined_numbers (sym b k)
 
   -- a view that keeps its numbers leaves them apart
-  pub numbered_after : (h : List (TurnOf E)) (views : List (View E)) (id : ℕ) (v w : View E) → Live views id v → w.number ≡ v.number → w.joined ≡ v.joined → w.given ≡ v.given → Numbered h views → Numbered h (set views id w)
+  pub numbered_after : (h : List (TurnOf E)) (views : List (View E)) (id : ℕ) (v w : View E) → Live views id v → w.number ≡ v.number → w.joined ≡ v.joined
+      → w.given ≡ v.given → Numbered h views → Numbered h (set views id w)
   unfolding Was
   numbered_after h views id v w at a b c k = record {
     apart = λ i j u x lu lx n iu ix.
@@ -78,7 +84,8 @@ module _ {E : Type 0} where
   }
 
   -- one more turn, of a number that is live
-  pub numbered_more : (h : List (TurnOf E)) (t : TurnOf E) (views : List (View E)) (id : ℕ) (v : View E) → Live views id v → IsIn t.seat (numbers_of v) → Numbered h views → Numbered (h ++ t ∷ []) views
+  pub numbered_more : (h : List (TurnOf E)) (t : TurnOf E) (views : List (View E)) (id : ℕ) (v : View E) → Live views id v → IsIn t.seat (numbers_of v)
+      → Numbered h views → Numbered (h ++ t ∷ []) views
   numbered_more h t views id v at mine k = record {
     apart = k.apart;
     below = λ i u lu some. let all = k.below i u lu some in (IsBelow-snoc u.given h t all.0 (all.1 id v at t.seat mine), all.1);

@@ -1,5 +1,6 @@
 -- A close takes the seats from the end of their list, and keeps what each had seen.
-use Rattle.std.proofs.Common.{◌≡◌, ◌≢◌, ◌+◌, ◌<◌, ◌≤◌, ◌⊎◌, inl, inr, ⊎_elim, ℕ, false, zero, suc, List, [], ◌∷◌, ◌++◌, length, take, drop, Option, Some, refl, sym, ap, ◌∙◌, subst, arith, length-append}
+use Rattle.std.proofs.Common.{◌≡◌, ◌≢◌, ◌+◌, ◌<◌, ◌≤◌, ◌⊎◌, inl, inr, ⊎_elim, ℕ, false, zero, suc, List, [], ◌∷◌, ◌++◌, length, take, drop, Option}
+use Rattle.std.proofs.Common.{Some, refl, sym, ap, ◌∙◌, subst, arith, length-append}
 use Rattle.std.specs.Prelude.{slice_get}
 use Rattle.std.proofs.lemmas.List.{append_assoc, take-append-drop}
 use Rattle.atomic_table.specs.Seated.{TableId}
@@ -62,10 +63,14 @@ module _ {X : Type 0} where
   take_seam (x ∷ xs) ys = ap (λ zs. x ∷ zs) (take_seam xs ys)
 
   -- what was popped stood after what is left
-  popped : (all old new : List X) (x : X) → old ≡ take (length old) all → old ≡ new ++ x ∷ [] → (slice_get all (length new) ≡ Some x) × (new ≡ take (length new) all)
+  popped : (all old new : List X) (x : X) → old ≡ take (length old) all → old ≡ new ++ x ∷ [] → (slice_get all (length new) ≡ Some x)
+      × (new ≡ take (length new) all)
   popped all old new x front e =
-      let whole : all ≡ new ++ x ∷ drop (length old) all = sym (take-append-drop (length old) all) ∙ ap (λ zs. zs ++ drop (length old) all) (sym front ∙ e) ∙ append_assoc new (x ∷ []) (drop (length old) all) in
-      (ap (λ zs. slice_get zs (length new)) whole ∙ at_seam new (drop (length old) all) x, sym (ap (λ zs. take (length new) zs) whole ∙ take_seam new (x ∷ drop (length old) all)))
+      let whole : all ≡ new ++ x ∷ drop (length old) all = sym (take-append-drop (length old) all) ∙ ap (λ zs. zs ++ drop (length old) all) (sym front ∙ e)
+      ∙ append_assoc new (x ∷ []) (drop (length old) all) in (
+        ap (λ zs. slice_get zs (length new)) whole ∙ at_seam new (drop (length old) all) x,
+        sym (ap (λ zs. take (length new) zs) whole ∙ take_seam new (x ∷ drop (length old) all)),
+      )
 
   after_first : (all : List X) (i : ℕ) → slice_get (drop 1 all) i ≡ slice_get all (suc i)
   after_first [] i = refl
@@ -102,7 +107,9 @@ module _ {E : Type 0} (turn : TurnValue E) (all : List (SeatValue E)) where
 
   module _ (seats : AreSeats turn all) where
     -- before any seat is joined
-    pub collected_first : (first : SeatValue E) (table : TableId) (v : View E) (rest : List (SeatValue E)) → slice_get all 0 ≡ Some first → seat_value table v ≡ first → (v.number ≡ 0 → v.given ≡ v.opening.seats) → v.spent ≡ false → v.phase ≡ Idle → rest ≡ drop 1 all → IsCollected rest table v
+    pub collected_first : (first : SeatValue E) (table : TableId) (v : View E) (rest : List (SeatValue E)) → slice_get all 0 ≡ Some first
+        → seat_value table v ≡ first → (v.number ≡ 0 → v.given ≡ v.opening.seats) → v.spent ≡ false → v.phase ≡ Idle → rest ≡ drop 1 all
+        → IsCollected rest table v
     collected_first first table v rest at view dealer live idle rest_is =
         let zero_is : v.number ≡ 0 = ap (λ s. s.number) view ∙ seats.numbers 0 first at in
         record {
@@ -111,17 +118,21 @@ module _ {E : Type 0} (turn : TurnValue E) (all : List (SeatValue E)) where
           given = dealer zero_is ∙ ap (λ s. s.turn.seats) view ∙ ap (λ t. t.seats) (seats.turns 0 first at);
           live = live;
           phase = idle;
-          seen = λ s e. let is : first ≡ s = same_there first s (slice_get all 0) at e in (ap (λ y. y.seen) view ∙ ap (λ y. y.seen) is, ap (λ y. y.since) view ∙ ap (λ y. y.since) is);
+          seen = λ s e. let is : first ≡ s = same_there first s (slice_get all 0) at e in
+              (ap (λ y. y.seen) view ∙ ap (λ y. y.seen) is, ap (λ y. y.since) view ∙ ap (λ y. y.since) is);
           left = sym (take_whole rest) ∙ ap (λ xs. take (length rest) xs) rest_is;
-          done = λ i s e l. let w = get_within (drop 1 all) i s (after_first all i ∙ e) in let n : length rest ≡ length (drop 1 all) = ap length rest_is in absurd (omega arith);
+          done = λ i s e l. let w = get_within (drop 1 all) i s (after_first all i ∙ e) in let n : length rest ≡ length (drop 1 all) = ap length rest_is in
+              absurd (omega arith);
         }
 
     -- where the seat that was popped stood
-    pub popped_at : (rest new : List (SeatValue E)) (s : SeatValue E) (table : TableId) (v : View E) → IsCollected rest table v → rest ≡ new ++ s ∷ [] → slice_get all (suc (length new)) ≡ Some s
+    pub popped_at : (rest new : List (SeatValue E)) (s : SeatValue E) (table : TableId) (v : View E) → IsCollected rest table v → rest ≡ new ++ s ∷ []
+        → slice_get all (suc (length new)) ≡ Some s
     popped_at rest new s table v c e = sym (after_first all (length new)) ∙ (popped (drop 1 all) rest new s c.left e).0
 
     -- after one more was joined
-    pub collected_more : (rest new : List (SeatValue E)) (s : SeatValue E) (table after : TableId) (v w : View E) → IsCollected rest table v → rest ≡ new ++ s ∷ [] → after ≡ table → w ≡ with_joined v (joined_seat s) → IsCollected new after w
+    pub collected_more : (rest new : List (SeatValue E)) (s : SeatValue E) (table after : TableId) (v w : View E) → IsCollected rest table v
+        → rest ≡ new ++ s ∷ [] → after ≡ table → w ≡ with_joined v (joined_seat s) → IsCollected new after w
     collected_more rest new s table after v w c e t j =
         let n : length rest ≡ length new + 1 = ap length e ∙ length-append new (s ∷ []) in
         record {
@@ -136,7 +147,8 @@ module _ {E : Type 0} (turn : TurnValue E) (all : List (SeatValue E)) where
               let joined : IsJoined (joined_seat y) (with_joined v (joined_seat s)).joined =
               ⊎_elim
               (λ (same : i ≡ length new).
-              let is : s ≡ y = same_there s y (slice_get all (suc (length new))) (popped_at rest new s table v c e) (ap (λ k. slice_get all (suc k)) (sym same) ∙ at) in
+              let is : s ≡ y = same_there s y (slice_get all (suc (length new))) (popped_at rest new s table v c e)
+              (ap (λ k. slice_get all (suc k)) (sym same) ∙ at) in
               subst (λ m. IsJoined m (with_joined v (joined_seat s)).joined) (ap joined_seat is) (IsJoined-here (joined_seat s) v.joined []))
               (λ (d : i ≢ length new). IsJoined-left (joined_seat y) v.joined (joined_seat s ∷ []) (c.done i y at (omega arith)))
               (same_or_not i (length new)) in
@@ -150,13 +162,19 @@ module _ {E : Type 0} (turn : TurnValue E) (all : List (SeatValue E)) where
           has_number n v c.number (λ k e.
           let count : length all ≡ v.given = seats.count ∙ sym c.given in
           let x = there_is all n (omega arith) in
-          subst (λ m. IsIn m (joined_numbers v.joined)) (seats.numbers n x.0 x.1) (IsJoined-number (joined_seat x.0) v.joined (c.done k x.0 (ap (λ m. slice_get all m) (sym e) ∙ x.1) (omega arith))))
+          subst (λ m. IsIn m (joined_numbers v.joined)) (seats.numbers n x.0 x.1)
+          (IsJoined-number (joined_seat x.0) v.joined (c.done k x.0 (ap (λ m. slice_get all m) (sym e) ∙ x.1) (omega arith))))
 
-      each_knows : (h : List (TurnOf E)) → Knows h v.number v.seen v.since → JoinedHaveSeen h ⊥ v.joined → (i : ℕ) (s : SeatValue E) → slice_get all i ≡ Some s → Knows h i s.seen s.since
-      each_knows h mine joined zero s at = subst (λ n. Knows h n s.seen s.since) c.number (subst (λ ts. Knows h v.number ts s.since) (c.seen s at).0 (subst (λ n. Knows h v.number v.seen n) (c.seen s at).1 mine))
-      each_knows h mine joined (suc k) s at = subst (λ n. Knows h n s.seen s.since) (seats.numbers (suc k) s at) (IsJoined-seen h (joined_seat s) v.joined joined (c.done k s at (omega arith)))
+      each_knows : (h : List (TurnOf E)) → Knows h v.number v.seen v.since → JoinedHaveSeen h ⊥ v.joined → (i : ℕ) (s : SeatValue E)
+          → slice_get all i ≡ Some s → Knows h i s.seen s.since
+      each_knows h mine joined zero s at =
+          subst (λ n. Knows h n s.seen s.since) c.number
+          (subst (λ ts. Knows h v.number ts s.since) (c.seen s at).0 (subst (λ n. Knows h v.number v.seen n) (c.seen s at).1 mine))
+      each_knows h mine joined (suc k) s at =
+          subst (λ n. Knows h n s.seen s.since) (seats.numbers (suc k) s at) (IsJoined-seen h (joined_seat s) v.joined joined (c.done k s at (omega arith)))
 
-      pub whole : {V : Type 0} (entries : V → List E) (numbers : V → List ℕ) (may : ℕ → List E → Type 0) (o : Opening E) (id : TableId) (value : V) → turn_value id o ≡ turn → Ended entries numbers may o v value → IsWhole entries numbers may turn all value
+      pub whole : {V : Type 0} (entries : V → List E) (numbers : V → List ℕ) (may : ℕ → List E → Type 0) (o : Opening E) (id : TableId) (value : V)
+          → turn_value id o ≡ turn → Ended entries numbers may o v value → IsWhole entries numbers may turn all value
       whole entries numbers may o id value same e = record {
         history = e.history;
         entries_are = e.entries_are ∙ ap (λ t. t.first ++ entries_of e.history) same;

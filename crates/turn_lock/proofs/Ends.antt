@@ -21,7 +21,9 @@ pub same_some : {V : Type 0} (a b : Stamped V) → Some a ≡ Some b → a ≡ b
 same_some a b e = cc
 
 module _ {V E : Type 0} (entries : V → List E) (numbers : V → List ℕ) (may : ℕ → List E → Type 0) where
-  opens : (x : Stamped V) (seats : ℕ) → x.turns ≡ 0 → Keeps entries numbers may (opening entries numbers x.value seats) (first_state (0 ∷ 0 ∷ []) (Some x ∷ []) (newcomer (opening entries numbers x.value seats)))
+  opens : (x : Stamped V) (seats : ℕ) → x.turns ≡ 0
+      → Keeps entries numbers may (opening entries numbers x.value seats)
+      (first_state (0 ∷ 0 ∷ []) (Some x ∷ []) (newcomer (opening entries numbers x.value seats)))
   opens x seats e =
       let o = opening entries numbers x.value seats in
       let v0 = newcomer o in
@@ -37,7 +39,8 @@ module _ {V E : Type 0} (entries : V → List E) (numbers : V → List ℕ) (may
         allowed = tt;
         turn = inl (record {
           words = refl;
-          fits = λ j u l. subst (λ y. Fits o [] ⊥ ⊥ y) (sym (only j u l.0).1) (record { opening = refl; seen = (([], refl), refl); joined = tt; overtaken = λ n. absurd (omega arith) });
+          fits = λ j u l. subst (λ y. Fits o [] ⊥ ⊥ y) (sym (only j u l.0).1)
+              (record { opening = refl; seen = (([], refl), refl); joined = tt; overtaken = λ n. absurd (omega arith) });
           idle = λ j u e1. ap (λ y. y.phase) (only j u e1).1;
           value = x;
           home = refl;
@@ -45,14 +48,19 @@ module _ {V E : Type 0} (entries : V → List E) (numbers : V → List ℕ) (may
         });
       }
 
-  pub opens_of : (x : Stamped V) (b : V) (seats : ℕ) (items : List (Option (Stamped V))) → b ≡ x.value → items ≡ Some x ∷ [] → x.turns ≡ 0 → Keeps entries numbers may (opening entries numbers b seats) (first_state (0 ∷ 0 ∷ []) items (newcomer (opening entries numbers b seats)))
+  pub opens_of : (x : Stamped V) (b : V) (seats : ℕ) (items : List (Option (Stamped V))) → b ≡ x.value → items ≡ Some x ∷ [] → x.turns ≡ 0
+      → Keeps entries numbers may (opening entries numbers b seats) (first_state (0 ∷ 0 ∷ []) items (newcomer (opening entries numbers b seats)))
   opens_of x b seats items e i t =
-      let P : V → List (Option (Stamped V)) → Type 0 = λ c xs. Keeps entries numbers may (opening entries numbers c seats) (first_state (0 ∷ 0 ∷ []) xs (newcomer (opening entries numbers c seats))) in
+      let P : V → List (Option (Stamped V))
+      → Type 0 = λ c xs. Keeps entries numbers may (opening entries numbers c seats)
+      (first_state (0 ∷ 0 ∷ []) xs (newcomer (opening entries numbers c seats))) in
       subst (λ c. P c items) (sym e) (subst (λ xs. P x.value xs) (sym i) (opens x seats t))
 
-  module _ (o : Opening E) (id : ℕ) (v : View E) (live : v.spent ≡ false) (idle : v.phase ≡ Idle) (some_given : 0 < v.given) (covers : (n : ℕ) → n < v.given → IsIn n (numbers_of v)) where
+  module _ (o : Opening E) (id : ℕ) (v : View E) (live : v.spent ≡ false) (idle : v.phase ≡ Idle) (some_given : 0 < v.given)
+      (covers : (n : ℕ) → n < v.given → IsIn n (numbers_of v)) where
     -- a seat that has all numbers closes a turn that is free
-    last_state : (s : State (Option (Stamped V)) (View E)) (k : Keeps entries numbers may o s) → get_elem? s.views id ≡ some v → IsFree entries numbers may o k.history s
+    last_state : (s : State (Option (Stamped V)) (View E)) (k : Keeps entries numbers may o s) → get_elem? s.views id ≡ some v
+        → IsFree entries numbers may o k.history s
     last_state s k at =
         ⊎_elim
         (λ (f : IsFree entries numbers may o k.history s). f)

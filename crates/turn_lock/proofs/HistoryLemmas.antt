@@ -40,7 +40,8 @@ module _ {E : Type 0} where
 
   pub turns_of-append : (n : ℕ) (xs ys : List (TurnOf E)) → turns_of n (xs ++ ys) ≡ turns_of n xs ++ turns_of n ys
   turns_of-append n [] ys = refl
-  turns_of-append n (t ∷ xs) ys = ap (λ ts. if t.seat == n then t ∷ ts else ts) (turns_of-append n xs ys) ∙ turns_of-cons n t (t.seat == n) (turns_of n xs) (turns_of n ys)
+  turns_of-append n (t ∷ xs) ys = ap (λ ts. if t.seat == n then t ∷ ts else ts) (turns_of-append n xs ys)
+      ∙ turns_of-cons n t (t.seat == n) (turns_of n xs) (turns_of n ys)
 
   -- a turn of the seat's own
   pub turns_of-own : (t : TurnOf E) → turns_of t.seat (t ∷ []) ≡ t ∷ []

@@ -1,5 +1,6 @@
 -- What the views have seen of a history that grows.
-use Rattle.std.proofs.Common.{◌≡◌, ◌≢◌, ◌+◌, ◌^◌, ◌<◌, ◌≤◌, ◌⊎◌, inl, inr, ⊎_elim, ℕ, List, [], ◌∷◌, ◌++◌, length, refl, sym, ap, ◌∙◌, subst, arith, zero, suc, length-append}
+use Rattle.std.proofs.Common.{◌≡◌, ◌≢◌, ◌+◌, ◌^◌, ◌<◌, ◌≤◌, ◌⊎◌, inl, inr, ⊎_elim, ℕ, List, [], ◌∷◌, ◌++◌, length, refl, sym, ap, ◌∙◌, subst, arith}
+use Rattle.std.proofs.Common.{zero, suc, length-append}
 use Rattle.std.proofs.lemmas.List.{append_assoc}
 use Rattle.turn_lock.specs.declared.history.TurnOf.{TurnOf}
 use Rattle.turn_lock.specs.declared.history.Opening.{Opening}
@@ -31,9 +32,14 @@ module _ {E : Type 0} where
   HasSeen-shorter h t n seen s = let l = IsPrefixOf-length seen h s.0 in let more = length-append h (t ∷ []) in omega arith
 
   module _ (P Q : Type 0) where
-    pub JoinedHaveSeen-more : (h : List (TurnOf E)) (t : TurnOf E) (ms : List (JoinedSeat E)) → (IsIn t.seat (joined_numbers ms) → ⊥) → JoinedHaveSeen h P ms → JoinedHaveSeen (h ++ t ∷ []) Q ms
+    pub JoinedHaveSeen-more : (h : List (TurnOf E)) (t : TurnOf E) (ms : List (JoinedSeat E)) → (IsIn t.seat (joined_numbers ms) → ⊥) → JoinedHaveSeen h P ms
+        → JoinedHaveSeen (h ++ t ∷ []) Q ms
     JoinedHaveSeen-more h t [] out f = tt
-    JoinedHaveSeen-more h t (m ∷ ms) out f = (HasSeen-more h t m.number m.seen (λ e. out (inl (sym e))) f.0, λ _. inl (HasSeen-shorter h t m.number m.seen f.0), JoinedHaveSeen-more h t ms (λ x. out (inr x)) f.2)
+    JoinedHaveSeen-more h t (m ∷ ms) out f = (
+      HasSeen-more h t m.number m.seen (λ e. out (inl (sym e))) f.0,
+      λ _. inl (HasSeen-shorter h t m.number m.seen f.0),
+      JoinedHaveSeen-more h t ms (λ x. out (inr x)) f.2,
+    )
 
     -- beside the same history, where what may let it grow changes
     module _ (h : List (TurnOf E)) (f : P → Q ⊎ (2 ^ 64 ≤ length h + 1)) where
@@ -45,12 +51,20 @@ module _ {E : Type 0} where
       JoinedHaveSeen-change (m ∷ ms) g = (g.0, IsOvertaken-change m.seen m.since g.1, JoinedHaveSeen-change ms g.2)
 
   -- the same of a whole view
-  pub Fits-change : (o : Opening E) (h : List (TurnOf E)) (A B P Q : Type 0) (v : View E) → (A → B ⊎ (2 ^ 64 ≤ length h + 1)) → (P → Q ⊎ (2 ^ 64 ≤ length h + 1)) → Fits o h A P v → Fits o h B Q v
-  Fits-change o h A B P Q v f g fit = record { opening = fit.opening; seen = fit.seen; joined = JoinedHaveSeen-change P Q h g v.joined fit.joined; overtaken = IsOvertaken-change A B h f v.seen v.since fit.overtaken }
+  pub Fits-change : (o : Opening E) (h : List (TurnOf E)) (A B P Q : Type 0) (v : View E) → (A → B ⊎ (2 ^ 64 ≤ length h + 1))
+      → (P → Q ⊎ (2 ^ 64 ≤ length h + 1)) → Fits o h A P v → Fits o h B Q v
+  Fits-change o h A B P Q v f g fit =
+      record {
+        opening = fit.opening;
+        seen = fit.seen;
+        joined = JoinedHaveSeen-change P Q h g v.joined fit.joined;
+        overtaken = IsOvertaken-change A B h f v.seen v.since fit.overtaken;
+      }
 
   -- what was not seen has no turn of the seat's own
   pub others_between : (h : List (TurnOf E)) (n : ℕ) (seen : List (TurnOf E)) (s : HasSeen h n seen) → turns_of n s.0.0 ≡ []
-  others_between h n seen s = append_same-nil (turns_of n seen) (turns_of n s.0.0) (sym (turns_of-append n seen s.0.0) ∙ ap (λ ts. turns_of n ts) (sym s.0.1) ∙ s.1)
+  others_between h n seen s =
+      append_same-nil (turns_of n seen) (turns_of n s.0.0) (sym (turns_of-append n seen s.0.0) ∙ ap (λ ts. turns_of n ts) (sym s.0.1) ∙ s.1)
 
   -- where one number was given, its seat has seen the whole history
   pub one_has_seen : (h : List (TurnOf E)) (n : ℕ) (seen : List (TurnOf E)) → n ≡ 0 → IsBelow 1 h → HasSeen h n seen → h ≡ seen

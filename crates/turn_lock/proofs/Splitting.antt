@@ -1,5 +1,6 @@
 -- A split keeps the rule: a new view has the next number, and has seen nothing.
-use Rattle.std.proofs.Common.{◌≡◌, ◌≢◌, ◌+◌, ◌<◌, ◌⊎◌, inl, inr, ⊎_elim, ℕ, false, List, [], ◌∷◌, ◌++◌, length, set, Option, refl, sym, ap, ◌∙◌, subst, arith, zero, suc}
+use Rattle.std.proofs.Common.{◌≡◌, ◌≢◌, ◌+◌, ◌<◌, ◌⊎◌, inl, inr, ⊎_elim, ℕ, false, List, [], ◌∷◌, ◌++◌, length, set, Option, refl, sym, ap, ◌∙◌, subst}
+use Rattle.std.proofs.Common.{arith, zero, suc}
 use Rattle.std.specs.Prelude.{slice_set}
 use Rattle.std.proofs.Math.ListN.{length-set}
 use mathlib.Core.Option.{some, some-injective, some-ne-none}
@@ -34,7 +35,8 @@ module _ {E : Type 0} where
   at_within (x ∷ xs) (suc j) a e = let l = at_within xs j a e in omega arith
 
   -- what holds of each view after the first was changed and one came
-  split_each : (P : ℕ → View E → Type 0) (views : List (View E)) (id : ℕ) (left right : View E) → P id left → ((j : ℕ) (u : View E) → j ≢ id → get_elem? views j ≡ some u → P j u) → ((j : ℕ) → j ≡ length views → P j right)
+  split_each : (P : ℕ → View E → Type 0) (views : List (View E)) (id : ℕ) (left right : View E) → P id left
+      → ((j : ℕ) (u : View E) → j ≢ id → get_elem? views j ≡ some u → P j u) → ((j : ℕ) → j ≡ length views → P j right)
       → (j : ℕ) (u : View E) → get_elem? (set views id left ++ right ∷ []) j ≡ some u → P j u
   split_each P views id left right mine others new j u e =
       ⊎_elim
@@ -44,7 +46,8 @@ module _ {E : Type 0} where
 
   -- where a view of the split stands: it was there, or it is the new one
   abbrev Old : List (View E) → ℕ → View E → ℕ → View E → Type 0
-  Old views id v j u = ((z : View E) × Live views j z × (numbers_of u ≡ numbers_of z) × (((j ≡ id) × (u.given ≡ v.given + 1)) ⊎ ((j ≢ id) × (u.given ≡ z.given)))) ⊎ ((j ≡ length views) × (numbers_of u ≡ v.given ∷ []) × (u.given ≡ 0))
+  Old views id v j u = ((z : View E) × Live views j z × (numbers_of u ≡ numbers_of z)
+      × (((j ≡ id) × (u.given ≡ v.given + 1)) ⊎ ((j ≢ id) × (u.given ≡ z.given)))) ⊎ ((j ≡ length views) × (numbers_of u ≡ v.given ∷ []) × (u.given ≡ 0))
 
   module _ (h : List (TurnOf E)) (views : List (View E)) (id : ℕ) (v : View E) (at : Live views id v) (some_given : 0 < v.given) (k : Numbered h views) where
     apart_split : (i j : ℕ) (u x : View E) → Old views id v i u → Old views id v j x → (n : ℕ) → IsIn n (numbers_of u) → IsIn n (numbers_of x) → i ≡ j
@@ -88,8 +91,10 @@ module _ {E : Type 0} where
 
 module _ {V E : Type 0} (entries : V → List E) (numbers : V → List ℕ) (may : ℕ → List E → Type 0) (o : Opening E) where
   -- of a view in no turn: it is not the one that has the turn
-  pub not_who : (s : State (Option (Stamped V)) (View E)) (h : List (TurnOf E)) (t : IsTaken entries numbers may o h s) (id : ℕ) (v : View E) → get_elem? s.views id ≡ some v → v.phase ≡ Idle → id ≢ t.who
-  not_who s h t id v at idle e = ⊎_elim (λ x. idle_begun v.phase idle x.0) (λ x. idle_raised v.phase idle x.0) (t.stage v (subst (λ i. get_elem? s.views i ≡ some v) e at))
+  pub not_who : (s : State (Option (Stamped V)) (View E)) (h : List (TurnOf E)) (t : IsTaken entries numbers may o h s) (id : ℕ) (v : View E)
+      → get_elem? s.views id ≡ some v → v.phase ≡ Idle → id ≢ t.who
+  not_who s h t id v at idle e =
+      ⊎_elim (λ x. idle_begun v.phase idle x.0) (λ x. idle_raised v.phase idle x.0) (t.stage v (subst (λ i. get_elem? s.views i ≡ some v) e at))
 
   module _ (id : ℕ) (v : View E) (live : v.spent ≡ false) (idle : v.phase ≡ Idle) (some_given : 0 < v.given) where
     fits_right : (h : List (TurnOf E)) (Q R P : Type 0) → Fits o h Q P v → IsBelow v.given h → Fits o h R P (dealt v)
@@ -111,7 +116,8 @@ module _ {V E : Type 0} (entries : V → List E) (numbers : V → List ℕ) (may
               (λ (f : IsFree entries numbers may o h s). inl (record {
                 words = f.words;
                 fits = λ j u l. split_each (λ i y. y.spent ≡ false → Fits o h ⊥ ⊥ y) s.views id (dealer_after v) (dealt v)
-                    (λ _. fits_left h ⊥ ⊥ (f.fits id v (at, live))) (λ i y ne e g. f.fits i y (e, g)) (λ i e _. fits_right h ⊥ ⊥ ⊥ (f.fits id v (at, live)) b.0) j u l.0 l.1;
+                    (λ _. fits_left h ⊥ ⊥ (f.fits id v (at, live))) (λ i y ne e g. f.fits i y (e, g))
+                    (λ i e _. fits_right h ⊥ ⊥ ⊥ (f.fits id v (at, live)) b.0) j u l.0 l.1;
                 idle = split_each (λ i y. y.phase ≡ Idle) s.views id (dealer_after v) (dealt v) idle (λ i y ne e. f.idle i y e) (λ i e. refl);
                 value = f.value;
                 home = f.home;
@@ -124,13 +130,34 @@ module _ {V E : Type 0} (entries : V → List E) (numbers : V → List ℕ) (may
                 who = t.who;
                 words = t.words;
                 fits = λ j u l. split_each (λ i y. y.spent ≡ false → Fits o h (i ≢ t.who) (t.there.0.phase ≡ Begun) y) s.views id (dealer_after v) (dealt v)
-                    (λ _. fits_left h (id ≢ t.who) (t.there.0.phase ≡ Begun) (t.fits id v (at, live))) (λ i y ne e g. t.fits i y (e, g)) (λ i e _. fits_right h (id ≢ t.who) (i ≢ t.who) (t.there.0.phase ≡ Begun) (t.fits id v (at, live)) b.0) j u l.0 l.1;
-                idle = split_each (λ i y. i ≢ t.who → y.phase ≡ Idle) s.views id (dealer_after v) (dealt v) (λ _. idle) (λ i y ne e. t.idle i y e) (λ i e _. refl);
-                stage = λ u e. split_each (λ i y. i ≡ t.who → IsAt entries numbers may o h (record { words = s.words; homes = s.homes; views = slice_set s.views id (dealer_after v) ++ dealt v ∷ [] }) t.who y) s.views id (dealer_after v) (dealt v)
+                    (λ _. fits_left h (id ≢ t.who) (t.there.0.phase ≡ Begun) (t.fits id v (at, live))) (λ i y ne e g. t.fits i y (e, g))
+                    (λ i e _. fits_right h (id ≢ t.who) (i ≢ t.who) (t.there.0.phase ≡ Begun) (t.fits id v (at, live)) b.0) j u l.0 l.1;
+                idle = split_each (λ i y. i ≢ t.who → y.phase ≡ Idle) s.views id (dealer_after v) (dealt v) (λ _. idle) (λ i y ne e. t.idle i y e)
+                    (λ i e _. refl);
+                stage = λ u e. split_each
+                    (λ i y. i ≡ t.who → IsAt entries numbers may o h
+                    (record { words = s.words; homes = s.homes; views = slice_set s.views id (dealer_after v) ++ dealt v ∷ [] }) t.who y) s.views id
+                    (dealer_after v) (dealt v)
                     (λ same. absurd (other same))
-                    (λ i y ne g same. ⊎_elim (λ x. inl x) (λ x. inr (x.0, x.1, (λ j z l. split_each (λ n q. q.spent ≡ false → n ≢ t.who → length q.seen < length h) s.views id (dealer_after v) (dealt v) (λ _ _. x.2 id v (at, live) other) (λ n q _ a c. x.2 n q (a, c)) (λ n _ _ _. x.4) j z l.0 l.1), x.3, x.4)) (t.stage y (subst (λ n. get_elem? s.views n ≡ some y) same g)))
+                    (λ i y ne g same. ⊎_elim (λ x. inl x)
+                    (λ x. inr (
+                      x.0,
+                      x.1,
+                      (λ j z l. split_each (λ n q. q.spent ≡ false → n ≢ t.who → length q.seen < length h) s.views id (dealer_after v)
+                          (dealt v) (λ _ _. x.2 id v (at, live) other) (λ n q _ a c. x.2 n q (a, c)) (λ n _ _ _. x.4) j z l.0 l.1),
+                      x.3,
+                      x.4,
+                    ))
+                    (t.stage y (subst (λ n. get_elem? s.views n ≡ some y) same g)))
                     (λ i e same. absurd (omega arith)) t.who u e refl;
-                there = (t.there.0, (at_longer (set s.views id (dealer_after v)) (dealt v ∷ []) t.who t.there.0 (set_else s.views id t.who (dealer_after v) (λ x. other (sym x)) ∙ t.there.1.0), t.there.1.1));
+                there = (
+                  t.there.0,
+                  (
+                    at_longer (set s.views id (dealer_after v)) (dealt v ∷ []) t.who t.there.0
+                        (set_else s.views id t.who (dealer_after v) (λ x. other (sym x)) ∙ t.there.1.0),
+                    t.there.1.1,
+                  ),
+                );
                 home = t.home;
               }))
               k.turn;

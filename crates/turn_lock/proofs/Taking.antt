@@ -17,7 +17,8 @@ use Rattle.turn_lock.specs.Rule.{Keeps, IsFree, IsTaken, IsAt, Fits, Tried}
 use Rattle.turn_lock.proofs.Seen.{one_has_seen, Fits-change}
 use Rattle.turn_lock.proofs.Changed.{idle_begun, idle_raised, after_one, set_at, live_after, numbered_after}
 
-module _ {V E : Type 0} (entries : V → List E) (numbers : V → List ℕ) (may : ℕ → List E → Type 0) (o : Opening E) (id : ℕ) (v : View E) (live : v.spent ≡ false) where
+module _ {V E : Type 0} (entries : V → List E) (numbers : V → List ℕ) (may : ℕ → List E → Type 0) (o : Opening E) (id : ℕ) (v : View E)
+    (live : v.spent ≡ false) where
   abbrev Free : List (TurnOf E) → State (Option (Stamped V)) (View E) → Type 0
   Free h s = IsFree entries numbers may o h s
 
@@ -59,7 +60,9 @@ module _ {V E : Type 0} (entries : V → List E) (numbers : V → List ℕ) (may
                 (record { opening = mine.opening; seen = mine.seen; joined = mine.joined; overtaken = mine.overtaken })
                 (λ j u ne e. begins (j ≢ id) (w.phase ≡ Begun) u (f.fits j u e));
             idle = after_one (λ j u. j ≢ id → u.phase ≡ Idle) s.views id w (λ ne. absurd (ne refl)) (λ j u ne e _. f.idle j u e);
-            stage = λ u e. after_one (λ j y. j ≡ id → IsAt entries numbers may o h (stepped s 0 (either (slice_index s.words 0 == 0) 1 (slice_index s.words 0)) id [] w (takes 0 (Some f.value))) id y) s.views id w
+            stage = λ u e. after_one (λ j y. j ≡ id
+                → IsAt entries numbers may o h
+                (stepped s 0 (either (slice_index s.words 0 == 0) 1 (slice_index s.words 0)) id [] w (takes 0 (Some f.value))) id y) s.views id w
                 (λ _. inl (refl, refl)) (λ j y ne g same. absurd (ne same)) id u e refl;
             there = (w, (set_at s.views id v w at, live));
             home = ap (λ hs. slice_set hs 0 none) f.home;
@@ -73,7 +76,8 @@ module _ {V E : Type 0} (entries : V → List E) (numbers : V → List ℕ) (may
           seen = mine.seen;
           allowed = k.allowed;
           in_range = rw mine.opening k.in_range;
-          alone = λ e. one_has_seen h v.number v.seen (number_alone s k at e) (subst (λ g. IsBelow g h) e (k.numbered.below id v (at, live) (omega arith)).0) mine.seen;
+          alone = λ e. one_has_seen h v.number v.seen (number_alone s k at e)
+              (subst (λ g. IsBelow g h) e (k.numbered.below id v (at, live) (omega arith)).0) mine.seen;
         }),
       )
 
@@ -84,7 +88,8 @@ module _ {V E : Type 0} (entries : V → List E) (numbers : V → List ℕ) (may
       let w = found_held v in
       let mine = t.fits id v (at, live) in
       let found : slice_index s.words 0 ≡ 1 = ap (λ ws. slice_index ws 0) t.words in
-      let other : id ≢ t.who = λ e. ⊎_elim (λ x. idle_begun v.phase idle x.0) (λ x. idle_raised v.phase idle x.0) (t.stage v (subst (λ i. get_elem? s.views i ≡ some v) e at)) in (
+      let other : id ≢ t.who = λ e. ⊎_elim (λ x. idle_begun v.phase idle x.0) (λ x. idle_raised v.phase idle x.0)
+      (t.stage v (subst (λ i. get_elem? s.views i ≡ some v) e at)) in (
         w,
         keeps,
         tt,
@@ -104,7 +109,14 @@ module _ {V E : Type 0} (entries : V → List E) (numbers : V → List ℕ) (may
                 let g : get_elem? s.views t.who ≡ some u = sym (set_else s.views id t.who w (λ x. other (sym x))) ∙ e in
                 ⊎_elim
                 (λ x. inl x)
-                (λ x. inr (x.0, x.1, live_after (λ j y. j ≢ t.who → length y.seen < length h) s.views id w (λ ne. x.2 id v (at, live) other) (λ j y ne i. x.2 j y i), x.3, x.4))
+                (λ x. inr (
+                  x.0,
+                  x.1,
+                  live_after (λ j y. j ≢ t.who → length y.seen < length h) s.views id w (λ ne. x.2 id v (at, live) other)
+                      (λ j y ne i. x.2 j y i),
+                  x.3,
+                  x.4,
+                ))
                 (t.stage u g);
             there = (t.there.0, (set_else s.views id t.who w (λ x. other (sym x)) ∙ t.there.1.0, t.there.1.1));
             home = t.home;
@@ -124,9 +136,12 @@ module _ {V E : Type 0} (entries : V → List E) (numbers : V → List ℕ) (may
   unfolding Goal
   take_allowed slots idle s k len at fits = ⊎_elim (λ (f : Free k.history s). from_free s k f at) (λ (t : InTurn k.history s). from_taken idle s k t at) k.turn
 
-module _ {V E : Type 0} (entries : V → List E) (numbers : V → List ℕ) (may : ℕ → List E → Type 0) (o : Opening E) (slots id : ℕ) (me : Me (Option (Stamped V)) (View E)) where
+module _ {V E : Type 0} (entries : V → List E) (numbers : V → List ℕ) (may : ℕ → List E → Type 0) (o : Opening E) (slots id : ℕ)
+    (me : Me (Option (Stamped V)) (View E)) where
   -- the same of a seat whose slots are known by an equation
-  pub take_of : me.0.spent ≡ false → me.1 ≡ [] → me.0.phase ≡ Idle → Allows (Keeps entries numbers may o) slots id me 0 (λ n. either (n == 0) 1 n) (λ n m. Tried entries numbers may me n m)
+  pub take_of : me.0.spent ≡ false → me.1 ≡ [] → me.0.phase ≡ Idle
+      → Allows (Keeps entries numbers may o) slots id me 0 (λ n. either (n == 0) 1 n) (λ n m. Tried entries numbers may me n m)
   take_of live e idle =
-      subst (λ (c : List (ℕ × Option (Stamped V))). Allows (Keeps entries numbers may o) slots id (me.0, c) 0 (λ n. either (n == 0) 1 n) (λ n m. Tried entries numbers may (me.0, c) n m)) (sym e)
+      subst (λ (c : List (ℕ × Option (Stamped V))). Allows (Keeps entries numbers may o) slots id (me.0, c) 0 (λ n. either (n == 0) 1 n)
+      (λ n m. Tried entries numbers may (me.0, c) n m)) (sym e)
       (take_allowed entries numbers may o id me.0 live slots idle)

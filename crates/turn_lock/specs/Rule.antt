@@ -1,6 +1,8 @@
 -- The rule of the turn lock. Word 0 is the turn (0 free, 1 held), word 1 the count of turns, and the slot holds the value with its count of turns.
--- The kinds of atomic step are take and held (`Tried`), raise (`IsRaised`), free (`IsFreed`), split (`dealer_after`, `dealt`) and join (`joined_with`, `spent_view`).
--- The seat that is in a turn also reads and writes the slot, which is out with it: of that the rule says nothing, and the seat's own list of slots knows the value.
+-- The kinds of atomic step are take and held (`Tried`), raise (`IsRaised`), free (`IsFreed`), split (`dealer_after`,
+-- `dealt`) and join (`joined_with`, `spent_view`).
+-- The seat that is in a turn also reads and writes the slot, which is out with it: of that the rule says nothing, and
+-- the seat's own list of slots knows the value.
 use Rattle.std.specs.Prelude.{◌≡◌, ◌≢◌, ◌+◌, ◌^◌, ◌<◌, ◌≤◌, ◌==◌, ◌⊎◌, ℕ, false, List, [], ◌∷◌, ◌++◌, length, drop, Option, Some}
 use Rattle.std.specs.Bool.{MatchBool}
 use mathlib.Core.Option.{some, none}
@@ -41,10 +43,12 @@ module _ {E : Type 0} where
   -- the views' numbers differ, and those that were given are below the next one to give, which one view at most gives
   pub record Numbered (h : List (TurnOf E)) (views : List (View E)) : Type 0 where
     pub apart : (i j : ℕ) (u v : View E) → Live views i u → Live views j v → (n : ℕ) → IsIn n (numbers_of u) → IsIn n (numbers_of v) → i ≡ j
-    pub below : (i : ℕ) (u : View E) → Live views i u → 0 < u.given → IsBelow u.given h × ((j : ℕ) (v : View E) → Live views j v → (n : ℕ) → IsIn n (numbers_of v) → n < u.given)
+    pub below : (i : ℕ) (u : View E) → Live views i u → 0 < u.given → IsBelow u.given h
+        × ((j : ℕ) (v : View E) → Live views j v → (n : ℕ) → IsIn n (numbers_of v) → n < u.given)
     pub one_dealer : (i j : ℕ) (u v : View E) → Live views i u → Live views j v → 0 < u.given → 0 < v.given → i ≡ j
 
-  -- what holds of one view beside the history, where `other_in_turn` says that another view is in a turn, and `not_raised` that some view is in a turn before its raise
+  -- what holds of one view beside the history, where `other_in_turn` says that another view is in a turn, and
+  -- `not_raised` that some view is in a turn before its raise
   pub record Fits (o : Opening E) (h : List (TurnOf E)) (other_in_turn not_raised : Type 0) (v : View E) : Type 0 where
     pub opening : v.opening ≡ o
     pub seen : HasSeen h v.number v.seen
@@ -112,17 +116,21 @@ module _ {V E : Type 0} (entries : V → List E) (numbers : V → List ℕ) (may
 
   -- raise: the turn's entries are those that the value has beyond the history before
   abbrev pub IsRaised : Me (Option (Stamped V)) (View E) → Me (Option (Stamped V)) (View E) → Type 0
-  IsRaised me after = (x : Stamped V) × (me.1 ≡ (0, Some x) ∷ []) × (after ≡ (raised me.0 (drop (length (me.0.opening.first ++ entries_of me.0.before)) (entries x.value)), me.1))
+  IsRaised me after = (x : Stamped V) × (me.1 ≡ (0, Some x) ∷ [])
+      × (after ≡ (raised me.0 (drop (length (me.0.opening.first ++ entries_of me.0.before)) (entries x.value)), me.1))
 
   -- it may free after its raise, or without one where the count is at its last value
   abbrev pub MayFree : Me (Option (Stamped V)) (View E) → Type 0
-  MayFree me = (x : Stamped V) × (me.1 ≡ (0, Some x) ∷ []) × (((me.0.phase ≡ Raised) × Stands me.0.opening me.0.seen x) ⊎ ((me.0.phase ≡ Begun) × (2 ^ 64 ≤ length me.0.before + 1) × Stands me.0.opening me.0.before x))
+  MayFree me = (x : Stamped V) × (me.1 ≡ (0, Some x) ∷ [])
+      × (((me.0.phase ≡ Raised) × Stands me.0.opening me.0.seen x)
+      ⊎ ((me.0.phase ≡ Begun) × (2 ^ 64 ≤ length me.0.before + 1) × Stands me.0.opening me.0.before x))
 
   -- free: the slot is back
   abbrev pub IsFreed : Me (Option (Stamped V)) (View E) → Me (Option (Stamped V)) (View E) → Type 0
   IsFreed me after = after ≡ (freed_at me.0.phase me.0, [])
 
-  -- the end: the value stands for one history, of which the view and those that were joined into it have seen a prefix, with all of their turns, and less than the whole where they have finds since
+  -- the end: the value stands for one history, of which the view and those that were joined into it have seen a prefix,
+  -- with all of their turns, and less than the whole where they have finds since
   pub record Ended (o : Opening E) (v : View E) (value : V) : Type 0 where
     pub history : List (TurnOf E)
     pub entries_are : entries value ≡ o.first ++ entries_of history

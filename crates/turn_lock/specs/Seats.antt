@@ -12,7 +12,8 @@ pub record TurnValue (E : Type 0) : Type 0 where
   pub numbers : List ℕ
   pub seats : ℕ
 
--- A seat: its turn lock, its number, the prefix of the history that it has seen, and its finds: how many of its tries found the turn word held or the history at its last length.
+-- A seat: its turn lock, its number, the prefix of the history that it has seen, and its finds: how many of its tries
+-- found the turn word held or the history at its last length.
 -- `since` counts those after its last own turn, which are all where it had none.
 pub record SeatValue (E : Type 0) : Type 0 where
   pub turn : TurnValue E
@@ -63,8 +64,10 @@ module _ {E : Type 0} where
     pub turns : (i : ℕ) (s : SeatValue E) → slice_get seats i ≡ Some s → s.turn ≡ turn
     pub numbers : (i : ℕ) (s : SeatValue E) → slice_get seats i ≡ Some s → s.number ≡ i
 
-  -- The value stands for the first value's entries and those of one history. Each seat's seen turns begin that history, and no further turn of it is the seat's.
-  pub record IsWhole {V : Type 0} (entries : V → List E) (numbers : V → List ℕ) (may : ℕ → List E → Type 0) (turn : TurnValue E) (seats : List (SeatValue E)) (value : V) : Type 0 where
+  -- The value stands for the first value's entries and those of one history. Each seat's seen turns begin that history,
+  -- and no further turn of it is the seat's.
+  pub record IsWhole {V : Type 0} (entries : V → List E) (numbers : V → List ℕ) (may : ℕ → List E → Type 0) (turn : TurnValue E) (seats : List (SeatValue E))
+      (value : V) : Type 0 where
     pub history : List (TurnOf E)
     pub entries_are : entries value ≡ turn.first ++ entries_of history
     pub numbers_are : numbers value ≡ turn.numbers

@@ -39,7 +39,8 @@ module _ {E : Type 0} where
 
   -- a whole turn
   abbrev pub after_whole_turn : View E → List (TurnOf E) → List E → View E
-  after_whole_turn v between entries = record v { seen = (v.seen ++ between) ++ record { seat = v.number; entries = entries } ∷ []; since = 0; phase = Idle; before = [] }
+  after_whole_turn v between entries =
+      record v { seen = (v.seen ++ between) ++ record { seat = v.number; entries = entries } ∷ []; since = 0; phase = Idle; before = [] }
 
   -- split: the first view has given one more number
   abbrev pub dealer_after : View E → View E
@@ -63,7 +64,18 @@ module _ {E : Type 0} where
 
   -- and the second is spent
   abbrev pub spent_view : View E
-  spent_view = record { number = 0; seen = []; finds = 0; since = 0; phase = Idle; before = []; opening = record { first = []; numbers = []; seats = 0 }; given = 0; joined = []; spent = true }
+  spent_view = record {
+    number = 0;
+    seen = [];
+    finds = 0;
+    since = 0;
+    phase = Idle;
+    before = [];
+    opening = record { first = []; numbers = []; seats = 0 };
+    given = 0;
+    joined = [];
+    spent = true;
+  }
 
   -- the numbers of the joined seats
   abbrev pub joined_numbers : List (JoinedSeat E) → List ℕ
@@ -89,7 +101,8 @@ module _ {E : Type 0} where
     pub dealer : me.0.number ≡ 0 → me.0.given ≡ me.0.opening.seats
 
   -- Ok: one whole turn, after what the view had seen and some turns of others
-  pub record HasWholeTurn {S : Type 0} (may : ℕ → List E → Type 0) (adds : List ℕ → List E → List E) (answered : List ℕ → List E → Type 0) (v : View E) (after : Me S (View E)) (turns : ℕ) : Type 0 where
+  pub record HasWholeTurn {S : Type 0} (may : ℕ → List E → Type 0) (adds : List ℕ → List E → List E) (answered : List ℕ → List E → Type 0) (v : View E)
+      (after : Me S (View E)) (turns : ℕ) : Type 0 where
     pub between : List (TurnOf E)
     pub others : turns_of v.number between ≡ []
     pub after_is : after ≡ (after_whole_turn v between (adds v.opening.numbers (v.opening.first ++ entries_of (v.seen ++ between))), [])

@@ -65,7 +65,8 @@ pub(crate) fn raise<K: Kept>(words: &TurnWords<K>, seat: &mut RawSeat<K>, turns:
     requires phase { seat.old.me.0.phase ≡ Begun }
     requires turns { turns ≡ length seat.old.me.0.before + 1 }
     requires number { seat.old.me.0.number < seat.old.me.0.opening.seats }
-    requires value { (x : Stamped K) × (seat.old.me.1 ≡ (0, Some x) ∷ []) × K.may_add seat.old.me.0.number (drop (length (seat.old.me.0.opening.first ++ entries_of seat.old.me.0.before)) (K.entries x.value)) }
+    requires value { (x : Stamped K) × (seat.old.me.1 ≡ (0, Some x) ∷ [])
+        × K.may_add seat.old.me.0.number (drop (length (seat.old.me.0.opening.first ++ entries_of seat.old.me.0.before)) (K.entries x.value)) }
     ensures table { (seat.new.table_id ≡ seat.old.table_id) × (seat.new.id ≡ seat.old.id) }
     ensures raised { IsRaised K.entries K.numbers K.may_add seat.old.me seat.new.me }
 {

@@ -81,7 +81,9 @@ fn turn_with<K: Kept, A: Act<K>>(
     requires number { seat.old.me.0.number < seat.old.me.0.opening.seats }
     requires allowed { (entries : List K.Entry) → K.may_add seat.old.me.0.number (A.adds act seat.old.me.0.opening.numbers entries) }
     ensures table { (seat.new.table_id ≡ seat.old.table_id) × (seat.new.id ≡ seat.old.id) }
-    ensures turn { IfOk result (λ granted. HasWholeTurn K.may_add (A.adds act) (λ numbers entries. A.answers act numbers entries granted.out) seat.old.me.0 seat.new.me granted.turns) }
+    ensures turn { IfOk result
+        (λ granted. HasWholeTurn K.may_add (A.adds act)
+        (λ numbers entries. A.answers act numbers entries granted.out) seat.old.me.0 seat.new.me granted.turns) }
     ensures busy { IfErr result (λ back. (back.act ≡ act) × (seat.new.me ≡ (found_held seat.old.me.0, []))) }
     ensures alone { IfErr result (λ _. seat.old.me.0.given ≡ 1 → 2 ^ 64 ≤ length seat.old.me.0.seen + 1) }
 {

@@ -1,5 +1,6 @@
 -- One queue of an input changes, and the set of outputs of its level with it.
-use Rattle.std.proofs.Common.{◌≡◌, ◌∙◌, ◌≢◌, ℕ, zero, suc, ◌+◌, ◌*◌, ◌<◌, ◌≤◌, ◌↔◌, List, [], ◌∷◌, ◌++◌, length, map, map-id, ap, sym, refl, arith, inl, inr, slice_index, slice_index_or, slice_set, length-append}
+use Rattle.std.proofs.Common.{◌≡◌, ◌∙◌, ◌≢◌, ℕ, zero, suc, ◌+◌, ◌*◌, ◌<◌, ◌≤◌, ◌↔◌, List, [], ◌∷◌, ◌++◌, length, map, map-id, ap, sym, refl, arith, inl}
+use Rattle.std.proofs.Common.{inr, slice_index, slice_index_or, slice_set, length-append}
 use Rattle.std.proofs.Math.ListN.{get_or-map}
 use Rattle.std.proofs.lemmas.Bool.{cases_eq}
 use Rattle.std.proofs.lemmas.List.{get_or-set_same, get_or-set_other, get_or_default, length-set, length-map, map-append, get_or-map as get_or-map-at}
@@ -14,14 +15,17 @@ use Rattle.voq_banks.specs.Queues.{Queues, place_of, queue_at, spare_at, Waits, 
 use Rattle.voq_banks.specs.Fields.{Kept, names_of, queues_in, ring_at, HasDepth, AreMasks, AreKept}
 
 -- ---- a queue is what its ring stands for
-pub queue-of_ring : (ports depth : ℕ) (kept : List Kept) (output level : ℕ) → queue_at (queues_in ports depth kept) output level ≡ names_of (ring_at kept (place_of output level))
+pub queue-of_ring : (ports depth : ℕ) (kept : List Kept) (output level : ℕ)
+    → queue_at (queues_in ports depth kept) output level ≡ names_of (ring_at kept (place_of output level))
 queue-of_ring ports depth kept output level = get_or-map names_of kept (place_of output level) (empty_queue 0 0)
 
-pub spare-of_ring : (ports depth : ℕ) (kept : List Kept) (output level : ℕ) → spare_at (queues_in ports depth kept) output level ≡ (ring_at kept (place_of output level)).spare
+pub spare-of_ring : (ports depth : ℕ) (kept : List Kept) (output level : ℕ)
+    → spare_at (queues_in ports depth kept) output level ≡ (ring_at kept (place_of output level)).spare
 spare-of_ring ports depth kept output level = get_or-map (λ k. k.spare) kept (place_of output level) (empty_queue 0 0)
 
 -- as many cells wait as the ring has
-pub count-of_ring : (ports depth : ℕ) (kept : List Kept) (output level : ℕ) → length (queue_at (queues_in ports depth kept) output level) ≡ length (ring_at kept (place_of output level)).cells
+pub count-of_ring : (ports depth : ℕ) (kept : List Kept) (output level : ℕ)
+    → length (queue_at (queues_in ports depth kept) output level) ≡ length (ring_at kept (place_of output level)).cells
 count-of_ring ports depth kept output level =
     ap length (queue-of_ring ports depth kept output level) ∙ length-map (ring_at kept (place_of output level)).cells (λ cell. cell.name)
 
@@ -46,29 +50,37 @@ names-admitted queue packet cells =
     map-append (λ cell. cell.name) queue.cells (cells_with_fan packet cells tt) ∙ ap (λ names. names_of queue ++ names) (names-with_fan packet cells)
 
 -- the sets stay right where the output is now in its level's exactly where its queue has a cell
-AreMasks-set : (output level : ℕ) (all new : Queues) (masks : List ℕ) (mask : ℕ) → output < all.ports → level < 4 → length masks ≡ 4 → OthersStay output level all new → AreMasks all masks → ((y : ℕ) → y ≢ output → Has mask y ↔ Has (slice_index masks level) y) → Has mask output ↔ Waits new output level → AreMasks new (slice_set masks level mask)
+AreMasks-set : (output level : ℕ) (all new : Queues) (masks : List ℕ) (mask : ℕ) → output < all.ports → level < 4 → length masks ≡ 4
+    → OthersStay output level all new → AreMasks all masks → ((y : ℕ) → y ≢ output → Has mask y ↔ Has (slice_index masks level) y) → Has mask output
+    ↔ Waits new output level → AreMasks new (slice_set masks level mask)
 AreMasks-set output level all new masks mask output_in level_in four stay old others here l y l_in =
     elim (cases_eq l level) [
       | inl same_level ↦
-          let set_is : slice_index (slice_set masks level mask) l ≡ mask = ap (λ i. slice_index (slice_set masks level mask) i) same_level ∙ get_or-set_same masks level mask 0 (omega arith) in
+          let set_is : slice_index (slice_set masks level mask) l ≡ mask = ap (λ i. slice_index (slice_set masks level mask) i) same_level
+          ∙ get_or-set_same masks level mask 0 (omega arith) in
           elim (cases_eq y output) [
             | inl same_output ↦ rw (set_is, same_level, same_output) (λ h. (omega (arith, stay.ports), here.0 h), λ s. here.1 s.1)
             | inr other_output ↦
                 let queue_is = ap length (stay.queues y l l_in (λ e. other_output e.0)) in
                 let was : Has (slice_index masks level) y ↔ ((y < all.ports) × Waits all y l) = rw (← same_level) (old l y l_in) in
-                rw set_is
-                (λ h. let w = was.0 ((others y other_output).0 h) in (omega (arith, w.0, stay.ports), omega (arith, w.1, queue_is)), λ s. (others y other_output).1 (was.1 (omega (arith, s.0, stay.ports), omega (arith, s.1, queue_is))))
+                rw set_is (
+                  λ h. let w = was.0 ((others y other_output).0 h) in (omega (arith, w.0, stay.ports), omega (arith, w.1, queue_is)),
+                  λ s. (others y other_output).1 (was.1 (omega (arith, s.0, stay.ports), omega (arith, s.1, queue_is))),
+                )
           ]
       | inr other_level ↦
           let set_is : slice_index (slice_set masks level mask) l ≡ slice_index masks l = get_or-set_other masks level l mask 0 other_level in
           let queue_is = ap length (stay.queues y l l_in (λ e. other_level e.1)) in
           let was = old l y l_in in
-          rw set_is
-          (λ h. let w = was.0 h in (omega (arith, w.0, stay.ports), omega (arith, w.1, queue_is)), λ s. was.1 (omega (arith, s.0, stay.ports), omega (arith, s.1, queue_is)))
+          rw set_is (
+            λ h. let w = was.0 h in (omega (arith, w.0, stay.ports), omega (arith, w.1, queue_is)),
+            λ s. was.1 (omega (arith, s.0, stay.ports), omega (arith, s.1, queue_is)),
+          )
     ]
 
 -- ---- a queue changes
-module _ (ports depth : ℕ) (kept : List Kept) (output level : ℕ) (new : Kept) (long : length kept ≡ 4 * ports) (output_in : output < ports) (level_in : level < 4) where
+module _ (ports depth : ℕ) (kept : List Kept) (output level : ℕ) (new : Kept) (long : length kept ≡ 4 * ports) (output_in : output < ports)
+    (level_in : level < 4) where
   same_place : ring_at (slice_set kept (place_of output level) new) (place_of output level) ≡ new
   same_place = get_or-set_same kept (place_of output level) new (empty_queue 0 0) (place-lt ports output level (length kept) long output_in level_in)
 
@@ -85,24 +97,32 @@ module _ (ports depth : ℕ) (kept : List Kept) (output level : ℕ) (new : Kept
   others-set = record {
     ports = refl;
     depth = refl;
-    queues = λ j l l_in differ. queue-of_ring ports depth (slice_set kept (place_of output level) new) j l ∙ ap names_of (other_place (place_of j l) (places_differ j l output level l_in level_in differ)) ∙ sym (queue-of_ring ports depth kept j l);
-    spare = λ j l l_in differ. spare-of_ring ports depth (slice_set kept (place_of output level) new) j l ∙ ap (λ k. k.spare) (other_place (place_of j l) (places_differ j l output level l_in level_in differ)) ∙ sym (spare-of_ring ports depth kept j l);
+    queues = λ j l l_in differ. queue-of_ring ports depth (slice_set kept (place_of output level) new) j l
+        ∙ ap names_of (other_place (place_of j l) (places_differ j l output level l_in level_in differ)) ∙ sym (queue-of_ring ports depth kept j l);
+    spare = λ j l l_in differ. spare-of_ring ports depth (slice_set kept (place_of output level) new) j l
+        ∙ ap (λ k. k.spare) (other_place (place_of j l) (places_differ j l output level l_in level_in differ)) ∙ sym (spare-of_ring ports depth kept j l);
   }
 
-  deep-set : HasDepth depth new → ((place : ℕ) → place < length kept → HasDepth depth (ring_at kept place)) → (place : ℕ) → place < length (slice_set kept (place_of output level) new) → HasDepth depth (ring_at (slice_set kept (place_of output level) new) place)
+  deep-set : HasDepth depth new → ((place : ℕ) → place < length kept → HasDepth depth (ring_at kept place)) → (place : ℕ)
+      → place < length (slice_set kept (place_of output level) new) → HasDepth depth (ring_at (slice_set kept (place_of output level) new) place)
   deep-set deep old place inside =
       elim (cases_eq place (place_of output level)) [
         | inl same ↦ rw (same, same_place) deep
         | inr other ↦ rw (other_place place other) (old place (omega (arith, inside, length-set kept (place_of output level) new)))
       ]
 
-  pub AreKept-set : (masks : List ℕ) (mask : ℕ) → length masks ≡ 4 → AreKept ports depth kept masks → HasDepth depth new → ((y : ℕ) → y ≢ output → Has mask y ↔ Has (slice_index masks level) y) → Has mask output ↔ (0 < length new.cells) → AreKept ports depth (slice_set kept (place_of output level) new) (slice_set masks level mask)
+  pub AreKept-set : (masks : List ℕ) (mask : ℕ) → length masks ≡ 4 → AreKept ports depth kept masks → HasDepth depth new
+      → ((y : ℕ) → y ≢ output → Has mask y ↔ Has (slice_index masks level) y) → Has mask output ↔ (0 < length new.cells)
+      → AreKept ports depth (slice_set kept (place_of output level) new) (slice_set masks level mask)
   AreKept-set masks mask four old deep others here =
-      let count : length (queue_at (queues_in ports depth (slice_set kept (place_of output level) new)) output level) ≡ length new.cells = ap length queue-set ∙ length-map new.cells (λ cell. cell.name) in record {
+      let count : length (queue_at (queues_in ports depth (slice_set kept (place_of output level) new)) output level) ≡ length new.cells = ap length queue-set
+      ∙ length-map new.cells (λ cell. cell.name) in record {
         size = old.size;
         long = length-set kept (place_of output level) new ∙ long;
         deep = deep-set deep old.deep;
-        waiting = AreMasks-set output level (queues_in ports depth kept) (queues_in ports depth (slice_set kept (place_of output level) new)) masks mask output_in level_in four others-set old.waiting others (λ h. omega (arith, count, here.0 h), λ s. here.1 (omega (arith, count, s)));
+        waiting = AreMasks-set output level (queues_in ports depth kept)
+            (queues_in ports depth (slice_set kept (place_of output level) new)) masks mask output_in level_in four others-set old.waiting others
+            (λ h. omega (arith, count, here.0 h), λ s. here.1 (omega (arith, count, s)));
       }
 
 -- ---- the depth of a queue
@@ -115,19 +135,26 @@ count-admitted packet cells old new is =
     let names : length (names_of_packet packet cells) ≡ cells = length-map-range_with_len _ 0 cells in
     omega (arith, ap (λ k. length k.cells) is, long, count, names)
 
-pub HasDepth-admitted : (depth packet cells : ℕ) (old new : Kept) → HasDepth depth old → length old.cells + cells ≤ depth → new ≡ queue_with old packet cells tt → HasDepth depth new
+pub HasDepth-admitted : (depth packet cells : ℕ) (old new : Kept) → HasDepth depth old → length old.cells + cells ≤ depth
+    → new ≡ queue_with old packet cells tt → HasDepth depth new
 HasDepth-admitted depth packet cells old new deep fits is =
     record { deep = ap (λ k. k.depth) is ∙ deep.deep; within = omega (arith, count-admitted packet cells old new is) }
 
 -- that loses its first cell
-pub HasDepth-popped : (depth : ℕ) (cell : QueuedCell (Unit {0})) (old new : Kept) → HasDepth depth old → new.depth ≡ old.depth → old.cells ≡ cell ∷ new.cells → HasDepth depth new
+pub HasDepth-popped : (depth : ℕ) (cell : QueuedCell (Unit {0})) (old new : Kept) → HasDepth depth old → new.depth ≡ old.depth → old.cells ≡ cell ∷ new.cells
+    → HasDepth depth new
 HasDepth-popped depth cell old new deep depth_is cells =
     record { deep = depth_is ∙ deep.deep; within = omega (arith, ap length cells, deep.within) }
 
 -- no queue has more cells than the depth
-pub depth-within : (ports depth : ℕ) (kept : List Kept) (masks : List ℕ) → AreKept ports depth kept masks → (output level : ℕ) → output < ports → level < 4 → length (queue_at (queues_in ports depth kept) output level) ≤ depth
+pub depth-within : (ports depth : ℕ) (kept : List Kept) (masks : List ℕ) → AreKept ports depth kept masks → (output level : ℕ) → output < ports → level < 4
+    → length (queue_at (queues_in ports depth kept) output level) ≤ depth
 depth-within ports depth kept masks all output level output_in level_in =
-    omega (arith, count-of_ring ports depth kept output level, (all.deep (place_of output level) (place-lt ports output level (length kept) all.long output_in level_in)).within)
+    omega (
+      arith,
+      count-of_ring ports depth kept output level,
+      (all.deep (place_of output level) (place-lt ports output level (length kept) all.long output_in level_in)).within,
+    )
 
 -- ---- before any packet entered
 pub queues-empty : (ports depth : ℕ) (room : List ℕ) → queues_in ports depth (map (empty_queue depth) room) ≡ empty_queues ports depth room
@@ -150,10 +177,12 @@ no_mask (suc (suc zero)) = refl
 no_mask (suc (suc (suc zero))) = refl
 no_mask (suc (suc (suc (suc level)))) = refl
 
-ring_at-empty : (depth : ℕ) (room : List ℕ) (place : ℕ) → place < length room → ring_at (map (empty_queue depth) room) place ≡ empty_queue depth (slice_index room place)
+ring_at-empty : (depth : ℕ) (room : List ℕ) (place : ℕ) → place < length room
+    → ring_at (map (empty_queue depth) room) place ≡ empty_queue depth (slice_index room place)
 ring_at-empty depth room place inside = get_or-map-at (empty_queue depth) room place 0 (empty_queue 0 0) inside
 
-pub AreKept-empty : (ports depth : ℕ) (room : List ℕ) → ports ≤ 64 → length room ≡ 4 * ports → AreKept ports depth (map (empty_queue depth) room) (0 ∷ 0 ∷ 0 ∷ 0 ∷ [])
+pub AreKept-empty : (ports depth : ℕ) (room : List ℕ) → ports ≤ 64 → length room ≡ 4 * ports
+    → AreKept ports depth (map (empty_queue depth) room) (0 ∷ 0 ∷ 0 ∷ 0 ∷ [])
 AreKept-empty ports depth room size long =
     let rings : List Kept = map (empty_queue depth) room in
     let count : length rings ≡ length room = length-map room (empty_queue depth) in record {

@@ -1,5 +1,6 @@
 -- A slot with something to do matches a pair, and from the last arrival on each slot that is not done has.
-use Rattle.std.proofs.Common.{◌≡◌, ◌∙◌, ℕ, zero, suc, ◌+◌, ◌<◌, ◌≤◌, ◌⊎◌, not, nat_lt, max, true, false, List, [], ◌∷◌, map, length, Option, None, Some, refl, sym, ap, subst, arith, inl, inr}
+use Rattle.std.proofs.Common.{◌≡◌, ◌∙◌, ℕ, zero, suc, ◌+◌, ◌<◌, ◌≤◌, ◌⊎◌, not, nat_lt, max, true, false, List, [], ◌∷◌, map, length, Option, None, Some}
+use Rattle.std.proofs.Common.{refl, sym, ap, subst, arith, inl, inr}
 use Rattle.std.specs.Prelude.{slice_get, slice_index_or, fold}
 use Rattle.std.specs.List.{list_all, list_any, range_with_len}
 use Rattle.std.proofs.lemmas.Bool.{both_ways, and_cases, or_cases, not-true, not-false, le-ltb, or_from}
@@ -39,7 +40,8 @@ fed_or_none (None ∷ rest) =
     ]
 
 -- ---- a port that has more to come
-more_there : (posts : ℕ → CardPost) (a n : ℕ) → list_all (λ post. not post.more) (map posts (range_with_len a n)) ≡ false → (i : ℕ) × (i < a + n) × ((posts i).more ≡ true)
+more_there : (posts : ℕ → CardPost) (a n : ℕ) → list_all (λ post. not post.more) (map posts (range_with_len a n)) ≡ false → (i : ℕ) × (i < a + n)
+    × ((posts i).more ≡ true)
 more_there posts a zero is = absurd (both_ways true is refl)
 more_there posts a (suc n) is =
     elim (and_cases (not (posts a).more) (list_all (λ post. not post.more) (map posts (range_with_len (a + 1) n))) is) [
@@ -57,19 +59,23 @@ arrives_early (r ∷ s ∷ ps) rising zero p at =
     let later = arrives_early (s ∷ ps) (λ j l x y first second less. rising (suc j) (suc l) x y first second (omega arith)) zero s refl in
     let up = rising 0 1 p s at refl (omega arith) in
     omega arith
-arrives_early (r ∷ s ∷ ps) rising (suc k) p at = arrives_early (s ∷ ps) (λ j l x y first second less. rising (suc j) (suc l) x y first second (omega arith)) k p at
+arrives_early (r ∷ s ∷ ps) rising (suc k) p at =
+    arrives_early (s ∷ ps) (λ j l x y first second less. rising (suc j) (suc l) x y first second (omega arith)) k p at
 
 -- after them none arrives
-none_later : (t : ℕ) (ps : List Planned) → ((k : ℕ) (p : Planned) → slice_get ps k ≡ Some p → p.arrival ≤ t) → list_any (λ packet. nat_lt t packet.arrival) ps ≡ false
+none_later : (t : ℕ) (ps : List Planned) → ((k : ℕ) (p : Planned) → slice_get ps k ≡ Some p → p.arrival ≤ t)
+    → list_any (λ packet. nat_lt t packet.arrival) ps ≡ false
 none_later t [] early = refl
-none_later t (p ∷ ps) early = or_from (nat_lt t p.arrival) (list_any (λ packet. nat_lt t packet.arrival) ps) (le-ltb t p.arrival (early 0 p refl)) (none_later t ps (λ k r at. early (suc k) r at))
+none_later t (p ∷ ps) early = or_from (nat_lt t p.arrival) (list_any (λ packet. nat_lt t packet.arrival) ps) (le-ltb t p.arrival (early 0 p refl))
+    (none_later t ps (λ k r at. early (suc k) r at))
 
 -- a greatest number is at least each of its numbers
 greatest-from : (most : ℕ) (ports : List (List Planned)) → most ≤ fold (λ m packets. max m (slots_of packets)) most ports
 greatest-from most [] = omega arith
 greatest-from most (packets ∷ ports) = let rest = greatest-from (max most (slots_of packets)) ports in omega arith
 
-greatest-of : (most : ℕ) (ports : List (List Planned)) (i : ℕ) → i < length ports → slots_of (slice_index_or ports i []) ≤ fold (λ m packets. max m (slots_of packets)) most ports
+greatest-of : (most : ℕ) (ports : List (List Planned)) (i : ℕ) → i < length ports
+    → slots_of (slice_index_or ports i []) ≤ fold (λ m packets. max m (slots_of packets)) most ports
 greatest-of most [] i below = absurd (omega arith)
 greatest-of most (packets ∷ ports) zero below = let rest = greatest-from (max most (slots_of packets)) ports in omega arith
 greatest-of most (packets ∷ ports) (suc i) below = greatest-of (max most (slots_of packets)) ports i (omega arith)
@@ -77,18 +83,22 @@ greatest-of most (packets ∷ ports) (suc i) below = greatest-of (max most (slot
 module _ (scheduler : Scheduler) (scheduling : IsScheduler scheduler) (plan : SwitchPlan) (good : IsGood plan) where
   -- where none were matched no row would name an output
   pub busy_matches : (i t : ℕ) → i < ports_of plan → is_empty (posts_under scheduler plan i t).row ≡ false
-      → (input output level : ℕ) × (kind : Kind) × Serves (decision_under scheduler (setup_for plan) (posts_under scheduler plan) t).matched input output level kind
+      → (input output level : ℕ) × (kind : Kind)
+      × Serves (decision_under scheduler (setup_for plan) (posts_under scheduler plan) t).matched input output level kind
   busy_matches i t inside busy =
       let n = ports_of plan in
       let posts = posts_under scheduler plan in
       let s = setup_for plan in
       let decision = decision_under scheduler s posts t in
-      let places = places_under-at_ports scheduler scheduling s posts t good.size.some good.size.most (λ u below. within scheduler scheduling plan good u) t (omega arith) in
+      let places = places_under-at_ports scheduler scheduling s posts t good.size.some good.size.most (λ u below. within scheduler scheduling plan good u) t
+      (omega arith) in
       elim (fed_or_none decision.matched) [
         | inl found ↦ let fed = found.1 in (fed.input, found.0, fed.level, fed.kind, found.2)
         | inr none ↦
             absurd (both_ways (is_empty (posts i t).row) busy ((Decides-is_empty (posts i t).row).1 (λ level j kind named.
-            let pair = some_pair_by n t (slot_rows n posts t) (places_under scheduler s posts t) (within scheduler scheduling plan good t) places.0 places.1 StayAtPorts plan.rounds decision good.rounds.some (is-slot scheduler scheduling plan good t) i j level kind inside
+            let pair = some_pair_by n t (slot_rows n posts t) (places_under scheduler s posts t)
+            (within scheduler scheduling plan good t) places.0 places.1 StayAtPorts plan.rounds decision good.rounds.some
+            (is-slot scheduler scheduling plan good t) i j level kind inside
             (subst (λ row. Names row level kind j) (sym (row_of-slot_rows n posts t i inside)) named) in
             none-some _ (sym (none pair.1) ∙ pair.4))))
       ]
@@ -104,7 +114,8 @@ module _ (scheduler : Scheduler) (scheduling : IsScheduler scheduler) (plan : Sw
 
   -- from then on a slot that is not done matches a pair
   pub going_matches : (t : ℕ) → greatest_slots (packets_in plan) ≤ t → is_done_at (ports_of plan) (posts_under scheduler plan) t ≡ false
-      → (input output level : ℕ) × (kind : Kind) × Serves (decision_under scheduler (setup_for plan) (posts_under scheduler plan) t).matched input output level kind
+      → (input output level : ℕ) × (kind : Kind)
+      × Serves (decision_under scheduler (setup_for plan) (posts_under scheduler plan) t).matched input output level kind
   going_matches t late going =
       let more = more_there (λ i. posts_under scheduler plan i t) 0 (ports_of plan) going in
       let i = more.0 in

@@ -1,5 +1,6 @@
 -- What a card was granted, over all queues and outputs, is no more than its admitted packets bring to their outputs.
-use Rattle.std.proofs.Common.{◌≡◌, ◌∙◌, ℕ, ◌+◌, ◌*◌, ◌<◌, ◌≤◌, ◌==◌, ◌&&◌, nat_lt, Bool, true, false, List, [], ◌∷◌, length, Option, None, slice_index_or, refl, sym, ap, arith, inl, inr, if◌then◌else◌, length-append}
+use Rattle.std.proofs.Common.{◌≡◌, ◌∙◌, ℕ, ◌+◌, ◌*◌, ◌<◌, ◌≤◌, ◌==◌, ◌&&◌, nat_lt, Bool, true, false, List, [], ◌∷◌, length, Option, None}
+use Rattle.std.proofs.Common.{slice_index_or, refl, sym, ap, arith, inl, inr, if◌then◌else◌, length-append}
 use Rattle.std.specs.Prelude.{count_ones, sum_by}
 use Rattle.std.specs.List.{range_with_len}
 use Rattle.std.specs.Int.{bit_at}
@@ -43,10 +44,12 @@ module _ (plan : Plan) (served : List (Option Served)) (t : ℕ) where
 
 -- ---- of all queues
 -- a packet enters one queue
-queues_one : (r : Queue) (j x : ℕ) → sum_by (λ l. (if is_queue (OfOutput j l) r then x else 0) + (if is_queue (OfLevel l) r then x else 0)) (range_with_len 0 LEVELS) ≤ x
+queues_one : (r : Queue) (j x : ℕ)
+    → sum_by (λ l. (if is_queue (OfOutput j l) r then x else 0) + (if is_queue (OfLevel l) r then x else 0)) (range_with_len 0 LEVELS) ≤ x
 queues_one (OfOutput k m) j x =
     let one = range_sum-one 0 LEVELS m x in
-    let few = range_sum-le 0 LEVELS (λ l. (if (j == k) && (l == m) then x else 0) + 0) (λ l. if l == m then x else 0) (λ l from below. fewer (j == k) (l == m)) in
+    let few = range_sum-le 0 LEVELS (λ l. (if (j == k) && (l == m) then x else 0) + 0) (λ l. if l == m then x else 0)
+    (λ l from below. fewer (j == k) (l == m)) in
     omega arith where
       fewer : (a b : Bool) → (if a && b then x else 0) + 0 ≤ (if b then x else 0)
       fewer true b = omega arith
@@ -78,9 +81,11 @@ outputs_all true n fan x =
         | inl is ↦ rw (eq-eqb b 1 is, is) (omega arith)
         | inr other ↦ let none : b ≡ 0 = omega arith in rw (ne_eqb b 1 other, none) (omega arith)
       ]
-outputs_all false n fan x = let none : sum_by (λ j. if false && has fan j then x else 0) (range_with_len 0 n) ≡ 0 = sum_by-zero (range_with_len 0 n) in omega arith
+outputs_all false n fan x = let none : sum_by (λ j. if false && has fan j then x else 0) (range_with_len 0 n) ≡ 0 = sum_by-zero (range_with_len 0 n) in
+    omega arith
 
-module _ (plan : Plan) (good : IsGoodPlan plan) (served : List (Option Served)) (t n : ℕ) (may : (u : ℕ) → u < t → IsServable (row_at plan served u) (slice_index_or served u None)) where
+module _ (plan : Plan) (good : IsGoodPlan plan) (served : List (Option Served)) (t n : ℕ)
+    (may : (u : ℕ) → u < t → IsServable (row_at plan served u) (slice_index_or served u None)) where
   -- whether a packet arrives before slot t and is admitted
   abbrev pub is_early : Planned → Bool
   is_early packet = nat_lt packet.arrival t && is_routed packet && is_admitted plan served packet.arrival packet
@@ -89,18 +94,24 @@ module _ (plan : Plan) (good : IsGoodPlan plan) (served : List (Option Served)) 
   abbrev shares : ℕ → ℕ → Planned → ℕ
   shares j l packet = share plan served t (OfOutput j l) j packet + share plan served t (OfLevel l) j packet
 
-  level_shares : (packet : Planned) (j : ℕ) → sum_by (λ l. shares j l packet) (range_with_len 0 LEVELS) ≤ (if is_early packet && has packet.fan j then size_of packet else 0)
+  level_shares : (packet : Planned) (j : ℕ)
+      → sum_by (λ l. shares j l packet) (range_with_len 0 LEVELS) ≤ (if is_early packet && has packet.fan j then size_of packet else 0)
   level_shares p j =
       let x = if is_early p && has p.fan j then size_of p else 0 in
-      let by = λ (q : Queue). split_test (nat_lt p.arrival t) (is_routed p) (is_queue q (queue_of p)) (is_admitted plan served p.arrival p) (has p.fan j) (size_of p) in
+      let by = λ (q : Queue). split_test (nat_lt p.arrival t) (is_routed p) (is_queue q (queue_of p)) (is_admitted plan served p.arrival p) (has p.fan j)
+      (size_of p) in
       let one = queues_one (queue_of p) j x in
-      let same = sum_by-same (λ l. shares j l p) (λ l. (if is_queue (OfOutput j l) (queue_of p) then x else 0) + (if is_queue (OfLevel l) (queue_of p) then x else 0)) (range_with_len 0 LEVELS)
-      (λ l. ap (λ a. a + share plan served t (OfLevel l) j p) (by (OfOutput j l)) ∙ ap (λ b. (if is_queue (OfOutput j l) (queue_of p) then x else 0) + b) (by (OfLevel l))) in
+      let same = sum_by-same (λ l. shares j l p)
+      (λ l. (if is_queue (OfOutput j l) (queue_of p) then x else 0) + (if is_queue (OfLevel l) (queue_of p) then x else 0)) (range_with_len 0 LEVELS)
+      (λ l. ap (λ a. a + share plan served t (OfLevel l) j p) (by (OfOutput j l))
+      ∙ ap (λ b. (if is_queue (OfOutput j l) (queue_of p) then x else 0) + b) (by (OfLevel l))) in
       omega arith
 
-  packet_shares : (packet : Planned) → sum_by (λ j. sum_by (λ l. shares j l packet) (range_with_len 0 LEVELS)) (range_with_len 0 n) ≤ (if is_early packet then work_of packet else 0)
+  packet_shares : (packet : Planned)
+      → sum_by (λ j. sum_by (λ l. shares j l packet) (range_with_len 0 LEVELS)) (range_with_len 0 n) ≤ (if is_early packet then work_of packet else 0)
   packet_shares p =
-      let each = range_sum-le 0 n (λ j. sum_by (λ l. shares j l p) (range_with_len 0 LEVELS)) (λ j. if is_early p && has p.fan j then size_of p else 0) (λ j from below. level_shares p j) in
+      let each = range_sum-le 0 n (λ j. sum_by (λ l. shares j l p) (range_with_len 0 LEVELS)) (λ j. if is_early p && has p.fan j then size_of p else 0)
+      (λ j from below. level_shares p j) in
       let all = outputs_all (is_early p) n p.fan (size_of p) in
       omega arith
 
@@ -121,11 +132,14 @@ module _ (plan : Plan) (good : IsGoodPlan plan) (served : List (Option Served)) 
       let levels = range_with_len 0 LEVELS in
       let outputs = range_with_len 0 n in
       let both = λ (j l : ℕ). sum_by-plus (share plan served t (OfOutput j l) j) (share plan served t (OfLevel l) j) plan.packets in
-      let few = range_sum-le 0 n (λ j. sum_by (λ l. grants (OfOutput j l) j + grants (OfLevel l) j) levels) (λ j. sum_by (λ l. sum_by (shares j l) plan.packets) levels)
+      let few = range_sum-le 0 n (λ j. sum_by (λ l. grants (OfOutput j l) j + grants (OfLevel l) j) levels)
+      (λ j. sum_by (λ l. sum_by (shares j l) plan.packets) levels)
       (λ j from below. range_sum-le 0 LEVELS (λ l. grants (OfOutput j l) j + grants (OfLevel l) j) (λ l. sum_by (shares j l) plan.packets)
       (λ l from' below'. let uni = grants_few (OfOutput j l) j in let multi = grants_few (OfLevel l) j in let sums = both j l in omega arith)) in
-      let turned = sum_by-same (λ j. sum_by (λ l. sum_by (shares j l) plan.packets) levels) (λ j. sum_by (λ p. sum_by (λ l. shares j l p) levels) plan.packets) outputs
+      let turned = sum_by-same (λ j. sum_by (λ l. sum_by (shares j l) plan.packets) levels)
+      (λ j. sum_by (λ p. sum_by (λ l. shares j l p) levels) plan.packets) outputs
       (λ j. sum_by-turn (shares j) levels plan.packets)
       ∙ sum_by-turn (λ j p. sum_by (λ l. shares j l p) levels) outputs plan.packets in
-      let most = sum_by-le-sum_by (λ p. sum_by (λ j. sum_by (λ l. shares j l p) levels) outputs) (λ p. if is_early p then work_of p else 0) plan.packets packet_shares in
+      let most = sum_by-le-sum_by (λ p. sum_by (λ j. sum_by (λ l. shares j l p) levels) outputs)
+      (λ p. if is_early p then work_of p else 0) plan.packets packet_shares in
       omega arith

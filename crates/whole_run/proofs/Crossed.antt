@@ -21,40 +21,51 @@ use Rattle.whole_run.specs.Runs.{ports_of, setup_for, posts_under}
 use Rattle.whole_run.proofs.Base.{accepted, sound}
 
 -- a granted cell, against the part for which it was granted
-granted : (card : ℕ) (part : Served) (cell : Option Cell) (fed : Fed) → IsGrantedCell card (Some part) cell → card ≡ fed.input → fed.level ≡ part.level → fed.kind ≡ part.kind → (found : Cell) × (cell ≡ Some found) × IsCellOf fed found
+granted : (card : ℕ) (part : Served) (cell : Option Cell) (fed : Fed) → IsGrantedCell card (Some part) cell → card ≡ fed.input → fed.level ≡ part.level
+    → fed.kind ≡ part.kind → (found : Cell) × (cell ≡ Some found) × IsCellOf fed found
 granted card part None fed grant own level kind = absurd grant
-granted card part (Some found) fed grant own level kind = (found, refl, record { form = grant.0; input = grant.1 ∙ own; level = grant.2 ∙ sym level; kind = grant.3 ∙ sym kind })
+granted card part (Some found) fed grant own level kind =
+    (found, refl, record { form = grant.0; input = grant.1 ∙ own; level = grant.2 ∙ sym level; kind = grant.3 ∙ sym kind })
 
 module _ (scheduler : Scheduler) (plan : SwitchPlan) where
   -- the cell that an input posts
-  pub posted_cell : (t i : ℕ) → i < ports_of plan → deposit_of (map (λ post. post.cell) (slot_posts (ports_of plan) (posts_under scheduler plan) t)) i ≡ (posts_under scheduler plan i t).cell
+  pub posted_cell : (t i : ℕ) → i < ports_of plan
+      → deposit_of (map (λ post. post.cell) (slot_posts (ports_of plan) (posts_under scheduler plan) t)) i ≡ (posts_under scheduler plan i t).cell
   posted_cell t i inside =
       let cell : CardPost → Option Cell = λ post. post.cell in
-      get_or-map cell (slot_posts (ports_of plan) (posts_under scheduler plan) t) i no_post None (omega (arith, length-slot_posts (ports_of plan) (posts_under scheduler plan) t))
+      get_or-map cell (slot_posts (ports_of plan) (posts_under scheduler plan) t) i no_post None
+      (omega (arith, length-slot_posts (ports_of plan) (posts_under scheduler plan) t))
       ∙ ap cell (get_or-map-range_with_len (λ j. posts_under scheduler plan j t) 0 (ports_of plan) i i no_post inside (omega arith))
 
   -- what crosses to an output that nothing fed, and to one that an input fed
-  pub crossed-free : (j t : ℕ) → fed_of (decision_under scheduler (setup_for plan) (posts_under scheduler plan) t).matched j ≡ None → crossed_under scheduler (setup_for plan) (posts_under scheduler plan) j (suc t) ≡ None
+  pub crossed-free : (j t : ℕ) → fed_of (decision_under scheduler (setup_for plan) (posts_under scheduler plan) t).matched j ≡ None
+      → crossed_under scheduler (setup_for plan) (posts_under scheduler plan) j (suc t) ≡ None
   crossed-free j t free = ap (deposit_by (map (λ post. post.cell) (slot_posts (ports_of plan) (posts_under scheduler plan) (suc t)))) free
 
-  pub crossed-from : (j t : ℕ) (fed : Fed) → fed.input < ports_of plan → fed_of (decision_under scheduler (setup_for plan) (posts_under scheduler plan) t).matched j ≡ Some fed → crossed_under scheduler (setup_for plan) (posts_under scheduler plan) j (suc t) ≡ (posts_under scheduler plan fed.input (suc t)).cell
+  pub crossed-from : (j t : ℕ) (fed : Fed) → fed.input < ports_of plan
+      → fed_of (decision_under scheduler (setup_for plan) (posts_under scheduler plan) t).matched j ≡ Some fed
+      → crossed_under scheduler (setup_for plan) (posts_under scheduler plan) j (suc t) ≡ (posts_under scheduler plan fed.input (suc t)).cell
   crossed-from j t fed inside feeds =
       ap (deposit_by (map (λ post. post.cell) (slot_posts (ports_of plan) (posts_under scheduler plan) (suc t)))) feeds ∙ posted_cell (suc t) fed.input inside
 
 module _ (scheduler : Scheduler) (scheduling : IsScheduler scheduler) (plan : SwitchPlan) (good : IsGood plan) where
   -- an output that is fed gets a cell in the next slot, of what feeds it
-  pub fed-cell : (j t : ℕ) (fed : Fed) → fed_of (decision_under scheduler (setup_for plan) (posts_under scheduler plan) t).matched j ≡ Some fed → (cell : Cell) × (crossed_under scheduler (setup_for plan) (posts_under scheduler plan) j (suc t) ≡ Some cell) × IsCellOf fed cell
+  pub fed-cell : (j t : ℕ) (fed : Fed) → fed_of (decision_under scheduler (setup_for plan) (posts_under scheduler plan) t).matched j ≡ Some fed
+      → (cell : Cell) × (crossed_under scheduler (setup_for plan) (posts_under scheduler plan) j (suc t) ≡ Some cell) × IsCellOf fed cell
   fed-cell j t fed feeds =
       let matches = (sound scheduler scheduling plan good t).matches in
       let inside : fed.input < ports_of plan = matches.input_in fed.input j fed.level fed.kind feeds in
-      let part = served_of-served (ports_of plan) (decision_under scheduler (setup_for plan) (posts_under scheduler plan) t).matched matches fed.input j fed.level fed.kind feeds in
+      let part = served_of-served (ports_of plan)
+      (decision_under scheduler (setup_for plan) (posts_under scheduler plan) t).matched matches fed.input j fed.level fed.kind feeds in
       let only = part.2.only j fed.level fed.kind feeds in
       let post = (posts_under scheduler plan fed.input (suc t)).cell in
-      let grant : IsGrantedCell fed.input (Some part.0) post = subst (λ served. IsGrantedCell fed.input served post) part.1 (accepted scheduler scheduling plan good fed.input (suc t) inside).cell in
+      let grant : IsGrantedCell fed.input (Some part.0) post =
+      subst (λ served. IsGrantedCell fed.input served post) part.1 (accepted scheduler scheduling plan good fed.input (suc t) inside).cell in
       let cell = granted fed.input part.0 post fed grant refl only.0 only.1 in
       (cell.0, crossed-from scheduler plan j t fed inside feeds ∙ cell.1, cell.2)
 
-  by_feed : (j t : ℕ) (cell : Cell) (feed : Option Fed) → fed_of (decision_under scheduler (setup_for plan) (posts_under scheduler plan) t).matched j ≡ feed → crossed_under scheduler (setup_for plan) (posts_under scheduler plan) j (suc t) ≡ Some cell
+  by_feed : (j t : ℕ) (cell : Cell) (feed : Option Fed) → fed_of (decision_under scheduler (setup_for plan) (posts_under scheduler plan) t).matched j ≡ feed
+      → crossed_under scheduler (setup_for plan) (posts_under scheduler plan) j (suc t) ≡ Some cell
       → (fed : Fed) × (fed_of (decision_under scheduler (setup_for plan) (posts_under scheduler plan) t).matched j ≡ Some fed) × IsCellOf fed cell
   by_feed j t cell None feeds is = absurd (none-some cell (sym (crossed-free scheduler plan j t feeds) ∙ is))
   by_feed j t cell (Some fed) feeds is =

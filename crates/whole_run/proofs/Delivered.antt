@@ -1,5 +1,6 @@
 -- What an output delivers has room there.
-use Rattle.std.proofs.Common.{◌≡◌, ◌≢◌, ◌∙◌, ℕ, ◌+◌, ◌<◌, ◌≤◌, ◌==◌, ◌&&◌, nat_lt, Bool, true, false, List, [], ◌∷◌, All, map, filter, take, length, sum_by, Option, Some, slice_get, slice_index_or, refl, sym, ap, arith, if◌then◌else◌}
+use Rattle.std.proofs.Common.{◌≡◌, ◌≢◌, ◌∙◌, ℕ, ◌+◌, ◌<◌, ◌≤◌, ◌==◌, ◌&&◌, nat_lt, Bool, true, false, List, [], ◌∷◌, All, map, filter, take, length}
+use Rattle.std.proofs.Common.{sum_by, Option, Some, slice_get, slice_index_or, refl, sym, ap, arith, if◌then◌else◌}
 use Rattle.std.specs.List.{range_with_len}
 use Rattle.std.proofs.lemmas.Bool.{ne_eqb}
 use Rattle.std.proofs.lemmas.List.{length-map}
@@ -33,10 +34,12 @@ use Rattle.whole_run.proofs.FlowCells.{flow-messages}
 use Rattle.whole_run.proofs.FlowSums.{sum_same, sum_most, sum_range-le, level_sum, level_add, delivered-sum}
 
 -- ---- sums over what a test lets through, and over what a function makes
-filter_sum : {X : Type 0} (v : X → ℕ) (f g : X → Bool) → ((x : X) → f x ≡ true → g x ≡ true) → (xs : List X) → sum_by v (filter f xs) ≤ sum_by (λ x. if g x then v x else 0) xs
+filter_sum : {X : Type 0} (v : X → ℕ) (f g : X → Bool) → ((x : X) → f x ≡ true → g x ≡ true) → (xs : List X)
+    → sum_by v (filter f xs) ≤ sum_by (λ x. if g x then v x else 0) xs
 filter_sum v f g weaker [] = omega arith
 filter_sum {X} v f g weaker (x ∷ xs) = by_test (f x) refl (filter_sum v f g weaker xs) where
-  by_test : (b : Bool) → f x ≡ b → sum_by v (filter f xs) ≤ sum_by (λ x. if g x then v x else 0) xs → sum_by v (if b then x ∷ filter f xs else filter f xs) ≤ sum_by (λ x. if g x then v x else 0) (x ∷ xs)
+  by_test : (b : Bool) → f x ≡ b → sum_by v (filter f xs) ≤ sum_by (λ x. if g x then v x else 0) xs
+      → sum_by v (if b then x ∷ filter f xs else filter f xs) ≤ sum_by (λ x. if g x then v x else 0) (x ∷ xs)
   by_test true is rest =
       let kept : (if g x then v x else 0) ≡ v x = rw (weaker x is) in
       omega (arith, sum_by-cons v x (filter f xs), sum_by-cons (λ x. if g x then v x else 0) x xs, kept, rest)
@@ -62,7 +65,8 @@ module _ (j : ℕ) (h : Bool) (x : ℕ) where
 
   one_queue : (r : Queue) → level_sum (part_in r) ≤ (if h then x else 0)
   one_queue (OfOutput a b) =
-      let other : (l : ℕ) → l ≢ b → part_in (OfOutput a b) l Uni + part_in (OfOutput a b) l Multi ≡ 0 = λ l differ. unis (j == a) (l == b) (ne_eqb l b differ) in
+      let other : (l : ℕ) → l ≢ b → part_in (OfOutput a b) l Uni + part_in (OfOutput a b) l Multi ≡ 0 =
+      λ l differ. unis (j == a) (l == b) (ne_eqb l b differ) in
       let most = sum_most (λ l. part_in (OfOutput a b) l Uni + part_in (OfOutput a b) l Multi) b other 0 LEVELS in
       let own = if_more ((j == a) && (b == b)) h x in
       omega (arith, most, own) where
@@ -106,7 +110,8 @@ module _ (j : ℕ) (v : Planned → ℕ) where
       let parts : ℕ → Kind → ℕ = λ l k. queue_part (queue_to j l k) p in
       let more : ℕ → Kind → ℕ = λ l k. sum_by (queue_part (queue_to j l k)) ps in
       let split : level_sum (λ l k. sum_by (queue_part (queue_to j l k)) (p ∷ ps)) ≡ level_sum (λ l k. parts l k + more l k) =
-      sum_same (λ l. sum_by (queue_part (queue_to j l Uni)) (p ∷ ps) + sum_by (queue_part (queue_to j l Multi)) (p ∷ ps)) (λ l. parts l Uni + more l Uni + (parts l Multi + more l Multi))
+      sum_same (λ l. sum_by (queue_part (queue_to j l Uni)) (p ∷ ps) + sum_by (queue_part (queue_to j l Multi)) (p ∷ ps))
+      (λ l. parts l Uni + more l Uni + (parts l Multi + more l Multi))
       (λ l. omega (arith, sum_by-cons (queue_part (queue_to j l Uni)) p ps, sum_by-cons (queue_part (queue_to j l Multi)) p ps)) (range_with_len 0 LEVELS) in
       omega (arith, split, level_add parts more, sum_by-cons output_part p ps, here, rest)
 
@@ -114,7 +119,8 @@ module _ (j : ℕ) (v : Planned → ℕ) where
 module _ (scheduler : Scheduler) (scheduling : IsScheduler scheduler) (plan : SwitchPlan) (good : IsGood plan) where
   -- the packets of all ports, by port
   all_packets : packets_in plan ≡ map (λ i. (card_at plan i).packets) (range_with_len 0 (ports_of plan))
-  all_packets = fill_by_all (λ i. (card_at plan i).packets) (packets_in plan) (ports_of plan) [] (length-map plan.cards (λ (card : Plan). card.packets)) (λ i inside. packets-at plan good i inside)
+  all_packets = fill_by_all (λ i. (card_at plan i).packets) (packets_in plan) (ports_of plan) [] (length-map plan.cards (λ (card : Plan). card.packets))
+      (λ i inside. packets-at plan good i inside)
 
   inputs_sum : (f : List Planned → ℕ) → sum_by (λ i. f (card_at plan i).packets) (range_with_len 0 (ports_of plan)) ≡ sum_by f (packets_in plan)
   inputs_sum f =
@@ -123,9 +129,11 @@ module _ (scheduler : Scheduler) (scheduling : IsScheduler scheduler) (plan : Sw
 
   module _ (j t : ℕ) (within : All (λ cell. (cell.input < ports_of plan) × (cell.level < LEVELS)) (cells_under scheduler plan j t))
       (first : (i level : ℕ) (kind : Kind) → i < ports_of plan → level < LEVELS → (m u : ℕ)
-      × (messages_of (flow_cells i level kind (cells_under scheduler plan j t)) ≡ take m (map (message_of (card_at plan i)) (packets_to (card_at plan i) (queue_to j level kind) j (parts_under scheduler plan i u) u)))) where
+      × (messages_of (flow_cells i level kind (cells_under scheduler plan j t)) ≡ take m
+      (map (message_of (card_at plan i)) (packets_to (card_at plan i) (queue_to j level kind) j (parts_under scheduler plan i u) u)))) where
     -- of packets whose messages have this weight
-    module _ (w : List ℕ → ℕ) (v : Planned → ℕ) (same : (i k : ℕ) (p : Planned) → i < ports_of plan → slice_get (card_at plan i).packets k ≡ Some p → w (message_of (card_at plan i) p) ≡ v p) where
+    module _ (w : List ℕ → ℕ) (v : Planned → ℕ) (same : (i k : ℕ) (p : Planned) → i < ports_of plan → slice_get (card_at plan i).packets k ≡ Some p
+        → w (message_of (card_at plan i) p) ≡ v p) where
       weights : (i : ℕ) → i < ports_of plan → All (λ p. w (message_of (card_at plan i) p) ≡ v p) (card_at plan i).packets
       weights i inside =
           All-from_get_or (λ p. w (message_of (card_at plan i) p) ≡ v p) (card_at plan i).packets no_packet
@@ -137,36 +145,47 @@ module _ (scheduler : Scheduler) (scheduling : IsScheduler scheduler) (plan : Sw
           let card : Plan = card_at plan i in
           let (m, u, is) = first i level kind inside small in
           let packets : List Planned = packets_to card (queue_to j level kind) j (parts_under scheduler plan i u) u in
-          let cut : sum_by w (messages_from i level kind [] (cells_under scheduler plan j t)) ≡ sum_by w (take m (map (message_of card) packets)) = ap (sum_by w) (flow_is_cut i level kind (cells_under scheduler plan j t) ∙ is) in
+          let cut : sum_by w (messages_from i level kind [] (cells_under scheduler plan j t)) ≡ sum_by w (take m (map (message_of card) packets)) =
+          ap (sum_by w) (flow_is_cut i level kind (cells_under scheduler plan j t) ∙ is) in
           let fewer = sum_by-take-le w (map (message_of card) packets) m in
           let made = map_sum w v (message_of card) packets
-          (All-filter (λ p. nat_lt p.arrival u && enters card (queue_to j level kind) (parts_under scheduler plan i u) p && has p.fan j) (λ p. w (message_of card p) ≡ v p) card.packets (weights i inside)) in
+          (All-filter (λ p. nat_lt p.arrival u && enters card (queue_to j level kind) (parts_under scheduler plan i u) p && has p.fan j)
+          (λ p. w (message_of card p) ≡ v p) card.packets (weights i inside)) in
           let some = queue_sum j v card (queue_to j level kind) (parts_under scheduler plan i u) u in
           omega (arith, cut, fewer, made, some)
 
-      input_weight : (i : ℕ) → i < ports_of plan → level_sum (λ l k. sum_by w (messages_from i l k [] (cells_under scheduler plan j t))) ≤ sum_by (output_part j v) (card_at plan i).packets
+      input_weight : (i : ℕ) → i < ports_of plan
+          → level_sum (λ l k. sum_by w (messages_from i l k [] (cells_under scheduler plan j t))) ≤ sum_by (output_part j v) (card_at plan i).packets
       input_weight i inside =
-          let flows = sum_range-le (λ l. sum_by w (messages_from i l Uni [] (cells_under scheduler plan j t)) + sum_by w (messages_from i l Multi [] (cells_under scheduler plan j t)))
-          (λ l. sum_by (queue_part j v (queue_to j l Uni)) (card_at plan i).packets + sum_by (queue_part j v (queue_to j l Multi)) (card_at plan i).packets) 0 LEVELS
+          let flows = sum_range-le (λ l. sum_by w (messages_from i l Uni [] (cells_under scheduler plan j t)) + sum_by w
+          (messages_from i l Multi [] (cells_under scheduler plan j t)))
+          (λ l. sum_by (queue_part j v (queue_to j l Uni)) (card_at plan i).packets + sum_by (queue_part j v (queue_to j l Multi)) (card_at plan i).packets) 0
+          LEVELS
           (λ l from below. omega (arith, flow_weight i l Uni inside (omega arith), flow_weight i l Multi inside (omega arith))) in
           omega (arith, flows, queues_sum j v (card_at plan i).packets)
 
       delivered_weight : sum_by w (delivered (cells_under scheduler plan j t)) ≤ sum_by (sum_by (output_part j v)) (packets_in plan)
       delivered_weight =
           let all = delivered-sum w (ports_of plan) (cells_under scheduler plan j t) within in
-          let inputs = sum_range-le (λ i. level_sum (λ l k. sum_by w (messages_from i l k [] (cells_under scheduler plan j t)))) (λ i. sum_by (output_part j v) (card_at plan i).packets) 0 (ports_of plan) (λ i from below. input_weight i (omega arith)) in
+          let inputs = sum_range-le (λ i. level_sum (λ l k. sum_by w (messages_from i l k [] (cells_under scheduler plan j t))))
+          (λ i. sum_by (output_part j v) (card_at plan i).packets) 0 (ports_of plan) (λ i from below. input_weight i (omega arith)) in
           omega (arith, all, inputs, inputs_sum (sum_by (output_part j v)))
 
-    delivered_fits : j < ports_of plan → (sum_by length (delivered (cells_under scheduler plan j t)) ≤ (card_at plan j).body_room) × (length (delivered (cells_under scheduler plan j t)) ≤ (card_at plan j).packet_room)
+    delivered_fits : j < ports_of plan → (sum_by length (delivered (cells_under scheduler plan j t)) ≤ (card_at plan j).body_room)
+        × (length (delivered (cells_under scheduler plan j t)) ≤ (card_at plan j).packet_room)
     delivered_fits to =
         let mine = good-card plan good j to in
-        let bytes : sum_by length (delivered (cells_under scheduler plan j t)) ≤ body_room_for j (packets_in plan) = delivered_weight length message_length (λ i k p inside there. message-long (card_at plan i) (good-card plan good i inside).good k p there) in
-        let count : sum_by (λ m. 1) (delivered (cells_under scheduler plan j t)) ≤ packet_room_for j (packets_in plan) = delivered_weight (λ m. 1) (λ p. 1) (λ i k p inside there. refl) in
+        let bytes : sum_by length (delivered (cells_under scheduler plan j t)) ≤ body_room_for j (packets_in plan) =
+        delivered_weight length message_length (λ i k p inside there. message-long (card_at plan i) (good-card plan good i inside).good k p there) in
+        let count : sum_by (λ m. 1) (delivered (cells_under scheduler plan j t)) ≤ packet_room_for j (packets_in plan) =
+        delivered_weight (λ m. 1) (λ p. 1) (λ i k p inside there. refl) in
         (omega (arith, bytes, mine.body), omega (arith, count, mine.messages, ones (delivered (cells_under scheduler plan j t)))) where
           ones : (xs : List (List ℕ)) → sum_by (λ m. 1) xs ≡ length xs
           ones [] = refl
           ones (x ∷ xs) = let rest = ones xs in omega (arith, sum_by-cons (λ (m : List ℕ). 1) x xs, rest)
 
   -- the messages of the cells that cross to an output have room there
-  pub delivered-fit : (j t : ℕ) → j < ports_of plan → (sum_by length (delivered (cells_under scheduler plan j t)) ≤ (card_at plan j).body_room) × (length (delivered (cells_under scheduler plan j t)) ≤ (card_at plan j).packet_room)
-  delivered-fit j t to = delivered_fits j t (all_of_flows scheduler scheduling plan good j t) (λ i level kind inside small. flow-messages scheduler scheduling plan good i j level kind inside t) to
+  pub delivered-fit : (j t : ℕ) → j < ports_of plan → (sum_by length (delivered (cells_under scheduler plan j t)) ≤ (card_at plan j).body_room)
+      × (length (delivered (cells_under scheduler plan j t)) ≤ (card_at plan j).packet_room)
+  delivered-fit j t to = delivered_fits j t (all_of_flows scheduler scheduling plan good j t)
+      (λ i level kind inside small. flow-messages scheduler scheduling plan good i j level kind inside t) to

@@ -24,12 +24,14 @@ use Rattle.whole_run.specs.Runs.{ports_of, setup_for, card_at, served_by, posts_
 use Rattle.whole_run.proofs.SameParts.{post_at-alike}
 use Rattle.whole_run.proofs.Base.{served-at}
 
-module _ (plan : SwitchPlan) (events : List Event) (legal : IsLegal (setup_for plan) events) (driven : (i : ℕ) → i < ports_of plan → IsDriven (card_at plan i) (column_of (setup_for plan) i events)) where
+module _ (plan : SwitchPlan) (events : List Event) (legal : IsLegal (setup_for plan) events)
+    (driven : (i : ℕ) → i < ports_of plan → IsDriven (card_at plan i) (column_of (setup_for plan) i events)) where
   step : AreInStep (setup_for plan) events
   step = AreInStep-legal (setup_for plan) events legal
 
   -- what a card was served is what its slots gave
-  served_in-is : (i : ℕ) → i < ports_of plan → served_in (takings_of (setup_for plan) i events) ≡ map (served_at (setup_for plan) (posted events) i) (range_with_len 0 (takes_of i events))
+  served_in-is : (i : ℕ) → i < ports_of plan
+      → served_in (takings_of (setup_for plan) i events) ≡ map (served_at (setup_for plan) (posted events) i) (range_with_len 0 (takes_of i events))
   served_in-is i inside =
       ap served_in (takings_of-slots (setup_for plan) events legal i inside)
       ∙ map-map (λ (taken : Taken). taken.served) (taken_at (setup_for plan) (posted events) i) (range_with_len 0 (takes_of i events))
@@ -39,7 +41,8 @@ module _ (plan : SwitchPlan) (events : List Event) (legal : IsLegal (setup_for p
   one_ahead i inside = let told = IsTold-legal (setup_for plan) i events legal inside in omega (arith, told.posts_to, told.slot)
 
   -- the next slot is posted as the run has it, where those before it are
-  posted-next : (t : ℕ) → ((i u : ℕ) → u < t → i < ports_of plan → u < length (posts_of i events) → posted events i u ≡ posts_in plan i u) → (i : ℕ) → i < ports_of plan → t < length (posts_of i events) → posted events i t ≡ posts_in plan i t
+  posted-next : (t : ℕ) → ((i u : ℕ) → u < t → i < ports_of plan → u < length (posts_of i events) → posted events i u ≡ posts_in plan i u) → (i : ℕ)
+      → i < ports_of plan → t < length (posts_of i events) → posted events i t ≡ posts_in plan i t
   posted-next t earlier i inside below =
       let ahead = one_ahead i inside in
       let parts = served_in (takings_of (setup_for plan) i events) in
@@ -60,7 +63,8 @@ module _ (plan : SwitchPlan) (events : List Event) (legal : IsLegal (setup_for p
         | inl earlier ↦ posted-below k i t earlier inside below
         | inr last ↦
             let same : k ≡ t = omega arith in
-            subst (λ u. posted events i u ≡ posts_in plan i u) same (posted-next k (λ j u before within there. posted-below k j u before within there) i inside (omega arith))
+            subst (λ u. posted events i u ≡ posts_in plan i u) same
+            (posted-next k (λ j u before within there. posted-below k j u before within there) i inside (omega arith))
       ]
 
   -- what is posted is what the run has

@@ -1,5 +1,6 @@
 -- Where a run ends no cell waits, so each message of the admitted packets was delivered.
-use Rattle.std.proofs.Common.{◌≡◌, ◌∙◌, ℕ, suc, ◌<◌, not, nat_lt, Bool, true, false, List, [], ◌∷◌, ◌++◌, map, Option, None, slice_index_or, refl, sym, ap, subst, arith, if◌then◌else◌}
+use Rattle.std.proofs.Common.{◌≡◌, ◌∙◌, ℕ, suc, ◌<◌, not, nat_lt, Bool, true, false, List, [], ◌∷◌, ◌++◌, map, Option, None, slice_index_or, refl, sym}
+use Rattle.std.proofs.Common.{ap, subst, arith, if◌then◌else◌}
 use Rattle.std.specs.List.{list_any, list_all}
 use Rattle.std.proofs.lemmas.Bool.{or_parts}
 use Rattle.std.proofs.lemmas.List.{append-nil}
@@ -90,9 +91,11 @@ module _ (scheduler : Scheduler) (plan : SwitchPlan) where
   no_more i t inside done more =
       let posts = slot_posts (ports_of plan) (posts_under scheduler plan) t in
       let goes : CardPost → Bool = λ post. not post.more in
-      let here : slice_index_or posts i no_post ≡ posts_under scheduler plan i t = get_or-map-range_with_len (λ k. posts_under scheduler plan k t) 0 (ports_of plan) i i no_post inside (omega arith) in
+      let here : slice_index_or posts i no_post ≡ posts_under scheduler plan i t =
+      get_or-map-range_with_len (λ k. posts_under scheduler plan k t) 0 (ports_of plan) i i no_post inside (omega arith) in
       let fails : goes (slice_index_or posts i no_post) ≡ false = ap goes here ∙ ap not more in
-      let all : list_all goes posts ≡ false = list_all_at goes posts i no_post (omega (arith, length-slot_posts (ports_of plan) (posts_under scheduler plan) t)) fails in
+      let all : list_all goes posts ≡ false =
+      list_all_at goes posts i no_post (omega (arith, length-slot_posts (ports_of plan) (posts_under scheduler plan) t)) fails in
       let both : true ≡ false = sym done ∙ all in
       absurd (cc)
 
@@ -101,15 +104,18 @@ module _ (scheduler : Scheduler) (plan : SwitchPlan) where
   last_more i t inside done = lacks (posts_under scheduler plan i t).more (no_more i t inside done)
 
 module _ (scheduler : Scheduler) (scheduling : IsScheduler scheduler) (plan : SwitchPlan) (good : IsGood plan) where
-  pub last_row : (i t : ℕ) → i < ports_of plan → is_done_at (ports_of plan) (posts_under scheduler plan) t ≡ true → IsEmptyRow (row_at (card_at plan i) (parts_under scheduler plan i (suc t)) t)
+  pub last_row : (i t : ℕ) → i < ports_of plan → is_done_at (ports_of plan) (posts_under scheduler plan) t ≡ true
+      → IsEmptyRow (row_at (card_at plan i) (parts_under scheduler plan i (suc t)) t)
   last_row i t inside done =
       let card = card_at plan i in
       let row = row_at card (parts_under scheduler plan i t) t in
       let more = or_parts (list_any (λ packet. nat_lt t packet.arrival) card.packets) (not (is_empty row)) (last_more scheduler plan i t inside done) in
       subst IsEmptyRow (sym (row_at-same scheduler plan i t (suc t) (omega arith))) ((Decides-is_empty row).0 (empty_is (is_empty row) more.1))
 
-  pub all_delivered : (i j level : ℕ) (kind : Kind) (t : ℕ) → i < ports_of plan → j < ports_of plan → level < LEVELS → is_done_at (ports_of plan) (posts_under scheduler plan) t ≡ true
-      → messages_from i level kind [] (cells_under scheduler plan j (suc t)) ≡ map (message_of (card_at plan i)) (admitted_under scheduler plan j i level kind (suc t))
+  pub all_delivered : (i j level : ℕ) (kind : Kind) (t : ℕ) → i < ports_of plan → j < ports_of plan → level < LEVELS
+      → is_done_at (ports_of plan) (posts_under scheduler plan) t ≡ true
+      → messages_from i level kind [] (cells_under scheduler plan j (suc t)) ≡ map (message_of (card_at plan i))
+      (admitted_under scheduler plan j i level kind (suc t))
   all_delivered i j level kind t inside to below done =
       let card = card_at plan i in
       let mine = good-card plan good i inside in
@@ -121,12 +127,16 @@ module _ (scheduler : Scheduler) (scheduling : IsScheduler scheduler) (plan : Sw
       ∙ ap (λ cells. messages_of (named card cells))
       (sym (granted_to-same scheduler plan i t (suc t) (omega arith) q j)
       ∙ sym (nothing_granted card q j now t empty)
-      ∙ all_granted card mine.good now q j (suc t) (λ u early. servable scheduler scheduling plan good i u (suc t) inside early) (stays_empty card q j now t empty))
+      ∙ all_granted card mine.good now q j (suc t) (λ u early. servable scheduler scheduling plan good i u (suc t) inside early)
+      (stays_empty card q j now t empty))
       ∙ messages-are card q j now (suc t) mine.good
 
-  pub packets_delivered : (i j level : ℕ) (kind : Kind) (slots : ℕ) → IsLengthUnder scheduler plan slots → i < ports_of plan → j < ports_of plan → level < LEVELS
-      → messages_from i level kind [] (cells_under scheduler plan j slots) ≡ map (message_of (card_at plan i)) (admitted_under scheduler plan j i level kind slots)
+  pub packets_delivered : (i j level : ℕ) (kind : Kind) (slots : ℕ) → IsLengthUnder scheduler plan slots → i < ports_of plan → j < ports_of plan
+      → level < LEVELS
+      → messages_from i level kind [] (cells_under scheduler plan j slots) ≡ map (message_of (card_at plan i))
+      (admitted_under scheduler plan j i level kind slots)
   packets_delivered i j level kind slots end inside to below =
       let count : suc end.last ≡ slots = omega (arith, end.count) in
-      subst (λ n. messages_from i level kind [] (cells_under scheduler plan j n) ≡ map (message_of (card_at plan i)) (admitted_under scheduler plan j i level kind n)) count
+      subst (λ n. messages_from i level kind [] (cells_under scheduler plan j n) ≡ map (message_of (card_at plan i))
+      (admitted_under scheduler plan j i level kind n)) count
       (all_delivered i j level kind end.last inside to below end.done)

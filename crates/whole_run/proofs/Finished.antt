@@ -27,15 +27,18 @@ earlier false b one none = absurd (both_ways b none one)
 abbrev DoneBelow : ℕ → (ℕ → ℕ → CardPost) → ℕ → Type 0
 DoneBelow n posts k = (t : ℕ) × (t < k) × (is_done_at n posts t ≡ true)
 
-done_by : (n : ℕ) (posts : ℕ → ℕ → CardPost) (k : ℕ) (here : Bool) → is_done_at n posts k ≡ here → (is_done_before n posts k ≡ true → DoneBelow n posts k) → is_done_before n posts (suc k) ≡ true → DoneBelow n posts (suc k)
+done_by : (n : ℕ) (posts : ℕ → ℕ → CardPost) (k : ℕ) (here : Bool) → is_done_at n posts k ≡ here → (is_done_before n posts k ≡ true → DoneBelow n posts k)
+    → is_done_before n posts (suc k) ≡ true → DoneBelow n posts (suc k)
 done_by n posts k true here before done = (k, omega arith, here)
-done_by n posts k false here before done = let found = before (earlier (is_done_before n posts k) (is_done_at n posts k) done here) in (found.0, omega (arith, found.1), found.2)
+done_by n posts k false here before done = let found = before (earlier (is_done_before n posts k) (is_done_at n posts k) done here) in
+    (found.0, omega (arith, found.1), found.2)
 
 one_done : (n : ℕ) (posts : ℕ → ℕ → CardPost) (k : ℕ) → is_done_before n posts k ≡ true → DoneBelow n posts k
 one_done n posts zero done = absurd (cc)
 one_done n posts (suc k) done = done_by n posts k (is_done_at n posts k) refl (one_done n posts k) done
 
-module _ (plan : SwitchPlan) (events : List Event) (good : IsGood plan) (legal : IsLegal (setup_for plan) events) (driven : (i : ℕ) → i < ports_of plan → IsDriven (card_at plan i) (column_of (setup_for plan) i events)) where
+module _ (plan : SwitchPlan) (events : List Event) (good : IsGood plan) (legal : IsLegal (setup_for plan) events)
+    (driven : (i : ℕ) → i < ports_of plan → IsDriven (card_at plan i) (column_of (setup_for plan) i events)) where
   -- a board that decided a slot of the run that is done has decided the run's slots
   length-from : (t : ℕ) → t < decides events → is_done_at (ports_of plan) (posted events) t ≡ true → IsLength plan (decides events)
   length-from t below done =
@@ -65,7 +68,9 @@ module _ (plan : SwitchPlan) (events : List Event) (good : IsGood plan) (legal :
         let run = run_ends decision_of IsScheduler-decision_of plan good in
         let length_is = run.1 in
         let few : length_is.last < decides events = omega (arith, taken-all 0 good.size.some, run.2, length_is.count) in
-        length-from length_is.last few (is_done_at-same (setup_for plan) (posted events) (posts_in plan) (decides events) (decided-run plan events legal driven) length_is.last few ∙ length_is.done)
+        length-from length_is.last few
+        (is_done_at-same (setup_for plan) (posted events) (posts_in plan) (decides events) (decided-run plan events legal driven) length_is.last few
+        ∙ length_is.done)
 
     pub length-run : IsLength plan (decides events)
     length-run = by_end (over 0 good.size.some).ended

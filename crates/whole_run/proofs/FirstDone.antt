@@ -20,7 +20,8 @@ module _ (n : ℕ) (posts : ℕ → ℕ → CardPost) where
       ]
 
   -- where one of the first slots is done, one is the first
-  pub first_done : (k : ℕ) → is_done_before n posts k ≡ true → (last : ℕ) × (last < k) × (is_done_at n posts last ≡ true) × (is_done_before n posts last ≡ false)
+  pub first_done : (k : ℕ) → is_done_before n posts k ≡ true → (last : ℕ) × (last < k) × (is_done_at n posts last ≡ true)
+      × (is_done_before n posts last ≡ false)
   first_done zero done = absurd (both_ways (is_done_before n posts zero) refl done)
   first_done (suc k) done =
       elim (cases_Bool (is_done_before n posts k)) [
@@ -38,7 +39,9 @@ one_length scheduler plan a b ends also =
     elim (cases_order ends.last also.last) [
       | inl same ↦ ends.count ∙ ap (λ k. k + 1) same ∙ sym also.count
       | inr other ↦ elim other [
-        | inl before ↦ absurd (both_ways (is_done_at n (posts_under scheduler plan) ends.last) (not_done n (posts_under scheduler plan) also.last ends.last before also.going) ends.done)
-        | inr after ↦ absurd (both_ways (is_done_at n (posts_under scheduler plan) also.last) (not_done n (posts_under scheduler plan) ends.last also.last after ends.going) also.done)
+        | inl before ↦ absurd (both_ways (is_done_at n (posts_under scheduler plan) ends.last)
+            (not_done n (posts_under scheduler plan) also.last ends.last before also.going) ends.done)
+        | inr after ↦ absurd (both_ways (is_done_at n (posts_under scheduler plan) also.last)
+            (not_done n (posts_under scheduler plan) ends.last also.last after ends.going) also.done)
       ]
     ]

@@ -1,5 +1,6 @@
 -- A first part of the cells of a flow: its messages, and which cell comes next.
-use Rattle.std.proofs.Common.{◌≡◌, ◌∙◌, ℕ, zero, suc, ◌+◌, ◌-◌, ◌*◌, ◌<◌, Bool, true, false, cond, List, [], ◌∷◌, ◌++◌, map, length, refl, sym, ap, subst, arith}
+use Rattle.std.proofs.Common.{◌≡◌, ◌∙◌, ℕ, zero, suc, ◌+◌, ◌-◌, ◌*◌, ◌<◌, Bool, true, false, cond, List, [], ◌∷◌, ◌++◌, map, length, refl, sym, ap}
+use Rattle.std.proofs.Common.{subst, arith}
 use Rattle.std.specs.List.{range_with_len, flat_map}
 use Rattle.std.proofs.lemmas.Bool.{le-leb, lt-leb}
 use Rattle.std.proofs.lemmas.List.{map-append}
@@ -15,7 +16,8 @@ pieces_after-append : (before xs ys : List Cell) → pieces_after before (xs ++ 
 pieces_after-append before [] ys = refl
 pieces_after-append before (c ∷ xs) ys =
     let piece : List Cell = before ++ c ∷ [] in
-    let motive : Bool → Type 0 = λ v. cond v (piece ∷ pieces_after [] (xs ++ ys)) (pieces_after piece (xs ++ ys)) ≡ cond v (piece ∷ pieces_after [] xs) (pieces_after piece xs) ++ pieces_after (cond v (rest_after [] xs) (rest_after piece xs)) ys in
+    let motive : Bool → Type 0 = λ v. cond v (piece ∷ pieces_after [] (xs ++ ys)) (pieces_after piece (xs ++ ys)) ≡ cond v (piece ∷ pieces_after [] xs)
+    (pieces_after piece xs) ++ pieces_after (cond v (rest_after [] xs) (rest_after piece xs)) ys in
     elim c.last as motive [
       | true ↦ ap (λ ps. piece ∷ ps) (pieces_after-append [] xs ys)
       | false ↦ pieces_after-append piece xs ys
@@ -56,7 +58,8 @@ module _ (input level : ℕ) (kind : Kind) (P : List ℕ → Type 0) where
 
   abbrev Goes : List Cell → Cell → List Cell → Type 0
   Goes cells cell rest = (begun : List Cell) (m : List ℕ) (ms : List (List ℕ)) (a n : ℕ) → P m → AllHold P ms → a + suc n ≡ cells_in (length m)
-      → begun ≡ own_cells m 0 a → cells ++ cell ∷ rest ≡ own_cells m a (suc n) ++ flat_map (cells_of_message input level kind) ms → IsNextOf (rest_after begun cells) cell
+      → begun ≡ own_cells m 0 a → cells ++ cell ∷ rest ≡ own_cells m a (suc n) ++ flat_map (cells_of_message input level kind) ms
+      → IsNextOf (rest_after begun cells) cell
 
   next_message : (cells : List Cell) (cell : Cell) (rest : List Cell) → Goes cells cell rest → (ms : List (List ℕ)) → AllHold P ms
       → cells ++ cell ∷ rest ≡ flat_map (cells_of_message input level kind) ms → IsNextOf (rest_after [] cells) cell
@@ -87,7 +90,8 @@ module _ (input level : ℕ) (kind : Kind) (P : List ℕ → Type 0) where
       let here = head_is c (cell_of input level kind m a) (cells ++ cell ∷ rest) others was in
       let on : c.last ≡ false = ap (λ (x : Cell). x.last) here ∙ lt-leb (length m) (56 * a + 56) (omega (arith, count)) in
       let more = tail_is c (cell_of input level kind m a) (cells ++ cell ∷ rest) others was in
-      let begun' : begun ++ c ∷ [] ≡ own_cells m 0 (a + 1) = ap (λ xs. xs ++ c ∷ []) is ∙ ap (λ x. own_cells m 0 a ++ x ∷ []) here ∙ sym (map-range_with_len_more (cell_of input level kind m) 0 a a (omega arith)) in
+      let begun' : begun ++ c ∷ [] ≡ own_cells m 0 (a + 1) = ap (λ xs. xs ++ c ∷ []) is ∙ ap (λ x. own_cells m 0 a ++ x ∷ []) here
+      ∙ sym (map-range_with_len_more (cell_of input level kind m) 0 a a (omega arith)) in
       subst (λ v. IsNextOf (cond v (rest_after [] cells) (rest_after (begun ++ c ∷ []) cells)) cell) (sym on)
       (goes (begun ++ c ∷ []) m ms (a + 1) n holds all (omega (arith, count)) begun' more)
 
@@ -95,6 +99,7 @@ module _ (input level : ℕ) (kind : Kind) (P : List ℕ → Type 0) where
   next_from [] cell rest = next_none cell rest
   next_from (c ∷ cells) cell rest = next_one c cells cell rest (next_from cells cell rest)
 
-  pub next_is : (cells : List Cell) (cell : Cell) (rest : List Cell) (ms : List (List ℕ)) → AllHold P ms → cells ++ cell ∷ rest ≡ flat_map (cells_of_message input level kind) ms
+  pub next_is : (cells : List Cell) (cell : Cell) (rest : List Cell) (ms : List (List ℕ)) → AllHold P ms
+      → cells ++ cell ∷ rest ≡ flat_map (cells_of_message input level kind) ms
       → IsNextOf (rest_after [] cells) cell
   next_is cells cell rest ms all is = next_message cells cell rest (next_from cells cell rest) ms all is

@@ -1,5 +1,6 @@
 -- The cells of a flow at an output are those that were granted to it of the flow's queue, in order.
-use Rattle.std.proofs.Common.{◌≡◌, ◌∙◌, ℕ, zero, suc, ◌+◌, ◌<◌, ◌==◌, ◌&&◌, not, Bool, true, false, List, [], ◌∷◌, ◌++◌, map, take, length, Option, Some, None, slice_index_or, refl, sym, ap, subst, arith, if◌then◌else◌, append_assoc}
+use Rattle.std.proofs.Common.{◌≡◌, ◌∙◌, ℕ, zero, suc, ◌+◌, ◌<◌, ◌==◌, ◌&&◌, not, Bool, true, false, List, [], ◌∷◌, ◌++◌, map, take, length, Option}
+use Rattle.std.proofs.Common.{Some, None, slice_index_or, refl, sym, ap, subst, arith, if◌then◌else◌, append_assoc}
 use Rattle.std.specs.List.{range_with_len, flat_map}
 use Rattle.std.specs.Option.{option_map, option_to_list}
 use Rattle.std.proofs.lemmas.Bool.{and_from, and_parts, eqb-true, eq-eqb}
@@ -76,7 +77,8 @@ pub flow_one : (i level : ℕ) (kind : Kind) (cell : Cell) → IsFrom i level ki
 flow_one i level kind cell from = ap (λ (b : Bool). if b then cell ∷ [] else []) (of_flow i level kind cell from)
 
 flow_none : (i level : ℕ) (kind : Kind) (cell : Cell) → (IsFrom i level kind cell → ⊥) → flow_cells i level kind (cell ∷ []) ≡ []
-flow_none i level kind cell other = ap (λ (b : Bool). if b then cell ∷ [] else []) (lacks (is_of_flow i level kind cell) (λ is. other (flow_is i level kind cell is)))
+flow_none i level kind cell other =
+    ap (λ (b : Bool). if b then cell ∷ [] else []) (lacks (is_of_flow i level kind cell) (λ is. other (flow_is i level kind cell is)))
 
 -- ---- the first cell of a queue
 first_list : (card : Plan) (w : List FanCell) → option_to_list (option_map (cell_named card) (first_name w)) ≡ named card (first_of w)
@@ -88,7 +90,8 @@ abbrev pub FirstsAre : ℕ → ℕ → Kind → Plan → List FanCell → Type 0
 FirstsAre i level kind card [] = Unit {0}
 FirstsAre i level kind card (c ∷ w) = IsFrom i level kind (cell_named card c.name)
 
-firsts_are : (i j level : ℕ) (kind : Kind) (card : Plan) (w : List FanCell) → card.card ≡ i → AreOf card (queue_to j level kind) w → FirstsAre i level kind card w
+firsts_are : (i j level : ℕ) (kind : Kind) (card : Plan) (w : List FanCell) → card.card ≡ i → AreOf card (queue_to j level kind) w
+    → FirstsAre i level kind card w
 firsts_are i j level kind card [] own are = tt
 firsts_are i j level kind card (c ∷ w) own are =
     let at = get_some card.packets c.name.packet are.0.packet no_packet are.0.there in (
@@ -97,11 +100,13 @@ firsts_are i j level kind card (c ∷ w) own are =
       ap (λ p. kind_of (queue_of p)) at ∙ ap kind_of (sym are.0.queue) ∙ kind_to j level kind,
     )
 
-flow_firsts : (i level : ℕ) (kind : Kind) (card : Plan) (w : List FanCell) → FirstsAre i level kind card w → flow_cells i level kind (named card (first_of w)) ≡ named card (first_of w)
+flow_firsts : (i level : ℕ) (kind : Kind) (card : Plan) (w : List FanCell) → FirstsAre i level kind card w
+    → flow_cells i level kind (named card (first_of w)) ≡ named card (first_of w)
 flow_firsts i level kind card [] are = refl
 flow_firsts i level kind card (c ∷ w) are = flow_one i level kind (cell_named card c.name) are
 
-flow_others : (i level : ℕ) (kind : Kind) (x m : ℕ) (k : Kind) (card : Plan) (w : List FanCell) → FirstsAre x m k card w → ((x ≡ i) → (m ≡ level) → (k ≡ kind) → ⊥) → flow_cells i level kind (named card (first_of w)) ≡ []
+flow_others : (i level : ℕ) (kind : Kind) (x m : ℕ) (k : Kind) (card : Plan) (w : List FanCell) → FirstsAre x m k card w
+    → ((x ≡ i) → (m ≡ level) → (k ≡ kind) → ⊥) → flow_cells i level kind (named card (first_of w)) ≡ []
 flow_others i level kind x m k card [] are other = refl
 flow_others i level kind x m k card (c ∷ w) are other =
     flow_none i level kind (cell_named card c.name) (λ from. other (sym are.0 ∙ from.0) (sym are.1 ∙ from.1) (sym are.2 ∙ from.2))
@@ -114,7 +119,8 @@ flat_range f a (suc t) =
     ∙ sym (append_assoc (f a) (flat_map f (range_with_len (a + 1) t)) (f (a + 1 + t)))
     ∙ ap (λ k. (f a ++ flat_map f (range_with_len (a + 1) t)) ++ f k) (let e : a + 1 + t ≡ a + suc t = omega arith in e)
 
-pub cells_to-push : (scheduler : Scheduler) (plan : SwitchPlan) (j t : ℕ) → cells_under scheduler plan j (suc t) ≡ cells_under scheduler plan j t ++ option_to_list (crossed_under scheduler (setup_for plan) (posts_under scheduler plan) j t)
+pub cells_to-push : (scheduler : Scheduler) (plan : SwitchPlan) (j t : ℕ) → cells_under scheduler plan j (suc t) ≡ cells_under scheduler plan j t
+    ++ option_to_list (crossed_under scheduler (setup_for plan) (posts_under scheduler plan) j t)
 cells_to-push scheduler plan j t =
     let cell : ℕ → List Cell = λ u. option_to_list (crossed_under scheduler (setup_for plan) (posts_under scheduler plan) j u) in
     flat_range cell 0 t ∙ ap (λ u. cells_under scheduler plan j t ++ cell u) (let e : 0 + t ≡ t = omega arith in e)
@@ -138,11 +144,13 @@ module _ (scheduler : Scheduler) (scheduling : IsScheduler scheduler) (plan : Sw
   serves_to : (i j level : ℕ) (kind : Kind) (t : ℕ) → Serves (matched_at t) i j level kind → serves (queue_to j level kind) j (part_at i t) ≡ true
   serves_to i j level kind t is =
       serves_gives j level kind (part_at i t)
-      ∙ (Decides-gives (part_at i t) j level kind).1 ((Gives-iff_serves (ports_of plan) (matched_at t) (sound scheduler scheduling plan good t).matches i j level kind).1 is)
+      ∙ (Decides-gives (part_at i t) j level kind).1
+      ((Gives-iff_serves (ports_of plan) (matched_at t) (sound scheduler scheduling plan good t).matches i j level kind).1 is)
 
   -- what crosses is the first cell of the queue that was served
   pub crossed_is : (i j level : ℕ) (kind : Kind) (t : ℕ) → Serves (matched_at t) i j level kind
-      → option_to_list (crossed_under scheduler (setup_for plan) (posts_under scheduler plan) j (suc t)) ≡ named (card_at plan i) (first_of (waits_at i (queue_to j level kind) t))
+      → option_to_list (crossed_under scheduler (setup_for plan) (posts_under scheduler plan) j (suc t)) ≡ named (card_at plan i)
+      (first_of (waits_at i (queue_to j level kind) t))
   crossed_is i j level kind t feeds =
       let card = card_at plan i in
       let q = queue_to j level kind in
@@ -150,7 +158,8 @@ module _ (scheduler : Scheduler) (scheduling : IsScheduler scheduler) (plan : Sw
       let deposits : List (Option Cell) = map (λ post. post.cell) (slot_posts (ports_of plan) (posts_under scheduler plan) (suc t)) in
       let part = served-at scheduler plan i t (suc t) (omega arith) in
       let first : granted_at card (parts_under scheduler plan i (suc t)) (suc t) ≡ option_map (cell_named card) (first_name (waits_at i q t)) =
-      first_granted card (good-card plan good i inside).good (parts_under scheduler plan i (suc t)) q j t (servable scheduler scheduling plan good i t (suc t) inside (omega arith)) (ap (serves q j) part ∙ serves_to i j level kind t feeds) in
+      first_granted card (good-card plan good i inside).good (parts_under scheduler plan i (suc t)) q j t
+      (servable scheduler scheduling plan good i t (suc t) inside (omega arith)) (ap (serves q j) part ∙ serves_to i j level kind t feeds) in
       ap (λ o. option_to_list (deposit_by deposits o)) feeds
       ∙ ap option_to_list (posted_cell scheduler plan (suc t) i inside ∙ first)
       ∙ first_list card (waits_at i q t)
@@ -160,22 +169,27 @@ module _ (scheduler : Scheduler) (scheduling : IsScheduler scheduler) (plan : Sw
       let mine = good-card plan good i inside in
       let q = queue_to j level kind in
       let s = queue_in (card_at plan i) q (parts_under scheduler plan i (suc t)) t in
-      firsts_are i j level kind (card_at plan i) (waits_at i q t) mine.number (AreOf-drop (card_at plan i) q s.left s.entered (kept-in (card_at plan i) mine.good q (parts_under scheduler plan i (suc t)) t).cells)
+      firsts_are i j level kind (card_at plan i) (waits_at i q t) mine.number
+      (AreOf-drop (card_at plan i) q s.left s.entered (kept-in (card_at plan i) mine.good q (parts_under scheduler plan i (suc t)) t).cells)
 
   module _ (i j level : ℕ) (kind : Kind) (inside : i < ports_of plan) where
-    by_fed : (t : ℕ) (o : Option Fed) → fed_of (matched_at t) j ≡ o → (Serves (matched_at t) i j level kind → ⊥) → flow_cells i level kind (option_to_list (crossed_under scheduler (setup_for plan) (posts_under scheduler plan) j (suc t))) ≡ []
+    by_fed : (t : ℕ) (o : Option Fed) → fed_of (matched_at t) j ≡ o → (Serves (matched_at t) i j level kind → ⊥)
+        → flow_cells i level kind (option_to_list (crossed_under scheduler (setup_for plan) (posts_under scheduler plan) j (suc t))) ≡ []
     by_fed t None is other =
         let deposits : List (Option Cell) = map (λ post. post.cell) (slot_posts (ports_of plan) (posts_under scheduler plan) (suc t)) in
         ap (λ o. flow_cells i level kind (option_to_list (deposit_by deposits o))) is
     by_fed t (Some fed) is other =
         let feeds = Serves-from (matched_at t) j fed is in
-        let from = crossed_from fed.input j fed.level fed.kind t ((sound scheduler scheduling plan good t).matches.input_in fed.input j fed.level fed.kind feeds) in
+        let from = crossed_from fed.input j fed.level fed.kind t
+        ((sound scheduler scheduling plan good t).matches.input_in fed.input j fed.level fed.kind feeds) in
         ap (flow_cells i level kind) (crossed_is fed.input j fed.level fed.kind t feeds)
         ∙ flow_others i level kind fed.input fed.level fed.kind (card_at plan fed.input) (waits_at fed.input (queue_to j fed.level fed.kind) t) from
-        (λ a b c. other (subst (λ k. Serves (matched_at t) i j level k) c (subst (λ m. Serves (matched_at t) i j m fed.kind) b (subst (λ x. Serves (matched_at t) x j fed.level fed.kind) a feeds))))
+        (λ a b c. other (subst (λ k. Serves (matched_at t) i j level k) c
+        (subst (λ m. Serves (matched_at t) i j m fed.kind) b (subst (λ x. Serves (matched_at t) x j fed.level fed.kind) a feeds))))
 
     by_part : (t : ℕ) (b : Bool) → serves (queue_to j level kind) j (part_at i t) ≡ b
-        → flow_cells i level kind (option_to_list (crossed_under scheduler (setup_for plan) (posts_under scheduler plan) j (suc t))) ≡ named (card_at plan i) (if b then first_of (waits_at i (queue_to j level kind) t) else [])
+        → flow_cells i level kind (option_to_list (crossed_under scheduler (setup_for plan) (posts_under scheduler plan) j (suc t))) ≡ named (card_at plan i)
+        (if b then first_of (waits_at i (queue_to j level kind) t) else [])
     by_part t true is =
         let w = waits_at i (queue_to j level kind) t in
         ap (flow_cells i level kind) (crossed_is i j level kind t (served_to i j level kind t is))
@@ -183,7 +197,9 @@ module _ (scheduler : Scheduler) (scheduling : IsScheduler scheduler) (plan : Sw
     by_part t false is = by_fed t (fed_of (matched_at t) j) refl (λ feeds. let e = serves_to i j level kind t feeds in absurd (cc))
 
     -- the cells of the flow are those that were granted
-    pub granted_cells : (t : ℕ) → flow_cells i level kind (cells_under scheduler plan j (suc t)) ≡ named (card_at plan i) (granted_to (card_at plan i) (queue_to j level kind) j (parts_under scheduler plan i t) t)
+    pub granted_cells : (t : ℕ)
+        → flow_cells i level kind (cells_under scheduler plan j (suc t)) ≡ named (card_at plan i)
+        (granted_to (card_at plan i) (queue_to j level kind) j (parts_under scheduler plan i t) t)
     granted_cells zero = refl
     granted_cells (suc t) =
         let card = card_at plan i in
@@ -195,7 +211,8 @@ module _ (scheduler : Scheduler) (scheduling : IsScheduler scheduler) (plan : Sw
         ∙ filter-append (is_of_flow i level kind) (cells_under scheduler plan j (suc t)) cell
         ∙ ap (λ xs. xs ++ flow_cells i level kind cell) (granted_cells t ∙ ap (named card) (sym (granted_to-same scheduler plan i t (suc t) (omega arith) q j)))
         ∙ ap (λ xs. named card (granted_to card q j now t) ++ xs)
-        (by_part t (serves q j (part_at i t)) refl ∙ ap (λ part. named card (first (serves q j part))) (sym (served-at scheduler plan i t (suc t) (omega arith))))
+        (by_part t (serves q j (part_at i t)) refl
+        ∙ ap (λ part. named card (first (serves q j part))) (sym (served-at scheduler plan i t (suc t) (omega arith))))
         ∙ sym (map-append (λ (c : FanCell). cell_named card c.name) (granted_to card q j now t) (first (serves q j (slice_index_or now t None))))
 
     -- ---- those that were granted are the first of all that entered and go to the output
@@ -211,12 +228,14 @@ module _ (scheduler : Scheduler) (scheduling : IsScheduler scheduler) (plan : Sw
       go false l is = (to_output j (c ∷ w), refl)
 
     granted_first : (t : ℕ) → (rest : List FanCell)
-        × (to_output j (queue_before (card_at plan i) (queue_to j level kind) (parts_under scheduler plan i t) t).entered ≡ granted_to (card_at plan i) (queue_to j level kind) j (parts_under scheduler plan i t) t ++ rest)
+        × (to_output j (queue_before (card_at plan i) (queue_to j level kind) (parts_under scheduler plan i t) t).entered ≡ granted_to (card_at plan i)
+        (queue_to j level kind) j (parts_under scheduler plan i t) t ++ rest)
     granted_first t =
         let q = queue_to j level kind in
         let s = queue_before (card_at plan i) q (parts_under scheduler plan i t) t in
         let (rest, first) = begun_first (waiting s) (not (has (rest_of q s) j)) in
-        let granted = granted_is (card_at plan i) (good-card plan good i inside).good (parts_under scheduler plan i t) q j t (λ u below. servable scheduler scheduling plan good i u t inside below) in
+        let granted = granted_is (card_at plan i) (good-card plan good i inside).good (parts_under scheduler plan i t) q j t
+        (λ u below. servable scheduler scheduling plan good i u t inside below) in
         let gone = to_output j (take s.left s.entered) in (
           rest,
           ap (to_output j) (sym (take-append-drop s.left s.entered))
@@ -232,7 +251,8 @@ module _ (scheduler : Scheduler) (scheduling : IsScheduler scheduler) (plan : Sw
 
     -- the cells of the flow are the first of all cells of these packets' messages
     pub flow_first : (t : ℕ) → (rest : List Cell)
-        × (flat_map (cells_of_message i level kind) (map (message_of (card_at plan i)) (packets_at t)) ≡ flow_cells i level kind (cells_under scheduler plan j (suc t)) ++ rest)
+        × (flat_map (cells_of_message i level kind) (map (message_of (card_at plan i)) (packets_at t)) ≡ flow_cells i level kind
+        (cells_under scheduler plan j (suc t)) ++ rest)
     flow_first t =
         let card = card_at plan i in
         let mine = good-card plan good i inside in
@@ -251,7 +271,8 @@ module _ (scheduler : Scheduler) (scheduling : IsScheduler scheduler) (plan : Sw
         )
 
     -- so the messages of the flow are the first of these packets' messages
-    pub messages_first : (t : ℕ) → (more : List (List ℕ)) × (map (message_of (card_at plan i)) (packets_at t) ≡ messages_of (flow_cells i level kind (cells_under scheduler plan j (suc t))) ++ more)
+    pub messages_first : (t : ℕ) → (more : List (List ℕ))
+        × (map (message_of (card_at plan i)) (packets_at t) ≡ messages_of (flow_cells i level kind (cells_under scheduler plan j (suc t))) ++ more)
     messages_first t =
         let card = card_at plan i in
         let q = queue_to j level kind in
@@ -266,7 +287,8 @@ module _ (scheduler : Scheduler) (scheduling : IsScheduler scheduler) (plan : Sw
               ∙ messages_of-append flow (named card rest),
         )
 
-    pub flow-messages : (t : ℕ) → (m u : ℕ) × (messages_of (flow_cells i level kind (cells_under scheduler plan j t)) ≡ take m (map (message_of (card_at plan i)) (packets_at u)))
+    pub flow-messages : (t : ℕ) → (m u : ℕ)
+        × (messages_of (flow_cells i level kind (cells_under scheduler plan j t)) ≡ take m (map (message_of (card_at plan i)) (packets_at u)))
     flow-messages zero = (0, 0, refl)
     flow-messages (suc t) =
         let (more, first) = messages_first t in

@@ -1,5 +1,6 @@
 -- Each message that is delivered is of one flow.
-use Rattle.std.proofs.Common.{◌≡◌, ◌≢◌, ◌∙◌, ℕ, zero, suc, ◌+◌, ◌<◌, ◌≤◌, ◌==◌, ◌&&◌, Bool, true, false, List, [], ◌∷◌, ◌++◌, All, sum_by, refl, sym, ap, arith, inl, inr, if◌then◌else◌}
+use Rattle.std.proofs.Common.{◌≡◌, ◌≢◌, ◌∙◌, ℕ, zero, suc, ◌+◌, ◌<◌, ◌≤◌, ◌==◌, ◌&&◌, Bool, true, false, List, [], ◌∷◌, ◌++◌, All, sum_by, refl, sym}
+use Rattle.std.proofs.Common.{ap, arith, inl, inr, if◌then◌else◌}
 use Rattle.std.specs.List.{range_with_len}
 use Rattle.std.proofs.lemmas.Bool.{cases_eq, eq-eqb, ne_eqb}
 use Rattle.std.proofs.lemmas.List.Elements.{All-head, All-tail}
@@ -102,7 +103,8 @@ module _ (cell : Cell) (x : ℕ) where
   abbrev own : ℕ → ℕ → Kind → ℕ
   own i l k = if is_of_flow i l k cell then x else 0
 
-  both_kinds : (a b : Bool) (kind : Kind) → ◌≡◌ {A = ℕ} ((if a && b && is_kind kind Uni then x else 0) + (if a && b && is_kind kind Multi then x else 0)) (if a && b then x else 0)
+  both_kinds : (a b : Bool) (kind : Kind)
+      → ◌≡◌ {A = ℕ} ((if a && b && is_kind kind Uni then x else 0) + (if a && b && is_kind kind Multi then x else 0)) (if a && b then x else 0)
   both_kinds true true Uni = omega arith
   both_kinds true true Multi = omega arith
   both_kinds true false kind = refl
@@ -117,7 +119,8 @@ module _ (cell : Cell) (x : ℕ) where
   own_input small =
       let mine : (cell.input == cell.input) ≡ true = eq-eqb cell.input cell.input refl in
       sum_at (λ l. own cell.input l Uni + own cell.input l Multi) cell.level
-      (λ l differ. let apart : (cell.level == l) ≡ false = ne_eqb cell.level l (λ e. differ (sym e)) in both_kinds (cell.input == cell.input) (cell.level == l) cell.kind ∙ rw (mine, apart)) 0 LEVELS (omega arith) small
+      (λ l differ. let apart : (cell.level == l) ≡ false = ne_eqb cell.level l (λ e. differ (sym e)) in
+      both_kinds (cell.input == cell.input) (cell.level == l) cell.kind ∙ rw (mine, apart)) 0 LEVELS (omega arith) small
       ∙ both_kinds (cell.input == cell.input) (cell.level == cell.level) cell.kind
       ∙ (let here : (cell.level == cell.level) ≡ true = eq-eqb cell.level cell.level refl in rw (mine, here))
 
@@ -139,7 +142,8 @@ module _ (w : List ℕ → ℕ) (n : ℕ) where
       let ended : List (List ℕ) = ended_by before cell in
       let more : List Cell = before ++ cell ∷ [] in
       let rest = messages-sum more cells (All-tail P cell cells within) in
-      flow_same n (λ i l k. sum_by w (messages_from i l k before (cell ∷ cells))) (λ i l k. own cell (sum_by w ended) i l k + sum_by w (messages_from i l k more cells))
+      flow_same n (λ i l k. sum_by w (messages_from i l k before (cell ∷ cells)))
+      (λ i l k. own cell (sum_by w ended) i l k + sum_by w (messages_from i l k more cells))
       (λ i l k. weight_if (is_of_flow i l k cell) ended (messages_from i l k more cells))
       ∙ flow_add n (own cell (sum_by w ended)) (λ i l k. sum_by w (messages_from i l k more cells))
       ∙ (let one = one_flow cell (sum_by w ended) n here.0 here.1 in omega (arith, one, rest))

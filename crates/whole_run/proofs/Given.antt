@@ -22,9 +22,12 @@ module _ (plan : SwitchPlan) (j : ℕ) where
   cells_taken-run slots = flat_map-map (λ (taken : Taken). option_to_list taken.cell) (taken_at (setup_for plan) (posts_in plan) j) (range_with_len 0 slots)
 
   module _ (good : IsGood plan) (inside : j < ports_of plan) where
-    one-given : (t : ℕ) (one : Taken) → IsGiven (card_at plan j) (run_takings plan j t) (taken_at (setup_for plan) (posts_in plan) j t) one → one ≡ taken_at (setup_for plan) (posts_in plan) j t
+    one-given : (t : ℕ) (one : Taken) → IsGiven (card_at plan j) (run_takings plan j t) (taken_at (setup_for plan) (posts_in plan) j t) one
+        → one ≡ taken_at (setup_for plan) (posts_in plan) j t
     one-given t one given =
-        let received : HasReceived (card_at plan j) given.card.receives (cells_to plan j t) = subst (HasReceived (card_at plan j) given.card.receives) (cells_taken-run t) (subst (λ card. HasReceived card given.card.receives (cells_taken (run_takings plan j t))) given.plan_is given.after.received) in
+        let received : HasReceived (card_at plan j) given.card.receives (cells_to plan j t) =
+        subst (HasReceived (card_at plan j) given.card.receives) (cells_taken-run t)
+        (subst (λ card. HasReceived card given.card.receives (cells_taken (run_takings plan j t))) given.plan_is given.after.received) in
         let may = cell_fits decision_of IsScheduler-decision_of plan good j t given.card.receives inside received in
         elim given.fitted [
           | inl whole ↦ whole.1
@@ -34,14 +37,18 @@ module _ (plan : SwitchPlan) (j : ℕ) where
     run_takings-more : (t : ℕ) → run_takings plan j t ++ taken_at (setup_for plan) (posts_in plan) j t ∷ [] ≡ run_takings plan j (t + 1)
     run_takings-more t = sym (map-range_with_len_more (taken_at (setup_for plan) (posts_in plan) j) 0 t t (omega arith))
 
-    given-after : (k t : ℕ) (given : List Taken) → AreGivenAfter (card_at plan j) (run_takings plan j t) (map (taken_at (setup_for plan) (posts_in plan) j) (range_with_len t k)) given → given ≡ map (taken_at (setup_for plan) (posts_in plan) j) (range_with_len t k)
+    given-after : (k t : ℕ) (given : List Taken)
+        → AreGivenAfter (card_at plan j) (run_takings plan j t) (map (taken_at (setup_for plan) (posts_in plan) j) (range_with_len t k)) given
+        → given ≡ map (taken_at (setup_for plan) (posts_in plan) j) (range_with_len t k)
     given-after zero t [] are = refl
     given-after zero t (one ∷ given) are = absurd are
     given-after (suc k) t [] are = absurd are
     given-after (suc k) t (one ∷ given) are =
         let is = one-given t one are.0 in
         let before : run_takings plan j t ++ one ∷ [] ≡ run_takings plan j (t + 1) = ap (λ taken. run_takings plan j t ++ taken ∷ []) is ∙ run_takings-more t in
-        let rest = given-after k (t + 1) given (subst (λ takings. AreGivenAfter (card_at plan j) takings (map (taken_at (setup_for plan) (posts_in plan) j) (range_with_len (t + 1) k)) given) before are.1) in
+        let rest = given-after k (t + 1) given
+        (subst (λ takings. AreGivenAfter (card_at plan j) takings (map (taken_at (setup_for plan) (posts_in plan) j) (range_with_len (t + 1) k)) given)
+        before are.1) in
         cc
 
     pub all-given : (slots : ℕ) (given : List Taken) → AreGiven (card_at plan j) (run_takings plan j slots) given → given ≡ run_takings plan j slots

@@ -22,7 +22,8 @@ use Rattle.whole_run.proofs.PacketCells.{named}
 use Rattle.whole_run.proofs.FlowCells.{IsFrom, FirstsAre, cells_to-push, waits_at, crossed_is, crossed_from}
 
 -- the one cell that crosses is the first
-one_from : (i level : ℕ) (kind : Kind) (card : Plan) (cell : Cell) (w : List FanCell) → cell ∷ [] ≡ named card (first_of w) → FirstsAre i level kind card w → IsFrom i level kind cell
+one_from : (i level : ℕ) (kind : Kind) (card : Plan) (cell : Cell) (w : List FanCell) → cell ∷ [] ≡ named card (first_of w) → FirstsAre i level kind card w
+    → IsFrom i level kind cell
 one_from i level kind card cell [] is are = absurd (cc)
 one_from i level kind card cell (c ∷ w) is are = subst (IsFrom i level kind) (sym (head_is cell _ is)) are where
   head_is : (c d : Cell) → c ∷ [] ≡ d ∷ [] → c ≡ d
@@ -36,7 +37,8 @@ module _ (scheduler : Scheduler) (scheduling : IsScheduler scheduler) (plan : Sw
   cell_at j t = crossed_under scheduler (setup_for plan) (posts_under scheduler plan) j t
 
   -- an input feeds the output to which a cell crosses
-  feeds_by : (j t : ℕ) (cell : Cell) (o : Option Fed) → fed_of (matched_at t) j ≡ o → cell_at j (suc t) ≡ Some cell → (fed : Fed) × Serves (matched_at t) fed.input j fed.level fed.kind
+  feeds_by : (j t : ℕ) (cell : Cell) (o : Option Fed) → fed_of (matched_at t) j ≡ o → cell_at j (suc t) ≡ Some cell → (fed : Fed)
+      × Serves (matched_at t) fed.input j fed.level fed.kind
   feeds_by j t cell None none is =
       let deposits : List (Option Cell) = map (λ post. post.cell) (slot_posts (ports_of plan) (posts_under scheduler plan) (suc t)) in
       let nothing : None ≡ Some cell = sym (ap (deposit_by deposits) none) ∙ is in
@@ -46,10 +48,13 @@ module _ (scheduler : Scheduler) (scheduling : IsScheduler scheduler) (plan : Sw
   pub feeds : (j t : ℕ) (cell : Cell) → cell_at j (suc t) ≡ Some cell → (fed : Fed) × Serves (matched_at t) fed.input j fed.level fed.kind
   feeds j t cell is = feeds_by j t cell (fed_of (matched_at t) j) refl is
 
-  pub comes_from : (i j level : ℕ) (kind : Kind) (t : ℕ) (cell : Cell) → Serves (matched_at t) i j level kind → cell_at j (suc t) ≡ Some cell → IsFrom i level kind cell
+  pub comes_from : (i j level : ℕ) (kind : Kind) (t : ℕ) (cell : Cell) → Serves (matched_at t) i j level kind → cell_at j (suc t) ≡ Some cell
+      → IsFrom i level kind cell
   comes_from i j level kind t cell serves is =
       let inside = (sound scheduler scheduling plan good t).matches.input_in i j level kind serves in
-      one_from i level kind (card_at plan i) cell (waits_at scheduler scheduling plan good i (queue_to j level kind) t) (sym (ap option_to_list is) ∙ crossed_is scheduler scheduling plan good i j level kind t serves) (crossed_from scheduler scheduling plan good i j level kind t inside)
+      one_from i level kind (card_at plan i) cell (waits_at scheduler scheduling plan good i (queue_to j level kind) t)
+      (sym (ap option_to_list is) ∙ crossed_is scheduler scheduling plan good i j level kind t serves)
+      (crossed_from scheduler scheduling plan good i j level kind t inside)
 
   -- ---- each cell that crosses is of a flow
   one_of : (j t : ℕ) (o : Option Cell) → cell_at j (suc t) ≡ o → All (λ cell. (cell.input < ports_of plan) × (cell.level < LEVELS)) (option_to_list o)
@@ -68,4 +73,6 @@ module _ (scheduler : Scheduler) (scheduling : IsScheduler scheduler) (plan : Sw
   all_of_flows j (suc zero) = λ k d short. absurd (omega arith)
   all_of_flows j (suc (suc t)) =
       let P : Cell → Type 0 = λ cell. (cell.input < ports_of plan) × (cell.level < LEVELS) in
-      subst (All P) (sym (cells_to-push scheduler plan j (suc t))) (All-append P (cells_under scheduler plan j (suc t)) (option_to_list (cell_at j (suc t))) (all_of_flows j (suc t)) (one_of j t (cell_at j (suc t)) refl))
+      subst (All P) (sym (cells_to-push scheduler plan j (suc t)))
+      (All-append P (cells_under scheduler plan j (suc t)) (option_to_list (cell_at j (suc t))) (all_of_flows j (suc t))
+      (one_of j t (cell_at j (suc t)) refl))

@@ -1,5 +1,6 @@
 -- The cells of a queue that go to an output are those of the messages of its admitted packets that go there.
-use Rattle.std.proofs.Common.{◌≡◌, ◌≢◌, ◌∙◌, ℕ, suc, ◌+◌, ◌&&◌, ◌==◌, not, nat_lt, Bool, true, false, List, [], ◌∷◌, ◌++◌, map, filter, Option, Some, slice_get, refl, sym, ap, arith, if◌then◌else◌}
+use Rattle.std.proofs.Common.{◌≡◌, ◌≢◌, ◌∙◌, ℕ, suc, ◌+◌, ◌&&◌, ◌==◌, not, nat_lt, Bool, true, false, List, [], ◌∷◌, ◌++◌, map, filter, Option, Some}
+use Rattle.std.proofs.Common.{slice_get, refl, sym, ap, arith, if◌then◌else◌}
 use Rattle.std.specs.List.{flat_map}
 use Rattle.std.proofs.lemmas.Bool.{and_parts, eq-eqb}
 use Rattle.std.proofs.lemmas.List.{map-append}
@@ -42,26 +43,32 @@ module _ (plan : Plan) (good : IsGoodPlan plan) (q : Queue) (j : ℕ) where
   abbrev cells_of : List ℕ → List Cell
   cells_of message = cells_of_message plan.card (level_of q) (kind_of q) message
 
-  queue-cells : (k : ℕ) (p : Planned) → slice_get plan.packets k ≡ Some p → q ≡ queue_of p → named plan (cells_with_fan k (size_of p) p.fan) ≡ cells_of (message_of plan p)
+  queue-cells : (k : ℕ) (p : Planned) → slice_get plan.packets k ≡ Some p → q ≡ queue_of p
+      → named plan (cells_with_fan k (size_of p) p.fan) ≡ cells_of (message_of plan p)
   queue-cells k p there is =
       packet-cells plan good k p there ∙ ap (λ r. cells_of_message plan.card (level_of r) (kind_of r) (message_of plan p)) (sym is)
 
-  cells_step : (k : ℕ) (p : Planned) → slice_get plan.packets k ≡ Some p → (cells : List FanCell) (packets : List Planned) (b h : Bool) → (b ≡ true → q ≡ queue_of p) → has p.fan j ≡ h
+  cells_step : (k : ℕ) (p : Planned) → slice_get plan.packets k ≡ Some p → (cells : List FanCell) (packets : List Planned) (b h : Bool)
+      → (b ≡ true → q ≡ queue_of p) → has p.fan j ≡ h
       → named plan (to_output j cells) ≡ flat_map cells_of (map (message_of plan) packets)
-      → named plan (to_output j ((if b then cells_with_fan k (size_of p) p.fan else []) ++ cells)) ≡ flat_map cells_of (map (message_of plan) (if b && h then p ∷ packets else packets))
+      → named plan (to_output j ((if b then cells_with_fan k (size_of p) p.fan else []) ++ cells)) ≡ flat_map cells_of
+      (map (message_of plan) (if b && h then p ∷ packets else packets))
   cells_step k p there cells packets true true of goes rest =
       let own = cells_with_fan k (size_of p) p.fan in
-      ap (named plan) (filter-append (λ (cell : FanCell). has cell.fan j) own cells ∙ ap (λ w. w ++ to_output j cells) (all_go j p.fan (names_of_packet k (size_of p)) goes))
+      ap (named plan) (filter-append (λ (cell : FanCell). has cell.fan j) own cells
+      ∙ ap (λ w. w ++ to_output j cells) (all_go j p.fan (names_of_packet k (size_of p)) goes))
       ∙ map-append (λ (cell : FanCell). cell_named plan cell.name) own (to_output j cells)
       ∙ ap (λ w. w ++ named plan (to_output j cells)) (queue-cells k p there (of refl))
       ∙ ap (λ w. cells_of (message_of plan p) ++ w) rest
   cells_step k p there cells packets true false of goes rest =
       let own = cells_with_fan k (size_of p) p.fan in
-      ap (named plan) (filter-append (λ (cell : FanCell). has cell.fan j) own cells ∙ ap (λ w. w ++ to_output j cells) (none_goes j p.fan (names_of_packet k (size_of p)) goes))
+      ap (named plan) (filter-append (λ (cell : FanCell). has cell.fan j) own cells
+      ∙ ap (λ w. w ++ to_output j cells) (none_goes j p.fan (names_of_packet k (size_of p)) goes))
       ∙ rest
   cells_step k p there cells packets false h of goes rest = rest
 
-  hold_step : (k : ℕ) (p : Planned) → slice_get plan.packets k ≡ Some p → (packets : List Planned) (b h : Bool) → (b ≡ true → (q ≡ queue_of p) × (p.fan ≢ 0)) → has p.fan j ≡ h
+  hold_step : (k : ℕ) (p : Planned) → slice_get plan.packets k ≡ Some p → (packets : List Planned) (b h : Bool) → (b ≡ true → (q ≡ queue_of p) × (p.fan ≢ 0))
+      → has p.fan j ≡ h
       → AllHold (IsMessageTo plan q j) (map (message_of plan) packets)
       → AllHold (IsMessageTo plan q j) (map (message_of plan) (if b && h then p ∷ packets else packets))
   hold_step k p there packets true true of goes rest = (
@@ -93,7 +100,8 @@ module _ (plan : Plan) (good : IsGoodPlan plan) (q : Queue) (j : ℕ) where
     others_are : (k : ℕ) (p : Planned) (ps : List Planned) → AreFrom k (p ∷ ps) → AreFrom (k + 1) ps
     others_are k p ps there i r at = ap (slice_get plan.packets) (let e : k + 1 + i ≡ k + suc i = omega arith in e) ∙ there (suc i) r at
 
-    cells_from : (k : ℕ) (ps : List Planned) → AreFrom k ps → named plan (to_output j (cells_admitted plan q served t k ps)) ≡ flat_map cells_of (map (message_of plan) (filter test ps))
+    cells_from : (k : ℕ) (ps : List Planned) → AreFrom k ps
+        → named plan (to_output j (cells_admitted plan q served t k ps)) ≡ flat_map cells_of (map (message_of plan) (filter test ps))
     cells_from k [] there = refl
     cells_from k (p ∷ ps) there =
         cells_step k p (here_is k p ps there) (cells_admitted plan q served t (k + 1) ps) (filter test ps)
@@ -109,7 +117,8 @@ module _ (plan : Plan) (good : IsGoodPlan plan) (q : Queue) (j : ℕ) where
     all_from : AreFrom 0 plan.packets
     all_from i p at = ap (slice_get plan.packets) (let e : 0 + i ≡ i = omega arith in e) ∙ at
 
-    pub packets_cells : named plan (to_output j (before plan q served t).entered) ≡ flat_map (cells_of_message plan.card (level_of q) (kind_of q)) (map (message_of plan) (packets_to plan q j served t))
+    pub packets_cells : named plan (to_output j (before plan q served t).entered) ≡ flat_map (cells_of_message plan.card (level_of q) (kind_of q))
+        (map (message_of plan) (packets_to plan q j served t))
     packets_cells = ap (λ cells. named plan (to_output j cells)) (entered-is plan q served good t) ∙ cells_from 0 plan.packets all_from
 
     pub packets_hold : AllHold (IsMessageTo plan q j) (map (message_of plan) (packets_to plan q j served t))

@@ -50,7 +50,8 @@ range_sum-le a (suc n) f g le =
     omega (arith, sum_by-cons f a (range_with_len (a + 1) n), sum_by-cons g a (range_with_len (a + 1) n))
 
 -- and of one that is greater by one at least
-pub range_sum-less : (a n : ℕ) (f g : ℕ → ℕ) (h : ℕ) → a ≤ h → h < a + n → f h + 1 ≤ g h → ((i : ℕ) → a ≤ i → i < a + n → f i ≤ g i) → sum_by f (range_with_len a n) + 1 ≤ sum_by g (range_with_len a n)
+pub range_sum-less : (a n : ℕ) (f g : ℕ → ℕ) (h : ℕ) → a ≤ h → h < a + n → f h + 1 ≤ g h → ((i : ℕ) → a ≤ i → i < a + n → f i ≤ g i)
+    → sum_by f (range_with_len a n) + 1 ≤ sum_by g (range_with_len a n)
 range_sum-less a zero f g h from below less le = absurd (omega arith)
 range_sum-less a (suc n) f g h from below less le =
     let f' = sum_by-cons f a (range_with_len (a + 1) n) in

@@ -1,5 +1,6 @@
 -- Each output has room for the messages that the inputs send to it.
-use Rattle.std.proofs.Common.{◌≡◌, ◌∙◌, ℕ, zero, suc, ◌+◌, ◌*◌, ◌<◌, ◌≤◌, max, ◌==◌, ◌&&◌, Bool, true, false, List, [], ◌∷◌, ◌++◌, map, length, fold, Some, slice_get, slice_index, slice_index_or, refl, sym, ap, subst, arith, if◌then◌else◌}
+use Rattle.std.proofs.Common.{◌≡◌, ◌∙◌, ℕ, zero, suc, ◌+◌, ◌*◌, ◌<◌, ◌≤◌, max, ◌==◌, ◌&&◌, Bool, true, false, List, [], ◌∷◌, ◌++◌, map, length, fold}
+use Rattle.std.proofs.Common.{Some, slice_get, slice_index, slice_index_or, refl, sym, ap, subst, arith, if◌then◌else◌}
 use Rattle.std.specs.List.{range_with_len}
 use Rattle.std.proofs.Math.Nat.{le-max_left, le-max_right}
 use Rattle.std.proofs.lemmas.Bool.{eq-eqb}
@@ -36,7 +37,8 @@ greatest_rises j flow (p ∷ ps) most =
     let rest = greatest_rises j flow ps (greater j flow most p) in
     omega (arith, step, rest)
 
-greatest_has : (j flow : ℕ) (ps : List Planned) (most k : ℕ) (p : Planned) → slice_get ps k ≡ Some p → goes_to j p ≡ true → flow_of p ≡ flow → message_length p ≤ fold (greater j flow) most ps
+greatest_has : (j flow : ℕ) (ps : List Planned) (most k : ℕ) (p : Planned) → slice_get ps k ≡ Some p → goes_to j p ≡ true → flow_of p ≡ flow
+    → message_length p ≤ fold (greater j flow) most ps
 greatest_has j flow [] most k p there goes is = absurd (cc)
 greatest_has j flow (x ∷ ps) most zero p there goes is =
     let test : goes_to j p && (flow_of p == flow) ≡ true = rw (goes, eq-eqb (flow_of p) flow is) in
@@ -46,7 +48,8 @@ greatest_has j flow (x ∷ ps) most zero p there goes is =
 greatest_has j flow (x ∷ ps) most (suc k) p there goes is = greatest_has j flow ps (greater j flow most x) k p there goes is
 
 -- ---- the sizes of all flows
-sizes_at : (j flow : ℕ) → flow < 8 → (ports : List (List Planned)) (i : ℕ) → i < length ports → slice_index (sizes_for j ports) (8 * i + flow) ≡ greatest_message j flow (slice_index_or ports i [])
+sizes_at : (j flow : ℕ) → flow < 8 → (ports : List (List Planned)) (i : ℕ) → i < length ports
+    → slice_index (sizes_for j ports) (8 * i + flow) ≡ greatest_message j flow (slice_index_or ports i [])
 sizes_at j flow small [] i inside = absurd (omega arith)
 sizes_at j flow small (packets ∷ ports) zero inside =
     let own = map (λ f. greatest_message j f packets) (range_with_len 0 8) in

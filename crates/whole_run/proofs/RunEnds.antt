@@ -14,7 +14,8 @@ use Rattle.whole_run.proofs.RunWork.{all_grants, all_grants-le, pair_grants, all
 
 module _ (scheduler : Scheduler) (scheduling : IsScheduler scheduler) (plan : SwitchPlan) (good : IsGood plan) where
   -- so many slots after the last arrival that are not done grant a cell each
-  going_grants : (k : ℕ) → ((u : ℕ) → u < greatest_slots (packets_in plan) + k → is_done_at (ports_of plan) (posts_under scheduler plan) u ≡ false) → k ≤ all_grants scheduler plan (greatest_slots (packets_in plan) + k)
+  going_grants : (k : ℕ) → ((u : ℕ) → u < greatest_slots (packets_in plan) + k → is_done_at (ports_of plan) (posts_under scheduler plan) u ≡ false)
+      → k ≤ all_grants scheduler plan (greatest_slots (packets_in plan) + k)
   going_grants zero going = omega arith
   going_grants (suc k) going =
       let last = greatest_slots (packets_in plan) + k in

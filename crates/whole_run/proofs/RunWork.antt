@@ -1,6 +1,7 @@
 -- What a run granted, over all inputs, queues and outputs: each slot that matches a pair adds to it, and it is no more
 -- than the admitted packets bring to their outputs.
-use Rattle.std.proofs.Common.{◌≡◌, ◌∙◌, ℕ, suc, ◌+◌, ◌<◌, ◌≤◌, ◌==◌, Bool, true, false, List, [], ◌∷◌, map, length, None, Some, slice_index_or, refl, sym, ap, arith, if◌then◌else◌, length-append, add-one}
+use Rattle.std.proofs.Common.{◌≡◌, ◌∙◌, ℕ, suc, ◌+◌, ◌<◌, ◌≤◌, ◌==◌, Bool, true, false, List, [], ◌∷◌, map, length, None, Some, slice_index_or, refl}
+use Rattle.std.proofs.Common.{sym, ap, arith, if◌then◌else◌, length-append, add-one}
 use Rattle.std.specs.Prelude.{sum_by}
 use Rattle.std.specs.List.{range_with_len}
 use Rattle.std.proofs.lemmas.Bool.{and_from, eq-eqb}
@@ -57,7 +58,8 @@ module _ (scheduler : Scheduler) (plan : SwitchPlan) where
   -- what slot t grants input i of a queue to output j
   abbrev grant_of : ℕ → ℕ → Queue → ℕ → List FanCell
   grant_of t i q j =
-      if serves q j (slice_index_or (parts_under scheduler plan i (suc t)) t None) then first_of (waiting (queue_in (card_at plan i) q (parts_under scheduler plan i (suc t)) t)) else []
+      if serves q j (slice_index_or (parts_under scheduler plan i (suc t)) t None) then first_of
+      (waiting (queue_in (card_at plan i) q (parts_under scheduler plan i (suc t)) t)) else []
 
   granted-more : (t i j : ℕ) (q : Queue) → granted i q j (suc t) ≡ granted i q j t + length (grant_of t i q j)
   granted-more t i j q =
@@ -81,48 +83,60 @@ module _ (scheduler : Scheduler) (plan : SwitchPlan) where
 
 module _ (scheduler : Scheduler) (scheduling : IsScheduler scheduler) (plan : SwitchPlan) (good : IsGood plan) where
   -- a pair of a slot is a cell that waits, and is granted
-  waits : (t i j level : ℕ) (kind : Kind) → i < ports_of plan → Serves (decision_under scheduler (setup_for plan) (posts_under scheduler plan) t).matched i j level kind → Names (posts_under scheduler plan i t).row level kind j
-  waits t i j level kind inside pair = pair-named scheduler (setup_for plan) (posts_under scheduler plan) t (sound scheduler scheduling plan good t) (is-slot scheduler scheduling plan good t) i j level kind inside pair
+  waits : (t i j level : ℕ) (kind : Kind) → i < ports_of plan
+      → Serves (decision_under scheduler (setup_for plan) (posts_under scheduler plan) t).matched i j level kind
+      → Names (posts_under scheduler plan i t).row level kind j
+  waits t i j level kind inside pair = pair-named scheduler (setup_for plan) (posts_under scheduler plan) t (sound scheduler scheduling plan good t)
+      (is-slot scheduler scheduling plan good t) i j level kind inside pair
 
-  uni_waits : (t i j level : ℕ) → i < ports_of plan → Names (posts_under scheduler plan i t).row level Uni j → has_cells (waiting (queue_in (card_at plan i) (OfOutput j level) (parts_under scheduler plan i (suc t)) t)) ≡ true
+  uni_waits : (t i j level : ℕ) → i < ports_of plan → Names (posts_under scheduler plan i t).row level Uni j
+      → has_cells (waiting (queue_in (card_at plan i) (OfOutput j level) (parts_under scheduler plan i (suc t)) t)) ≡ true
   uni_waits t i j level inside named =
       ap (λ s. has_cells (waiting s)) (queue_in-same scheduler plan i t (suc t) (omega arith) (OfOutput j level))
       ∙ (uni-in (card_at plan i) (good-card plan good i inside).good (parts_under scheduler plan i t) t level j named).2
 
-  multi_waits : (t i j level : ℕ) → i < ports_of plan → Names (posts_under scheduler plan i t).row level Multi j → has_cells (waiting (queue_in (card_at plan i) (OfLevel level) (parts_under scheduler plan i (suc t)) t)) ≡ true
+  multi_waits : (t i j level : ℕ) → i < ports_of plan → Names (posts_under scheduler plan i t).row level Multi j
+      → has_cells (waiting (queue_in (card_at plan i) (OfLevel level) (parts_under scheduler plan i (suc t)) t)) ≡ true
   multi_waits t i j level inside named =
       let card = (good-card plan good i inside).good in
       let s = queue_in (card_at plan i) (OfLevel level) (parts_under scheduler plan i t) t in
       ap (λ s. has_cells (waiting s)) (queue_in-same scheduler plan i t (suc t) (omega arith) (OfLevel level))
       ∙ left_waits (card_at plan i) card (OfLevel level) s j (multi-in (card_at plan i) card (parts_under scheduler plan i t) t level j named).1
 
-  given : (t i j level : ℕ) (kind : Kind) → Serves (decision_under scheduler (setup_for plan) (posts_under scheduler plan) t).matched i j level kind → gives (slice_index_or (parts_under scheduler plan i (suc t)) t None) j level kind ≡ true
+  given : (t i j level : ℕ) (kind : Kind) → Serves (decision_under scheduler (setup_for plan) (posts_under scheduler plan) t).matched i j level kind
+      → gives (slice_index_or (parts_under scheduler plan i (suc t)) t None) j level kind ≡ true
   given t i j level kind pair =
       let matched = (decision_under scheduler (setup_for plan) (posts_under scheduler plan) t).matched in
       let found = served_of-served (ports_of plan) matched (sound scheduler scheduling plan good t).matches i j level kind pair in
       let part = found.0 in
       let alike = found.2.only j level kind pair in
       let member = (found.2.outputs j).1 (Serves-along matched i j level part.level kind part.kind alike.0 alike.1 pair) in
-      ap (λ served. gives served j level kind) (served-at scheduler plan i t (suc t) (omega arith) ∙ found.1) ∙ (Decides-gives (Some part) j level kind).1 (member, alike.0, alike.1)
+      ap (λ served. gives served j level kind) (served-at scheduler plan i t (suc t) (omega arith) ∙ found.1)
+      ∙ (Decides-gives (Some part) j level kind).1 (member, alike.0, alike.1)
 
-  granted_one : (t i j level : ℕ) (kind : Kind) → i < ports_of plan → Serves (decision_under scheduler (setup_for plan) (posts_under scheduler plan) t).matched i j level kind
+  granted_one : (t i j level : ℕ) (kind : Kind) → i < ports_of plan
+      → Serves (decision_under scheduler (setup_for plan) (posts_under scheduler plan) t).matched i j level kind
       → level_grants scheduler plan t i j level + 1 ≤ level_grants scheduler plan (suc t) i j level
   granted_one t i j level Uni inside pair =
       let uni = granted-more scheduler plan t i j (OfOutput j level) in
       let multi = granted-more scheduler plan t i j (OfLevel level) in
-      let served = and_from (j == j) (gives (slice_index_or (parts_under scheduler plan i (suc t)) t None) j level Uni) (eq-eqb j j refl) (given t i j level Uni pair) in
-      let one = one_first (serves (OfOutput j level) j (slice_index_or (parts_under scheduler plan i (suc t)) t None)) (waiting (queue_in (card_at plan i) (OfOutput j level) (parts_under scheduler plan i (suc t)) t)) served
+      let served = and_from (j == j) (gives (slice_index_or (parts_under scheduler plan i (suc t)) t None) j level Uni) (eq-eqb j j refl)
+      (given t i j level Uni pair) in
+      let one = one_first (serves (OfOutput j level) j (slice_index_or (parts_under scheduler plan i (suc t)) t None))
+      (waiting (queue_in (card_at plan i) (OfOutput j level) (parts_under scheduler plan i (suc t)) t)) served
       (uni_waits t i j level inside (waits t i j level Uni inside pair)) in
       omega arith
   granted_one t i j level Multi inside pair =
       let uni = granted-more scheduler plan t i j (OfOutput j level) in
       let multi = granted-more scheduler plan t i j (OfLevel level) in
-      let one = one_first (serves (OfLevel level) j (slice_index_or (parts_under scheduler plan i (suc t)) t None)) (waiting (queue_in (card_at plan i) (OfLevel level) (parts_under scheduler plan i (suc t)) t)) (given t i j level Multi pair)
+      let one = one_first (serves (OfLevel level) j (slice_index_or (parts_under scheduler plan i (suc t)) t None))
+      (waiting (queue_in (card_at plan i) (OfLevel level) (parts_under scheduler plan i (suc t)) t)) (given t i j level Multi pair)
       (multi_waits t i j level inside (waits t i j level Multi inside pair)) in
       omega arith
 
   -- a slot that matches a pair grants a cell
-  pub pair_grants : (t i j level : ℕ) (kind : Kind) → Serves (decision_under scheduler (setup_for plan) (posts_under scheduler plan) t).matched i j level kind → all_grants scheduler plan t + 1 ≤ all_grants scheduler plan (suc t)
+  pub pair_grants : (t i j level : ℕ) (kind : Kind) → Serves (decision_under scheduler (setup_for plan) (posts_under scheduler plan) t).matched i j level kind
+      → all_grants scheduler plan t + 1 ≤ all_grants scheduler plan (suc t)
   pair_grants t i j level kind pair =
       let n = ports_of plan in
       let matched = (decision_under scheduler (setup_for plan) (posts_under scheduler plan) t).matched in
@@ -132,7 +146,8 @@ module _ (scheduler : Scheduler) (scheduling : IsScheduler scheduler) (plan : Sw
       let output : j < length matched = fed_of-lt matched j (record { input = i; level = level; kind = kind }) pair in
       range_sum-less 0 n (input_grants scheduler plan t) (input_grants scheduler plan (suc t)) i (omega arith) (omega arith)
       (range_sum-less 0 n (output_grants scheduler plan t i) (output_grants scheduler plan (suc t) i) j (omega arith) (omega arith)
-      (range_sum-less 0 LEVELS (level_grants scheduler plan t i j) (level_grants scheduler plan (suc t) i j) level (omega arith) (matches.level_in i j level kind pair) (granted_one t i j level kind inside pair)
+      (range_sum-less 0 LEVELS (level_grants scheduler plan t i j) (level_grants scheduler plan (suc t) i j) level (omega arith)
+      (matches.level_in i j level kind pair) (granted_one t i j level kind inside pair)
       (λ l from below. level_grants-le scheduler plan t i j l))
       (λ k from below. output_grants-le scheduler plan t i k))
       (λ k from below. input_grants-le scheduler plan t k)
@@ -140,7 +155,8 @@ module _ (scheduler : Scheduler) (scheduling : IsScheduler scheduler) (plan : Sw
   pub all_grants-few : (t : ℕ) → all_grants scheduler plan t ≤ total_under scheduler plan t
   all_grants-few t =
       range_sum-le 0 (ports_of plan) (input_grants scheduler plan t) (λ i. sum_by (work_under scheduler plan t i) (card_at plan i).packets)
-      (λ i from inside. card_work (card_at plan i) (good-card plan good i (omega arith)).good (parts_under scheduler plan i t) t (ports_of plan) (λ u below. servable scheduler scheduling plan good i u t (omega arith) below))
+      (λ i from inside. card_work (card_at plan i) (good-card plan good i (omega arith)).good (parts_under scheduler plan i t) t (ports_of plan)
+      (λ u below. servable scheduler scheduling plan good i u t (omega arith) below))
 
 -- ---- all packets
 admitted_work-le : (scheduler : Scheduler) (plan : SwitchPlan) (slots i : ℕ) (packet : Planned) → work_under scheduler plan slots i packet ≤ work_of packet
@@ -149,7 +165,8 @@ admitted_work-le scheduler plan slots i packet = some_of _ (work_of packet) wher
   some_of true x = omega arith
   some_of false x = omega arith
 
-sum_of_cards : (f : List Planned → ℕ) (cards : List CardPlan) → sum_by (λ i. f (slice_index_or cards i no_plan).packets) (range_with_len 0 (length cards)) ≡ sum_by f (map (λ card. card.packets) cards)
+sum_of_cards : (f : List Planned → ℕ) (cards : List CardPlan)
+    → sum_by (λ i. f (slice_index_or cards i no_plan).packets) (range_with_len 0 (length cards)) ≡ sum_by f (map (λ card. card.packets) cards)
 sum_of_cards f [] = refl
 sum_of_cards f (card ∷ cards) =
     let at = λ (i : ℕ). f (slice_index_or (card ∷ cards) i no_plan).packets in
@@ -161,7 +178,8 @@ sum_of_cards f (card ∷ cards) =
 
 pub total_admitted-le : (scheduler : Scheduler) (plan : SwitchPlan) (slots : ℕ) → total_under scheduler plan slots ≤ total_work (packets_in plan)
 total_admitted-le scheduler plan slots =
-    let few = range_sum-le 0 (ports_of plan) (λ i. sum_by (work_under scheduler plan slots i) (card_at plan i).packets) (λ i. sum_by work_of (card_at plan i).packets)
+    let few = range_sum-le 0 (ports_of plan) (λ i. sum_by (work_under scheduler plan slots i) (card_at plan i).packets)
+    (λ i. sum_by work_of (card_at plan i).packets)
     (λ i from below. sum_by-le-sum_by (work_under scheduler plan slots i) work_of (card_at plan i).packets (admitted_work-le scheduler plan slots i)) in
     let whole = sum_of_cards (sum_by work_of) plan.cards in
     omega arith

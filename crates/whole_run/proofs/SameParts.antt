@@ -21,7 +21,8 @@ row_from plan queues = record {
 }
 
 -- two lists of parts that agree below slot k
-module _ (plan : CardPlan) (these those : List (Option Served)) (k : ℕ) (same : (u : ℕ) → u < k → slice_index_or these u None ≡ slice_index_or those u None) where
+module _ (plan : CardPlan) (these those : List (Option Served)) (k : ℕ)
+    (same : (u : ℕ) → u < k → slice_index_or these u None ≡ slice_index_or those u None) where
   pub before-alike : (q : Queue) (t : ℕ) → t ≤ k → before plan q these t ≡ before plan q those t
   before-alike q zero few = refl
   before-alike q (suc t) few =

@@ -8,7 +8,8 @@ use Rattle.switch_plan.specs.GoodPlans.{SwitchPlan, IsGood, packets_in}
 use Rattle.whole_run.specs.Runs.{ports_of}
 
 -- no port has more arrival slots than the greatest of these
-most_slots : (ports : List (List Planned)) (start most : ℕ) → start ≤ most → All (λ packets. slots_of packets ≤ most) ports → fold (λ (m : ℕ) (packets : List Planned). max m (slots_of packets)) start ports ≤ most
+most_slots : (ports : List (List Planned)) (start most : ℕ) → start ≤ most → All (λ packets. slots_of packets ≤ most) ports
+    → fold (λ (m : ℕ) (packets : List Planned). max m (slots_of packets)) start ports ≤ most
 most_slots [] start most begins each = begins
 most_slots (packets ∷ ports) start most begins each =
     let here : slots_of packets ≤ most = each 0 packets (omega arith) in

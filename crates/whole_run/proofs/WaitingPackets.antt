@@ -1,5 +1,6 @@
 -- A cell that waits is of a packet that was admitted.
-use Rattle.std.proofs.Common.{◌≡◌, ◌∙◌, ℕ, zero, suc, ◌+◌, ◌<◌, ◌≤◌, ◌&&◌, nat_lt, Bool, true, false, List, [], ◌∷◌, ◌++◌, drop, Option, Some, None, slice_index_or, slice_get, refl, sym, ap, arith, if◌then◌else◌}
+use Rattle.std.proofs.Common.{◌≡◌, ◌∙◌, ℕ, zero, suc, ◌+◌, ◌<◌, ◌≤◌, ◌&&◌, nat_lt, Bool, true, false, List, [], ◌∷◌, ◌++◌, drop, Option, Some, None}
+use Rattle.std.proofs.Common.{slice_index_or, slice_get, refl, sym, ap, arith, if◌then◌else◌}
 use Rattle.std.proofs.lemmas.Bool.{ltb-true}
 use Rattle.rotating_pick.specs.declared.kinds.Kind.{Kind}
 use Rattle.rotating_pick.specs.declared.kinds.Kind.TheVariants.{Uni, Multi}
@@ -47,7 +48,8 @@ module _ (card : Plan) (q : Queue) (served : List (Option Served)) (t : ℕ) whe
 
 -- ---- what a row names waits
 module _ (card : Plan) (good : IsGoodPlan card) (served : List (Option Served)) (t : ℕ) where
-  pub named-waits : (j level : ℕ) (kind : Kind) → Names (row_at card served t) level kind j → has_cells (waiting (queue_in card (queue_to j level kind) served t)) ≡ true
+  pub named-waits : (j level : ℕ) (kind : Kind) → Names (row_at card served t) level kind j
+      → has_cells (waiting (queue_in card (queue_to j level kind) served t)) ≡ true
   named-waits j level Uni named = (uni-in card good served t level j named).2
   named-waits j level Multi named =
       left_waits card good (OfLevel level) (queue_in card (OfLevel level) served t) j (multi-in card good served t level j named).1
@@ -59,13 +61,18 @@ tests_of true true false d is = absurd (cc)
 tests_of true false s d is = absurd (cc)
 tests_of false r s d is = absurd (cc)
 
-module _ (scheduler : Scheduler) (scheduling : IsScheduler scheduler) (plan : SwitchPlan) (good : IsGood plan) (slots i u : ℕ) (inside : i < ports_of plan) (below : u < slots) where
+module _ (scheduler : Scheduler) (scheduling : IsScheduler scheduler) (plan : SwitchPlan) (good : IsGood plan) (slots i u : ℕ) (inside : i < ports_of plan)
+    (below : u < slots) where
   -- whether a packet is admitted depends on the slots before its own alone
-  admitted_there : (p : Planned) → p.arrival ≤ u → is_admitted (card_at plan i) (parts_under scheduler plan i slots) p.arrival p ≡ is_admitted (card_at plan i) (parts_under scheduler plan i u) p.arrival p
+  admitted_there : (p : Planned) → p.arrival ≤ u
+      → is_admitted (card_at plan i) (parts_under scheduler plan i slots) p.arrival p ≡ is_admitted (card_at plan i)
+      (parts_under scheduler plan i u) p.arrival p
   admitted_there p early =
-      ap (λ s. fits (card_at plan i) s p) (before-same scheduler plan i p.arrival slots (omega arith) (queue_of p) ∙ sym (before-same scheduler plan i p.arrival u early (queue_of p)))
+      ap (λ s. fits (card_at plan i) s p) (before-same scheduler plan i p.arrival slots (omega arith) (queue_of p)
+      ∙ sym (before-same scheduler plan i p.arrival u early (queue_of p)))
 
-  pub waiting-admitted : (q : Queue) → has_cells (waiting (queue_in (card_at plan i) q (parts_under scheduler plan i u) u)) ≡ true → (p : Planned) × IsAdmittedUnder scheduler plan slots i p × (q ≡ queue_of p)
+  pub waiting-admitted : (q : Queue) → has_cells (waiting (queue_in (card_at plan i) q (parts_under scheduler plan i u) u)) ≡ true → (p : Planned)
+      × IsAdmittedUnder scheduler plan slots i p × (q ≡ queue_of p)
   waiting-admitted q some =
       let card = card_at plan i in
       let served = parts_under scheduler plan i u in

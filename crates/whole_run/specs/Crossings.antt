@@ -16,7 +16,8 @@ use Rattle.whole_run.specs.Runs.{setup_for, card_at, parts_under, posts_under}
 
 -- the cells that cross to output j in the first slots, in order of slots: one a slot at most
 abbrev pub cells_under : Scheduler → SwitchPlan → ℕ → ℕ → List Cell
-cells_under scheduler plan j slots = flat_map (λ t. option_to_list (crossed_under scheduler (setup_for plan) (posts_under scheduler plan) j t)) (range_with_len 0 slots)
+cells_under scheduler plan j slots = flat_map (λ t. option_to_list (crossed_under scheduler (setup_for plan) (posts_under scheduler plan) j t))
+    (range_with_len 0 slots)
 
 abbrev pub cells_to : SwitchPlan → ℕ → ℕ → List Cell
 cells_to = cells_under decision_of

@@ -28,7 +28,8 @@ ArrivalsComeFirst plan slots = (i : ℕ) → i < ports_of plan → All (λ packe
 -- output in their fan-out, in order of arrival.
 abbrev pub DeliversUnder : Scheduler → SwitchPlan → ℕ → Type 0
 DeliversUnder scheduler plan slots = (i j level : ℕ) (kind : Kind) → i < ports_of plan → j < ports_of plan → level < LEVELS
-    → messages_from i level kind [] (cells_under scheduler plan j slots) ≡ map (message_of (card_at plan i)) (admitted_under scheduler plan j i level kind slots)
+    → messages_from i level kind [] (cells_under scheduler plan j slots) ≡ map (message_of (card_at plan i))
+    (admitted_under scheduler plan j i level kind slots)
 
 abbrev pub DeliversAdmitted : SwitchPlan → ℕ → Type 0
 DeliversAdmitted = DeliversUnder decision_of
@@ -63,14 +64,16 @@ abbrev pub CompletesUnder : Scheduler → SwitchPlan → ℕ → Type 0
 CompletesUnder scheduler plan slots = (first level i j : ℕ) → level < LEVELS → i < ports_of plan → first + 2 * ports_of plan ≤ slots
     → All (λ slot. IsClean (ports_of plan) level slot.rows) (take (2 * ports_of plan) (drop first (schedule_under scheduler plan slots)))
     → Names (posts_under scheduler plan i first).row level Multi j
-    → Any (λ slot. HasHead slot.rows level i × Completes slot.rows slot.decision.matched level i) (take (2 * ports_of plan) (drop first (schedule_under scheduler plan slots)))
+    → Any (λ slot. HasHead slot.rows level i × Completes slot.rows slot.decision.matched level i)
+    (take (2 * ports_of plan) (drop first (schedule_under scheduler plan slots)))
 
 abbrev pub CompletesMulticast : SwitchPlan → ℕ → Type 0
 CompletesMulticast = CompletesUnder decision_of
 
 -- The longest wait of the best level of all admitted packets is below the bound, where none of that level is multicast.
 abbrev pub WaitsUnder : Scheduler → SwitchPlan → ℕ → ℕ → Type 0
-WaitsUnder scheduler plan slots bound = (level : ℕ) → IsBestUnder scheduler plan slots level → longest_wait (ports_of plan) level (map noted_of (schedule_under scheduler plan slots)) < bound
+WaitsUnder scheduler plan slots bound = (level : ℕ) → IsBestUnder scheduler plan slots level
+    → longest_wait (ports_of plan) level (map noted_of (schedule_under scheduler plan slots)) < bound
 
 -- And the bound is that number of slots.
 abbrev pub WaitsAreShort : SwitchPlan → ℕ → Type 0
@@ -87,7 +90,8 @@ HasFewSlots = HasFewSlotsUnder decision_of
 -- A slot in which some port posts a row that is not empty matches a pair.
 abbrev pub BusySlotsMatchUnder : Scheduler → SwitchPlan → Type 0
 BusySlotsMatchUnder scheduler plan = (i t : ℕ) → i < ports_of plan → is_empty (posts_under scheduler plan i t).row ≡ false
-    → (input output level : ℕ) × (kind : Kind) × Serves (decision_under scheduler (setup_for plan) (posts_under scheduler plan) t).matched input output level kind
+    → (input output level : ℕ) × (kind : Kind)
+    × Serves (decision_under scheduler (setup_for plan) (posts_under scheduler plan) t).matched input output level kind
 
 abbrev pub BusySlotsMatch : SwitchPlan → Type 0
 BusySlotsMatch = BusySlotsMatchUnder decision_of

@@ -17,7 +17,8 @@ use Rattle.whole_run.specs.Runs.{ports_of, setup_for, card_at, parts_under, post
 -- the cells that a packet of input i brings to its outputs, none where it is not admitted in one of the first slots
 abbrev pub work_under : Scheduler → SwitchPlan → ℕ → ℕ → Planned → ℕ
 work_under scheduler plan slots i packet =
-    if nat_lt packet.arrival slots && is_routed packet && is_admitted (card_at plan i) (parts_under scheduler plan i slots) packet.arrival packet then work_of packet else 0
+    if nat_lt packet.arrival slots && is_routed packet
+    && is_admitted (card_at plan i) (parts_under scheduler plan i slots) packet.arrival packet then work_of packet else 0
 
 -- the cells that all admitted packets bring to their outputs
 abbrev pub total_under : Scheduler → SwitchPlan → ℕ → ℕ
@@ -45,7 +46,8 @@ pub record IsAdmittedUnder (scheduler : Scheduler) (plan : SwitchPlan) (slots i 
 pub record IsBestUnder (scheduler : Scheduler) (plan : SwitchPlan) (slots level : ℕ) : Type 0 where
   pub level_in : level < LEVELS
   pub best : (i : ℕ) (packet : Planned) → i < ports_of plan → IsAdmittedUnder scheduler plan slots i packet → level ≤ packet.level
-  pub unicast : (i : ℕ) (packet : Planned) → i < ports_of plan → IsAdmittedUnder scheduler plan slots i packet → packet.level ≡ level → kind_of (queue_of packet) ≡ Uni
+  pub unicast : (i : ℕ) (packet : Planned) → i < ports_of plan → IsAdmittedUnder scheduler plan slots i packet → packet.level ≡ level
+      → kind_of (queue_of packet) ≡ Uni
 
 abbrev pub IsBestLevel : SwitchPlan → ℕ → ℕ → Type 0
 IsBestLevel = IsBestUnder decision_of

@@ -14,12 +14,15 @@ ghost use Rattle.whole_run.specs.Promises.{DeliversUnder, DeliversNoOthersUnder}
 /// it ends one.
 pub fn cells_fit()
     ensures { (scheduler : Scheduler) (plan : SwitchPlan) (j slots : ℕ) (received : Received) → IsScheduler scheduler → IsGood plan → j < ports_of plan
-        → HasReceived (card_at plan j) received (cells_under scheduler plan j slots) → MayReceiveAny received (crossed_under scheduler (setup_for plan) (posts_under scheduler plan) j slots) }
+        → HasReceived (card_at plan j) received (cells_under scheduler plan j slots)
+        → MayReceiveAny received (crossed_under scheduler (setup_for plan) (posts_under scheduler plan) j slots) }
 {}
 
 /// When the run ends, the messages of each flow at an output are those of the admitted packets of that
 /// input, level and kind with the output in their fan-out, in order of arrival, and no others.
 pub fn admitted_packets_are_delivered()
-    ensures flows { (scheduler : Scheduler) (plan : SwitchPlan) (slots : ℕ) → IsScheduler scheduler → IsGood plan → IsLengthUnder scheduler plan slots → DeliversUnder scheduler plan slots }
-    ensures no_others { (scheduler : Scheduler) (plan : SwitchPlan) (slots : ℕ) → IsScheduler scheduler → IsGood plan → DeliversNoOthersUnder scheduler plan slots }
+    ensures flows { (scheduler : Scheduler) (plan : SwitchPlan) (slots : ℕ) → IsScheduler scheduler → IsGood plan → IsLengthUnder scheduler plan slots
+        → DeliversUnder scheduler plan slots }
+    ensures no_others { (scheduler : Scheduler) (plan : SwitchPlan) (slots : ℕ) → IsScheduler scheduler → IsGood plan
+        → DeliversNoOthersUnder scheduler plan slots }
 {}

@@ -14,8 +14,10 @@ pub fn busy_slots_match()
 /// A run ends, within its plan's slots, and after no more slots than the greatest number of arrival slots,
 /// the cells of the admitted packets counted for each output, and one.
 pub fn runs_end()
-    ensures ends { (scheduler : Scheduler) (plan : SwitchPlan) → IsScheduler scheduler → IsGood plan → (slots : ℕ) × IsLengthUnder scheduler plan slots × (slots ≤ plan.max_slots) }
-    ensures bound { (scheduler : Scheduler) (plan : SwitchPlan) (slots : ℕ) → IsScheduler scheduler → IsGood plan → IsLengthUnder scheduler plan slots → HasFewSlotsUnder scheduler plan slots }
+    ensures ends { (scheduler : Scheduler) (plan : SwitchPlan) → IsScheduler scheduler → IsGood plan → (slots : ℕ) × IsLengthUnder scheduler plan slots
+        × (slots ≤ plan.max_slots) }
+    ensures bound { (scheduler : Scheduler) (plan : SwitchPlan) (slots : ℕ) → IsScheduler scheduler → IsGood plan → IsLengthUnder scheduler plan slots
+        → HasFewSlotsUnder scheduler plan slots }
 {}
 
 /// A run has one length.

@@ -32,7 +32,8 @@ pub fn slots_follow_from_the_posts()
 /// Each post of a run is one that a board accepts.
 pub fn posts_are_accepted()
     ensures { (scheduler : Scheduler) (plan : SwitchPlan) (i t : ℕ) → IsScheduler scheduler → IsGood plan → i < ports_of plan
-        → IsAccepted (ports_of plan) i (row_before (posts_under scheduler plan) i t) (served_before_under scheduler (setup_for plan) (posts_under scheduler plan) i t) (posts_under scheduler plan i t) }
+        → IsAccepted (ports_of plan) i (row_before (posts_under scheduler plan) i t)
+        (served_before_under scheduler (setup_for plan) (posts_under scheduler plan) i t) (posts_under scheduler plan i t) }
 {}
 
 /// What a slot serves a port is part of the row that the port posts in it.
@@ -44,16 +45,21 @@ pub fn parts_are_requested()
 /// A cell that crosses to an output is of the input, level and kind that fed the output in the slot before; and
 /// where one fed it, a cell crosses.
 pub fn fed_outputs_get_cells()
-    ensures cell { (scheduler : Scheduler) (plan : SwitchPlan) (j t : ℕ) (cell : Cell) → IsScheduler scheduler → IsGood plan → crossed_under scheduler (setup_for plan) (posts_under scheduler plan) j (t + 1) ≡ Some cell
+    ensures cell { (scheduler : Scheduler) (plan : SwitchPlan) (j t : ℕ) (cell : Cell) → IsScheduler scheduler → IsGood plan
+        → crossed_under scheduler (setup_for plan) (posts_under scheduler plan) j (t + 1) ≡ Some cell
         → (fed : Fed) × (fed_of (decision_under scheduler (setup_for plan) (posts_under scheduler plan) t).matched j ≡ Some fed) × IsCellOf fed cell }
-    ensures fed { (scheduler : Scheduler) (plan : SwitchPlan) (j t : ℕ) (fed : Fed) → IsScheduler scheduler → IsGood plan → fed_of (decision_under scheduler (setup_for plan) (posts_under scheduler plan) t).matched j ≡ Some fed
+    ensures fed { (scheduler : Scheduler) (plan : SwitchPlan) (j t : ℕ) (fed : Fed) → IsScheduler scheduler → IsGood plan
+        → fed_of (decision_under scheduler (setup_for plan) (posts_under scheduler plan) t).matched j ≡ Some fed
         → (cell : Cell) × (crossed_under scheduler (setup_for plan) (posts_under scheduler plan) j (t + 1) ≡ Some cell) }
 {}
 
 /// The slots of a run are a schedule, from slot 0 and all pointers at port 0 on. Under any scheduler their rows name none
 /// but the switch's ports, and are kept until they are served.
 pub fn slots_are_a_schedule()
-    ensures schedule { (plan : SwitchPlan) (slots : ℕ) → IsGood plan → IsSchedule (ports_of plan) plan.rounds 0 (places_at_first (ports_of plan)) (run_schedule plan slots) }
-    ensures within { (scheduler : Scheduler) (plan : SwitchPlan) (slots : ℕ) → IsScheduler scheduler → IsGood plan → All (λ slot. AreWithin (ports_of plan) slot.rows) (schedule_under scheduler plan slots) }
-    ensures kept { (scheduler : Scheduler) (plan : SwitchPlan) (slots : ℕ) → IsScheduler scheduler → IsGood plan → AreKept (ports_of plan) (schedule_under scheduler plan slots) }
+    ensures schedule { (plan : SwitchPlan) (slots : ℕ) → IsGood plan
+        → IsSchedule (ports_of plan) plan.rounds 0 (places_at_first (ports_of plan)) (run_schedule plan slots) }
+    ensures within { (scheduler : Scheduler) (plan : SwitchPlan) (slots : ℕ) → IsScheduler scheduler → IsGood plan
+        → All (λ slot. AreWithin (ports_of plan) slot.rows) (schedule_under scheduler plan slots) }
+    ensures kept { (scheduler : Scheduler) (plan : SwitchPlan) (slots : ℕ) → IsScheduler scheduler → IsGood plan
+        → AreKept (ports_of plan) (schedule_under scheduler plan slots) }
 {}

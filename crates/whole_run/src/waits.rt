@@ -11,7 +11,8 @@ ghost use Rattle.whole_run.specs.Sums.{schedule_under};
 /// The slots of a run are at line rate, under any scheduler: at most one packet arrives at a port in a slot, so from
 /// one slot to the next each input begins to ask at most one output of a level.
 pub fn runs_are_at_line_rate()
-    ensures { (scheduler : Scheduler) (plan : SwitchPlan) (slots level : ℕ) → IsGood plan → AreAtLineRate (ports_of plan) level (schedule_under scheduler plan slots) }
+    ensures { (scheduler : Scheduler) (plan : SwitchPlan) (slots level : ℕ) → IsGood plan
+        → AreAtLineRate (ports_of plan) level (schedule_under scheduler plan slots) }
 {}
 
 /// In so many slots of the run in a row as `longest_service_at_line_rate()` of `service_bound` tells, in which nothing of

@@ -48,7 +48,9 @@ pub(crate) fn begin_file(
     elsewhere: CallCounts,
     name: &str,
 ) -> Result<(), AllocError>
-    ensures ok { OnOk result ((room : ℕ) × PutsFile files.old.items files.new.items name.now (record { name = name.now; bytes = []; room = room; begun = true; faults = counts_at files.old.items elsewhere name.now })) }
+    ensures ok { OnOk result ((room : ℕ)
+        × PutsFile files.old.items files.new.items name.now
+        (record { name = name.now; bytes = []; room = room; begun = true; faults = counts_at files.old.items elsewhere name.now })) }
     ensures err { OnErr result (files.new.items ≡ files.old.items) }
     ensures absent { OnErr result (file_named name.now files.old.items ≡ None) }
 {
@@ -69,7 +71,8 @@ fn add_begun(
     name: &str,
 ) -> Result<(), AllocError>
     requires absent { file_named name.now files.old.items ≡ None }
-    ensures ok { OnOk result ((room : ℕ) × PutsFile files.old.items files.new.items name.now (record { name = name.now; bytes = []; room = room; begun = true; faults = faults })) }
+    ensures ok { OnOk result ((room : ℕ)
+        × PutsFile files.old.items files.new.items name.now (record { name = name.now; bytes = []; room = room; begun = true; faults = faults })) }
     ensures err { OnErr result (files.new.items ≡ files.old.items) }
 {
     let name = String::from_str(alloc, name)?;
@@ -80,7 +83,8 @@ fn add_begun(
 // Appends these bytes to the file of this name. It fails where there is none, and where more memory
 // is needed and refused.
 pub(crate) fn append_to(files: &mut Vec<StoredFile>, name: &str, piece: &[u8]) -> Result<(), Failed>
-    ensures ok { OnOk result ((f : FileState) × (room : ℕ) × (file_named name.now files.old.items ≡ Some f) × PutsFile files.old.items files.new.items name.now (record f { bytes = f.bytes ++ piece.now; room = room })) }
+    ensures ok { OnOk result ((f : FileState) × (room : ℕ) × (file_named name.now files.old.items ≡ Some f)
+        × PutsFile files.old.items files.new.items name.now (record f { bytes = f.bytes ++ piece.now; room = room })) }
     ensures err { OnErr result (files.new.items ≡ files.old.items) }
     ensures cause { OnErr result ((file_named name.now files.old.items ≡ None) ⊎ HasNoRoom files.old.items name.now (length piece.now)) }
 {

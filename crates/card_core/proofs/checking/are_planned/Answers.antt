@@ -7,7 +7,8 @@ returns c = (λ yes_ k packet there. c.loop-packet.invariant k packet (let l = s
 
 pub loop-packet-preserved : goal.loop-packet-preserved
 loop-packet-preserved c =
-    planned_more c.args.n c.args.bytes c.args.packets.now c.loop-packet.packet-index _ c.loop-packet.invariant (c.is_planned.ensures.0 c.if-not-is_planned.false)
+    planned_more c.args.n c.args.bytes c.args.packets.now c.loop-packet.packet-index _ c.loop-packet.invariant
+    (c.is_planned.ensures.0 c.if-not-is_planned.false)
 
 pub loop-packet-init : goal.loop-packet-init
 loop-packet-init c k packet less there = absurd (omega arith)

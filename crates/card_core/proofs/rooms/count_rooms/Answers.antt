@@ -8,12 +8,14 @@ use Rattle.card_core.proofs.Plenty.{rooms_begin, few_up}
 use Rattle.card_core.proofs.rooms.count_rooms.Goals as goal
 
 next : (n i len : ℕ) (packets : List Planned) (d : Planned) (uni new rest fan fan' : List ℕ) → i < length packets → length new ≡ len
-    → ((before : List Planned) → HasRooms n before uni fan → HasRooms n (before ++ slice_index_or packets i d ∷ []) new fan') → ((k : ℕ) → AreFew k uni fan → AreFew (k + 1) new fan')
+    → ((before : List Planned) → HasRooms n before uni fan → HasRooms n (before ++ slice_index_or packets i d ∷ []) new fan')
+    → ((k : ℕ) → AreFew k uni fan → AreFew (k + 1) new fan')
     → HasRooms n (take i packets) uni fan → AreFew i uni fan
     → HasRooms n (take (i + 1) packets) (take len (new ++ rest)) fan' × AreFew (i + 1) (take len (new ++ rest)) fan'
 next n i len packets d uni new rest fan fan' inside long rooms few had had_few =
     let back : take len (new ++ rest) ≡ new = take_at new rest len long in (
-      subst (λ ps. HasRooms n ps (take len (new ++ rest)) fan') (sym (take_more packets i d inside)) (subst (λ xs. HasRooms n (take i packets ++ slice_index_or packets i d ∷ []) xs fan') (sym back) (rooms (take i packets) had)),
+      subst (λ ps. HasRooms n ps (take len (new ++ rest)) fan') (sym (take_more packets i d inside))
+          (subst (λ xs. HasRooms n (take i packets ++ slice_index_or packets i d ∷ []) xs fan') (sym back) (rooms (take i packets) had)),
       subst (λ xs. AreFew (i + 1) xs fan') (sym back) (few i had_few),
     )
 
@@ -24,11 +26,13 @@ count-requires-clause-few c =
 
 pub count-requires-clause-level : goal.count-requires-clause-level
 count-requires-clause-level c =
-    (c.requires.packets c.loop-packet.packet-index (slice_index_or c.args.packets.now c.loop-packet.packet-index no_packet) (some_get c.args.packets.now c.loop-packet.packet-index no_packet c.loop-packet-test.true)).0
+    (c.requires.packets c.loop-packet.packet-index (slice_index_or c.args.packets.now c.loop-packet.packet-index no_packet)
+    (some_get c.args.packets.now c.loop-packet.packet-index no_packet c.loop-packet-test.true)).0
 
 pub count-requires-clause-fan : goal.count-requires-clause-fan
 count-requires-clause-fan c =
-    (c.requires.packets c.loop-packet.packet-index (slice_index_or c.args.packets.now c.loop-packet.packet-index no_packet) (some_get c.args.packets.now c.loop-packet.packet-index no_packet c.loop-packet-test.true)).1
+    (c.requires.packets c.loop-packet.packet-index (slice_index_or c.args.packets.now c.loop-packet.packet-index no_packet)
+    (some_get c.args.packets.now c.loop-packet.packet-index no_packet c.loop-packet-test.true)).1
 
 pub loop-packet-init : goal.loop-packet-init
 loop-packet-init c =
@@ -38,17 +42,23 @@ loop-packet-init c =
 pub loop-packet-preserved : goal.loop-packet-preserved
 loop-packet-preserved c =
     let len : length c.count.new.unicast ≡ c.loop-packet.unicast.len = c.count.auto.unicast ∙ c.deref_mut.ensures.len in
-    let b = next c.args.n c.loop-packet.packet-index c.loop-packet.unicast.len c.args.packets.now no_packet c.loop-packet.unicast.items c.count.new.unicast (drop (length c.count.new.unicast) c.loop-packet.unicast.items) c.loop-packet.multicast c.count.new.multicast
+    let b = next c.args.n c.loop-packet.packet-index c.loop-packet.unicast.len c.args.packets.now no_packet c.loop-packet.unicast.items c.count.new.unicast
+    (drop (length c.count.new.unicast) c.loop-packet.unicast.items) c.loop-packet.multicast c.count.new.multicast
     c.loop-packet-test.true len
-    (subst (λ xs. (before : List Planned) → HasRooms c.args.n before xs c.loop-packet.multicast → HasRooms c.args.n (before ++ slice_index_or c.args.packets.now c.loop-packet.packet-index no_packet ∷ []) c.count.new.unicast c.count.new.multicast) c.deref_mut.ensures.value c.count.ensures.rooms)
-    (subst (λ xs. (k : ℕ) → AreFew k xs c.loop-packet.multicast → AreFew (k + 1) c.count.new.unicast c.count.new.multicast) c.deref_mut.ensures.value c.count.ensures.few)
+    (subst (λ xs. (before : List Planned) → HasRooms c.args.n before xs c.loop-packet.multicast
+    → HasRooms c.args.n (before ++ slice_index_or c.args.packets.now c.loop-packet.packet-index no_packet
+    ∷ []) c.count.new.unicast c.count.new.multicast) c.deref_mut.ensures.value c.count.ensures.rooms)
+    (subst (λ xs. (k : ℕ) → AreFew k xs c.loop-packet.multicast
+    → AreFew (k + 1) c.count.new.unicast c.count.new.multicast) c.deref_mut.ensures.value c.count.ensures.few)
     c.loop-packet.invariant.rooms c.loop-packet.invariant.few in
     record { rooms = b.0; few = b.1 }
 
 pub returns : goal.returns
 returns c =
-    let all : take c.loop-packet.packet-index c.args.packets.now ≡ c.args.packets.now = take_all c.loop-packet.packet-index c.args.packets.now c.loop-packet-test.false in
+    let all : take c.loop-packet.packet-index c.args.packets.now ≡ c.args.packets.now =
+    take_all c.loop-packet.packet-index c.args.packets.now c.loop-packet-test.false in
     record {
       rooms = subst (λ ps. HasRooms c.args.n ps c.loop-packet.unicast.items c.loop-packet.multicast) all c.loop-packet.invariant.rooms;
-      few = few_up c.loop-packet.packet-index (length c.args.packets.now) c.loop-packet.unicast.items c.loop-packet.multicast c.loop-packet.auto.packet-index-end c.loop-packet.invariant.few;
+      few = few_up c.loop-packet.packet-index
+          (length c.args.packets.now) c.loop-packet.unicast.items c.loop-packet.multicast c.loop-packet.auto.packet-index-end c.loop-packet.invariant.few;
     }

@@ -8,24 +8,30 @@ use Rattle.card_worker.proofs.alone.take_alone.Goals as goal
 pub give-requires-clause-posted : goal.give-requires-clause-posted
 give-requires-clause-posted c =
     let b = c.args.state.now in
-    (level b.setup c.args.card b.events c.legal.ensures.setup c.legal.ensures.legal c.requires.may.card_in c.args.hand.now c.requires.hand c.requires.may.posted).2
+    (level b.setup c.args.card b.events c.legal.ensures.setup c.legal.ensures.legal c.requires.may.card_in c.args.hand.now c.requires.hand
+    c.requires.may.posted).2
 
 pub give-requires-clause-slot : goal.give-requires-clause-slot
 give-requires-clause-slot c =
     let b = c.args.state.now in
-    ap (λ t. t.slot) c.draw-taken.ensures.taken ∙ sym (card_slot b.setup c.args.card b.events c.legal.ensures.setup c.legal.ensures.legal c.requires.may.card_in c.args.hand.now c.requires.hand c.requires.may.posted)
+    ap (λ t. t.slot) c.draw-taken.ensures.taken
+    ∙ sym (card_slot b.setup c.args.card b.events c.legal.ensures.setup c.legal.ensures.legal c.requires.may.card_in c.args.hand.now c.requires.hand
+    c.requires.may.posted)
 
 pub give-requires-clause-served : goal.give-requires-clause-served
 give-requires-clause-served c =
     let b = c.args.state.now in
     let next = subst (λ (board : StateValue). IsLegal board.setup board.events) c.draw-taken.ensures.board c.legal-2.ensures.legal in
-    servable b.setup c.args.card b.events c.legal.ensures.setup c.legal.ensures.legal c.requires.may.card_in c.args.hand.now c.requires.hand c.requires.may.posted c.draw-taken.result c.draw-taken.ensures.taken next
+    servable b.setup c.args.card b.events c.legal.ensures.setup c.legal.ensures.legal c.requires.may.card_in c.args.hand.now c.requires.hand
+    c.requires.may.posted c.draw-taken.result c.draw-taken.ensures.taken next
 
 pub returns-clause-hand : goal.returns-clause-hand
 returns-clause-hand c =
     let b = c.args.state.now in
-    subst (λ (board : StateValue). IsHandOf (record { card = c.give.new.card; kept = c.args.hand.now.kept }) board.setup c.args.card board.events) (sym c.draw-taken.ensures.board)
-    (hand-taken b.setup c.args.card b.events c.legal.ensures.setup c.legal.ensures.legal c.requires.may.card_in c.args.hand.now c.requires.hand c.requires.may.posted c.give.new.card c.draw-taken.result c.draw-taken.ensures.taken c.give.ensures)
+    subst (λ (board : StateValue). IsHandOf (record { card = c.give.new.card; kept = c.args.hand.now.kept }) board.setup c.args.card board.events)
+    (sym c.draw-taken.ensures.board)
+    (hand-taken b.setup c.args.card b.events c.legal.ensures.setup c.legal.ensures.legal c.requires.may.card_in c.args.hand.now c.requires.hand
+    c.requires.may.posted c.give.new.card c.draw-taken.result c.draw-taken.ensures.taken c.give.ensures)
 
 pub returns-clause-act : goal.returns-clause-act
 returns-clause-act c =

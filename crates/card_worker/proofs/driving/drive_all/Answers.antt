@@ -7,14 +7,19 @@ pub goes_on-requires : goal.goes_on-requires
 goes_on-requires g c = λ j m at. (c.loop-members.invariant.passes.sound j m at).agrees.turn
 
 pub loop-members-init : goal.loop-members-init
-loop-members-init g c = record { passes = AfterPasses-none c.args.board.now c.args.members.now c.requires.sound; left = omega arith; none = λ zero_patience. refl }
+loop-members-init g c = record {
+  passes = AfterPasses-none c.args.board.now c.args.members.now c.requires.sound;
+  left = omega arith;
+  none = λ zero_patience. refl;
+}
 
 pub loop-members-preserved-then-acts-eq0 : goal.loop-members-preserved-then-acts-eq0
 loop-members-preserved-then-acts-eq0 g c =
     let at = c.loop-members in
     let left = c.goes_on.ensures.on c.loop-members-test.true in
     record {
-      passes = AfterPasses-idle c.args.board.now c.args.members.now at.members c.pass-acts.new.members at.idle at.made c.pass-acts.result at.invariant.passes c.pass-acts.ensures c.if-acts-eq0.true;
+      passes = AfterPasses-idle c.args.board.now c.args.members.now at.members c.pass-acts.new.members at.idle at.made c.pass-acts.result at.invariant.passes
+          c.pass-acts.ensures c.if-acts-eq0.true;
       left = omega arith;
       none = λ zero_patience. absurd (omega arith);
     }
@@ -22,7 +27,8 @@ loop-members-preserved-then-acts-eq0 g c =
 pub overflow_add-made : goal.overflow_add-made
 overflow_add-made g c =
     let at = c.loop-members in
-    let next = AfterPasses-acted c.args.board.now c.args.members.now at.members c.pass-acts.new.members at.idle at.made c.pass-acts.result at.invariant.passes c.pass-acts.ensures in
+    let next = AfterPasses-acted c.args.board.now c.args.members.now at.members c.pass-acts.new.members at.idle at.made c.pass-acts.result at.invariant.passes
+    c.pass-acts.ensures in
     let acts = next.acts in
     let count = next.count in
     let few = all_acts-few c.args.board.now c.pass-acts.new.members next.sound in
@@ -33,19 +39,24 @@ pub loop-members-smaller : goal.loop-members-smaller
 loop-members-smaller g c =
     let at = c.loop-members in
     let turns = c.pass-acts.ensures in
-    room_falls (length c.pass-acts.new.members * 524290) (length at.members * 524290) (all_acts at.members) (all_acts c.pass-acts.new.members) c.args.patience at.idle c.pass-acts.result (ap (λ n. n * 524290) turns.count) (all_acts-few c.args.board.now c.pass-acts.new.members turns.sound) turns.acts c.if-acts-eq0.false
+    room_falls (length c.pass-acts.new.members * 524290) (length at.members * 524290) (all_acts at.members)
+    (all_acts c.pass-acts.new.members) c.args.patience at.idle c.pass-acts.result (ap (λ n. n * 524290) turns.count)
+    (all_acts-few c.args.board.now c.pass-acts.new.members turns.sound) turns.acts c.if-acts-eq0.false
 
 pub loop-members-smaller-then-acts-eq0 : goal.loop-members-smaller-then-acts-eq0
 loop-members-smaller-then-acts-eq0 g c =
     let at = c.loop-members in
     let turns = c.pass-acts.ensures in
-    patience_falls (length c.pass-acts.new.members * 524290) (length at.members * 524290) (all_acts at.members) (all_acts c.pass-acts.new.members) c.args.patience at.idle c.pass-acts.result (ap (λ n. n * 524290) turns.count) turns.acts c.if-acts-eq0.true (c.goes_on.ensures.on c.loop-members-test.true)
+    patience_falls (length c.pass-acts.new.members * 524290) (length at.members * 524290) (all_acts at.members)
+    (all_acts c.pass-acts.new.members) c.args.patience at.idle c.pass-acts.result (ap (λ n. n * 524290) turns.count) turns.acts c.if-acts-eq0.true
+    (c.goes_on.ensures.on c.loop-members-test.true)
 
 pub loop-members-preserved : goal.loop-members-preserved
 loop-members-preserved g c =
     let at = c.loop-members in
     record {
-      passes = AfterPasses-acted c.args.board.now c.args.members.now at.members c.pass-acts.new.members at.idle at.made c.pass-acts.result at.invariant.passes c.pass-acts.ensures;
+      passes = AfterPasses-acted c.args.board.now c.args.members.now at.members c.pass-acts.new.members at.idle at.made c.pass-acts.result at.invariant.passes
+          c.pass-acts.ensures;
       left = omega arith;
       none = λ zero_patience. let left = c.goes_on.ensures.on c.loop-members-test.true in absurd (omega arith);
     }

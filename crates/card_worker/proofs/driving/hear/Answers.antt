@@ -9,7 +9,8 @@ pub loop-member-preserved : goal.loop-member-preserved
 loop-member-preserved c = λ j m below at.
     elim (cases_eq j c.loop-member.member-index) [
       | inl same ↦
-          let is : c.member-item.result ≡ m = c.member-item.is ∙ ap (λ k. get_or c.args.members.now k c.member-item.result) (sym same) ∙ get_or_from_slice_get c.args.members.now j m c.member-item.result at in
+          let is : c.member-item.result ≡ m = c.member-item.is ∙ ap (λ k. get_or c.args.members.now k c.member-item.result) (sym same)
+          ∙ get_or_from_slice_get c.args.members.now j m c.member-item.result at in
           subst (λ (x : Member). IsSeat x.seat) is c.legal.ensures
       | inr other ↦ c.loop-member.invariant j m (omega arith) at
     ]

@@ -13,7 +13,11 @@ pub returns-else-may_take : goal.returns-else-may_take
 returns-else-may_take c =
     record {
       given = record { slot = c.args.taken.now.slot; served = c.args.taken.now.served; cell = None; done = c.args.taken.now.done };
-      fitted = inr (λ fits. both_ways false refl (c.if-may_take.ensures.1 (record { posted = c.requires.posted; slot = c.requires.slot; served = c.requires.served; cell = fits })), refl);
+      fitted = inr (
+        λ fits. both_ways false refl
+            (c.if-may_take.ensures.1 (record { posted = c.requires.posted; slot = c.requires.slot; served = c.requires.served; cell = fits })),
+        refl,
+      );
       plan = c.take-else-may_take.ensures.plan;
       after = c.take-else-may_take.ensures.after;
     }

@@ -16,8 +16,10 @@ pub try_post-requires-clause-accepted : goal.try_post-requires-clause-accepted
 try_post-requires-clause-accepted c =
     let old = c.args.member.now in
     let column = column_at old.seat in
-    let ahead : IsAhead c.next_post-post.result c.next_post-post.new.hand.card column = c.next_post-post.ensures.ahead column c.requires.sound.agrees.agrees.step (posts_same c.args.board.now old c.requires.sound c.requires.free) in
-    accepts c.args.board.now old c.requires.sound c.requires.free c.requires.due c.next_post-post.result (ahead.is ∙ ap (λ p. next_post p column) c.next_post-post.ensures.plan)
+    let ahead : IsAhead c.next_post-post.result c.next_post-post.new.hand.card column =
+    c.next_post-post.ensures.ahead column c.requires.sound.agrees.agrees.step (posts_same c.args.board.now old c.requires.sound c.requires.free) in
+    accepts c.args.board.now old c.requires.sound c.requires.free c.requires.due c.next_post-post.result
+    (ahead.is ∙ ap (λ p. next_post p column) c.next_post-post.ensures.plan)
 
 pub returns-in-Ok : goal.returns-in-Ok
 returns-in-Ok c =
@@ -25,8 +27,10 @@ returns-in-Ok c =
     let old = c.args.member.now in
     let column = column_at old.seat in
     let free = c.requires.free in
-    let ahead : IsAhead c.next_post-post.result c.next_post-post.new.hand.card column = c.next_post-post.ensures.ahead column c.requires.sound.agrees.agrees.step (posts_same board old c.requires.sound free) in
-    posted_next board old c.requires.sound _ c.try_post.new.seat c.in-Ok.ensures.same c.legal-in-Ok.ensures c.next_post-post.ensures.plan free c.next_post-post.result c.forget.ensures ahead c.in-Ok.ensures.after c.in-Ok.ensures.column
+    let ahead : IsAhead c.next_post-post.result c.next_post-post.new.hand.card column =
+    c.next_post-post.ensures.ahead column c.requires.sound.agrees.agrees.step (posts_same board old c.requires.sound free) in
+    posted_next board old c.requires.sound _ c.try_post.new.seat c.in-Ok.ensures.same c.legal-in-Ok.ensures c.next_post-post.ensures.plan free
+    c.next_post-post.result c.forget.ensures ahead c.in-Ok.ensures.after c.in-Ok.ensures.column
 
 pub try_post-requires-clause-not_done : goal.try_post-requires-clause-not_done
 try_post-requires-clause-not_done c = (due_free c.args.board.now c.args.member.now c.requires.sound c.requires.free c.requires.due).0
@@ -43,6 +47,9 @@ returns-in-Err c =
     let old = c.args.member.now in
     let column = column_at old.seat in
     let card = c.next_post-post.new.hand.card in
-    let ahead : IsAhead c.next_post-post.result card column = c.next_post-post.ensures.ahead column c.requires.sound.agrees.agrees.step (posts_same board old c.requires.sound c.requires.free) in
+    let ahead : IsAhead c.next_post-post.result card column =
+    c.next_post-post.ensures.ahead column c.requires.sound.agrees.agrees.step (posts_same board old c.requires.sound c.requires.free) in
     let kept : IsAhead c.in-Err.busy.act card column = subst (λ post. IsAhead post card column) (sym c.in-Err.ensures.busy.0) ahead in
-    refused_next board old c.requires.sound (record { card = card; kept = Some c.in-Err.busy.act }) c.try_post.new.seat c.in-Err.ensures.same c.legal-in-Err.ensures c.next_post-post.ensures.plan c.in-Err.ensures.refused kept
+    refused_next board old c.requires.sound
+    (record { card = card; kept = Some c.in-Err.busy.act }) c.try_post.new.seat c.in-Err.ensures.same c.legal-in-Err.ensures c.next_post-post.ensures.plan
+    c.in-Err.ensures.refused kept

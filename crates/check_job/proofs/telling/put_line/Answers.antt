@@ -7,6 +7,7 @@ use Rattle.check_job.proofs.telling.put_line.Goals as goal
 pub returns : goal.returns
 returns c =
     on_ok_weaker c.push_str-2.result
-    (λ end. whole_line (string_bytes c.args.text.now) (string_bytes c.push_str.new.self) (string_bytes c.put_numbers.new.text) (string_bytes c.push_str-2.new.self) c.args.name.now (map decimal c.args.numbers.now)
+    (λ end. whole_line (string_bytes c.args.text.now) (string_bytes c.push_str.new.self) (string_bytes c.put_numbers.new.text)
+    (string_bytes c.push_str-2.new.self) c.args.name.now (map decimal c.args.numbers.now)
     c.in_ok-push_str.ensures.bytes c.in_ok-put_numbers.ensures end)
     (appended c.push_str-2.result (string_bytes c.put_numbers.new.text) (codes "\n") (string_bytes c.push_str-2.new.self) c.push_str-2.ensures.bytes)

@@ -9,7 +9,8 @@ abbrev pub invariant-loop-i : goal.invariant-loop-i
 invariant-loop-i l = record {
   whole : IsMatch l.n l.out;
   left : (x : ℕ) → Has l.rest x → Has l.offers.granted x;
-  pairs : (x j level : ℕ) (kind : Kind) → Serves l.out x j level kind ↔ (Serves l.fn.out x j level kind ⊎ ((Has l.rest x → ⊥) × IsTaken l.n l.first_kind l.p l.offers x j level kind));
+  pairs : (x j level : ℕ) (kind : Kind) → Serves l.out x j level kind
+      ↔ (Serves l.fn.out x j level kind ⊎ ((Has l.rest x → ⊥) × IsTaken l.n l.first_kind l.p l.offers x j level kind));
 }
 
 abbrev pub decreases-loop-i : goal.decreases-loop-i

@@ -27,7 +27,8 @@ returns-in-Some-pick c f =
     let from_in : from < n = let below = c.pointer_at.ensures.within in let e = c.pointer_at.ensures.value in omega arith in
     let picked : IsFirstFrom n from (AsksAt c.args.asks.now c.args.ready.now c.args.j rank) c.in-Some-pick.input =
     subst (λ a. IsFirstFrom n a (AsksAt c.args.asks.now c.args.ready.now c.args.j rank) c.in-Some-pick.input) c.pointer_at.ensures.value
-    (IsFirstFrom-along n c.pointer_at.result (Has c.intersection-asking.result) (AsksAt c.args.asks.now c.args.ready.now c.args.j rank) c.in-Some-pick.input (λ y y_in. c.intersection-asking.ensures y) c.in-Some-pick.ensures.first) in
+    (IsFirstFrom-along n c.pointer_at.result (Has c.intersection-asking.result) (AsksAt c.args.asks.now c.args.ready.now c.args.j rank) c.in-Some-pick.input
+    (λ y y_in. c.intersection-asking.ensures y) c.in-Some-pick.ensures.first) in
     Some-iff_chosen n c.args.first_kind c.args.asks.now c.args.ready.now places c.args.j made f from_in
     (record {
       rank_in = rank_in;

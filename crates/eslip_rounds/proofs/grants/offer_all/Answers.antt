@@ -22,7 +22,8 @@ loop-j-preserved c =
     let later = c.without-rest.result in
     let known = c.loop-j.invariant in
     let left = known.left j c.in-Some.ensures.member in
-    let C : ℕ → ℕ → ℕ → Type 0 = λ i y r. IsChosen c.args.n c.args.first_kind c.args.asks.now c.args.ready.now c.args.p.now y (record { rank = r; input = i }) in
+    let C : ℕ → ℕ → ℕ → Type 0 =
+    λ i y r. IsChosen c.args.n c.args.first_kind c.args.asks.now c.args.ready.now c.args.p.now y (record { rank = r; input = i }) in
     let P : ℕ → ℕ → ℕ → Type 0 = λ i y r. (Has free y × (Has rest y → ⊥)) × C i y r in
     let Q : ℕ → ℕ → ℕ → Type 0 = λ i y r. (Has free y × (Has later y → ⊥)) × C i y r in
     record {
@@ -41,7 +42,8 @@ loop-j-preserved c =
         | in_default-chosen w ↦
             rw w.offers-is
             (AreOffers-along P Q c.loop-j.offers
-            (chosen_same free rest later j C c.in-Some.ensures.member left c.without-rest.ensures.members (λ i r h. none-some (record { rank = r; input = i }) ((w.in_default-chosen.ensures _).1 h)))
+            (chosen_same free rest later j C c.in-Some.ensures.member left c.without-rest.ensures.members
+            (λ i r h. none-some (record { rank = r; input = i }) ((w.in_default-chosen.ensures _).1 h)))
             known.offered)
       ];
     }

@@ -8,7 +8,8 @@ loop-j-preserved c =
     let known = c.loop-j.invariant in
     record {
       left = λ y has. known.left y ((c.without-rest.ensures.members y).0 has).1;
-      met = AreMet-next c.args.matched.now c.args.first_outputs c.loop-j.rest c.without-rest.result c.in-Some.j c.fed.result c.args.p.now c.loop-j.p c.meet_one.new.p c.in-Some.ensures.member (known.left c.in-Some.j c.in-Some.ensures.member) c.without-rest.ensures.members c.fed.ensures.value
+      met = AreMet-next c.args.matched.now c.args.first_outputs c.loop-j.rest c.without-rest.result c.in-Some.j c.fed.result c.args.p.now c.loop-j.p
+          c.meet_one.new.p c.in-Some.ensures.member (known.left c.in-Some.j c.in-Some.ensures.member) c.without-rest.ensures.members c.fed.ensures.value
           (λ i x y level. c.requires.once i x y level) known.met c.meet_one.ensures.met;
       at_ports = c.meet_one.ensures.at_ports;
     }
@@ -16,4 +17,5 @@ loop-j-preserved c =
 pub returns-clause-met : goal.returns-clause-met
 returns-clause-met c =
     let empty = c.in_default.ensures.none.0 refl in
-    AreMet-along _ _ c.args.p.now c.loop-j.p (λ i j level. (λ p. (p.0.0, p.1), λ q. ((q.0, λ has. zero-has c.loop-j.rest j empty has), q.1))) c.loop-j.invariant.met
+    AreMet-along _ _ c.args.p.now c.loop-j.p
+    (λ i j level. (λ p. (p.0.0, p.1), λ q. ((q.0, λ has. zero-has c.loop-j.rest j empty has), q.1))) c.loop-j.invariant.met

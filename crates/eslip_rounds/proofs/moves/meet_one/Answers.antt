@@ -11,7 +11,8 @@ returns-in-Uni-clause-met c =
     let pair = c.in-Some.pair in
     let made : Fed = record { input = pair.input; level = pair.level; kind = Uni } in
     let whole : c.args.fed ≡ Some made = c.in-Some.is ∙ ap Some (same_fed pair made refl refl c.in-Uni.is) in
-    let same : (i j level : ℕ) → ((i ≡ pair.input) × (j ≡ c.args.j) × (level ≡ pair.level)) ↔ ((j ≡ c.args.j) × (c.args.fed ≡ Some (record { input = i; level = level; kind = Uni }))) = λ i j level. (
+    let same : (i j level : ℕ) → ((i ≡ pair.input) × (j ≡ c.args.j) × (level ≡ pair.level))
+    ↔ ((j ≡ c.args.j) × (c.args.fed ≡ Some (record { input = i; level = level; kind = Uni }))) = λ i j level. (
       λ p. (p.1, whole ∙ ap Some (same_fed made (record { input = i; level = level; kind = Uni }) (sym p.0) (sym p.2) refl)),
       λ p.
           let f : Fed = record { input = i; level = level; kind = Uni } in
@@ -19,4 +20,5 @@ returns-in-Uni-clause-met c =
           (ap (λ g. g.input) one, p.0, ap (λ g. g.level) one),
     ) in
     AreMet-along (λ i j level. (i ≡ pair.input) × (j ≡ c.args.j) × (level ≡ pair.level)) _ c.args.p.now c.met.new.self same
-    (AreMet-one pair.input c.args.j pair.level c.args.p.now c.met.new.self c.met.ensures.ports c.met.ensures.grant c.met.ensures.accept c.met.ensures.grants c.met.ensures.accepts c.met.ensures.shared)
+    (AreMet-one pair.input c.args.j pair.level c.args.p.now c.met.new.self c.met.ensures.ports c.met.ensures.grant c.met.ensures.accept c.met.ensures.grants
+        c.met.ensures.accepts c.met.ensures.shared)

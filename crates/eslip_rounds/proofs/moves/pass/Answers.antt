@@ -17,7 +17,8 @@ pub returns-then-completes-clause-passed : goal.returns-then-completes-clause-pa
 returns-then-completes-clause-passed c =
     let n = c.args.n in
     let from_in : shared_of c.args.p.now c.args.level < n = let e = c.shared.ensures.value in let below = c.shared.ensures.within in omega arith in
-    let first = subst (λ a. IsFirstFrom n a (HasHead c.args.rows.now c.args.level) c.in-Some.i) c.shared.ensures.value (IsFirstFrom-heads n c.shared.result c.heads-posted.result c.args.rows.now c.args.level c.heads-posted.ensures c.in-Some.i c.in-Some.ensures.first) in
+    let first = subst (λ a. IsFirstFrom n a (HasHead c.args.rows.now c.args.level) c.in-Some.i) c.shared.ensures.value
+    (IsFirstFrom-heads n c.shared.result c.heads-posted.result c.args.rows.now c.args.level c.heads-posted.ensures c.in-Some.i c.in-Some.ensures.first) in
     let gives = λ (j : ℕ). Gives-iff_serves n c.args.matched.now c.requires.whole c.in-Some.i j c.args.level Multi in
     IsPassed-done n c.args.rows.now c.args.matched.now c.args.p.now c.passed.new.self c.args.level from_in c.in-Some.i first
     (λ j named. (gives j).0 (subst (λ part. Gives part j c.args.level Multi) c.served.ensures.value (c.completes.ensures.0 c.if-completes.true j named)))
@@ -27,11 +28,14 @@ pub returns-else-completes-clause-passed : goal.returns-else-completes-clause-pa
 returns-else-completes-clause-passed c =
     let n = c.args.n in
     let from_in : shared_of c.args.p.now c.args.level < n = let e = c.shared.ensures.value in let below = c.shared.ensures.within in omega arith in
-    let first = subst (λ a. IsFirstFrom n a (HasHead c.args.rows.now c.args.level) c.in-Some.i) c.shared.ensures.value (IsFirstFrom-heads n c.shared.result c.heads-posted.result c.args.rows.now c.args.level c.heads-posted.ensures c.in-Some.i c.in-Some.ensures.first) in
+    let first = subst (λ a. IsFirstFrom n a (HasHead c.args.rows.now c.args.level) c.in-Some.i) c.shared.ensures.value
+    (IsFirstFrom-heads n c.shared.result c.heads-posted.result c.args.rows.now c.args.level c.heads-posted.ensures c.in-Some.i c.in-Some.ensures.first) in
     let gives = λ (j : ℕ). Gives-iff_serves n c.args.matched.now c.requires.whole c.in-Some.i j c.args.level Multi in
     IsPassed-left n c.args.rows.now c.args.matched.now c.args.p.now c.args.p.now c.args.level from_in c.in-Some.i first
-    (λ done. let holds = c.completes.ensures.1 (λ j named. subst (λ part. Gives part j c.args.level Multi) (sym c.served.ensures.value) ((gives j).1 (done j named))) in absurd (cc)) refl
+    (λ done. let holds = c.completes.ensures.1
+    (λ j named. subst (λ part. Gives part j c.args.level Multi) (sym c.served.ensures.value) ((gives j).1 (done j named))) in absurd (cc)) refl
 
 pub returns-in_default-clause-passed : goal.returns-in_default-clause-passed
 returns-in_default-clause-passed c =
-    IsPassed-nobody c.args.n c.args.rows.now c.args.matched.now c.args.p.now c.args.p.now c.args.level (λ i i_in head. zero-has c.heads-posted.result i (c.in_default.ensures.none.0 refl) ((c.heads-posted.ensures i).1 (i_in, head))) refl
+    IsPassed-nobody c.args.n c.args.rows.now c.args.matched.now c.args.p.now c.args.p.now c.args.level
+    (λ i i_in head. zero-has c.heads-posted.result i (c.in_default.ensures.none.0 refl) ((c.heads-posted.ensures i).1 (i_in, head))) refl

@@ -14,8 +14,10 @@ loop-level-preserved c =
       passed = λ m below. elim (cases_eq m level) [
         | inl same ↦
             let P : ℕ → Type 0 = λ z. IsPassed c.args.n rows matched c.args.p.now c.pass.new.p z in
-            subst P (sym same) (IsPassed-same c.args.n rows matched c.loop-level.p c.args.p.now c.pass.new.p c.pass.new.p level (known.later level (omega arith)) refl c.pass.ensures.passed)
-        | inr other ↦ IsPassed-same c.args.n rows matched c.args.p.now c.args.p.now c.loop-level.p c.pass.new.p m refl (sym (c.pass.ensures.others m other)) (known.passed m (omega arith))
+            subst P (sym same) (IsPassed-same c.args.n rows matched c.loop-level.p c.args.p.now c.pass.new.p c.pass.new.p level
+            (known.later level (omega arith)) refl c.pass.ensures.passed)
+        | inr other ↦ IsPassed-same c.args.n rows matched c.args.p.now c.args.p.now c.loop-level.p c.pass.new.p m refl (sym (c.pass.ensures.others m other))
+            (known.passed m (omega arith))
       ];
       later = λ m above. c.pass.ensures.others m (λ e. absurd (omega arith)) ∙ known.later m (omega arith);
       ports = c.pass.ensures.ports ∙ known.ports;

@@ -43,12 +43,14 @@ loop-j-preserved c =
               | inl old ↦ let was = told.0 old in ((was.0.0, λ has. was.0.1 ((fewer y).0 has).1), was.1)
               | inr new ↦
                   let choice = new.1 in
-                  let chosen : GrantsUnicast c.args.n c.args.first_kind c.args.asks.now c.all_ready-ready.result c.args.p.now i j level = (choice.0, (c.chosen-choice.ensures _).0 choice.1, choice.2, choice.3) in
+                  let chosen : GrantsUnicast c.args.n c.args.first_kind c.args.asks.now c.all_ready-ready.result c.args.p.now i j level =
+                  (choice.0, (c.chosen-choice.ensures _).0 choice.1, choice.2, choice.3) in
                   rw new.0 ((here, λ has. ((fewer j).0 has).0 refl), chosen)
             ],
             λ p. noted.1 (elim (cases_eq y j) [
               | inl same ↦
-                  let grants : GrantsUnicast c.args.n c.args.first_kind c.args.asks.now c.all_ready-ready.result c.args.p.now i j level = subst (λ x. GrantsUnicast c.args.n c.args.first_kind c.args.asks.now c.all_ready-ready.result c.args.p.now i x level) same p.1 in
+                  let grants : GrantsUnicast c.args.n c.args.first_kind c.args.asks.now c.all_ready-ready.result c.args.p.now i j level =
+                  subst (λ x. GrantsUnicast c.args.n c.args.first_kind c.args.asks.now c.all_ready-ready.result c.args.p.now i x level) same p.1 in
                   inr (same, (grants.0, (c.chosen-choice.ensures _).1 grants.1, grants.2, grants.3))
               | inr apart ↦ inl (told.1 ((p.0.0, λ has. p.0.1 ((fewer y).1 (apart, has))), p.1))
             ]),

@@ -11,18 +11,22 @@ pub loop-done-init : goal.loop-done-init
 loop-done-init c =
     let n = c.args.n in
     let size : length c.round.new.out ≡ n = c.round.ensures.whole.count in
-    let free : (j : ℕ) → Has c.free_outputs.result j ↔ ((j < n) × IsFreeOutput c.round.new.out j) = subst (λ k. (j : ℕ) → Has c.free_outputs.result j ↔ ((j < k) × IsFreeOutput c.round.new.out j)) size c.free_outputs.ensures in
+    let free : (j : ℕ) → Has c.free_outputs.result j ↔ ((j < n) × IsFreeOutput c.round.new.out j) =
+    subst (λ k. (j : ℕ) → Has c.free_outputs.result j ↔ ((j < k) × IsFreeOutput c.round.new.out j)) size c.free_outputs.ensures in
     record {
       whole = c.round.ensures.whole;
       used = c.after_round-numbers.ensures.used;
       decided = λ t rows first_is are. (
-        IsDecided-first n t rows c.args.p.now c.args.first_kind first_is c.args.asks.now are c.new.result c.round.new.out c.count-matched.result c.after_round-numbers.result c.difference-first_outputs.result c.new.ensures.value c.round.ensures.step c.round.ensures.whole c.count-matched.ensures
+        IsDecided-first n t rows c.args.p.now c.args.first_kind first_is c.args.asks.now are c.new.result c.round.new.out c.count-matched.result
+            c.after_round-numbers.result c.difference-first_outputs.result c.new.ensures.value c.round.ensures.step c.round.ensures.whole
+            c.count-matched.ensures
             (c.after_round-numbers.ensures.numbers [] refl c.none.ensures) c.after_round-numbers.ensures.used
             (λ j.
             let d = c.difference-first_outputs.ensures j in
             let all = c.all.ensures.members j in
             (λ has. let p = d.0 has in (all.0 p.0, λ vacant. p.1 ((free j).1 (all.0 p.0, vacant))), λ p. d.1 (all.1 p.0, λ has. p.1 ((free j).0 has).1))),
-        IsSettled-first n t rows c.args.p.now c.args.first_kind first_is c.args.asks.now are c.new.result c.round.new.out c.count-matched.result c.requires.at_ports c.requires.ports c.new.ensures.value c.round.ensures.step c.round.ensures.whole c.count-matched.ensures,
+        IsSettled-first n t rows c.args.p.now c.args.first_kind first_is c.args.asks.now are c.new.result c.round.new.out c.count-matched.result
+            c.requires.at_ports c.requires.ports c.new.ensures.value c.round.ensures.step c.round.ensures.whole c.count-matched.ensures,
       );
     }
 
@@ -38,26 +42,35 @@ loop-done-preserved c =
     let known = c.loop-done.invariant in
     elim c.if-added-gt0.branch [
       | then-added-gt0 w ↦
-          let numbered : (each : List ℕ) → length each ≡ c.loop-done.done → c.loop-done.numbers ≡ numbers_of each → after.result ≡ numbers_of (each ++ w.saturating_sub-added.result ∷ []) = λ each long e. after.ensures.numbers each long e ∙ ap (λ d. numbers_of (each ++ d ∷ [])) w.added-is in
+          let numbered : (each : List ℕ) → length each ≡ c.loop-done.done → c.loop-done.numbers ≡ numbers_of each
+          → after.result ≡ numbers_of (each ++ w.saturating_sub-added.result ∷ []) = λ each long e. after.ensures.numbers each long e
+          ∙ ap (λ d. numbers_of (each ++ d ∷ [])) w.added-is in
           rw (w.out-is, w.matched-is, w.added-is) (record {
             whole = w.round-then-added-gt0.ensures.whole;
             used = after.ensures.used;
             decided = λ t rows first_is are.
                 let decided = (known.decided t rows first_is are).0 in (
-                  IsDecided-next n t rows places first_kind first_is asks are c.loop-done.done now w.round-then-added-gt0.new.out matched w.count-now.result c.loop-done.numbers after.result c.difference-first_outputs.result w.saturating_sub-added.result decided
-                      w.round-then-added-gt0.ensures.step w.round-then-added-gt0.ensures.whole w.count-now.ensures w.saturating_sub-added.ensures numbered after.ensures.used,
-                  IsSettled-next n t rows places first_kind first_is asks are now w.round-then-added-gt0.new.out matched w.count-now.result w.saturating_sub-added.result c.requires.at_ports c.requires.ports known.whole
-                      w.round-then-added-gt0.ensures.step w.round-then-added-gt0.ensures.whole decided.run.counted w.count-now.ensures w.saturating_sub-added.ensures,
+                  IsDecided-next n t rows places first_kind first_is asks are c.loop-done.done now w.round-then-added-gt0.new.out matched w.count-now.result
+                      c.loop-done.numbers after.result c.difference-first_outputs.result w.saturating_sub-added.result decided
+                      w.round-then-added-gt0.ensures.step w.round-then-added-gt0.ensures.whole w.count-now.ensures w.saturating_sub-added.ensures numbered
+                          after.ensures.used,
+                  IsSettled-next n t rows places first_kind first_is asks are now w.round-then-added-gt0.new.out matched w.count-now.result
+                      w.saturating_sub-added.result c.requires.at_ports c.requires.ports known.whole
+                      w.round-then-added-gt0.ensures.step w.round-then-added-gt0.ensures.whole decided.run.counted w.count-now.ensures
+                          w.saturating_sub-added.ensures,
                 );
           })
       | else-added-gt0 w ↦
-          let numbered : (each : List ℕ) → length each ≡ c.loop-done.done → c.loop-done.numbers ≡ numbers_of each → after.result ≡ numbers_of (each ++ c.loop-done.added ∷ []) = λ each long e. after.ensures.numbers each long e ∙ ap (λ d. numbers_of (each ++ d ∷ [])) w.added-is in
+          let numbered : (each : List ℕ) → length each ≡ c.loop-done.done → c.loop-done.numbers ≡ numbers_of each
+          → after.result ≡ numbers_of (each ++ c.loop-done.added ∷ []) = λ each long e. after.ensures.numbers each long e
+          ∙ ap (λ d. numbers_of (each ++ d ∷ [])) w.added-is in
           rw (w.out-is, w.matched-is, w.added-is) (record {
             whole = known.whole;
             used = after.ensures.used;
             decided = λ t rows first_is are.
                 let was = known.decided t rows first_is are in (
-                  IsDecided-still n t rows places c.loop-done.done now matched c.loop-done.numbers after.result c.difference-first_outputs.result c.loop-done.added was.0 was.1 (omega (arith, w.if-added-gt0.false)) numbered after.ensures.used,
+                  IsDecided-still n t rows places c.loop-done.done now matched c.loop-done.numbers after.result c.difference-first_outputs.result
+                      c.loop-done.added was.0 was.1 (omega (arith, w.if-added-gt0.false)) numbered after.ensures.used,
                   was.1,
                 );
           })
@@ -65,4 +78,5 @@ loop-done-preserved c =
 
 pub returns-clause-made : goal.returns-clause-made
 returns-clause-made c t rows first_is are =
-    AreMade-from c.args.n c.loop-done.done t rows c.args.p.now c.loop-done.out c.loop-done.matched c.loop-done.numbers c.difference-first_outputs.result c.args.rounds (c.loop-done.invariant.decided t rows first_is are).0 (omega arith)
+    AreMade-from c.args.n c.loop-done.done t rows c.args.p.now c.loop-done.out c.loop-done.matched c.loop-done.numbers c.difference-first_outputs.result
+        c.args.rounds (c.loop-done.invariant.decided t rows first_is are).0 (omega arith)

@@ -12,9 +12,11 @@ accept_all-requires-clause-open c =
     let ready = c.ready_inputs-ready.result in
     let size : length before ≡ n = c.requires.whole.count in
     let readies : AreReady n c.args.first_kind before ready = subst (λ k. AreReady k c.args.first_kind before ready) size c.ready_inputs-ready.ensures in
-    let free : (j : ℕ) → Has c.free_outputs.result j ↔ ((j < n) × IsFreeOutput before j) = subst (λ k. (j : ℕ) → Has c.free_outputs.result j ↔ ((j < k) × IsFreeOutput before j)) size c.free_outputs.ensures in
+    let free : (j : ℕ) → Has c.free_outputs.result j ↔ ((j < n) × IsFreeOutput before j) =
+    subst (λ k. (j : ℕ) → Has c.free_outputs.result j ↔ ((j < k) × IsFreeOutput before j)) size c.free_outputs.ensures in
     AreOpen-from_offers n c.args.first_kind c.args.asks.now ready c.args.p.now before c.offer_all.new.offers c.requires.at_ports c.requires.ports readies
-    (AreOffers-asked n c.args.first_kind c.args.asks.now ready c.args.p.now before c.free_outputs.result c.intersection-asked.result c.offer_all.new.offers free c.intersection-asked.ensures c.requires.asked c.offer_all.ensures)
+    (AreOffers-asked n c.args.first_kind c.args.asks.now ready c.args.p.now before c.free_outputs.result c.intersection-asked.result c.offer_all.new.offers
+        free c.intersection-asked.ensures c.requires.asked c.offer_all.ensures)
 
 pub returns-clause-step : goal.returns-clause-step
 returns-clause-step c =
@@ -22,11 +24,13 @@ returns-clause-step c =
     let before = c.args.out.now in
     let ready = c.ready_inputs-ready.result in
     let size : length before ≡ n = c.requires.whole.count in
-    let free : (j : ℕ) → Has c.free_outputs.result j ↔ ((j < n) × IsFreeOutput before j) = subst (λ k. (j : ℕ) → Has c.free_outputs.result j ↔ ((j < k) × IsFreeOutput before j)) size c.free_outputs.ensures in
+    let free : (j : ℕ) → Has c.free_outputs.result j ↔ ((j < n) × IsFreeOutput before j) =
+    subst (λ k. (j : ℕ) → Has c.free_outputs.result j ↔ ((j < k) × IsFreeOutput before j)) size c.free_outputs.ensures in
     record {
       ready = ready;
       offers = c.offer_all.new.offers;
       readies = subst (λ k. AreReady k c.args.first_kind before ready) size c.ready_inputs-ready.ensures;
-      offered = AreOffers-asked n c.args.first_kind c.args.asks.now ready c.args.p.now before c.free_outputs.result c.intersection-asked.result c.offer_all.new.offers free c.intersection-asked.ensures c.requires.asked c.offer_all.ensures;
+      offered = AreOffers-asked n c.args.first_kind c.args.asks.now ready c.args.p.now before c.free_outputs.result c.intersection-asked.result
+          c.offer_all.new.offers free c.intersection-asked.ensures c.requires.asked c.offer_all.ensures;
       pairs = c.accept_all.ensures.pairs;
     }

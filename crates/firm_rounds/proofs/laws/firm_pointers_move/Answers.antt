@@ -9,7 +9,9 @@ pub returns-clause-refused : goal.returns-clause-refused
 returns-clause-refused c n t rows first_match matched before after moved i j level refused = moved.held.held i j level refused
 
 pub returns-clause-grant_stays : goal.returns-clause-grant_stays
-returns-clause-grant_stays c n t rows first_match matched before after round moved j level nobody = grant_stays n t rows before first_match matched after round moved j level nobody
+returns-clause-grant_stays c n t rows first_match matched before after round moved j level nobody =
+    grant_stays n t rows before first_match matched after round moved j level nobody
 
 pub returns-clause-accept_stays : goal.returns-clause-accept_stays
-returns-clause-accept_stays c n t rows first_match matched before after moved i level none = moved.held.accepts i level ∙ moved.as_first.accept_stays i level none
+returns-clause-accept_stays c n t rows first_match matched before after moved i level none = moved.held.accepts i level
+    ∙ moved.as_first.accept_stays i level none

@@ -9,7 +9,8 @@ use Rattle.firm_rounds.proofs.slot.decide_firm.Goals as goal
 
 pub hold-requires-clause-outputs : goal.hold-requires-clause-outputs
 hold-requires-clause-outputs c j has =
-    let told = c.decide_with_refused.ensures.refused (slice_index c.decide_with_refused.result.1.inputs j) j (slice_index c.decide_with_refused.result.1.levels j) in
+    let told = c.decide_with_refused.ensures.refused (slice_index c.decide_with_refused.result.1.inputs j) j
+    (slice_index c.decide_with_refused.result.1.levels j) in
     let refused = told.0 (has, refl, refl) in
     let j_in = refused.0.output_in in
     let ports = c.decide_with_refused.ensures.slot.moved.ports in
@@ -17,7 +18,8 @@ hold-requires-clause-outputs c j has =
 
 pub hold-requires-clause-inputs : goal.hold-requires-clause-inputs
 hold-requires-clause-inputs c j has =
-    let told = c.decide_with_refused.ensures.refused (slice_index c.decide_with_refused.result.1.inputs j) j (slice_index c.decide_with_refused.result.1.levels j) in
+    let told = c.decide_with_refused.ensures.refused (slice_index c.decide_with_refused.result.1.inputs j) j
+    (slice_index c.decide_with_refused.result.1.levels j) in
     let refused = told.0 (has, refl, refl) in
     let i_in = refused.0.first.below in
     let ports = c.decide_with_refused.ensures.slot.moved.ports in
@@ -25,9 +27,11 @@ hold-requires-clause-inputs c j has =
 
 pub hold-requires-clause-levels : goal.hold-requires-clause-levels
 hold-requires-clause-levels c j has =
-    let told = c.decide_with_refused.ensures.refused (slice_index c.decide_with_refused.result.1.inputs j) j (slice_index c.decide_with_refused.result.1.levels j) in
+    let told = c.decide_with_refused.ensures.refused (slice_index c.decide_with_refused.result.1.inputs j) j
+    (slice_index c.decide_with_refused.result.1.levels j) in
     let refused = told.0 (has, refl, refl) in
-    level_asked c.args.rows.now (unmatched c.args.n) (slice_index c.decide_with_refused.result.1.inputs j) j (slice_index c.decide_with_refused.result.1.levels j) Uni refused.0.first.member
+    level_asked c.args.rows.now (unmatched c.args.n) (slice_index c.decide_with_refused.result.1.inputs j) j
+    (slice_index c.decide_with_refused.result.1.levels j) Uni refused.0.first.member
 
 pub returns-clause-slot : goal.returns-clause-slot
 returns-clause-slot c =
@@ -41,11 +45,14 @@ returns-clause-slot c =
       moved = record {
         moved = c.decide_with_refused.new.p;
         as_first = slot.moved;
-        held = AreHeld-along _ (IsRefused c.args.n c.args.slot c.args.rows.now c.args.p.now) c.decide_with_refused.new.p c.hold.new.p c.decide_with_refused.ensures.refused c.hold.ensures.held;
+        held = AreHeld-along _ (IsRefused c.args.n c.args.slot c.args.rows.now c.args.p.now) c.decide_with_refused.new.p c.hold.new.p
+            c.decide_with_refused.ensures.refused c.hold.ensures.held;
       };
     }
 
 -- and the slot has one decision
 pub returns-clause-decision : goal.returns-clause-decision
 returns-clause-decision c =
-    firm_decision-only c.args.n c.args.slot c.args.rows.now c.args.p.now c.requires.rows c.ports.ensures.at_ports c.requires.pointers c.args.rounds (record { matched = c.decide_with_refused.new.out; numbers = c.decide_with_refused.result.0; places = c.hold.new.p }) c.hold.ensures.at_ports (returns-clause-slot c)
+    firm_decision-only c.args.n c.args.slot c.args.rows.now c.args.p.now c.requires.rows c.ports.ensures.at_ports c.requires.pointers c.args.rounds
+    (record { matched = c.decide_with_refused.new.out; numbers = c.decide_with_refused.result.0; places = c.hold.new.p }) c.hold.ensures.at_ports
+    (returns-clause-slot c)

@@ -42,11 +42,13 @@ loop-j-preserved c =
                   inr (sym told.1, same, sym told.2)
             ],
           ))
-          (AreHeld-next P a j at c.args.p.now c.loop-j.p c.held.new.self (λ i level p. p.1 waits) known.held c.held.ensures.ports c.held.ensures.grant c.held.ensures.grants c.held.ensures.accepts c.held.ensures.shared);
+          (AreHeld-next P a j at c.args.p.now c.loop-j.p c.held.new.self
+          (λ i level p. p.1 waits) known.held c.held.ensures.ports c.held.ensures.grant c.held.ensures.grants c.held.ensures.accepts c.held.ensures.shared);
       at_ports = c.held.ensures.at_ports;
     }
 
 pub returns-clause-held : goal.returns-clause-held
 returns-clause-held c =
     let empty = c.in_default.ensures.none.0 refl in
-    AreHeld-along (λ i y level. Tells c.args.refused.now i y level × (Has c.loop-j.rest y → ⊥)) (Tells c.args.refused.now) c.args.p.now c.loop-j.p (λ i y level. (λ p. p.0, λ tells. (tells, zero-has c.loop-j.rest y empty))) c.loop-j.invariant.held
+    AreHeld-along (λ i y level. Tells c.args.refused.now i y level × (Has c.loop-j.rest y → ⊥)) (Tells c.args.refused.now) c.args.p.now c.loop-j.p
+    (λ i y level. (λ p. p.0, λ tells. (tells, zero-has c.loop-j.rest y empty))) c.loop-j.invariant.held

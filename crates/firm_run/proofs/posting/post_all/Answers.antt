@@ -36,7 +36,8 @@ loop-place-preserved c =
           let mine = was k card old in
           let is : post ≡ posts k = c.post-post.ensures.post (takings k) mine ∙ sym (are k card old) in
           subst (λ deposits. ArePosted (k + 1) (set at.cards k new) takings posts (set at.rows k post.row) deposits c.if-post.done) (sym c.deposit.ensures)
-          (ArePosted-more k at.cards takings posts at.rows at.crossbar at.done c.if-post.done new post (at.invariant.posted takings posts was are) inside (let rows = at.invariant.rows_long in omega arith) (let deposits = at.invariant.deposits_long in omega arith)
+          (ArePosted-more k at.cards takings posts at.rows at.crossbar at.done c.if-post.done new post (at.invariant.posted takings posts was are) inside
+          (let rows = at.invariant.rows_long in omega arith) (let deposits = at.invariant.deposits_long in omega arith)
           (c.post-post.ensures.after (takings k) mine) is end);
     }
 

@@ -12,5 +12,6 @@ invariant-loop-place l = record {
   deposits_long : length l.crossbar ≡ length l.fn.cards;
   plans : plans_in l.cards ≡ plans_in l.fn.cards;
   later : (i : ℕ) → l.place ≤ i → slice_get l.cards i ≡ slice_get l.fn.cards i;
-  posted : (takings : ℕ → List Taken) (posts : ℕ → Post) → AreAfter l.fn.cards takings false → ArePosts l.fn.cards takings posts → ArePosted l.place l.cards takings posts l.rows l.crossbar l.done;
+  posted : (takings : ℕ → List Taken) (posts : ℕ → Post) → AreAfter l.fn.cards takings false → ArePosts l.fn.cards takings posts
+      → ArePosted l.place l.cards takings posts l.rows l.crossbar l.done;
 }

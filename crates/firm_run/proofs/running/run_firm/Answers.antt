@@ -22,7 +22,8 @@ use Rattle.firm_run.proofs.running.run_firm.Goals as goal
 
 pub make-requires-clause-good : goal.make-requires-clause-good
 make-requires-clause-good c = λ port card at.
-    let found : slice_get (map plan_of c.args.plan.cards.items) port ≡ Some (plan_of card) = slice_get-map plan_of c.args.plan.cards.items port ∙ ap (option_map plan_of) at in
+    let found : slice_get (map plan_of c.args.plan.cards.items) port ≡ Some (plan_of card) = slice_get-map plan_of c.args.plan.cards.items port
+    ∙ ap (option_map plan_of) at in
     (c.requires.cards port (plan_of card) found).good
 
 pub run-slots-requires : goal.run-slots-requires
@@ -86,9 +87,11 @@ returns-clause-run c =
     let longest = c.longest_of-longest.result in
     let ports : c.len-ports.result ≡ length cards = omega arith in
     let summary : Summary = c.sum_up.result in
-    let made : summary ≡ summary_with terms c.len-ports.result terms.rounds slots outputs longest = c.sum_up.ensures ∙ ap (λ outs. summary_with terms c.len-ports.result terms.rounds slots outs longest) c.deref.ensures.value in
+    let made : summary ≡ summary_with terms c.len-ports.result terms.rounds slots outputs longest = c.sum_up.ensures
+    ∙ ap (λ outs. summary_with terms c.len-ports.result terms.rounds slots outs longest) c.deref.ensures.value in
     let numbers : summary ≡ summary_under firm_decision plan slots =
-    made ∙ numbers-are terms cards good slots switch run.1 run.2 outputs left longest c.longest_of-longest.ensures c.len-ports.result ports (c.terms_of-terms.ensures.packets ∙ ap (λ p. sum_by length (packets_in p)) (sym same)) in
+    made ∙ numbers-are terms cards good slots switch run.1 run.2 outputs left longest c.longest_of-longest.ensures c.len-ports.result ports
+    (c.terms_of-terms.ensures.packets ∙ ap (λ p. sum_by length (packets_in p)) (sym same)) in
     let slots_are : summary.slots ≡ slots = ap (λ (s : Summary). s.slots) made in
     subst (λ p. IsFirmRun p summary) same (record {
       ends = subst (IsLengthUnder firm_decision plan) (sym slots_are) run.0;
@@ -115,7 +118,8 @@ returns-clause-waits c =
     let longest_are : summary.longest ≡ longest = ap (λ (s : Summary). s.longest) c.sum_up.ensures in
     subst (λ p. HasShortWaits p summary) same (λ level best.
     subst (λ xs. slice_index xs level < ports_of plan * ports_of plan) (sym longest_are)
-    (short terms cards good slots switch run.1 run.2 outputs left longest c.longest_of-longest.ensures level (subst (λ k. IsBestUnder firm_decision plan k level) slots_are best)))
+    (short terms cards good slots switch run.1 run.2 outputs left longest c.longest_of-longest.ensures level
+    (subst (λ k. IsBestUnder firm_decision plan k level) slots_are best)))
 
 pub returns-clause-promises : goal.returns-clause-promises
 returns-clause-promises c = promises-of (switch_plan_of c.args.plan) c.requires c.sum_up.result.slots (returns-clause-run c).ends

@@ -24,8 +24,10 @@ push_reserved-requires c =
     let plans = c.args.plans.items in
     let rest = into_iter_items at.plan-iterator in
     let whole : at.yielded ++ rest ≡ plans = at.invariant.rest ∙ c.into_iter-plan-iterator.ensures.into_iter_gives.0 in
-    let below = slice_get_within plans (length at.yielded) x (here_of at.yielded rest (into_iter_items c.next.new.self) plans x whole c.in-Some.ensures.steps.0) in
-    let made : length at.cards.items ≡ length at.yielded = sym (length-map at.cards.items (λ (m : CardState). m.sends.plan)) ∙ (ap length at.invariant.plans ∙ length-map at.yielded plan_of) in
+    let below = slice_get_within plans (length at.yielded) x
+    (here_of at.yielded rest (into_iter_items c.next.new.self) plans x whole c.in-Some.ensures.steps.0) in
+    let made : length at.cards.items ≡ length at.yielded = sym (length-map at.cards.items (λ (m : CardState). m.sends.plan))
+    ∙ (ap length at.invariant.plans ∙ length-map at.yielded plan_of) in
     let held = at.cards.ok.0 in
     let room = at.invariant.room in
     omega arith
@@ -41,6 +43,7 @@ loop-plan-preserved c =
       rest = gone_more at.yielded rest (into_iter_items c.next.new.self) _ x at.invariant.rest steps;
       left = let was = at.invariant.left in let gone = c.in-Some.ensures.steps.1 in let short = ap length steps in omega arith;
       plans = ap plans_in c.push_reserved.ensures.items ∙ made-more at.cards.items at.yielded card x at.invariant.plans c.in_ok-card.ensures.plan;
-      after = subst (λ cards. AreAfter cards (λ i. []) false) (sym c.push_reserved.ensures.items) (new-more at.cards.items card at.invariant.after c.in_ok-card.ensures.after);
+      after = subst (λ cards. AreAfter cards (λ i. []) false) (sym c.push_reserved.ensures.items)
+          (new-more at.cards.items card at.invariant.after c.in_ok-card.ensures.after);
       room = let room = at.invariant.room in let same = c.push_reserved.ensures.capacity in omega arith;
     }

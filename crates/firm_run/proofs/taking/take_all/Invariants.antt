@@ -10,5 +10,6 @@ invariant-loop-place l = record {
   count : length l.cards ≡ length l.fn.cards;
   plans : plans_in l.cards ≡ plans_in l.fn.cards;
   later : (i : ℕ) → l.place ≤ i → slice_get l.cards i ≡ slice_get l.fn.cards i;
-  taken : (takings : ℕ → List Taken) → AreAfter l.fn.cards takings true → (i : ℕ) (card : CardState) → i < l.place → slice_get l.cards i ≡ Some card → IsAfter card (takings i ++ taken_now l.slot l.before l.matched l.crossbar l.done i ∷ []) false;
+  taken : (takings : ℕ → List Taken) → AreAfter l.fn.cards takings true → (i : ℕ) (card : CardState) → i < l.place → slice_get l.cards i ≡ Some card
+      → IsAfter card (takings i ++ taken_now l.slot l.before l.matched l.crossbar l.done i ∷ []) false;
 }

@@ -9,7 +9,8 @@ use Rattle.forward_table.proofs.forms.ports_of.Given as goal
 
 abbrev pub invariant-loop-rest : goal.invariant-loop-rest
 invariant-loop-rest l = record {
-  fan : option_map (fan_of l.n) (numbers_of (parts comma l.list)) ≡ option_map (fold (with_port l.n) l.fan) (numbers_of (parts_left (option_map (λ ports. ports.now) l.rest)));
+  fan : option_map (fan_of l.n) (numbers_of (parts comma l.list)) ≡ option_map (fold (with_port l.n) l.fan)
+      (numbers_of (parts_left (option_map (λ ports. ports.now) l.rest)));
   among : IfOk l.fan (IsAmong l.n);
   some : IfNone l.rest (IfOk l.fan (λ set. 0 < set));
 }

@@ -6,7 +6,8 @@ use Rattle.islip_rounds.proofs.kernels.picks.Goals as goal
 
 pub loop-k-preserved : goal.loop-k-preserved
 loop-k-preserved c = record {
-  choices = below-next (λ (k : ℕ) (chosen : Option ℕ). (x : ℕ) → (chosen ≡ Some x) ↔ IsChoice c.args.n c.args.from.now c.args.masks.now c.args.free k x) None c.loop-k.chosen c.loop-k.k c.choice.result (omega arith)
+  choices = below-next (λ (k : ℕ) (chosen : Option ℕ). (x : ℕ) → (chosen ≡ Some x)
+      ↔ IsChoice c.args.n c.args.from.now c.args.masks.now c.args.free k x) None c.loop-k.chosen c.loop-k.k c.choice.result (omega arith)
       (λ x. (
         λ some. let p = (c.choice.ensures x).0 some in (c.contains.ensures.0 p.0, p.1),
         λ p. (c.choice.ensures x).1 (c.contains.ensures.1 p.0, p.1),

@@ -15,6 +15,7 @@ returns c =
       rows_are = λ i i_in. c.copy.ensures.copied i (omega (arith, c.requires.rows));
       rest = λ i out. c.copy.ensures.rest i (omega (arith, c.requires.rows)) ∙ empty_square c.no_sets-square.result c.no_sets-square.ensures i;
     } in
-    AreColumns-turned n rows square turned columns c.requires.size c.requires.rows c.requires.among (λ j. omega (arith, c.type_inv.columns j)) holds c.turn_square.ensures
+    AreColumns-turned n rows square turned columns c.requires.size c.requires.rows c.requires.among
+    (λ j. omega (arith, c.type_inv.columns j)) holds c.turn_square.ensures
     (λ j j_in. c.copy-2.ensures.copied j (omega arith) ∙ get_or-take n turned j 0 j_in)
     (λ j out. c.copy-2.ensures.rest j (omega arith) ∙ c.clear.ensures j)

@@ -21,9 +21,13 @@ loop-j-preserved c =
           rw w.offers-is
           (record {
             long = omega (arith, length-set {A = ℕ});
-            offers = AreOffers-put c.args.granted.now c.loop-j.j w.in-Some.i w.with.result c.loop-j.offers i_in w.in-Some.is w.with.ensures c.loop-j.invariant.offers;
+            offers = AreOffers-put c.args.granted.now c.loop-j.j w.in-Some.i w.with.result c.loop-j.offers i_in w.in-Some.is w.with.ensures
+                c.loop-j.invariant.offers;
           })
       | in_default w ↦
           rw w.offers-is
-          (record { long = c.loop-j.invariant.long; offers = AreOffers-skip c.args.granted.now c.loop-j.j c.loop-j.offers w.in_default.is c.loop-j.invariant.offers })
+          (record {
+            long = c.loop-j.invariant.long;
+            offers = AreOffers-skip c.args.granted.now c.loop-j.j c.loop-j.offers w.in_default.is c.loop-j.invariant.offers;
+          })
     ]

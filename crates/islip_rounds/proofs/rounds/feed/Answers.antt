@@ -18,7 +18,10 @@ loop-i-preserved c =
           })
       | in_default w ↦
           rw w.fed-is
-          (record { long = c.loop-i.invariant.long; fed = AreFed-skip c.args.fed.now c.args.accepted.now c.loop-i.i c.loop-i.fed w.in_default.is c.loop-i.invariant.fed })
+          (record {
+            long = c.loop-i.invariant.long;
+            fed = AreFed-skip c.args.fed.now c.args.accepted.now c.loop-i.i c.loop-i.fed w.in_default.is c.loop-i.invariant.fed;
+          })
     ]
 
 pub returns : goal.returns

@@ -6,6 +6,7 @@ use Rattle.islip_rounds.proofs.rounds.requests.Goals as goal
 pub loop-j-preserved : goal.loop-j-preserved
 loop-j-preserved c = record {
   long = omega (arith, length-set {A = ℕ});
-  members = below-next (λ (j set : ℕ). (x : ℕ) → Has set x ↔ (Has (slice_index c.args.columns.now j) x × Has c.args.free x)) 0 c.loop-j.asked c.loop-j.j c.intersection.result
+  members = below-next (λ (j set : ℕ). (x : ℕ) → Has set x
+      ↔ (Has (slice_index c.args.columns.now j) x × Has c.args.free x)) 0 c.loop-j.asked c.loop-j.j c.intersection.result
       (omega arith) c.intersection.ensures c.loop-j.invariant.members;
 }

@@ -25,7 +25,8 @@ loop-done-init c =
     let unused : c.none.result.used ≡ 0 = ap (λ (m : RoundsUsed). m.used) c.none.ensures in
     record {
       run = IsRun-first n asks p fed matched after.result opened counted (after.ensures.numbers [] refl c.none.ensures);
-      ending = AreEnding-next n asks p 0 unmatched fed 0 matched matched after.result (omega arith) opened refl counted (omega arith) (omega arith) (λ some. let used = after.ensures.more some in omega arith) (λ some. after.ensures.last some unused);
+      ending = AreEnding-next n asks p 0 unmatched fed 0 matched matched after.result (omega arith) opened refl counted (omega arith) (omega arith)
+          (λ some. let used = after.ensures.more some in omega arith) (λ some. after.ensures.last some unused);
       within = c.round.ensures.within;
       once = once_after n asks p unmatched fed opened (λ i j k feeds also. absurd (nothing_fed i j feeds)) c.requires.accept;
       long = omega arith;
@@ -55,12 +56,14 @@ loop-done-preserved c =
           let used : numbers.used ≡ k = known.ending.used some in
           let many = known.ending.many some in
           let to_more : 0 < more → 0 < c.if-added-gt0.added = λ h. let e = w.added-is in omega arith in
-          let numbered : (each : List ℕ) → length each ≡ k → numbers ≡ numbers_of each → after.result ≡ numbers_of (each ++ more ∷ []) = λ each long e. after.ensures.numbers each long e ∙ ap (λ d. numbers_of (each ++ d ∷ [])) w.added-is in
+          let numbered : (each : List ℕ) → length each ≡ k → numbers ≡ numbers_of each → after.result ≡ numbers_of (each ++ more ∷ []) =
+          λ each long e. after.ensures.numbers each long e ∙ ap (λ d. numbers_of (each ++ d ∷ [])) w.added-is in
           rw (w.fed-is, w.matched-is, w.added-is)
           (record {
             run = IsRun-next n k asks p first fed next matched now numbers after.result known.run round w.matched_outputs-now.ensures
                 (λ each long e. numbered each long e ∙ ap (λ d. numbers_of (each ++ d ∷ [])) w.saturating_sub-added.ensures);
-            ending = AreEnding-next n asks p k fed next matched now more after.result (omega arith) round known.run.counted w.matched_outputs-now.ensures w.saturating_sub-added.ensures many
+            ending = AreEnding-next n asks p k fed next matched now more after.result
+                (omega arith) round known.run.counted w.matched_outputs-now.ensures w.saturating_sub-added.ensures many
                 (λ h. let grows = after.ensures.more (to_more h) in omega arith) (λ h. after.ensures.last (to_more h) used ∙ w.added-is);
             within = w.round-then-added-gt0.ensures.within;
             once = once_after n asks p fed next round known.once c.requires.accept;
@@ -69,7 +72,8 @@ loop-done-preserved c =
           })
       | else-added-gt0 w ↦
           let none : added ≡ 0 = omega arith in
-          let numbered : (each : List ℕ) → length each ≡ k → numbers ≡ numbers_of each → after.result ≡ numbers_of (each ++ added ∷ []) = λ each long e. after.ensures.numbers each long e ∙ ap (λ d. numbers_of (each ++ d ∷ [])) w.added-is in
+          let numbered : (each : List ℕ) → length each ≡ k → numbers ≡ numbers_of each → after.result ≡ numbers_of (each ++ added ∷ []) =
+          λ each long e. after.ensures.numbers each long e ∙ ap (λ d. numbers_of (each ++ d ∷ [])) w.added-is in
           rw (w.fed-is, w.matched-is, w.added-is)
           (record {
             run = IsRun-still n asks p k first fed matched added numbers after.result none known.run known.ending numbered;
@@ -84,8 +88,10 @@ loop-done-preserved c =
 pub move_pointers-requires-clause-once : goal.move_pointers-requires-clause-once
 move_pointers-requires-clause-once c i j k feeds also =
     let opened : IsRound c.args.n c.args.asks.now c.args.p.now unmatched c.round.new.fed =
-    subst (λ fed. IsRound c.args.n c.args.asks.now c.args.p.now fed c.round.new.fed) c.no_ports-fed.ensures (c.round.ensures.round c.args.asks.now c.transpose.ensures) in
-    once_after c.args.n c.args.asks.now c.args.p.now unmatched c.round.new.fed opened (λ x y z f g. absurd (nothing_fed x y f)) c.requires.accept i j k feeds also
+    subst (λ fed. IsRound c.args.n c.args.asks.now c.args.p.now fed c.round.new.fed) c.no_ports-fed.ensures
+    (c.round.ensures.round c.args.asks.now c.transpose.ensures) in
+    once_after c.args.n c.args.asks.now c.args.p.now unmatched c.round.new.fed opened
+    (λ x y z f g. absurd (nothing_fed x y f)) c.requires.accept i j k feeds also
 
 pub returns-clause-slot : goal.returns-clause-slot
 returns-clause-slot c =
@@ -97,15 +103,18 @@ returns-clause-slot c =
       chain = run.chain;
       result = run.result;
       numbered = run.numbered;
-      moved = subst (λ first. AreMoved c.args.n first c.args.p.now (record { grant = c.move_pointers.new.grant; accept = c.move_pointers.new.accept })) run.opening c.move_pointers.ensures.moved;
+      moved = subst (λ first. AreMoved c.args.n first c.args.p.now
+          (record { grant = c.move_pointers.new.grant; accept = c.move_pointers.new.accept })) run.opening c.move_pointers.ensures.moved;
     }
 
 pub returns-clause-unused : goal.returns-clause-unused
 returns-clause-unused c =
     let known = c.loop-done.invariant in
-    maximal_if_unused c.args.n c.args.asks.now c.args.p.now c.loop-done.done c.loop-done.fed c.loop-done.matched c.loop-done.added c.loop-done.numbers known.ending c.requires.grant c.requires.accept known.within
+    maximal_if_unused c.args.n c.args.asks.now c.args.p.now c.loop-done.done c.loop-done.fed c.loop-done.matched c.loop-done.added c.loop-done.numbers
+        known.ending c.requires.grant c.requires.accept known.within
 
 pub returns-clause-enough : goal.returns-clause-enough
 returns-clause-enough c enough =
     let known = c.loop-done.invariant in
-    maximal_if_enough c.args.n c.args.asks.now c.args.p.now c.loop-done.done c.loop-done.fed c.loop-done.matched c.loop-done.added c.loop-done.numbers known.ending c.requires.grant c.requires.accept known.within known.run.counted (omega arith)
+    maximal_if_enough c.args.n c.args.asks.now c.args.p.now c.loop-done.done c.loop-done.fed c.loop-done.matched c.loop-done.added c.loop-done.numbers
+        known.ending c.requires.grant c.requires.accept known.within known.run.counted (omega arith)

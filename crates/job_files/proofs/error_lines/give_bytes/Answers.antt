@@ -6,11 +6,19 @@ use Rattle.outside.proofs.Effects.{err_more}
 use Rattle.job_files.proofs.error_lines.give_bytes.Goals as goal
 
 pub returns-in-Err-clause-told : goal.returns-in-Err-clause-told
-returns-in-Err-clause-told g c = (take c.loop-at.at c.args.bytes.now, drop c.loop-at.at c.args.bytes.now, sym (take-append-drop c.loop-at.at c.args.bytes.now), c.in-Err.ensures.told ∙ c.loop-at.invariant.told)
+returns-in-Err-clause-told g c = (
+  take c.loop-at.at c.args.bytes.now,
+  drop c.loop-at.at c.args.bytes.now,
+  sym (take-append-drop c.loop-at.at c.args.bytes.now),
+  c.in-Err.ensures.told
+      ∙ c.loop-at.invariant.told,
+)
 
 pub loop-at-preserved : goal.loop-at-preserved
 loop-at-preserved g c = record {
-  told = (rw take_rest at c.in-Ok.ensures.told) ∙ ap (option_map (append_err (take c.in-Ok.count (drop c.loop-at.at c.args.bytes.now)))) c.loop-at.invariant.told ∙ err_more c.args.bytes.now c.loop-at.at c.in-Ok.count _;
+  told = (rw take_rest at c.in-Ok.ensures.told)
+      ∙ ap (option_map (append_err (take c.in-Ok.count (drop c.loop-at.at c.args.bytes.now)))) c.loop-at.invariant.told
+      ∙ err_more c.args.bytes.now c.loop-at.at c.in-Ok.count _;
   never_fall = λ p. omega (arith, c.loop-at.invariant.never_fall p, c.in-Ok.ensures.never_fall p);
   within = omega (arith, rw take_rest at c.in-Ok.ensures.room, length-drop c.loop-at.at c.args.bytes.now, c.loop-at.invariant.within);
 }

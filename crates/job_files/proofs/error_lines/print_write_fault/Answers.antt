@@ -11,7 +11,8 @@ returns-in-Run-Output-clause-line g c =
     let counts = g.F.Files.faults in
     let line = rw (c.from.ensures, c.as_str.ensures.value) at c.give_parts.ensures.line in
     rw (c.in-Run-Output.is-0, c.in-Run-Output.is-1)
-    (subst (λ (text : List ℕ). GivesLine text (contents c.args.files.now) (contents c.give_parts.new.files) (counts c.args.files.now ToErr) (counts c.give_parts.new.files ToErr))
+    (subst (λ (text : List ℕ). GivesLine text (contents c.args.files.now) (contents c.give_parts.new.files) (counts c.args.files.now ToErr)
+    (counts c.give_parts.new.files ToErr))
     (output_line (codes "write fault: ") _ (decimal c.in-Run-Output.port) (codes "\n")) line)
 
 pub returns-in-Run-Packets-clause-line : goal.returns-in-Run-Packets-clause-line

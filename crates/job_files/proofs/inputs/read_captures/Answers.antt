@@ -9,7 +9,9 @@ pub returns-in-Err-clause-stops : goal.returns-in-Err-clause-stops
 returns-in-Err-clause-stops g c =
     let contents = g.F.Files.told in
     let counts = g.F.Files.faults in
-    StopsReading-since (reads_words c.args.reads.now) (contents c.args.files.now) (contents c.loop-port.files) (counts c.args.files.now) (counts c.loop-port.files) (counts c.read_input.new.files) c.in-Err.ending c.loop-port.invariant.told c.loop-port.invariant.never_fall c.in-Err.ensures.stops
+    StopsReading-since (reads_words c.args.reads.now) (contents c.args.files.now) (contents c.loop-port.files) (counts c.args.files.now)
+    (counts c.loop-port.files)
+    (counts c.read_input.new.files) c.in-Err.ending c.loop-port.invariant.told c.loop-port.invariant.never_fall c.in-Err.ensures.stops
 
 pub loop-port-preserved : goal.loop-port-preserved
 loop-port-preserved g c =

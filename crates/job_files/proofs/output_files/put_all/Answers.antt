@@ -5,12 +5,14 @@ use Rattle.job_files.proofs.output_files.put_all.Goals as goal
 
 pub returns-then-is_err-clause-err : goal.returns-then-is_err-clause-err
 returns-then-is_err-clause-err g c =
-    put_to shown c.args.output_files.now c.loop-place.place c.index-output_files-place.result c.put_file.result _ _ _ _ _ _ c.loop-place-test.true c.index-output_files-place.is
+    put_to shown c.args.output_files.now c.loop-place.place c.index-output_files-place.result c.put_file.result _ _ _ _ _ _ c.loop-place-test.true
+    c.index-output_files-place.is
     (sym c.is_err.ensures.value ∙ c.if-is_err.true) c.loop-place.invariant.never_fall c.loop-place.invariant.told c.put_file.ensures.told
 
 pub loop-place-preserved : goal.loop-place-preserved
 loop-place-preserved g c = record {
-  told = put_more shown c.args.output_files.now c.loop-place.place c.index-output_files-place.result c.put_file.result _ _ _ _ _ c.loop-place-test.true c.index-output_files-place.is
+  told = put_more shown c.args.output_files.now c.loop-place.place c.index-output_files-place.result c.put_file.result _ _ _ _ _ c.loop-place-test.true
+      c.index-output_files-place.is
       (sym c.is_err.ensures.value ∙ c.if-is_err.false) c.loop-place.invariant.told c.put_file.ensures.told;
   never_fall = λ p. omega (arith, c.loop-place.invariant.never_fall p, c.put_file.ensures.never_fall p);
 }

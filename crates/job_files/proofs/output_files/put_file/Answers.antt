@@ -5,4 +5,5 @@ use Rattle.job_files.proofs.output_files.put_file.Goals as goal
 pub returns-clause-told : goal.returns-clause-told
 returns-clause-told g c =
     let counts = g.F.Files.faults in
-    puts_of c.put_whole.result (shown c.args.file.now) _ _ (counts c.args.files.now) (counts c.put_whole.new.files) _ _ c.as_str.ensures.value c.as_slice.ensures.value c.put_whole.ensures.told
+    puts_of c.put_whole.result (shown c.args.file.now) _ _ (counts c.args.files.now)
+    (counts c.put_whole.new.files) _ _ c.as_str.ensures.value c.as_slice.ensures.value c.put_whole.ensures.told

@@ -17,4 +17,5 @@ returns-in-Err-clause-err g c =
     let old = c.args.files.now in
     let new = c.put_all.new.files in
     rw c.written_at.ensures
-    (stops_at_place texts.outputs texts.with_journal files (string_bytes texts.summary) c.in-Err.place (contents old) (contents new) (counts old) (counts new) within stops)
+    (stops_at_place texts.outputs texts.with_journal files (string_bytes texts.summary) c.in-Err.place (contents old) (contents new) (counts old)
+    (counts new) within stops)

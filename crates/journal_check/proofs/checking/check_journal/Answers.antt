@@ -24,4 +24,5 @@ pub returns : goal.returns
 returns c =
     let all = c.in_ok-end.ensures in
     let file = whole_file c.args.bytes.now c.in_ok-header.header c.in_ok-header.ensures.read all.0 c.in_ok-end.end all.1 in
-    inr (ap (λ (v : Verdict). let r : Result Verdict JournalFault = Ok v in r) (c.verdict.ensures file (sym all.2) all.4 all.3) ∙ sym (whole_answer c.args.bytes.now c.in_ok-header.header c.in_ok-header.ensures.read all.0 c.in_ok-end.end all.1 c.if-end-bytes.false))
+    inr (ap (λ (v : Verdict). let r : Result Verdict JournalFault = Ok v in r) (c.verdict.ensures file (sym all.2) all.4 all.3)
+    ∙ sym (whole_answer c.args.bytes.now c.in_ok-header.header c.in_ok-header.ensures.read all.0 c.in_ok-end.end all.1 c.if-end-bytes.false))

@@ -8,9 +8,11 @@ returns-then-bytes-at c = number_short c.args.field c.args.bytes.now c.args.at c
 pub returns-then-allows : goal.returns-then-allows
 returns-then-allows c =
     number_read c.args.field c.args.bytes.now c.args.at c.read_uint-number.result (omega (arith, c.len-len.ensures))
-    (read_is c.args.field c.args.bytes.now c.args.at c.read_uint-number.result c.len-len.result c.len-len.ensures c.read_uint-number.ensures) (sym c.allows.ensures ∙ c.if-allows.true)
+    (read_is c.args.field c.args.bytes.now c.args.at c.read_uint-number.result c.len-len.result c.len-len.ensures c.read_uint-number.ensures)
+    (sym c.allows.ensures ∙ c.if-allows.true)
 
 pub returns-else-allows : goal.returns-else-allows
 returns-else-allows c =
     number_refused c.args.field c.args.bytes.now c.args.at c.read_uint-number.result c.requires.place
-    (read_is c.args.field c.args.bytes.now c.args.at c.read_uint-number.result c.len-len.result c.len-len.ensures c.read_uint-number.ensures) (sym c.allows.ensures ∙ c.if-allows.false)
+    (read_is c.args.field c.args.bytes.now c.args.at c.read_uint-number.result c.len-len.result c.len-len.ensures c.read_uint-number.ensures)
+    (sym c.allows.ensures ∙ c.if-allows.false)

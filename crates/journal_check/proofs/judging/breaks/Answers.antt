@@ -5,4 +5,5 @@ use Rattle.slot_histories.proofs.KeepingTests.{Decides-keeps_rest}
 use Rattle.journal_check.proofs.judging.breaks.Goals as goal
 
 pub returns : goal.returns
-returns c = ap not (one_answer c.keeps.result (keeps_rest c.args.count c.args.served c.args.before.now c.args.row.now) c.keeps.ensures (Decides-keeps_rest c.args.count c.args.served c.args.before.now c.requires.within c.requires.levels c.args.row.now))
+returns c = ap not (one_answer c.keeps.result (keeps_rest c.args.count c.args.served c.args.before.now c.args.row.now) c.keeps.ensures
+    (Decides-keeps_rest c.args.count c.args.served c.args.before.now c.requires.within c.requires.levels c.args.row.now))

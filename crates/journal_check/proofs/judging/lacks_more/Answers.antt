@@ -9,4 +9,5 @@ lacks true r e silent same = absurd (cc)
 lacks false r e silent same = ap not same
 
 pub returns-then-not-more : goal.returns-then-not-more
-returns-then-not-more c = lacks _ _ _ c.if-not-more.true (one_answer c.is_empty.result (is_empty c.args.row.now) c.is_empty.ensures (Decides-is_empty c.args.row.now))
+returns-then-not-more c =
+    lacks _ _ _ c.if-not-more.true (one_answer c.is_empty.result (is_empty c.args.row.now) c.is_empty.ensures (Decides-is_empty c.args.row.now))

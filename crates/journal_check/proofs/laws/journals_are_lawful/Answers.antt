@@ -12,4 +12,5 @@ returns-clause-lawful c s events setup legal finished = journal_lawful s events 
 
 pub returns-clause-answer : goal.returns-clause-answer
 returns-clause-answer c s events setup legal finished four =
-    lawful_answer (file_of (board_journal (record { setup = s; events = events }))) (journal_is_file s events setup legal finished four) (journal_lawful s events setup legal finished)
+    lawful_answer (file_of (board_journal (record { setup = s; events = events }))) (journal_is_file s events setup legal finished four)
+    (journal_lawful s events setup legal finished)

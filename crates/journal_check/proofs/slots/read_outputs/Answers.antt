@@ -6,7 +6,8 @@ pub loop-j-init : goal.loop-j-init
 loop-j-init c = outputs_begin c.args.ports c.args.bytes.now c.args.at c.args.fed.now c.requires.place c.told-fed
 
 pub loop-j-preserved : goal.loop-j-preserved
-loop-j-preserved c = outputs_go_on c.args.ports c.args.bytes.now c.args.at c.loop-j.j c.loop-j.next (c.loop-j.next + 2) c.loop-j.fed c.in_ok-fed.field-0 c.loop-j-test.true c.requires.few c.loop-j.invariant c.in_ok-fed.ensures
+loop-j-preserved c = outputs_go_on c.args.ports c.args.bytes.now c.args.at c.loop-j.j c.loop-j.next
+    (c.loop-j.next + 2) c.loop-j.fed c.in_ok-fed.field-0 c.loop-j-test.true c.requires.few c.loop-j.invariant c.in_ok-fed.ensures
 
 pub returns : goal.returns
 returns c =

@@ -6,4 +6,5 @@ use Rattle.journal_check.proofs.writing.posts_len.Given as goal
 
 abbrev pub invariant-loop-post : goal.invariant-loop-post
 invariant-loop-post l =
-    (l.len ≡ length (flat_map (λ post. post_text (file_post post)) (take l.post-index l.posts))) × (l.len ≤ 66 * l.post-index) × ((k : ℕ) (d : CardPost) → k < l.post-index → HasLevels (get_or l.posts k d).row)
+    (l.len ≡ length (flat_map (λ post. post_text (file_post post)) (take l.post-index l.posts))) × (l.len ≤ 66 * l.post-index)
+    × ((k : ℕ) (d : CardPost) → k < l.post-index → HasLevels (get_or l.posts k d).row)

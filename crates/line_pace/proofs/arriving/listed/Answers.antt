@@ -17,8 +17,14 @@ arrival-arrival-requires-clause-free c =
 
 pub overflow_cast-arrival : goal.overflow_cast-arrival
 overflow_cast-arrival c =
-    let before = arrival-lt c.args.pace.now c.loop-packet.free c.args.packets.now c.loop-packet.packet-index (record { time = 0; cells = 0 }) c.loop-packet-test.true in
+    let before = arrival-lt c.args.pace.now c.loop-packet.free c.args.packets.now c.loop-packet.packet-index
+    (record { time = 0; cells = 0 }) c.loop-packet-test.true in
     omega (arith, c.arrival-arrival.ensures.value, c.loop-packet.invariant.within)
 
 pub overflow_add-free : goal.overflow_add-free
-overflow_add-free c = omega (arith, c.arrival-arrival.ensures.bound, free_after-le c.args.pace.now c.loop-packet.free (drop c.loop-packet.packet-index c.args.packets.now), c.loop-packet.invariant.within)
+overflow_add-free c = omega (
+  arith,
+  c.arrival-arrival.ensures.bound,
+  free_after-le c.args.pace.now c.loop-packet.free (drop c.loop-packet.packet-index c.args.packets.now),
+  c.loop-packet.invariant.within,
+)

@@ -14,7 +14,8 @@ returns-then-not-is_input c = (
       let inside = c.loop-coming-test.true in
       let here : slice_index_or (map (λ list. list.items) items) i [] ≡ c.deref.result.now =
       get_or-map (λ list. list.items) items i c.coming-item.result [] inside ∙ ap (λ list. list.items) (sym c.coming-item.is) ∙ sym c.deref.ensures.value in
-      let is = subst (IsInput c.args.n) here (all i (slice_index_or (map (λ list. list.items) items) i []) (some_get (map (λ list. list.items) items) i [] (omega arith))) in
+      let is = subst (IsInput c.args.n) here
+      (all i (slice_index_or (map (λ list. list.items) items) i []) (some_get (map (λ list. list.items) items) i [] (omega arith))) in
       let yes_ = c.is_input.ensures.1 is in
       let f = c.if-not-is_input.true in
       absurd (cc),
@@ -27,10 +28,13 @@ loop-coming-preserved c =
     let inside = c.loop-coming-test.true in
     let here : slice_index_or (map (λ list. list.items) items) i [] ≡ c.deref.result.now =
     get_or-map (λ list. list.items) items i c.coming-item.result [] inside ∙ ap (λ list. list.items) (sym c.coming-item.is) ∙ sym c.deref.ensures.value in
-    each_more (IsInput c.args.n) (map (λ list. list.items) items) i [] c.loop-coming.invariant (subst (IsInput c.args.n) (sym here) (c.is_input.ensures.0 c.if-not-is_input.false))
+    each_more (IsInput c.args.n) (map (λ list. list.items) items) i [] c.loop-coming.invariant
+    (subst (IsInput c.args.n) (sym here) (c.is_input.ensures.0 c.if-not-is_input.false))
 
 pub returns : goal.returns
 returns c = (
-  λ yes_ k coming there. c.loop-coming.invariant k coming (let l = some_lt (map (λ list. list.items) c.args.inputs.now) k coming there in let long = length-map c.args.inputs.now (λ list. list.items) in omega arith) there,
+  λ yes_ k coming there. c.loop-coming.invariant k coming
+      (let l = some_lt (map (λ list. list.items) c.args.inputs.now) k coming there in let long = length-map c.args.inputs.now (λ list. list.items) in
+      omega arith) there,
   λ all. refl,
 )

@@ -4,4 +4,5 @@ use Rattle.output_queued.specs.Switches.{IsInput}
 use Rattle.output_queued.proofs.checking.are_inputs.Given as goal
 
 abbrev pub invariant-loop-coming : goal.invariant-loop-coming
-invariant-loop-coming l = (i : ℕ) (coming : List Coming) → i < l.coming-index → slice_get (map (λ list. list.items) l.inputs) i ≡ Some coming → IsInput l.n coming
+invariant-loop-coming l = (i : ℕ) (coming : List Coming) → i < l.coming-index → slice_get (map (λ list. list.items) l.inputs) i ≡ Some coming
+    → IsInput l.n coming

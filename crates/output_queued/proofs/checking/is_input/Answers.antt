@@ -11,7 +11,8 @@ returns c =
     let long = length-map coming planned_of in (
       λ yes_. record {
         packets = λ k d there. c.loop-packet.invariant.each k d (let l = some_lt coming k d there in omega arith) there;
-        rising = rising_of coming (rises_all (map planned_of coming) c.loop-packet.packet-index c.loop-packet.least (omega arith) c.loop-packet.invariant.rises);
+        rising = rising_of coming
+            (rises_all (map planned_of coming) c.loop-packet.packet-index c.loop-packet.least (omega arith) c.loop-packet.invariant.rises);
       },
       λ all. refl,
     )
@@ -33,7 +34,8 @@ pub returns-then-not-is_coming : goal.returns-then-not-is_coming
 returns-then-not-is_coming c = (
   λ no_. absurd (cc),
   λ all.
-      let yes_ = c.is_coming.ensures.1 (all.packets c.loop-packet.packet-index _ (some_get c.args.coming.now c.loop-packet.packet-index _ c.loop-packet-test.true)) in
+      let yes_ = c.is_coming.ensures.1
+      (all.packets c.loop-packet.packet-index _ (some_get c.args.coming.now c.loop-packet.packet-index _ c.loop-packet-test.true)) in
       let f = c.if-not-is_coming.true in
       absurd (cc),
 )
@@ -45,5 +47,6 @@ returns-then-slot-least c = (
       let coming = c.args.coming.now in
       let long = length-map coming planned_of in
       let less : (slice_index_or coming c.loop-packet.packet-index no_coming).slot < c.loop-packet.least = omega arith in
-      absurd (rises_no_more c.args.n coming c.loop-packet.packet-index c.loop-packet.least no_coming c.loop-packet.invariant.rises c.loop-packet-test.true long less all),
+      absurd (rises_no_more c.args.n coming c.loop-packet.packet-index c.loop-packet.least no_coming c.loop-packet.invariant.rises c.loop-packet-test.true
+      long less all),
 )

@@ -22,7 +22,8 @@ arrive-requires c =
     let so_far = c.loop-input.invariant.entered ports depth served stand in
     let found : c.index_mut.result.now ≡ source_at now k = found-at no_source now k c.index_mut.result.now below c.index_mut.ensures.value in
     let part = next-part ports depth c.args.slot served c.args.inputs.now.items stand k now c.args.tallies.now.items c.loop-input.tallies.items so_far inside in
-    let before = next-before ports depth c.args.slot served c.args.inputs.now.items stand k now c.args.tallies.now.items c.loop-input.tallies.items so_far inside in (
+    let before = next-before ports depth c.args.slot served c.args.inputs.now.items stand k now c.args.tallies.now.items c.loop-input.tallies.items so_far
+    inside in (
       ports,
       depth,
       served k,
@@ -71,7 +72,8 @@ loop-input-preserved c =
           let count = stand.count in
           let inside : k < ports = omega arith in
           let part = next-part ports depth c.args.slot served old stand k now counted tallies (inv.entered ports depth served stand) inside in
-          let coming : IsComing ports packet = subst (IsAdmissible ports) is (c.arrive.ensures.packet ports depth (subst (λ (s : Source). IsPart ports depth s.coming) (sym found) part)) in
+          let coming : IsComing ports packet =
+          subst (IsAdmissible ports) is (c.arrive.ensures.packet ports depth (subst (λ (s : Source). IsPart ports depth s.coming) (sym found) part)) in
           let cells = w.add_cells.ensures.tallies in
           let most = coming.few in
           let all = inv.count in
@@ -79,19 +81,23 @@ loop-input-preserved c =
             count = w.add_cells.ensures.count ∙ inv.count;
             long = length-set now k c.arrive.new.self ∙ inv.long;
             small = λ j.
-                let came : (tally_at w.add_cells.new.tallies.items j).came ≡ (tally_at tallies j).came + cells_to (Some packet) j = ap (λ t. t.came) (cells j) in
+                let came : (tally_at w.add_cells.new.tallies.items j).came ≡ (tally_at tallies j).came + cells_to (Some packet) j =
+                ap (λ t. t.came) (cells j) in
                 let so = inv.small j in
                 let few = cells-few packet j in
                 omega arith;
-            unserved = unserved-more c.loop-input.unserved w.union-unserved.result packet tallies w.add_cells.new.tallies.items w.add_cells.ensures.count coming.some (λ j has. let lower = Has-lt ports packet.fan j coming.fan has in omega arith) cells w.union-unserved.ensures inv.unserved;
+            unserved = unserved-more c.loop-input.unserved w.union-unserved.result packet tallies w.add_cells.new.tallies.items w.add_cells.ensures.count
+                coming.some (λ j has. let lower = Has-lt ports packet.fan j coming.fan has in omega arith) cells w.union-unserved.ensures inv.unserved;
             entered = λ ports' depth' served' stand'.
                 let count' = stand'.count in
                 let inside' : k < ports' = omega arith in
                 let so_far = inv.entered ports' depth' served' stand' in
                 let part' = next-part ports' depth' c.args.slot served' old stand' k now counted tallies so_far inside' in
                 let before' = next-before ports' depth' c.args.slot served' old stand' k now counted tallies so_far inside' in
-                let enters = c.arrive.ensures.entered ports' depth' (served' k) (subst (λ (s : Source). IsPart ports' depth' s.coming) (sym found) part') (stand'.long k inside') (subst (λ (s : Source). IsBefore (card_for ports' depth' s.coming) s (served' k)) (sym found) before') in
-                one-entered ports' depth' c.args.slot served' old stand' k now counted tallies so_far inside' c.arrive.new.self c.arrive.result w.add_cells.new.tallies.items below
+                let enters = c.arrive.ensures.entered ports' depth' (served' k) (subst (λ (s : Source). IsPart ports' depth' s.coming) (sym found) part')
+                (stand'.long k inside') (subst (λ (s : Source). IsBefore (card_for ports' depth' s.coming) s (served' k)) (sym found) before') in
+                one-entered ports' depth' c.args.slot served' old stand' k now counted tallies so_far inside' c.arrive.new.self c.arrive.result
+                w.add_cells.new.tallies.items below
                 (subst (λ (s : Source). HasEntered ports' depth' c.args.slot (served' k) s c.arrive.new.self c.arrive.result) found enters)
                 (λ j. cells j ∙ ap (λ a. with_cells (tally_at tallies j) (cells_to a j)) (sym is));
           })
@@ -108,7 +114,8 @@ loop-input-preserved c =
                 let so_far = inv.entered ports' depth' served' stand' in
                 let part' = next-part ports' depth' c.args.slot served' old stand' k now counted tallies so_far inside' in
                 let before' = next-before ports' depth' c.args.slot served' old stand' k now counted tallies so_far inside' in
-                let enters = c.arrive.ensures.entered ports' depth' (served' k) (subst (λ (s : Source). IsPart ports' depth' s.coming) (sym found) part') (stand'.long k inside') (subst (λ (s : Source). IsBefore (card_for ports' depth' s.coming) s (served' k)) (sym found) before') in
+                let enters = c.arrive.ensures.entered ports' depth' (served' k) (subst (λ (s : Source). IsPart ports' depth' s.coming) (sym found) part')
+                (stand'.long k inside') (subst (λ (s : Source). IsBefore (card_for ports' depth' s.coming) s (served' k)) (sym found) before') in
                 one-entered ports' depth' c.args.slot served' old stand' k now counted tallies so_far inside' c.arrive.new.self c.arrive.result tallies below
                 (subst (λ (s : Source). HasEntered ports' depth' c.args.slot (served' k) s c.arrive.new.self c.arrive.result) found enters)
                 (λ j. sym (ap (λ a. with_cells (tally_at tallies j) (cells_to a j)) is ∙ none-more (tally_at tallies j)));
@@ -120,4 +127,5 @@ returns-clause-entered c ports depth served stand =
     let end = c.len-input-end.ensures in
     let count = stand.count in
     let last : c.loop-input.input ≡ ports = let a = c.loop-input-test.false in let b = c.loop-input.auto.input-end in omega arith in
-    subst (λ k. HaveEntered ports depth c.args.slot k served c.args.inputs.now.items c.loop-input.inputs.items c.args.tallies.now.items c.loop-input.tallies.items) last (c.loop-input.invariant.entered ports depth served stand)
+    subst (λ k. HaveEntered ports depth c.args.slot k served c.args.inputs.now.items c.loop-input.inputs.items c.args.tallies.now.items
+    c.loop-input.tallies.items) last (c.loop-input.invariant.entered ports depth served stand)

@@ -10,5 +10,6 @@ invariant-loop-input l = record {
   long : length l.inputs.items ≡ length l.fn.inputs.items;
   small : (j : ℕ) → (tally_at l.tallies.items j).came ≤ (tally_at l.fn.tallies.items j).came + 1171 * l.input;
   unserved : IsUnserved l.unserved l.tallies.items;
-  entered : (ports depth : ℕ) (served : ℕ → List (Option Served)) → Stand ports depth l.slot l.fn.inputs.items served → HaveEntered ports depth l.slot l.input served l.fn.inputs.items l.inputs.items l.fn.tallies.items l.tallies.items;
+  entered : (ports depth : ℕ) (served : ℕ → List (Option Served)) → Stand ports depth l.slot l.fn.inputs.items served
+      → HaveEntered ports depth l.slot l.input served l.fn.inputs.items l.inputs.items l.fn.tallies.items l.tallies.items;
 }

@@ -27,7 +27,8 @@ returns-in-Some c = (
   subst (λ k. Leaves k c.args.part c.pop.result c.args.banks.now c.args.fans.now c.pop.new.self c.args.fans.now) (sym c.in-Uni.is) (
     λ j is.
         let at : c.in-Some.output ≡ j = only_member j c.in-Some.output (subst (λ s. Has s c.in-Some.output) is (c.in-Some.ensures).member) in
-        subst (λ k. LeavesUnicast k c.args.part.level c.pop.result c.args.banks.now c.pop.new.self) at (record { queue = c.pop.ensures.queue; spare = c.pop.ensures.spare; others = c.pop.ensures.others }),
+        subst (λ k. LeavesUnicast k c.args.part.level c.pop.result c.args.banks.now c.pop.new.self) at
+        (record { queue = c.pop.ensures.queue; spare = c.pop.ensures.spare; others = c.pop.ensures.others }),
     refl,
   ),
 )

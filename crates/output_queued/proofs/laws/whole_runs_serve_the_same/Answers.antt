@@ -14,10 +14,12 @@ returns-clause-all c cards matches j are run empty inside = ran-all cards matche
 pub returns-clause-ends : goal.returns-clause-ends
 unfolding line_of
 returns-clause-ends c cards matches j are run empty inside =
-    ends_first (ideal cards matches j) (ran matches j) (length matches) (given-up (comes cards matches j)) (ran-up matches j) (ran-behind cards matches are run j) (sym (ran-ideal cards matches are run j empty inside))
+    ends_first (ideal cards matches j) (ran matches j) (length matches) (given-up (comes cards matches j)) (ran-up matches j)
+    (ran-behind cards matches are run j) (sym (ran-ideal cards matches are run j empty inside))
 
 pub returns-clause-delays : goal.returns-clause-delays
 unfolding line_of
 returns-clause-delays c cards matches j are run empty inside =
-    delays_are (ideal cards matches j) (ran matches j) refl refl (given-up (comes cards matches j)) (ran-up matches j) (given-one (comes cards matches j)) (ran-one matches j)
+    delays_are (ideal cards matches j) (ran matches j) refl refl (given-up (comes cards matches j)) (ran-up matches j) (given-one (comes cards matches j))
+    (ran-one matches j)
     (length matches) (ran-behind cards matches are run j) (sym (ran-ideal cards matches are run j empty inside))

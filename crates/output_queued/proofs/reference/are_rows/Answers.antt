@@ -13,6 +13,7 @@ returns c =
     let same = c.if-rows-inputs.false in
     let long = length-map inputs f in
     let end = c.loop-input-test.false in (
-      λ yes_. ext_get_or no_row rows (map f inputs) (omega arith) (λ i inside. c.loop-input.invariant i (omega arith) ∙ sym (get_or-map f inputs i no_source no_row (omega arith))),
+      λ yes_. ext_get_or no_row rows (map f inputs) (omega arith)
+          (λ i inside. c.loop-input.invariant i (omega arith) ∙ sym (get_or-map f inputs i no_source no_row (omega arith))),
       λ is. refl,
     )

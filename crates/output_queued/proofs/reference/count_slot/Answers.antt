@@ -1,4 +1,5 @@
-use Rattle.std.proofs.Common.{◌≡◌, ◌∙◌, ◌↔◌, ℕ, ◌<◌, ◌≤◌, Bool, true, false, List, length, length-set, slice_set, refl, sym, ap, subst, arith, inl, inr, if◌then◌else◌}
+use Rattle.std.proofs.Common.{◌≡◌, ◌∙◌, ◌↔◌, ℕ, ◌<◌, ◌≤◌, Bool, true, false, List, length, length-set, slice_set, refl, sym, ap, subst, arith, inl, inr}
+use Rattle.std.proofs.Common.{if◌then◌else◌}
 use Rattle.std.specs.Prelude.{is_some}
 use Rattle.std.proofs.lemmas.Bool.{cases_eq}
 use Rattle.rotating_pick.specs.PortSets.{Has}
@@ -11,17 +12,23 @@ use Rattle.output_queued.proofs.reference.count_slot.Goals as goal
 use Rattle.output_queued.proofs.reference.count_slot.Goals.{then-not-is_behind, else-not-is_behind}
 
 pub without-unserved-requires : goal.without-unserved-requires
-without-unserved-requires c = let inside = (c.requires.unserved.members c.in-Some.output).0 (c.loop-output.invariant.inside c.in-Some.output c.in-Some.ensures.member) in let size = c.requires.size in omega arith
+without-unserved-requires c = let inside =
+    (c.requires.unserved.members c.in-Some.output).0 (c.loop-output.invariant.inside c.in-Some.output c.in-Some.ensures.member) in let size =
+    c.requires.size in omega arith
 
 pub without-left-requires : goal.without-left-requires
-without-left-requires c = let inside = (c.requires.unserved.members c.in-Some.output).0 (c.loop-output.invariant.inside c.in-Some.output c.in-Some.ensures.member) in let size = c.requires.size in omega arith
+without-left-requires c = let inside =
+    (c.requires.unserved.members c.in-Some.output).0 (c.loop-output.invariant.inside c.in-Some.output c.in-Some.ensures.member) in let size =
+    c.requires.size in omega arith
 
 -- one output is counted anew
-unserved-set : (old new : ℕ) (now : List Tally) (out : ℕ) (tally : Tally) → out < length now → IsUnserved old now → tally.ran ≤ tally.came → ((j : ℕ) → (j ≡ out → ⊥) → Has new j ↔ Has old j) → (Has new out ↔ (tally.ran < tally.came)) → IsUnserved new (slice_set now out tally)
+unserved-set : (old new : ℕ) (now : List Tally) (out : ℕ) (tally : Tally) → out < length now → IsUnserved old now → tally.ran ≤ tally.came
+    → ((j : ℕ) → (j ≡ out → ⊥) → Has new j ↔ Has old j) → (Has new out ↔ (tally.ran < tally.came)) → IsUnserved new (slice_set now out tally)
 unserved-set old new now out tally below is low others mine = record {
   members = λ j. elim (cases_eq j out) [
     | inl same ↦ rw (same, set-here no_tally now out tally below, length-set now out tally) (λ m. (below, mine.0 m), λ both. mine.1 both.1)
-    | inr other ↦ rw (set-other no_tally now out tally j other, length-set now out tally) (λ m. (is.members j).0 ((others j other).0 m), λ both. (others j other).1 ((is.members j).1 both))
+    | inr other ↦ rw (set-other no_tally now out tally j other, length-set now out tally)
+        (λ m. (is.members j).0 ((others j other).0 m), λ both. (others j other).1 ((is.members j).1 both))
   ];
   behind = λ j. set-case no_tally (λ k t. t.ran ≤ t.came) now out tally below low j (λ other. is.behind j);
 }
@@ -42,12 +49,14 @@ loop-output-preserved c =
     let ours = (c.requires.unserved.members out).0 (inv.inside out member) in
     let long = inv.long in
     let below : out < length now = omega arith in
-    let found : c.index_mut-tally.result.now ≡ tally_at now out = found-at no_tally now out c.index_mut-tally.result.now below c.index_mut-tally.ensures.value in
+    let found : c.index_mut-tally.result.now ≡ tally_at now out =
+    found-at no_tally now out c.index_mut-tally.result.now below c.index_mut-tally.ensures.value in
     let was : tally_at now out ≡ tally_at old out = inv.left out member in
     let fed : c.is_some.result ≡ is_some (fed_of c.args.matched.now out) = c.is_some.ensures ∙ ap is_some c.fed.ensures.value in
     let ticks = c.tick.ensures.ticks in
     let made : Ticks c.args.slot (if is_some (fed_of c.args.matched.now out) then 1 else 0) (tally_at old out) new =
-    subst (λ b. Ticks c.args.slot (if b then 1 else 0) (tally_at old out) new) fed (subst (λ t. Ticks c.args.slot (if c.is_some.result then 1 else 0) t new) (found ∙ was) ticks) in
+    subst (λ b. Ticks c.args.slot (if b then 1 else 0) (tally_at old out) new) fed
+    (subst (λ t. Ticks c.args.slot (if c.is_some.result then 1 else 0) t new) (found ∙ was) ticks) in
     let came = made.came in
     let ran = made.ran in
     let one = one_at_most (is_some (fed_of c.args.matched.now out)) in
@@ -57,7 +66,9 @@ loop-output-preserved c =
       long = length-set now out new ∙ inv.long;
       inside = λ j has. inv.inside j ((rest j).0 has).1;
       left = λ j has. set-other no_tally now out new j ((rest j).0 has).0 ∙ inv.left j ((rest j).0 has).1;
-      done = λ j has lacks. set-case no_tally (λ k t. Ticks c.args.slot (if is_some (fed_of c.args.matched.now k) then 1 else 0) (tally_at old k) t) now out new below made j (λ other. inv.done j has (λ on. lacks ((rest j).1 (other, on))));
+      done = λ j has lacks. set-case no_tally
+          (λ k t. Ticks c.args.slot (if is_some (fed_of c.args.matched.now k) then 1 else 0) (tally_at old k) t) now out new below made j
+          (λ other. inv.done j has (λ on. lacks ((rest j).1 (other, on))));
       others = λ j lacks. set-other no_tally now out new j (λ e. lacks (subst (Has c.args.unserved) (sym e) (inv.inside out member))) ∙ inv.others j lacks;
       unserved = elim c.if-not-is_behind.branch [
         | then-not-is_behind w ↦
@@ -70,6 +81,7 @@ loop-output-preserved c =
             let test = w.if-not-is_behind.false in
             let less : new.ran < new.came = c.is_behind.ensures.0 test in
             let still : Has c.loop-output.unserved out = (inv.unserved.members out).1 (below, subst (λ (t : Tally). t.ran < t.came) (sym was) behind) in
-            rw w.unserved-is (unserved-set c.loop-output.unserved c.loop-output.unserved now out new below inv.unserved low (λ j other. (λ m. m, λ m. m)) (λ m. less, λ _. still))
+            rw w.unserved-is (unserved-set c.loop-output.unserved c.loop-output.unserved now out new below inv.unserved low (λ j other. (λ m. m, λ m. m))
+            (λ m. less, λ _. still))
       ];
     }

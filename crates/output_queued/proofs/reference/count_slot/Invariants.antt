@@ -11,7 +11,8 @@ invariant-loop-output l = record {
   long : length l.tallies.items ≡ length l.fn.tallies.items;
   inside : (j : ℕ) → Has l.left j → Has l.fn.unserved j;
   left : (j : ℕ) → Has l.left j → tally_at l.tallies.items j ≡ tally_at l.fn.tallies.items j;
-  done : (j : ℕ) → Has l.fn.unserved j → (Has l.left j → ⊥) → Ticks l.slot (if is_some (fed_of l.matched j) then 1 else 0) (tally_at l.fn.tallies.items j) (tally_at l.tallies.items j);
+  done : (j : ℕ) → Has l.fn.unserved j → (Has l.left j → ⊥)
+      → Ticks l.slot (if is_some (fed_of l.matched j) then 1 else 0) (tally_at l.fn.tallies.items j) (tally_at l.tallies.items j);
   others : (j : ℕ) → (Has l.fn.unserved j → ⊥) → tally_at l.tallies.items j ≡ tally_at l.fn.tallies.items j;
   unserved : IsUnserved l.unserved l.tallies.items;
 }

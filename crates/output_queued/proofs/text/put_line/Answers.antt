@@ -8,7 +8,8 @@ use Rattle.output_queued.specs.Texts.{reference_line}
 use Rattle.output_queued.proofs.text.put_line.Goals as goal
 
 joined : (old : List ℕ) (output : ℕ) (line : RefLine)
-    → ((((((((((old ++ codes "reference ") ++ decimal output) ++ codes " ends ") ++ decimal line.ends) ++ codes " runs ") ++ decimal line.runs) ++ codes " lead ") ++ decimal line.lead) ++ codes " extra ") ++ decimal line.extra) ++ codes "\n" ≡ old ++ line_text (reference_line output line)
+    → ((((((((((old ++ codes "reference ") ++ decimal output) ++ codes " ends ") ++ decimal line.ends) ++ codes " runs ") ++ decimal line.runs)
+    ++ codes " lead ") ++ decimal line.lead) ++ codes " extra ") ++ decimal line.extra) ++ codes "\n" ≡ old ++ line_text (reference_line output line)
 unfolding line_text reference_line
 joined old output line = simp append_assoc
 

@@ -8,11 +8,17 @@ use Rattle.outside.proofs.Effects.{is_begun-append_file, write_more}
 use Rattle.outside.proofs.whole_file.append_all.Goals as goal
 
 pub returns-in-Err-clause-told : goal.returns-in-Err-clause-told
-returns-in-Err-clause-told g c = (NeverFall-Rose (g.F.Files.faults c.args.files.now) (g.F.Files.faults c.loop-at.files) (g.F.Files.faults c.write.new.self) (WriteOf c.args.name.now) c.loop-at.invariant.never_fall c.in-Err.ensures.cause, (c.loop-at.at, c.in-Err.ensures.told ∙ c.loop-at.invariant.told))
+returns-in-Err-clause-told g c = (
+  NeverFall-Rose (g.F.Files.faults c.args.files.now) (g.F.Files.faults c.loop-at.files) (g.F.Files.faults c.write.new.self)
+      (WriteOf c.args.name.now) c.loop-at.invariant.never_fall c.in-Err.ensures.cause,
+  (c.loop-at.at, c.in-Err.ensures.told ∙ c.loop-at.invariant.told),
+)
 
 pub loop-at-preserved : goal.loop-at-preserved
 loop-at-preserved g c = record {
-  told = (rw take_rest at c.in-Ok.ensures.told) ∙ ap (option_map (append_file c.args.name.now (take c.in-Ok.count (drop c.loop-at.at c.args.bytes.now)))) c.loop-at.invariant.told ∙ write_more c.args.name.now c.args.bytes.now c.loop-at.at c.in-Ok.count _;
+  told = (rw take_rest at c.in-Ok.ensures.told)
+      ∙ ap (option_map (append_file c.args.name.now (take c.in-Ok.count (drop c.loop-at.at c.args.bytes.now)))) c.loop-at.invariant.told
+      ∙ write_more c.args.name.now c.args.bytes.now c.loop-at.at c.in-Ok.count _;
   never_fall = λ p. omega (arith, c.loop-at.invariant.never_fall p, c.in-Ok.ensures.never_fall p);
   within = omega (arith, rw take_rest at c.in-Ok.ensures.room, length-drop c.loop-at.at c.args.bytes.now, c.loop-at.invariant.within);
   begun = rw c.in-Ok.ensures.told (is_begun-append_file c.args.name.now _ c.args.name.now (g.F.Files.told c.loop-at.files) c.loop-at.invariant.begun);

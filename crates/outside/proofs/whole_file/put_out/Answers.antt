@@ -10,7 +10,9 @@ returns-in-Err-clause-told g c = (c.loop-at.at, c.in-Err.ensures.told ∙ c.loop
 
 pub loop-at-preserved : goal.loop-at-preserved
 loop-at-preserved g c = record {
-  told = (rw take_rest at c.in-Ok.ensures.told) ∙ ap (option_map (append_out (take c.in-Ok.count (drop c.loop-at.at c.args.bytes.now)))) c.loop-at.invariant.told ∙ out_more c.args.bytes.now c.loop-at.at c.in-Ok.count _;
+  told = (rw take_rest at c.in-Ok.ensures.told)
+      ∙ ap (option_map (append_out (take c.in-Ok.count (drop c.loop-at.at c.args.bytes.now)))) c.loop-at.invariant.told
+      ∙ out_more c.args.bytes.now c.loop-at.at c.in-Ok.count _;
   never_fall = λ p. omega (arith, c.loop-at.invariant.never_fall p, c.in-Ok.ensures.never_fall p);
   within = omega (arith, rw take_rest at c.in-Ok.ensures.room, length-drop c.loop-at.at c.args.bytes.now, c.loop-at.invariant.within);
 }

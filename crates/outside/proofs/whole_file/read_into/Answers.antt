@@ -14,13 +14,15 @@ pub loop-count-preserved : goal.loop-count-preserved
 loop-count-preserved g c =
     let n : c.len.result ≡ length c.loop-count.bytes.items = search rules in
     let m : c.len-in-loop-count.result ≡ length c.loop-count.bytes.items = search rules in
-    let e = appended c.extend_from_slice.result c.extend_from_slice.new.self.items c.loop-count.bytes.items (take c.in-Ok.count c.read.new.buf) c.extend_from_slice.ensures.items c.if-is_err.ensures.negation in
+    let e = appended c.extend_from_slice.result c.extend_from_slice.new.self.items c.loop-count.bytes.items
+    (take c.in-Ok.count c.read.new.buf) c.extend_from_slice.ensures.items c.if-is_err.ensures.negation in
     let room : c.in-Ok.count ≤ length c.loop-count.buf = c.in-Ok.ensures.room in
     let fit : c.in-Ok.count ≤ c.args.limit - c.len-in-loop-count.result = c.if-count-limit.false in
     let most : length c.loop-count.bytes.items ≤ c.args.limit = c.loop-count.invariant.most in
     let same : length c.read.new.buf ≡ length c.loop-count.buf = c.read.auto.buf in
     let k : length (take c.in-Ok.count c.read.new.buf) ≡ c.in-Ok.count = length-take-le c.in-Ok.count c.read.new.buf (omega arith) in
-    let sum : length (c.loop-count.bytes.items ++ take c.in-Ok.count c.read.new.buf) ≡ length c.loop-count.bytes.items + length (take c.in-Ok.count c.read.new.buf) = length-append c.loop-count.bytes.items (take c.in-Ok.count c.read.new.buf) in
+    let sum : length (c.loop-count.bytes.items ++ take c.in-Ok.count c.read.new.buf) ≡ length c.loop-count.bytes.items + length
+    (take c.in-Ok.count c.read.new.buf) = length-append c.loop-count.bytes.items (take c.in-Ok.count c.read.new.buf) in
     record {
       told = c.in-Ok.ensures.told ∙ c.loop-count.invariant.told;
       never_fall = λ p. omega (arith, c.loop-count.invariant.never_fall p, c.in-Ok.ensures.never_fall p);

@@ -11,9 +11,12 @@ returns c =
     let slot = c.args.slot in
     let place = c.in-Some.place in
     let ends = c.in-Some.ensures.some in
-    let inside : place < length old = subst (λ n. place < n) (sym c.requires.count) (subst (λ k. k < FLOWS_PER_INPUT * (c.args.ports * c.args.ports)) (sym ends.is) (place-inside c.args.ports ends.flow ends.is_flow)) in
+    let inside : place < length old =
+    subst (λ n. place < n) (sym c.requires.count)
+    (subst (λ k. k < FLOWS_PER_INPUT * (c.args.ports * c.args.ports)) (sym ends.is) (place-inside c.args.ports ends.flow ends.is_flow)) in
     on_ok_weaker c.push.result
     (λ pushed.
     adds-one c.args.ports slot c.args.output c.args.cell old (slice_set old place c.push.new.self) place ends inside
-    (ap (λ (v : List ℕ). slice_set old place v) (pushed ∙ ap (λ (v : List ℕ). v ++ slot ∷ []) (c.index_mut.ensures.value ∙ get_or_default old place c.index_mut.result.now [] inside))))
+    (ap (λ (v : List ℕ). slice_set old place v)
+    (pushed ∙ ap (λ (v : List ℕ). v ++ slot ∷ []) (c.index_mut.ensures.value ∙ get_or_default old place c.index_mut.result.now [] inside))))
     c.push.ensures

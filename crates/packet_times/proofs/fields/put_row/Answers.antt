@@ -8,6 +8,7 @@ use Rattle.packet_times.proofs.fields.put_row.Goals as goal
 pub returns : goal.returns
 returns c =
     on_ok_weaker c.push_str-2.result
-    (λ end. whole_row (string_bytes c.args.text.now) (string_bytes c.push_str.new.self) (string_bytes c.put_fields.new.text) (string_bytes c.push_str-2.new.self) c.args.input c.args.fields.now
+    (λ end. whole_row (string_bytes c.args.text.now) (string_bytes c.push_str.new.self) (string_bytes c.put_fields.new.text)
+    (string_bytes c.push_str-2.new.self) c.args.input c.args.fields.now
     (c.in_ok-push_str.ensures.bytes ∙ ap (λ (s : List ℕ). string_bytes c.args.text.now ++ s) c.format.ensures.text) c.in_ok-put_fields.ensures end)
     (appended c.push_str-2.result (string_bytes c.put_fields.new.text) (codes "\n") (string_bytes c.push_str-2.new.self) c.push_str-2.ensures.bytes)

@@ -34,4 +34,5 @@ pub returns : goal.returns
 returns c level long =
     let kind = c.kind_of-kind.ensures c.args.packet.now.level in
     subst (λ (k : Kind). IsCounted c.args.packet.now.fan c.args.packet.now.level k MAX_PORTS c.args.counts.now c.loop-output.counts) kind
-    (subst (λ (n : ℕ). IsCounted c.args.packet.now.fan c.args.packet.now.level c.kind_of-kind.result n c.args.counts.now c.loop-output.counts) (omega arith) (c.loop-output.invariant level long))
+    (subst (λ (n : ℕ). IsCounted c.args.packet.now.fan c.args.packet.now.level c.kind_of-kind.result n c.args.counts.now c.loop-output.counts) (omega arith)
+    (c.loop-output.invariant level long))

@@ -39,5 +39,6 @@ loop-card-preserved c =
     record {
       count = ap length pushed ∙ length-append at.inputs.items (new ∷ []) ∙ (omega (arith, at.invariant.count));
       each = subst (λ (inputs : List Input). (k : ℕ) → k < i + 1 → IsNoted (card_at (switch_plan_of plan) k) (slice_index_or inputs k no_input) []) (sym pushed)
-          (made-more (switch_plan_of plan) cards refl i card at.inputs.items new inside at.invariant.count at.invariant.each (subst (λ (x : CardPlan). IsNoted (plan_of x) new []) (sym e) made));
+          (made-more (switch_plan_of plan) cards refl i card at.inputs.items new inside at.invariant.count at.invariant.each
+          (subst (λ (x : CardPlan). IsNoted (plan_of x) new []) (sym e) made));
     }

@@ -26,13 +26,15 @@ note-requires c =
     let slot = c.args.slot in
     let inside : i < ports_of plan = omega (arith, now.count) in
     let noted : IsNoted (card_at plan i) (slice_index_or c.loop-i.inputs i c.index-inputs-i.result) (parts_under scheduler plan i slot) =
-    subst (λ (s : Input). IsNoted (card_at plan i) s (parts_under scheduler plan i slot)) (get_or_default c.loop-i.inputs i no_input c.index-inputs-i.result (omega (arith, now.count))) (now.left i inside (omega arith)) in (
+    subst (λ (s : Input). IsNoted (card_at plan i) s (parts_under scheduler plan i slot))
+    (get_or_default c.loop-i.inputs i no_input c.index-inputs-i.result (omega (arith, now.count))) (now.left i inside (omega arith)) in (
       card_at plan i,
       parts_under scheduler plan i slot,
       noted,
       served-length scheduler plan i slot,
       row-at scheduler plan slot c.args.posts.now c.args.matched.now is i inside no_post,
-      subst (IsServable (slice_index_or c.args.posts.now i no_post).row) (sym c.part_of-part.ensures) (servable-at scheduler plan slot c.args.posts.now c.args.matched.now is i inside no_post),
+      subst (IsServable (slice_index_or c.args.posts.now i no_post).row) (sym c.part_of-part.ensures)
+          (servable-at scheduler plan slot c.args.posts.now c.args.matched.now is i inside no_post),
     )
 
 pub loop-i-preserved : goal.loop-i-preserved
@@ -48,9 +50,12 @@ loop-i-preserved c =
           let inside : i < ports_of plan = omega (arith, now.count) in
           let parts = parts_under scheduler plan i slot in
           let noted : IsNoted (card_at plan i) (slice_index_or c.loop-i.inputs i c.index-inputs-i.result) parts =
-          subst (λ (s : Input). IsNoted (card_at plan i) s parts) (get_or_default c.loop-i.inputs i no_input c.index-inputs-i.result (omega (arith, now.count))) (now.left i inside (omega arith)) in
-          let servable = subst (IsServable (slice_index_or posts i no_post).row) (sym c.part_of-part.ensures) (servable-at scheduler plan slot posts matched is i inside no_post) in
-          let here = c.in_ok-note.ensures (card_at plan i) parts noted (served-length scheduler plan i slot) (row-at scheduler plan slot posts matched is i inside no_post) servable in
+          subst (λ (s : Input). IsNoted (card_at plan i) s parts)
+          (get_or_default c.loop-i.inputs i no_input c.index-inputs-i.result (omega (arith, now.count))) (now.left i inside (omega arith)) in
+          let servable = subst (IsServable (slice_index_or posts i no_post).row) (sym c.part_of-part.ensures)
+          (servable-at scheduler plan slot posts matched is i inside no_post) in
+          let here = c.in_ok-note.ensures (card_at plan i) parts noted (served-length scheduler plan i slot)
+          (row-at scheduler plan slot posts matched is i inside no_post) servable in
           noted-more scheduler plan slot posts matched is i c.loop-i.inputs c.note.new.self inside now
           (subst (λ part. IsNoted (card_at plan i) c.note.new.self (parts ++ part ∷ [])) c.part_of-part.ensures here);
     }

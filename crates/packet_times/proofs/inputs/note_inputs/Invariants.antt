@@ -8,5 +8,6 @@ use Rattle.packet_times.proofs.inputs.note_inputs.Given as goal
 abbrev pub invariant-loop-i : goal.invariant-loop-i
 invariant-loop-i l = record {
   long : length l.inputs ≡ length l.fn.inputs;
-  noted : (scheduler : Scheduler) (plan : SwitchPlan) → AreNoted scheduler plan l.slot 0 l.fn.inputs → IsSlotUnder scheduler plan l.slot l.posts l.matched → AreNoted scheduler plan l.slot l.i l.inputs;
+  noted : (scheduler : Scheduler) (plan : SwitchPlan) → AreNoted scheduler plan l.slot 0 l.fn.inputs → IsSlotUnder scheduler plan l.slot l.posts l.matched
+      → AreNoted scheduler plan l.slot l.i l.inputs;
 }

@@ -30,4 +30,5 @@ pub returns-in-None : goal.returns-in-None
 returns-in-None c level =
     let fan = c.args.fan in
     let last = last_port 64 fan in
-    multi-of last level (fan == 2 ^ last) (differs fan (2 ^ last) (fan == 2 ^ last) refl (λ e. none-some last (sym c.in-None.is ∙ (c.only.ensures.exact last).1 e)))
+    multi-of last level (fan == 2 ^ last)
+    (differs fan (2 ^ last) (fan == 2 ^ last) refl (λ e. none-some last (sym c.in-None.is ∙ (c.only.ensures.exact last).1 e)))

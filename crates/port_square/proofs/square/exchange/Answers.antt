@@ -29,11 +29,13 @@ loop-r-preserved c =
           let old = c.args.rows.now in
           let long = ap length w.rows-is in
           let high : slice_index rows r ≡ slice_index old r = c.loop-r.invariant.left r (omega (arith, without_clear k r clear)) in
-          let low : slice_index rows (r + 2 ^ k) ≡ slice_index old (r + 2 ^ k) = c.loop-r.invariant.left (r + 2 ^ k) (omega (arith, without_set k (r + 2 ^ k) (up_bit k r clear))) in
+          let low : slice_index rows (r + 2 ^ k) ≡ slice_index old (r + 2 ^ k) =
+          c.loop-r.invariant.left (r + 2 ^ k) (omega (arith, without_set k (r + 2 ^ k) (up_bit k r clear))) in
           rw w.rows-is
           (rw (width, high, low)
           (Exchanging-put k r c.without_bit-mask.result old clear masks rows c.requires (omega arith) (omega (arith, length-set {A = ℕ})) c.loop-r.invariant))
-      | else-r-width-eq0 w ↦ rw w.rows-is (Exchanging-skip k r c.args.rows.now c.loop-r.rows (set_from_test r k (rw width at w.if-r-width-eq0.false)) c.loop-r.invariant)
+      | else-r-width-eq0 w ↦ rw w.rows-is
+          (Exchanging-skip k r c.args.rows.now c.loop-r.rows (set_from_test r k (rw width at w.if-r-width-eq0.false)) c.loop-r.invariant)
     ]
 
 pub returns : goal.returns

@@ -19,4 +19,5 @@ returns-then-not-is_empty c =
     (ap (slice_set ns at) (c.with_packet-counted.ensures
     ∙ ap (λ n. with_packet slot n adm c.length-length.result (slice_index_or ns at no_numbers)) c.cells_of-cells.ensures
     ∙ ap (λ n. with_packet slot (size_of p) adm n (slice_index_or ns at no_numbers)) c.length-length.ensures)
-    ∙ ap (λ place. slice_set ns place (with_packet slot (size_of p) adm (slice_index c.args.queues.now.lengths place) (slice_index_or ns place no_numbers))) c.queue_place-place.ensures.place)
+    ∙ ap (λ place. slice_set ns place (with_packet slot (size_of p) adm (slice_index c.args.queues.now.lengths place) (slice_index_or ns place no_numbers)))
+    c.queue_place-place.ensures.place)

@@ -15,4 +15,6 @@ none-outside n matched whole i past (Some part) is =
     absurd (omega (arith, inside))
 
 pub returns-else-input-ports : goal.returns-else-input-ports
-returns-else-input-ports c = sym (none-outside c.ports.result c.args.matched.now c.ports.ensures.whole c.args.input c.if-input-ports.false (served_of c.args.matched.now c.args.input) refl)
+returns-else-input-ports c =
+    sym (none-outside c.ports.result c.args.matched.now c.ports.ensures.whole c.args.input c.if-input-ports.false
+    (served_of c.args.matched.now c.args.input) refl)

@@ -11,4 +11,5 @@ loop-place-preserved c =
     (string_bytes c.loop-place.text) (string_bytes c.put_used.new.text) (omega arith) c.loop-place.invariant c.in_ok-put_used.ensures
 
 pub returns : goal.returns
-returns c = places_all lines_text (line_at c.args.ports c.args.input) c.args.numbers.now c.loop-place.place (string_bytes c.args.text.now) (string_bytes c.loop-place.text) (omega arith) c.loop-place.invariant
+returns c = places_all lines_text (line_at c.args.ports c.args.input) c.args.numbers.now c.loop-place.place (string_bytes c.args.text.now)
+    (string_bytes c.loop-place.text) (omega arith) c.loop-place.invariant

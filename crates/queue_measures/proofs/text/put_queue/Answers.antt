@@ -10,7 +10,8 @@ use Rattle.queue_measures.specs.Steps.{queue_at}
 use Rattle.queue_measures.proofs.text.put_queue.Goals as goal
 
 joined : (old : List ℕ) (input : ℕ) (q : Queue) (numbers : QueueNumbers)
-    → ((((((((((((old ++ codes "queue ") ++ queue_name input q) ++ codes " packets ") ++ decimal numbers.packets) ++ codes " dropped ") ++ decimal numbers.dropped)
+    → ((((((((((((old ++ codes "queue ") ++ queue_name input q) ++ codes " packets ") ++ decimal numbers.packets) ++ codes " dropped ")
+    ++ decimal numbers.dropped)
     ++ codes " cells ") ++ decimal numbers.cells) ++ codes " peak ") ++ decimal numbers.peak) ++ codes " slot ") ++ decimal numbers.slot) ++ codes "\n"
     ≡ old ++ line_text (queue_line input q numbers)
 unfolding line_text queue_line

@@ -13,24 +13,30 @@ use Rattle.reference_run.proofs.laws.whole_runs_serve_the_same.Goals as goal
 pub returns-clause-count : goal.returns-clause-count
 returns-clause-count c plan slots j good end inside =
     let ms = run_matches plan slots in
-    subst (λ n. ran (run_matches plan slots) j n ≡ ideal plan.cards (run_matches plan slots) j n) (matches-long plan slots) (ran-ideal plan.cards ms (run-cards plan good) (run-served plan good slots) j (run-emptied plan good slots end) inside)
+    subst (λ n. ran (run_matches plan slots) j n ≡ ideal plan.cards (run_matches plan slots) j n) (matches-long plan slots)
+    (ran-ideal plan.cards ms (run-cards plan good) (run-served plan good slots) j (run-emptied plan good slots end) inside)
 
 pub returns-clause-all : goal.returns-clause-all
 returns-clause-all c plan slots j good end inside =
     let ms = run_matches plan slots in
-    subst (λ n. ran (run_matches plan slots) j n ≡ total (comes plan.cards (run_matches plan slots) j) n) (matches-long plan slots) (ran-all plan.cards ms (run-cards plan good) (run-served plan good slots) j (run-emptied plan good slots end) inside)
+    subst (λ n. ran (run_matches plan slots) j n ≡ total (comes plan.cards (run_matches plan slots) j) n) (matches-long plan slots)
+    (ran-all plan.cards ms (run-cards plan good) (run-served plan good slots) j (run-emptied plan good slots end) inside)
 
 pub returns-clause-ends : goal.returns-clause-ends
 unfolding line_of
 returns-clause-ends c plan slots j good end inside =
     let ms = run_matches plan slots in
-    ends_first (ideal plan.cards ms j) (ran ms j) (length ms) (given-up (comes plan.cards ms j)) (ran-up ms j) (ran-behind plan.cards ms (run-cards plan good) (run-served plan good slots) j)
+    ends_first (ideal plan.cards ms j) (ran ms j) (length ms) (given-up (comes plan.cards ms j)) (ran-up ms j)
+    (ran-behind plan.cards ms (run-cards plan good) (run-served plan good slots) j)
     (sym (ran-ideal plan.cards ms (run-cards plan good) (run-served plan good slots) j (run-emptied plan good slots end) inside))
 
 pub returns-clause-delays : goal.returns-clause-delays
 unfolding line_of
 returns-clause-delays c plan slots j good end inside =
     let ms = run_matches plan slots in
-    subst (λ n. (line_of plan.cards (run_matches plan slots) j).extra + sum (rises (ideal plan.cards (run_matches plan slots) j) n) ≡ sum (rises (ran (run_matches plan slots) j) n)) (matches-long plan slots)
-    (delays_are (ideal plan.cards ms j) (ran ms j) refl refl (given-up (comes plan.cards ms j)) (ran-up ms j) (given-one (comes plan.cards ms j)) (ran-one ms j) (length ms)
-    (ran-behind plan.cards ms (run-cards plan good) (run-served plan good slots) j) (sym (ran-ideal plan.cards ms (run-cards plan good) (run-served plan good slots) j (run-emptied plan good slots end) inside)))
+    subst (λ n. (line_of plan.cards (run_matches plan slots) j).extra + sum (rises (ideal plan.cards (run_matches plan slots) j) n) ≡ sum
+    (rises (ran (run_matches plan slots) j) n)) (matches-long plan slots)
+    (delays_are (ideal plan.cards ms j) (ran ms j) refl refl (given-up (comes plan.cards ms j)) (ran-up ms j) (given-one (comes plan.cards ms j))
+    (ran-one ms j) (length ms)
+    (ran-behind plan.cards ms (run-cards plan good) (run-served plan good slots) j)
+    (sym (ran-ideal plan.cards ms (run-cards plan good) (run-served plan good slots) j (run-emptied plan good slots end) inside)))

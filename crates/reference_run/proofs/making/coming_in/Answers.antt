@@ -13,7 +13,8 @@ pub coming_of-requires : goal.coming_of-requires
 coming_of-requires c =
     let ps = c.deref-packet-items.result.now in
     let i = c.loop-packet.packet-index in
-    let there : slice_get c.args.card.now.packets.items i ≡ Some (slice_index_or ps i no_packet) = ap (λ xs. slice_get xs i) (sym c.deref-packet-items.ensures.value) ∙ some_get ps i no_packet c.loop-packet-test.true in
+    let there : slice_get c.args.card.now.packets.items i ≡ Some (slice_index_or ps i no_packet) =
+    ap (λ xs. slice_get xs i) (sym c.deref-packet-items.ensures.value) ∙ some_get ps i no_packet c.loop-packet-test.true in
     let planned = c.requires.packets i (slice_index_or ps i no_packet) there in
     let len = planned.forwarded (λ none. let e = c.is_empty.ensures.zero.1 none in let f = c.if-not-is_empty.true in absurd (cc)) in
     omega arith
@@ -40,5 +41,6 @@ loop-packet-preserved c =
       | else-not-is_empty w ↦
           let none : x.fan ≡ 0 = c.is_empty.ensures.zero.0 w.if-not-is_empty.false in
           let routed : is_routed x ≡ false = rw (eq-eqb x.fan 0 none) refl in
-          ap (λ v. v.items) w.coming-is ∙ c.loop-packet.invariant ∙ sym (append-nil _) ∙ sym (told-more all i no_packet inside false (ap is_routed here ∙ routed))
+          ap (λ v. v.items) w.coming-is ∙ c.loop-packet.invariant ∙ sym (append-nil _)
+          ∙ sym (told-more all i no_packet inside false (ap is_routed here ∙ routed))
     ]

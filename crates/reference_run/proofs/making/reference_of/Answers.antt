@@ -1,4 +1,5 @@
-use Rattle.std.proofs.Common.{◌≡◌, ◌∙◌, ◌+◌, ◌<◌, ℕ, zero, suc, List, [], ◌∷◌, ◌++◌, map, take, length, slice_get, slice_index_or, Some, refl, ap, sym, subst, arith}
+use Rattle.std.proofs.Common.{◌≡◌, ◌∙◌, ◌+◌, ◌<◌, ℕ, zero, suc, List, [], ◌∷◌, ◌++◌, map, take, length, slice_get, slice_index_or, Some, refl, ap, sym}
+use Rattle.std.proofs.Common.{subst, arith}
 use Rattle.std.specs.Prelude.{Result, Ok, Err, IfOk}
 use Rattle.std.proofs.lemmas.List.{map-append, length-map, take_more, take_all}
 use Rattle.std.proofs.lemmas.Simd.{map-map}
@@ -17,10 +18,12 @@ get-mapped f [] i d inside = absurd (omega arith)
 get-mapped f (x ∷ xs) zero d inside = refl
 get-mapped f (x ∷ xs) (suc i) d inside = get-mapped f xs i d (omega arith)
 
-mapped-more : {X Y : Type 0} (f : X → Y) (xs : List X) (i : ℕ) (d : X) → i < length xs → map f (take (i + 1) xs) ≡ map f (take i xs) ++ f (slice_index_or xs i d) ∷ []
+mapped-more : {X Y : Type 0} (f : X → Y) (xs : List X) (i : ℕ) (d : X) → i < length xs → map f (take (i + 1) xs) ≡ map f (take i xs)
+    ++ f (slice_index_or xs i d) ∷ []
 mapped-more f xs i d inside = ap (map f) (take_more xs i d inside) ∙ map-append f (take i xs) (slice_index_or xs i d ∷ [])
 
-made-of : {E : Type 0} (result : Result State E) (plan : SwitchPlan) (n : ℕ) (lists : List (List Coming)) → n ≡ ports_of plan → lists ≡ map coming_in plan.cards → IfOk result (λ r. r.ports ≡ n) → IfOk result (λ r. r.depth ≡ plan.depth)
+made-of : {E : Type 0} (result : Result State E) (plan : SwitchPlan) (n : ℕ) (lists : List (List Coming)) → n ≡ ports_of plan
+    → lists ≡ map coming_in plan.cards → IfOk result (λ r. r.ports ≡ n) → IfOk result (λ r. r.depth ≡ plan.depth)
     → IfOk result (λ r. map (λ source. source.coming) r.sources ≡ lists) → IfOk result (λ r. HasNoted r []) → IfOk result (λ r. IsReferenceOf plan r [])
 made-of (Ok r) plan n lists count same ports depth coming noted = record { ports = ports ∙ count; depth = depth; coming = coming ∙ same; noted = noted }
 made-of (Err e) plan n lists count same ports depth coming noted = tt
@@ -31,7 +34,8 @@ coming_in-requires c =
     let i = c.loop-card.card-index in
     let card = c.card-item.result in
     let there : slice_get (map plan_of c.args.plan.now.cards.items) i ≡ Some (plan_of card) =
-    ap (λ xs. slice_get (map plan_of xs) i) (sym c.deref-card-items.ensures.value) ∙ get-mapped plan_of ps i card c.loop-card-test.true ∙ ap (λ x. Some (plan_of x)) (sym c.card-item.is) in
+    ap (λ xs. slice_get (map plan_of xs) i) (sym c.deref-card-items.ensures.value) ∙ get-mapped plan_of ps i card c.loop-card-test.true
+    ∙ ap (λ x. Some (plan_of x)) (sym c.card-item.is) in
     (c.requires.cards i (plan_of card) there).good
 
 pub loop-card-preserved : goal.loop-card-preserved
@@ -59,7 +63,8 @@ make-requires c =
     let long = ap length same in
     let past = c.loop-card-test.false in
     let whole : map (λ list. list.items) c.loop-card.coming.items ≡ map coming_in (map plan_of items) =
-    c.loop-card.invariant ∙ ap (map (λ x. coming_in (plan_of x))) (take_all c.loop-card.card-index items (omega arith)) ∙ sym (map-map coming_in plan_of items) in
+    c.loop-card.invariant ∙ ap (map (λ x. coming_in (plan_of x))) (take_all c.loop-card.card-index items (omega arith))
+    ∙ sym (map-map coming_in plan_of items) in
     let count : length (map plan_of items) ≡ c.len-n.result = length-map items plan_of ∙ sym (c.len-n.ensures ∙ c.args.plan.now.cards.ok.0) in
     subst (λ n. IsSwitch n c.args.plan.now.depth (map (λ list. list.items) c.loop-card.coming.items)) count
     (subst (IsSwitch (length (map plan_of items)) c.args.plan.now.depth) (sym whole) (told-switch (switch_plan_of c.args.plan.now) c.requires))
@@ -71,6 +76,8 @@ returns c =
     let long = ap length same in
     let past = c.loop-card-test.false in
     let whole : map (λ list. list.items) c.loop-card.coming.items ≡ map coming_in (map plan_of items) =
-    c.loop-card.invariant ∙ ap (map (λ x. coming_in (plan_of x))) (take_all c.loop-card.card-index items (omega arith)) ∙ sym (map-map coming_in plan_of items) in
+    c.loop-card.invariant ∙ ap (map (λ x. coming_in (plan_of x))) (take_all c.loop-card.card-index items (omega arith))
+    ∙ sym (map-map coming_in plan_of items) in
     let count : length (map plan_of items) ≡ c.len-n.result = length-map items plan_of ∙ sym (c.len-n.ensures ∙ c.args.plan.now.cards.ok.0) in
-    made-of c.make.result (switch_plan_of c.args.plan.now) c.len-n.result (map (λ list. list.items) c.loop-card.coming.items) (sym count) whole c.make.ensures.ports c.make.ensures.depth c.make.ensures.coming c.make.ensures.noted
+    made-of c.make.result (switch_plan_of c.args.plan.now) c.len-n.result (map (λ list. list.items) c.loop-card.coming.items)
+    (sym count) whole c.make.ensures.ports c.make.ensures.depth c.make.ensures.coming c.make.ensures.noted

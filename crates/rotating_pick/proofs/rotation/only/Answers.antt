@@ -9,7 +9,8 @@ without-requires c = Has-lt 64 c.args.ports c.in_ok-port.port (omega (arith, c.r
 
 pub returns-in-Some-clause-exact : goal.returns-in-Some-clause-exact
 returns-in-Some-clause-exact c x =
-    let several = several-left c.args.ports c.without.result c.in_ok-port.port c.in-Some.field-0 (c.in_ok-port.ensures).member c.without.ensures.members (c.in-Some.ensures).member in
+    let several = several-left c.args.ports c.without.result c.in_ok-port.port c.in-Some.field-0 (c.in_ok-port.ensures).member c.without.ensures.members
+    (c.in-Some.ensures).member in
     (λ e. absurd (cc), λ power. absurd (not_several x (subst HasSeveral power several)))
 
 -- the set has its lowest member alone

@@ -68,8 +68,10 @@ loop-i-preserved c =
         λ f.
             let k_in = f.3 in
             elim (cases_eq f.0 i) [
-              | inl same ↦ (c.union-named.ensures j).1 (inr ((c.named.ensures j).1 (f.1, f.2, subst (λ (r : Row). Names r f.1 f.2 j) (ap (row_of new) same ∙ here) f.4)))
-              | inr apart ↦ (c.union-named.ensures j).1 (inl ((inv.named j).1 (f.0, f.1, f.2, omega arith, subst (λ (r : Row). Names r f.1 f.2 j) (other f.0 apart) f.4)))
+              | inl same ↦ (c.union-named.ensures j).1
+                  (inr ((c.named.ensures j).1 (f.1, f.2, subst (λ (r : Row). Names r f.1 f.2 j) (ap (row_of new) same ∙ here) f.4)))
+              | inr apart ↦ (c.union-named.ensures j).1
+                  (inl ((inv.named j).1 (f.0, f.1, f.2, omega arith, subst (λ (r : Row). Names r f.1 f.2 j) (other f.0 apart) f.4)))
             ],
       );
     }

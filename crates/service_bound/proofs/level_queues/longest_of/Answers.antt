@@ -4,7 +4,8 @@ use Rattle.service_bound.proofs.Levels.{longest_of-none, longest_of-without, gre
 use Rattle.service_bound.proofs.level_queues.longest_of.Goals as goal
 
 pub without-left-requires : goal.without-left-requires
-without-left-requires c = Has-lt 64 c.args.outputs c.in-Some.output c.ranges.outputs.fits (c.loop-output.invariant.inside c.in-Some.output c.in-Some.ensures.member)
+without-left-requires c =
+    Has-lt 64 c.args.outputs c.in-Some.output c.ranges.outputs.fits (c.loop-output.invariant.inside c.in-Some.output c.in-Some.ensures.member)
 
 pub loop-output-preserved : goal.loop-output-preserved
 loop-output-preserved c =
@@ -14,7 +15,8 @@ loop-output-preserved c =
     let step = longest_of-without c.args.began.now c.loop-output.left c.without-left.result output c.args.count c.in-Some.ensures.member begun.0 rest in
     record {
       inside = λ j has. c.loop-output.invariant.inside j ((rest j).0 has).1;
-      longest = greater_of-without c.loop-output.longest (c.args.count - slice_index c.args.began.now output) _ _ _ c.max-longest.result c.max-longest.ensures step c.loop-output.invariant.longest;
+      longest = greater_of-without c.loop-output.longest
+          (c.args.count - slice_index c.args.began.now output) _ _ _ c.max-longest.result c.max-longest.ensures step c.loop-output.invariant.longest;
     }
 
 pub returns : goal.returns

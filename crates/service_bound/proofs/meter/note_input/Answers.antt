@@ -40,13 +40,19 @@ loop-level-preserved c =
     let inside : place < length now = omega arith in
     let found = found_is now place c.index_mut.result.now inside c.index_mut.ensures.value ∙ inv.left place (omega arith) in
     let whole = c.ports.ensures.whole in
-    let gives : (j : ℕ) → Gives c.args.served j level Uni ↔ Serves matched input j level Uni = λ j. Gives-iff_serves matched input j level Uni c.args.served (part_is_free c.ports.result matched input c.args.served whole c.requires.served) (part_serves c.ports.result matched input c.args.served whole c.requires.served) in
-    let waits : (j : ℕ) → (bit_at c.outputs_waiting-outputs.result j == 1) ≡ is_waiting slot input j level = λ j. member-waits rows matched input j level c.outputs_waiting-outputs.result (Gives c.args.served j level Uni) (c.outputs_waiting-outputs.ensures j) (gives j) in
+    let gives : (j : ℕ) → Gives c.args.served j level Uni ↔ Serves matched input j level Uni =
+    λ j. Gives-iff_serves matched input j level Uni c.args.served (part_is_free c.ports.result matched input c.args.served whole c.requires.served)
+    (part_serves c.ports.result matched input c.args.served whole c.requires.served) in
+    let waits : (j : ℕ) → (bit_at c.outputs_waiting-outputs.result j == 1) ≡ is_waiting slot input j level =
+    λ j. member-waits rows matched input j level c.outputs_waiting-outputs.result (Gives c.args.served j level Uni) (c.outputs_waiting-outputs.ensures j)
+    (gives j) in
     let row : input ≡ place / LEVELS = omega arith in
     let column : level ≡ place % LEVELS = omega arith in
-    let there : (j : ℕ) → (bit_at c.outputs_waiting-outputs.result j == 1) ≡ is_waiting slot (place / LEVELS) j (place % LEVELS) = λ j. waits j ∙ ap (λ r. is_waiting slot r j level) row ∙ ap (λ l. is_waiting slot (place / LEVELS) j l) column in
+    let there : (j : ℕ) → (bit_at c.outputs_waiting-outputs.result j == 1) ≡ is_waiting slot (place / LEVELS) j (place % LEVELS) = λ j. waits j
+    ∙ ap (λ r. is_waiting slot r j level) row ∙ ap (λ l. is_waiting slot (place / LEVELS) j l) column in
     let P : ℕ → Queues → Queues → Type 0 = λ k. NotesSlot c.args.count (λ j. is_waiting slot (k / LEVELS) j (k % LEVELS)) in
-    let here : P place (queues_at old place) new = subst (λ q. P place q new) found (NotesSlot-along c.args.count _ _ c.index_mut.result.now new there c.note.ensures) in
+    let here : P place (queues_at old place) new =
+    subst (λ q. P place q new) found (NotesSlot-along c.args.count _ _ c.index_mut.result.now new there c.note.ensures) in
     record {
       long = length-set now place new ∙ inv.long;
       before = λ k below. left-set now place new k (λ e. omega arith) ∙ inv.before k below;

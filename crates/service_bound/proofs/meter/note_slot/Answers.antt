@@ -10,7 +10,9 @@ loop-input-preserved c =
     let inv = c.loop-input.invariant in
     let made = c.note_input.ensures in
     let new = c.note_input.new.queues.items in
-    let P : ℕ → Queues → Queues → Type 0 = λ k. NotesSlot c.args.count (λ j. is_waiting (record { rows = c.args.rows.now; matched = c.args.matched.now }) (k / LEVELS) j (k % LEVELS)) in
+    let P : ℕ → Queues → Queues
+    → Type 0 = λ k. NotesSlot c.args.count
+    (λ j. is_waiting (record { rows = c.args.rows.now; matched = c.args.matched.now }) (k / LEVELS) j (k % LEVELS)) in
     record {
       long = made.long ∙ inv.long;
       noted = λ place below. elim (cases_eq (place / LEVELS) c.loop-input.input) [

@@ -5,10 +5,12 @@ use Rattle.slot_match.proofs.Tables.{count_by-set}
 use Rattle.slot_match.proofs.matching.feed.Goals as goal
 
 pub set-requires-clause-output_in : goal.set-requires-clause-output_in
-set-requires-clause-output_in c = Has-lt 64 c.args.outputs c.in-Some.output c.ranges.outputs.fits (c.loop-output.invariant.left c.in-Some.output c.in-Some.ensures.member)
+set-requires-clause-output_in c =
+    Has-lt 64 c.args.outputs c.in-Some.output c.ranges.outputs.fits (c.loop-output.invariant.left c.in-Some.output c.in-Some.ensures.member)
 
 pub without-rest-requires : goal.without-rest-requires
-without-rest-requires c = Has-lt 64 c.args.outputs c.in-Some.output c.ranges.outputs.fits (c.loop-output.invariant.left c.in-Some.output c.in-Some.ensures.member)
+without-rest-requires c =
+    Has-lt 64 c.args.outputs c.in-Some.output c.ranges.outputs.fits (c.loop-output.invariant.left c.in-Some.output c.in-Some.ensures.member)
 
 pub loop-output-preserved : goal.loop-output-preserved
 loop-output-preserved c =

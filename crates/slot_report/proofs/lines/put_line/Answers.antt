@@ -8,6 +8,7 @@ use Rattle.slot_report.proofs.lines.put_line.Goals as goal
 pub returns : goal.returns
 returns c =
     on_ok_weaker c.push_str-2.result
-    (λ end. whole_line (string_bytes c.args.text.now) (string_bytes c.push_str.new.self) (string_bytes c.put_words.new.text) (string_bytes c.push_str-2.new.self) c.args.name.now (map word_text c.args.words.now)
+    (λ end. whole_line (string_bytes c.args.text.now) (string_bytes c.push_str.new.self) (string_bytes c.put_words.new.text)
+    (string_bytes c.push_str-2.new.self) c.args.name.now (map word_text c.args.words.now)
     c.in_ok-push_str.ensures.bytes c.in_ok-put_words.ensures end)
     (appended c.push_str-2.result (string_bytes c.put_words.new.text) (codes "\n") (string_bytes c.push_str-2.new.self) c.push_str-2.ensures.bytes)

@@ -8,5 +8,6 @@ pub returns : goal.returns
 unfolding summary_lines
 returns c =
     on_ok_weaker c.put_longest.result
-    (λ last. lines_and_last (string_bytes c.args.text.now) (string_bytes c.put_counts.new.text) (string_bytes c.put_longest.new.text) (take 11 (summary_lines c.args.summary.now)) _ c.in_ok-put_counts.ensures last)
+    (λ last. lines_and_last (string_bytes c.args.text.now) (string_bytes c.put_counts.new.text) (string_bytes c.put_longest.new.text)
+    (take 11 (summary_lines c.args.summary.now)) _ c.in_ok-put_counts.ensures last)
     c.put_longest.ensures

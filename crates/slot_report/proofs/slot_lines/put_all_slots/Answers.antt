@@ -8,12 +8,15 @@ use Rattle.slot_report.proofs.slot_lines.put_all_slots.Goals as goal
 pub loop-slot-preserved : goal.loop-slot-preserved
 loop-slot-preserved c =
     let t = c.loop-slot.slot in
-    place_more line_text journal_line c.args.journal.now.slots t no_slot [] (string_bytes c.args.text.now) (string_bytes c.loop-slot.text) (string_bytes c.put_slot_line.new.text)
+    place_more line_text journal_line c.args.journal.now.slots t no_slot [] (string_bytes c.args.text.now) (string_bytes c.loop-slot.text)
+    (string_bytes c.put_slot_line.new.text)
     (omega (arith, c.slots-slot-end.ensures)) c.loop-slot.invariant
     (c.in_ok-put_slot_line.ensures
     ∙ ap (λ numbers. string_bytes c.loop-slot.text ++ line_text (slot_line t numbers c.decided.result.now)) c.used.ensures
-    ∙ ap (λ matched. string_bytes c.loop-slot.text ++ line_text (slot_line t (slice_index_or c.args.journal.now.slots t no_slot).numbers matched)) c.decided.ensures.matched)
+    ∙ ap (λ matched. string_bytes c.loop-slot.text ++ line_text (slot_line t (slice_index_or c.args.journal.now.slots t no_slot).numbers matched))
+    c.decided.ensures.matched)
 
 pub returns : goal.returns
 returns c =
-    places_all line_text journal_line c.args.journal.now.slots c.loop-slot.slot (string_bytes c.args.text.now) (string_bytes c.loop-slot.text) (omega (arith, c.slots-slot-end.ensures)) c.loop-slot.invariant
+    places_all line_text journal_line c.args.journal.now.slots c.loop-slot.slot (string_bytes c.args.text.now) (string_bytes c.loop-slot.text)
+    (omega (arith, c.slots-slot-end.ensures)) c.loop-slot.invariant

@@ -16,5 +16,6 @@ returns c =
     let words = decimal c.args.slot ∷ codes "used" ∷ decimal c.args.numbers.used ∷ codes "first" ∷ decimal c.args.numbers.first ∷ [] in
     let pairs = pairs_of c.args.matched.now in
     on_ok_weaker c.push_str-2.result
-    (λ end. whole_line old named whole new (codes "slot") (words ++ pairs) c.in_ok-push_str.ensures.bytes (more_words named mid whole words pairs c.in_ok-put_words.ensures c.in_ok-put_pairs.ensures) end)
+    (λ end. whole_line old named whole new (codes "slot") (words ++ pairs) c.in_ok-push_str.ensures.bytes
+    (more_words named mid whole words pairs c.in_ok-put_words.ensures c.in_ok-put_pairs.ensures) end)
     (appended c.push_str-2.result whole (codes "\n") new c.push_str-2.ensures.bytes)

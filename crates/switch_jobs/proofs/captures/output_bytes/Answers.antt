@@ -12,9 +12,11 @@ returns c = λ messages are lengths.
     let header = header_text c.args.nano c.args.link in
     let first : c.deref_mut.result.now ≡ bytes.items = c.deref_mut.ensures.value in
     let same : length c.write_header.new.buf ≡ length bytes.items = c.write_header.auto.buf ∙ ap length first in
-    let begun : take bytes.len (c.write_header.new.buf ++ drop (length c.write_header.new.buf) bytes.items) ≡ c.write_header.new.buf = whole_back bytes.len c.write_header.new.buf bytes.items bytes.ok.0 same in
+    let begun : take bytes.len (c.write_header.new.buf ++ drop (length c.write_header.new.buf) bytes.items) ≡ c.write_header.new.buf =
+    whole_back bytes.len c.write_header.new.buf bytes.items bytes.ok.0 same in
     let second : c.deref_mut-2.result.now ≡ c.write_header.new.buf = c.deref_mut-2.ensures.value ∙ begun in
-    let front : take 24 c.deref_mut-2.result.now ≡ header = ap (take 24) (second ∙ c.write_header.ensures) ∙ take_at header (drop 24 c.deref_mut.result.now) 24 (length-header_text c.args.nano c.args.link) in
+    let front : take 24 c.deref_mut-2.result.now ≡ header = ap (take 24) (second ∙ c.write_header.ensures)
+    ∙ take_at header (drop 24 c.deref_mut.result.now) 24 (length-header_text c.args.nano c.args.link) in
     let written = c.write_records.ensures messages (c.deref.ensures.value ∙ are) (c.deref-2.ensures.value ∙ lengths) in
     let wide : length c.write_records.new.buffer ≡ length c.write_header.new.buf = c.write_records.auto.buffer ∙ ap length second in
     ap (λ xs. take bytes.len (c.write_records.new.buffer ++ drop (length c.write_records.new.buffer) xs)) begun

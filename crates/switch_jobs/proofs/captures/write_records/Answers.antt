@@ -28,5 +28,7 @@ loop-len-preserved c =
       start = omega arith;
       text = λ messages are lengths.
           ap (λ n. take n c.write_record-at.new.buf) end
-          ∙ records_more c.args.nano (take 24 c.args.buffer.now) body lens messages are lengths at.buffer c.write_record-at.new.buf message k at.at at.start inside start part header (omega arith) (at.invariant.text messages are lengths) c.write_record-at.ensures.text;
+          ∙ records_more c.args.nano
+          (take 24 c.args.buffer.now) body lens messages are lengths at.buffer c.write_record-at.new.buf message k at.at at.start inside start part header
+          (omega arith) (at.invariant.text messages are lengths) c.write_record-at.ensures.text;
     }

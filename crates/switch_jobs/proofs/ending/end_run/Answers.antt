@@ -4,15 +4,19 @@ use Rattle.switch_jobs.proofs.Disbanded.{planned_left, waited_left}
 use Rattle.switch_jobs.proofs.ending.end_run.Goals as goal
 
 pub close_with-state-requires-clause-seats : goal.close_with-state-requires-clause-seats
-close_with-state-requires-clause-seats c = (c.disbanded_groups_agree.ensures.seats c.args.board c.args.groups.items c.disband-seats.result.0.items c.disband-seats.result.1.items c.requires.groups c.disband-seats.ensures).0
+close_with-state-requires-clause-seats c =
+    (c.disbanded_groups_agree.ensures.seats c.args.board c.args.groups.items c.disband-seats.result.0.items c.disband-seats.result.1.items c.requires.groups
+    c.disband-seats.ensures).0
 
 pub close_with-state-requires-clause-members : goal.close_with-state-requires-clause-members
 close_with-state-requires-clause-members c = λ i hand seat at too.
-    c.disbanded_groups_agree.ensures.members c.args.board c.args.groups.items c.disband-seats.result.0.items c.disband-seats.result.1.items c.requires.groups c.disband-seats.ensures i hand seat (ap (λ hs. slice_get hs i) (sym c.deref.ensures.value) ∙ at) too
+    c.disbanded_groups_agree.ensures.members c.args.board c.args.groups.items c.disband-seats.result.0.items c.disband-seats.result.1.items c.requires.groups
+    c.disband-seats.ensures i hand seat (ap (λ hs. slice_get hs i) (sym c.deref.ensures.value) ∙ at) too
 
 pub returns-clause-planned : goal.returns-clause-planned
 returns-clause-planned c = λ plans planned.
-    planned_left c.args.groups.items c.disband-seats.result.0.items c.disband-seats.result.1.items _ c.disband-seats.ensures plans c.finish_alone.new.hands.items planned c.finish_alone.ensures.plans
+    planned_left c.args.groups.items c.disband-seats.result.0.items c.disband-seats.result.1.items _ c.disband-seats.ensures plans
+    c.finish_alone.new.hands.items planned c.finish_alone.ensures.plans
 
 pub returns-clause-refused : goal.returns-clause-refused
 returns-clause-refused c = λ patience small waited.

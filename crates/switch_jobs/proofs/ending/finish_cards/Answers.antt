@@ -15,6 +15,7 @@ loop-hand-preserved c =
     record {
       rest = gone_more at.yielded rest (into_iter_items c.next.new.self) _ x at.invariant.rest steps;
       left = let was = at.invariant.left in let gone = c.in-Some.ensures.steps.1 in let short = ap length steps in omega arith;
-      outputs = subst (λ (outs : List CardOut). AreLeft (at.yielded ++ x ∷ []) outs) (sym c.push_reserved.ensures.items) (AreLeft-more at.yielded at.outputs.items x c.finish.result at.invariant.outputs c.finish.ensures);
+      outputs = subst (λ (outs : List CardOut). AreLeft (at.yielded ++ x ∷ []) outs) (sym c.push_reserved.ensures.items)
+          (AreLeft-more at.yielded at.outputs.items x c.finish.result at.invariant.outputs c.finish.ensures);
       room = let room = at.invariant.room in let same = c.push_reserved.ensures.capacity in omega arith;
     }

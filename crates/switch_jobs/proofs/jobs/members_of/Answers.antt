@@ -28,8 +28,10 @@ push_reserved-requires c =
     let cards = c.args.cards.items in
     let rest = into_iter_items at.card-iterator in
     let whole : at.yielded ++ rest ≡ cards = at.invariant.rest ∙ c.into_iter-card-iterator.ensures.into_iter_gives.0 in
-    let below = slice_get_within cards (length at.yielded) x (here_of at.yielded rest (into_iter_items c.next.new.self) cards x whole c.in-Some.ensures.steps.0) in
-    let made : length at.members.items ≡ length at.yielded = sym (length-map at.members.items (λ (m : Member). m.hand.card.sends.plan)) ∙ (ap length at.invariant.plans ∙ length-map at.yielded plan_of) in
+    let below = slice_get_within cards (length at.yielded) x
+    (here_of at.yielded rest (into_iter_items c.next.new.self) cards x whole c.in-Some.ensures.steps.0) in
+    let made : length at.members.items ≡ length at.yielded = sym (length-map at.members.items (λ (m : Member). m.hand.card.sends.plan))
+    ∙ (ap length at.invariant.plans ∙ length-map at.yielded plan_of) in
     let held = at.members.ok.0 in
     let room = at.invariant.room in
     let ports = c.requires.ports in
@@ -57,13 +59,15 @@ loop-card-preserved c =
     let hand = c.in_ok-hand.hand in
     let plan : hand.card.sends.plan ≡ plan_of x = c.in_ok-hand.ensures.plan in
     let sized = c.requires.sized done x here in
-    let new = c.new_members_agree.ensures board hand c.legal.ensures c.in_ok-hand.ensures.kept c.in_ok-hand.ensures.after (ap (λ (p : Plan). p.ports) plan ∙ (sized.1 ∙ sym ports)) in
+    let new = c.new_members_agree.ensures board hand c.legal.ensures c.in_ok-hand.ensures.kept c.in_ok-hand.ensures.after
+    (ap (λ (p : Plan). p.ports) plan ∙ (sized.1 ∙ sym ports)) in
     let number : hand.card.sends.plan.card ≡ done = ap (λ (p : Plan). p.card) plan ∙ sized.0 in
     let from : hand.card.sends.plan.card ≡ 0 + done = omega arith in
     let is : new_seat board hand.card.sends.plan.card ≡ seat = ap (λ k. new_seat board k) from ∙ sym (at.invariant.seats_new 0 seat first) in
     let member : Member = record { hand = hand; seat = seat } in
     let sound : IsMember board member = subst (λ (s : SeatValue Event). IsMember board (record { hand = hand; seat = s })) is new in
-    let made : length at.members.items ≡ done = sym (length-map at.members.items (λ (m : Member). m.hand.card.sends.plan)) ∙ (ap length at.invariant.plans ∙ length-map at.yielded plan_of) in
+    let made : length at.members.items ≡ done = sym (length-map at.members.items (λ (m : Member). m.hand.card.sends.plan))
+    ∙ (ap length at.invariant.plans ∙ length-map at.yielded plan_of) in
     let in_place : seat.number ≡ length at.members.items = ap (λ (s : SeatValue Event). s.number) (sym is) ∙ (number ∙ sym made) in
     let more = length_push at.yielded x in
     record {

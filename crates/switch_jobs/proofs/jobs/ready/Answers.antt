@@ -20,11 +20,13 @@ make-requires-clause-slots c =
 
 pub members_of-requires-clause-good : goal.members_of-requires-clause-good
 members_of-requires-clause-good c = λ port card at.
-    let found : slice_get (map plan_of c.args.plan.cards.items) port ≡ Some (plan_of card) = slice_get-map plan_of c.args.plan.cards.items port ∙ ap (option_map plan_of) at in
+    let found : slice_get (map plan_of c.args.plan.cards.items) port ≡ Some (plan_of card) = slice_get-map plan_of c.args.plan.cards.items port
+    ∙ ap (option_map plan_of) at in
     (c.requires.cards port (plan_of card) found).good
 
 pub members_of-requires-clause-sized : goal.members_of-requires-clause-sized
 members_of-requires-clause-sized c = λ port card at.
-    let found : slice_get (map plan_of c.args.plan.cards.items) port ≡ Some (plan_of card) = slice_get-map plan_of c.args.plan.cards.items port ∙ ap (option_map plan_of) at in
+    let found : slice_get (map plan_of c.args.plan.cards.items) port ≡ Some (plan_of card) = slice_get-map plan_of c.args.plan.cards.items port
+    ∙ ap (option_map plan_of) at in
     let is = c.requires.cards port (plan_of card) found in
     (is.number, is.ports ∙ length-map c.args.plan.cards.items plan_of)

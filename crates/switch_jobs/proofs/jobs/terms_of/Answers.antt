@@ -15,7 +15,8 @@ pub packet_count-requires : goal.packet_count-requires
 packet_count-requires c =
     let cards = c.args.plan.now.cards.items in
     let each : All (λ (card : CardPlan). length card.packets.items ≤ 131072) cards = λ k d inside.
-    let found : slice_get (map plan_of cards) k ≡ Some (plan_of (get_or cards k d)) = slice_get-map plan_of cards k ∙ ap (option_map plan_of) (slice_get-get_or cards k d inside) in
+    let found : slice_get (map plan_of cards) k ≡ Some (plan_of (get_or cards k d)) = slice_get-map plan_of cards k
+    ∙ ap (option_map plan_of) (slice_get-get_or cards k d inside) in
     few_packets (plan_of (get_or cards k d)) (c.requires.cards k (plan_of (get_or cards k d)) found).good in
     let most = sum_by-le (λ (card : CardPlan). length card.packets.items) 131072 cards each in
     let ports = c.requires.size in

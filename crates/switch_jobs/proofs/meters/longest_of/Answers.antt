@@ -16,10 +16,12 @@ loop-level-preserved c =
       waits = λ slots noted k below.
           let f = λ (level : ℕ). longest_wait c.args.meter.now.ports level slots in
           ap (λ (y : ℕ). get_or (set at.longest c.from.result y) k 0) (c.longest.ensures slots noted)
-          ∙ (ap (λ (i : ℕ). get_or (set at.longest i (f at.level)) k 0) place ∙ fill_by_more f at.longest at.level 0 inside (at.invariant.waits slots noted) k below);
+          ∙ (ap (λ (i : ℕ). get_or (set at.longest i (f at.level)) k 0) place
+          ∙ fill_by_more f at.longest at.level 0 inside (at.invariant.waits slots noted) k below);
     }
 
 pub returns : goal.returns
 returns c = λ slots noted.
     let at = c.loop-level in
-    fill_by_all (λ (level : ℕ). longest_wait c.args.meter.now.ports level slots) at.longest 4 0 at.invariant.size (λ k below. at.invariant.waits slots noted k (omega arith))
+    fill_by_all (λ (level : ℕ). longest_wait c.args.meter.now.ports level slots) at.longest 4 0 at.invariant.size
+    (λ k below. at.invariant.waits slots noted k (omega arith))

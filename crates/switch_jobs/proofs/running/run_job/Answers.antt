@@ -4,13 +4,16 @@ use Rattle.whole_run.specs.Promises.{CompletesMulticast, ServesWaiting, WaitsAre
 use Rattle.switch_jobs.proofs.running.run_job.Goals as goal
 
 pub returns-clause-serves : goal.returns-clause-serves
-returns-clause-serves g c = subst (λ (plan : SwitchPlan). ServesWaiting plan (length c.run_ready.result.journal.slots)) c.in_ok-ready.ensures c.run_ready.ensures.serves
+returns-clause-serves g c =
+    subst (λ (plan : SwitchPlan). ServesWaiting plan (length c.run_ready.result.journal.slots)) c.in_ok-ready.ensures c.run_ready.ensures.serves
 
 pub returns-clause-waits : goal.returns-clause-waits
-returns-clause-waits g c = subst (λ (plan : SwitchPlan). WaitsAreShort plan (length c.run_ready.result.journal.slots)) c.in_ok-ready.ensures c.run_ready.ensures.waits
+returns-clause-waits g c =
+    subst (λ (plan : SwitchPlan). WaitsAreShort plan (length c.run_ready.result.journal.slots)) c.in_ok-ready.ensures c.run_ready.ensures.waits
 
 pub returns-clause-completes : goal.returns-clause-completes
-returns-clause-completes g c = subst (λ (plan : SwitchPlan). CompletesMulticast plan (length c.run_ready.result.journal.slots)) c.in_ok-ready.ensures c.run_ready.ensures.completes
+returns-clause-completes g c =
+    subst (λ (plan : SwitchPlan). CompletesMulticast plan (length c.run_ready.result.journal.slots)) c.in_ok-ready.ensures c.run_ready.ensures.completes
 
 pub returns-clause-journal : goal.returns-clause-journal
 returns-clause-journal g c = c.run_ready.ensures.journal

@@ -22,13 +22,16 @@ use Rattle.switch_jobs.proofs.Finishing.{journal_few, ports_left, output_is, sum
 use Rattle.switch_jobs.proofs.running.run_ready_with.Goals as goal
 
 -- groups that a call got as a slice and gave back
-back : (P : List Group → Type 0) (k : ℕ) (new old slice : List Group) → k ≡ length old → length new ≡ length slice → slice ≡ old → P new → P (take k (new ++ drop (length new) old))
+back : (P : List Group → Type 0) (k : ℕ) (new old slice : List Group) → k ≡ length old → length new ≡ length slice → slice ≡ old → P new
+    → P (take k (new ++ drop (length new) old))
 back P k new old slice all same value is = subst P (sym (whole_back k new old all (same ∙ ap length value))) is
 
 -- the run is that of the plan whose cards the hands have
-run_of : (plan : SwitchPlan) (state : StateValue) (hands slice : List Hand) → slice ≡ hands → ((plan : SwitchPlan) → IsGood plan → state.setup ≡ setup_for plan → AreOfPlans plan.cards slice → IsRunOf plan state slice)
+run_of : (plan : SwitchPlan) (state : StateValue) (hands slice : List Hand) → slice ≡ hands
+    → ((plan : SwitchPlan) → IsGood plan → state.setup ≡ setup_for plan → AreOfPlans plan.cards slice → IsRunOf plan state slice)
     → IsGood plan → state.setup ≡ setup_for plan → AreOfPlans plan.cards hands → IsRunOf plan state hands
-run_of plan state hands slice same law good setup planned = subst (IsRunOf plan state) same (law plan good setup (subst (AreOfPlans plan.cards) (sym same) planned))
+run_of plan state hands slice same law good setup planned =
+    subst (IsRunOf plan state) same (law plan good setup (subst (AreOfPlans plan.cards) (sym same) planned))
 
 pub share-groups-requires-clause-room : goal.share-groups-requires-clause-room
 share-groups-requires-clause-room g c = λ place group at.
@@ -38,7 +41,8 @@ share-groups-requires-clause-room g c = λ place group at.
 pub end_run-state-requires-clause-groups : goal.end_run-state-requires-clause-groups
 end_run-state-requires-clause-groups g c =
     let board = c.ready.inside.board in
-    back (AreGroups board board.seats) c.share-groups.result.len c.drive_all.new.groups c.share-groups.result.items _ c.share-groups.result.ok.0 c.drive_all.auto.groups c.deref_mut.ensures.value c.drive_all.ensures.groups
+    back (AreGroups board board.seats) c.share-groups.result.len c.drive_all.new.groups c.share-groups.result.items _ c.share-groups.result.ok.0
+    c.drive_all.auto.groups c.deref_mut.ensures.value c.drive_all.ensures.groups
 
 pub summarize-summary-requires-clause-slots : goal.summarize-summary-requires-clause-slots
 summarize-summary-requires-clause-slots g c =
@@ -47,8 +51,13 @@ summarize-summary-requires-clause-slots g c =
     let state = c.end_run-state.result.0 in
     let hands = c.end_run-state.result.1.items in
     let shared : ArePlanned cards c.deref_mut.result.now = subst (ArePlanned cards) (sym c.deref_mut.ensures.value) c.share-groups.ensures.shared.planned in
-    let planned : AreOfPlans cards hands = c.end_run-state.ensures.planned cards (back (ArePlanned cards) c.share-groups.result.len c.drive_all.new.groups c.share-groups.result.items _ c.share-groups.result.ok.0 c.drive_all.auto.groups c.deref_mut.ensures.value (c.drive_all.ensures.planned cards shared)) in
-    let made : IsRunOf (plan_with r.terms cards) state hands = run_of (plan_with r.terms cards) state hands c.deref.result.now c.deref.ensures.value c.run_is_made.ensures c.ready.invariant.good (c.end_run-state.ensures.setup ∙ c.ready.invariant.setup) planned in
+    let planned : AreOfPlans cards hands =
+    c.end_run-state.ensures.planned cards
+    (back (ArePlanned cards) c.share-groups.result.len c.drive_all.new.groups c.share-groups.result.items _ c.share-groups.result.ok.0
+    c.drive_all.auto.groups c.deref_mut.ensures.value (c.drive_all.ensures.planned cards shared)) in
+    let made : IsRunOf (plan_with r.terms cards) state hands =
+    run_of (plan_with r.terms cards) state hands c.deref.result.now c.deref.ensures.value c.run_is_made.ensures c.ready.invariant.good
+    (c.end_run-state.ensures.setup ∙ c.ready.invariant.setup) planned in
     let few = journal_few r.terms cards c.ready.invariant.good state hands made made.journal in
     let journal = ap (λ (j : JournalValue). length j.slots) c.journal-journal.ensures.journal in
     omega (arith, few, journal)
@@ -60,9 +69,15 @@ summarize-summary-requires-clause-sums g c =
     let state = c.end_run-state.result.0 in
     let hands = c.end_run-state.result.1.items in
     let shared : ArePlanned cards c.deref_mut.result.now = subst (ArePlanned cards) (sym c.deref_mut.ensures.value) c.share-groups.ensures.shared.planned in
-    let planned : AreOfPlans cards hands = c.end_run-state.ensures.planned cards (back (ArePlanned cards) c.share-groups.result.len c.drive_all.new.groups c.share-groups.result.items _ c.share-groups.result.ok.0 c.drive_all.auto.groups c.deref_mut.ensures.value (c.drive_all.ensures.planned cards shared)) in
-    let made : IsRunOf (plan_with r.terms cards) state hands = run_of (plan_with r.terms cards) state hands c.deref.result.now c.deref.ensures.value c.run_is_made.ensures c.ready.invariant.good (c.end_run-state.ensures.setup ∙ c.ready.invariant.setup) planned in
-    subst HaveSums (sym c.deref-2.ensures.value) (sums_fit r.terms cards c.ready.invariant.good state hands made c.finish_cards-outputs.result.items c.finish_cards-outputs.ensures)
+    let planned : AreOfPlans cards hands =
+    c.end_run-state.ensures.planned cards
+    (back (ArePlanned cards) c.share-groups.result.len c.drive_all.new.groups c.share-groups.result.items _ c.share-groups.result.ok.0
+    c.drive_all.auto.groups c.deref_mut.ensures.value (c.drive_all.ensures.planned cards shared)) in
+    let made : IsRunOf (plan_with r.terms cards) state hands =
+    run_of (plan_with r.terms cards) state hands c.deref.result.now c.deref.ensures.value c.run_is_made.ensures c.ready.invariant.good
+    (c.end_run-state.ensures.setup ∙ c.ready.invariant.setup) planned in
+    subst HaveSums (sym c.deref-2.ensures.value)
+    (sums_fit r.terms cards c.ready.invariant.good state hands made c.finish_cards-outputs.result.items c.finish_cards-outputs.ensures)
 
 pub returns-clause-run : goal.returns-clause-run
 returns-clause-run g c =
@@ -71,8 +86,13 @@ returns-clause-run g c =
     let state = c.end_run-state.result.0 in
     let hands = c.end_run-state.result.1.items in
     let shared : ArePlanned cards c.deref_mut.result.now = subst (ArePlanned cards) (sym c.deref_mut.ensures.value) c.share-groups.ensures.shared.planned in
-    let planned : AreOfPlans cards hands = c.end_run-state.ensures.planned cards (back (ArePlanned cards) c.share-groups.result.len c.drive_all.new.groups c.share-groups.result.items _ c.share-groups.result.ok.0 c.drive_all.auto.groups c.deref_mut.ensures.value (c.drive_all.ensures.planned cards shared)) in
-    let made : IsRunOf (plan_with r.terms cards) state hands = run_of (plan_with r.terms cards) state hands c.deref.result.now c.deref.ensures.value c.run_is_made.ensures c.ready.invariant.good (c.end_run-state.ensures.setup ∙ c.ready.invariant.setup) planned in
+    let planned : AreOfPlans cards hands =
+    c.end_run-state.ensures.planned cards
+    (back (ArePlanned cards) c.share-groups.result.len c.drive_all.new.groups c.share-groups.result.items _ c.share-groups.result.ok.0
+    c.drive_all.auto.groups c.deref_mut.ensures.value (c.drive_all.ensures.planned cards shared)) in
+    let made : IsRunOf (plan_with r.terms cards) state hands =
+    run_of (plan_with r.terms cards) state hands c.deref.result.now c.deref.ensures.value c.run_is_made.ensures c.ready.invariant.good
+    (c.end_run-state.ensures.setup ∙ c.ready.invariant.setup) planned in
     let outputs = c.finish_cards-outputs.result.items in
     let left = c.finish_cards-outputs.ensures in
     let journal = c.journal-journal.ensures.journal in
@@ -86,14 +106,19 @@ returns-clause-run g c =
       journal = slots ∙ made.journal;
       ports = ports_left r.terms cards c.ready.invariant.good state hands made outputs left;
       outputs = output_is r.terms cards c.ready.invariant.good state hands made outputs left;
-      summary = c.summarize-summary.ensures ∙ (ap (summary_in r.terms c.journal-journal.result) c.deref-2.ensures.value ∙ summary_is r.terms cards c.ready.invariant.good state hands made outputs left c.journal-journal.result setup slots c.ready.invariant.packets);
+      summary = c.summarize-summary.ensures
+          ∙ (ap (summary_in r.terms c.journal-journal.result) c.deref-2.ensures.value
+          ∙ summary_is r.terms cards c.ready.invariant.good state hands made outputs left c.journal-journal.result setup slots c.ready.invariant.packets);
     })
 
 pub returns-clause-tried : goal.returns-clause-tried
 returns-clause-tried g c =
     let small = c.ranges.patience.fits in
-    let waited : HaveWaited c.args.patience _ = back (HaveWaited c.args.patience) c.share-groups.result.len c.drive_all.new.groups c.share-groups.result.items _ c.share-groups.result.ok.0 c.drive_all.auto.groups c.deref_mut.ensures.value c.drive_all.ensures.waited in
-    subst (λ (j : JournalValue). c.args.patience ≤ j.refused) (sym c.journal-journal.ensures.journal) (c.end_run-state.ensures.refused c.args.patience (omega arith) waited)
+    let waited : HaveWaited c.args.patience _ =
+    back (HaveWaited c.args.patience) c.share-groups.result.len c.drive_all.new.groups c.share-groups.result.items _ c.share-groups.result.ok.0
+    c.drive_all.auto.groups c.deref_mut.ensures.value c.drive_all.ensures.waited in
+    subst (λ (j : JournalValue). c.args.patience ≤ j.refused) (sym c.journal-journal.ensures.journal)
+    (c.end_run-state.ensures.refused c.args.patience (omega arith) waited)
 
 pub returns-clause-serves : goal.returns-clause-serves
 returns-clause-serves g c =

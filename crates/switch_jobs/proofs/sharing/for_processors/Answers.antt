@@ -24,7 +24,8 @@ returns-clause-some g c =
 
 pub returns-clause-empty : goal.returns-clause-empty
 returns-clause-empty g c =
-    subst AreEmptyGroups (sym c.truncate.ensures.items) (λ place group at. c.requires.empty place group (among_first c.max.result place c.args.groups.items group at))
+    subst AreEmptyGroups (sym c.truncate.ensures.items)
+    (λ place group at. c.requires.empty place group (among_first c.max.result place c.args.groups.items group at))
 
 pub returns-clause-room : goal.returns-clause-room
 returns-clause-room g c = λ room have.

@@ -35,7 +35,8 @@ loop-member-preserved c =
     let whole : at.yielded ++ rest ≡ members = at.invariant.rest ∙ c.into_iter-member-iterator.ensures.into_iter_gives.0 in
     let here : slice_get members (length at.yielded) ≡ Some x = here_of at.yielded rest (into_iter_items c.next.new.self) members x whole steps in
     let plan = λ (m : Member). m.hand.card.sends.plan in
-    let own : slice_get (plans_in members) at.card ≡ Some x.hand.card.sends.plan = ap (slice_get (plans_in members)) at.invariant.card ∙ (slice_get-map plan members (length at.yielded) ∙ ap (option_map plan) here) in
+    let own : slice_get (plans_in members) at.card ≡ Some x.hand.card.sends.plan = ap (slice_get (plans_in members)) at.invariant.card
+    ∙ (slice_get-map plan members (length at.yielded) ∙ ap (option_map plan) here) in
     record {
       rest = gone_more at.yielded rest (into_iter_items c.next.new.self) _ x at.invariant.rest steps;
       left = let was = at.invariant.left in let gone = c.in-Some.ensures.steps.1 in let short = ap length steps in omega arith;

@@ -21,8 +21,10 @@ returns-in_err-card_of-clause-over c =
     let ports_is : c.len-ports.result ≡ vec_len c.args.captures = omega arith in
     let fault = c.in_err-card_of.field-0.0 in
     rw (p.1, p.2)
-    (subst (λ n. (fault ≡ OutOfMemory) ⊎ (first_over (most_for n) 0 (map (traffic_at c.args.table.now c.args.pace) c.args.captures.items) ≡ Some fault)) ports_is
-    (over_refused c.len-ports.result c.args.depth c.args.table.now c.args.pace c.args.captures.items at.yielded rest at.cards.items c.in-Some.capture c.len-port.result c.in_err-card_of.field-0.0 at.invariant.made whole port c.in_err-card_of.ensures.over))
+    (subst (λ n. (fault ≡ OutOfMemory)
+    ⊎ (first_over (most_for n) 0 (map (traffic_at c.args.table.now c.args.pace) c.args.captures.items) ≡ Some fault)) ports_is
+    (over_refused c.len-ports.result c.args.depth c.args.table.now c.args.pace c.args.captures.items at.yielded rest at.cards.items c.in-Some.capture
+    c.len-port.result c.in_err-card_of.field-0.0 at.invariant.made whole port c.in_err-card_of.ensures.over))
 
 pub loop-capture-preserved : goal.loop-capture-preserved
 loop-capture-preserved c =
@@ -41,5 +43,6 @@ loop-capture-preserved c =
       count = let n = at.invariant.count in let m = ap length pushed in grown at.cards.items at.yielded c.push.new.self.items card x n m;
     }
   where
-    grown : {A B : Type 0} (xs : List A) (ys : List B) (pushed : List A) (a : A) (b : B) → length xs ≡ length ys → length pushed ≡ length (xs ++ a ∷ []) → length pushed ≡ length (ys ++ b ∷ [])
+    grown : {A B : Type 0} (xs : List A) (ys : List B) (pushed : List A) (a : A) (b : B) → length xs ≡ length ys → length pushed ≡ length (xs ++ a ∷ [])
+        → length pushed ≡ length (ys ++ b ∷ [])
     grown xs ys pushed a b same more = omega (arith, length-append xs (a ∷ []), length-append ys (b ∷ []))

@@ -13,7 +13,8 @@ returns c =
     let most : c.most_for.result ≡ most_for ports = c.most_for.ensures in (
       λ yes_.
           let all = c.is_end.ensures.0 yes_ in
-          totals_from ports c.args.max_slots slots cells packets c.greatest_slots-slots.ensures c.total_work-cells.ensures (subst (λ m. slots ≤ m) most all.0) (subst (λ m. cells ≤ m) most all.1) all.2,
+          totals_from ports c.args.max_slots slots cells packets c.greatest_slots-slots.ensures c.total_work-cells.ensures (subst (λ m. slots ≤ m) most all.0)
+          (subst (λ m. cells ≤ m) most all.1) all.2,
       λ totals.
           let all = totals_to ports c.args.max_slots slots cells packets c.greatest_slots-slots.ensures c.total_work-cells.ensures totals in
           c.is_end.ensures.1 (subst (λ m. slots ≤ m) (sym most) all.0, subst (λ m. cells ≤ m) (sym most) all.1, all.2),

@@ -19,13 +19,15 @@ returns-in_err-captures-clause-every_refusal g c fault is =
     let answer = c.in_err-captures.field-0.0 in
     let p = err_from_is_err_and c.from_residual-in_err-captures.result c.from_residual-in_err-captures.ensures.1 in
     rw (p.1, p.2)
-    (told_once settings.pace_us text files answer fault (capture_refused settings.pace_us text files ports table answer ports_is good c.in_err-captures.ensures.refused) is)
+    (told_once settings.pace_us text files answer fault
+    (capture_refused settings.pace_us text files ports table answer ports_is good c.in_err-captures.ensures.refused) is)
 
 pub plan_of-requires-clause-routes : goal.plan_of-requires-clause-routes
 plan_of-requires-clause-routes g c =
     let captures = c.in_ok-captures.captures in
     let read = c.in_ok-captures.ensures.read.count in
-    let same : c.len.result ≡ vec_len captures = let ok = c.args.captures.ok.0 in let read_ok = captures.ok.0 in let len = c.len.ensures in omega (arith, read, files_long c.args.captures) in
+    let same : c.len.result ≡ vec_len captures = let ok = c.args.captures.ok.0 in let read_ok = captures.ok.0 in let len = c.len.ensures in
+    omega (arith, read, files_long c.args.captures) in
     subst (λ n. AreRoutesOf n c.in_ok-table.table) same c.in_ok-table.ensures.routes
 
 pub plan_of-requires-clause-read : goal.plan_of-requires-clause-read

@@ -21,18 +21,22 @@ pub cards_of-requires-clause-captures : goal.cards_of-requires-clause-captures
 cards_of-requires-clause-captures c =
     let pace_us = c.args.settings.now.pace_us in
     let captures = c.args.captures.items in
-    let pace_is : c.pace_of-pace.result ≡ pace_of pace_us (map file_of captures) = c.pace_of-pace.ensures ∙ ap (λ (xs : List Capture). pace_of pace_us (map file_of xs)) c.deref-3.ensures.value in
+    let pace_is : c.pace_of-pace.result ≡ pace_of pace_us (map file_of captures) = c.pace_of-pace.ensures
+    ∙ ap (λ (xs : List Capture). pace_of pace_us (map file_of xs)) c.deref-3.ensures.value in
     can_be_planned pace_us c.pace_of-pace.result captures pace_is c.requires.read
 
 pub returns-in_err-cards-clause-refused : goal.returns-in_err-cards-clause-refused
 returns-in_err-cards-clause-refused c =
     let pace_us = c.args.settings.now.pace_us in
     let captures = c.args.captures.items in
-    let pace_is : c.pace_of-pace.result ≡ pace_of pace_us (map file_of captures) = c.pace_of-pace.ensures ∙ ap (λ (xs : List Capture). pace_of pace_us (map file_of xs)) c.deref-3.ensures.value in
-    let unmixed : mixed_links (map file_of captures) ≡ None = ap (λ (xs : List Capture). mixed_links (map file_of xs)) (sym c.deref.ensures.value) ∙ c.in_ok-link.ensures.same in
+    let pace_is : c.pace_of-pace.result ≡ pace_of pace_us (map file_of captures) = c.pace_of-pace.ensures
+    ∙ ap (λ (xs : List Capture). pace_of pace_us (map file_of xs)) c.deref-3.ensures.value in
+    let unmixed : mixed_links (map file_of captures) ≡ None = ap (λ (xs : List Capture). mixed_links (map file_of xs)) (sym c.deref.ensures.value)
+    ∙ c.in_ok-link.ensures.same in
     let p = err_from_is_err_and c.from_residual-in_err-cards.result c.from_residual-in_err-cards.ensures.1 in
     rw (p.1, p.2)
-    (either_way (refused_over c.args.table.now pace_us c.pace_of-pace.result (vec_len c.args.captures) captures c.args.captures.ok.0 pace_is unmixed c.in_err-cards.field-0.0) c.in_err-cards.ensures.over)
+    (either_way (refused_over c.args.table.now pace_us c.pace_of-pace.result
+    (vec_len c.args.captures) captures c.args.captures.ok.0 pace_is unmixed c.in_err-cards.field-0.0) c.in_err-cards.ensures.over)
 
 pub plan_with-requires-clause-few : goal.plan_with-requires-clause-few
 plan_with-requires-clause-few c =
@@ -42,9 +46,12 @@ plan_with-requires-clause-few c =
     let n = vec_len c.args.captures in
     let pace = c.pace_of-pace.result in
     let cards = c.in_ok-cards.cards.items in
-    let pace_is : pace ≡ pace_of settings.pace_us (map file_of captures) = c.pace_of-pace.ensures ∙ ap (λ (xs : List Capture). pace_of settings.pace_us (map file_of xs)) c.deref-3.ensures.value in
-    let unmixed : mixed_links (map file_of captures) ≡ None = ap (λ (xs : List Capture). mixed_links (map file_of xs)) (sym c.deref.ensures.value) ∙ c.in_ok-link.ensures.same in
-    let count = count_is table settings pace n captures cards c.args.captures.ok.0 pace_is unmixed c.requires.routes c.requires.read c.in_ok-cards.ensures.cards in
+    let pace_is : pace ≡ pace_of settings.pace_us (map file_of captures) = c.pace_of-pace.ensures
+    ∙ ap (λ (xs : List Capture). pace_of settings.pace_us (map file_of xs)) c.deref-3.ensures.value in
+    let unmixed : mixed_links (map file_of captures) ≡ None = ap (λ (xs : List Capture). mixed_links (map file_of xs)) (sym c.deref.ensures.value)
+    ∙ c.in_ok-link.ensures.same in
+    let count = count_is table settings pace n captures cards c.args.captures.ok.0 pace_is unmixed c.requires.routes c.requires.read
+    c.in_ok-cards.ensures.cards in
     omega (arith, count)
 
 pub plan_with-requires-clause-packets : goal.plan_with-requires-clause-packets
@@ -55,8 +62,10 @@ plan_with-requires-clause-packets c =
     let n = vec_len c.args.captures in
     let pace = c.pace_of-pace.result in
     let cards = c.in_ok-cards.cards.items in
-    let pace_is : pace ≡ pace_of settings.pace_us (map file_of captures) = c.pace_of-pace.ensures ∙ ap (λ (xs : List Capture). pace_of settings.pace_us (map file_of xs)) c.deref-3.ensures.value in
-    let unmixed : mixed_links (map file_of captures) ≡ None = ap (λ (xs : List Capture). mixed_links (map file_of xs)) (sym c.deref.ensures.value) ∙ c.in_ok-link.ensures.same in
+    let pace_is : pace ≡ pace_of settings.pace_us (map file_of captures) = c.pace_of-pace.ensures
+    ∙ ap (λ (xs : List Capture). pace_of settings.pace_us (map file_of xs)) c.deref-3.ensures.value in
+    let unmixed : mixed_links (map file_of captures) ≡ None = ap (λ (xs : List Capture). mixed_links (map file_of xs)) (sym c.deref.ensures.value)
+    ∙ c.in_ok-link.ensures.same in
     countable_all table settings pace n captures cards c.args.captures.ok.0 pace_is unmixed c.requires.routes c.requires.read c.in_ok-cards.ensures.cards
 
 pub plan_with-requires-clause-slots : goal.plan_with-requires-clause-slots
@@ -67,8 +76,10 @@ plan_with-requires-clause-slots c =
     let n = vec_len c.args.captures in
     let pace = c.pace_of-pace.result in
     let cards = c.in_ok-cards.cards.items in
-    let pace_is : pace ≡ pace_of settings.pace_us (map file_of captures) = c.pace_of-pace.ensures ∙ ap (λ (xs : List Capture). pace_of settings.pace_us (map file_of xs)) c.deref-3.ensures.value in
-    let unmixed : mixed_links (map file_of captures) ≡ None = ap (λ (xs : List Capture). mixed_links (map file_of xs)) (sym c.deref.ensures.value) ∙ c.in_ok-link.ensures.same in
+    let pace_is : pace ≡ pace_of settings.pace_us (map file_of captures) = c.pace_of-pace.ensures
+    ∙ ap (λ (xs : List Capture). pace_of settings.pace_us (map file_of xs)) c.deref-3.ensures.value in
+    let unmixed : mixed_links (map file_of captures) ≡ None = ap (λ (xs : List Capture). mixed_links (map file_of xs)) (sym c.deref.ensures.value)
+    ∙ c.in_ok-link.ensures.same in
     slots_few table settings pace n captures cards c.args.captures.ok.0 pace_is unmixed c.requires.routes c.requires.read c.in_ok-cards.ensures.cards
 
 pub plan_with-requires-clause-long : goal.plan_with-requires-clause-long
@@ -79,8 +90,10 @@ plan_with-requires-clause-long c =
     let n = vec_len c.args.captures in
     let pace = c.pace_of-pace.result in
     let cards = c.in_ok-cards.cards.items in
-    let pace_is : pace ≡ pace_of settings.pace_us (map file_of captures) = c.pace_of-pace.ensures ∙ ap (λ (xs : List Capture). pace_of settings.pace_us (map file_of xs)) c.deref-3.ensures.value in
-    let unmixed : mixed_links (map file_of captures) ≡ None = ap (λ (xs : List Capture). mixed_links (map file_of xs)) (sym c.deref.ensures.value) ∙ c.in_ok-link.ensures.same in
+    let pace_is : pace ≡ pace_of settings.pace_us (map file_of captures) = c.pace_of-pace.ensures
+    ∙ ap (λ (xs : List Capture). pace_of settings.pace_us (map file_of xs)) c.deref-3.ensures.value in
+    let unmixed : mixed_links (map file_of captures) ≡ None = ap (λ (xs : List Capture). mixed_links (map file_of xs)) (sym c.deref.ensures.value)
+    ∙ c.in_ok-link.ensures.same in
     long_within table settings pace n captures cards c.args.captures.ok.0 pace_is unmixed c.requires.routes c.requires.read c.in_ok-cards.ensures.cards
 
 pub returns-clause-good : goal.returns-clause-good
@@ -91,13 +104,17 @@ returns-clause-good c =
     let n = vec_len c.args.captures in
     let pace = c.pace_of-pace.result in
     let cards = c.in_ok-cards.cards.items in
-    let pace_is : pace ≡ pace_of settings.pace_us (map file_of captures) = c.pace_of-pace.ensures ∙ ap (λ (xs : List Capture). pace_of settings.pace_us (map file_of xs)) c.deref-3.ensures.value in
-    let unmixed : mixed_links (map file_of captures) ≡ None = ap (λ (xs : List Capture). mixed_links (map file_of xs)) (sym c.deref.ensures.value) ∙ c.in_ok-link.ensures.same in
+    let pace_is : pace ≡ pace_of settings.pace_us (map file_of captures) = c.pace_of-pace.ensures
+    ∙ ap (λ (xs : List Capture). pace_of settings.pace_us (map file_of xs)) c.deref-3.ensures.value in
+    let unmixed : mixed_links (map file_of captures) ≡ None = ap (λ (xs : List Capture). mixed_links (map file_of xs)) (sym c.deref.ensures.value)
+    ∙ c.in_ok-link.ensures.same in
     let nano = c.is_nano-nano.result in
     let link = c.in_ok-link.link in
-    let nano_is : nano ≡ is_nano (map file_of captures) = c.is_nano-nano.ensures ∙ ap (λ (xs : List Capture). is_nano (map file_of xs)) c.deref-2.ensures.value in
+    let nano_is : nano ≡ is_nano (map file_of captures) = c.is_nano-nano.ensures
+    ∙ ap (λ (xs : List Capture). is_nano (map file_of xs)) c.deref-2.ensures.value in
     IfOk-weaker c.plan_with.result (IsPlanWith settings nano link cards) (λ plan. IsGood (switch_plan_of plan))
-    (λ plan with. plan_good table settings pace n captures cards c.args.captures.ok.0 pace_is unmixed c.requires.routes c.requires.read c.in_ok-cards.ensures.cards c.requires.settings c.requires.some c.requires.few nano link plan with nano_is)
+    (λ plan with. plan_good table settings pace n captures cards c.args.captures.ok.0 pace_is unmixed c.requires.routes c.requires.read
+    c.in_ok-cards.ensures.cards c.requires.settings c.requires.some c.requires.few nano link plan with nano_is)
     c.plan_with.ensures.plan
 
 pub returns-clause-planned : goal.returns-clause-planned
@@ -108,15 +125,25 @@ returns-clause-planned c =
     let n = vec_len c.args.captures in
     let pace = c.pace_of-pace.result in
     let cards = c.in_ok-cards.cards.items in
-    let pace_is : pace ≡ pace_of settings.pace_us (map file_of captures) = c.pace_of-pace.ensures ∙ ap (λ (xs : List Capture). pace_of settings.pace_us (map file_of xs)) c.deref-3.ensures.value in
-    let unmixed : mixed_links (map file_of captures) ≡ None = ap (λ (xs : List Capture). mixed_links (map file_of xs)) (sym c.deref.ensures.value) ∙ c.in_ok-link.ensures.same in
+    let pace_is : pace ≡ pace_of settings.pace_us (map file_of captures) = c.pace_of-pace.ensures
+    ∙ ap (λ (xs : List Capture). pace_of settings.pace_us (map file_of xs)) c.deref-3.ensures.value in
+    let unmixed : mixed_links (map file_of captures) ≡ None = ap (λ (xs : List Capture). mixed_links (map file_of xs)) (sym c.deref.ensures.value)
+    ∙ c.in_ok-link.ensures.same in
     let nano = c.is_nano-nano.result in
     let link = c.in_ok-link.link in
-    let nano_is : nano ≡ is_nano (map file_of captures) = c.is_nano-nano.ensures ∙ ap (λ (xs : List Capture). is_nano (map file_of xs)) c.deref-2.ensures.value in
-    let link_is : link ≡ first_link (map file_of captures) = c.in_ok-link.ensures.link ∙ ap (λ (xs : List Capture). first_link (map file_of xs)) c.deref.ensures.value in
+    let nano_is : nano ≡ is_nano (map file_of captures) = c.is_nano-nano.ensures
+    ∙ ap (λ (xs : List Capture). is_nano (map file_of xs)) c.deref-2.ensures.value in
+    let link_is : link ≡ first_link (map file_of captures) = c.in_ok-link.ensures.link
+    ∙ ap (λ (xs : List Capture). first_link (map file_of xs)) c.deref.ensures.value in
     IfOk-weaker c.plan_with.result (IsPlanWith settings nano link cards)
-    (λ plan. (refusal_of settings.pace_us table (map file_of captures) ≡ None) × IsPlanOf settings (map (λ (capture : Capture). capture.bytes.items) captures) table (map file_of captures) (switch_plan_of plan))
-    (λ plan with. (unrefused table settings pace n captures cards c.args.captures.ok.0 pace_is unmixed c.requires.routes c.requires.read c.in_ok-cards.ensures.cards with.cells, plan_is table settings pace n captures cards c.args.captures.ok.0 pace_is unmixed c.requires.routes c.requires.read c.in_ok-cards.ensures.cards c.requires.settings c.requires.some c.requires.few nano link plan with nano_is link_is))
+    (λ plan. (refusal_of settings.pace_us table (map file_of captures) ≡ None)
+    × IsPlanOf settings (map (λ (capture : Capture). capture.bytes.items) captures) table (map file_of captures) (switch_plan_of plan))
+    (λ plan with. (
+      unrefused table settings pace n captures cards c.args.captures.ok.0 pace_is unmixed c.requires.routes c.requires.read
+          c.in_ok-cards.ensures.cards with.cells,
+      plan_is table settings pace n captures cards c.args.captures.ok.0 pace_is unmixed c.requires.routes c.requires.read c.in_ok-cards.ensures.cards
+          c.requires.settings c.requires.some c.requires.few nano link plan with nano_is link_is,
+    ))
     c.plan_with.ensures.plan
 
 pub returns-clause-refused : goal.returns-clause-refused
@@ -127,9 +154,12 @@ returns-clause-refused c =
     let n = vec_len c.args.captures in
     let pace = c.pace_of-pace.result in
     let cards = c.in_ok-cards.cards.items in
-    let pace_is : pace ≡ pace_of settings.pace_us (map file_of captures) = c.pace_of-pace.ensures ∙ ap (λ (xs : List Capture). pace_of settings.pace_us (map file_of xs)) c.deref-3.ensures.value in
-    let unmixed : mixed_links (map file_of captures) ≡ None = ap (λ (xs : List Capture). mixed_links (map file_of xs)) (sym c.deref.ensures.value) ∙ c.in_ok-link.ensures.same in
+    let pace_is : pace ≡ pace_of settings.pace_us (map file_of captures) = c.pace_of-pace.ensures
+    ∙ ap (λ (xs : List Capture). pace_of settings.pace_us (map file_of xs)) c.deref-3.ensures.value in
+    let unmixed : mixed_links (map file_of captures) ≡ None = ap (λ (xs : List Capture). mixed_links (map file_of xs)) (sym c.deref.ensures.value)
+    ∙ c.in_ok-link.ensures.same in
     IfErr-weaker c.plan_with.result (λ fault. (fault ≡ OutOfMemory) ⊎ (over_work (most_for (length cards)) (packets_of_cards cards) ≡ Some fault))
     (λ fault. (fault ≡ OutOfMemory) ⊎ (refusal_of settings.pace_us table (map file_of captures) ≡ Some fault))
-    (λ fault. either_way (refused_work table settings pace n captures cards c.args.captures.ok.0 pace_is unmixed c.requires.routes c.requires.read c.in_ok-cards.ensures.cards fault))
+    (λ fault. either_way (refused_work table settings pace n captures cards c.args.captures.ok.0 pace_is unmixed c.requires.routes c.requires.read
+    c.in_ok-cards.ensures.cards fault))
     c.plan_with.ensures.over

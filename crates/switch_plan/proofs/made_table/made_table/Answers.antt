@@ -5,4 +5,5 @@ use Rattle.switch_plan.proofs.made_table.made_table.Goals as goal
 
 pub loop-level-preserved : goal.loop-level-preserved
 loop-level-preserved c =
-    c.in_ok-push_level.ensures ∙ ap (λ text. text ++ level_text c.args.ports c.loop-level.level) c.loop-level.invariant ∙ flat_map_next (level_text c.args.ports) [] c.loop-level.level
+    c.in_ok-push_level.ensures ∙ ap (λ text. text ++ level_text c.args.ports c.loop-level.level) c.loop-level.invariant
+    ∙ flat_map_next (level_text c.args.ports) [] c.loop-level.level

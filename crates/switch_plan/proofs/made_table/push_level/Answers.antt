@@ -6,4 +6,5 @@ use Rattle.switch_plan.proofs.made_table.push_level.Goals as goal
 
 pub loop-group-preserved : goal.loop-group-preserved
 loop-group-preserved c =
-    c.in_ok-push_group.ensures ∙ ap (λ text. text ++ group_text c.args.ports c.args.level c.loop-group.group) c.loop-group.invariant ∙ flat_map_next (group_text c.args.ports c.args.level) (string_bytes c.args.text.now) c.loop-group.group
+    c.in_ok-push_group.ensures ∙ ap (λ text. text ++ group_text c.args.ports c.args.level c.loop-group.group) c.loop-group.invariant
+    ∙ flat_map_next (group_text c.args.ports c.args.level) (string_bytes c.args.text.now) c.loop-group.group

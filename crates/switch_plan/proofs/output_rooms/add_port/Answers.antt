@@ -12,7 +12,8 @@ use Rattle.switch_plan.proofs.output_rooms.add_port.Goals as goal
 
 pub port_rooms-brought-requires : goal.port_rooms-brought-requires
 port_rooms-brought-requires c =
-    subst (λ (xs : List Planned). AreCountable xs) (sym (c.deref.ensures.value ∙ ap (λ (x : CardPlan). x.packets.items) (sym c.index-cards-input.is))) (countable_at c.args.cards.now c.args.input c.index-cards-input.result c.requires.packets c.requires.input c.index-cards-input.is)
+    subst (λ (xs : List Planned). AreCountable xs) (sym (c.deref.ensures.value ∙ ap (λ (x : CardPlan). x.packets.items) (sym c.index-cards-input.is)))
+    (countable_at c.args.cards.now c.args.input c.index-cards-input.result c.requires.packets c.requires.input c.index-cards-input.is)
 
 pub add_room-requires-clause-bytes : goal.add_room-requires-clause-bytes
 add_room-requires-clause-bytes c =
@@ -28,7 +29,8 @@ add_room-requires-clause-bytes c =
     let below : output < 64 = omega arith in
     let so = inv.left output room (omega arith) (slice_get_read rooms (length rooms) output room refl inside c.index_mut.ensures.value) in
     let countable = countable_at cards c.args.input card c.requires.packets c.requires.input c.index-cards-input.is in
-    let more = c.port_rooms-brought.ensures output below ∙ ap (room_for output) (c.deref.ensures.value ∙ ap (λ (x : CardPlan). x.packets.items) (sym c.index-cards-input.is)) in
+    let more = c.port_rooms-brought.ensures output below
+    ∙ ap (room_for output) (c.deref.ensures.value ∙ ap (λ (x : CardPlan). x.packets.items) (sym c.index-cards-input.is)) in
     (sums_fit output cards c.args.input card room (room_at c.port_rooms-brought.result output) c.requires.few c.requires.input countable more so).0
 
 pub add_room-requires-clause-messages : goal.add_room-requires-clause-messages
@@ -45,7 +47,8 @@ add_room-requires-clause-messages c =
     let below : output < 64 = omega arith in
     let so = inv.left output room (omega arith) (slice_get_read rooms (length rooms) output room refl inside c.index_mut.ensures.value) in
     let countable = countable_at cards c.args.input card c.requires.packets c.requires.input c.index-cards-input.is in
-    let more = c.port_rooms-brought.ensures output below ∙ ap (room_for output) (c.deref.ensures.value ∙ ap (λ (x : CardPlan). x.packets.items) (sym c.index-cards-input.is)) in
+    let more = c.port_rooms-brought.ensures output below
+    ∙ ap (room_for output) (c.deref.ensures.value ∙ ap (λ (x : CardPlan). x.packets.items) (sym c.index-cards-input.is)) in
     (sums_fit output cards c.args.input card room (room_at c.port_rooms-brought.result output) c.requires.few c.requires.input countable more so).1
 
 pub loop-output-preserved : goal.loop-output-preserved
@@ -64,9 +67,11 @@ loop-output-preserved c =
     let below : output < 64 = omega arith in
     let so = inv.left output room (omega arith) (slice_get_read rooms (length rooms) output room refl inside c.index_mut.ensures.value) in
     let countable = countable_at cards input card c.requires.packets c.requires.input c.index-cards-input.is in
-    let more = c.port_rooms-brought.ensures output below ∙ ap (room_for output) (c.deref.ensures.value ∙ ap (λ (x : CardPlan). x.packets.items) (sym c.index-cards-input.is)) in
+    let more = c.port_rooms-brought.ensures output below
+    ∙ ap (room_for output) (c.deref.ensures.value ∙ ap (λ (x : CardPlan). x.packets.items) (sym c.index-cards-input.is)) in
     let added = c.in_ok-add_room.ensures in
-    let next = room_next output cards input card room new (room_at c.port_rooms-brought.result output) c.requires.input c.index-cards-input.is countable more so added.sizes added.bytes added.messages in
+    let next = room_next output cards input card room new
+    (room_at c.port_rooms-brought.result output) c.requires.input c.index-cards-input.is countable more so added.sizes added.bytes added.messages in
     record {
       count = length-set rooms output new ∙ inv.count;
       done = λ o r less is. elim (got_set rooms output o new r is) [

@@ -13,4 +13,5 @@ returns c =
     let cards = c.args.cards.now in
     let past : length cards ≤ c.loop-input.input = omega arith in
     let long = length_map (λ (card : CardPlan). card.packets.items) cards in
-    subst (λ ps. AreRoomsOf (length cards) ps c.loop-input.rooms.items) (take_all (packets_of_cards cards) c.loop-input.input (omega arith)) c.loop-input.invariant
+    subst (λ ps. AreRoomsOf (length cards) ps c.loop-input.rooms.items)
+    (take_all (packets_of_cards cards) c.loop-input.input (omega arith)) c.loop-input.invariant

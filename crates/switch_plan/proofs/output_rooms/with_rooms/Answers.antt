@@ -48,9 +48,11 @@ loop-output-preserved c =
     let inside : output < length now = omega arith in
     let within : output < length rooms = omega arith in
     let so = inv.left output room (omega arith) (slice_get_read rooms (length rooms) output room refl within c.index_mut-in-loop-output.ensures.value) in
-    let sized = subst (λ ps. IsSized ps output card c.fill.new.card) (sym inv.filled.packets) (IsSized-made (packets_of_cards old) output card c.fill.new.card room c.fill.ensures so) in
+    let sized = subst (λ ps. IsSized ps output card c.fill.new.card) (sym inv.filled.packets)
+    (IsSized-made (packets_of_cards old) output card c.fill.new.card room c.fill.ensures so) in
     record {
-      filled = AreFilled-more output old now card c.fill.new.card inv.filled (slice_get_read now (length now) output card refl inside c.index_mut.ensures.value) sized;
+      filled = AreFilled-more output old now card c.fill.new.card inv.filled
+          (slice_get_read now (length now) output card refl inside c.index_mut.ensures.value) sized;
       count = length-set rooms output c.fill.new.room ∙ inv.count;
       left = λ o r from is. elim (got_set rooms output o c.fill.new.room r is) [
         | inl both ↦ absurd (let here = both.0 in omega arith)

@@ -10,5 +10,6 @@ abbrev pub invariant-loop-output : goal.invariant-loop-output
 invariant-loop-output l = record {
   filled : AreFilled l.output l.fn.cards.items l.cards.items;
   count : length l.rooms.items ≡ length l.fn.cards.items;
-  left : (output : ℕ) (room : OutputRoom) → l.output ≤ output → slice_get l.rooms.items output ≡ Some room → IsRoomOf output (packets_of_cards l.fn.cards.items) room;
+  left : (output : ℕ) (room : OutputRoom) → l.output ≤ output → slice_get l.rooms.items output ≡ Some room
+      → IsRoomOf output (packets_of_cards l.fn.cards.items) room;
 }

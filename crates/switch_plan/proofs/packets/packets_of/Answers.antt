@@ -17,10 +17,12 @@ loop-k-preserved c =
     let same : c.index.result.now ≡ stored = c.index.ensures ∙ at_any capture.packets.items k c.index.result.now no_stored inside in
     let is = c.planned.ensures.packet capture.bytes.items (ap (captured_in capture.bytes.items) same ∙ sym (c.body-frame.ensures.place no_stored)) in
     record {
-      made = planned_next c.args.table.now capture.link capture.bytes.items capture.packets.items c.args.slots.now k c.loop-k.packets.items c.push.new.self.items c.planned.result c.in_ok-push.ensures.items inside c.requires.slots
+      made = planned_next c.args.table.now capture.link capture.bytes.items capture.packets.items c.args.slots.now k c.loop-k.packets.items
+          c.push.new.self.items c.planned.result c.in_ok-push.ensures.items inside c.requires.slots
           (is ∙ ap (λ s. planned c.args.table.now capture.link (packet_in capture.bytes.items s) (slice_index_or c.args.slots.now k 0)) same)
           c.loop-k.invariant.made;
-      places = made_next (λ packet. packet.start) c.loop-k.packets.items c.push.new.self.items (map (λ (s : Stored). s.start) capture.packets.items) c.planned.result k 0 c.in_ok-push.ensures.items
+      places = made_next (λ packet. packet.start) c.loop-k.packets.items c.push.new.self.items
+          (map (λ (s : Stored). s.start) capture.packets.items) c.planned.result k 0 c.in_ok-push.ensures.items
           (c.planned.ensures.start ∙ ap (λ (s : Stored). s.start) same ∙ sym (at_map (λ (s : Stored). s.start) capture.packets.items k no_stored))
           (let l = length_map (λ (s : Stored). s.start) capture.packets.items in omega arith)
           c.loop-k.invariant.places;
@@ -38,5 +40,7 @@ returns c =
     let made_long = length_map (λ pair. planned c.args.table.now capture.link pair.0 pair.1) (zip packets slots) in
     record {
       packets_are = c.loop-k.invariant.made ∙ take_all (map (λ pair. planned c.args.table.now capture.link pair.0 pair.1) (zip packets slots)) k (omega arith);
-      places = c.loop-k.invariant.places ∙ take_all (map (λ (s : Stored). s.start) capture.packets.items) k (let l = length_map (λ (s : Stored). s.start) capture.packets.items in omega arith);
+      places = c.loop-k.invariant.places
+          ∙ take_all (map (λ (s : Stored). s.start) capture.packets.items) k
+          (let l = length_map (λ (s : Stored). s.start) capture.packets.items in omega arith);
     }

@@ -7,10 +7,12 @@ use Rattle.switch_plan.proofs.OnePass.{packet_aside, packet_here, packet_else}
 use Rattle.switch_plan.proofs.port_rooms.add_packet.Goals as goal
 
 pub without-rest-requires : goal.without-rest-requires
-without-rest-requires c = Has-lt 64 c.args.packet.now.fan c.in-Some.output (omega arith) (c.loop-output.invariant.inside c.in-Some.output c.in-Some.ensures.member)
+without-rest-requires c =
+    Has-lt 64 c.args.packet.now.fan c.in-Some.output (omega arith) (c.loop-output.invariant.inside c.in-Some.output c.in-Some.ensures.member)
 
 pub bounds-rooms-output : goal.bounds-rooms-output
-bounds-rooms-output c = Has-lt 64 c.args.packet.now.fan c.in-Some.output (omega arith) (c.loop-output.invariant.inside c.in-Some.output c.in-Some.ensures.member)
+bounds-rooms-output c = Has-lt 64 c.args.packet.now.fan c.in-Some.output (omega arith)
+    (c.loop-output.invariant.inside c.in-Some.output c.in-Some.ensures.member)
 
 pub loop-output-init : goal.loop-output-init
 loop-output-init c = record {

@@ -14,5 +14,6 @@ add_packet-requires-clause-few c = λ output inside.
 pub loop-packet-preserved : goal.loop-packet-preserved
 loop-packet-preserved c = record {
   long = c.add_packet.array_long;
-  rooms = λ output inside. rooms_next output c.loop-packet.packet-index c.loop-packet.rooms c.add_packet.new.rooms c.args.packets.now c.loop-packet-test.true (c.loop-packet.invariant.rooms output inside) (c.add_packet.ensures output inside);
+  rooms = λ output inside. rooms_next output c.loop-packet.packet-index c.loop-packet.rooms c.add_packet.new.rooms c.args.packets.now c.loop-packet-test.true
+      (c.loop-packet.invariant.rooms output inside) (c.add_packet.ensures output inside);
 }

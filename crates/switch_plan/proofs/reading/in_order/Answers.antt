@@ -9,7 +9,8 @@ use Rattle.switch_plan.proofs.reading.in_order.Goals as goal
 pub returns-clause-read : goal.returns-clause-read
 returns-clause-read c files read =
     let at = c.loop-answer in
-    let none : into_iter_items at.answer-iterator ≡ [] = empty_list (into_iter_items at.answer-iterator) (let left = at.invariant.left in let n = c.in-None.ensures.steps.0 in omega arith) in
+    let none : into_iter_items at.answer-iterator ≡ [] =
+    empty_list (into_iter_items at.answer-iterator) (let left = at.invariant.left in let n = c.in-None.ensures.steps.0 in omega arith) in
     all_read files c.args.answers.items at.captures.items read
     (ap (λ ys. ys ++ []) at.invariant.read ∙ ap (λ xs. at.yielded ++ xs) (sym none) ∙ at.invariant.rest ∙ c.into_iter-answer-iterator.ensures.into_iter_gives.0)
 

@@ -8,7 +8,8 @@ use Rattle.switch_plan.proofs.rooms.body_room.Goals as goal
 
 pub port_bytes-bytes-requires-clause-packets : goal.port_bytes-bytes-requires-clause-packets
 port_bytes-bytes-requires-clause-packets c =
-    subst (λ (xs : List Planned). AreCountable xs) (sym c.deref.ensures.value) (countable_at c.args.cards.now c.loop-card.card-index c.card-item.result c.requires.packets c.loop-card-test.true c.card-item.is)
+    subst (λ (xs : List Planned). AreCountable xs) (sym c.deref.ensures.value)
+    (countable_at c.args.cards.now c.loop-card.card-index c.card-item.result c.requires.packets c.loop-card-test.true c.card-item.is)
 
 pub loop-card-preserved : goal.loop-card-preserved
 loop-card-preserved c =
@@ -16,6 +17,7 @@ loop-card-preserved c =
     let next = bytes_next c.args.output c.args.cards.now c.loop-card.card-index c.card-item.result c.loop-card-test.true c.card-item.is in
     let few = c.port_bytes-bytes.ensures.few in
     record {
-      value = ap (λ a. a + c.port_bytes-bytes.result) c.loop-card.invariant.value ∙ ap (λ b. body_room_for c.args.output (take c.loop-card.card-index (packets_of_cards c.args.cards.now)) + b) here ∙ sym next;
+      value = ap (λ a. a + c.port_bytes-bytes.result) c.loop-card.invariant.value
+          ∙ ap (λ b. body_room_for c.args.output (take c.loop-card.card-index (packets_of_cards c.args.cards.now)) + b) here ∙ sym next;
       few = omega (arith, few);
     }

@@ -8,7 +8,8 @@ use Rattle.switch_plan.proofs.rooms.packet_room.Goals as goal
 
 pub port_messages-messages-requires-clause-packets : goal.port_messages-messages-requires-clause-packets
 port_messages-messages-requires-clause-packets c =
-    subst (λ (xs : List Planned). length xs ≤ 131072) (sym c.deref.ensures.value) (countable_at c.args.cards.now c.loop-card.card-index c.card-item.result c.requires.packets c.loop-card-test.true c.card-item.is).few
+    subst (λ (xs : List Planned). length xs ≤ 131072) (sym c.deref.ensures.value)
+    (countable_at c.args.cards.now c.loop-card.card-index c.card-item.result c.requires.packets c.loop-card-test.true c.card-item.is).few
 
 pub loop-card-preserved : goal.loop-card-preserved
 loop-card-preserved c =
@@ -16,6 +17,7 @@ loop-card-preserved c =
     let next = messages_next c.args.output c.args.cards.now c.loop-card.card-index c.card-item.result c.loop-card-test.true c.card-item.is in
     let few = c.port_messages-messages.ensures.few in
     record {
-      value = ap (λ a. a + c.port_messages-messages.result) c.loop-card.invariant.value ∙ ap (λ b. packet_room_for c.args.output (take c.loop-card.card-index (packets_of_cards c.args.cards.now)) + b) here ∙ sym next;
+      value = ap (λ a. a + c.port_messages-messages.result) c.loop-card.invariant.value
+          ∙ ap (λ b. packet_room_for c.args.output (take c.loop-card.card-index (packets_of_cards c.args.cards.now)) + b) here ∙ sym next;
       few = omega (arith, few);
     }

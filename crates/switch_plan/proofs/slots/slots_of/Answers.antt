@@ -12,7 +12,8 @@ use Rattle.switch_plan.proofs.Arriving.{all_can_come}
 use Rattle.switch_plan.proofs.slots.slots_of.Goals as goal
 
 -- the stamps that the line is given are those of the capture's packets
-stamps_are : (capture : Capture) (packets : List Stored) (given stamps : List Stamp) → All (IsWithin capture.bytes.items) capture.packets.items → packets ≡ capture.packets.items → given ≡ stamps
+stamps_are : (capture : Capture) (packets : List Stored) (given stamps : List Stamp) → All (IsWithin capture.bytes.items) capture.packets.items
+    → packets ≡ capture.packets.items → given ≡ stamps
     → ((bytes : List ℕ) → All (IsWithin bytes) packets → stamps ≡ map stamp_of (map (packet_in bytes) packets)) → given ≡ map stamp_of (packets_of capture)
 stamps_are capture packets given stamps within same given_is are =
     let bytes = capture.bytes.items in
@@ -23,12 +24,17 @@ stamps_are capture packets given stamps within same given_is are =
 pub arrivals-requires-clause-packets : goal.arrivals-requires-clause-packets
 arrivals-requires-clause-packets c =
     let capture = c.args.capture.now in
-    subst (λ (xs : List Stamp). All (CanCome c.args.pace) xs) (sym (stamps_are c.args.capture.now c.deref.result.now c.deref-2.result.now c.in_ok-stamps.stamps.items c.requires.within c.deref.ensures.value c.deref-2.ensures.value c.in_ok-stamps.ensures)) (all_can_come c.args.pace capture.bytes.items capture.packets.items c.requires.within c.requires.times c.requires.short)
+    subst (λ (xs : List Stamp). All (CanCome c.args.pace) xs)
+    (sym (stamps_are c.args.capture.now c.deref.result.now c.deref-2.result.now c.in_ok-stamps.stamps.items c.requires.within c.deref.ensures.value
+    c.deref-2.ensures.value c.in_ok-stamps.ensures))
+    (all_can_come c.args.pace capture.bytes.items capture.packets.items c.requires.within c.requires.times c.requires.short)
 
 pub arrivals-requires-clause-few : goal.arrivals-requires-clause-few
 arrivals-requires-clause-few c =
     let capture = c.args.capture.now in
-    let long = ap length (stamps_are c.args.capture.now c.deref.result.now c.deref-2.result.now c.in_ok-stamps.stamps.items c.requires.within c.deref.ensures.value c.deref-2.ensures.value c.in_ok-stamps.ensures) ∙ length_map stamp_of (packets_of capture) ∙ length_map (packet_in capture.bytes.items) capture.packets.items in
+    let long = ap length (stamps_are c.args.capture.now c.deref.result.now c.deref-2.result.now c.in_ok-stamps.stamps.items c.requires.within
+    c.deref.ensures.value c.deref-2.ensures.value c.in_ok-stamps.ensures) ∙ length_map stamp_of (packets_of capture)
+    ∙ length_map (packet_in capture.bytes.items) capture.packets.items in
     let few = c.requires.few in
     omega (arith, long, few)
 
@@ -36,7 +42,9 @@ pub returns-in-Err-TooLong-clause-over : goal.returns-in-Err-TooLong-clause-over
 returns-in-Err-TooLong-clause-over c =
     let taken : List Stamp → ℕ = λ stamps. slots_taken (arrival_slots c.args.pace stamps) in
     let too_long = (c.in-Err-TooLong.ensures.too_long c.in-Err-TooLong.slots).0 (ap (λ e. Err e) c.in-Err-TooLong.field-0-is) in
-    let here : c.in-Err-TooLong.slots ≡ taken (map stamp_of (packets_of c.args.capture.now)) = too_long.0 ∙ ap taken (stamps_are c.args.capture.now c.deref.result.now c.deref-2.result.now c.in_ok-stamps.stamps.items c.requires.within c.deref.ensures.value c.deref-2.ensures.value c.in_ok-stamps.ensures) in
+    let here : c.in-Err-TooLong.slots ≡ taken (map stamp_of (packets_of c.args.capture.now)) = too_long.0
+    ∙ ap taken (stamps_are c.args.capture.now c.deref.result.now c.deref-2.result.now c.in_ok-stamps.stamps.items c.requires.within c.deref.ensures.value
+    c.deref-2.ensures.value c.in_ok-stamps.ensures) in
     let over = too_long.1 in
     let most = c.requires.most in
     inr (ap (TooManySlots c.args.port) here, omega (arith, here, over, most))

@@ -8,7 +8,8 @@ use Rattle.switch_plan.proofs.totals.total_work.Goals as goal
 
 pub port_work-work-requires : goal.port_work-work-requires
 port_work-work-requires c =
-    subst (λ (xs : List Planned). AreCountable xs) (sym c.deref.ensures.value) (countable_at c.args.cards.now c.loop-card.card-index c.card-item.result c.requires.packets c.loop-card-test.true c.card-item.is)
+    subst (λ (xs : List Planned). AreCountable xs) (sym c.deref.ensures.value)
+    (countable_at c.args.cards.now c.loop-card.card-index c.card-item.result c.requires.packets c.loop-card-test.true c.card-item.is)
 
 pub loop-card-preserved : goal.loop-card-preserved
 loop-card-preserved c =
@@ -16,6 +17,7 @@ loop-card-preserved c =
     let next = work_next c.args.cards.now c.loop-card.card-index c.card-item.result c.loop-card-test.true c.card-item.is in
     let few = c.port_work-work.ensures.few in
     record {
-      value = ap (λ a. a + c.port_work-work.result) c.loop-card.invariant.value ∙ ap (λ b. total_work (take c.loop-card.card-index (packets_of_cards c.args.cards.now)) + b) here ∙ sym next;
+      value = ap (λ a. a + c.port_work-work.result) c.loop-card.invariant.value
+          ∙ ap (λ b. total_work (take c.loop-card.card-index (packets_of_cards c.args.cards.now)) + b) here ∙ sym next;
       few = omega (arith, few);
     }

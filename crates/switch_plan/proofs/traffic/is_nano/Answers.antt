@@ -13,5 +13,6 @@ any_file (capture ∷ captures) = ap (λ b. capture.nano || b) (any_file capture
 
 pub returns : goal.returns
 returns c =
-    any_from_yields_List (λ (capture : Capture). capture.nano) _ _ _ c.any.ensures.ran (YieldsList-from_slice c.args.captures.now cc) (λ x b q k. search (rules, tests))
+    any_from_yields_List (λ (capture : Capture). capture.nano) _ _ _ c.any.ensures.ran (YieldsList-from_slice c.args.captures.now cc)
+    (λ x b q k. search (rules, tests))
     ∙ any_file c.args.captures.now

@@ -4,4 +4,10 @@ use Rattle.turn_lock.proofs.Freeing.{free_of}
 use Rattle.turn_lock.proofs.steps.free.Goals as goal
 
 pub store-requires : goal.store-requires
-store-requires g c = (c.requires.table, omega (arith, c.requires.words), free_of g.K.Kept.entries g.K.Kept.numbers g.K.Kept.may_add (opening g.K.Kept.entries g.K.Kept.numbers c.args.words.now.key.value.value c.args.words.now.key.seats) c.args.words.now.table_id.slots c.args.seat.now.id c.args.seat.now.me c.requires.live c.requires.may)
+store-requires g c = (
+  c.requires.table,
+  omega (arith, c.requires.words),
+  free_of g.K.Kept.entries g.K.Kept.numbers g.K.Kept.may_add
+      (opening g.K.Kept.entries g.K.Kept.numbers c.args.words.now.key.value.value c.args.words.now.key.seats) c.args.words.now.table_id.slots
+          c.args.seat.now.id c.args.seat.now.me c.requires.live c.requires.may,
+)

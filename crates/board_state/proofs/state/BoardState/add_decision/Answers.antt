@@ -25,7 +25,8 @@ push_reserved-requires c = (next_slot c.self.invariant c.self.view_is c.requires
 
 pub decide_in-numbers-requires-clause-rows : goal.decide_in-numbers-requires-clause-rows
 decide_in-numbers-requires-clause-rows c =
-    rw (c.put_rows.ensures.rows, c.posts_at-posts.ensures, c.deref.ensures.value) (next_slot c.self.invariant c.self.view_is c.requires c.len-slot.ensures).within
+    rw (c.put_rows.ensures.rows, c.posts_at-posts.ensures, c.deref.ensures.value)
+    (next_slot c.self.invariant c.self.view_is c.requires c.len-slot.ensures).within
 
 pub decide_in-numbers-requires-clause-pointers : goal.decide_in-numbers-requires-clause-pointers
 decide_in-numbers-requires-clause-pointers c = (next_slot c.self.invariant c.self.view_is c.requires c.len-slot.ensures).pointers
@@ -45,7 +46,8 @@ invariant_of-self c =
     let decision : Decision = record { matched = made.out; numbers = c.decide_in-numbers.result; places = made.p } in
     let last = c.is_last-self-inside.result in
     let found = c.posts_at-posts.ensures ∙ ap (posts_of_slot s.ports c.len-slot.result) c.deref.ensures.value in
-    let is = c.decide_in-numbers.ensures.decision ∙ ap (λ rows. decision_of s.ports s.rounds c.len-slot.result rows s.pointers) c.put_rows.ensures.rows ∙ next.decision _ found in
+    let is = c.decide_in-numbers.ensures.decision ∙ ap (λ rows. decision_of s.ports s.rounds c.len-slot.result rows s.pointers) c.put_rows.ensures.rows
+    ∙ next.decision _ found in
     let done = c.is_last-self-inside.ensures ∙ next.done _ found in
     let at_end : c.len-slot.result ≡ length s.matches.items = omega (arith, c.len-slot.ensures, s.matches.ok) in
     let matches =
@@ -58,9 +60,15 @@ invariant_of-self c =
           (IsKept-decide kept decision last next.may is done);
       parts = rw (c.push_reserved.ensures.items, matches) (λ t i e below.
           let at : t ≡ length s.matches.items = omega (arith, e, length_push s.matches.items made.out) in
-          let found : c.index.result.now ≡ made.out = c.index.ensures ∙ ap (λ m. slice_index_or m c.len-slot.result c.index.result.now) (ap (λ m. slice_set m c.len-slot.result made.out) c.push_reserved.ensures.items ∙ matches) ∙ ap (λ (k : ℕ). slice_index_or (s.matches.items ++ made.out ∷ []) k c.index.result.now) at_end ∙ get_or-append_seam s.matches.items made.out [] c.index.result.now in
+          let found : c.index.result.now ≡ made.out = c.index.ensures
+          ∙ ap (λ m. slice_index_or m c.len-slot.result c.index.result.now)
+          (ap (λ m. slice_set m c.len-slot.result made.out) c.push_reserved.ensures.items ∙ matches)
+          ∙ ap (λ (k : ℕ). slice_index_or (s.matches.items ++ made.out ∷ []) k c.index.result.now) at_end
+          ∙ get_or-append_seam s.matches.items made.out [] c.index.result.now in
           let wide : i < length c.index.result.now = let count = c.decide_in-numbers.ensures.whole.count in let same = ap length found in omega arith in
-          c.put_parts.ensures.parts i wide ∙ ap (λ m. served_of m i) found ∙ sym (ap (λ m. served_of m i) (ap (λ (k : ℕ). slice_index_or (s.matches.items ++ made.out ∷ []) k []) at ∙ get_or-append_seam s.matches.items made.out [] [])));
+          c.put_parts.ensures.parts i wide ∙ ap (λ m. served_of m i) found
+          ∙ sym (ap (λ m. served_of m i) (ap (λ (k : ℕ). slice_index_or (s.matches.items ++ made.out ∷ []) k []) at
+          ∙ get_or-append_seam s.matches.items made.out [] [])));
       room =
           rw (c.push_reserved.ensures.capacity, c.push_reserved-2.ensures.capacity, c.push_reserved-3.ensures.capacity)
           c.self.invariant.room;
@@ -75,5 +83,6 @@ returns-clause-numbers c =
     let s = c.self.inside in
     let next = next_slot c.self.invariant c.self.view_is c.requires c.len-slot.ensures in
     let found = c.posts_at-posts.ensures ∙ ap (posts_of_slot s.ports c.len-slot.result) c.deref.ensures.value in
-    let is = c.decide_in-numbers.ensures.decision ∙ ap (λ rows. decision_of s.ports s.rounds c.len-slot.result rows s.pointers) c.put_rows.ensures.rows ∙ next.decision _ found in
+    let is = c.decide_in-numbers.ensures.decision ∙ ap (λ rows. decision_of s.ports s.rounds c.len-slot.result rows s.pointers) c.put_rows.ensures.rows
+    ∙ next.decision _ found in
     ap (λ (d : Decision). d.numbers) is ∙ ap (λ b. (decision_at b.setup (posted b.events) (decides b.events)).numbers) c.self.view_is

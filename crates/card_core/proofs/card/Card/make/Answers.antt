@@ -19,10 +19,21 @@ make-requires-2 c = c.requires
 
 pub invariant_of-result : goal.invariant_of-result
 invariant_of-result c =
-    let received = c.in_ok-egress.ensures ∙ ap (λ xs. received_of (record { ports = c.args.plan.n; flows = map fresh xs }) [] [] 0 c.args.plan.body_room c.args.plan.packet_room) c.deref.ensures.value in
-    ([], subst (IsAfter (card_of c.in_ok-make.field-0 c.in_ok-egress.egress false) []) (sym c.in_ok-make.ensures.sent.phase) (begun_after (plan_of c.args.plan) c.in_ok-make.field-0 c.in_ok-egress.egress c.in_ok-make.ensures.sent c.in_ok-make.ensures.plan received))
+    let received = c.in_ok-egress.ensures
+    ∙ ap (λ xs. received_of (record
+    { ports = c.args.plan.n; flows = map fresh xs }) [] [] 0 c.args.plan.body_room c.args.plan.packet_room) c.deref.ensures.value in (
+      [],
+      subst (IsAfter (card_of c.in_ok-make.field-0 c.in_ok-egress.egress false) []) (sym c.in_ok-make.ensures.sent.phase)
+          (begun_after (plan_of c.args.plan) c.in_ok-make.field-0 c.in_ok-egress.egress c.in_ok-make.ensures.sent c.in_ok-make.ensures.plan received),
+    )
 
 pub returns : goal.returns
 returns c =
-    let received = c.in_ok-egress.ensures ∙ ap (λ xs. received_of (record { ports = c.args.plan.n; flows = map fresh xs }) [] [] 0 c.args.plan.body_room c.args.plan.packet_room) c.deref.ensures.value in
-    record { after = begun_after (plan_of c.args.plan) c.in_ok-make.field-0 c.in_ok-egress.egress c.in_ok-make.ensures.sent c.in_ok-make.ensures.plan received; plan = c.in_ok-make.ensures.plan }
+    let received = c.in_ok-egress.ensures
+    ∙ ap (λ xs. received_of (record
+    { ports = c.args.plan.n; flows = map fresh xs }) [] [] 0 c.args.plan.body_room c.args.plan.packet_room) c.deref.ensures.value in
+    record {
+      after = begun_after
+          (plan_of c.args.plan) c.in_ok-make.field-0 c.in_ok-egress.egress c.in_ok-make.ensures.sent c.in_ok-make.ensures.plan received;
+      plan = c.in_ok-make.ensures.plan;
+    }

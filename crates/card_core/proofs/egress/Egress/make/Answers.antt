@@ -3,7 +3,8 @@ use Rattle.reassembly.specs.Flows.{fresh}
 use Rattle.card_core.specs.Cards.{AreFull, IsRoom}
 use Rattle.card_core.proofs.egress.Egress.make.Goals as goal
 
-fresh_at : (sizes : List ℕ) (place : ℕ) → length (slice_index_or (map fresh sizes) place (fresh 0)).bytes ≡ 56 * (slice_index_or (map fresh sizes) place (fresh 0)).next
+fresh_at : (sizes : List ℕ) (place : ℕ)
+    → length (slice_index_or (map fresh sizes) place (fresh 0)).bytes ≡ 56 * (slice_index_or (map fresh sizes) place (fresh 0)).next
 fresh_at [] place = refl
 fresh_at (size ∷ sizes) zero = refl
 fresh_at (size ∷ sizes) (suc place) = fresh_at sizes place

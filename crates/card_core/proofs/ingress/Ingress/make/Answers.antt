@@ -13,12 +13,14 @@ use Rattle.card_core.proofs.ingress.Ingress.make.Goals as goal
 few_at : (xs : List ℕ) (most : ℕ) → most ≤ 131072 → ((place : ℕ) → slice_index xs place ≤ most) → (k d : ℕ) → k < length xs → slice_index_or xs k d ≤ 131072
 few_at xs most small few k d inside = let e = get_or_default xs k d 0 inside in let f : slice_index_or xs k 0 ≤ most = few k in omega arith
 
-made : (plan : Plan) (row : Row) (uni fan : List ℕ) (banks : UniQueues) (fans : FanQueues) → IsGoodPlan plan → HasRooms plan.ports plan.packets uni fan → banks ≡ empty_unis plan.ports plan.depth uni → fans ≡ empty_fans plan.ports plan.depth fan
+made : (plan : Plan) (row : Row) (uni fan : List ℕ) (banks : UniQueues) (fans : FanQueues) → IsGoodPlan plan → HasRooms plan.ports plan.packets uni fan
+    → banks ≡ empty_unis plan.ports plan.depth uni → fans ≡ empty_fans plan.ports plan.depth fan
     → HasSent (state_of plan 0 0 false None row 0 0 banks fans) [] false
 made plan row uni fan banks fans good rooms are fans_are =
     subst (λ b. HasSent (state_of plan 0 0 false None row 0 0 b fans) [] false) (sym are)
     (subst (λ f. HasSent (state_of plan 0 0 false None row 0 0 (empty_unis plan.ports plan.depth uni) f) [] false) (sym fans_are)
-    (begins plan row uni fan good (λ j l inside below. let e = rooms.unis j l inside below in omega arith) (λ l below. let e = rooms.fans l below in omega arith)))
+    (begins plan row uni fan good (λ j l inside below. let e = rooms.unis j l inside below in omega arith)
+    (λ l below. let e = rooms.fans l below in omega arith)))
 
 pub count_rooms-requires : goal.count_rooms-requires
 count_rooms-requires c =
@@ -37,7 +39,8 @@ make-requires c =
       depth = c.requires.depth;
       queues = ap length c.deref-2.ensures.value ∙ c.in_ok-room.ensures.rooms.long;
       room = subst (λ (xs : List ℕ). (k d : ℕ) → k < length xs → slice_index_or xs k d ≤ 131072) (sym c.deref-2.ensures.value)
-          (few_at c.in_ok-room.room.unicast.items (length c.deref.result.now) (let f = few_packets (plan_of c.args.plan) c.requires in let e = ap length c.deref.ensures.value in omega arith) c.in_ok-room.ensures.few.unis);
+          (few_at c.in_ok-room.room.unicast.items (length c.deref.result.now)
+          (let f = few_packets (plan_of c.args.plan) c.requires in let e = ap length c.deref.ensures.value in omega arith) c.in_ok-room.ensures.few.unis);
     }
 
 pub make-requires-2 : goal.make-requires-2
@@ -47,7 +50,8 @@ make-requires-2 c =
       ports = c.requires.size;
       deep = c.requires.deep;
       depth = c.requires.depth;
-      room = few_at c.in_ok-room.room.multicast (length c.deref.result.now) (let f = few_packets (plan_of c.args.plan) c.requires in let e = ap length c.deref.ensures.value in omega arith) c.in_ok-room.ensures.few.fans;
+      room = few_at c.in_ok-room.room.multicast (length c.deref.result.now)
+          (let f = few_packets (plan_of c.args.plan) c.requires in let e = ap length c.deref.ensures.value in omega arith) c.in_ok-room.ensures.few.fans;
     }
 
 pub invariant_of-result : goal.invariant_of-result
@@ -61,7 +65,8 @@ invariant_of-result c = (
 pub returns : goal.returns
 returns c =
     record {
-      sent = made (plan_of c.args.plan) c.empty.result c.in_ok-room.room.unicast.items c.in_ok-room.room.multicast c.in_ok-banks.banks c.in_ok-fans.fans c.requires
+      sent = made (plan_of c.args.plan) c.empty.result c.in_ok-room.room.unicast.items c.in_ok-room.room.multicast c.in_ok-banks.banks c.in_ok-fans.fans
+          c.requires
           (subst (λ ps. HasRooms c.args.plan.n ps c.in_ok-room.room.unicast.items c.in_ok-room.room.multicast) c.deref.ensures.value c.in_ok-room.ensures.rooms)
           (c.in_ok-banks.ensures.banks ∙ ap (empty_unis c.args.plan.n c.args.plan.depth) c.deref-2.ensures.value) c.in_ok-fans.ensures.queues;
       plan = refl;

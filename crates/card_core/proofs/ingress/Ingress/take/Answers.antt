@@ -9,7 +9,8 @@ use Rattle.card_core.specs.contracts.ingress.Ingress.{the_view}
 use Rattle.card_core.proofs.ingress.Ingress.take.Goals as goal
 use Rattle.card_core.proofs.ingress.Ingress.take.Goals.{in-Some, in-None}
 
-named : (old : State) (served : List (Option Served)) → HasSent old served true → (part : Served) → IsPartOf old.row part → (name : _) (banks : UniQueues) (fans : FanQueues) → Leaves part.kind part name old.banks old.fans banks fans → Named old.plan part name
+named : (old : State) (served : List (Option Served)) → HasSent old served true → (part : Served) → IsPartOf old.row part
+    → (name : _) (banks : UniQueues) (fans : FanQueues) → Leaves part.kind part name old.banks old.fans banks fans → Named old.plan part name
 named old served was part may name banks fans left =
     let head = (taken old served was part name banks fans may left).1 in
     named-of old.plan was.plan part name head.cell head.of head.named
@@ -18,14 +19,16 @@ pub leave-name-requires : goal.leave-name-requires
 leave-name-requires c =
     let posted = ap (λ (b : State). b.posted) c.self.view_is ∙ c.requires.posted in
     let was = subst (HasSent (the_view c.self.inside) c.self.invariant.0) posted c.self.invariant.1 in
-    may_leave (the_view c.self.inside) c.self.invariant.0 was c.in-Some.part (part-of _ _ c.args.served c.in-Some.part c.requires.servable (sym (ap (λ (b : State). b.row) c.self.view_is)) c.in-Some.is)
+    may_leave (the_view c.self.inside) c.self.invariant.0 was c.in-Some.part
+    (part-of _ _ c.args.served c.in-Some.part c.requires.servable (sym (ap (λ (b : State). b.row) c.self.view_is)) c.in-Some.is)
 
 places : (c : goal.After-cell_for-arg-1) → Named (the_view c.self.inside).plan c.in-Some.part c.leave-name.result
 places c =
     let posted = ap (λ (b : State). b.posted) c.self.view_is ∙ c.requires.posted in
     let was = subst (HasSent (the_view c.self.inside) c.self.invariant.0) posted c.self.invariant.1 in
     let may = part-of _ _ c.args.served c.in-Some.part c.requires.servable (sym (ap (λ (b : State). b.row) c.self.view_is)) c.in-Some.is in
-    named (the_view c.self.inside) c.self.invariant.0 was c.in-Some.part may c.leave-name.result c.leave-name.new.banks c.leave-name.new.fans c.leave-name.ensures
+    named (the_view c.self.inside) c.self.invariant.0 was c.in-Some.part may c.leave-name.result c.leave-name.new.banks c.leave-name.new.fans
+        c.leave-name.ensures
 
 pub cell_for-requires-clause-there : goal.cell_for-requires-clause-there
 cell_for-requires-clause-there c = (places c).there
@@ -51,7 +54,8 @@ returns-clause-after c before was =
           let name = w.leave-name.result in
           let at = named (the_view c.self.inside) before old w.in-Some.part may name w.leave-name.new.banks w.leave-name.new.fans w.leave-name.ensures in
           let cell = w.cell_for.ensures ∙ cell-is (the_view c.self.inside).plan w.in-Some.part name _ refl at.queue in
-          rw (w.in-Some.is, w.self-is, w.self-inside-is, cell) (take_some (the_view c.self.inside) before old w.in-Some.part name w.leave-name.new.banks w.leave-name.new.fans may w.leave-name.ensures)
+          rw (w.in-Some.is, w.self-is, w.self-inside-is, cell)
+          (take_some (the_view c.self.inside) before old w.in-Some.part name w.leave-name.new.banks w.leave-name.new.fans may w.leave-name.ensures)
       | in-None w ↦ rw (w.in-None.is, w.self-is, w.self-inside-is) (take_none (the_view c.self.inside) before old)
     ]
 

@@ -27,5 +27,6 @@ returns g c =
     let was : get_or olds p old ≡ old = get_or_from_slice_get olds p old old at in
     let is : get_or news p old ≡ new = get_or_from_slice_get news p new old too in
     let one : IsDrivenGroup board patience (get_or olds p old) (get_or news p old) = c.drive_each.ensures p old (slice_get_within olds p old at) in
-    let driven : IsDrivenGroup board patience old new = subst (λ (x : Group). IsDrivenGroup board patience old x) is (subst (λ (x : Group). IsDrivenGroup board patience x (get_or news p old)) was one) in
+    let driven : IsDrivenGroup board patience old new =
+    subst (λ (x : Group). IsDrivenGroup board patience old x) is (subst (λ (x : Group). IsDrivenGroup board patience x (get_or news p old)) was one) in
     (driven.made, driven.passes))

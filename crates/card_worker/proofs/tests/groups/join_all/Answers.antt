@@ -44,7 +44,8 @@ join-requires-clause-card c =
     let below = c.loop-card-test.true in
     let ports = c.requires.ports in
     let inside : 0 < length at.seats.items = omega arith in
-    let first : slice_get at.seats.items 0 ≡ Some c.remove-seat.result = slice_get-get_or at.seats.items 0 c.remove-seat.result inside ∙ ap Some (sym c.remove-seat.ensures.value) in
+    let first : slice_get at.seats.items 0 ≡ Some c.remove-seat.result = slice_get-get_or at.seats.items 0 c.remove-seat.result inside
+    ∙ ap Some (sym c.remove-seat.ensures.value) in
     c.prepared-member.ensures.number ∙ ap (λ (s : SeatValue Event). s.number) (at.invariant.seats 0 c.remove-seat.result first) ∙ omega arith
 
 pub prepared-member-requires : goal.prepared-member-requires
@@ -56,9 +57,12 @@ prepared-member-requires c =
     let below = c.loop-card-test.true in
     let ports = c.requires.ports in
     let inside : 0 < length at.seats.items = omega arith in
-    let first : slice_get at.seats.items 0 ≡ Some c.remove-seat.result = slice_get-get_or at.seats.items 0 c.remove-seat.result inside ∙ ap Some (sym c.remove-seat.ensures.value) in
+    let first : slice_get at.seats.items 0 ≡ Some c.remove-seat.result = slice_get-get_or at.seats.items 0 c.remove-seat.result inside
+    ∙ ap Some (sym c.remove-seat.ensures.value) in
     let card = c.in_ok-hand.ensures.card in
     let same : hand.card.sends.plan.card ≡ 0 + at.card = omega arith in
-    let seat : new_seat board hand.card.sends.plan.card ≡ c.remove-seat.result = ap (λ k. new_seat board k) same ∙ sym (at.invariant.seats 0 c.remove-seat.result first) in
-    let new = c.new_members_agree.ensures board hand c.legal.ensures c.in_ok-hand.ensures.kept c.in_ok-hand.ensures.after (c.in_ok-hand.ensures.ports ∙ sym ports) in
+    let seat : new_seat board hand.card.sends.plan.card ≡ c.remove-seat.result = ap (λ k. new_seat board k) same
+    ∙ sym (at.invariant.seats 0 c.remove-seat.result first) in
+    let new = c.new_members_agree.ensures board hand c.legal.ensures c.in_ok-hand.ensures.kept c.in_ok-hand.ensures.after
+    (c.in_ok-hand.ensures.ports ∙ sym ports) in
     subst (λ (s : SeatValue Event). IsMember board (record { hand = hand; seat = s })) seat new

@@ -10,7 +10,8 @@ fill-self-requires-clause-named c i j level kind i_in named =
 
 pub returns : goal.returns
 returns c =
-    let joined : (i j level : ℕ) (kind : Kind) → i < c.args.n → Names (row_of c.args.rows.now i) level kind j → Names c.joined-named.result level kind j = λ i j level kind i_in named.
+    let joined : (i j level : ℕ) (kind : Kind) → i < c.args.n → Names (row_of c.args.rows.now i) level kind j → Names c.joined-named.result level kind j =
+    λ i j level kind i_in named.
     let inside : i < length c.args.rows.now = let count = c.requires.rows.count in omega arith in
     (c.joined-named.ensures level j kind).1 (i, inside, named) in
     record {

@@ -21,8 +21,10 @@ returns-in-Ok-clause-fault c = λ other.
     let place = subst (λ xs. IsPlaceOf xs c.args.line.target c.in-Ok.at) c.deref.ensures.value c.in-Ok.ensures.found in
     let target = c.args.line.target in
     let ordered = c.self.inside.ordered.items in
-    let first : c.index.result.now ≡ slice_index_or ordered c.in-Ok.at no_line = c.index.ensures ∙ get_or_default ordered c.in-Ok.at c.index.result.now no_line place.in_range in
-    let found = ap (line_with target) (sym c.self.view_is) ∙ sym (c.self.invariant.0.found target) ∙ line_at ordered target c.in-Ok.at c.self.invariant.0.in_order place in
+    let first : c.index.result.now ≡ slice_index_or ordered c.in-Ok.at no_line = c.index.ensures
+    ∙ get_or_default ordered c.in-Ok.at c.index.result.now no_line place.in_range in
+    let found = ap (line_with target) (sym c.self.view_is) ∙ sym (c.self.invariant.0.found target)
+    ∙ line_at ordered target c.in-Ok.at c.self.invariant.0.in_order place in
     ap (option_map (λ (line : RouteLine). Repeated c.args.line.number line.number)) found
     ∙ ap (λ (line : RouteLine). Some (Repeated c.args.line.number line.number)) (sym first)
 

@@ -14,7 +14,8 @@ returns-in-Some-clause-failure c =
     let fed = c.args.slot.now.fed in
     let same_rows : take n rows ≡ take n rows = refl in
     let same_fed : take n fed ≡ take n fed = refl in
-    output_again n (length (take n rows)) judge.rounds c.args.t judge.pointers (Some c.in-Some.reason) (take n rows) (take n rows) (take n fed) (take n fed) c.output_failure.new.self.matched
+    output_again n (length (take n rows)) judge.rounds c.args.t judge.pointers (Some c.in-Some.reason) (take n rows) (take n rows) (take n fed)
+    (take n fed) c.output_failure.new.self.matched
     (ap length same_rows ∙ c.requires.within.count) same_rows same_fed c.in-Some.ensures.failure c.in-Some.ensures.matched
 
 pub returns-in-None-clause-failure : goal.returns-in-None-clause-failure
@@ -25,7 +26,8 @@ returns-in-None-clause-failure c =
     let fed = c.args.slot.now.fed in
     let same_rows : take n rows ≡ take n rows = refl in
     let same_fed : take n fed ≡ take n fed = refl in
-    output_again n (length (take n rows)) judge.rounds c.args.t judge.pointers None (take n rows) (take n rows) (take n fed) (take n fed) c.output_failure.new.self.matched
+    output_again n (length (take n rows)) judge.rounds c.args.t judge.pointers None (take n rows) (take n rows) (take n fed)
+    (take n fed) c.output_failure.new.self.matched
     (ap length same_rows ∙ c.requires.within.count) same_rows same_fed c.in-None.ensures.failure c.in-None.ensures.matched
 
 pub returns-in-None-clause-next : goal.returns-in-None-clause-next
@@ -39,5 +41,8 @@ returns-in-None-clause-next c value is =
     let ready = c.in-None.ensures.ready in
     let count = c.requires.within.count in
     let few = c.requires.ready.ports_few in
-    let places = places_again n (length (take n rows)) judge.rounds c.args.t judge.pointers mid.pointers (take n rows) (take n rows) count refl c.in-None.ensures.places in
-    left n judge.rounds c.args.t (before_of n judge) c.args.slot.now value is (record mid { rows = rows; going = c.is_going-self.result }) refl c.is_going-self.ensures places long (ready.matched ∙ count) (c.in-None.ensures.failure ∙ ap (λ (k : ℕ). output_failure k (take n fed) mid.matched) count)
+    let places = places_again n (length (take n rows)) judge.rounds c.args.t judge.pointers mid.pointers (take n rows)
+    (take n rows) count refl c.in-None.ensures.places in
+    left n judge.rounds c.args.t (before_of n judge) c.args.slot.now value is
+    (record mid { rows = rows; going = c.is_going-self.result }) refl c.is_going-self.ensures places long (ready.matched ∙ count)
+    (c.in-None.ensures.failure ∙ ap (λ (k : ℕ). output_failure k (take n fed) mid.matched) count)

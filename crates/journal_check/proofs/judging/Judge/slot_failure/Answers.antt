@@ -13,7 +13,8 @@ returns-in-Some-clause-failure c value is =
     let same_rows : take n rows ≡ take n rows = refl in
     let same_more : take n more ≡ take n more = refl in
     posts_fail n judge.rounds c.args.t (before_of n judge) c.args.slot.now value is c.in-Some.reason
-    (post_again n (length (take n rows)) judge (Some c.in-Some.reason) (take n rows) (take n rows) (take n more) (take n more) (ap length same_rows ∙ c.requires.within.count) same_rows same_more c.in-Some.ensures)
+    (post_again n (length (take n rows)) judge (Some c.in-Some.reason) (take n rows) (take n rows) (take n more) (take n more)
+    (ap length same_rows ∙ c.requires.within.count) same_rows same_more c.in-Some.ensures)
 
 pub returns-in-None-clause-failure : goal.returns-in-None-clause-failure
 returns-in-None-clause-failure c value is =
@@ -23,5 +24,7 @@ returns-in-None-clause-failure c value is =
     let more = c.args.slot.now.more in
     let same_rows : take n rows ≡ take n rows = refl in
     let same_more : take n more ≡ take n more = refl in
-    then_outputs n judge.rounds c.args.t (before_of n judge) c.args.slot.now value is c.decide_slot.result (decision_of n judge.rounds c.args.t (take n rows) judge.pointers).matched
-    (post_again n (length (take n rows)) judge None (take n rows) (take n rows) (take n more) (take n more) (ap length same_rows ∙ c.requires.within.count) same_rows same_more c.in-None.ensures) refl c.decide_slot.ensures.failure
+    then_outputs n judge.rounds c.args.t (before_of n judge) c.args.slot.now value is c.decide_slot.result
+    (decision_of n judge.rounds c.args.t (take n rows) judge.pointers).matched
+    (post_again n (length (take n rows)) judge None (take n rows) (take n rows) (take n more) (take n more)
+    (ap length same_rows ∙ c.requires.within.count) same_rows same_more c.in-None.ensures) refl c.decide_slot.ensures.failure

@@ -18,7 +18,8 @@ returns-clause-queue c =
     let found = read_is s.queues c.args.level c.index-self-level.result below in
     let was = queue-of_kept s.ports s.depth s.queues c.args.level ∙ ap (λ k. k.queue) (sym found) in
     rw (← c.self.view_is)
-    (queue-set s.ports s.depth s.queues c.args.level c.admit.new.self below ∙ ap (λ k. k.queue) c.admit.ensures ∙ ap (λ q. queue_with q c.args.packet c.args.cells c.args.fan) (sym was))
+    (queue-set s.ports s.depth s.queues c.args.level c.admit.new.self below ∙ ap (λ k. k.queue) c.admit.ensures
+    ∙ ap (λ q. queue_with q c.args.packet c.args.cells c.args.fan) (sym was))
 
 pub invariant_of-self : goal.invariant_of-self
 invariant_of-self c =
@@ -27,9 +28,12 @@ invariant_of-self c =
     let old = slice_index_or s.queues c.args.level c.index-self-level.result in
     let found = read_is s.queues c.args.level c.index-self-level.result below in
     let kept : IsKept s.ports s.depth old = rw found (c.self.invariant.each c.args.level c.requires.level) in
-    let queue_is = ap (λ b. queue_at b c.args.level) (sym c.self.view_is) ∙ queue-of_kept s.ports s.depth s.queues c.args.level ∙ ap (λ k. k.queue) (sym found) in
-    let fits : length old.queue.cells + c.args.cells ≤ s.depth = omega (arith, ap (λ q. length q.cells) queue_is, ap (λ b. b.depth) c.self.view_is, c.requires.fits) in
+    let queue_is = ap (λ b. queue_at b c.args.level) (sym c.self.view_is) ∙ queue-of_kept s.ports s.depth s.queues c.args.level
+    ∙ ap (λ k. k.queue) (sym found) in
+    let fits : length old.queue.cells + c.args.cells ≤ s.depth =
+    omega (arith, ap (λ q. length q.cells) queue_is, ap (λ b. b.depth) c.self.view_is, c.requires.fits) in
     let among : IsAmong s.ports c.args.fan = subst (λ b. IsAmong b.ports c.args.fan) (sym c.self.view_is) c.requires.among in
     let one = c.requires.several.one in
     let somewhere : c.args.fan ≢ 0 = λ none. no_member-zero one (subst (λ set. Has set one) none c.requires.several.has_one) in
-    AreKept-set s.ports s.depth s.queues c.args.level _ below c.self.invariant (IsKept-admitted s.ports s.depth c.args.packet c.args.cells c.args.fan old c.admit.new.self kept c.requires.some fits somewhere among c.admit.ensures)
+    AreKept-set s.ports s.depth s.queues c.args.level _ below c.self.invariant
+    (IsKept-admitted s.ports s.depth c.args.packet c.args.cells c.args.fan old c.admit.new.self kept c.requires.some fits somewhere among c.admit.ensures)

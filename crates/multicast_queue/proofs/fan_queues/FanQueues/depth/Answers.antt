@@ -22,4 +22,5 @@ pub returns-clause-ports : goal.returns-clause-ports
 returns-clause-ports c =
     let s = c.self.inside in
     rw (← c.self.view_is)
-    (λ level output inside. rest-in s.ports _ _ (fans-at s.ports s.depth s.queues c.self.invariant level inside) (rest-at s.ports s.depth s.queues c.self.invariant level inside) output)
+    (λ level output inside. rest-in s.ports _ _ (fans-at s.ports s.depth s.queues c.self.invariant level inside)
+    (rest-at s.ports s.depth s.queues c.self.invariant level inside) output)

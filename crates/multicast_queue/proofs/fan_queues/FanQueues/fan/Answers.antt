@@ -11,4 +11,5 @@ returns-clause-ports c =
     let old = slice_index_or s.queues c.args.level c.index-self-level.result in
     let found = read_is s.queues c.args.level c.index-self-level.result (omega (arith, c.self.invariant.long, c.requires)) in
     let kept : IsKept s.ports s.depth old = rw found (c.self.invariant.each c.args.level c.requires) in
-    subst (λ b. output < b.ports) c.self.view_is (rest-in s.ports old.queue.rest old.queue.cells kept.fans kept.rests output (subst (λ set. Has set output) c.rest.ensures has))
+    subst (λ b. output < b.ports) c.self.view_is
+    (rest-in s.ports old.queue.rest old.queue.cells kept.fans kept.rests output (subst (λ set. Has set output) c.rest.ensures has))

@@ -8,4 +8,5 @@ invariant_of-result c = rw c.in_ok-queues.ensures (AreKept-empty c.args.n c.args
 
 pub returns-clause-empty : goal.returns-clause-empty
 returns-clause-empty c =
-    λ level. rw c.in_ok-queues.ensures (ap (λ all. (queue_at all level).cells) (queues-empty c.args.n c.args.depth c.args.room.now) ∙ queue_at-empty c.args.n c.args.depth c.args.room.now level)
+    λ level. rw c.in_ok-queues.ensures (ap (λ all. (queue_at all level).cells) (queues-empty c.args.n c.args.depth c.args.room.now)
+    ∙ queue_at-empty c.args.n c.args.depth c.args.room.now level)

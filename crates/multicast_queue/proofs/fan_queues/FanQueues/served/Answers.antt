@@ -13,8 +13,10 @@ serve-requires c =
     let old = slice_index_or s.queues c.args.level c.index-self-level.result in
     let found = read_is s.queues c.args.level c.index-self-level.result below in
     let kept : IsKept s.ports s.depth old = rw found (c.self.invariant.each c.args.level c.requires.level) in
-    let queue_is = ap (λ b. queue_at b c.args.level) (sym c.self.view_is) ∙ queue-of_kept s.ports s.depth s.queues c.args.level ∙ ap (λ k. k.queue) (sym found) in
-    some_wait old.queue.rest c.args.mask old.queue.cells kept.rests c.requires.some (λ output has. subst (λ q. Has q.rest output) queue_is (c.requires.within output has))
+    let queue_is = ap (λ b. queue_at b c.args.level) (sym c.self.view_is) ∙ queue-of_kept s.ports s.depth s.queues c.args.level
+    ∙ ap (λ k. k.queue) (sym found) in
+    some_wait old.queue.rest c.args.mask old.queue.cells kept.rests c.requires.some
+    (λ output has. subst (λ q. Has q.rest output) queue_is (c.requires.within output has))
 
 pub returns-clause-others : goal.returns-clause-others
 returns-clause-others c =
@@ -67,4 +69,5 @@ invariant_of-self c =
     let found = read_is s.queues c.args.level c.index-self-level.result below in
     let kept : IsKept s.ports s.depth old = rw found (c.self.invariant.each c.args.level c.requires.level) in
     let after = c.serve.ensures in
-    AreKept-set s.ports s.depth s.queues c.args.level _ below c.self.invariant (IsKept-served s.ports s.depth c.args.mask c.serve.result old c.serve.new.self kept after.depth after.leaves after.stays after.some)
+    AreKept-set s.ports s.depth s.queues c.args.level _ below c.self.invariant
+    (IsKept-served s.ports s.depth c.args.mask c.serve.result old c.serve.new.self kept after.depth after.leaves after.stays after.some)

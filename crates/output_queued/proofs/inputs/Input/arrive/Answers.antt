@@ -17,25 +17,30 @@ returns-in_err-packet-clause-entered c n depth served part long is =
     let out : c.from_residual.result ≡ None = search rules in
     let s0 = the_view c.self.inside in
     let e : option_map planned_of None ≡ next_in (map planned_of s0.coming) s0.next c.args.slot =
-    ap (option_map planned_of) (sym none) ∙ c.arriving.ensures.next ∙ ap (λ (cs : List Coming). next_in (map planned_of cs) c.self.inside.next c.args.slot) c.deref.ensures.value in
+    ap (option_map planned_of) (sym none) ∙ c.arriving.ensures.next
+    ∙ ap (λ (cs : List Coming). next_in (map planned_of cs) c.self.inside.next c.args.slot) c.deref.ensures.value in
     subst (λ (s : Source). HasEntered n depth c.args.slot served s s c.from_residual.result) c.self.view_is
     (subst (HasEntered n depth c.args.slot served s0 s0) (sym out)
-    (none_at n depth s0 served (subst (λ (s : Source). IsPart n depth s.coming) (sym c.self.view_is) part) (subst (λ (s : Source). IsBefore (card_for n depth s.coming) s served) (sym c.self.view_is) is) c.args.slot long e))
+    (none_at n depth s0 served (subst (λ (s : Source). IsPart n depth s.coming) (sym c.self.view_is) part)
+    (subst (λ (s : Source). IsBefore (card_for n depth s.coming) s served) (sym c.self.view_is) is) c.args.slot long e))
 
 pub enter-admitted-requires-clause-may : goal.enter-admitted-requires-clause-may
 enter-admitted-requires-clause-may c =
     let (n, depth, served, part, long, is) = c.requires in
     let s0 = the_view c.self.inside in
-    let there : slice_get s0.coming s0.next ≡ Some c.in_ok-packet.packet = ap (λ (cs : List Coming). slice_get cs c.self.inside.next) (sym c.deref.ensures.value) ∙ c.in_ok-packet.ensures.there.0 in
+    let there : slice_get s0.coming s0.next ≡ Some c.in_ok-packet.packet =
+    ap (λ (cs : List Coming). slice_get cs c.self.inside.next) (sym c.deref.ensures.value) ∙ c.in_ok-packet.ensures.there.0 in
     let e : option_map planned_of (Some c.in_ok-packet.packet) ≡ next_in (map planned_of s0.coming) s0.next c.args.slot =
     c.in_ok-packet.ensures.next ∙ ap (λ (cs : List Coming). next_in (map planned_of cs) c.self.inside.next c.args.slot) c.deref.ensures.value in
-    may_at n depth s0 served (subst (λ (s : Source). IsPart n depth s.coming) (sym c.self.view_is) part) (subst (λ (s : Source). IsBefore (card_for n depth s.coming) s served) (sym c.self.view_is) is) c.args.slot long c.in_ok-packet.packet there e
+    may_at n depth s0 served (subst (λ (s : Source). IsPart n depth s.coming) (sym c.self.view_is) part)
+    (subst (λ (s : Source). IsBefore (card_for n depth s.coming) s served) (sym c.self.view_is) is) c.args.slot long c.in_ok-packet.packet there e
 
 pub overflow_add-self : goal.overflow_add-self
 overflow_add-self c =
     let (n, depth, served, part, long, is) = c.requires in
     let s0 = the_view c.self.inside in
-    let there : slice_get s0.coming s0.next ≡ Some c.in_ok-packet.packet = ap (λ (cs : List Coming). slice_get cs c.self.inside.next) (sym c.deref.ensures.value) ∙ c.in_ok-packet.ensures.there.0 in
+    let there : slice_get s0.coming s0.next ≡ Some c.in_ok-packet.packet =
+    ap (λ (cs : List Coming). slice_get cs c.self.inside.next) (sym c.deref.ensures.value) ∙ c.in_ok-packet.ensures.there.0 in
     let inside : s0.next < length s0.coming = some_lt s0.coming s0.next c.in_ok-packet.packet there in
     let few = few_coming n depth s0.coming (subst (λ (s : Source). IsPart n depth s.coming) (sym c.self.view_is) part) in
     omega arith
@@ -44,7 +49,8 @@ pub returns-clause-entered : goal.returns-clause-entered
 returns-clause-entered c n depth served part long is =
     let packet = c.in_ok-packet.packet in
     let s0 = the_view c.self.inside in
-    let there : slice_get s0.coming s0.next ≡ Some c.in_ok-packet.packet = ap (λ (cs : List Coming). slice_get cs c.self.inside.next) (sym c.deref.ensures.value) ∙ c.in_ok-packet.ensures.there.0 in
+    let there : slice_get s0.coming s0.next ≡ Some c.in_ok-packet.packet =
+    ap (λ (cs : List Coming). slice_get cs c.self.inside.next) (sym c.deref.ensures.value) ∙ c.in_ok-packet.ensures.there.0 in
     let e : option_map planned_of (Some c.in_ok-packet.packet) ≡ next_in (map planned_of s0.coming) s0.next c.args.slot =
     c.in_ok-packet.ensures.next ∙ ap (λ (cs : List Coming). next_in (map planned_of cs) c.self.inside.next c.args.slot) c.deref.ensures.value in
     let out : c.if-admitted.result ≡ (if c.enter-admitted.result then Some packet else None) =
@@ -52,8 +58,14 @@ returns-clause-entered c n depth served part long is =
       | then-admitted w ↦ w.result-is ∙ sym (ap (λ b. if b then Some packet else None) w.if-admitted.true)
       | else-admitted w ↦ w.result-is ∙ sym (ap (λ b. if b then Some packet else None) w.if-admitted.false)
     ] in
-    let new = the_view (record { coming = c.self.inside.coming; next = c.self.inside.next + 1; banks = c.enter-admitted.new.banks; fans = c.enter-admitted.new.fans }) in
+    let new = the_view (record {
+      coming = c.self.inside.coming;
+      next = c.self.inside.next + 1;
+      banks = c.enter-admitted.new.banks;
+      fans = c.enter-admitted.new.fans;
+    }) in
     subst (λ (s : Source). HasEntered n depth c.args.slot served s new c.if-admitted.result) c.self.view_is
     (subst (HasEntered n depth c.args.slot served s0 new) (sym out)
-    (one_at n depth s0 served (subst (λ (s : Source). IsPart n depth s.coming) (sym c.self.view_is) part) (subst (λ (s : Source). IsBefore (card_for n depth s.coming) s served) (sym c.self.view_is) is) c.args.slot long packet there
+    (one_at n depth s0 served (subst (λ (s : Source). IsPart n depth s.coming) (sym c.self.view_is) part)
+    (subst (λ (s : Source). IsBefore (card_for n depth s.coming) s served) (sym c.self.view_is) is) c.args.slot long packet there
     c.in_ok-packet.ensures.there.1 e c.enter-admitted.result c.enter-admitted.new.banks c.enter-admitted.new.fans c.enter-admitted.ensures))

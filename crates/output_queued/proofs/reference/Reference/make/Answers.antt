@@ -28,11 +28,14 @@ returns-clause-noted c =
     let made = c.let_in-unserved.ensures in
     let after = c.let_in-unserved.new.inputs.items in
     let counted = c.let_in-unserved.new.tallies.items in
-    let entered = subst (λ (ts : List Tally). HaveEntered n c.args.depth 0 n (λ i. []) sources after ts counted) c.in_ok-tallies.ensures (made.entered n c.args.depth (λ i. []) (first-stand n c.args.depth sources switch before)) in
-    first-noted n c.args.depth sources switch before after counted c.let_in-unserved.result entered (made.count ∙ ap length c.in_ok-tallies.ensures ∙ length-replicate n no_tally)
+    let entered = subst (λ (ts : List Tally). HaveEntered n c.args.depth 0 n (λ i. []) sources after ts counted) c.in_ok-tallies.ensures
+    (made.entered n c.args.depth (λ i. []) (first-stand n c.args.depth sources switch before)) in
+    first-noted n c.args.depth sources switch before after counted c.let_in-unserved.result entered
+    (made.count ∙ ap length c.in_ok-tallies.ensures ∙ length-replicate n no_tally)
     (λ j.
     let most = made.small j in
-    let none : (tally_at c.in_ok-tallies.tallies.items j).came ≡ 0 = ap (λ (ts : List Tally). (tally_at ts j).came) c.in_ok-tallies.ensures ∙ ap (λ (t : Tally). t.came) (no_tallies n j) in
+    let none : (tally_at c.in_ok-tallies.tallies.items j).came ≡ 0 = ap (λ (ts : List Tally). (tally_at ts j).came) c.in_ok-tallies.ensures
+    ∙ ap (λ (t : Tally). t.came) (no_tallies n j) in
     omega arith)
     made.unserved
 
@@ -48,10 +51,13 @@ returns-clause-coming c =
     let made = c.let_in-unserved.ensures in
     let after = c.let_in-unserved.new.inputs.items in
     let counted = c.let_in-unserved.new.tallies.items in
-    let entered = subst (λ (ts : List Tally). HaveEntered n c.args.depth 0 n (λ i. []) sources after ts counted) c.in_ok-tallies.ensures (made.entered n c.args.depth (λ i. []) (first-stand n c.args.depth sources switch before)) in
-    first-same n c.args.depth sources switch before after counted c.let_in-unserved.result entered (made.count ∙ ap length c.in_ok-tallies.ensures ∙ length-replicate n no_tally)
+    let entered = subst (λ (ts : List Tally). HaveEntered n c.args.depth 0 n (λ i. []) sources after ts counted) c.in_ok-tallies.ensures
+    (made.entered n c.args.depth (λ i. []) (first-stand n c.args.depth sources switch before)) in
+    first-same n c.args.depth sources switch before after counted c.let_in-unserved.result entered
+    (made.count ∙ ap length c.in_ok-tallies.ensures ∙ length-replicate n no_tally)
     (λ j.
     let most = made.small j in
-    let none : (tally_at c.in_ok-tallies.tallies.items j).came ≡ 0 = ap (λ (ts : List Tally). (tally_at ts j).came) c.in_ok-tallies.ensures ∙ ap (λ (t : Tally). t.came) (no_tallies n j) in
+    let none : (tally_at c.in_ok-tallies.tallies.items j).came ≡ 0 = ap (λ (ts : List Tally). (tally_at ts j).came) c.in_ok-tallies.ensures
+    ∙ ap (λ (t : Tally). t.came) (no_tallies n j) in
     omega arith)
     made.unserved ∙ c.in_ok-inputs.ensures.coming

@@ -22,10 +22,13 @@ returns-then-are_rows c =
           | then-self-lt-MAX_SLOTS v ↦
               let ports : v.ports.result ≡ c.self.inside.ports = eqb-true v.ports.result c.self.inside.ports (sym v.value-is ∙ w.if-ports-self.true) in
               let are : w.are_rows.result ≡ true = sym w.value-is ∙ all in
-              let same : rows ≡ map (λ (source : Source). row_of source.banks source.fans) s0.sources = w.are_rows.ensures.0 are ∙ ap (map (λ (source : Source). row_of source.banks source.fans)) w.deref.ensures.value in
+              let same : rows ≡ map (λ (source : Source). row_of source.banks source.fans) s0.sources = w.are_rows.ensures.0 are
+              ∙ ap (map (λ (source : Source). row_of source.banks source.fans)) w.deref.ensures.value in
               subst (λ (s : State). MayNote s rows matched) c.self.view_is
-              (note_from s0 c.self.invariant.0 c.self.invariant.1 rows matched v.if-self-lt-MAX_SLOTS.true v.ports.result ports v.ports.ensures.whole same (c.are_named.ensures.0 named))
-          | else-self-lt-MAX_SLOTS v ↦ absurd (clash c.if-self-lt-MAX_SLOTS.value w.if-ports-self.true (v.value-is ∙ le-ltb c.self.inside.slots 262145 v.if-self-lt-MAX_SLOTS.false))
+              (note_from s0 c.self.invariant.0 c.self.invariant.1 rows matched v.if-self-lt-MAX_SLOTS.true v.ports.result ports v.ports.ensures.whole same
+              (c.are_named.ensures.0 named))
+          | else-self-lt-MAX_SLOTS v ↦ absurd
+              (clash c.if-self-lt-MAX_SLOTS.value w.if-ports-self.true (v.value-is ∙ le-ltb c.self.inside.slots 262145 v.if-self-lt-MAX_SLOTS.false))
         ]
         | else-ports-self w ↦ absurd (clash c.if-ports-self.value all (w.value-is ∙ w.if-ports-self.false))
       ],

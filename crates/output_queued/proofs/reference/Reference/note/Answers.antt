@@ -33,8 +33,10 @@ invariant_of-self c =
     let entered = c.let_in-self-inside.ensures in
     let ready = stand s0 m noted rows matched may c.take_served.new.inputs.items taken.count taken.taken in (
       m ++ matched ∷ [],
-      noted-next s0 m noted rows matched may c.take_served.new.inputs.items taken.count taken.taken c.count_slot-unserved.new.tallies.items counted.count counted.ticks counted.others
-          c.let_in-self-inside.new.inputs.items c.let_in-self-inside.new.tallies.items c.let_in-self-inside.result entered.count entered.small (entered.entered s0.ports s0.depth (served_in (m ++ matched ∷ [])) ready) entered.unserved,
+      noted-next s0 m noted rows matched may c.take_served.new.inputs.items taken.count taken.taken c.count_slot-unserved.new.tallies.items counted.count
+          counted.ticks counted.others
+          c.let_in-self-inside.new.inputs.items c.let_in-self-inside.new.tallies.items c.let_in-self-inside.result entered.count entered.small
+          (entered.entered s0.ports s0.depth (served_in (m ++ matched ∷ [])) ready) entered.unserved,
     )
 
 pub returns-clause-switch : goal.returns-clause-switch
@@ -50,8 +52,10 @@ returns-clause-switch c =
     record {
       ports = ap (λ (s : State). s.ports) c.self.view_is;
       depth = ap (λ (s : State). s.depth) c.self.view_is;
-      coming = coming-stays s0 m noted rows matched may c.take_served.new.inputs.items taken.count taken.taken c.count_slot-unserved.new.tallies.items counted.count counted.ticks counted.others
-          c.let_in-self-inside.new.inputs.items c.let_in-self-inside.new.tallies.items c.let_in-self-inside.result entered.count entered.small (entered.entered s0.ports s0.depth (served_in (m ++ matched ∷ [])) ready) entered.unserved
+      coming = coming-stays s0 m noted rows matched may c.take_served.new.inputs.items taken.count taken.taken c.count_slot-unserved.new.tallies.items
+          counted.count counted.ticks counted.others
+          c.let_in-self-inside.new.inputs.items c.let_in-self-inside.new.tallies.items c.let_in-self-inside.result entered.count entered.small
+          (entered.entered s0.ports s0.depth (served_in (m ++ matched ∷ [])) ready) entered.unserved
           ∙ ap (λ (s : State). coming_of s.sources) c.self.view_is;
     }
 
@@ -67,5 +71,7 @@ returns-clause-noted c matches noted' =
     let counted = c.count_slot-unserved.ensures in
     let entered = c.let_in-self-inside.ensures in
     let ready = stand s0 matches noted rows matched may c.take_served.new.inputs.items taken.count taken.taken in
-    noted-next s0 matches noted rows matched may c.take_served.new.inputs.items taken.count taken.taken c.count_slot-unserved.new.tallies.items counted.count counted.ticks counted.others
-    c.let_in-self-inside.new.inputs.items c.let_in-self-inside.new.tallies.items c.let_in-self-inside.result entered.count entered.small (entered.entered s0.ports s0.depth (served_in (matches ++ matched ∷ [])) ready) entered.unserved
+    noted-next s0 matches noted rows matched may c.take_served.new.inputs.items taken.count taken.taken c.count_slot-unserved.new.tallies.items counted.count
+    counted.ticks counted.others
+    c.let_in-self-inside.new.inputs.items c.let_in-self-inside.new.tallies.items c.let_in-self-inside.result entered.count entered.small
+    (entered.entered s0.ports s0.depth (served_in (matches ++ matched ∷ [])) ready) entered.unserved

@@ -10,7 +10,8 @@ returns-then-fails_next-clause-told c =
 pub returns-in-Ok-clause-told : goal.returns-in-Ok-clause-told
 returns-in-Ok-clause-told c =
     let m = c.self.inside in
-    rw (← c.self.view_is) (ap Some (begun_contents c.args.name.now m.files.items c.begin_file.new.files.items _ m.out.items m.err.items c.in-Ok.ensures.ok.1 refl refl))
+    rw (← c.self.view_is) (ap Some
+    (begun_contents c.args.name.now m.files.items c.begin_file.new.files.items _ m.out.items m.err.items c.in-Ok.ensures.ok.1 refl refl))
 
 pub returns-in-Err-clause-told : goal.returns-in-Err-clause-told
 returns-in-Err-clause-told c =
@@ -22,4 +23,5 @@ pub returns-in-Err-clause-counts : goal.returns-in-Err-clause-counts
 returns-in-Err-clause-counts c p =
     let m = c.self.inside in
     rw (← c.self.view_is, ← c.in-Err.ensures.err)
-    (begin_counted c.args.name.now c.begin_file.new.files.items c.count_fault-in-Err.new.files.items m.elsewhere c.count_fault-in-Err.new.elsewhere m.out.items m.err.items c.count_fault-in-Err.ensures p)
+    (begin_counted c.args.name.now c.begin_file.new.files.items c.count_fault-in-Err.new.files.items m.elsewhere c.count_fault-in-Err.new.elsewhere
+        m.out.items m.err.items c.count_fault-in-Err.ensures p)

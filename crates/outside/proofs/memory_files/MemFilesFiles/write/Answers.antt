@@ -22,7 +22,8 @@ returns-in-Ok-clause-told c =
     let piece = c.first_piece-piece.result.now in
     let f : FileState = c.in-Ok.ensures.ok.0 in
     rw (piece_again piece c.args.bytes.now m.piece c.first_piece-piece.ensures, ← c.self.view_is)
-    (ap Some (appended_contents c.args.name.now m.files.items c.append_to.new.files.items f (record f { bytes = f.bytes ++ piece; room = c.in-Ok.ensures.ok.1 }) piece m.out.items m.err.items c.in-Ok.ensures.ok.2 c.in-Ok.ensures.ok.3 refl refl))
+    (ap Some (appended_contents c.args.name.now m.files.items c.append_to.new.files.items f
+    (record f { bytes = f.bytes ++ piece; room = c.in-Ok.ensures.ok.1 }) piece m.out.items m.err.items c.in-Ok.ensures.ok.2 c.in-Ok.ensures.ok.3 refl refl))
 
 pub returns-in-Err-clause-told : goal.returns-in-Err-clause-told
 returns-in-Err-clause-told c =

@@ -8,5 +8,12 @@ pub returns-clause-ok : goal.returns-clause-ok
 returns-clause-ok c =
     let name = c.args.name.now in
     let after : FileState = record { name = name; bytes = []; room = vec_capacity c.new.result; begun = true; faults = c.args.faults } in
-    let is : c.begun.result ≡ after = c.begun.ensures ∙ (λ j. record { name = c.in_ok-name.ensures.ok j; bytes = c.new.ensures.items j; room = vec_capacity c.new.result; begun = true; faults = c.args.faults }) in
+    let is : c.begun.result ≡ after = c.begun.ensures
+    ∙ (λ j. record {
+      name = c.in_ok-name.ensures.ok j;
+      bytes = c.new.ensures.items j;
+      room = vec_capacity c.new.result;
+      begun = true;
+      faults = c.args.faults;
+    }) in
     (vec_capacity c.new.result, rw (c.in_ok-push.ensures.items, is) (pushed name c.args.files.now.items after c.requires.absent refl))

@@ -9,7 +9,8 @@ returns-in-Ok-clause-ok c =
     let fs = c.args.files.now.items in
     let d = c.index_mut.result.now in
     let at : position (λ (f : FileState). bytes_eq name f.name) fs ≡ Some c.in-Some.place = rw c.as_slice.ensures.value at (sym c.in-Some.ensures.place) in
-    let both = put_here name fs c.in-Some.place d (record d { bytes = d.bytes ++ c.args.piece.now; room = c.append.new.self.room }) at c.index_mut.ensures.value refl in
+    let both = put_here name fs c.in-Some.place d
+    (record d { bytes = d.bytes ++ c.args.piece.now; room = c.append.new.self.room }) at c.index_mut.ensures.value refl in
     (d, c.append.new.self.room, both.0, rw c.in-Ok.ensures.ok both.1)
 
 pub returns-in-Err-clause-cause : goal.returns-in-Err-clause-cause

@@ -4,4 +4,5 @@ use Rattle.packet_times.proofs.Arriving.{first-noted}
 use Rattle.packet_times.proofs.inputs.Input.make.Goals as goal
 
 pub returns : goal.returns
-returns c = first-noted (plan_of c.args.plan.now) (the_view (record { queues = c.in_ok-queues.queues; admitted = c.in_ok-admitted.admitted })) c.in_ok-queues.ensures c.in_ok-admitted.ensures.items
+returns c = first-noted (plan_of c.args.plan.now)
+    (the_view (record { queues = c.in_ok-queues.queues; admitted = c.in_ok-admitted.admitted })) c.in_ok-queues.ensures c.in_ok-admitted.ensures.items

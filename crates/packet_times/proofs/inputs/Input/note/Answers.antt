@@ -20,7 +20,8 @@ returns-in_ok-push c plan served noted long row may =
     let counts = c.arrive-arrival.ensures.counts plan served was.counts long in
     let after = c.leave.ensures plan served counts (row ∙ ap (row_at plan served) (sym long)) may in
     let new = the_view (record { queues = c.leave.new.self; admitted = c.push.new.self }) in
-    let arrives : Some c.in-Some.arrival ≡ arrival_in plan served (length served) = c.in-Some.ensures.arrival plan served was.counts long ∙ ap (arrival_in plan served) (sym long) in
+    let arrives : Some c.in-Some.arrival ≡ arrival_in plan served (length served) = c.in-Some.ensures.arrival plan served was.counts long
+    ∙ ap (arrival_in plan served) (sym long) in
     noted-some plan old new c.arrive-arrival.new.self served c.args.part was counts after c.in-Some.arrival arrives c.in_ok-push.ensures.items
 
 pub returns-in_default : goal.returns-in_default
@@ -30,7 +31,8 @@ returns-in_default c plan served noted long row may =
     let counts = c.arrive-arrival.ensures.counts plan served was.counts long in
     let after = c.leave.ensures plan served counts (row ∙ ap (row_at plan served) (sym long)) may in
     let new = the_view (record { queues = c.leave.new.self; admitted = c.self.inside.admitted }) in
-    let arrives : None ≡ arrival_in plan served (length served) = c.in_default.ensures.arrival plan served was.counts long ∙ ap (arrival_in plan served) (sym long) in
+    let arrives : None ≡ arrival_in plan served (length served) = c.in_default.ensures.arrival plan served was.counts long
+    ∙ ap (arrival_in plan served) (sym long) in
     noted-none plan old new c.arrive-arrival.new.self served c.args.part was counts after arrives refl
 
 pub arrive-arrival-requires : goal.arrive-arrival-requires

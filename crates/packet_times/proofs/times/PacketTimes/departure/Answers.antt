@@ -1,4 +1,5 @@
-use Rattle.std.proofs.Common.{◌≡◌, ◌∙◌, ◌<◌, ℕ, Bool, true, false, List, [], None, length, refl, sym, ap, subst, arith, slice_get, slice_index, slice_index_or, if◌then◌else◌}
+use Rattle.std.proofs.Common.{◌≡◌, ◌∙◌, ◌<◌, ℕ, Bool, true, false, List, [], None, length, refl, sym, ap, subst, arith, slice_get, slice_index}
+use Rattle.std.proofs.Common.{slice_index_or, if◌then◌else◌}
 use Rattle.std.proofs.lemmas.Bool.{lt-ltb, ltb-true}
 use Rattle.std.proofs.lemmas.List.{get_or_default}
 use Rattle.rotating_pick.specs.declared.limits.TheConstants.{LEVELS}
@@ -8,7 +9,9 @@ use Rattle.packet_times.specs.Noting.{Times, HasNoted, flow_place}
 use Rattle.packet_times.specs.Walking.{own_place}
 use Rattle.packet_times.proofs.Walked.{few-inputs, planned-is, departure-is}
 use Rattle.packet_times.proofs.times.PacketTimes.departure.Goals as goal
-use Rattle.packet_times.proofs.times.PacketTimes.departure.Goals.{then-not-is_flow-via-then-not-is_flow, then-not-is_flow-via-else-not-is_flow+then-not-outcome, then-output-ports, else-output-ports, then-outcome-ports, else-outcome-ports}
+use Rattle.packet_times.proofs.times.PacketTimes.departure.Goals.{then-not-is_flow-via-then-not-is_flow}
+use Rattle.packet_times.proofs.times.PacketTimes.departure.Goals.{then-not-is_flow-via-else-not-is_flow+then-not-outcome, then-output-ports}
+use Rattle.packet_times.proofs.times.PacketTimes.departure.Goals.{else-output-ports, then-outcome-ports, else-outcome-ports}
 
 pub returns-then-not-is_flow : goal.returns-then-not-is_flow
 returns-then-not-is_flow c scheduler plan slots noted is out gone =
@@ -34,9 +37,11 @@ returns c scheduler plan slots noted is out gone =
     let own : c.place_of_own.result < length c.args.counts.now = ltb-true _ _ (sym c.in_ok-earlier.ensures.lookup.0) in
     let there : c.place_of_flow-place.result < length c.deref.result.now = ltb-true _ _ (sym c.in_ok-get.ensures.lookup.0) in
     let earlier : c.in_ok-earlier.field-0.now ≡ slice_index c.args.counts.now (own_place c.args.output c.args.outcome.packet.level c.kind_of-kind.result) =
-    c.in_ok-earlier.ensures.lookup.1 ∙ get_or_default c.args.counts.now c.place_of_own.result _ 0 own ∙ ap (slice_index c.args.counts.now) c.place_of_own.ensures in
+    c.in_ok-earlier.ensures.lookup.1 ∙ get_or_default c.args.counts.now c.place_of_own.result _ 0 own
+    ∙ ap (slice_index c.args.counts.now) c.place_of_own.ensures in
     let flow : ℕ → Flow = λ level. record { input = c.args.outcome.input; output = c.args.output; level = level; kind = c.kind_of-kind.result } in
-    let place : c.place_of_flow-place.result ≡ flow_place (ports_of plan) (flow c.args.outcome.packet.level) = c.place_of_flow-place.ensures.value ∙ ap (λ (n : ℕ). flow_place n (flow c.args.outcome.packet.level)) ports in
+    let place : c.place_of_flow-place.result ≡ flow_place (ports_of plan) (flow c.args.outcome.packet.level) = c.place_of_flow-place.ensures.value
+    ∙ ap (λ (n : ℕ). flow_place n (flow c.args.outcome.packet.level)) ports in
     let lists : c.deref.result.now ≡ c.args.self.now.ends = c.deref.ensures.value ∙ ap (λ (t : Times). t.ends) c.self.view_is in
     let ends : c.in_ok-get.field-0.now ≡ slice_index_or c.args.self.now.ends (flow_place (ports_of plan) (flow c.args.outcome.packet.level)) [] =
     c.in_ok-get.ensures.lookup.1 ∙ get_or_default c.deref.result.now c.place_of_flow-place.result _ [] there
@@ -45,4 +50,5 @@ returns c scheduler plan slots noted is out gone =
     ∙ ap (λ (es : List ℕ). slice_get es c.in_ok-earlier.field-0.now) ends
     ∙ ap (slice_get (slice_index_or c.args.self.now.ends (flow_place (ports_of plan) (flow c.args.outcome.packet.level)) [])) earlier
     ∙ found
-    ∙ sym (ap (λ (b : Bool). if b then departure_under scheduler plan slots c.args.outcome.input c.args.output c.args.outcome.number c.args.outcome.packet else None) c.if-not-outcome.false)
+    ∙ sym (ap (λ (b : Bool). if b then departure_under scheduler plan slots c.args.outcome.input c.args.output c.args.outcome.number
+    c.args.outcome.packet else None) c.if-not-outcome.false)

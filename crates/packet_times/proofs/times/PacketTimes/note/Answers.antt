@@ -17,12 +17,14 @@ returns c scheduler plan noted is =
     let slot = c.args.slot in
     let cells = map (λ (post : Post). post.cell) c.args.posts.now in
     let was : HasNoted scheduler plan old slot = subst (λ (s : Times). HasNoted scheduler plan s slot) (sym c.self.view_is) noted in
-    let before : AreNoted scheduler plan slot 0 c.deref_mut.result.now = subst (AreNoted scheduler plan slot 0) (sym c.deref_mut.ensures.value) (are-noted scheduler plan slot old was) in
+    let before : AreNoted scheduler plan slot 0 c.deref_mut.result.now =
+    subst (AreNoted scheduler plan slot 0) (sym c.deref_mut.ensures.value) (are-noted scheduler plan slot old was) in
     let long : c.len-ports.result ≡ length c.self.inside.inputs.items = omega arith in
     let ports : c.len-ports.result ≡ ports_of plan = long ∙ was.count in
     let ends : HasEnds (ports_of plan) slot (fetched old.matched cells) old.ends c.note_ends.new.ends.items =
     subst (λ (n : ℕ). HasEnds n slot (fetched old.matched cells) old.ends c.note_ends.new.ends.items) ports
-    (subst (λ (feeds : List (Option Fed)). HasEnds c.len-ports.result slot (fetched feeds cells) old.ends c.note_ends.new.ends.items) c.deref.ensures.value c.in_ok-note_ends.ensures) in
+    (subst (λ (feeds : List (Option Fed)). HasEnds c.len-ports.result slot (fetched feeds cells) old.ends c.note_ends.new.ends.items) c.deref.ensures.value
+    c.in_ok-note_ends.ensures) in
     let inputs = c.note_inputs.new.inputs in
     let made : AreNoted scheduler plan slot (ports_of plan) inputs = c.in_ok-note_inputs.ensures scheduler plan before is in
     let kept : (with_items c.self.inside.inputs inputs).items ≡ inputs = with_items_is c.self.inside.inputs inputs (omega (arith, made.count, was.count)) in

@@ -1,4 +1,5 @@
-use Rattle.std.proofs.Common.{◌≡◌, ◌∙◌, ◌<◌, ◌≤◌, ◌+◌, ◌++◌, ℕ, Bool, true, false, List, [], Some, length, take, slice_get, slice_index_or, refl, sym, ap, subst, arith, string_bytes}
+use Rattle.std.proofs.Common.{◌≡◌, ◌∙◌, ◌<◌, ◌≤◌, ◌+◌, ◌++◌, ℕ, Bool, true, false, List, [], Some, length, take, slice_get, slice_index_or, refl, sym}
+use Rattle.std.proofs.Common.{ap, subst, arith, string_bytes}
 use Rattle.std.specs.List.{flat_map, enumerate_from}
 use Rattle.std.proofs.lemmas.List.{append-nil}
 use Rattle.rotating_pick.specs.declared.limits.TheConstants.{LEVELS, MAX_PORTS}
@@ -30,33 +31,41 @@ loop-number-preserved c scheduler plan slots noted come =
     let inside : input < ports_of plan = let count = noted.count in let low = c.requires in omega (arith, count, low) in
     let inputs : c.self.inside.inputs.items ≡ c.args.self.now.inputs = ap (λ (t : Times). t.inputs) c.self.view_is in
     let mine : own ≡ slice_index_or c.args.self.now.inputs input own = c.index-own.ensures ∙ ap (λ (is : List Input). slice_index_or is input own) inputs in
-    let packets : items ≡ (card_at plan input).packets = c.packets-packet-items.ensures ∙ own-packets scheduler plan slots c.args.self.now noted input own inside mine in
-    let few : length items ≤ 131072 = subst (λ (ps : List Planned). length ps ≤ 131072) (sym packets) (few-own scheduler plan slots c.args.self.now noted input inside) in
+    let packets : items ≡ (card_at plan input).packets = c.packets-packet-items.ensures
+    ∙ own-packets scheduler plan slots c.args.self.now noted input own inside mine in
+    let few : length items ≤ 131072 =
+    subst (λ (ps : List Planned). length ps ≤ 131072) (sym packets) (few-own scheduler plan slots c.args.self.now noted input inside) in
     let number : c.min.result ≡ k = omega (arith, few) in
-    let outcome = own-outcome scheduler plan slots c.args.self.now noted input own inside mine come k c.is_admitted-admitted.result (subst (λ (ps : List Planned). k < length ps) packets c.loop-number-test.true) c.is_admitted-admitted.ensures in
+    let outcome = own-outcome scheduler plan slots c.args.self.now noted input own inside mine come k c.is_admitted-admitted.result
+    (subst (λ (ps : List Planned). k < length ps) packets c.loop-number-test.true) c.is_admitted-admitted.ensures in
     let p = slice_index_or (card_at plan input).packets k no_packet in
     let admitted = c.is_admitted-admitted.result in
     let same : slice_index_or items k no_packet ≡ p = ap (λ (ps : List Planned). slice_index_or ps k no_packet) packets in
     let numbered : IsOutcome scheduler plan slots (record { input = input; number = c.min.result; packet = p; admitted = admitted }) =
     subst (λ (n : ℕ). IsOutcome scheduler plan slots (record { input = input; number = n; packet = p; admitted = admitted })) (sym number) outcome in
-    let is = subst (λ (x : Planned). IsOutcome scheduler plan slots (record { input = input; number = c.min.result; packet = x; admitted = admitted })) (sym same) numbered in
-    let text = c.in_ok-put_packet.ensures scheduler plan slots noted is (subst (λ (n : ℕ). HasGone scheduler plan slots input n c.loop-number.counts) (sym number) now.gone) in
+    let is = subst (λ (x : Planned). IsOutcome scheduler plan slots (record { input = input; number = c.min.result; packet = x; admitted = admitted }))
+    (sym same) numbered in
+    let text = c.in_ok-put_packet.ensures scheduler plan slots noted is
+    (subst (λ (n : ℕ). HasGone scheduler plan slots input n c.loop-number.counts) (sym number) now.gone) in
     let level = (planned-is scheduler plan slots c.args.self.now noted (record { input = input; number = k; packet = p; admitted = admitted }) outcome).level in
     record {
       gone = elim c.if-admitted.branch [
         | then-admitted w ↦
             let counted = w.count_packet.ensures (subst (λ (x : Planned). x.level < LEVELS) (sym same) level) now.gone.long in
             subst (HasGone scheduler plan slots input (k + 1)) (sym w.counts-is)
-            (gone-more scheduler plan slots k p noted.good input c.loop-number.counts outcome.packet now.gone w.count_packet.new.counts (sym outcome.admitted ∙ w.if-admitted.true)
+            (gone-more scheduler plan slots k p noted.good input c.loop-number.counts outcome.packet now.gone w.count_packet.new.counts
+            (sym outcome.admitted ∙ w.if-admitted.true)
             (subst (λ (x : Planned). IsCounted x.fan x.level (kind_of (queue_of x)) MAX_PORTS c.loop-number.counts w.count_packet.new.counts) same counted))
         | else-admitted w ↦
             subst (HasGone scheduler plan slots input (k + 1)) (sym w.counts-is)
             (gone-same scheduler plan slots k p noted.good input c.loop-number.counts outcome.packet now.gone (sym outcome.admitted ∙ w.if-admitted.false))
       ];
-      text = walk-more (packet_rows scheduler plan slots input) items (string_bytes c.args.text.now) (string_bytes c.loop-number.text) k p (string_bytes c.put_packet.new.text)
+      text = walk-more (packet_rows scheduler plan slots input) items (string_bytes c.args.text.now) (string_bytes c.loop-number.text) k p
+          (string_bytes c.put_packet.new.text)
           (subst (λ (ps : List Planned). slice_get ps k ≡ Some p) (sym packets) outcome.packet) now.text
           (text
-          ∙ ap (λ (n : ℕ). string_bytes c.loop-number.text ++ flat_map row_text (packet_rows scheduler plan slots input n (slice_index_or items k no_packet))) number
+          ∙ ap (λ (n : ℕ). string_bytes c.loop-number.text ++ flat_map row_text (packet_rows scheduler plan slots input n (slice_index_or items k no_packet)))
+          number
           ∙ ap (λ (x : Planned). string_bytes c.loop-number.text ++ flat_map row_text (packet_rows scheduler plan slots input k x)) same);
     }
 
@@ -68,6 +77,9 @@ returns c scheduler plan slots noted come =
     let inside : input < ports_of plan = let count = noted.count in let low = c.requires in omega (arith, count, low) in
     let inputs : c.self.inside.inputs.items ≡ c.args.self.now.inputs = ap (λ (t : Times). t.inputs) c.self.view_is in
     let mine : own ≡ slice_index_or c.args.self.now.inputs input own = c.index-own.ensures ∙ ap (λ (is : List Input). slice_index_or is input own) inputs in
-    let packets : items ≡ (card_at plan input).packets = c.packets-packet-items.ensures ∙ own-packets scheduler plan slots c.args.self.now noted input own inside mine in
-    walk-all (packet_rows scheduler plan slots input) items (string_bytes c.args.text.now) (string_bytes c.loop-number.text) c.loop-number.number (omega arith) (c.loop-number.invariant scheduler plan slots noted come).text
-    ∙ ap (λ (ps : List Planned). string_bytes c.args.text.now ++ flat_map row_text (flat_map (λ q. packet_rows scheduler plan slots input q.0 q.1) (enumerate_from 0 ps))) packets
+    let packets : items ≡ (card_at plan input).packets = c.packets-packet-items.ensures
+    ∙ own-packets scheduler plan slots c.args.self.now noted input own inside mine in
+    walk-all (packet_rows scheduler plan slots input) items (string_bytes c.args.text.now) (string_bytes c.loop-number.text) c.loop-number.number
+    (omega arith) (c.loop-number.invariant scheduler plan slots noted come).text
+    ∙ ap (λ (ps : List Planned). string_bytes c.args.text.now
+    ++ flat_map row_text (flat_map (λ q. packet_rows scheduler plan slots input q.0 q.1) (enumerate_from 0 ps))) packets

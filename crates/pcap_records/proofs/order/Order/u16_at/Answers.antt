@@ -20,4 +20,5 @@ returns-in-Big c =
 
 pub returns-in-Little : goal.returns-in-Little
 returns-in-Little c =
-    rw c.in-Little.is (read_two Little c.args.bytes.now c.args.at c.read_u16-in-Little.result c.requires (λ i. omega (arith, c.type_inv.bytes i)) (little_value c))
+    rw c.in-Little.is (read_two Little c.args.bytes.now c.args.at c.read_u16-in-Little.result c.requires (λ i. omega (arith, c.type_inv.bytes i))
+    (little_value c))

@@ -26,4 +26,5 @@ returns-in-Big-clause-spelled c =
 
 pub returns-in-Little-clause-spelled : goal.returns-in-Little-clause-spelled
 returns-in-Little-clause-spelled c =
-    rw c.in-Little.is (read_four Little c.args.bytes.now c.args.at c.read_u32-in-Little.result c.requires (λ i. omega (arith, c.type_inv.bytes i)) (little_value c))
+    rw c.in-Little.is (read_four Little c.args.bytes.now c.args.at c.read_u32-in-Little.result c.requires (λ i. omega (arith, c.type_inv.bytes i))
+    (little_value c))

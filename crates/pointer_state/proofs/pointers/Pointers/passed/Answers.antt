@@ -16,6 +16,11 @@ pub invariant_of-self : goal.invariant_of-self
 unfolding places_passed
 invariant_of-self c =
     let at_ports : AreAtPorts c.args.self.now = subst AreAtPorts c.self.view_is c.self.invariant in
-    let after : Places = record { ports = c.self.inside.ports; grant = c.self.inside.grant; accept = c.self.inside.accept; shared = slice_set c.self.inside.shared c.args.level c.next.result } in
+    let after : Places = record {
+      ports = c.self.inside.ports;
+      grant = c.self.inside.grant;
+      accept = c.self.inside.accept;
+      shared = slice_set c.self.inside.shared c.args.level c.next.result;
+    } in
     let value : after ≡ places_passed c.args.self.now c.args.level c.args.input = rw (c.next.ensures.value, ← c.self.view_is) refl in
     subst AreAtPorts (sym value) (AreAtPorts-passed c.args.self.now at_ports c.args.level c.requires.level_in c.args.input)

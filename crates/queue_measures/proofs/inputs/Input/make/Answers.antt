@@ -25,5 +25,6 @@ returns c =
       counts = c.in_ok-queues.ensures;
       count = ap length items ∙ long c.queue_count.result ∙ count;
       numbers = λ q mine. ap (λ (ns : List QueueNumbers). slice_index_or ns (place_of plan.ports q) no_numbers) items
-          ∙ all-same c.queue_count.result (place_of plan.ports q) (let inside = place-inside plan.ports q mine in omega (arith, inside, count)) ∙ sym (numbers-first plan [] q);
+          ∙ all-same c.queue_count.result (place_of plan.ports q) (let inside = place-inside plan.ports q mine in omega (arith, inside, count))
+          ∙ sym (numbers-first plan [] q);
     }

@@ -31,23 +31,27 @@ leave-requires c =
 
 -- a list as long as the vector that it is written to is all that stands there
 whole : {X : Type 0} (n : ℕ) (new old : List X) → length new ≡ n → length old ≡ n → take n (new ++ drop (length new) old) ≡ new
-whole n new old long was = ap (λ rest. take n (new ++ rest)) (drop_all (length new) old (omega arith)) ∙ ap (take n) (append-nil new) ∙ take_all n new (omega arith)
+whole n new old long was = ap (λ rest. take n (new ++ rest)) (drop_all (length new) old (omega arith)) ∙ ap (take n) (append-nil new)
+    ∙ take_all n new (omega arith)
 
 pub returns : goal.returns
 returns c = λ plan served was now size row servable.
     let noted = subst (λ (i : Input). IsNoted plan i served) (sym c.self.view_is) was in
     let told = c.arrive-arrival.ensures in
     let counts = told.counts plan served noted.counts now in
-    let numbers = c.count_arrival.ensures ∙ ap (with_arrivals c.args.ports c.args.slot c.arrive-arrival.new.self.lengths c.arrive-arrival.result) c.deref_mut.ensures.value in
+    let numbers = c.count_arrival.ensures
+    ∙ ap (with_arrivals c.args.ports c.args.slot c.arrive-arrival.new.self.lengths c.arrive-arrival.result) c.deref_mut.ensures.value in
     let old = c.self.inside.numbers in
     let count = ap length numbers ∙ with_arrivals-count c.args.ports c.args.slot c.arrive-arrival.new.self.lengths c.arrive-arrival.result old.items in
     let kept = whole old.len c.count_arrival.new.numbers old.items (count ∙ sym old.ok.0) (sym old.ok.0) in
     noted-next plan served c.self.inside.queues old.items noted c.args.ports c.args.slot now size c.arrive-arrival.new.self
-    counts c.arrive-arrival.result (told.arrival plan served noted.counts now) c.args.part _ c.leave.new.self (kept ∙ numbers) (c.leave.ensures plan served counts row servable)
+    counts c.arrive-arrival.result (told.arrival plan served noted.counts now) c.args.part _ c.leave.new.self (kept ∙ numbers)
+    (c.leave.ensures plan served counts row servable)
 
 pub invariant_of-self : goal.invariant_of-self
 invariant_of-self c =
-    let numbers = c.count_arrival.ensures ∙ ap (with_arrivals c.args.ports c.args.slot c.arrive-arrival.new.self.lengths c.arrive-arrival.result) c.deref_mut.ensures.value in
+    let numbers = c.count_arrival.ensures
+    ∙ ap (with_arrivals c.args.ports c.args.slot c.arrive-arrival.new.self.lengths c.arrive-arrival.result) c.deref_mut.ensures.value in
     let old = c.self.inside.numbers in
     let count = ap length numbers ∙ with_arrivals-count c.args.ports c.args.slot c.arrive-arrival.new.self.lengths c.arrive-arrival.result old.items in
     let kept = ap length (whole old.len c.count_arrival.new.numbers old.items (count ∙ sym old.ok.0) (sym old.ok.0)) in

@@ -1,4 +1,5 @@
-use Rattle.std.proofs.Common.{◌≡◌, ◌∙◌, ◌<◌, ℕ, zero, suc, List, [], ◌∷◌, map, length, slice_get, slice_index_or, Some, refl, ap, sym, subst, arith, length-append}
+use Rattle.std.proofs.Common.{◌≡◌, ◌∙◌, ◌<◌, ℕ, zero, suc, List, [], ◌∷◌, map, length, slice_get, slice_index_or, Some, refl, ap, sym, subst, arith}
+use Rattle.std.proofs.Common.{length-append}
 use Rattle.std.proofs.lemmas.List.{get_or-map, length-map}
 use Rattle.card_core.specs.Plans.{Plan, plan_of}
 use Rattle.switch_plan.specs.GoodPlans.{switch_plan_of}
@@ -19,7 +20,8 @@ make-requires c =
     let i = c.loop-card.card-index in
     let card = c.card-item.result in
     let there : slice_get (map plan_of c.args.plan.now.cards.items) i ≡ Some (plan_of card) =
-    ap (λ xs. slice_get (map plan_of xs) i) (sym c.deref-card-items.ensures.value) ∙ get-mapped plan_of ps i card c.loop-card-test.true ∙ ap (λ x. Some (plan_of x)) (sym c.card-item.is) in
+    ap (λ xs. slice_get (map plan_of xs) i) (sym c.deref-card-items.ensures.value) ∙ get-mapped plan_of ps i card c.loop-card-test.true
+    ∙ ap (λ x. Some (plan_of x)) (sym c.card-item.is) in
     (c.requires.cards i (plan_of card) there).good
 
 pub loop-card-preserved : goal.loop-card-preserved
@@ -36,12 +38,15 @@ loop-card-preserved c =
     let long = ap length pushed in
     let count = was.long in
     let here : plan_of card ≡ slice_index_or (map plan_of items) (length old) no_plan =
-    ap plan_of c.card-item.is ∙ sym (get_or-map plan_of ps i card no_plan c.loop-card-test.true) ∙ ap (λ xs. slice_index_or (map plan_of xs) i no_plan) c.deref-card-items.ensures.value
+    ap plan_of c.card-item.is ∙ sym (get_or-map plan_of ps i card no_plan c.loop-card-test.true)
+    ∙ ap (λ xs. slice_index_or (map plan_of xs) i no_plan) c.deref-card-items.ensures.value
     ∙ ap (λ k. slice_index_or (map plan_of items) k no_plan) (sym count) in
     record {
       long = omega (arith, long, more, count);
-      noted = λ k inside. subst (λ (inputs : List Input). IsNoted (slice_index_or (map plan_of items) k no_plan) (slice_index_or inputs k no_input) []) (sym pushed)
-          (noted-more (map plan_of items) old new (λ j below. was.noted j (omega (arith, count, below))) (subst (λ (p : Plan). IsNoted p new []) here c.in_ok-make.ensures) k (omega (arith, count, inside)));
+      noted = λ k inside. subst (λ (inputs : List Input). IsNoted (slice_index_or (map plan_of items) k no_plan) (slice_index_or inputs k no_input) [])
+          (sym pushed)
+          (noted-more (map plan_of items) old new (λ j below. was.noted j (omega (arith, count, below)))
+          (subst (λ (p : Plan). IsNoted p new []) here c.in_ok-make.ensures) k (omega (arith, count, inside)));
     }
 
 pub returns : goal.returns
@@ -56,7 +61,8 @@ returns c =
     λ scheduler. record {
       good = c.requires;
       count = omega (arith, same, mapped, past, end, count);
-      each = λ i inside. subst (IsNoted (card_at (switch_plan_of c.args.plan.now) i) (slice_index_or c.loop-card.inputs.items i no_input)) (sym (served-is scheduler (switch_plan_of c.args.plan.now) i 0))
+      each = λ i inside. subst (IsNoted (card_at (switch_plan_of c.args.plan.now) i) (slice_index_or c.loop-card.inputs.items i no_input))
+          (sym (served-is scheduler (switch_plan_of c.args.plan.now) i 0))
           (was.noted i (omega (arith, same, mapped, past, end, count, inside)));
     }
 

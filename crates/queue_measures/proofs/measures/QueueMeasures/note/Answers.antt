@@ -46,7 +46,8 @@ note-requires c =
     let there : i < length c.loop-i.self-inside.inputs.items = omega (arith, a, b, v, l, t) in
     let ports : c.len-ports.result ≡ ports_of plan = let e = c.len-ports.ensures in omega (arith, e, b, v, n) in
     let same : c.index_mut.result.now ≡ slice_index_or c.args.self.now i no_input =
-    c.index_mut.ensures.value ∙ get_or_default c.loop-i.self-inside.inputs.items i c.index_mut.result.now no_input there ∙ c.loop-i.invariant.left i (omega arith) in (
+    c.index_mut.ensures.value ∙ get_or_default c.loop-i.self-inside.inputs.items i c.index_mut.result.now no_input there
+    ∙ c.loop-i.invariant.left i (omega arith) in (
       card_at plan i,
       parts_under scheduler plan i slot,
       subst (λ (input : Input). IsNoted (card_at plan i) input (parts_under scheduler plan i slot)) (sym same) (h.each i inside),
@@ -77,16 +78,22 @@ loop-i-preserved c =
           let n = h.count in
           let inside : i < ports_of plan = omega (arith, a, b, v, t, n) in
           let ports : c.len-ports.result ≡ ports_of plan = let e = c.len-ports.ensures in omega (arith, e, b, v, n) in
-          let here = c.note.ensures (card_at plan i) (parts_under scheduler plan i slot) (subst (λ (input : Input). IsNoted (card_at plan i) input (parts_under scheduler plan i slot)) (sym same) (h.each i inside))
-          (served-length scheduler plan i slot) (ports-is scheduler plan c.args.self.now slot c.args.posts.now c.args.matched.now h s i inside c.len-ports.result ports)
+          let here = c.note.ensures (card_at plan i) (parts_under scheduler plan i slot)
+          (subst (λ (input : Input). IsNoted (card_at plan i) input (parts_under scheduler plan i slot)) (sym same) (h.each i inside))
+          (served-length scheduler plan i slot)
+          (ports-is scheduler plan c.args.self.now slot c.args.posts.now c.args.matched.now h s i inside c.len-ports.result ports)
           (row-is scheduler plan c.args.self.now slot c.args.posts.now c.args.matched.now h s i inside _)
           (serves scheduler plan c.args.self.now slot c.args.posts.now c.args.matched.now h s i inside _ c.part_of.result c.part_of.ensures) in
           let parts : parts_under scheduler plan i slot ++ c.part_of.result ∷ [] ≡ parts_under scheduler plan i (slot + 1) =
-          ap (λ part. parts_under scheduler plan i slot ++ part ∷ []) c.part_of.ensures ∙ sym (next-parts scheduler plan c.args.self.now slot c.args.posts.now c.args.matched.now h s i inside) in
+          ap (λ part. parts_under scheduler plan i slot ++ part ∷ []) c.part_of.ensures
+          ∙ sym (next-parts scheduler plan c.args.self.now slot c.args.posts.now c.args.matched.now h s i inside) in
           elim (cases_eq k i) [
-            | inl now ↦ subst (λ (input : Input). IsNoted (card_at plan k) input (parts_under scheduler plan k (slot + 1))) (sym (get_or-set_at items i k new no_input now there))
-                (subst (λ (j : ℕ). IsNoted (card_at plan j) new (parts_under scheduler plan j (slot + 1))) (sym now) (subst (IsNoted (card_at plan i) new) parts here))
-            | inr other ↦ subst (λ (input : Input). IsNoted (card_at plan k) input (parts_under scheduler plan k (slot + 1))) (sym (get_or-set_other items i k new no_input other))
+            | inl now ↦ subst (λ (input : Input). IsNoted (card_at plan k) input (parts_under scheduler plan k (slot + 1)))
+                (sym (get_or-set_at items i k new no_input now there))
+                (subst (λ (j : ℕ). IsNoted (card_at plan j) new (parts_under scheduler plan j (slot + 1))) (sym now)
+                (subst (IsNoted (card_at plan i) new) parts here))
+            | inr other ↦ subst (λ (input : Input). IsNoted (card_at plan k) input (parts_under scheduler plan k (slot + 1)))
+                (sym (get_or-set_other items i k new no_input other))
                 (was.noted scheduler plan h s k (omega arith))
           ];
       left = λ k past. get_or-set_other items i k new no_input (omega arith) ∙ was.left k (omega arith);

@@ -18,9 +18,13 @@ loop-i-preserved c =
     let ports : c.len-ports.result ≡ length inputs = let e = c.len-ports.ensures in let b = c.self.inside.inputs.ok.0 in omega (arith, e, b, long') in
     let inside : i < length inputs = omega (arith, there, long, long') in
     let same : c.numbers.result.now ≡ (slice_index_or inputs i no_input).numbers =
-    c.numbers.ensures.value ∙ ap (λ input. input.numbers) (c.input-item.is ∙ get_or_default c.deref-input-items.result.now i c.input-item.result no_input there ∙ ap (λ xs. slice_index_or xs i no_input) (d ∙ v)) in
-    place_more (λ text. text) (input_text (length inputs)) inputs i no_input [] [] (string_bytes c.loop-i.text) (string_bytes c.put_input.new.text) inside c.loop-i.invariant
-    (c.in_ok-put_input.ensures ∙ ap (λ n. string_bytes c.loop-i.text ++ numbers_text n i c.numbers.result.now) ports ∙ ap (λ ns. string_bytes c.loop-i.text ++ numbers_text (length inputs) i ns) same)
+    c.numbers.ensures.value ∙ ap (λ input. input.numbers)
+    (c.input-item.is ∙ get_or_default c.deref-input-items.result.now i c.input-item.result no_input there
+    ∙ ap (λ xs. slice_index_or xs i no_input) (d ∙ v)) in
+    place_more (λ text. text) (input_text (length inputs)) inputs i no_input [] [] (string_bytes c.loop-i.text)
+    (string_bytes c.put_input.new.text) inside c.loop-i.invariant
+    (c.in_ok-put_input.ensures ∙ ap (λ n. string_bytes c.loop-i.text ++ numbers_text n i c.numbers.result.now) ports
+    ∙ ap (λ ns. string_bytes c.loop-i.text ++ numbers_text (length inputs) i ns) same)
 
 pub returns : goal.returns
 returns c = λ scheduler plan slots noted early.
@@ -29,5 +33,6 @@ returns c = λ scheduler plan slots noted early.
     let long' = ap length c.self.view_is in
     let past = c.loop-i-test.false in
     report-is scheduler plan slots inputs noted early (string_bytes c.loop-i.text) (string_bytes c.put_deepest.new.text) c.deepest.result
-    (places_all (λ text. text) (input_text (length inputs)) inputs c.loop-i.i [] (string_bytes c.loop-i.text) (omega (arith, past, long, long')) c.loop-i.invariant)
+    (places_all (λ text. text) (input_text (length inputs)) inputs c.loop-i.i [] (string_bytes c.loop-i.text)
+    (omega (arith, past, long, long')) c.loop-i.invariant)
     c.deepest.ensures c.in_ok-put_deepest.ensures

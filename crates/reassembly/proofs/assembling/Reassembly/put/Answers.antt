@@ -10,16 +10,28 @@ use Rattle.reassembly.proofs.assembling.Reassembly.put.Goals.{After-add}
 -- the cell's flow has a buffer
 in_place : (c : After-add) → c.place_of-place.result < length c.self.inside.buffers.items
 in_place c =
-    omega (arith, c.place_of-place.ensures, c.requires.input, c.requires.form.level, c.self.invariant.0, ap (λ f. f.ports) c.self.view_is, kind_byte-lt c.args.cell.now.kind)
+    omega (
+      arith,
+      c.place_of-place.ensures,
+      c.requires.input,
+      c.requires.form.level,
+      c.self.invariant.0,
+      ap (λ f. f.ports) c.self.view_is,
+      kind_byte-lt c.args.cell.now.kind,
+    )
 
 -- the flows that stand after the cell was added
-stands : (c : After-add) → flows_in c.self.inside.ports (slice_set c.self.inside.buffers.items c.place_of-place.result c.add.new.self) ≡ after_cell c.args.self.now c.args.cell.now
+stands : (c : After-add) → flows_in c.self.inside.ports
+    (slice_set c.self.inside.buffers.items c.place_of-place.result c.add.new.self) ≡ after_cell c.args.self.now c.args.cell.now
 stands c =
-    flows-put c.self.inside.ports c.self.inside.buffers.items c.args.cell.now c.place_of-place.result c.index_mut.result.now c.add.new.self c.args.self.now c.self.view_is c.place_of-place.ensures (in_place c) c.index_mut.ensures.value c.add.ensures
+    flows-put c.self.inside.ports c.self.inside.buffers.items c.args.cell.now c.place_of-place.result c.index_mut.result.now c.add.new.self c.args.self.now
+        c.self.view_is c.place_of-place.ensures (in_place c) c.index_mut.ensures.value c.add.ensures
 
 pub returns-then-cell : goal.returns-then-cell
 returns-then-cell c =
-    let shown = message-put c.self.inside.ports c.self.inside.buffers.items c.args.cell.now c.place_of-place.result c.index_mut.result.now c.add.new.self c.index.result.now c.args.self.now c.self.view_is c.place_of-place.ensures (in_place (goal.at.returns-then-cell c).After-add) c.index_mut.ensures.value c.add.ensures c.index.ensures in (
+    let shown = message-put c.self.inside.ports c.self.inside.buffers.items c.args.cell.now c.place_of-place.result c.index_mut.result.now c.add.new.self
+        c.index.result.now c.args.self.now c.self.view_is c.place_of-place.ensures
+        (in_place (goal.at.returns-then-cell c).After-add) c.index_mut.ensures.value c.add.ensures c.index.ensures in (
       (refl, λ _. tt, stands (goal.at.returns-then-cell c).After-add),
       record {
         after = tt;

@@ -25,7 +25,8 @@ loop-input-preserved c =
     let long = c.self.invariant.1.long in
     let inside : place_of c.loop-input.input c.args.level < length all = omega arith in
     let found = found_is all (place_of c.loop-input.input c.args.level) c.index-queues.result.now inside (rw c.place_of.ensures at c.index-queues.ensures) in
-    let here : c.longest.result ≡ longest_at (queues_at all (place_of c.loop-input.input c.args.level)) s.count = c.longest.ensures ∙ ap (λ q. longest_at q s.count) found in
+    let here : c.longest.result ≡ longest_at (queues_at all (place_of c.loop-input.input c.args.level)) s.count = c.longest.ensures
+    ∙ ap (λ q. longest_at q s.count) found in
     c.max-longest.ensures ∙ ap (λ x. max x c.longest.result) c.loop-input.invariant
     ∙ ap (λ x. max (greatest (map (λ i. longest_at (queues_at all (place_of i c.args.level)) s.count) (range_with_len 0 c.loop-input.input))) x) here
     ∙ sym (greatest-more (λ i. longest_at (queues_at all (place_of i c.args.level)) s.count) c.loop-input.input)
@@ -37,4 +38,5 @@ returns c = λ slots noted.
     let last : c.loop-input.input ≡ s.ports = omega arith in
     let all = longest-noted meter slots c.args.level (subst (λ (m : Meter). HasNoted m slots) (sym c.self.view_is) noted) c.requires.level in
     let ports : s.ports ≡ c.args.self.now.ports = ap (λ (m : Meter). m.ports) c.self.view_is in
-    c.loop-input.invariant ∙ ap (λ n. greatest (map (λ i. longest_at (queues_at s.queues.items (place_of i c.args.level)) s.count) (range_with_len 0 n))) last ∙ all ∙ ap (λ n. longest_wait n c.args.level slots) ports
+    c.loop-input.invariant ∙ ap (λ n. greatest (map (λ i. longest_at (queues_at s.queues.items (place_of i c.args.level)) s.count) (range_with_len 0 n))) last
+    ∙ all ∙ ap (λ n. longest_wait n c.args.level slots) ports

@@ -5,4 +5,5 @@ use Rattle.service_bound.specs.Meters.{place_of, queues_at, longest_at}
 use Rattle.service_bound.proofs.meter.WaitMeter.longest.Given as goal
 
 abbrev pub invariant-loop-input : goal.invariant-loop-input
-invariant-loop-input l = l.longest ≡ greatest (map (λ i. longest_at (queues_at l.self-inside.queues.items (place_of i l.level)) l.self-inside.count) (range_with_len 0 l.input))
+invariant-loop-input l = l.longest ≡ greatest
+    (map (λ i. longest_at (queues_at l.self-inside.queues.items (place_of i l.level)) l.self-inside.count) (range_with_len 0 l.input))

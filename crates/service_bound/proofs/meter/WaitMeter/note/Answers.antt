@@ -16,8 +16,11 @@ invariant_of-self c =
     let s = c.self.inside in
     let old : Meter = record { ports = s.ports; count = s.count; queues = s.queues.items } in
     let new : Meter = record { ports = s.ports; count = s.count + 1; queues = c.note_slot.new.queues.items } in
-    let slot : NotedSlot = record { rows = c.args.rows.now; matched = c.args.matched.now } in
-    (c.self.invariant.0 ++ slot ∷ [], HasNoted-more old new c.self.invariant.0 slot refl refl c.note_slot.ensures.long c.note_slot.ensures.noted (subst (λ (m : Meter). AreWithin m.ports c.args.rows.now) (sym c.self.view_is) c.requires.rows) c.self.invariant.1)
+    let slot : NotedSlot = record { rows = c.args.rows.now; matched = c.args.matched.now } in (
+      c.self.invariant.0 ++ slot ∷ [],
+      HasNoted-more old new c.self.invariant.0 slot refl refl c.note_slot.ensures.long c.note_slot.ensures.noted
+          (subst (λ (m : Meter). AreWithin m.ports c.args.rows.now) (sym c.self.view_is) c.requires.rows) c.self.invariant.1,
+    )
 
 pub returns-clause-noted : goal.returns-clause-noted
 returns-clause-noted c = λ slots noted.
@@ -25,4 +28,6 @@ returns-clause-noted c = λ slots noted.
     let old : Meter = record { ports = s.ports; count = s.count; queues = s.queues.items } in
     let new : Meter = record { ports = s.ports; count = s.count + 1; queues = c.note_slot.new.queues.items } in
     let slot : NotedSlot = record { rows = c.args.rows.now; matched = c.args.matched.now } in
-    HasNoted-more old new slots slot refl refl c.note_slot.ensures.long c.note_slot.ensures.noted (subst (λ (m : Meter). AreWithin m.ports c.args.rows.now) (sym c.self.view_is) c.requires.rows) (subst (λ (m : Meter). HasNoted m slots) (sym c.self.view_is) noted)
+    HasNoted-more old new slots slot refl refl c.note_slot.ensures.long c.note_slot.ensures.noted
+    (subst (λ (m : Meter). AreWithin m.ports c.args.rows.now) (sym c.self.view_is) c.requires.rows)
+    (subst (λ (m : Meter). HasNoted m slots) (sym c.self.view_is) noted)

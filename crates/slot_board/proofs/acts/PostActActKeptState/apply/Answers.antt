@@ -6,4 +6,5 @@ use Rattle.slot_board.proofs.acts.PostActActKeptState.apply.Goals as goal
 pub returns-clause-answer : goal.returns-clause-answer
 returns-clause-answer c =
     let act = c.args.self in
-    subst (λ (b : BoardValue). StayLegal b.setup b.events (post_adds act.card act.post.now (numbers_of b.setup) b.events)) c.deref_mut.ensures.value c.add_post.ensures.legal
+    subst (λ (b : BoardValue). StayLegal b.setup b.events
+    (post_adds act.card act.post.now (numbers_of b.setup) b.events)) c.deref_mut.ensures.value c.add_post.ensures.legal

@@ -12,19 +12,25 @@ invariant_of-seat c =
     let s = c.seat.inside in
     let same = c.seat.view_is in
     let going : is_done s.seat ≡ false = ap is_done same ∙ c.requires.not_done in
-    let left : slot_of s.seat < (setup_at s.seat).max_slots = subst (λ seat. slot_of seat < (setup_at seat).max_slots) (sym same) (subst (λ turn. slot_of c.args.seat.now < (setup_of turn.numbers).max_slots) (sym c.requires.seat) c.requires.room) in
+    let left : slot_of s.seat < (setup_at s.seat).max_slots =
+    subst (λ seat. slot_of seat < (setup_at seat).max_slots) (sym same)
+    (subst (λ turn. slot_of c.args.seat.now < (setup_of turn.numbers).max_slots) (sym c.requires.seat) c.requires.room) in
     let accepted : Accepts s.seat c.args.post = subst (λ seat. Accepts seat c.args.post) (sym same) c.requires.accepted in
-    kept_then s.seat s.ports s.card s.slot s.posted s.done s.last s.served s.refused s.room.items _ c.seat.invariant c.try_turn.new.seat c.args.post c.in-Ok.ensures.turn (λ it. c.requires.not_posted (subst IsPosted same it)) going left accepted
+    kept_then s.seat s.ports s.card s.slot s.posted s.done s.last s.served s.refused s.room.items _ c.seat.invariant c.try_turn.new.seat c.args.post
+        c.in-Ok.ensures.turn (λ it. c.requires.not_posted (subst IsPosted same it)) going left accepted
 
 pub returns-in-Ok-clause-posted : goal.returns-in-Ok-clause-posted
 returns-in-Ok-clause-posted c =
     let s = c.seat.inside in
     let same = c.seat.view_is in
     let going : is_done s.seat ≡ false = ap is_done same ∙ c.requires.not_done in
-    let left : slot_of s.seat < (setup_at s.seat).max_slots = subst (λ seat. slot_of seat < (setup_at seat).max_slots) (sym same) (subst (λ turn. slot_of c.args.seat.now < (setup_of turn.numbers).max_slots) (sym c.requires.seat) c.requires.room) in
+    let left : slot_of s.seat < (setup_at s.seat).max_slots =
+    subst (λ seat. slot_of seat < (setup_at seat).max_slots) (sym same)
+    (subst (λ turn. slot_of c.args.seat.now < (setup_of turn.numbers).max_slots) (sym c.requires.seat) c.requires.room) in
     let accepted : Accepts s.seat c.args.post = subst (λ seat. Accepts seat c.args.post) (sym same) c.requires.accepted in
     subst (λ seat. HasPosted c.args.post seat c.try_turn.new.seat) same
-    (posted_turn s.seat s.ports s.card s.slot s.posted s.done s.last s.served s.refused s.room.items _ c.seat.invariant c.try_turn.new.seat c.args.post c.in-Ok.ensures.turn (λ it. c.requires.not_posted (subst IsPosted same it)) going left accepted)
+    (posted_turn s.seat s.ports s.card s.slot s.posted s.done s.last s.served s.refused s.room.items _ c.seat.invariant c.try_turn.new.seat c.args.post
+        c.in-Ok.ensures.turn (λ it. c.requires.not_posted (subst IsPosted same it)) going left accepted)
 
 pub returns-in-Ok-clause-column : goal.returns-in-Ok-clause-column
 returns-in-Ok-clause-column c = HasPosted-column c.args.post c.args.seat.now c.try_turn.new.seat (returns-in-Ok-clause-posted c)
@@ -32,5 +38,6 @@ returns-in-Ok-clause-column c = HasPosted-column c.args.post c.args.seat.now c.t
 pub returns-in-Ok-clause-after : goal.returns-in-Ok-clause-after
 returns-in-Ok-clause-after c =
     let s = c.seat.inside in
-    let seat : IsSeat c.args.seat.now = subst IsSeat c.seat.view_is (IsSeat-kept s.seat s.ports s.card s.slot s.posted s.done s.last s.served s.refused s.room.items _ c.seat.invariant) in
+    let seat : IsSeat c.args.seat.now =
+    subst IsSeat c.seat.view_is (IsSeat-kept s.seat s.ports s.card s.slot s.posted s.done s.last s.served s.refused s.room.items _ c.seat.invariant) in
     AfterPost-has c.args.post c.args.seat.now c.try_turn.new.seat seat (returns-in-Ok-clause-posted c)

@@ -18,24 +18,32 @@ overflow_add-seat c =
 pub invariant_of-seat : goal.invariant_of-seat
 invariant_of-seat c =
     let s = c.seat.inside in
-    kept_taken s.seat s.ports s.card s.slot s.posted s.done s.last s.served s.refused s.room.items _ c.seat.invariant c.try_turn.new.seat (drawn_answer c.in-Ok.drawn) c.in-Ok.ensures.turn (subst IsPosted (sym c.seat.view_is) c.requires.posted) c.in-Ok.drawn.taken (ready-is c.in-Ok.drawn c.if-drawn.true)
+    kept_taken s.seat s.ports s.card s.slot s.posted s.done s.last s.served s.refused s.room.items _ c.seat.invariant c.try_turn.new.seat
+    (drawn_answer c.in-Ok.drawn) c.in-Ok.ensures.turn (subst IsPosted (sym c.seat.view_is) c.requires.posted) c.in-Ok.drawn.taken
+    (ready-is c.in-Ok.drawn c.if-drawn.true)
 
 pub invariant_of-seat-else-drawn : goal.invariant_of-seat-else-drawn
 invariant_of-seat-else-drawn c =
     let s = c.seat.inside in
-    kept_undecided s.seat s.ports s.card s.slot s.posted s.done s.last s.served s.refused s.room.items _ c.seat.invariant c.try_turn.new.seat (drawn_answer c.in-Ok.drawn) c.in-Ok.ensures.turn (subst IsPosted (sym c.seat.view_is) c.requires.posted) c.in-Ok.drawn.posted (waiting-is c.in-Ok.drawn c.if-drawn.false) c.saturating_add-seat-inside.result c.saturating_add-seat-inside.ensures
+    kept_undecided s.seat s.ports s.card s.slot s.posted s.done s.last s.served s.refused s.room.items _ c.seat.invariant c.try_turn.new.seat
+    (drawn_answer c.in-Ok.drawn) c.in-Ok.ensures.turn (subst IsPosted (sym c.seat.view_is) c.requires.posted) c.in-Ok.drawn.posted
+    (waiting-is c.in-Ok.drawn c.if-drawn.false) c.saturating_add-seat-inside.result c.saturating_add-seat-inside.ensures
 
 pub returns-then-drawn-clause-taken : goal.returns-then-drawn-clause-taken
 returns-then-drawn-clause-taken c =
     let s = c.seat.inside in
     subst (λ seat. HasTaken c.in-Ok.drawn.taken seat c.try_turn.new.seat) c.seat.view_is
-    (taken_turn s.seat s.ports s.card s.slot s.posted s.done s.last s.served s.refused s.room.items _ c.seat.invariant c.try_turn.new.seat (drawn_answer c.in-Ok.drawn) c.in-Ok.ensures.turn (subst IsPosted (sym c.seat.view_is) c.requires.posted) c.in-Ok.drawn.taken (ready-is c.in-Ok.drawn c.if-drawn.true))
+    (taken_turn s.seat s.ports s.card s.slot s.posted s.done s.last s.served s.refused s.room.items _ c.seat.invariant c.try_turn.new.seat
+    (drawn_answer c.in-Ok.drawn) c.in-Ok.ensures.turn (subst IsPosted (sym c.seat.view_is) c.requires.posted) c.in-Ok.drawn.taken
+    (ready-is c.in-Ok.drawn c.if-drawn.true))
 
 pub returns-else-drawn-clause-wait : goal.returns-else-drawn-clause-wait
 returns-else-drawn-clause-wait c =
     let s = c.seat.inside in
     subst (λ seat. IsUndecided c.in-Ok.drawn.posted seat c.try_turn.new.seat) c.seat.view_is
-    (undecided_turn s.seat s.ports s.card s.slot s.posted s.done s.last s.served s.refused s.room.items _ c.seat.invariant c.try_turn.new.seat (drawn_answer c.in-Ok.drawn) c.in-Ok.ensures.turn (subst IsPosted (sym c.seat.view_is) c.requires.posted) c.in-Ok.drawn.posted (waiting-is c.in-Ok.drawn c.if-drawn.false))
+    (undecided_turn s.seat s.ports s.card s.slot s.posted s.done s.last s.served s.refused s.room.items _ c.seat.invariant c.try_turn.new.seat
+    (drawn_answer c.in-Ok.drawn) c.in-Ok.ensures.turn (subst IsPosted (sym c.seat.view_is) c.requires.posted) c.in-Ok.drawn.posted
+    (waiting-is c.in-Ok.drawn c.if-drawn.false))
 
 pub returns-then-drawn-clause-column : goal.returns-then-drawn-clause-column
 returns-then-drawn-clause-column c = HasTaken-column c.in-Ok.drawn.taken c.args.seat.now c.try_turn.new.seat (returns-then-drawn-clause-taken c)
@@ -46,11 +54,13 @@ returns-else-drawn-clause-stays c = IsUndecided-column c.in-Ok.drawn.posted c.ar
 pub returns-then-drawn-clause-after : goal.returns-then-drawn-clause-after
 returns-then-drawn-clause-after c =
     let s = c.seat.inside in
-    let seat : IsSeat c.args.seat.now = subst IsSeat c.seat.view_is (IsSeat-kept s.seat s.ports s.card s.slot s.posted s.done s.last s.served s.refused s.room.items _ c.seat.invariant) in
+    let seat : IsSeat c.args.seat.now =
+    subst IsSeat c.seat.view_is (IsSeat-kept s.seat s.ports s.card s.slot s.posted s.done s.last s.served s.refused s.room.items _ c.seat.invariant) in
     AfterTaking-has c.in-Ok.drawn.taken c.args.seat.now c.try_turn.new.seat seat c.requires.posted (returns-then-drawn-clause-taken c)
 
 pub returns-else-drawn-clause-refused : goal.returns-else-drawn-clause-refused
 returns-else-drawn-clause-refused c =
     let s = c.seat.inside in
-    let seat : IsSeat c.args.seat.now = subst IsSeat c.seat.view_is (IsSeat-kept s.seat s.ports s.card s.slot s.posted s.done s.last s.served s.refused s.room.items _ c.seat.invariant) in
+    let seat : IsSeat c.args.seat.now =
+    subst IsSeat c.seat.view_is (IsSeat-kept s.seat s.ports s.card s.slot s.posted s.done s.last s.served s.refused s.room.items _ c.seat.invariant) in
     AfterRefusal-undecided c.in-Ok.drawn.posted c.args.seat.now c.try_turn.new.seat seat (returns-else-drawn-clause-wait c)

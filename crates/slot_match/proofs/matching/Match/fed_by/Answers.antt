@@ -17,8 +17,12 @@ returns c j =
           let p = known.0 has in
           let below : j < n = let lt = p.0 in omega (arith, ended) in
           let found = is_from-some i (fed_of table j) p.1 in
-          let whole : Fed = record { input = i; level = found.0.level; kind = found.0.kind } in
-          (found.0.level, found.0.kind, subst (λ m. Serves m i j found.0.level found.0.kind) c.self.view_is (fed_of-take n table j below ∙ (found.1 ∙ ap Some (same_fed found.0 whole found.2 refl refl)))),
+          let whole : Fed = record { input = i; level = found.0.level; kind = found.0.kind } in (
+            found.0.level,
+            found.0.kind,
+            subst (λ m. Serves m i j found.0.level found.0.kind) c.self.view_is
+                (fed_of-take n table j below ∙ (found.1 ∙ ap Some (same_fed found.0 whole found.2 refl refl))),
+          ),
       λ s.
           let f : Fed = record { input = i; level = s.0; kind = s.1 } in
           let here = subst (λ m. Serves m i j s.0 s.1) (sym c.self.view_is) s.2 in

@@ -23,5 +23,6 @@ returns c =
     let n = length c.args.self.now in
     let size : c.self.inside.ports ≡ n = sym c.self.invariant.sets.whole.count ∙ ap length c.self.view_is in
     let Left : List (Option Fed) → ℕ → Type 0 = λ m k. (j : ℕ) → Has c.self.inside.free_outputs j ↔ ((j < k) × IsFreeOutput m j) in
-    let left : Left c.args.self.now n = subst (Left c.args.self.now) size (subst (λ m. Left m c.self.inside.ports) c.self.view_is c.self.invariant.sets.outputs_left) in
+    let left : Left c.args.self.now n =
+    subst (Left c.args.self.now) size (subst (λ m. Left m c.self.inside.ports) c.self.view_is c.self.invariant.sets.outputs_left) in
     (λ _. IsMaximal-from n c.args.rows.now c.args.self.now c.self.inside.free_outputs left (λ i j i_in. c.loop-i.invariant i j (omega arith)), λ _. refl)

@@ -14,7 +14,8 @@ returns-then-contains-clause-value c =
     sym (served_of-free c.args.self.now c.args.input (subst (λ m. IsFreeInput m c.args.input) c.self.view_is free))
 
 pub returns-in_default-clause-free : goal.returns-in_default-clause-free
-returns-in_default-clause-free c = (λ _ j level kind s. zero-has c.fed_by-outputs.result j (c.in_default.ensures.none.0 refl) ((c.fed_by-outputs.ensures j).1 (level, kind, s)), λ _. refl)
+returns-in_default-clause-free c =
+    (λ _ j level kind s. zero-has c.fed_by-outputs.result j (c.in_default.ensures.none.0 refl) ((c.fed_by-outputs.ensures j).1 (level, kind, s)), λ _. refl)
 
 pub returns-in_default-clause-value : goal.returns-in_default-clause-value
 returns-in_default-clause-value c = sym (served_of-free c.args.self.now c.args.input ((returns-in_default-clause-free c).0 refl))
@@ -28,7 +29,8 @@ returns-in-Some-get-clause-part c =
     let feeds : (j : ℕ) → Has fan j ↔ ((level : ℕ) × (kind : Kind) × Serves c.args.self.now i j level kind) = c.fed_by-outputs.ensures in
     let here = subst (λ m. (j : ℕ) → Has fan j ↔ ((level : ℕ) × (kind : Kind) × Serves m i j level kind)) (sym c.self.view_is) feeds in
     subst (λ m. IsServed m i part) c.self.view_is
-    (IsServed-from_fan inside.ports inside.count inside.fed inside.free_inputs inside.free_outputs inside.multicasting c.self.invariant i fan c.in-Some.output c.in-Some-get.fed here c.in-Some.ensures.member (sym c.get.ensures ∙ c.in-Some-get.is))
+    (IsServed-from_fan inside.ports inside.count inside.fed inside.free_inputs inside.free_outputs inside.multicasting c.self.invariant i fan c.in-Some.output
+        c.in-Some-get.fed here c.in-Some.ensures.member (sym c.get.ensures ∙ c.in-Some-get.is))
 
 pub returns-in-Some-get-clause-value : goal.returns-in-Some-get-clause-value
 returns-in-Some-get-clause-value c =

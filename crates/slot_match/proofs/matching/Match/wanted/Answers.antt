@@ -8,7 +8,9 @@ use Rattle.slot_match.proofs.matching.Match.wanted.Goals.{then-contains-2, else-
 
 pub returns-then-contains : goal.returns-then-contains
 returns-then-contains c j =
-    let free : IsFreeInput c.args.self.now c.args.input = subst (λ m. IsFreeInput m c.args.input) c.self.view_is ((c.self.invariant.sets.inputs_left c.args.input).0 (c.contains.ensures.0 c.if-contains.true)).1 in (
+    let free : IsFreeInput c.args.self.now c.args.input =
+    subst (λ m. IsFreeInput m c.args.input) c.self.view_is
+    ((c.self.invariant.sets.inputs_left c.args.input).0 (c.contains.ensures.0 c.if-contains.true)).1 in (
       λ has. inl (free, (c.named.ensures j).0 has),
       λ wants. elim wants [ inl p ↦ (c.named.ensures j).1 p.1 | inr p ↦ absurd (free p.1.some.0 p.0 Multi p.1.some.1) ],
     )
@@ -32,7 +34,8 @@ loop-level-preserved c j =
       | else-contains-2 w ↦ rw w.wanted-is (
         λ has. let p = known.0 has in (p.0, let below = p.1 in omega arith, p.2, p.3),
         λ p. elim (cases_eq p.0 level) [
-          | inl same ↦ let holds = c.contains-in-loop-level.ensures.1 (subst (λ m. Has (slice_index c.self.inside.multicasting m) c.args.input) same p.2) in absurd (cc)
+          | inl same ↦ let holds = c.contains-in-loop-level.ensures.1 (subst (λ m. Has (slice_index c.self.inside.multicasting m) c.args.input) same p.2) in
+              absurd (cc)
           | inr other ↦ known.1 (p.0, let below = p.1 in omega arith, p.2, p.3)
         ],
       )
@@ -47,7 +50,15 @@ returns c j =
     let view = λ (level : ℕ). subst (λ m. IsMulticasting m c.args.input level) c.self.view_is in (
       λ has. let p = known.0 has in inr (p.0, view p.0 ((here p.0).0 p.2), p.3),
       λ wants. elim wants [
-        | inl p ↦ absurd (let free = (c.self.invariant.sets.inputs_left c.args.input).1 (input_in, subst (λ m. IsFreeInput m c.args.input) (sym c.self.view_is) p.0) in let holds = c.contains.ensures.1 free in cc)
-        | inr p ↦ known.1 (p.0, (let below = c.self.invariant.sets.whole.level_in c.args.input p.1.some.0 p.0 Multi (back p.1.some.0 p.0 p.1.some.1) in omega arith), (here p.0).1 (subst (λ m. IsMulticasting m c.args.input p.0) (sym c.self.view_is) p.1), p.2)
+        | inl p ↦ absurd (let free =
+            (c.self.invariant.sets.inputs_left c.args.input).1 (input_in, subst (λ m. IsFreeInput m c.args.input) (sym c.self.view_is) p.0) in let holds =
+            c.contains.ensures.1 free in cc)
+        | inr p ↦ known.1 (
+          p.0,
+          (let below = c.self.invariant.sets.whole.level_in c.args.input p.1.some.0 p.0 Multi (back p.1.some.0 p.0 p.1.some.1) in
+              omega arith),
+          (here p.0).1 (subst (λ m. IsMulticasting m c.args.input p.0) (sym c.self.view_is) p.1),
+          p.2,
+        )
       ],
     )

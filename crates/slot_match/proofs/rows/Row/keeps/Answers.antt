@@ -10,10 +10,12 @@ returns-then-not-keeps_at c = (
 )
 
 pub loop-level-preserved : goal.loop-level-preserved
-loop-level-preserved c = below_more (KeepsLevel (Gives c.args.served) c.args.old.now c.args.self.now) c.loop-level.level c.loop-level.invariant (c.keeps_at.ensures.0 (search rules))
+loop-level-preserved c = below_more (KeepsLevel (Gives c.args.served) c.args.old.now c.args.self.now) c.loop-level.level c.loop-level.invariant
+    (c.keeps_at.ensures.0 (search rules))
 
 pub returns : goal.returns
 returns c = (
-  λ _. KeepsRest-from (Gives c.args.served) c.args.old.now c.args.self.now (search rules) (search rules) (λ level below. c.loop-level.invariant level (omega arith)),
+  λ _. KeepsRest-from (Gives c.args.served) c.args.old.now c.args.self.now (search rules) (search rules)
+      (λ level below. c.loop-level.invariant level (omega arith)),
   λ _. refl,
 )

@@ -16,7 +16,9 @@ returns-else-are_sized c =
         | else-has_aside w ↦ elim c.if-are_totals.branch [
           | then-are_totals v ↦ let yes_ = v.has_aside.ensures.1 all.aside in absurd (cc)
           | else-are_totals v ↦
-              let yes_ = c.are_totals.ensures.1 (subst (λ (cards : List CardPlan). AreTotals (length cards) c.args.self.now.max_slots (packets_of_cards cards)) (sym c.deref.ensures.value) all.totals) in
+              let yes_ = c.are_totals.ensures.1
+              (subst (λ (cards : List CardPlan). AreTotals (length cards) c.args.self.now.max_slots (packets_of_cards cards))
+              (sym c.deref.ensures.value) all.totals) in
               absurd (cc)
         ]
       ],

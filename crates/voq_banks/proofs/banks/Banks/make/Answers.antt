@@ -11,4 +11,5 @@ returns-clause-banks c = rw c.in_ok-queues.ensures (queues-empty c.args.n c.args
 
 pub returns-clause-empty : goal.returns-clause-empty
 returns-clause-empty c =
-    λ output level. rw c.in_ok-queues.ensures (ap (λ all. queue_at all output level) (queues-empty c.args.n c.args.depth c.args.room.now) ∙ queue_at-empty c.args.n c.args.depth c.args.room.now output level)
+    λ output level. rw c.in_ok-queues.ensures (ap (λ all. queue_at all output level) (queues-empty c.args.n c.args.depth c.args.room.now)
+    ∙ queue_at-empty c.args.n c.args.depth c.args.room.now output level)
