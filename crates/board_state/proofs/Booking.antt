@@ -13,7 +13,7 @@ use Rattle.slot_histories.proofs.Appending.{posts_of-other, posts_of-decide, pos
 use Rattle.slot_histories.proofs.Appending.{takes_of-decide, posted_more, decides-post, decides-take, decides-decide}
 use Rattle.slot_histories.proofs.InStep.{AreInStep}
 use Rattle.board_state.specs.Boards.{HavePosted}
-use Rattle.board_state.specs.Kept.{AreBooks}
+use Rattle.board_state.specs.KeepingSteps.{AreBooks}
 
 -- the count of one card raised by 1
 abbrev pub raised : List ℕ → ℕ → List ℕ

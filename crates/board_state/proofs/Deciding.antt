@@ -17,7 +17,7 @@ use Rattle.slot_histories.proofs.Appending.{posts_of-decide, decides-decide}
 use Rattle.slot_histories.proofs.Agreeing.{places_at-same, decision_at-same, is_done_at-same, is_done_before-same}
 use Rattle.slot_histories.proofs.InStep.{AreInStep, posted-stays}
 use Rattle.slot_histories.proofs.LegalLists.{AreInStep-legal, AreAccepted-legal}
-use Rattle.board_state.specs.Kept.{Decisions, AreDecided}
+use Rattle.board_state.specs.KeepingSteps.{Decisions, AreDecided}
 
 -- a decision adds no post
 unposted : (events : List Event) (i t : ℕ) → posted events i t ≡ posted (events ++ Decide ∷ []) i t

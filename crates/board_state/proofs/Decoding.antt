@@ -10,7 +10,7 @@ use Rattle.rotating_pick.specs.declared.limits.TheConstants.{MAX_PORTS}
 use Rattle.crossbar.specs.declared.cards.Post.{Post as CardPost}
 use Rattle.slot_histories.specs.declared.events.Event.TheVariants.{Post, Decide, Take}
 use Rattle.slot_histories.specs.Events.{no_post}
-use Rattle.board_state.specs.Kept.{post_at, event_at, count_of, events_after, events_of}
+use Rattle.board_state.specs.KeepingSteps.{post_at, event_at, count_of, events_after, events_of}
 
 -- ---- how often a byte stands in the order
 pub count_of-append : (x : ℕ) (xs ys : List ℕ) → count_of x (xs ++ ys) ≡ count_of x xs + count_of x ys

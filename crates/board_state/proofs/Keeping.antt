@@ -13,7 +13,7 @@ use Rattle.slot_histories.specs.Legal.{MayPost, MayDecide, MayTake, Allows}
 use Rattle.slot_histories.proofs.Appending.{posts_of-decide, posts_of-take, decides-post, decides-take}
 use Rattle.slot_histories.proofs.InStep.{AreInStep, length-in_step}
 use Rattle.slot_histories.proofs.LegalLists.{IsLegal-more, AreInStep-legal}
-use Rattle.board_state.specs.Kept.{Parts, events_of, events_in, with_place, IsKept, IsRoom}
+use Rattle.board_state.specs.KeepingSteps.{Parts, events_of, events_in, with_place, IsKept, IsRoom}
 use Rattle.board_state.proofs.Decoding.{events_of-post, events_of-take, events_of-decide}
 use Rattle.board_state.proofs.Placing.{with_place-like, place_in, place_few, ArePlaces-idle, ArePlaces-post}
 use Rattle.board_state.proofs.Booking.{raised, AreBooks-post, AreBooks-take, AreBooks-decide, HavePosted-post, HavePosted-take, HavePosted-decide}

@@ -15,7 +15,7 @@ use Rattle.slot_histories.specs.Events.{Setup, posts_of, posted, no_post}
 use Rattle.slot_histories.specs.Slots.{slot_posts}
 use Rattle.slot_histories.specs.Legal.{MayPost}
 use Rattle.slot_histories.proofs.Appending.{posts_of-same, posts_of-other, posted-append, posted_more}
-use Rattle.board_state.specs.Kept.{post_at, with_place, ArePlaces}
+use Rattle.board_state.specs.KeepingSteps.{post_at, with_place, ArePlaces}
 use Rattle.board_state.proofs.Decoding.{count_of-same, count_of-other, places_differ}
 
 -- ---- a place for a post

@@ -18,8 +18,8 @@ use Rattle.slot_histories.proofs.SoundDecisions.{decision_at-legal, places_at-le
 use Rattle.slot_histories.proofs.PostedRows.{posted_rows-within}
 use Rattle.board_state.specs.declared.state.BoardState.TheInside.{Inside}
 use Rattle.board_state.specs.Boards.{BoardValue, HavePosted}
-use Rattle.board_state.specs.Kept.{events_in, IsKept}
-use Rattle.board_state.specs.Fields.{parts_of, board_of, AreKept}
+use Rattle.board_state.specs.KeepingSteps.{events_in, IsKept}
+use Rattle.board_state.specs.FieldSteps.{parts_of, board_of, AreKept}
 use Rattle.board_state.proofs.Placing.{slot_fits, slot_long, slot_is}
 use Rattle.board_state.proofs.Deciding.{done_before}
 use Rattle.board_state.proofs.Keeping.{in_step, event_fits, decision_fits}

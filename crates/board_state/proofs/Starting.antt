@@ -7,7 +7,7 @@ use Rattle.pointer_state.specs.Places.{places_at_first}
 use Rattle.slot_histories.specs.Events.{Setup}
 use Rattle.board_state.specs.declared.limits.TheConstants.{MAX_SLOTS, MAX_SLOTS_WIDE}
 use Rattle.board_state.specs.Boards.{IsSetup}
-use Rattle.board_state.specs.Kept.{Parts, IsKept, IsRoom, events_of}
+use Rattle.board_state.specs.KeepingSteps.{Parts, IsKept, IsRoom, events_of}
 
 pub IsSetup-within :
     {n rounds max_slots : ℕ} →

@@ -1,4 +1,4 @@
 pub mod Boards
-pub mod Fields
-pub mod Kept
+pub mod FieldSteps
+pub mod KeepingSteps
 pub mod JournalRows

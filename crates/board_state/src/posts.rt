@@ -2,7 +2,7 @@ ghost use Rattle.std.specs.Prelude.{◌≡◌, ℕ, ◌+◌, ◌*◌, ◌<◌, �
 ghost use Rattle.std.specs.List.{list_all};
 ghost use Rattle.crossbar.specs.Crossing.{fetched};
 ghost use Rattle.slot_histories.specs.Events.{no_post};
-ghost use Rattle.board_state.specs.Kept.{with_place};
+ghost use Rattle.board_state.specs.KeepingSteps.{with_place};
 
 use cell_cutter::Cell;
 use crossbar::Post;

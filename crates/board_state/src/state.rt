@@ -62,7 +62,7 @@ impl Model for BoardState {
 
     ghost Value = { BoardValue };
 
-    ghost use Rattle.board_state.specs.Fields.{board_of, AreKept};
+    ghost use Rattle.board_state.specs.FieldSteps.{board_of, AreKept};
 
     ghost view = { board_of };
 

@@ -6,7 +6,8 @@ use Rattle.std.proofs.lemmas.List.{get_or-set_same, get_or-set_other, set_past, 
 use Rattle.cell_cutter.specs.declared.cell.Cell.{Cell}
 use Rattle.cell_cutter.specs.Cells.{IsUsed, used_bytes}
 use Rattle.reassembly.specs.Flows.{Flow, Flows, fresh, flow_of, bytes_with, with_cell, after_cell, place_of_cell, Fits}
-use Rattle.card_core.specs.Cards.{Received, AreFull}
+use Rattle.card_core.specs.Cards.{Received}
+use Rattle.card_core.specs.CardSteps.{AreFull}
 
 abbrev pub received_of : Flows → List ℕ → List ℕ → ℕ → ℕ → ℕ → Received
 received_of flows body lens cells body_room packet_room =

@@ -17,7 +17,8 @@ use Rattle.reassembly.specs.Cutting.{Stands, rest_after, joined, messages_of}
 use Rattle.reassembly.proofs.Pieces.{Stands-with_cell, messages_of-push}
 use Rattle.card_core.specs.Plans.{Plan, IsGoodPlan}
 use Rattle.card_core.specs.Deliveries.{is_of_flow, flow_cells, message_with, ended_by, messages_after, delivered, messages_from}
-use Rattle.card_core.specs.Cards.{Received, HasReceived, MayReceive, received_with, flow_at}
+use Rattle.card_core.specs.Cards.{Received, HasReceived, MayReceive, flow_at}
+use Rattle.card_core.specs.CardSteps.{received_with}
 
 -- ---- the messages
 messages-push : (before cells : List Cell) (cell : Cell) → messages_after before (cells ++ cell ∷ []) ≡ messages_after before cells

@@ -7,7 +7,7 @@ use Rattle.voq_banks.specs.Queues.{Queues as UniQueues, queue_at as uni_at, spar
 use Rattle.multicast_queue.specs.FanQueues.{Queues as FanQueues, FanQueue, FanCell, queue_at as fan_at, queue_with, rest_with, OthersStay}
 use Rattle.card_core.specs.declared.plan.Planned.{Planned}
 use Rattle.card_core.specs.Plans.{size_of}
-use Rattle.card_core.specs.States.{rest_after, EntersUnicast, EntersMulticast}
+use Rattle.card_core.specs.StateSteps.{rest_after, EntersUnicast, EntersMulticast}
 
 less_one : (spare new : ℕ) (fits : Bool) → new ≡ (if fits then spare - 1 else spare) → spare ≤ new + 1
 less_one spare new true is = omega (arith, is)

@@ -9,7 +9,8 @@ use Rattle.rotating_pick.proofs.Bits.{Has-lt}
 use Rattle.card_core.specs.declared.plan.Planned.{Planned}
 use Rattle.card_core.specs.Plans.{Plan, Queue, OfOutput, OfLevel, IsGoodPlan, AreRising, is_queue, queue_of}
 use Rattle.card_core.specs.Queues.{is_routed}
-use Rattle.card_core.specs.States.{packets_for, HasRooms, AreFew}
+use Rattle.card_core.specs.States.{packets_for}
+use Rattle.card_core.specs.StateSteps.{HasRooms, AreFew}
 use Rattle.card_core.proofs.Arriving.{queue-unicast, queue-multicast, is_queue-refl, other-output, count-cons}
 
 -- ---- as many packets as arrival slots at most

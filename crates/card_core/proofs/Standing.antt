@@ -11,7 +11,8 @@ use Rattle.reassembly.specs.Cutting.{Stands}
 use Rattle.crossbar.specs.declared.cards.Taken.{Taken}
 use Rattle.card_core.specs.Plans.{Plan, IsGoodPlan}
 use Rattle.card_core.specs.Deliveries.{cells_taken}
-use Rattle.card_core.specs.Cards.{Received, CardState, card_of, served_in, is_done, HasReceived, IsAfter, MayReceiveAny, received_any}
+use Rattle.card_core.specs.Cards.{Received, CardState, served_in, is_done, HasReceived, IsAfter, MayReceiveAny}
+use Rattle.card_core.specs.CardSteps.{card_of, received_any}
 use Rattle.card_core.specs.States.{State, HasSent}
 use Rattle.card_core.proofs.Collecting.{received_of}
 use Rattle.card_core.proofs.Delivering.{received-push}

@@ -1,13 +1,11 @@
 -- A card, and that it has taken a list of takings.
-use Rattle.std.specs.Prelude.{◌≡◌, ℕ, ◌+◌, ◌*◌, ◌<◌, ◌≤◌, Bool, true, false, List, [], ◌∷◌, ◌++◌, map, length, Option, None, Some, slice_index_or}
-use Rattle.std.specs.Prelude.{if◌then◌else◌}
+use Rattle.std.specs.Prelude.{◌≡◌, ℕ, ◌+◌, ◌<◌, ◌≤◌, Bool, true, false, List, map, length, Option, None, Some, slice_index_or}
 use Rattle.std.specs.List.{list_any, concat}
 use Rattle.rotating_pick.specs.declared.kinds.Kind.{Kind}
 use Rattle.rotating_pick.specs.declared.limits.TheConstants.{LEVELS}
 use Rattle.cell_cutter.specs.declared.cell.Cell.{Cell}
-use Rattle.cell_cutter.specs.declared.sizes.TheConstants.{PAYLOAD_BYTES}
 use Rattle.slot_match.specs.declared.matching.Served.{Served}
-use Rattle.reassembly.specs.Flows.{Flow, Flows, fresh, place_of, flow_of, bytes_with, after_cell, Fits}
+use Rattle.reassembly.specs.Flows.{Flow, Flows, fresh, place_of, flow_of, bytes_with, Fits}
 use Rattle.reassembly.specs.Cutting.{Stands}
 use Rattle.crossbar.specs.declared.cards.Taken.{Taken}
 use Rattle.card_core.specs.declared.limits.TheConstants.{MAX_SLOTS}
@@ -33,9 +31,6 @@ pub record CardState : Type 0 where
   pub sends : State
   pub receives : Received
   pub done : Bool
-
-abbrev pub card_of : State → Received → Bool → CardState
-card_of sends receives done = record { sends = sends; receives = receives; done = done }
 
 -- what was served in the takings
 abbrev pub served_in : List Taken → List (Option Served)
@@ -93,27 +88,3 @@ pub record IsOut (plan : Plan) (takings : List Taken) (posted : Bool) (out : Car
   pub cells : out.cells ≡ length (cells_taken takings)
   pub admitted : out.admitted ≡ admitted plan (served_in takings) (slots_in posted (length takings))
   pub dropped : out.dropped ≡ dropped plan (served_in takings) (slots_in posted (length takings))
-
--- ---- what single calls do
--- each flow's bytes are those of full cells
-abbrev pub AreFull : Flows → Type 0
-AreFull all = (place : ℕ) → length (slice_index_or all.flows place (fresh 0)).bytes ≡ PAYLOAD_BYTES * (slice_index_or all.flows place (fresh 0)).next
-
--- a list of this length has room for so many
-abbrev pub IsRoom : ℕ → ℕ → ℕ → Type 0
-IsRoom len room capacity = (len ≤ room) × (room ≤ capacity)
-
--- what a card keeps after a cell
-abbrev pub received_with : Received → Cell → Received
-received_with r cell = record {
-  flows = after_cell r.flows cell;
-  body = if cell.last then r.body ++ bytes_with (flow_of r.flows cell) cell else r.body;
-  lens = if cell.last then r.lens ++ length (bytes_with (flow_of r.flows cell) cell) ∷ [] else r.lens;
-  cells = r.cells + 1;
-  body_room = r.body_room;
-  packet_room = r.packet_room;
-}
-
-abbrev pub received_any : Received → Option Cell → Received
-received_any r None = r
-received_any r (Some cell) = received_with r cell

@@ -1,7 +1,8 @@
 ghost use Rattle.std.specs.Prelude.{◌≡◌, ◌+◌, ◌<◌, ◌≤◌, ◌↔◌, ◌*◌, ◌^◌, ◌++◌, [], map, length, vec_len, vec_capacity, Some, None, IfOk, IsTrue, All};
 ghost use Rattle.std.specs.Prelude.{true, if◌then◌else◌};
 ghost use Rattle.reassembly.specs.Flows.{Fits, fresh, flow_of, bytes_with, after_cell};
-ghost use Rattle.card_core.specs.Cards.{MayReceive, MayReceiveAny, received_with, received_any};
+ghost use Rattle.card_core.specs.Cards.{MayReceive, MayReceiveAny};
+ghost use Rattle.card_core.specs.CardSteps.{received_with, received_any};
 
 use crate::limits::MAX_SLOTS;
 use crate::outcome::CardOut;
@@ -25,7 +26,8 @@ pub(crate) struct Egress {
 
 impl Model for Egress {
     ghost use Rattle.std.specs.Prelude.{vec_capacity, vec_len};
-    ghost use Rattle.card_core.specs.Cards.{Received, AreFull, IsRoom};
+    ghost use Rattle.card_core.specs.Cards.{Received};
+    ghost use Rattle.card_core.specs.CardSteps.{AreFull, IsRoom};
 
     ghost Value = { Received };
 

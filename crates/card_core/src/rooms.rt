@@ -1,7 +1,7 @@
 ghost use Rattle.std.specs.Prelude.{◌≡◌, ℕ, ◌+◌, ◌-◌, ◌*◌, ◌^◌, ◌<◌, ◌≤◌, List, ◌∷◌, [], ◌++◌, length, slice_index, slice_get, Option, Some, IfOk};
 ghost use Rattle.card_core.specs.declared.plan.Planned.{Planned as APlanned};
 ghost use Rattle.card_core.specs.Plans.{IsPlanned};
-ghost use Rattle.card_core.specs.States.{HasRooms, AreFew};
+ghost use Rattle.card_core.specs.StateSteps.{HasRooms, AreFew};
 
 use crate::limits::MAX_ARRIVALS;
 use crate::plan::Planned;

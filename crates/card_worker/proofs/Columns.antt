@@ -21,8 +21,10 @@ use Rattle.slot_histories.proofs.Telling.{IsTold-legal}
 use Rattle.card_core.specs.Cards.{CardState}
 use Rattle.card_core.specs.Posts.{IsServable}
 use Rattle.card_worker.specs.declared.hands.Hand.{Hand}
-use Rattle.card_worker.specs.Agreeing.{IsDriven, IsLevel, IsAhead, IsInStep, CanPost, AfterGiving}
-use Rattle.card_worker.specs.Alone.{with_event, IsHandOf, IsStill, AfterAct}
+use Rattle.card_worker.specs.Agreeing.{IsDriven, IsLevel, IsAhead, IsInStep}
+use Rattle.card_worker.specs.AgreeingSteps.{CanPost, AfterGiving}
+use Rattle.card_worker.specs.Alone.{IsHandOf}
+use Rattle.card_worker.specs.AloneSteps.{with_event, IsStill, AfterAct}
 use Rattle.card_worker.proofs.Accepting.{accepted_at, servable_told}
 use Rattle.card_worker.proofs.Steps.{next_post, IsLevel-posted, IsDriven-posted, IsLevel-taken, IsDriven-taken, level_of, slot_is, good_plan}
 use Rattle.card_worker.proofs.Steps.{servable_card, CanPost-of}

@@ -18,8 +18,10 @@ use Rattle.card_core.specs.Plans.{Plan}
 use Rattle.card_core.specs.Posts.{IsServable}
 use Rattle.card_worker.specs.declared.hands.Hand.{Hand}
 use Rattle.card_worker.specs.declared.hands.Member.{Member}
-use Rattle.card_worker.specs.Agreeing.{IsDriven, IsLevel, IsAhead, IsInStep, CanPost, AfterGiving}
-use Rattle.card_worker.specs.Trying.{IsSound, AfterTry, acts_of}
+use Rattle.card_worker.specs.Agreeing.{IsDriven, IsLevel, IsAhead, IsInStep}
+use Rattle.card_worker.specs.AgreeingSteps.{CanPost, AfterGiving}
+use Rattle.card_worker.specs.Trying.{IsSound, acts_of}
+use Rattle.card_worker.specs.TryingSteps.{AfterTry}
 use Rattle.card_worker.proofs.Accepting.{accepted_at, servable_told}
 use Rattle.card_worker.proofs.Steps.{next_post, IsLevel-posted, IsDriven-posted, IsLevel-taken, IsDriven-taken, level_of, slot_is, good_plan}
 use Rattle.card_worker.proofs.Steps.{servable_card, CanPost-of}

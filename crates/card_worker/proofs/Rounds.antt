@@ -17,8 +17,9 @@ use Rattle.slot_histories.proofs.Telling.{IsTold-legal}
 use Rattle.card_core.specs.Plans.{Plan}
 use Rattle.card_worker.specs.declared.hands.Hand.{Hand}
 use Rattle.card_worker.specs.Agreeing.{Agrees}
-use Rattle.card_worker.specs.Trying.{one_if}
-use Rattle.card_worker.specs.Alone.{with_event, plans_of, IsHandOf, AreHandsOf, GoesOn, IsStill, AfterAct, AfterRound, IsOver}
+use Rattle.card_worker.specs.TryingSteps.{one_if}
+use Rattle.card_worker.specs.Alone.{IsHandOf, AreHandsOf, GoesOn, IsOver}
+use Rattle.card_worker.specs.AloneSteps.{with_event, plans_of, IsStill, AfterAct, AfterRound}
 use Rattle.card_worker.proofs.Columns.{column-decide}
 use Rattle.card_worker.proofs.Passes.{get-set_same, get-set_other, some_same, one_none}
 

@@ -13,7 +13,8 @@ use Rattle.slot_match.specs.declared.rows.Row.{Row}
 use Rattle.card_core.specs.Plans.{Plan, IsGoodPlan}
 use Rattle.card_core.specs.Posts.{post_at, row_at, IsServable}
 use Rattle.card_core.specs.Cards.{CardState, IsAfter, served_in}
-use Rattle.card_worker.specs.Agreeing.{IsGiven, AreGiven, IsDriven, IsLevel, IsAhead, IsInStep, CanPost, AfterGiving}
+use Rattle.card_worker.specs.Agreeing.{IsGiven, AreGiven, IsDriven, IsLevel, IsAhead, IsInStep}
+use Rattle.card_worker.specs.AgreeingSteps.{CanPost, AfterGiving}
 use Rattle.card_worker.proofs.Accepting.{servable_taking}
 use Rattle.card_worker.proofs.Giving.{given-more, served-given, length-given, done-given, post_at-more}
 

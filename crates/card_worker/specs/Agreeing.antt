@@ -1,11 +1,10 @@
 -- Hands that agree with a card's column at a board.
-use Rattle.std.specs.Prelude.{◌≡◌, ◌⊎◌, ◌<◌, ℕ, true, false, List, [], ◌∷◌, ◌++◌, length, slice_index_or, Option, None, Some}
+use Rattle.std.specs.Prelude.{◌≡◌, ◌⊎◌, ◌<◌, ℕ, true, List, [], ◌∷◌, ◌++◌, length, slice_index_or, Option, None, Some}
 use Rattle.crossbar.specs.declared.cards.Post.{Post}
 use Rattle.crossbar.specs.declared.cards.Taken.{Taken}
 use Rattle.slot_histories.specs.Events.{Setup, no_post}
 use Rattle.slot_histories.specs.Columns.{Column}
 use Rattle.slot_board.specs.Columns.{slots_posted}
-use Rattle.card_core.specs.declared.limits.TheConstants.{MAX_SLOTS}
 use Rattle.card_core.specs.Plans.{Plan}
 use Rattle.card_core.specs.Posts.{post_at}
 use Rattle.card_core.specs.Cards.{CardState, Received, IsAfter, MayReceiveAny, served_in}
@@ -67,16 +66,3 @@ pub record Agrees (hand : Hand) (s : Setup) (i : ℕ) (column : Column) : Type 0
   pub card : hand.card.sends.plan.card ≡ i
   pub driven : IsDriven hand.card.sends.plan column
   pub step : IsInStep hand.kept hand.card column
-
--- ---- what single calls do
--- a card that has no post kept may make one
-abbrev pub CanPost : Option Post → CardState → Type 0
-CanPost None card = (card.sends.posted ≡ false) × (card.done ≡ false) × (card.sends.slot < MAX_SLOTS)
-CanPost (Some post) card = Unit {0}
-
--- the card took of the taking what it could
-pub record AfterGiving (taken : Taken) (old new : CardState) : Type 0 where
-  pub given : Taken
-  pub fitted : IsFitted old.receives taken given
-  pub plan : new.sends.plan ≡ old.sends.plan
-  pub after : (before : List Taken) → IsAfter old before true → IsAfter new (before ++ given ∷ []) false

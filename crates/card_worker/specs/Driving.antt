@@ -1,21 +1,11 @@
 -- What passes over members make of them.
-use Rattle.std.specs.Prelude.{◌≡◌, ◌<◌, ◌≤◌, ◌+◌, ℕ, Bool, true, false, List, length, slice_get, Some}
+use Rattle.std.specs.Prelude.{◌≡◌, ◌≤◌, ◌+◌, ℕ, true, false, List, length, slice_get, Some}
 use Rattle.std.specs.List.{sum_by}
 use Rattle.slot_histories.specs.declared.events.Event.{Event}
 use Rattle.turn_lock.specs.Seats.{TurnValue}
 use Rattle.slot_board.specs.Seats.{is_due, refusals}
 use Rattle.card_worker.specs.declared.hands.Member.{Member}
-use Rattle.card_worker.specs.Trying.{IsSound, acts_of, tries_of, one_if}
-
--- a member's turn in a pass: it made one try where it was due, and else nothing happened
-pub record AfterTurn (board : TurnValue Event) (old new : Member) (acted : Bool) : Type 0 where
-  pub sound : IsSound board new
-  pub plan : new.hand.card.sends.plan ≡ old.hand.card.sends.plan
-  pub number : new.seat.number ≡ old.seat.number
-  pub acts : acts_of new ≡ acts_of old + one_if acted
-  pub tries : is_due old.seat ≡ true → tries_of new ≡ tries_of old + 1
-  pub free : is_due old.seat ≡ false → new ≡ old
-  pub due : acted ≡ false → is_due new.seat ≡ is_due old.seat
+use Rattle.card_worker.specs.Trying.{IsSound, acts_of, tries_of}
 
 -- how many posts and takes all members made
 abbrev pub all_acts : List Member → ℕ
@@ -27,27 +17,12 @@ pub record IsSameMember (old new : Member) : Type 0 where
   pub number : new.seat.number ≡ old.seat.number
   pub tries : refusals old.seat ≤ refusals new.seat
 
--- as due as before, and refused once at least where it was due
-pub record HasWaited (old new : Member) : Type 0 where
-  pub due : is_due new.seat ≡ is_due old.seat
-  pub tries : is_due old.seat ≡ true → refusals old.seat + 1 ≤ refusals new.seat
-
 -- The member went through so many passes: it made a try in each where it is due at the end, no more where it is not,
 -- and where it was not due before it is as it was.
 pub record HasTried (passes : ℕ) (old new : Member) : Type 0 where
   pub due : is_due new.seat ≡ true → tries_of new ≡ tries_of old + passes
   pub most : tries_of new ≤ tries_of old + passes
   pub free : is_due old.seat ≡ false → new ≡ old
-
--- the first k members had their turns, in which they made `made` posts and takes
-pub record AfterTurns (board : TurnValue Event) (olds news : List Member) (k made : ℕ) : Type 0 where
-  pub count : length news ≡ length olds
-  pub acts : all_acts news ≡ all_acts olds + made
-  pub sound : (j : ℕ) (new : Member) → slice_get news j ≡ Some new → IsSound board new
-  pub later : (j : ℕ) → k ≤ j → slice_get news j ≡ slice_get olds j
-  pub same : (j : ℕ) (old new : Member) → slice_get olds j ≡ Some old → slice_get news j ≡ Some new → IsSameMember old new
-  pub tried : (j : ℕ) (old new : Member) → j < k → slice_get olds j ≡ Some old → slice_get news j ≡ Some new → HasTried 1 old new
-  pub idle : made ≡ 0 → (j : ℕ) (old new : Member) → j < k → slice_get olds j ≡ Some old → slice_get news j ≡ Some new → HasWaited old new
 
 -- So many passes, in which the members made `made` posts and takes, the last `idle` of them with none. Each member
 -- that is due made one try in each pass, and was refused in each of the last ones.

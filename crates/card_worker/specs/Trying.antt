@@ -1,8 +1,8 @@
 -- What tries make of members.
-use Rattle.std.specs.Prelude.{◌≡◌, ◌≤◌, ◌+◌, ℕ, Bool, false, length, if◌then◌else◌}
+use Rattle.std.specs.Prelude.{◌≡◌, ◌+◌, ℕ, length}
 use Rattle.slot_histories.specs.declared.events.Event.{Event}
 use Rattle.turn_lock.specs.Seats.{TurnValue}
-use Rattle.slot_board.specs.Seats.{column_at, setup_at, is_due, refusals}
+use Rattle.slot_board.specs.Seats.{column_at, setup_at, refusals}
 use Rattle.slot_board.specs.Calls.{IsSeat}
 use Rattle.card_worker.specs.declared.hands.Member.{Member}
 use Rattle.card_worker.specs.Agreeing.{Agrees}
@@ -24,15 +24,3 @@ acts_of member = length (column_at member.seat).posts + length (column_at member
 -- how many tries it made: those, and the tries that were refused
 abbrev pub tries_of : Member → ℕ
 tries_of member = acts_of member + refusals member.seat
-
-abbrev pub one_if : Bool → ℕ
-one_if acted = if acted then 1 else 0
-
--- one try of the member, which made an event or was refused
-pub record AfterTry (board : TurnValue Event) (old new : Member) (acted : Bool) : Type 0 where
-  pub sound : IsSound board new
-  pub plan : new.hand.card.sends.plan ≡ old.hand.card.sends.plan
-  pub number : new.seat.number ≡ old.seat.number
-  pub acts : acts_of new ≡ acts_of old + one_if acted
-  pub tries : tries_of new ≡ tries_of old + 1
-  pub due : acted ≡ false → is_due new.seat ≡ is_due old.seat

@@ -3,8 +3,9 @@ ghost use Rattle.card_worker.specs.declared.hands.Hand.{Hand};
 ghost use Rattle.slot_histories.specs.Events.{takes_of, posts_of, posted};
 ghost use Rattle.slot_histories.specs.Slots.{is_done_before};
 ghost use Rattle.slot_histories.specs.Legal.{MayTake, MayDecide, IsLegal};
-ghost use Rattle.card_worker.specs.Trying.{one_if};
-ghost use Rattle.card_worker.specs.Alone.{plans_of, IsHandOf, AreHandsOf, GoesOn, AfterAct, AfterRound, IsOver};
+ghost use Rattle.card_worker.specs.TryingSteps.{one_if};
+ghost use Rattle.card_worker.specs.Alone.{IsHandOf, AreHandsOf, GoesOn, IsOver};
+ghost use Rattle.card_worker.specs.AloneSteps.{plans_of, AfterAct, AfterRound};
 
 use crate::hands::{Hand, Hands};
 use crate::tries::{forget, give, next_post};

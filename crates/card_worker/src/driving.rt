@@ -3,7 +3,8 @@ ghost use Rattle.slot_board.specs.Seats.{is_due};
 ghost use Rattle.slot_board.specs.Calls.{IsSeat};
 ghost use Rattle.card_worker.specs.declared.hands.Member.{Member};
 ghost use Rattle.card_worker.specs.Trying.{IsMember, IsSound};
-ghost use Rattle.card_worker.specs.Driving.{AfterTurn, AfterTurns, AfterPasses};
+ghost use Rattle.card_worker.specs.Driving.{AfterPasses};
+ghost use Rattle.card_worker.specs.DrivingSteps.{AfterTurn, AfterTurns};
 
 use crate::hands::{Gate, Group, Member};
 use crate::order::{cards_of, wait_for_others};

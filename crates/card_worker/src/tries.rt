@@ -2,8 +2,10 @@ ghost use Rattle.std.specs.Prelude.{◌≡◌, true, length, None};
 ghost use Rattle.slot_histories.specs.Columns.{Column};
 ghost use Rattle.card_core.specs.Posts.{IsServable};
 ghost use Rattle.slot_board.specs.Seats.{IsPosted, is_due};
-ghost use Rattle.card_worker.specs.Agreeing.{IsInStep, IsAhead, CanPost, AfterGiving};
-ghost use Rattle.card_worker.specs.Trying.{IsSound, AfterTry};
+ghost use Rattle.card_worker.specs.Agreeing.{IsInStep, IsAhead};
+ghost use Rattle.card_worker.specs.AgreeingSteps.{CanPost, AfterGiving};
+ghost use Rattle.card_worker.specs.Trying.{IsSound};
+ghost use Rattle.card_worker.specs.TryingSteps.{AfterTry};
 
 use crate::hands::{Gate, Hand, Member};
 use card_core::Card;

@@ -8,8 +8,8 @@ use Rattle.circular_buffer.specs.Buffer.{Buffer, buffer, keep_last}
 use Rattle.cell_rings.specs.declared.ring.QueuedCell.{QueuedCell}
 use Rattle.cell_rings.specs.declared.ring.Waiting.{Waiting}
 use Rattle.cell_rings.specs.CellQueues.{CellQueue, cells_with_fan, queue_with}
-use Rattle.cell_rings.specs.Runs.{cell_of, run_of, cells_left}
-use Rattle.cell_rings.specs.Fields.{IsRing, queue_of}
+use Rattle.cell_rings.specs.RunSteps.{cell_of, run_of, cells_left}
+use Rattle.cell_rings.specs.FieldSteps.{IsRing, queue_of}
 use Rattle.cell_rings.proofs.Running.{keeps_all, cells_left-more, first_cell, last_cell, packed, length-more, IsQueue-more, IsQueue-on, IsQueue-next}
 
 module _ {F : Type 0} where

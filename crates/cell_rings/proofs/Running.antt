@@ -12,7 +12,7 @@ use Rattle.circular_buffer.specs.Buffer.{keep_last}
 use Rattle.cell_cutter.specs.declared.sizes.TheConstants.{MAX_FORWARDED_CELLS}
 use Rattle.cell_rings.specs.declared.ring.QueuedCell.{QueuedCell}
 use Rattle.cell_rings.specs.declared.ring.Waiting.{Waiting}
-use Rattle.cell_rings.specs.Runs.{cell_of, run_of, cells_left, IsBegun, IsSized, AreSized, IsQueue}
+use Rattle.cell_rings.specs.RunSteps.{cell_of, run_of, cells_left, IsBegun, IsSized, AreSized, IsQueue}
 
 -- what is pushed into a ring that has room stands at its end
 pub keeps_all : {P : Type 0} (n : ℕ) (ps : List P) (p : P) → length ps < n → keep_last n (ps ++ p ∷ []) ≡ ps ++ p ∷ []

@@ -1,4 +1,4 @@
 pub mod CellQueues
-pub mod Codes
-pub mod Runs
-pub mod Fields
+pub mod CodeSteps
+pub mod RunSteps
+pub mod FieldSteps

@@ -35,8 +35,8 @@ pub struct CellRing<F> {
 
 impl<F> Model for CellRing<F> {
     ghost use Rattle.cell_rings.specs.CellQueues.{CellQueue};
-    ghost use Rattle.cell_rings.specs.Codes.{queue_code};
-    ghost use Rattle.cell_rings.specs.Fields.{IsRing, queue_of};
+    ghost use Rattle.cell_rings.specs.CodeSteps.{queue_code};
+    ghost use Rattle.cell_rings.specs.FieldSteps.{IsRing, queue_of};
 
     ghost Value = { CellQueue F };
 

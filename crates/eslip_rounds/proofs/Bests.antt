@@ -6,7 +6,7 @@ use Rattle.rotating_pick.specs.declared.kinds.Kind.TheVariants.{Uni, Multi}
 use Rattle.rotating_pick.proofs.First.{IsFirstFrom-along}
 use Rattle.slot_match.proofs.Pairs.{kinds_decide}
 use Rattle.pointer_state.specs.Places.{Places, accept_of}
-use Rattle.eslip_rounds.specs.Ranks.{level_at, kind_at, rank_of}
+use Rattle.eslip_rounds.specs.RankSteps.{level_at, kind_at, rank_of}
 use Rattle.eslip_rounds.specs.Rounds.{preferred, IsBest, Takes, IsAccepted}
 use Rattle.eslip_rounds.proofs.RankLemmas.{kind_at-even, rank_of-low, rank_of-high, rank_of-first, rank_of-differ}
 

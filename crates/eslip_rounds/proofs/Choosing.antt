@@ -17,7 +17,7 @@ use Rattle.pointer_state.specs.Places.{Places, AreAtPorts}
 use Rattle.eslip_rounds.specs.declared.asks.Asks.{Asks}
 use Rattle.eslip_rounds.specs.declared.ranks.TheConstants.{RANKS}
 use Rattle.eslip_rounds.specs.declared.grants.Choice.{Choice}
-use Rattle.eslip_rounds.specs.Ranks.{level_at, kind_at, rank_of}
+use Rattle.eslip_rounds.specs.RankSteps.{level_at, kind_at, rank_of}
 use Rattle.eslip_rounds.specs.Rounds.{preferred, from_of, Requests, Grants}
 use Rattle.eslip_rounds.specs.Steps.{AreAsks, MayAsk, AreReady, AsksAt, IsChosen}
 use Rattle.eslip_rounds.proofs.RankLemmas.{kind_at-rank_of, level_at-rank_of, rank_of-at, rank_of-lt, rank_of-high, level_at-lt}

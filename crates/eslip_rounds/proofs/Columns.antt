@@ -12,7 +12,7 @@ use Rattle.slot_match.specs.Rows.{Names, row_of}
 use Rattle.slot_match.proofs.Sets.{zero-has}
 use Rattle.rotating_pick.proofs.Tables.{get_or-same, no_members}
 use Rattle.eslip_rounds.specs.declared.ranks.TheConstants.{RANKS}
-use Rattle.eslip_rounds.specs.Ranks.{level_at, kind_at}
+use Rattle.eslip_rounds.specs.RankSteps.{level_at, kind_at}
 use Rattle.eslip_rounds.specs.Steps.{column_of}
 
 -- the columns of the first k ranks are right, the others are empty but at the ranks `before`, and those of the first that

@@ -10,7 +10,7 @@ use Rattle.pointer_state.specs.Places.{Places, AreAtPorts}
 use Rattle.eslip_rounds.specs.declared.asks.Asks.{Asks}
 use Rattle.eslip_rounds.specs.declared.grants.Choice.{Choice}
 use Rattle.eslip_rounds.specs.declared.grants.Offers.{Offers}
-use Rattle.eslip_rounds.specs.Ranks.{level_at, kind_at}
+use Rattle.eslip_rounds.specs.RankSteps.{level_at, kind_at}
 use Rattle.eslip_rounds.specs.declared.ranks.TheConstants.{RANKS}
 use Rattle.eslip_rounds.specs.Steps.{column_of, AreReady, IsChosen, AreOffers, IsOffered, AreOpen}
 use Rattle.eslip_rounds.proofs.RankLemmas.{level_at-lt}

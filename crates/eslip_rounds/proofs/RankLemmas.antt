@@ -5,7 +5,8 @@ use Rattle.rotating_pick.specs.declared.kinds.Kind.{Kind}
 use Rattle.rotating_pick.specs.declared.kinds.Kind.TheVariants.{Uni, Multi}
 use Rattle.rotating_pick.specs.declared.limits.TheConstants.{LEVELS}
 use Rattle.eslip_rounds.specs.declared.ranks.TheConstants.{RANKS}
-use Rattle.eslip_rounds.specs.Ranks.{other_kind, level_at, kind_at, rank_of}
+use Rattle.eslip_rounds.specs.RankSteps.{level_at, kind_at, rank_of}
+use Rattle.eslip_rounds.specs.Rounds.{other_kind}
 
 -- the kind of an even rank, and of an odd one
 pub kind_at-even : (first_kind : Kind) (rank : ℕ) → rank % 2 ≡ 0 → kind_at first_kind rank ≡ first_kind

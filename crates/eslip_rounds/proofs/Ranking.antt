@@ -7,7 +7,7 @@ use Rattle.std.proofs.lemmas.Option.{same_Some, none-some}
 use Rattle.rotating_pick.specs.declared.kinds.Kind.{Kind}
 use Rattle.rotating_pick.specs.declared.kinds.Kind.TheVariants.{Uni, Multi}
 use Rattle.rotating_pick.specs.declared.limits.TheConstants.{LEVELS}
-use Rattle.eslip_rounds.specs.Ranks.{other_kind}
+use Rattle.eslip_rounds.specs.Rounds.{other_kind}
 use Rattle.eslip_rounds.specs.Rounds.{preferred, IsBest}
 use Rattle.eslip_rounds.specs.Decisions.{Rank, ranks_at, ranks}
 use Rattle.eslip_rounds.proofs.Bests.{IsBest-only}

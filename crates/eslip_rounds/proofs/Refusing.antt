@@ -14,10 +14,11 @@ use Rattle.eslip_rounds.specs.declared.asks.Asks.{Asks}
 use Rattle.eslip_rounds.specs.declared.grants.Choice.{Choice}
 use Rattle.eslip_rounds.specs.declared.refusals.Refused.{Refused}
 use Rattle.eslip_rounds.specs.declared.rounds.Made.{Made}
-use Rattle.eslip_rounds.specs.Ranks.{level_at, kind_at, rank_of}
+use Rattle.eslip_rounds.specs.RankSteps.{level_at, kind_at, rank_of}
 use Rattle.eslip_rounds.specs.Rounds.{preferred, from_of, Grants, Accepts, IsRound, AreRounds}
 use Rattle.eslip_rounds.specs.Slots.{IsRefused}
-use Rattle.eslip_rounds.specs.Steps.{AreAsks, GrantsUnicast, AreToldOf, AreRefused, AreMade}
+use Rattle.eslip_rounds.specs.Steps.{AreAsks, GrantsUnicast, AreToldOf, AreMade}
+use Rattle.eslip_rounds.specs.Refusals.{AreRefused}
 use Rattle.eslip_rounds.proofs.RankLemmas.{kind_at-rank_of, level_at-rank_of}
 use Rattle.eslip_rounds.proofs.Bests.{taken_from}
 use Rattle.eslip_rounds.proofs.Choosing.{from_of-lt, level_asked, IsChosen-only, Grants-from_chosen, chosen_from_grants}

@@ -7,7 +7,7 @@ use Rattle.slot_match.specs.declared.matching.Fed.{Fed}
 use Rattle.slot_match.specs.Matches.{IsFreeOutput}
 use Rattle.pointer_state.specs.Places.{Places, accept_of}
 use Rattle.eslip_rounds.specs.declared.asks.Asks.{Asks}
-use Rattle.eslip_rounds.specs.Ranks.{level_at, kind_at, rank_of}
+use Rattle.eslip_rounds.specs.RankSteps.{level_at, kind_at, rank_of}
 use Rattle.eslip_rounds.specs.Rounds.{preferred, Takes, Grants, Accepts, IsRound}
 use Rattle.eslip_rounds.specs.Steps.{AreAsks, IsChosen, IsTaken, IsStep}
 use Rattle.eslip_rounds.proofs.RankLemmas.{kind_at-rank_of, level_at-rank_of, rank_of-at}

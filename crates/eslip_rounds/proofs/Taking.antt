@@ -15,7 +15,7 @@ use Rattle.slot_match.proofs.Pairs.{Serves-from}
 use Rattle.slot_match.proofs.Adding.{IsAdded, Serves-added}
 use Rattle.pointer_state.specs.Places.{Places, accept_of}
 use Rattle.eslip_rounds.specs.declared.grants.Offers.{Offers}
-use Rattle.eslip_rounds.specs.Ranks.{level_at, kind_at}
+use Rattle.eslip_rounds.specs.RankSteps.{level_at, kind_at}
 use Rattle.eslip_rounds.specs.Rounds.{Takes}
 use Rattle.eslip_rounds.specs.Steps.{MayAsk, IsOpen, AreOpen, IsTaken}
 use Rattle.eslip_rounds.proofs.Bests.{taken_from}

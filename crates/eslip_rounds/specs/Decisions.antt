@@ -15,7 +15,7 @@ use Rattle.slot_match.specs.Matches.{unmatched, fed_of}
 use Rattle.slot_match.specs.Parts.{is_from}
 use Rattle.pointer_state.specs.Places.{Places, grant_of, accept_of, shared_of}
 use Rattle.islip_rounds.specs.Numbers.{last_of, slot_numbers}
-use Rattle.eslip_rounds.specs.Ranks.{other_kind}
+use Rattle.eslip_rounds.specs.Rounds.{other_kind}
 use Rattle.eslip_rounds.specs.Rounds.{preferred, from_of}
 use Rattle.eslip_rounds.specs.Slots.{Decision}
 

@@ -2,7 +2,8 @@ pub mod Rounds
 pub mod Slots
 pub mod Schedules
 pub mod Schedulers
-pub mod Ranks
+pub mod RankSteps
 pub mod Steps
+pub mod Refusals
 pub mod Decisions
 pub mod OneLevel

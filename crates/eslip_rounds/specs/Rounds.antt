@@ -77,3 +77,8 @@ pub record IsRound (n t : ℕ) (rows : List Row) (places : Places) (before after
 abbrev pub AreRounds : ℕ → ℕ → List Row → Places → List (Option Fed) → List (List (Option Fed)) → Type 0
 AreRounds n t rows places before [] = Unit {0}
 AreRounds n t rows places before (after ∷ rest) = IsRound n t rows places before after × AreRounds n t rows places after rest
+
+-- the kind that is not this one
+abbrev pub other_kind : Kind → Kind
+other_kind Uni = Multi
+other_kind Multi = Uni

@@ -16,9 +16,9 @@ use Rattle.islip_rounds.specs.Numbers.{last_of, slot_numbers}
 use Rattle.eslip_rounds.specs.declared.grants.Offers.{Offers}
 use Rattle.eslip_rounds.specs.declared.refusals.Refused.{Refused}
 use Rattle.eslip_rounds.specs.declared.rounds.Made.{Made}
-use Rattle.eslip_rounds.specs.Ranks.{level_at, kind_at}
+use Rattle.eslip_rounds.specs.RankSteps.{level_at, kind_at}
 use Rattle.eslip_rounds.specs.Rounds.{from_of, Takes, AreRounds}
-use Rattle.eslip_rounds.specs.Slots.{IsRefused}
+use Rattle.eslip_rounds.specs.Refusals.{Tells}
 
 -- the column of output j at the rank
 abbrev pub column_of : List (List ℕ) → ℕ → ℕ → ℕ
@@ -128,10 +128,6 @@ pub record AreMade (n rounds t : ℕ) (rows : List Row) (places : Places) (match
   pub numbered : made.numbers ≡ slot_numbers steps
   pub firsts : (j : ℕ) → Has made.first_outputs j ↔ ((j < n) × (IsFreeOutput (slice_index_or steps 0 (unmatched n)) j → ⊥))
 
--- output j is told to have granted input i as unicast of the level, and to be refused
-abbrev pub Tells : Refused → ℕ → ℕ → ℕ → Type 0
-Tells refused i j level = Has refused.outputs j × (slice_index refused.inputs j ≡ i) × (slice_index refused.levels j ≡ level)
-
 -- the choice is of input i, as unicast of the level
 abbrev pub IsUnicastChoice : Kind → Option Choice → ℕ → ℕ → Type 0
 IsUnicastChoice first_kind choice i level = (rank : ℕ) × (choice ≡ Some (record { rank = rank; input = i })) × (kind_at first_kind rank ≡ Uni)
@@ -147,7 +143,3 @@ pub record AreToldOf (n : ℕ) (first_kind : Kind) (asks : Asks) (places : Place
   pub ready : List ℕ
   pub readies : AreReady n first_kind (unmatched n) ready
   pub told : (i j level : ℕ) → Tells refused i j level ↔ (Outputs j × GrantsUnicast n first_kind asks ready places i j level)
-
--- the refused unicast grants of the first round of slot t are told, and no others
-abbrev pub AreRefused : ℕ → ℕ → List Row → Places → Refused → Type 0
-AreRefused n t rows places refused = (i j level : ℕ) → Tells refused i j level ↔ IsRefused n t rows places i j level

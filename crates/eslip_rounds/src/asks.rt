@@ -2,7 +2,7 @@ ghost use Rattle.std.specs.Prelude.{◌≡◌, ℕ, ◌<◌, ◌≤◌, ◌↔�
 ghost use Rattle.rotating_pick.specs.PortSets.{Has};
 ghost use Rattle.rotating_pick.specs.declared.kinds.Kind.{Kind};
 ghost use Rattle.slot_match.specs.Rows.{Names, row_of, sets_of, AreWithin};
-ghost use Rattle.eslip_rounds.specs.Ranks.{level_at, kind_at};
+ghost use Rattle.eslip_rounds.specs.RankSteps.{level_at, kind_at};
 ghost use Rattle.eslip_rounds.specs.Steps.{column_of, AreAsks, AreOfRanks};
 
 use crate::ranks::{RANKS, kind_of, level_of};

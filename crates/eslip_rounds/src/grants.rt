@@ -4,7 +4,7 @@ ghost use Rattle.rotating_pick.specs.declared.kinds.Kind.{Kind};
 ghost use Rattle.slot_match.specs.Matches.{IsMatch};
 ghost use Rattle.eslip_rounds.specs.declared.grants.Choice.{Choice};
 ghost use Rattle.eslip_rounds.specs.Rounds.{from_of};
-ghost use Rattle.eslip_rounds.specs.Ranks.{level_at, kind_at};
+ghost use Rattle.eslip_rounds.specs.RankSteps.{level_at, kind_at};
 ghost use Rattle.eslip_rounds.specs.Steps.{column_of, MayAsk, AreReady, IsChosen, AreOffers, IsOffered};
 
 use crate::asks::Asks;

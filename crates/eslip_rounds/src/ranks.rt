@@ -1,7 +1,8 @@
 ghost use Rattle.std.specs.Prelude.{◌≡◌, ◌<◌};
 ghost use Rattle.rotating_pick.specs.declared.limits.TheConstants.{LEVELS};
 ghost use Rattle.eslip_rounds.specs.Rounds.{preferred};
-ghost use Rattle.eslip_rounds.specs.Ranks.{level_at, kind_at, other_kind};
+ghost use Rattle.eslip_rounds.specs.RankSteps.{level_at, kind_at};
+ghost use Rattle.eslip_rounds.specs.Rounds.{other_kind};
 
 use rotating_pick::{Kind, MAX_PORTS};
 

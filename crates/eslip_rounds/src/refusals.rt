@@ -3,7 +3,8 @@ ghost use Rattle.rotating_pick.specs.PortSets.{Has};
 ghost use Rattle.rotating_pick.specs.declared.kinds.Kind.{Kind};
 ghost use Rattle.slot_match.specs.Matches.{unmatched};
 ghost use Rattle.eslip_rounds.specs.declared.grants.Choice.{Choice};
-ghost use Rattle.eslip_rounds.specs.Steps.{column_of, AreReady, Tells, IsUnicastChoice, AreToldOf};
+ghost use Rattle.eslip_rounds.specs.Steps.{column_of, AreReady, IsUnicastChoice, AreToldOf};
+ghost use Rattle.eslip_rounds.specs.Refusals.{Tells};
 
 use crate::asks::Asks;
 use crate::grants::{Choice, chosen};

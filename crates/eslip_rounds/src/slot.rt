@@ -3,7 +3,7 @@ ghost use Rattle.slot_match.specs.Rows.{AreWithin};
 ghost use Rattle.slot_match.specs.Matches.{IsMatch, IsMaximal};
 ghost use Rattle.pointer_state.specs.Places.{AreAtPorts};
 ghost use Rattle.eslip_rounds.specs.Slots.{IsSlot};
-ghost use Rattle.eslip_rounds.specs.Steps.{AreRefused};
+ghost use Rattle.eslip_rounds.specs.Refusals.{AreRefused};
 ghost use Rattle.eslip_rounds.specs.Decisions.{decision_of};
 
 use crate::asks::Asks;

@@ -7,8 +7,8 @@ use Rattle.card_core.specs.declared.plan.CardPlan.{CardPlan}
 use Rattle.card_core.specs.Plans.{plan_of}
 use Rattle.card_core.specs.Cards.{CardState, IsAfter}
 use Rattle.card_worker.proofs.Removing.{get-snoc}
-use Rattle.switch_jobs.specs.Ending.{Leaves}
-use Rattle.firm_run.specs.Acting.{AreAfter, plans_in, AreOutputs}
+use Rattle.switch_jobs.specs.EndingSteps.{Leaves}
+use Rattle.firm_run.specs.ActingSteps.{AreAfter, plans_in, AreOutputs}
 
 -- one more card is made
 pub made-more : (cards : List CardState) (plans : List CardPlan) (card : CardState) (plan : CardPlan) → plans_in cards ≡ map plan_of plans

@@ -14,8 +14,8 @@ use Rattle.card_core.specs.Cards.{CardState, IsAfter, MayTake}
 use Rattle.switch_plan.specs.GoodPlans.{SwitchPlan, IsGood}
 use Rattle.whole_run.specs.Runs.{ports_of, setup_for, posts_under, takings_under}
 use Rattle.whole_run.proofs.Base.{within}
-use Rattle.firm_run.specs.Acting.{AreAfter, plans_in, ArePosted, taken_now}
-use Rattle.firm_run.specs.Standing.{matched_before}
+use Rattle.firm_run.specs.ActingSteps.{AreAfter, plans_in, ArePosted, taken_now}
+use Rattle.firm_run.specs.StandingSteps.{matched_before}
 use Rattle.firm_run.proofs.NextSlot.{count-cards, takings-more, rows-are, deposits-are, end-is, posted-after, taken-is, may-take}
 
 module _ (scheduler : Scheduler) (scheduling : IsScheduler scheduler) (plan : SwitchPlan) (good : IsGood plan) (t : ℕ) where

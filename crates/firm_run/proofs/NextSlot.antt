@@ -34,8 +34,8 @@ use Rattle.whole_run.proofs.Base.{requested}
 use Rattle.whole_run.proofs.Fitting.{cell_fits}
 use Rattle.switch_jobs.proofs.Serving.{served_taken, cells_crossed}
 use Rattle.switch_jobs.proofs.Limits.{slots_few}
-use Rattle.firm_run.specs.Acting.{AreAfter, plans_in, MayPostAll, ArePosts, ArePosted, taken_now}
-use Rattle.firm_run.specs.Standing.{matched_before}
+use Rattle.firm_run.specs.ActingSteps.{AreAfter, plans_in, MayPostAll, ArePosts, ArePosted, taken_now}
+use Rattle.firm_run.specs.StandingSteps.{matched_before}
 
 -- the cards' number, and each card's plan, where they are of the switch's plans
 module _ (plan : SwitchPlan) (cards : List CardState) (plans : plans_in cards ≡ plan.cards) where

@@ -10,7 +10,7 @@ use Rattle.firm_rounds.specs.Slots.{AreMovedByFirm}
 use Rattle.firm_rounds.specs.Decisions.{firm_decision}
 use Rattle.firm_rounds.proofs.InTime.{firm_longest_wait}
 use Rattle.service_bound.specs.Waits.{NotedSlot, noted_of, longest_wait}
-use Rattle.service_bound.specs.Meters.{HasNoted}
+use Rattle.service_bound.specs.MeterSteps.{HasNoted}
 use Rattle.card_core.specs.declared.outcome.CardOut.{CardOut}
 use Rattle.card_core.specs.Plans.{Plan as CardPlan}
 use Rattle.card_core.specs.Cards.{IsOut}
@@ -21,14 +21,14 @@ use Rattle.whole_run.specs.Sums.{schedule_under, IsBestUnder}
 use Rattle.whole_run.proofs.RunWindows.{best-window, best-alone}
 use Rattle.switch_jobs.specs.declared.ready.Terms.{Terms}
 use Rattle.switch_jobs.specs.Outcomes.{longest_under, summary_under, IsOutputUnder}
-use Rattle.switch_jobs.specs.Readiness.{plan_with}
-use Rattle.switch_jobs.specs.Journals.{HaveSums, summary_with}
+use Rattle.switch_jobs.specs.ReadinessSteps.{plan_with}
+use Rattle.switch_jobs.specs.JournalSteps.{HaveSums, summary_with}
 use Rattle.switch_jobs.proofs.Leaving.{output_of}
 use Rattle.switch_jobs.proofs.Limits.{slots_few}
 use Rattle.switch_jobs.proofs.Finishing.{sums-fit, summary-is}
 use Rattle.firm_run.specs.declared.switch.Switch.{Switch}
-use Rattle.firm_run.specs.Acting.{AreOutputs}
-use Rattle.firm_run.specs.Standing.{IsBefore}
+use Rattle.firm_run.specs.ActingSteps.{AreOutputs}
+use Rattle.firm_run.specs.StandingSteps.{IsBefore}
 use Rattle.firm_run.proofs.SecondScheduler.{IsSchedulerBy-firm_decision, IsScheduler-firm_decision}
 use Rattle.firm_run.proofs.NextSlot.{count-cards, plan-of}
 

@@ -14,7 +14,7 @@ use Rattle.crossbar.specs.declared.cards.Post.{Post}
 use Rattle.crossbar.specs.declared.cards.Taken.{Taken}
 use Rattle.card_core.specs.Cards.{CardState, IsAfter}
 use Rattle.card_worker.proofs.Passes.{get-set_same, get-set_other}
-use Rattle.firm_run.specs.Acting.{ArePosted}
+use Rattle.firm_run.specs.ActingSteps.{ArePosted}
 
 -- a list with another element at a place, where it is mapped to the same
 pub map-set : {X Y : Type 0} (f : X → Y) (xs : List X) (i : ℕ) (y d : X) → f y ≡ f (get_or xs i d) → map f (set xs i y) ≡ map f xs

@@ -16,7 +16,7 @@ use Rattle.crossbar.specs.declared.cards.Taken.{Taken}
 use Rattle.slot_histories.specs.Slots.{places_under, decision_under, is_done_at, is_done_before}
 use Rattle.slot_histories.proofs.SoundDecisions.{places_under-at_ports}
 use Rattle.service_bound.specs.Waits.{NotedSlot, noted_of}
-use Rattle.service_bound.specs.Meters.{Meter, HasNoted}
+use Rattle.service_bound.specs.MeterSteps.{Meter, HasNoted}
 use Rattle.card_core.specs.Cards.{CardState, MayTake}
 use Rattle.card_worker.proofs.Removing.{whole_back}
 use Rattle.switch_plan.specs.GoodPlans.{SwitchPlan, IsGood}
@@ -25,8 +25,8 @@ use Rattle.whole_run.specs.Sums.{schedule_under}
 use Rattle.whole_run.proofs.Base.{within, sound}
 use Rattle.switch_jobs.proofs.Limits.{slots_few}
 use Rattle.firm_run.specs.declared.switch.Switch.{Switch}
-use Rattle.firm_run.specs.Acting.{AreAfter, plans_in, MayPostAll, ArePosts, ArePosted, taken_now}
-use Rattle.firm_run.specs.Standing.{matched_before, IsBefore}
+use Rattle.firm_run.specs.ActingSteps.{AreAfter, plans_in, MayPostAll, ArePosts, ArePosted, taken_now}
+use Rattle.firm_run.specs.StandingSteps.{matched_before, IsBefore}
 use Rattle.firm_run.proofs.SecondScheduler.{IsScheduler-firm_decision}
 use Rattle.firm_run.proofs.NextSlot.{count-cards, posts-are, may-post, noted-more}
 use Rattle.firm_run.proofs.MadeSlots.{rows-of-slot, rows-within, end-of-slot, all-after, decision-is, all-may, after-more}

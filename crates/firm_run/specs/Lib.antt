@@ -1,3 +1,3 @@
 pub mod FirmRuns
-pub mod Acting
-pub mod Standing
+pub mod ActingSteps
+pub mod StandingSteps

@@ -1,5 +1,5 @@
 ghost use Rattle.std.specs.Prelude.{◌≡◌, ◌≤◌, [], length, vec_capacity};
-ghost use Rattle.firm_run.specs.Acting.{AreOutputs};
+ghost use Rattle.firm_run.specs.ActingSteps.{AreOutputs};
 
 use card_core::{Card, CardOut};
 

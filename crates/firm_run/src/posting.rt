@@ -2,7 +2,7 @@ ghost use Rattle.std.specs.Prelude.{◌≡◌, ℕ, ◌≤◌, List, false, leng
 ghost use Rattle.rotating_pick.specs.declared.limits.TheConstants.{MAX_PORTS};
 ghost use Rattle.crossbar.specs.declared.cards.Post.{Post};
 ghost use Rattle.crossbar.specs.declared.cards.Taken.{Taken};
-ghost use Rattle.firm_run.specs.Acting.{AreAfter, plans_in, MayPostAll, ArePosts, ArePosted};
+ghost use Rattle.firm_run.specs.ActingSteps.{AreAfter, plans_in, MayPostAll, ArePosts, ArePosted};
 
 use card_core::Card;
 use crossbar::Crossbar;

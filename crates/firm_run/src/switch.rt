@@ -8,8 +8,8 @@ ghost use Rattle.card_core.specs.Cards.{CardState, IsAfter};
 ghost use Rattle.switch_plan.specs.GoodPlans.{SwitchPlan, IsGood};
 ghost use Rattle.whole_run.specs.Runs.{ports_of, posts_under};
 ghost use Rattle.whole_run.specs.Ends.{IsLengthUnder};
-ghost use Rattle.firm_run.specs.Acting.{AreAfter, plans_in};
-ghost use Rattle.firm_run.specs.Standing.{IsBefore};
+ghost use Rattle.firm_run.specs.ActingSteps.{AreAfter, plans_in};
+ghost use Rattle.firm_run.specs.StandingSteps.{IsBefore};
 
 use crate::posting::post_all;
 use crate::taking::take_all;

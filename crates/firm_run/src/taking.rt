@@ -2,7 +2,7 @@ ghost use Rattle.std.specs.Prelude.{◌≡◌, ℕ, ◌≤◌, List, [], ◌∷�
 ghost use Rattle.rotating_pick.specs.declared.limits.TheConstants.{MAX_PORTS};
 ghost use Rattle.crossbar.specs.declared.cards.Taken.{Taken as ATaken};
 ghost use Rattle.card_core.specs.Cards.{CardState, MayTake};
-ghost use Rattle.firm_run.specs.Acting.{AreAfter, plans_in, taken_now};
+ghost use Rattle.firm_run.specs.ActingSteps.{AreAfter, plans_in, taken_now};
 
 use card_core::Card;
 use crossbar::{Crossbar, Taken};

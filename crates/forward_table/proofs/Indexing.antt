@@ -20,7 +20,7 @@ use Rattle.forward_table.specs.declared.route_lines.Target.TheVariants.{Prefix, 
 use Rattle.forward_table.specs.declared.route_lines.RouteLine.{RouteLine}
 use Rattle.forward_table.specs.Targets.{HasLength, IsPrefix, is_same_target}
 use Rattle.forward_table.specs.Reading.{line_with}
-use Rattle.forward_table.specs.Index.{target_order, target_at, no_line, IsInOrder, IsPlaceOf, IsGapFor, IsIndexed, IsWithLength, AreLengths}
+use Rattle.forward_table.specs.IndexSteps.{target_order, target_at, no_line, IsInOrder, IsPlaceOf, IsGapFor, IsIndexed, IsWithLength, AreLengths}
 
 -- ---- the order of targets
 -- pairs of numbers, the first before the second, are in a total order

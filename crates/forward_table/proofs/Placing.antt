@@ -6,7 +6,7 @@ use Rattle.std.proofs.lemmas.List.{get_or_default}
 use Rattle.std.proofs.lemmas.List.Sorted.{searchable_from_sorted}
 use Rattle.forward_table.specs.declared.route_lines.Target.{Target}
 use Rattle.forward_table.specs.declared.route_lines.RouteLine.{RouteLine}
-use Rattle.forward_table.specs.Index.{target_order, target_at, no_line, IsInOrder, IsPlaceOf, IsGapFor}
+use Rattle.forward_table.specs.IndexSteps.{target_order, target_at, no_line, IsInOrder, IsPlaceOf, IsGapFor}
 use Rattle.forward_table.proofs.Indexing.{target_total, tied_targets, swapped, not_less}
 
 module _ (l : List RouteLine) (sorted : IsInOrder l) (t : Target) where

@@ -8,7 +8,7 @@ use Rattle.rotating_pick.specs.PortSets.{Has}
 use Rattle.forward_table.specs.declared.route_lines.RouteLine.{RouteLine}
 use Rattle.forward_table.specs.Reading.{line_with}
 use Rattle.forward_table.specs.Routing.{covering, longest}
-use Rattle.forward_table.specs.Index.{IsIndexed, AreLengths}
+use Rattle.forward_table.specs.IndexSteps.{IsIndexed, AreLengths}
 use Rattle.forward_table.proofs.Covering.{prefix_at, NoneBefore, ArePrefixes, longest_at, longest_none}
 
 -- of the lengths that occur, those that are not left were searched for, and none before k is left

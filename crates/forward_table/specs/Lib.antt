@@ -4,6 +4,6 @@ pub mod Routes
 pub mod Forms
 pub mod Reading
 pub mod Routing
-pub mod Index
+pub mod IndexSteps
 pub mod Steps
 pub mod Texts

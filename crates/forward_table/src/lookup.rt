@@ -1,6 +1,6 @@
 ghost use Rattle.std.specs.Prelude.{◌≡◌, ◌≢◌, ◌↔◌, ℕ, ◌-◌, ◌≤◌, None, List, [], ◌∷◌, ◌++◌, length, map, All, Contains, IfSome, IfOk, IfErr, IsTrue};
 ghost use Rattle.std.specs.Prelude.{option_map, count_ones};
-ghost use Rattle.forward_table.specs.Index.{IsWithLength};
+ghost use Rattle.forward_table.specs.IndexSteps.{IsWithLength};
 ghost use Rattle.forward_table.specs.Targets.{IsPrefix};
 ghost use Rattle.forward_table.specs.Reading.{line_with};
 ghost use Rattle.forward_table.specs.Routing.{covering, longest, serving_line, route_of};
@@ -29,7 +29,7 @@ pub struct Table {
 impl Model for Table {
     ghost use Rattle.std.specs.Prelude.{List};
     ghost use Rattle.forward_table.specs.declared.route_lines.RouteLine.{RouteLine};
-    ghost use Rattle.forward_table.specs.Index.{IsIndexed, AreLengths};
+    ghost use Rattle.forward_table.specs.IndexSteps.{IsIndexed, AreLengths};
 
     ghost Value = { List RouteLine };
 

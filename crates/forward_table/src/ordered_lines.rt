@@ -1,7 +1,7 @@
 ghost use Rattle.std.specs.Prelude.{◌≡◌, ℕ, ◌≤◌, List, IfOk, IfErr};
 ghost use Rattle.rotating_pick.specs.PortSets.{Has};
 ghost use Rattle.forward_table.specs.declared.route_lines.RouteLine.{RouteLine as ARouteLine};
-ghost use Rattle.forward_table.specs.Index.{IsInOrder, IsPlaceOf, IsGapFor, IsIndexed, AreLengths};
+ghost use Rattle.forward_table.specs.IndexSteps.{IsInOrder, IsPlaceOf, IsGapFor, IsIndexed, AreLengths};
 ghost use Rattle.forward_table.specs.Reading.{line_with};
 ghost use Rattle.forward_table.specs.Routing.{covering, longest};
 

@@ -9,7 +9,7 @@ use Rattle.job_files.specs.Inputs.{AreFilesRead, CapturesRead, EarlierFit}
 use Rattle.job_files.specs.FileSteps.{AreOfSize}
 use Rattle.rotating_pick.specs.declared.limits.TheConstants.{MAX_FILE_BYTES, MAX_PORTS}
 use Rattle.outside.specs.WholeFiles.{Fits}
-use Rattle.switch_plan.specs.Reading.{bytes_of_files}
+use Rattle.switch_plan.specs.ReadingSteps.{bytes_of_files}
 use Rattle.job_files.specs.Jobs.{ReadWords}
 use Rattle.job_files.specs.declared.inputs.InputFile.TheVariants.{Capture}
 

@@ -4,7 +4,7 @@ ghost use Rattle.outside.specs.WholeFiles.{Fits};
 ghost use Rattle.switch_words.specs.Limits.{IsGenWithinLimits};
 ghost use Rattle.switch_words.specs.Reading.{run_words, firm_words};
 ghost use Rattle.switch_plan.specs.Made.{made_table, made_captures};
-ghost use Rattle.switch_plan.specs.Reading.{bytes_of_files};
+ghost use Rattle.switch_plan.specs.ReadingSteps.{bytes_of_files};
 ghost use Rattle.job_files.specs.Inputs.{AreFilesRead, CapturesRead, EarlierFit};
 ghost use Rattle.job_files.specs.Jobs.{IsInput, input_name, run_reads, firm_reads};
 ghost use Rattle.job_files.specs.FileSteps.{AreOfSize, StopsReading, reads_words};

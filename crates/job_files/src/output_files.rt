@@ -3,7 +3,7 @@ ghost use Rattle.std.specs.Option.{option_map};
 ghost use Rattle.outside.specs.Contents.{append_out};
 ghost use Rattle.outside.specs.Faults.{NeverFall};
 ghost use Rattle.outside.specs.WholeFiles.{Puts, StopsAt};
-ghost use Rattle.switch_plan.specs.Reading.{bytes_of_files};
+ghost use Rattle.switch_plan.specs.ReadingSteps.{bytes_of_files};
 ghost use Rattle.job_files.specs.FileSteps.{StopsPutting, written_at};
 ghost use Rattle.job_files.specs.OutputFiles.{files_from, files_in_order, journal_name, nameless, packets_name, put_files, report_name, shown};
 

@@ -9,7 +9,7 @@ use Rattle.slot_histories.proofs.EventTests.{IsEmptyRow-empty}
 use Rattle.slot_match.specs.declared.matching.Fed.{Fed}
 use Rattle.slot_match.specs.declared.rows.Row.{Row}
 use Rattle.service_bound.specs.Waits.{NotedSlot, longest_wait}
-use Rattle.service_bound.specs.Meters.{HasNoted}
+use Rattle.service_bound.specs.MeterSteps.{HasNoted}
 use Rattle.journal_check.specs.declared.slots.SlotRead.{SlotRead}
 use Rattle.journal_check.specs.declared.verdict.Failure.{Failure}
 use Rattle.journal_check.specs.declared.verdict.Reason.{Reason}

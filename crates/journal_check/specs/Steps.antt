@@ -2,7 +2,7 @@
 -- is known of the slots so far.
 use Rattle.std.specs.Prelude.{◌≡◌, ◌≢◌, ℕ, ◌+◌, ◌-◌, ◌<◌, ◌≤◌, ◌++◌, slice_index, List, Option, None, Some, Ok, Err, length, drop, take, map}
 use Rattle.slot_match.specs.Rows.{AreWithin}
-use Rattle.service_bound.specs.Meters.{HasNoted}
+use Rattle.service_bound.specs.MeterSteps.{HasNoted}
 use Rattle.journal_check.specs.declared.header.Header.{Header}
 use Rattle.journal_check.specs.declared.slots.SlotRead.{SlotRead}
 use Rattle.journal_check.specs.declared.verdict.Failure.{Failure}

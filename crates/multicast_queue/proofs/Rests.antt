@@ -5,7 +5,7 @@ use Rattle.cell_cutter.specs.declared.cell.CellName.{CellName}
 use Rattle.rotating_pick.specs.PortSets.{Has, IsAmong}
 use Rattle.rotating_pick.proofs.Bits.{Has-lt, no_member-zero, zero-no_members}
 use Rattle.multicast_queue.specs.FanQueues.{FanCell, first_fan, first_name, rest_with}
-use Rattle.multicast_queue.specs.Fields.{HaveFans, IsRest}
+use Rattle.multicast_queue.specs.FieldSteps.{HaveFans, IsRest}
 
 -- ---- the first cell
 pub first_fan-some : (cells : List FanCell) (cell : FanCell) → Some cell ≡ slice_get cells 0 → cell.fan ≡ first_fan cells

@@ -1,2 +1,2 @@
 pub mod FanQueues
-pub mod Fields
+pub mod FieldSteps

@@ -1,7 +1,7 @@
 ghost use Rattle.std.specs.Prelude.{◌≡◌, ◌≢◌, ℕ, ◌+◌, ◌<◌, ◌≤◌, ◌↔◌, [], map, length, nat_le, false, All, IfOk, IsTrue, if◌then◌else◌};
 ghost use Rattle.rotating_pick.specs.PortSets.{Has, HasSeveral, IsAmong};
 ghost use Rattle.multicast_queue.specs.FanQueues.{empty_queues, queue_at, queue_with, first_fan, first_name, HeadLeaves, HeadStays, OthersStay};
-ghost use Rattle.multicast_queue.specs.Fields.{empty_kept};
+ghost use Rattle.multicast_queue.specs.FieldSteps.{empty_kept};
 
 use crate::queue::Queue;
 use cell_cutter::{CellName, MAX_FORWARDED_CELLS};
@@ -20,7 +20,7 @@ pub struct FanQueues {
 
 impl Model for FanQueues {
     ghost use Rattle.multicast_queue.specs.FanQueues.{Queues};
-    ghost use Rattle.multicast_queue.specs.Fields.{AreKept, queues_in};
+    ghost use Rattle.multicast_queue.specs.FieldSteps.{AreKept, queues_in};
 
     ghost Value = { Queues };
 

@@ -1,7 +1,7 @@
 ghost use Rattle.std.specs.Prelude.{◌≡◌, ◌≢◌, ℕ, ◌+◌, ◌<◌, ◌≤◌, ◌↔◌, length, IfOk, IsTrue, false};
 ghost use Rattle.rotating_pick.specs.PortSets.{Has};
 ghost use Rattle.multicast_queue.specs.FanQueues.{first_fan, first_name, rest_with, HeadLeaves, HeadStays};
-ghost use Rattle.multicast_queue.specs.Fields.{empty_kept, kept_with};
+ghost use Rattle.multicast_queue.specs.FieldSteps.{empty_kept, kept_with};
 
 use cell_cutter::{CellName, MAX_FORWARDED_CELLS};
 use cell_rings::CellRing;
@@ -17,7 +17,7 @@ pub(crate) struct Queue {
 }
 
 impl Model for Queue {
-    ghost use Rattle.multicast_queue.specs.Fields.{Kept, kept_of};
+    ghost use Rattle.multicast_queue.specs.FieldSteps.{Kept, kept_of};
 
     ghost Value = { Kept };
 

@@ -9,7 +9,7 @@ use Rattle.slot_match.specs.declared.matching.Served.{Served}
 use Rattle.output_queued.specs.declared.coming.Coming.{Coming}
 use Rattle.output_queued.specs.declared.tally.Tally.{Tally}
 use Rattle.output_queued.specs.Switches.{card_for, cells_from}
-use Rattle.output_queued.specs.Noting.{Source, no_source, source_at, tally_at, IsBefore, IsIn, IsUnserved}
+use Rattle.output_queued.specs.NotingSteps.{Source, no_source, source_at, tally_at, IsBefore, IsIn, IsUnserved}
 use Rattle.output_queued.specs.Steps.{IsPart, HasEntered, Stand, HaveEntered, cells_to, cells_of_first, with_cells}
 use Rattle.output_queued.proofs.Totals.{total-more}
 use Rattle.output_queued.proofs.Places.{set-here, set-other, set-case}

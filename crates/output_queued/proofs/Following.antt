@@ -22,7 +22,7 @@ use Rattle.output_queued.specs.declared.tally.Tally.{Tally}
 use Rattle.output_queued.specs.Ideal.{total, queued, given}
 use Rattle.output_queued.specs.Switches.{Matched, match_at, served_in, card_of, brought, cells_from, comes, feeds}
 use Rattle.output_queued.specs.Lines.{ideal, ran, end_of, greatest_of, ahead, line_by, line_of}
-use Rattle.output_queued.specs.Noting.{IsTally, IsSmall}
+use Rattle.output_queued.specs.NotingSteps.{IsTally, IsSmall}
 use Rattle.output_queued.specs.Steps.{Ticks}
 use Rattle.output_queued.proofs.Totals.{total-same}
 use Rattle.output_queued.proofs.Ideals.{given-queued, recurrence}

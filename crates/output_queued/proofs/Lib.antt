@@ -9,5 +9,6 @@ pub mod Switching
 pub mod Following
 pub mod Taken
 pub mod Noted
+pub mod FirstNoted
 pub mod Places
 pub mod Arrivals

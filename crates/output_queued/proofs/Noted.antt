@@ -1,6 +1,6 @@
 -- A reference that has noted some slots: its rows, and what it keeps after one slot more.
-use Rattle.std.proofs.Common.{◌≡◌, ◌∙◌, ℕ, zero, suc, ◌+◌, ◌<◌, ◌≤◌, List, [], ◌∷◌, ◌++◌, map, length, replicate, Option, None, Some, slice_index_or}
-use Rattle.std.proofs.Common.{refl, sym, ap, subst, arith, inl, inr, if◌then◌else◌}
+use Rattle.std.proofs.Common.{◌≡◌, ◌∙◌, ℕ, ◌+◌, ◌<◌, ◌≤◌, List, [], ◌∷◌, ◌++◌, map, length, Option, None, Some, slice_index_or, refl, sym, ap, subst}
+use Rattle.std.proofs.Common.{arith, inl, inr, if◌then◌else◌}
 use Rattle.std.specs.Prelude.{is_some}
 use Rattle.std.proofs.lemmas.Bool.{cases_eq, cases_lt}
 use Rattle.std.proofs.lemmas.List.{length-map, get_or-map, ext_get_or}
@@ -15,16 +15,16 @@ use Rattle.slot_match.specs.Matches.{fed_of, Serves, IsMatch}
 use Rattle.slot_match.specs.Parts.{served_of}
 use Rattle.slot_match.proofs.Sets.{Has-or}
 use Rattle.card_core.specs.Posts.{row_at, IsServable}
-use Rattle.card_core.specs.States.{row_of}
+use Rattle.card_core.specs.StateSteps.{row_of}
 use Rattle.output_queued.specs.declared.coming.Coming.{Coming}
 use Rattle.output_queued.specs.declared.tally.Tally.{Tally}
 use Rattle.output_queued.specs.Ideal.{total}
 use Rattle.output_queued.specs.Switches.{Matched, match_at, served_in, card_of, no_card, card_for, cells_from, comes, feeds, rows_after, AreServed}
 use Rattle.output_queued.specs.Switches.{AreCards, IsSwitch}
-use Rattle.output_queued.specs.Lines.{ran, line_of}
-use Rattle.output_queued.specs.Noting.{Source, State, no_source, source_at, no_tally, tally_at, cards_in, IsBefore, IsTally, IsSmall, IsUnserved}
-use Rattle.output_queued.specs.Noting.{HasNoted, MayFollow, MayNote}
-use Rattle.output_queued.specs.Steps.{Ticks, IsPart, MayTake, HasTaken, Stand, HaveEntered, cells_of_first, with_cells}
+use Rattle.output_queued.specs.Lines.{ran}
+use Rattle.output_queued.specs.NotingSteps.{Source, State, no_source, source_at, tally_at, cards_in, IsBefore, IsTally, IsSmall, IsUnserved, HasNoted, MayNote}
+use Rattle.output_queued.specs.Following.{MayFollow}
+use Rattle.output_queued.specs.Steps.{Ticks, IsPart, MayTake, HasTaken, Stand, HaveEntered, cells_of_first}
 use Rattle.output_queued.proofs.Totals.{total-same, total-more}
 use Rattle.output_queued.proofs.Pairs.{may_serve}
 use Rattle.output_queued.proofs.Runs.{ran-few}
@@ -45,7 +45,7 @@ module _ (ports depth : ℕ) (sources : List Source) where
       → card_of (map (λ (source : Source). card_for ports depth source.coming) sources) i ≡ card_for ports depth (source_at sources i).coming
   card-at i inside = get_or-map (λ (source : Source). card_for ports depth source.coming) sources i no_source no_card inside
 
-  coming-at : (i : ℕ) → i < length sources → slice_index_or (coming_of sources) i [] ≡ (source_at sources i).coming
+  pub coming-at : (i : ℕ) → i < length sources → slice_index_or (coming_of sources) i [] ≡ (source_at sources i).coming
   coming-at i inside = get_or-map (λ (source : Source). source.coming) sources i no_source [] inside
 
   pub comes-are : (matches : List Matched) (j t : ℕ) (n : ℕ) → length sources ≡ n
@@ -341,69 +341,3 @@ note_rows s rows matched (matches, noted, may) = may.rows_are ∙ sym (rows-are 
 
 pub note_ports : (s : State) (rows : List Row) (matched : Matched) → MayNote s rows matched → length matched ≡ s.ports
 note_ports s rows matched (matches, noted, may) = may.whole.count ∙ cards-long s matches noted
-
--- ---- before any slot
-pub no_tallies : (n j : ℕ) → tally_at (replicate n no_tally) j ≡ no_tally
-no_tallies zero j = refl
-no_tallies (suc n) zero = refl
-no_tallies (suc n) (suc j) = no_tallies n j
-
-module _ (n depth : ℕ) (sources : List Source) (switch : IsSwitch n depth (coming_of sources))
-    (standing : (i : ℕ) → i < n → IsBefore (card_for n depth (source_at sources i).coming) (source_at sources i) []) where
-  first-long : length sources ≡ n
-  first-long = sym (length-map sources (λ (source : Source). source.coming)) ∙ switch.count
-
-  pub first-stand : Stand n depth 0 sources (λ i. [])
-  first-stand = record {
-    count = first-long;
-    parts = λ i inside. let long = first-long in
-        subst (IsPart n depth) (coming-at n depth sources i (omega arith)) (part_of n depth (coming_of sources) switch i inside);
-    long = λ i inside. refl;
-    before = standing;
-  }
-
-  module _ (after : List Source) (counted : List Tally) (unserved : ℕ)
-      (entered : HaveEntered n depth 0 n (λ i. []) sources after (replicate n no_tally) counted) (many : length counted ≡ n)
-      (small : (j : ℕ) → (tally_at counted j).came ≤ 131072) (unserved-is : IsUnserved unserved counted) where
-    pub first-same : coming_of after ≡ coming_of sources
-    first-same = coming-same sources after entered.count (λ i inside. entered.coming i)
-
-    first-cards : map (λ (source : Source). card_for n depth source.coming) after ≡ map (λ (source : Source). card_for n depth source.coming) sources
-    first-cards = cards-are n depth after ∙ ap (map (card_for n depth)) first-same ∙ sym (cards-are n depth sources)
-
-    first-tally : (j : ℕ) → tally_at counted j ≡ with_cells no_tally (cells_of_first n depth sources (λ i. []) j 0 n)
-    first-tally j = entered.tallies j ∙ ap (λ t. with_cells t (cells_of_first n depth sources (λ i. []) j 0 n)) (no_tallies n j)
-
-    first-is : (j : ℕ) → IsTally (map (λ (source : Source). card_for n depth source.coming) sources) [] 1 j (tally_at counted j)
-    unfolding line_of
-    first-is j =
-        let comes' = comes-are n depth sources [] j 0 n first-long in
-        rw (first-tally j) (record { came = omega arith; given = refl; ran = refl; line = refl })
-
-    first-small : (j : ℕ) → IsSmall 0 (tally_at counted j)
-    first-small j =
-        let within : (with_cells no_tally (cells_of_first n depth sources (λ i. []) j 0 n)).came ≤ 131072 =
-        subst (λ (t : Tally). t.came ≤ 131072) (first-tally j) (small j) in
-        rw (first-tally j) (record {
-          came = omega arith;
-          behind = omega arith;
-          given = omega arith;
-          few = omega arith;
-          lead = omega arith;
-          ends = omega arith;
-          runs = omega arith;
-          extra = omega arith;
-        })
-
-    pub first-noted : HasNoted (record { ports = n; depth = depth; slots = 0; sources = after; tallies = counted; unserved = unserved }) []
-    first-noted = record {
-      switch = subst (IsSwitch n depth) (sym first-same) switch;
-      slots = refl;
-      within = omega arith;
-      served = record { whole = λ t below. absurd (omega arith); named = λ t i j level kind below pair. absurd (omega arith) };
-      sources = λ i inside. rw (entered.coming i) (entered.entered i inside);
-      count = many;
-      tallies = λ j inside. subst (λ cards. IsTally cards [] 1 j (tally_at counted j)) (sym first-cards) (first-is j);
-      small = λ j inside. first-small j;
-      unserved = unserved-is;
-    }

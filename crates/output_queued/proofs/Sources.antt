@@ -17,14 +17,15 @@ use Rattle.card_core.specs.declared.plan.Planned.{Planned}
 use Rattle.card_core.specs.Plans.{Plan, IsPlanned, IsGoodPlan, size_of, arriving}
 use Rattle.card_core.specs.Queues.{queue_in, is_routed, is_admitted, admitted, dropped, counted, count_in}
 use Rattle.card_core.specs.Posts.{granted_at}
-use Rattle.card_core.specs.States.{State, HasSent, HasRooms, IsNext, AreQueues, state_of, next_in, MayEnter, Enters}
+use Rattle.card_core.specs.States.{State, HasSent, IsNext, AreQueues, state_of}
+use Rattle.card_core.specs.StateSteps.{HasRooms, next_in, MayEnter, Enters}
 use Rattle.card_core.proofs.Beginning.{begins}
 use Rattle.card_core.proofs.Passing.{arriving-there}
 use Rattle.card_core.proofs.Posted.{may_arrive, posted_is, posted_state}
 use Rattle.card_core.proofs.Plenty.{few_packets}
 use Rattle.output_queued.specs.declared.coming.Coming.{Coming}
 use Rattle.output_queued.specs.Switches.{planned_of, bytes_for, card_for, brought, IsComing}
-use Rattle.output_queued.specs.Noting.{Source, IsBefore, IsIn}
+use Rattle.output_queued.specs.NotingSteps.{Source, IsBefore, IsIn}
 use Rattle.output_queued.specs.Steps.{IsPart, HasEntered, cells_to}
 use Rattle.output_queued.proofs.Shares.{routed-if}
 

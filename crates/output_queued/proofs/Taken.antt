@@ -4,11 +4,12 @@ use Rattle.slot_match.specs.declared.matching.Served.{Served}
 use Rattle.card_core.specs.Plans.{Plan}
 use Rattle.card_core.specs.Queues.{before, admitted, dropped}
 use Rattle.card_core.specs.Posts.{row_at, granted_at, IsServable}
-use Rattle.card_core.specs.States.{State, HasSent, IsNext, AreQueues, state_of, row_of}
+use Rattle.card_core.specs.States.{State, HasSent, IsNext, AreQueues, state_of}
+use Rattle.card_core.specs.StateSteps.{row_of}
 use Rattle.card_core.proofs.After.{may_leave, take_none, take_some}
 use Rattle.card_core.proofs.Posted.{row-is}
 use Rattle.output_queued.specs.Switches.{card_for}
-use Rattle.output_queued.specs.Noting.{Source, IsBefore, IsIn}
+use Rattle.output_queued.specs.NotingSteps.{Source, IsBefore, IsIn}
 use Rattle.output_queued.specs.Steps.{IsPart, MayTake, HasTaken}
 use Rattle.output_queued.proofs.Sources.{good-card}
 

@@ -1,6 +1,7 @@
 pub mod Ideal
 pub mod Switches
 pub mod Lines
-pub mod Noting
+pub mod NotingSteps
+pub mod Following
 pub mod Steps
 pub mod Texts

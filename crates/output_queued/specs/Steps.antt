@@ -5,12 +5,12 @@ use Rattle.cell_cutter.specs.declared.cell.CellName.{CellName}
 use Rattle.slot_match.specs.declared.matching.Served.{Served}
 use Rattle.slot_histories.specs.Tests.{has}
 use Rattle.voq_banks.specs.declared.limits.TheConstants.{MAX_DEPTH}
-use Rattle.card_core.specs.States.{MayLeave, Leaves}
+use Rattle.card_core.specs.StateSteps.{MayLeave, Leaves}
 use Rattle.output_queued.specs.declared.coming.Coming.{Coming}
 use Rattle.output_queued.specs.declared.tally.Tally.{Tally}
 use Rattle.output_queued.specs.Ideal.{total}
 use Rattle.output_queued.specs.Switches.{card_for, cells_from, IsComing, IsInput}
-use Rattle.output_queued.specs.Noting.{Source, State, source_at, tally_at, IsBefore, IsIn}
+use Rattle.output_queued.specs.NotingSteps.{Source, State, source_at, tally_at, IsBefore, IsIn}
 
 -- what a slot makes of what is counted at an output, to which it feeds so many cells
 pub record Ticks (slot fed : ℕ) (old new : Tally) : Type 0 where

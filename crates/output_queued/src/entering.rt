@@ -3,7 +3,7 @@ ghost use Rattle.rotating_pick.specs.PortSets.{Has};
 ghost use Rattle.rotating_pick.specs.declared.limits.TheConstants.{MAX_PORTS};
 ghost use Rattle.slot_match.specs.declared.matching.Served.{Served as AServed};
 ghost use Rattle.slot_match.specs.Parts.{served_of};
-ghost use Rattle.output_queued.specs.Noting.{source_at, tally_at, IsUnserved};
+ghost use Rattle.output_queued.specs.NotingSteps.{source_at, tally_at, IsUnserved};
 ghost use Rattle.output_queued.specs.Steps.{MayTake, HasTaken, cells_to, with_cells, Stand, HaveEntered};
 
 use crate::coming::Coming;

@@ -3,9 +3,9 @@ ghost use Rattle.std.specs.Option.{option_map};
 ghost use Rattle.cell_cutter.specs.declared.cell.CellName.{CellName};
 ghost use Rattle.cell_cutter.specs.declared.sizes.TheConstants.{MAX_FORWARDED_CELLS};
 ghost use Rattle.slot_match.specs.declared.matching.Served.{Served as AServed};
-ghost use Rattle.card_core.specs.States.{MayEnter, Enters, MayLeave, Leaves, next_in, row_of};
+ghost use Rattle.card_core.specs.StateSteps.{MayEnter, Enters, MayLeave, Leaves, next_in, row_of};
 ghost use Rattle.output_queued.specs.Switches.{card_for, planned_of};
-ghost use Rattle.output_queued.specs.Noting.{IsBefore};
+ghost use Rattle.output_queued.specs.NotingSteps.{IsBefore};
 ghost use Rattle.output_queued.specs.Steps.{IsPart, MayTake, HasTaken, HasEntered, IsAdmissible};
 
 use crate::coming::Coming;
@@ -27,7 +27,7 @@ pub(crate) struct Input {
 }
 
 impl Model for Input {
-    ghost use Rattle.output_queued.specs.Noting.{Source};
+    ghost use Rattle.output_queued.specs.NotingSteps.{Source};
 
     ghost Value = { Source };
 

@@ -5,10 +5,10 @@ ghost use Rattle.rotating_pick.specs.declared.limits.TheConstants.{LEVELS, MAX_P
 ghost use Rattle.card_core.specs.declared.limits.TheConstants.{MAX_SLOTS};
 ghost use Rattle.slot_match.specs.Matches.{fed_of, Serves, IsMatch};
 ghost use Rattle.slot_match.specs.Rows.{Names, row_of as row_in};
-ghost use Rattle.card_core.specs.States.{row_of};
+ghost use Rattle.card_core.specs.StateSteps.{row_of};
 ghost use Rattle.output_queued.specs.Switches.{Matched, card_for, IsSwitch};
 ghost use Rattle.output_queued.specs.Lines.{ideal, ran, line_of};
-ghost use Rattle.output_queued.specs.Noting.{HasNoted, MayNote, cards_in, source_at, tally_at, no_tally, IsSmall, IsBefore, IsUnserved};
+ghost use Rattle.output_queued.specs.NotingSteps.{HasNoted, MayNote, cards_in, source_at, tally_at, no_tally, IsSmall, IsBefore, IsUnserved};
 ghost use Rattle.output_queued.specs.Steps.{SameSwitch, Ticks};
 
 use crate::checking::are_inputs;
@@ -48,7 +48,7 @@ pub struct Reference {
 impl Model for Reference {
     ghost use Rattle.std.specs.Prelude.{List};
     ghost use Rattle.output_queued.specs.Switches.{Matched};
-    ghost use Rattle.output_queued.specs.Noting.{State, HasNoted};
+    ghost use Rattle.output_queued.specs.NotingSteps.{State, HasNoted};
 
     ghost Value = { State };
 

@@ -1,6 +1,6 @@
 ghost use Rattle.std.specs.Prelude.{◌≡◌, ℕ, ◌+◌, ◌-◌, ◌*◌, ◌^◌, ◌<◌, ◌≤◌, List, ◌∷◌, [], ◌++◌, map, length, slice_index, slice_get, Some, IfOk};
 ghost use Rattle.card_core.specs.declared.limits.TheConstants.{MAX_ARRIVALS};
-ghost use Rattle.card_core.specs.States.{HasRooms, AreFew};
+ghost use Rattle.card_core.specs.StateSteps.{HasRooms, AreFew};
 ghost use Rattle.output_queued.specs.declared.coming.Coming.{Coming as AComing};
 ghost use Rattle.output_queued.specs.Switches.{planned_of, IsComing};
 

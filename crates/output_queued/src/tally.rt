@@ -1,6 +1,6 @@
 ghost use Rattle.std.specs.Prelude.{◌≡◌, ℕ, ◌+◌, ◌-◌, ◌*◌, ◌<◌, ◌≤◌, min, max, nat_lt, true, if◌then◌else◌, IsTrue, ◌↔◌};
 ghost use Rattle.card_core.specs.declared.limits.TheConstants.{MAX_SLOTS};
-ghost use Rattle.output_queued.specs.Noting.{IsSmall, no_tally};
+ghost use Rattle.output_queued.specs.NotingSteps.{IsSmall, no_tally};
 ghost use Rattle.output_queued.specs.Steps.{Ticks};
 
 use crate::line::RefLine;

@@ -16,7 +16,7 @@ use Rattle.card_core.specs.States.{IsNext}
 use Rattle.queue_lengths.specs.declared.counting.Arrival.{Arrival}
 use Rattle.queue_lengths.specs.Counters.{Counters, CountBefore, CountIn, arrival_in}
 use Rattle.whole_run.proofs.SameParts.{before-alike}
-use Rattle.packet_times.specs.Noting.{Input, was_admitted, IsNoted}
+use Rattle.packet_times.specs.NotingSteps.{Input, was_admitted, IsNoted}
 use Rattle.packet_times.specs.Steps.{HasArrived}
 
 -- a packet of a list that arrives in slot t, where one is found

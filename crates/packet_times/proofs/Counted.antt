@@ -4,7 +4,7 @@ use Rattle.std.proofs.Common.{refl, sym, ap, subst, arith, inl, inr, get_or-set_
 use Rattle.std.proofs.lemmas.Bool.{cases_eq}
 use Rattle.rotating_pick.specs.PortSets.{Has}
 use Rattle.rotating_pick.specs.declared.kinds.Kind.{Kind}
-use Rattle.packet_times.specs.Walking.{own_place, one_more, with_one, IsCounted}
+use Rattle.packet_times.specs.WalkingSteps.{own_place, one_more, with_one, IsCounted}
 
 module _ (fan level : ℕ) (kind : Kind) (old : List ℕ) where
   pub counted-first : IsCounted fan level kind 0 old old

@@ -22,7 +22,7 @@ use Rattle.switch_plan.specs.GoodPlans.{SwitchPlan, IsGood}
 use Rattle.whole_run.specs.Runs.{ports_of, setup_for, no_plan, card_at, before_under, parts_under, posts_under, IsSlotUnder}
 use Rattle.whole_run.proofs.Base.{decision-same, good-card}
 use Rattle.packet_departures.specs.Departures.{Flow, is_end_of, ends_of}
-use Rattle.packet_times.specs.Noting.{Input, Times, no_input, flow_place, IsNoted, IsLastMatch, HasNoted}
+use Rattle.packet_times.specs.NotingSteps.{Input, Times, no_input, flow_place, IsNoted, IsLastMatch, HasNoted}
 use Rattle.packet_times.specs.Steps.{end_in, HasEnds, AreNoted}
 
 pub parts-first : (scheduler : Scheduler) (plan : SwitchPlan) (i : ℕ) → parts_under scheduler plan i 0 ≡ []

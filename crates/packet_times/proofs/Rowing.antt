@@ -20,9 +20,9 @@ use Rattle.whole_run.specs.Runs.{ports_of, card_at, parts_under}
 use Rattle.packet_departures.specs.Departures.{departure_under}
 use Rattle.packet_times.specs.declared.state.PacketState.{PacketState}
 use Rattle.packet_times.specs.declared.state.PacketState.TheVariants.{Forwarded, Dropped, Unrouted, Oversize}
-use Rattle.packet_times.specs.Noting.{was_admitted}
+use Rattle.packet_times.specs.NotingSteps.{was_admitted}
 use Rattle.packet_times.specs.Rows.{row_text, routed_row, state_of, departure_if, outputs_in, packet_rows}
-use Rattle.packet_times.specs.Walking.{row_to, rows_to}
+use Rattle.packet_times.specs.WalkingSteps.{row_to, rows_to}
 use Rattle.packet_times.proofs.Noted.{range_more}
 
 -- ---- the departure of a packet by its state

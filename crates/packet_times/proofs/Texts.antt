@@ -15,7 +15,7 @@ use Rattle.whole_run.specs.Runs.{ports_of}
 use Rattle.packet_times.specs.declared.fields.Field.{Field}
 use Rattle.packet_times.specs.Rows.{row_text, header, packets_text_under}
 use Rattle.packet_times.specs.Steps.{input_text}
-use Rattle.packet_times.specs.Fields.{field_text, after_comma, fields_text}
+use Rattle.packet_times.specs.FieldSteps.{field_text, after_comma, fields_text}
 
 join-commas : (word : List ℕ) (fields : List Field) → join_with_byte 44 (word ∷ map field_text fields) ≡ word ++ flat_map after_comma fields
 join-commas word [] = sym (append-nil word)

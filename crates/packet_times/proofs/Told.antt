@@ -5,7 +5,7 @@ use Rattle.std.proofs.lemmas.List.{take_all, get_or-map}
 use Rattle.std.proofs.lemmas.Option.{slice_get-get_or}
 use Rattle.slot_match.specs.declared.matching.Served.{Served}
 use Rattle.card_core.specs.Plans.{Plan, no_packet}
-use Rattle.packet_times.specs.Noting.{Input, was_admitted, IsNoted}
+use Rattle.packet_times.specs.NotingSteps.{Input, was_admitted, IsNoted}
 
 module _ (plan : Plan) (input : Input) (served : List (Option Served)) (is : IsNoted plan input served)
     (all : (k : ℕ) → k < length plan.packets → (slice_index_or plan.packets k no_packet).arrival < length served) where

@@ -27,8 +27,8 @@ use Rattle.whole_run.proofs.Base.{good-card, served-length}
 use Rattle.packet_departures.specs.Departures.{Flow, flow_of, ends_of, goes_by, earlier_by, departure_under}
 use Rattle.packet_times.specs.declared.going.TheConstants.{MOST_FLOWS}
 use Rattle.packet_times.specs.declared.walk.Outcome.{Outcome}
-use Rattle.packet_times.specs.Noting.{Input, Times, no_input, IsFlow, IsNoted, flow_place, kind_place, was_admitted, HasNoted}
-use Rattle.packet_times.specs.Walking.{own_place, one_more, IsCounted, HasGone, IsOutcome}
+use Rattle.packet_times.specs.NotingSteps.{Input, Times, no_input, IsFlow, IsNoted, flow_place, kind_place, was_admitted, HasNoted}
+use Rattle.packet_times.specs.WalkingSteps.{own_place, one_more, IsCounted, HasGone, IsOutcome}
 use Rattle.packet_times.proofs.Places.{kind_few, kind_same}
 use Rattle.packet_times.proofs.Noted.{get_or-replicate}
 use Rattle.packet_times.proofs.Told.{admitted-at}

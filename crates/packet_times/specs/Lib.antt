@@ -1,5 +1,5 @@
 pub mod Rows
-pub mod Noting
+pub mod NotingSteps
 pub mod Steps
-pub mod Fields
-pub mod Walking
+pub mod FieldSteps
+pub mod WalkingSteps

@@ -10,7 +10,7 @@ use Rattle.switch_plan.specs.GoodPlans.{SwitchPlan}
 use Rattle.whole_run.specs.Runs.{ports_of, card_at, parts_under}
 use Rattle.packet_departures.specs.Departures.{Flow, is_end_of}
 use Rattle.packet_times.specs.Rows.{row_text, packet_rows}
-use Rattle.packet_times.specs.Noting.{Input, no_input, IsFlow, flow_place, was_admitted, IsNoted}
+use Rattle.packet_times.specs.NotingSteps.{Input, no_input, IsFlow, flow_place, was_admitted, IsNoted}
 
 -- what a slot adds to the ends of a flow, of the cell that crosses to its output
 abbrev pub end_in : ℕ → Flow → Option Cell → List ℕ

@@ -2,7 +2,7 @@ ghost use Rattle.std.specs.Prelude.{◌≡◌, ◌<◌, ◌≤◌, ◌*◌, ◌+
 ghost use Rattle.rotating_pick.specs.declared.limits.TheConstants.{LEVELS, MAX_PORTS};
 ghost use Rattle.reassembly.specs.declared.limits.TheConstants.{FLOWS_PER_INPUT};
 ghost use Rattle.crossbar.specs.Crossing.{fetched};
-ghost use Rattle.packet_times.specs.Noting.{flow_place};
+ghost use Rattle.packet_times.specs.NotingSteps.{flow_place};
 ghost use Rattle.packet_times.specs.Steps.{EndsAt, EndsNone, AddsEnd, HasEnds};
 
 use cell_cutter::Cell;

@@ -1,7 +1,7 @@
 ghost use Rattle.std.specs.Prelude.{◌≡◌, ◌++◌, OnOk, string_bytes};
 ghost use Rattle.std.specs.List.{flat_map};
 ghost use Rattle.packet_times.specs.Rows.{state_name};
-ghost use Rattle.packet_times.specs.Fields.{field_text, after_comma, fields_text};
+ghost use Rattle.packet_times.specs.FieldSteps.{field_text, after_comma, fields_text};
 
 use crate::state::PacketState;
 use itoa::Buffer;

@@ -1,7 +1,7 @@
 ghost use Rattle.std.specs.Prelude.{◌≡◌, ◌<◌, length};
 ghost use Rattle.rotating_pick.specs.declared.limits.TheConstants.{LEVELS, MAX_PORTS};
 ghost use Rattle.card_core.specs.Plans.{kind_of as queue_kind, queue_of};
-ghost use Rattle.packet_times.specs.Walking.{own_place, with_one, IsCounted};
+ghost use Rattle.packet_times.specs.WalkingSteps.{own_place, with_one, IsCounted};
 
 use crate::rows::kind_of;
 use card_core::Planned;

@@ -7,7 +7,7 @@ ghost use Rattle.card_core.specs.Plans.{Plan as APlan, IsGoodPlan, plan_of};
 ghost use Rattle.card_core.specs.Posts.{row_at, IsServable};
 ghost use Rattle.switch_plan.specs.GoodPlans.{SwitchPlan, IsGood, switch_plan_of};
 ghost use Rattle.whole_run.specs.Runs.{ports_of, IsSlotUnder};
-ghost use Rattle.packet_times.specs.Noting.{IsNoted};
+ghost use Rattle.packet_times.specs.NotingSteps.{IsNoted};
 ghost use Rattle.packet_times.specs.Steps.{AreNoted};
 
 use card_core::{CardPlan, Planned};
@@ -27,7 +27,7 @@ pub(crate) struct Input {
 }
 
 impl Model for Input {
-    ghost use Rattle.packet_times.specs.Noting.{Input as InputValue};
+    ghost use Rattle.packet_times.specs.NotingSteps.{Input as InputValue};
 
     ghost Value = { InputValue };
 

@@ -3,9 +3,9 @@ ghost use Rattle.cell_cutter.specs.Messages.{cells_of_packet};
 ghost use Rattle.slot_match.specs.declared.matching.Served.{Served};
 ghost use Rattle.card_core.specs.Plans.{Plan, queue_of, queue_for, kind_of as queue_kind};
 ghost use Rattle.slot_report.specs.Texts.{letter_of};
-ghost use Rattle.packet_times.specs.Noting.{was_admitted};
+ghost use Rattle.packet_times.specs.NotingSteps.{was_admitted};
 ghost use Rattle.packet_times.specs.Rows.{departure_text, delay_text, routed_row, aside_row, state_of as packet_state};
-ghost use Rattle.packet_times.specs.Fields.{field_text};
+ghost use Rattle.packet_times.specs.FieldSteps.{field_text};
 
 use crate::fields::{FIELDS, Field, name_of};
 use crate::state::PacketState;

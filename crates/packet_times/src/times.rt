@@ -5,7 +5,7 @@ ghost use Rattle.switch_plan.specs.GoodPlans.{SwitchPlan, IsGood, switch_plan_of
 ghost use Rattle.whole_run.specs.Runs.{ports_of, IsSlotUnder};
 ghost use Rattle.whole_run.specs.Promises.{ArrivalsComeFirst};
 ghost use Rattle.packet_times.specs.Rows.{packets_text_under};
-ghost use Rattle.packet_times.specs.Noting.{HasNoted};
+ghost use Rattle.packet_times.specs.NotingSteps.{HasNoted};
 
 use crate::ends::{FlowEnds, no_ends, note_ends};
 use crate::inputs::{Input, inputs_of, note_inputs};
@@ -30,7 +30,7 @@ pub struct PacketTimes {
 }
 
 impl Model for PacketTimes {
-    ghost use Rattle.packet_times.specs.Noting.{Times};
+    ghost use Rattle.packet_times.specs.NotingSteps.{Times};
 
     ghost Value = { Times };
 

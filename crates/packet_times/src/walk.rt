@@ -5,9 +5,9 @@ ghost use Rattle.switch_plan.specs.GoodPlans.{SwitchPlan};
 ghost use Rattle.whole_run.specs.Runs.{ports_of};
 ghost use Rattle.whole_run.specs.Promises.{ArrivalsComeFirst};
 ghost use Rattle.packet_departures.specs.Departures.{departure_under};
-ghost use Rattle.packet_times.specs.Noting.{HasNoted};
+ghost use Rattle.packet_times.specs.NotingSteps.{HasNoted};
 ghost use Rattle.packet_times.specs.Steps.{input_text};
-ghost use Rattle.packet_times.specs.Walking.{HasGone, IsOutcome, outcome_text};
+ghost use Rattle.packet_times.specs.WalkingSteps.{HasGone, IsOutcome, outcome_text};
 
 use crate::ends::place_of_flow;
 use crate::fields::put_row;

@@ -1,6 +1,6 @@
 ghost use Rattle.std.specs.Prelude.{◌≡◌, ◌+◌, ◌^◌, ◌<◌, ◌≤◌, ◌++◌, length, drop, IfOk, IfErr};
 ghost use Rattle.pcap_records.specs.Format.{record_header, nanos_of};
-ghost use Rattle.pcap_records.specs.Records.{IsStored, IsBroken};
+ghost use Rattle.pcap_records.specs.RecordSteps.{IsStored, IsBroken};
 
 use crate::capture::Stored;
 use crate::fault::PcapFault;

@@ -5,7 +5,7 @@ use Rattle.std.specs.Int.{bit_at}
 use Rattle.std.proofs.lemmas.Bool.{cases_eq}
 use Rattle.std.proofs.lemmas.Nat.{one_shl, pow_pos, pow_below}
 use Rattle.std.proofs.lemmas.Nat.Bits.{bit_at-lt, and_pow}
-use Rattle.port_square.specs.Exchange.{bit_of, take_bit}
+use Rattle.port_square.specs.ExchangeSteps.{bit_of, take_bit}
 use Rattle.port_square.proofs.Turning.{without, take_bit_same, take_bit_up, take_bit_down, up_bit, up-lt, without_bit, without_clear, without_set}
 use Rattle.port_square.proofs.Words.{high_clear, high_set, low_clear, low_set}
 

@@ -5,7 +5,7 @@ use Rattle.std.proofs.Math.Nat.{mod-eq_of_lt}
 use Rattle.std.proofs.lemmas.Bool.{cases_eq}
 use Rattle.std.proofs.lemmas.Nat.{shr_split, pow-add, pow_pos, mod_below, div-mul-add, mod-mul-add, mul-add-lt, shr_below, mod-pow-add}
 use Rattle.std.proofs.lemmas.Nat.Bits.{bit_at-lt, bit_at_cat_low, bit_at_cat_high, bit_at_lowest}
-use Rattle.port_square.specs.Exchange.{take_bit, take_above}
+use Rattle.port_square.specs.ExchangeSteps.{take_bit, take_above}
 
 -- x with no bit k
 abbrev pub without : ℕ → ℕ → ℕ

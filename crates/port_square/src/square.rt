@@ -2,7 +2,7 @@ ghost use Rattle.std.specs.Prelude.{◌≡◌, ℕ, ◌-◌, ◌<◌, ◌↔◌,
 ghost use Rattle.std.specs.Int.{bit_at};
 ghost use Rattle.rotating_pick.specs.PortSets.{Has};
 ghost use Rattle.rotating_pick.specs.declared.limits.TheConstants.{MAX_PORTS};
-ghost use Rattle.port_square.specs.Exchange.{bit_of, take_bit};
+ghost use Rattle.port_square.specs.ExchangeSteps.{bit_of, take_bit};
 
 use rotating_pick::{MAX_PORTS, PORT_COUNT, Ports};
 

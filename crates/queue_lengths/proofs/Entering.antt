@@ -6,7 +6,7 @@ use Rattle.slot_match.specs.declared.matching.Served.{Served}
 use Rattle.card_core.specs.declared.plan.Planned.{Planned}
 use Rattle.card_core.specs.Plans.{Plan, Queue, IsPlanned, is_queue, queue_of, size_of, arriving}
 use Rattle.card_core.specs.Queues.{is_routed, is_admitted, before}
-use Rattle.card_core.specs.States.{next_in}
+use Rattle.card_core.specs.StateSteps.{next_in}
 use Rattle.card_core.proofs.Passing.{is_queue-same}
 use Rattle.card_core.proofs.Arriving.{is_queue-refl}
 use Rattle.queue_lengths.specs.Lengths.{IsQueue, place_of, count_of, length_before}

@@ -5,7 +5,8 @@ use Rattle.std.proofs.lemmas.Bool.{cases_eq, cases_lt, eq-eqb, ne_eqb}
 use Rattle.std.proofs.lemmas.Option.{same_Some, slice_get-get_or}
 use Rattle.card_core.specs.declared.plan.Planned.{Planned}
 use Rattle.card_core.specs.Plans.{Plan, IsGoodPlan, arriving, arriving_from}
-use Rattle.card_core.specs.States.{IsNext, next_in, arriving_if}
+use Rattle.card_core.specs.States.{IsNext}
+use Rattle.card_core.specs.StateSteps.{next_in, arriving_if}
 use Rattle.card_core.proofs.After.{some_in}
 
 -- ---- a packet that was looked at

@@ -6,7 +6,7 @@ ghost use Rattle.slot_match.specs.declared.matching.Served.{Served as AServed};
 ghost use Rattle.slot_histories.specs.Parts.{IsPartOf};
 ghost use Rattle.card_core.specs.Plans.{Plan, IsGoodPlan, plan_of, queue_for};
 ghost use Rattle.card_core.specs.Posts.{row_at, IsServable};
-ghost use Rattle.card_core.specs.States.{next_in};
+ghost use Rattle.card_core.specs.StateSteps.{next_in};
 ghost use Rattle.queue_lengths.specs.Lengths.{place_of, count_of};
 ghost use Rattle.queue_lengths.specs.Counters.{CountBefore, CountIn, arrival_in};
 ghost use Rattle.queue_lengths.specs.Steps.{MayEnter, enters_at, lengths_with, place_left};

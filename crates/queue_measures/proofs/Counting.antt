@@ -2,16 +2,13 @@
 use Rattle.std.proofs.Common.{◌≡◌, ◌≢◌, ◌∙◌, ℕ, zero, suc, ◌+◌, ◌*◌, ◌/◌, ◌%◌, ◌^◌, ◌<◌, ◌≤◌, ◌==◌, ◌&&◌, not, Bool, true, false, List, [], ◌∷◌, ◌++◌}
 use Rattle.std.proofs.Common.{length, Option, Some, None, slice_index, slice_index_or, slice_set, refl, sym, ap, subst, arith, inl, inr, if◌then◌else◌}
 use Rattle.std.specs.Option.{option_map}
-use Rattle.std.proofs.lemmas.Bool.{cases_eq, cases_lt, cases_Bool, eq-eqb, eqb-true, lt-ltb, le-ltb, and_parts}
+use Rattle.std.proofs.lemmas.Bool.{cases_eq, cases_lt, cases_Bool, eq-eqb, lt-ltb, le-ltb, and_parts}
 use Rattle.std.proofs.lemmas.Grind.{get_or-set_at}
 use Rattle.std.proofs.lemmas.List.{get_or-set_other, length-set}
-use Rattle.std.proofs.lemmas.Nat.Bits.{bit_at-pow_same}
 use Rattle.std.proofs.lemmas.Option.{same_Some}
-use Rattle.rotating_pick.specs.PortSets.{Has}
-use Rattle.rotating_pick.proofs.Bits.{Has-lt}
 use Rattle.slot_match.specs.declared.matching.Served.{Served}
 use Rattle.card_core.specs.declared.plan.Planned.{Planned}
-use Rattle.card_core.specs.Plans.{Plan, Queue, OfOutput, OfLevel, IsGoodPlan, IsPlanned, is_queue, queue_of, size_of, arriving, last_port}
+use Rattle.card_core.specs.Plans.{Plan, Queue, IsGoodPlan, IsPlanned, is_queue, queue_of, size_of, arriving}
 use Rattle.card_core.specs.Queues.{is_routed, is_admitted, enters}
 use Rattle.card_core.proofs.Passing.{arriving-there, is_queue-same}
 use Rattle.card_core.proofs.Arriving.{is_queue-refl}
@@ -21,22 +18,12 @@ use Rattle.queue_lengths.specs.declared.counting.Arrival.{Arrival}
 use Rattle.queue_lengths.specs.Counters.{Counters, CountBefore, CountIn, arrival_in}
 use Rattle.queue_lengths.specs.Lengths.{IsQueue, count_of, place_of, is_for, length_in}
 use Rattle.queue_measures.specs.declared.numbers.QueueNumbers.{QueueNumbers}
-use Rattle.queue_measures.specs.Noting.{IsNoted, no_numbers, numbers_so_far}
+use Rattle.queue_measures.specs.NotingSteps.{IsNoted, no_numbers, numbers_so_far}
 use Rattle.queue_measures.specs.Steps.{with_packet, with_arrivals, queue_at, IsSmall, MayCount}
 use Rattle.queue_measures.proofs.SoFar.{so_far, so_far-first, so_far-step, now_few, is_coming_for, numbers-stay, numbers-with}
+use Rattle.queue_lengths.proofs.Places.{place-same, place-inside, IsQueue-packet}
 
 -- ---- queues and places
-pub place-same : (ports : ℕ) (q r : Queue) → IsQueue ports q → IsQueue ports r → place_of ports q ≡ place_of ports r → q ≡ r
-place-same ports (OfOutput j l) (OfOutput k m) mine yours same = let a : j ≡ k = omega (arith, mine.0, mine.1, yours.0, yours.1, same) in let b : l ≡ m =
-    omega (arith, mine.1, yours.1, same) in cc
-place-same ports (OfOutput j l) (OfLevel m) mine yours same = absurd (omega (arith, mine.0, mine.1, yours, same))
-place-same ports (OfLevel l) (OfOutput k m) mine yours same = absurd (omega (arith, mine, yours.0, yours.1, same))
-place-same ports (OfLevel l) (OfLevel m) mine yours same = let b : l ≡ m = omega arith in cc
-
-pub place-inside : (ports : ℕ) (q : Queue) → IsQueue ports q → place_of ports q < count_of ports
-place-inside ports (OfOutput j l) mine = omega (arith, mine.0, mine.1)
-place-inside ports (OfLevel l) mine = omega (arith, mine)
-
 pub at-place : (ports place : ℕ) → place < count_of ports → IsQueue ports (queue_at ports place) × (place_of ports (queue_at ports place) ≡ place)
 at-place ports place inside =
     let rest : place % 4 < 4 = omega arith in
@@ -75,16 +62,6 @@ numbers-small plan good served q t early =
     }
 
 -- ---- the packet that arrives
-fits-chosen : (ports fan j level : ℕ) (b : Bool) → b ≡ (fan == 2 ^ j) → fan < 2 ^ ports → level < 4
-    → IsQueue ports (if b then OfOutput j level else OfLevel level)
-fits-chosen ports fan j level true is among small =
-    let power : fan ≡ 2 ^ j = eqb-true fan (2 ^ j) (sym is) in
-    (Has-lt ports fan j among (subst (λ set. Has set j) (sym power) (bit_at-pow_same j)), small)
-fits-chosen ports fan j level false is among small = small
-
-pub queue-fits : (plan : Plan) (p : Planned) → IsPlanned plan.ports (length plan.bytes) p → IsQueue plan.ports (queue_of p)
-queue-fits plan p planned = fits-chosen plan.ports p.fan (last_port 64 p.fan) p.level (p.fan == 2 ^ last_port 64 p.fan) refl planned.fan planned.level
-
 module _ (plan : Plan) (good : IsGoodPlan plan) (served : List (Option Served)) (numbers : List QueueNumbers) (count : length numbers ≡ count_of plan.ports)
     (are : (q : Queue) → IsQueue plan.ports q → slice_index_or numbers (place_of plan.ports q) no_numbers ≡ numbers_so_far plan served (length served) q)
     (long : List ℕ) (lengths : length long ≡ count_of plan.ports) where
@@ -156,7 +133,7 @@ module _ (plan : Plan) (good : IsGoodPlan plan) (served : List (Option Served)) 
         → slice_index_or (slice_set numbers (place_for p) (changed p)) (place_of plan.ports q) no_numbers ≡ after q
     routed-at q k p mine is routed =
         let there = arriving-there 0 plan.packets here k p is in
-        let its = queue-fits plan p (good.packets there.0 p there.2) in
+        let its = IsQueue-packet plan.ports (length plan.bytes) p (good.packets there.0 p there.2) in
         let inside = place-inside plan.ports (queue_of p) its in
         elim (cases_eq (place_of plan.ports q) (place_for p)) [
           | inl same ↦ get_or-set_at numbers (place_for p) (place_of plan.ports q) (changed p) no_numbers same (omega arith) ∙ own k p its is routed

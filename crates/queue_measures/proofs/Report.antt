@@ -26,7 +26,7 @@ use Rattle.buffer_sizing.specs.Sizing.{deepest_under}
 use Rattle.queue_lengths.specs.Lengths.{count_of, queues_of, greatest, deepest_of, is_for, packets_of}
 use Rattle.queue_measures.specs.declared.numbers.QueueNumbers.{QueueNumbers}
 use Rattle.queue_measures.specs.Lines.{numbers_of, queue_line, queue_lines_under, deepest_line, input_lines}
-use Rattle.queue_measures.specs.Noting.{Input, IsNoted, HasNoted, no_numbers, no_input, numbers_so_far}
+use Rattle.queue_measures.specs.NotingSteps.{Input, IsNoted, HasNoted, no_numbers, no_input, numbers_so_far}
 use Rattle.queue_measures.specs.Steps.{queue_at, line_at, input_text, deepest_in, deepest_among}
 use Rattle.queue_measures.proofs.Counting.{at-place}
 use Rattle.queue_measures.proofs.SoFar.{so_far}

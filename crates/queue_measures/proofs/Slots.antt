@@ -15,7 +15,7 @@ use Rattle.card_core.specs.Posts.{row_at, IsServable}
 use Rattle.switch_plan.specs.GoodPlans.{SwitchPlan}
 use Rattle.whole_run.specs.Runs.{ports_of, setup_for, card_at, no_plan, parts_under, posts_under, IsSlotUnder}
 use Rattle.whole_run.proofs.Base.{served-is, served-length, good-card}
-use Rattle.queue_measures.specs.Noting.{Input, HasNoted, IsNoted, no_input}
+use Rattle.queue_measures.specs.NotingSteps.{Input, HasNoted, IsNoted, no_input}
 
 -- one input more, before slot 0
 pub noted-more : (plans : List Plan) (inputs : List Input) (new : Input)

@@ -15,7 +15,7 @@ use Rattle.card_core.proofs.Passing.{arriving-there}
 use Rattle.card_core.proofs.Taking.{before-more, queue_in-more}
 use Rattle.queue_lengths.specs.Lengths.{length_in, is_for, greatest, first_greatest, peak_of, peak_slot}
 use Rattle.queue_measures.specs.declared.numbers.QueueNumbers.{QueueNumbers}
-use Rattle.queue_measures.specs.Noting.{no_numbers, numbers_so_far}
+use Rattle.queue_measures.specs.NotingSteps.{no_numbers, numbers_so_far}
 use Rattle.queue_measures.specs.Steps.{with_packet}
 
 -- all packets arrive in slot t or later

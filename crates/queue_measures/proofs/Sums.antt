@@ -1,5 +1,5 @@
 -- Each packet that goes anywhere is for one queue of its input, so what the queues count adds up to what the packets do.
-use Rattle.std.proofs.Common.{◌≡◌, ◌≢◌, ◌∙◌, ℕ, zero, suc, ◌+◌, ◌<◌, ◌≤◌, ◌&&◌, not, Bool, true, false, List, [], ◌∷◌, map, Option, Some, slice_get}
+use Rattle.std.proofs.Common.{◌≡◌, ◌≢◌, ◌∙◌, ℕ, zero, suc, ◌+◌, ◌<◌, ◌≤◌, ◌&&◌, not, Bool, true, false, List, [], ◌∷◌, map, length, Option, Some, slice_get}
 use Rattle.std.proofs.Common.{refl, sym, ap, arith, inl, inr, if◌then◌else◌}
 use Rattle.std.specs.Prelude.{All}
 use Rattle.std.specs.List.{range_with_len, sum_by}
@@ -16,7 +16,8 @@ use Rattle.whole_run.proofs.RangeSums.{sum_by-zero, sum_by-plus, sum_by-same}
 use Rattle.queue_lengths.specs.Lengths.{IsQueue, count_of, place_of, queues_of, is_for}
 use Rattle.queue_measures.specs.Steps.{queue_at}
 use Rattle.queue_measures.specs.Sums.{AddUp}
-use Rattle.queue_measures.proofs.Counting.{place-same, place-inside, at-place, queue-fits}
+use Rattle.queue_lengths.proofs.Places.{place-same, place-inside, IsQueue-packet}
+use Rattle.queue_measures.proofs.Counting.{at-place}
 use Rattle.queue_measures.proofs.Report.{queues-placed, all-early}
 
 -- ---- a sum with a term at one place alone
@@ -100,7 +101,7 @@ both false b = refl
 
 module _ (plan : Plan) (good : IsGoodPlan plan) (served : List (Option Served)) (slots : ℕ) (early : All (λ packet. packet.arrival < slots) plan.packets) where
   fit : (k : ℕ) (p : Planned) → slice_get plan.packets k ≡ Some p → IsQueue plan.ports (queue_of p)
-  fit k p there = queue-fits plan p (good.packets k p there)
+  fit k p there = IsQueue-packet plan.ports (length plan.bytes) p (good.packets k p there)
 
   abbrev drops : Planned → Bool
   drops p = not (is_admitted plan served p.arrival p)

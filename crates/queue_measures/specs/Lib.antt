@@ -1,4 +1,4 @@
 pub mod Lines
-pub mod Noting
+pub mod NotingSteps
 pub mod Steps
 pub mod Sums

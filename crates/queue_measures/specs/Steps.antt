@@ -13,7 +13,7 @@ use Rattle.queue_lengths.specs.declared.counting.Arrival.{Arrival}
 use Rattle.queue_lengths.specs.Lengths.{count_of, place_of}
 use Rattle.queue_measures.specs.declared.numbers.QueueNumbers.{QueueNumbers}
 use Rattle.queue_measures.specs.Lines.{queue_line}
-use Rattle.queue_measures.specs.Noting.{Input, no_numbers}
+use Rattle.queue_measures.specs.NotingSteps.{Input, no_numbers}
 
 -- the numbers with a packet of so many cells that comes in a slot; with it this many cells wait
 abbrev pub with_packet : ℕ → ℕ → Bool → ℕ → QueueNumbers → QueueNumbers

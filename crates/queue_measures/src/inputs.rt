@@ -8,7 +8,7 @@ ghost use Rattle.card_core.specs.Plans.{Plan, IsGoodPlan, plan_of};
 ghost use Rattle.card_core.specs.Posts.{row_at, IsServable};
 ghost use Rattle.queue_lengths.specs.Lengths.{count_of};
 ghost use Rattle.queue_lengths.specs.declared.counting.Arrival.{Arrival as AnArrival};
-ghost use Rattle.queue_measures.specs.Noting.{IsNoted, no_numbers};
+ghost use Rattle.queue_measures.specs.NotingSteps.{IsNoted, no_numbers};
 ghost use Rattle.queue_measures.specs.Steps.{IsSmall, MayCount, with_arrival, with_arrivals, deepest_in};
 
 use crate::numbers::{NO_NUMBERS, QueueNumbers};
@@ -31,7 +31,7 @@ impl Model for Input {
     ghost use Rattle.std.specs.Prelude.{◌≤◌, length};
     ghost use Rattle.rotating_pick.specs.declared.limits.TheConstants.{MAX_PORTS};
     ghost use Rattle.queue_lengths.specs.Lengths.{count_of};
-    ghost use Rattle.queue_measures.specs.Noting.{Input as InputValue};
+    ghost use Rattle.queue_measures.specs.NotingSteps.{Input as InputValue};
 
     ghost Value = { InputValue };
 

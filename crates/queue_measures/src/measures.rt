@@ -7,7 +7,7 @@ ghost use Rattle.switch_plan.specs.GoodPlans.{SwitchPlan, IsGood, switch_plan_of
 ghost use Rattle.whole_run.specs.Runs.{IsSlotUnder};
 ghost use Rattle.whole_run.specs.Promises.{ArrivalsComeFirst};
 ghost use Rattle.queue_measures.specs.Lines.{queue_lines_under};
-ghost use Rattle.queue_measures.specs.Noting.{HasNoted};
+ghost use Rattle.queue_measures.specs.NotingSteps.{HasNoted};
 ghost use Rattle.queue_measures.specs.Steps.{deepest_among};
 
 use crate::inputs::Input;
@@ -29,7 +29,7 @@ pub struct QueueMeasures {
 impl Model for QueueMeasures {
     ghost use Rattle.std.specs.Prelude.{◌≤◌, List, length};
     ghost use Rattle.rotating_pick.specs.declared.limits.TheConstants.{MAX_PORTS};
-    ghost use Rattle.queue_measures.specs.Noting.{Input as InputValue};
+    ghost use Rattle.queue_measures.specs.NotingSteps.{Input as InputValue};
 
     ghost Value = { List InputValue };
 

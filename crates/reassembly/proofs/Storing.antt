@@ -8,7 +8,7 @@ use Rattle.cell_cutter.specs.Kinds.{kind_byte}
 use Rattle.cell_cutter.specs.declared.cell.Cell.{Cell}
 use Rattle.cell_cutter.specs.Cells.{used_bytes}
 use Rattle.reassembly.specs.Flows.{Flows, fresh, flow_of, with_cell, after_cell, place_of_cell, bytes_with}
-use Rattle.reassembly.specs.Buffers.{Stored, begun, flow_in, flows_in, stored_with}
+use Rattle.reassembly.specs.BufferSteps.{Stored, begun, flow_in, flows_in, stored_with}
 
 -- the bytes stand where the flow goes on, and do not where it begins anew
 flow_in-next : (size number : ℕ) (bytes : List ℕ) (last : Bool)

@@ -1,5 +1,5 @@
 pub mod Cutting
 pub mod Filling
 pub mod Flows
-pub mod Buffers
-pub mod Lending
+pub mod BufferSteps
+pub mod LendingSteps

@@ -1,6 +1,6 @@
 ghost use Rattle.std.specs.Prelude.{◌≡◌, ◌*◌, ◌<◌, ◌≤◌, ◌↔◌, List, [], ◌∷◌, ◌++◌, length, map, false, All, IfOk, IsTrue, IsNone, IfSome};
 ghost use Rattle.reassembly.specs.Flows.{Fits, fresh, flow_of, bytes_with, after_cell, place_of_cell};
-ghost use Rattle.reassembly.specs.Buffers.{flow_in};
+ghost use Rattle.reassembly.specs.BufferSteps.{flow_in};
 ghost use Rattle.reassembly.specs.Cutting.{Stands, messages_of};
 
 use crate::buffer::Buffer;
@@ -32,7 +32,7 @@ pub struct Reassembly {
 
 impl Model for Reassembly {
     ghost use Rattle.reassembly.specs.Flows.{Flows};
-    ghost use Rattle.reassembly.specs.Buffers.{flows_in, HasBuffers};
+    ghost use Rattle.reassembly.specs.BufferSteps.{flows_in, HasBuffers};
 
     ghost Value = { Flows };
 
@@ -43,7 +43,7 @@ impl Model for Reassembly {
 
 impl Reassembly {
     ghost use Rattle.std.specs.Borrow.{sem};
-    ghost use Rattle.reassembly.specs.Lending.{EndsAs};
+    ghost use Rattle.reassembly.specs.LendingSteps.{EndsAs};
 
     /// A reassembly for `n` inputs, 1 to 64. Entry `8 * input + 2 * level + kind` of `sizes` (unicast 0,
     /// multicast 1) is the greatest message length of that flow, in bytes, at most 65,551. It takes all

@@ -1,6 +1,6 @@
 ghost use Rattle.std.specs.Prelude.{◌≡◌, ◌+◌, ◌≤◌, ◌↔◌, [], length, IfOk, IsTrue};
 ghost use Rattle.cell_cutter.specs.Cells.{IsCellForm};
-ghost use Rattle.reassembly.specs.Buffers.{begun, stored_with};
+ghost use Rattle.reassembly.specs.BufferSteps.{begun, stored_with};
 
 use cell_cutter::Cell;
 use std::alloc::{AllocError, Global};
@@ -16,7 +16,7 @@ pub(crate) struct Buffer {
 
 impl Model for Buffer {
     ghost use Rattle.std.specs.Prelude.{◌≤◌, vec_capacity, vec_len};
-    ghost use Rattle.reassembly.specs.Buffers.{Stored};
+    ghost use Rattle.reassembly.specs.BufferSteps.{Stored};
 
     ghost Value = { Stored };
 

@@ -23,7 +23,7 @@ use Rattle.whole_run.proofs.SlotLimits.{greatest-le}
 use Rattle.whole_run.proofs.RunWork.{total_admitted-le}
 use Rattle.output_queued.specs.Switches.{Matched, match_at, served_in, AreCards, AreServed}
 use Rattle.reference_run.specs.RunLines.{run_matches}
-use Rattle.reference_run.specs.Meeting.{run_rows}
+use Rattle.reference_run.specs.MeetingSteps.{run_rows}
 
 module _ (plan : SwitchPlan) where
   -- the match of slot t

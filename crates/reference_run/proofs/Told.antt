@@ -13,12 +13,14 @@ use Rattle.whole_run.proofs.Base.{good-card}
 use Rattle.output_queued.specs.Ideal.{total}
 use Rattle.output_queued.specs.Switches.{Matched, served_in, card_of, no_card, card_for, cells_from, comes, rows_after}
 use Rattle.output_queued.specs.Lines.{ideal, ran, line_of}
-use Rattle.output_queued.specs.Noting.{State, cards_in, MayFollow}
+use Rattle.output_queued.specs.NotingSteps.{State, cards_in}
+use Rattle.output_queued.specs.Following.{MayFollow}
 use Rattle.output_queued.proofs.Totals.{total-same}
 use Rattle.output_queued.proofs.Following.{given-same, line-same}
 use Rattle.output_queued.proofs.Noted.{cards-are}
 use Rattle.reference_run.specs.RunLines.{run_matches}
-use Rattle.reference_run.specs.Meeting.{IsReferenceOf, coming_in, run_rows}
+use Rattle.reference_run.specs.Meeting.{coming_in}
+use Rattle.reference_run.specs.MeetingSteps.{IsReferenceOf, run_rows}
 use Rattle.reference_run.proofs.Alike.{row-told, cells-told}
 use Rattle.reference_run.proofs.Matches.{match_of, matches-long, served-run, rows-run, row-run, run-whole, run-named, run-few}
 

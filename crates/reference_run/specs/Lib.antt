@@ -1,3 +1,4 @@
 pub mod RunLines
 pub mod Meeting
+pub mod MeetingSteps
 pub mod Promises

@@ -4,13 +4,13 @@ ghost use Rattle.std.specs.Prelude.{◌≡◌, ℕ, ◌+◌, ◌<◌, ◌≤◌,
 ghost use Rattle.switch_plan.specs.GoodPlans.{SwitchPlan, IsGood};
 ghost use Rattle.whole_run.specs.Runs.{ports_of, run_slot};
 ghost use Rattle.whole_run.specs.Ends.{IsLength};
-ghost use Rattle.output_queued.specs.Noting.{State, MayNote, cards_in};
+ghost use Rattle.output_queued.specs.NotingSteps.{State, MayNote, cards_in};
 ghost use Rattle.output_queued.specs.Ideal.{total};
 ghost use Rattle.output_queued.specs.Switches.{comes};
 ghost use Rattle.output_queued.specs.Lines.{ideal, ran, rises, line_of};
 ghost use Rattle.reference_run.specs.RunLines.{run_matches};
 ghost use Rattle.reference_run.specs.Promises.{EndsNoLater, ExtraIsDelays};
-ghost use Rattle.reference_run.specs.Meeting.{IsReferenceOf, run_rows};
+ghost use Rattle.reference_run.specs.MeetingSteps.{IsReferenceOf, run_rows};
 
 /// The slots of a run may be noted one after the other, to its end.
 pub fn slots_may_be_noted()

@@ -4,7 +4,8 @@ ghost use Rattle.card_core.specs.declared.plan.Planned.{Planned as APlanned};
 ghost use Rattle.card_core.specs.Plans.{IsGoodPlan, plan_of};
 ghost use Rattle.card_core.specs.Queues.{is_routed};
 ghost use Rattle.switch_plan.specs.GoodPlans.{IsGood, switch_plan_of};
-ghost use Rattle.reference_run.specs.Meeting.{IsReferenceOf, coming_of, coming_in};
+ghost use Rattle.reference_run.specs.Meeting.{coming_of, coming_in};
+ghost use Rattle.reference_run.specs.MeetingSteps.{IsReferenceOf};
 
 use card_core::{CardPlan, Planned};
 use cell_cutter::cells_of;

@@ -1,8 +1,8 @@
-//! A third scheduler: round-robin matching, from which iSLIP starts (N. McKeown, "The iSLIP Scheduling Algorithm for
-//! Input-Queued Switches", IEEE/ACM Transactions on Networking 7(2), 1999).
+//! Slots under a third scheduler, round-robin matching, and that it can starve a queue.
 //!
-//! A slot is that of `eslip_rounds` but for one rule: a unicast grant of the first round moves the output's grant
-//! pointer beyond the input that was granted, whether or not the input accepted.
+//! It is where iSLIP starts (N. McKeown, "The iSLIP Scheduling Algorithm for Input-Queued Switches", IEEE/ACM
+//! Transactions on Networking 7(2), 1999). A slot is that of `eslip_rounds` but for one rule: a unicast grant of the
+//! first round moves the output's grant pointer beyond the input that was granted, whether or not the input accepted.
 #![tactic(auto)]
 
 pub mod laws;

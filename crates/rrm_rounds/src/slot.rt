@@ -3,7 +3,7 @@ ghost use Rattle.rotating_pick.specs.PortSets.{Has};
 ghost use Rattle.slot_match.specs.Rows.{AreWithin};
 ghost use Rattle.slot_match.specs.Matches.{IsMatch, IsMaximal};
 ghost use Rattle.pointer_state.specs.Places.{AreAtPorts};
-ghost use Rattle.eslip_rounds.specs.Steps.{Tells};
+ghost use Rattle.eslip_rounds.specs.Refusals.{Tells};
 ghost use Rattle.rrm_rounds.specs.Slots.{IsRrmSlot};
 ghost use Rattle.rrm_rounds.specs.SlotSteps.{AreBeyond};
 ghost use Rattle.rrm_rounds.specs.Decisions.{rrm_decision};

@@ -87,7 +87,7 @@ module _ (Moves : ℕ → ℕ → List Row → List (Option Fed) → List (Optio
       (now.within.levels i i_in level waits.0 Multi waits.1)
       (BeginsWith-slot n t slot.rows places Moves rounds slot.decision some now.decided)
       (pass t slot.rows (first_of n now.decided.steps) slot.decision.matched places slot.decision.places now.decided.moved) now.pointing now.clean now.within
-          i i_in waits left
+      i i_in waits left
 
   -- it completes in one of these slots, where they are more than it has to go
   completes_by_then : (slots : List DecidedSlot) (t : ℕ) (places : Places) → IsWindowBy Moves n rounds t level places slots

@@ -7,7 +7,7 @@ use Rattle.std.proofs.lemmas.Nat.Bits.{bit_at-zero}
 use Rattle.rotating_pick.specs.PortSets.{Has}
 use Rattle.rotating_pick.proofs.Bits.{no_member-zero}
 use Rattle.slot_match.proofs.Sets.{Has-or}
-use Rattle.service_bound.specs.Meters.{Queues, wait_at, longest_of, longest_at, HaveBegun, NotesSlot}
+use Rattle.service_bound.specs.MeterSteps.{Queues, wait_at, longest_of, longest_at, HaveBegun, NotesSlot}
 use Rattle.service_bound.proofs.Greatest.{greatest-within, greatest-has}
 
 -- the test of a member, both ways

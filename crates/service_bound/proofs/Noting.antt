@@ -10,8 +10,8 @@ use Rattle.rotating_pick.specs.declared.kinds.Kind.TheVariants.{Uni}
 use Rattle.rotating_pick.proofs.Bits.{no_member-zero}
 use Rattle.slot_match.specs.Rows.{AreWithin}
 use Rattle.service_bound.specs.Waits.{NotedSlot, is_waiting, wait_in, waits_from, greatest, longest_wait}
-use Rattle.service_bound.specs.Meters.{Queues, Meter, queues_at_first, place_of, queues_at, wait_at, longest_of, longest_at, AreBegun, NotesSlot}
-use Rattle.service_bound.specs.Meters.{wait_after, HaveNoted, HasNoted}
+use Rattle.service_bound.specs.MeterSteps.{Queues, Meter, queues_at_first, place_of, queues_at, wait_at, longest_of, longest_at, AreBegun, NotesSlot}
+use Rattle.service_bound.specs.MeterSteps.{wait_after, HaveNoted, HasNoted}
 use Rattle.service_bound.proofs.Greatest.{greatest-append, greatest-flat_map, greatest-within, greatest-same, greatest-beyond, greatest-max}
 use Rattle.service_bound.proofs.Levels.{wait_at-rests, longest_of-none}
 use Rattle.service_bound.proofs.Waiting.{Decides-waiting}

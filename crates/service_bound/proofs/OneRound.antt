@@ -136,7 +136,7 @@ module _ (n t level : ℕ) (rows : List Row) (matched : List (Option Fed)) (befo
         let stays = moved.grant_stays j level nobody in
         let at_most = nearest.least i i_in named in
         let stale = stale-refused n t level rows matched matched begins.opening.count before after moved pointing i j i_in j_in nobody g y g_in accepted.below
-            served other (accepted.least j j_in granted) at_most in
+        served other (accepted.least j j_in granted) at_most in
         let stay : (x : ℕ) → x < n → silent_for n level after later i j x ≤ silent_for n level before rows i j x = λ x x_in.
         rw stays (silent_at-le (distance n (grant_of before j level) i) (distance n (grant_of before j level) x) (distance n (grant_of before j level) i)
         (distance n (grant_of before j level) x) (is_named (row_of rows x) level Uni j) (is_named (row_of later x) level Uni j)

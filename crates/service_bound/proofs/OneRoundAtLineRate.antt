@@ -54,8 +54,11 @@ module _ (n t level : ℕ) (rows : List Row) (matched : List (Option Fed)) (befo
           let stays = moved.grant_stays j level nobody in
           let less = silent_at-le (distance n (grant_of before j level) i) (distance n (grant_of before j level) x) (distance n (grant_of before j level) i)
           (distance n (grant_of before j level) x) (is_named (row_of rows x) level Uni j) (is_named (row_of later x) level Uni j)
-          (λ near. (near, tests_on n t level rows matched before after level_in begins moved pointing clean alone later i j g h i_in j_in named left on
-              nearest next x x_in (nobody x))) in
+          (λ near. (
+            near,
+            tests_on n t level rows matched before after level_in begins moved pointing clean alone later i j g h i_in j_in named left on
+                nearest next x x_in (nobody x),
+          )) in
           subst (λ p. silent_at (distance n p i) (distance n p x) (is_named (row_of later x) level Uni j) ≤ silent_for n level before rows i j x)
           (sym stays) less
 
@@ -137,7 +140,7 @@ module _ (n t level : ℕ) (rows : List Row) (matched : List (Option Fed)) (befo
           let turns : distance n (accept_of before g level) j ≡ distance n (accept_of before i level) j =
           ap (λ v. distance n (accept_of before v level) j) own in
           elim (alone_refused n t level rows matched matched before after level_in begins.opening moved pointing clean alone more i j i_in j_in base nobody y
-              own_served own_most now.passed) [
+          own_served own_most now.passed) [
             | inl two ↦ inl (two_by_steps (subst Two (sym own) two)
                 (λ new. let other : h ≡ i → ⊥ = λ e. new (subst (λ v. h ≡ v) (sym own) e) in (other, silent_before h next.below other)))
             | inr rest ↦ elim (other_asks n level later j i i) [
@@ -190,7 +193,7 @@ module _ (n t level : ℕ) (rows : List Row) (matched : List (Option Fed)) (befo
           → ⊥ = λ d. other (distance-injective n (grant_of before j level) g i from_in nearest.below i_in d) in
           differ (omega (arith, far, least, place_in, of_h)) in
           two_by_steps (two_steps n t level rows matched matched before after level_in begins.opening moved pointing clean alone more i j i_in j_in base
-              nobody g y nearest.below served at_most full not_next)
+          nobody g y nearest.below served at_most full not_next)
           (λ new. (not_own, λ asks. elim (now.only h next.below asks) [ inl e ↦ not_own e | inr e ↦ new (subst (λ v. h ≡ v) (sym own) e) ]))
 
     -- the nearest input of class B takes the output itself
@@ -208,7 +211,7 @@ module _ (n t level : ℕ) (rows : List Row) (matched : List (Option Fed)) (befo
         let place = moved.granted g j level served in
         let no_fresher = fresh-accepted n t level rows matched matched begins.opening.count before after moved pointing i j i_in j_in g g_in served ahead in
         let no_more = silent_accepted n t level rows matched before after level_in begins moved pointing clean alone later i j g h i_in j_in named left on
-            nearest next served in
+        nearest next served in
         let lower = one_rank-far_twice n (distance n (grant_of before j level) i) (silent_of n level before rows i j)
         (distance n (accept_of before g level) j) (fresh_of n level before i j)
         (distance n ((g + 1) % n) i) (silent_of n level after later i j) (distance n (accept_of after h level) j) (fresh_of n level after i j)
@@ -246,7 +249,7 @@ module _ (n t level : ℕ) (rows : List Row) (matched : List (Option Fed)) (befo
               ]
           | inr other ↦
               let nobody = refused n t level rows matched before level_in begins.opening pointing clean alone g j met.0 nearest.below j_in granted met.1
-                  other in
+              other in
               elim lower [
                 | inl now ↦ from_alone now.base met.0 nobody met.2 at_most asked now
                 | inr late ↦ inl (from_beside late.1.base met.0 nobody met.2 at_most asked late.0 late.1 (beside_nearest late.0 late.1))

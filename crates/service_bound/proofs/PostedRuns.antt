@@ -166,7 +166,7 @@ module _ (n rounds t : ℕ) (places : Places) (p : Posting) (switch : IsSwitch n
   step_second more zero_asked refusing alone next = IsStep-by (λ other none.
       let two = second_of n t (rows_of n p) places now.steps (let count = now.count in omega arith) now.chain in
       let served = served_second n t p places switch.at_ports switch.ports ports_in.input_in ports_in.beside_in ports_in.own_in ports_in.other_in
-          ports_in.output_in suits First begins.opening two.0 two.1 other zero_asked refusing alone next in
+      ports_in.output_in suits First begins.opening two.0 two.1 other zero_asked refusing alone next in
       subst (λ m. Serves m p.other 0 0 Uni) (sym now.result) (two.2 p.other 0 0 Uni served))
 
   -- Queue (0, 0) is not served where input 0 or output 0 is matched otherwise.
@@ -193,7 +193,7 @@ left_in_one n t places p switch ports_in suits how served =
     let same : first_of n step.steps ≡ (decided n 1 t places p).matched = one_is_first n step.steps step.count ∙ sym step.result in
     let begin = BeginsWith-slot n t (rows_of n p) places AreMoved 1 (decided n 1 t places p) (omega arith) step in
     let result = outcome n t p places switch.at_ports switch.ports ports_in.input_in ports_in.beside_in ports_in.own_in ports_in.other_in ports_in.output_in
-        suits (first_of n step.steps) begin.opening in
+    suits (first_of n step.steps) begin.opening in
     elim (result.only 0 0 0 Uni (subst (λ m. Serves m 0 0 0 Uni) (sym same) served)) [
       | inl a ↦ let e = a.0 in let d = a.1 in elim how [ inl more ↦ omega arith | inr more ↦ omega arith ]
       | inr rest ↦ elim rest [ inl b ↦ let e = b.1 in let o = b.2 in omega arith | inr c ↦ let e = c.1 in let o = c.2 in omega arith ]

@@ -101,7 +101,7 @@ module _ (n t level : ℕ) (rows : List Row) (first matched : List (Option Fed))
           let place : distance n (grant_of before j level) g ≡ distance n (grant_of before j level) i = ap (distance n (grant_of before j level)) own in
           let silent_before : (x : ℕ) → x < n → (x ≡ i → ⊥) → Names (row_of rows x) level Uni j → ⊥ = λ x x_in other asks. other (now.only x x_in asks) in
           elim (alone_refused n t level rows first matched before after level_in begins.opening moved pointing clean alone more i j i_in j_in base nobody y
-              served at_most now.passed) [
+          served at_most now.passed) [
             | inl two ↦ record {
               input = g;
               input_in = g_in;
@@ -147,8 +147,11 @@ module _ (n t level : ℕ) (rows : List Row) (first matched : List (Option Fed))
                       | inr none ↦
                           let x_none = silent_before found.0 found.1 found.2.0 in
                           let not_asked : Names (row_of rows found.0) level Uni ((j + 1) % n) → ⊥ = λ asked. found.2.0 (stale.2 found.0 found.1 asked) in
-                          once (inr (found.0, begins_beside n level i j found.0 after rows later more j_in found.1 found.2.0 rest.base gains x_none found.3
-                              none not_asked))
+                          once (inr (
+                            found.0,
+                            begins_beside n level i j found.0 after rows later more j_in found.1 found.2.0 rest.base gains x_none found.3
+                                none not_asked,
+                          ))
                     ]
                   ]
             ]
@@ -160,7 +163,7 @@ module _ (n t level : ℕ) (rows : List Row) (first matched : List (Option Fed))
       from_beside x now y served asked at_most =
           let full : distance n (accept_of before x level) j + 1 ≡ n = base.fresh x now.below now.other in
           let two = two_steps n t level rows first matched before after level_in begins.opening moved pointing clean alone more i j i_in j_in base nobody x y
-              now.below served at_most full (λ same. now.not_next (subst (Names (row_of rows x) level Uni) same asked)) in
+          now.below served at_most full (λ same. now.not_next (subst (Names (row_of rows x) level Uni) same asked)) in
           let steps = two.nearer in
           let less = nearer_than base x now.below now.other in
           record {

@@ -58,7 +58,7 @@ module _ (n t level : ℕ) (rows : List Row) (first matched : List (Option Fed))
         let place = moved.granted h j level served in
         let closer : distance n (grant_of after j level) i < distance n (grant_of before j level) i = rw place (omega arith) in
         let no_fresher = fresh-accepted n t level rows first matched begins.opening.count before after moved pointing i j i_in j_in h nearest.below served
-            ahead in
+        ahead in
         record {
           input_in = i_in;
           asks = named;
@@ -82,7 +82,7 @@ module _ (n t level : ℕ) (rows : List Row) (first matched : List (Option Fed))
         let stays = moved.grant_stays j level nobody in
         let no_farther = nearest.least g g_in asking in
         let stale = stale-refused n t level rows first matched begins.opening.count before after moved pointing i j i_in j_in nobody h y h_in accepted.below
-            served other (accepted.least j j_in granted) (nearest.least i i_in named) in
+        served other (accepted.least j j_in granted) (nearest.least i i_in named) in
         record {
           input_in = h_in;
           asks = nearest.member;

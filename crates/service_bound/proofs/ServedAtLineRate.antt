@@ -131,7 +131,7 @@ lower_falls n rounds level i j more rounds_some i_in =
             | inr lower ↦
                 let within = lower.0 in
                 let by = lower_after n rounds t level places slot more rounds_some now alone later i j asks.input i_in asks.input_in asks.named asks.asks left
-                    on gains lower.1 in
+                on gains lower.1 in
                 record {
                   named = here;
                   input = by.input;

@@ -217,7 +217,7 @@ module _ (rounds level i j : ℕ) (two : 1 < rounds) (i_in : i < 2) where
               let count = now.decided.count in
               let second = second_of 2 t slot.rows places now.decided.steps (omega arith) now.decided.chain in
               let serves = served_second t level slot.rows First places level_in begins.opening now.pointing now.clean alone begins.opening.count i j h y i_in
-                  j_in h_in y_in named differs other granted served nobody second.0 second.1 in
+              j_in h_in y_in named differs other granted served nobody second.0 second.1 in
               absurd (left (subst (λ m. Serves m i j level Uni) (sym now.decided.result) (second.2 i j level Uni serves)))
         ]
 

@@ -1,4 +1,4 @@
 pub mod Windows
 pub mod Waits
-pub mod Meters
+pub mod MeterSteps
 pub mod Latest

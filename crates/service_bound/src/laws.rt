@@ -60,7 +60,7 @@ pub fn two_ports_served()
         → 3 ≤ length slots → Any (λ slot. Serves slot.decision.matched i j level Uni) slots }
 {}
 
-/// That many are needed, for every number of ports and every queue: in some window of as many slots of one
+/// That many are needed, for every number of ports up to 64 and every queue: in some window of as many slots of one
 /// round, the queue is posted in every slot and served in the last one alone.
 pub fn one_round_is_reached()
     ensures { (n t i j level : ℕ) → i < n → j < n → level < LEVELS → n ≤ MAX_PORTS → (places : Places) × (slots : List DecidedSlot)

@@ -1,7 +1,7 @@
 ghost use Rattle.std.specs.Prelude.{◌≡◌, ℕ, ◌+◌, ◌<◌, ◌≤◌, ◌==◌, length, slice_index};
 ghost use Rattle.std.specs.Int.{bit_at};
 ghost use Rattle.rotating_pick.specs.PortSets.{Has};
-ghost use Rattle.service_bound.specs.Meters.{queues_at_first, longest_of, longest_at, HaveBegun, NotesSlot};
+ghost use Rattle.service_bound.specs.MeterSteps.{queues_at_first, longest_of, longest_at, HaveBegun, NotesSlot};
 
 use crate::limits::MAX_NOTED;
 use rotating_pick::{PORT_COUNT, Ports, difference, lowest, without};
@@ -20,7 +20,7 @@ pub(crate) struct LevelQueues {
 }
 
 impl Model for LevelQueues {
-    ghost use Rattle.service_bound.specs.Meters.{Queues};
+    ghost use Rattle.service_bound.specs.MeterSteps.{Queues};
 
     ghost Value = { Queues };
 

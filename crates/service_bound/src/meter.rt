@@ -5,7 +5,7 @@ ghost use Rattle.slot_match.specs.Rows.{Names, AreWithin};
 ghost use Rattle.slot_match.specs.Keeping.{Gives};
 ghost use Rattle.slot_match.specs.Parts.{served_of};
 ghost use Rattle.service_bound.specs.Waits.{NotedSlot, is_waiting, longest_wait};
-ghost use Rattle.service_bound.specs.Meters.{queues_at_first, place_of, queues_at, AreBegun, NotesSlot, HasNoted};
+ghost use Rattle.service_bound.specs.MeterSteps.{queues_at_first, place_of, queues_at, AreBegun, NotesSlot, HasNoted};
 
 use crate::level_queues::LevelQueues;
 use crate::limits::MAX_NOTED;
@@ -33,7 +33,7 @@ pub struct WaitMeter {
 impl Model for WaitMeter {
     ghost use Rattle.std.specs.Prelude.{List};
     ghost use Rattle.service_bound.specs.Waits.{NotedSlot};
-    ghost use Rattle.service_bound.specs.Meters.{Meter, HasNoted};
+    ghost use Rattle.service_bound.specs.MeterSteps.{Meter, HasNoted};
 
     ghost Value = { Meter };
 

@@ -20,7 +20,8 @@ use Rattle.slot_histories.specs.Columns.{slots_taken, has_ended}
 use Rattle.slot_histories.proofs.Telling.{IsTold-legal}
 use Rattle.slot_board.specs.Seats.{column_at, setup_at, events_seen, slot_of, IsPosted, refusals, events_before, HasCardTurn, HasPosted, HasTaken}
 use Rattle.slot_board.specs.Seats.{IsUndecided, IsWait}
-use Rattle.slot_board.specs.Columns.{IsBoard, IsCardSeat}
+use Rattle.slot_board.specs.Columns.{IsBoard}
+use Rattle.slot_board.specs.ColumnSteps.{IsCardSeat}
 use Rattle.slot_board.specs.Calls.{IsSeat, AfterPost, AfterTaking, AfterRefusal}
 use Rattle.slot_board.proofs.RefusedTries.{refusals-acted, refusals-idle}
 use Rattle.slot_board.proofs.SeatColumns.{HasPosted-posts, HasPosted-takes, HasPosted-column, HasTaken-posts, HasTaken-takes, HasTaken-column}

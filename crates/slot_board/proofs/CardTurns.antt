@@ -13,7 +13,8 @@ use Rattle.turn_lock.specs.Seats.{SeatValue, after_turn, entries_before}
 use Rattle.turn_lock.proofs.HistoryLemmas.{entries_of-append, entries_of-snoc}
 use Rattle.slot_board.specs.Turns.{MayAdd}
 use Rattle.slot_board.specs.Seats.{setup_at, events_seen, slot_of, IsPosted, last_row, last_served, events_before, refusals}
-use Rattle.slot_board.specs.Columns.{IsColumn, IsCardSeat, slots_posted}
+use Rattle.slot_board.specs.Columns.{slots_posted}
+use Rattle.slot_board.specs.ColumnSteps.{IsColumn, IsCardSeat}
 use Rattle.slot_board.proofs.OtherTurns.{posts_of-others, takes_of-others}
 use Rattle.slot_board.proofs.ColumnSteps.{IsColumn-more}
 

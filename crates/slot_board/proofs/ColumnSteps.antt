@@ -16,7 +16,7 @@ use Rattle.slot_histories.proofs.Appending.{posted_more}
 use Rattle.slot_histories.proofs.Agreeing.{is_done_before-same, served_before-same}
 use Rattle.slot_histories.proofs.InStep.{AreInStep, posted-stays}
 use Rattle.slot_histories.proofs.LegalLists.{AreInStep-legal, AreAccepted-legal, IsLegal-more}
-use Rattle.slot_board.specs.Columns.{IsColumn}
+use Rattle.slot_board.specs.ColumnSteps.{IsColumn}
 
 -- the row of a post that stands stays
 row_before-append : (events more : List Event) (i t : ℕ) → t ≤ length (posts_of i events)

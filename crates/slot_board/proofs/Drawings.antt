@@ -2,7 +2,7 @@
 use Rattle.std.proofs.Common.{◌≡◌, true, false, refl}
 use Rattle.std.specs.Prelude.{Ok, Err}
 use Rattle.slot_board.specs.declared.acts.Drawn.{Drawn}
-use Rattle.slot_board.specs.Drawings.{drawn_answer}
+use Rattle.slot_board.specs.DrawingSteps.{drawn_answer}
 
 module _ (drawn : Drawn) where
   pub ready-is : drawn.ready ≡ true → drawn_answer drawn ≡ Ok drawn.taken

@@ -6,7 +6,8 @@ use Rattle.slot_histories.specs.declared.events.Event.{Event}
 use Rattle.turn_lock.specs.Seats.{TurnValue, SeatValue, AreNewSeats}
 use Rattle.board_state.specs.Boards.{BoardValue, IsSetup}
 use Rattle.slot_board.specs.Turns.{numbers_of, setup_of}
-use Rattle.slot_board.specs.Columns.{IsBoard, IsNewCard}
+use Rattle.slot_board.specs.Columns.{IsBoard}
+use Rattle.slot_board.specs.ColumnSteps.{IsNewCard}
 
 -- the element that follows the first ones
 pub slice_get-seam : {X : Type 0} (xs ys : List X) (x : X) → slice_get (xs ++ x ∷ ys) (length xs) ≡ Some x

@@ -17,7 +17,7 @@ use Rattle.turn_lock.specs.Seats.{SeatValue, HasTurn, after_turn, entries_before
 use Rattle.turn_lock.proofs.SeatLemmas.{HasTurn-between}
 use Rattle.slot_board.specs.Turns.{setup_of, MayAdd, post_adds, post_entries, decision_entries, StayLegal}
 use Rattle.slot_board.specs.Seats.{setup_at, events_seen, slot_of, IsPosted, is_done, last_served, Accepts, events_before, HasPosted}
-use Rattle.slot_board.specs.Columns.{IsColumn, IsCardSeat}
+use Rattle.slot_board.specs.ColumnSteps.{IsColumn, IsCardSeat}
 use Rattle.slot_board.proofs.OtherTurns.{posts_of-decision, takes_of-decision}
 use Rattle.slot_board.proofs.ColumnSteps.{IsColumn-more, MayPost-column, IsColumn-post}
 use Rattle.slot_board.proofs.RefusedTries.{refusals-acted}

@@ -20,7 +20,7 @@ use Rattle.turn_lock.proofs.SeatLemmas.{HasTurn-between}
 use Rattle.board_state.specs.Boards.{HavePosted}
 use Rattle.slot_board.specs.Turns.{setup_of, MayAdd, take_adds, StayLegal, TakeAnswers}
 use Rattle.slot_board.specs.Seats.{setup_at, events_seen, slot_of, IsPosted, events_before, HasTaken, IsUndecided}
-use Rattle.slot_board.specs.Columns.{IsColumn, IsCardSeat}
+use Rattle.slot_board.specs.ColumnSteps.{IsColumn, IsCardSeat}
 use Rattle.slot_board.proofs.ColumnSteps.{IsColumn-take}
 use Rattle.slot_board.proofs.RefusedTries.{refusals-acted, refusals-idle, count-more}
 use Rattle.slot_board.proofs.CardTurns.{card_below, slot-is, posted-true, before-is, column-before, seen-after, kept-after}

@@ -1,8 +1,9 @@
 pub mod Turns
 pub mod Seats
 pub mod Columns
+pub mod ColumnSteps
 pub mod Boards
 pub mod Schedules
 pub mod Calls
 pub mod States
-pub mod Drawings
+pub mod DrawingSteps

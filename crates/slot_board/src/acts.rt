@@ -1,7 +1,7 @@
 ghost use Rattle.std.specs.Prelude.{◌≡◌, ◌++◌};
 ghost use Rattle.slot_histories.specs.Legal.{MayDecide};
 ghost use Rattle.slot_board.specs.Turns.{numbers_of, decision_entries, post_adds, take_adds, StayLegal};
-ghost use Rattle.slot_board.specs.Drawings.{DrawnAnswers};
+ghost use Rattle.slot_board.specs.DrawingSteps.{DrawnAnswers};
 
 use board_state::BoardState;
 use crossbar::{Post, Taken};
@@ -70,7 +70,7 @@ pub(crate) struct TakeAct {
 
 impl Act<KeptState> for TakeAct {
     ghost use Rattle.slot_board.specs.Turns.{setup_of, take_adds, StayLegal};
-    ghost use Rattle.slot_board.specs.Drawings.{DrawnAnswers};
+    ghost use Rattle.slot_board.specs.DrawingSteps.{DrawnAnswers};
 
     type Out = Drawn;
 

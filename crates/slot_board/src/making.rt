@@ -1,5 +1,5 @@
 ghost use Rattle.std.specs.Prelude.{◌≡◌, ◌≤◌, ℕ, [], Some, slice_get, length, vec_capacity, IfOk};
-ghost use Rattle.slot_board.specs.Columns.{IsNewCard};
+ghost use Rattle.slot_board.specs.ColumnSteps.{IsNewCard};
 
 use crate::acts::KeptState;
 use crate::seat::{CardSeat, Seats};

@@ -45,7 +45,7 @@ impl Model for CardSeat {
     ghost use Rattle.std.specs.Prelude.{vec_capacity};
     ghost use Rattle.slot_histories.specs.declared.events.Event.{Event};
     ghost use Rattle.turn_lock.specs.Seats.{SeatValue};
-    ghost use Rattle.slot_board.specs.Columns.{IsCardSeat};
+    ghost use Rattle.slot_board.specs.ColumnSteps.{IsCardSeat};
 
     ghost Value = { SeatValue Event };
 

@@ -8,7 +8,7 @@ use Rattle.rotating_pick.specs.declared.kinds.Kind.TheVariants.{Uni, Multi}
 use Rattle.rotating_pick.specs.declared.limits.TheConstants.{LEVELS}
 use Rattle.slot_match.specs.declared.matching.Fed.{Fed}
 use Rattle.slot_match.specs.Matches.{fed_of, Serves, IsFreeInput, IsFreeOutput, IsMulticasting, IsMatch, MayAdd}
-use Rattle.slot_match.specs.Fields.{AreSets}
+use Rattle.slot_match.specs.FieldSteps.{AreSets}
 use Rattle.slot_match.proofs.Sets.{Has-or}
 use Rattle.slot_match.proofs.Pairs.{kinds_decide, Serves-once, Serves-along}
 

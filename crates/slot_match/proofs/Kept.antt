@@ -12,7 +12,7 @@ use Rattle.rotating_pick.specs.declared.limits.TheConstants.{LEVELS, MAX_PORTS}
 use Rattle.rotating_pick.proofs.Tables.{no_members}
 use Rattle.slot_match.specs.declared.matching.Fed.{Fed}
 use Rattle.slot_match.specs.Matches.{unmatched, fed_of, Serves, IsServed, IsMatch, MayAdd}
-use Rattle.slot_match.specs.Fields.{AreSets, AreKept}
+use Rattle.slot_match.specs.FieldSteps.{AreSets, AreKept}
 use Rattle.slot_match.proofs.Pairs.{Serves-from, Serves-once, Serves-alike, Serves-along, fed_of-lt}
 use Rattle.slot_match.proofs.Tables.{fed_of-take, fed_of-past, count_by-take}
 use Rattle.slot_match.proofs.Adding.{IsAdded, IsMatch-added, AreSets-added}
@@ -154,7 +154,7 @@ module _ (n count : ℕ) (table : List (Option Fed)) (free_inputs free_outputs :
           beyond = beyond;
           sets = AreSets-added n (take n table)
               (take n after) input outputs level kind kept.sets.whole may_here input_here level_in added count more free_inputs later_inputs free_outputs
-                  later_outputs on later_on kept.sets counts inputs outs ons;
+              later_outputs on later_on kept.sets counts inputs outs ons;
         }
 
     -- the new match, as callers see it

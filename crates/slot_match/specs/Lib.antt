@@ -2,5 +2,5 @@ pub mod Rows
 pub mod Matches
 pub mod Parts
 pub mod Keeping
-pub mod Fields
+pub mod FieldSteps
 pub mod Steps

@@ -23,7 +23,7 @@ pub(crate) struct Feeds {
 impl Model for Feeds {
     ghost use Rattle.std.specs.Prelude.{List, Option, map};
     ghost use Rattle.slot_match.specs.declared.matching.Fed.{Fed};
-    ghost use Rattle.slot_match.specs.Fields.{fed_from};
+    ghost use Rattle.slot_match.specs.FieldSteps.{fed_from};
 
     ghost Value = { List (Option Fed) };
 

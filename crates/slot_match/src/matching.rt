@@ -69,7 +69,7 @@ pub struct Match {
 impl Model for Match {
     ghost use Rattle.std.specs.Prelude.{List, Option, take};
     ghost use Rattle.slot_match.specs.declared.matching.Fed.{Fed};
-    ghost use Rattle.slot_match.specs.Fields.{AreKept};
+    ghost use Rattle.slot_match.specs.FieldSteps.{AreKept};
 
     ghost Value = { List (Option Fed) };
 

@@ -6,7 +6,7 @@ use Rattle.std.proofs.lemmas.List.{append-nil, flat_map_more, get_or-map, length
 use Rattle.std.proofs.lemmas.List.Concat.{flat_map-append}
 use Rattle.std.proofs.lemmas.List.FromFn.{get_or-enumerate_from, length-enumerate_from}
 use Rattle.slot_report.specs.Lines.{line_text, lines_text}
-use Rattle.slot_report.specs.Pieces.{after_space}
+use Rattle.slot_report.specs.PieceSteps.{after_space}
 use Rattle.slot_report.specs.Texts.{map_with_place}
 
 -- what a call that appends says where it is answered Ok

@@ -1,7 +1,7 @@
 ghost use Rattle.std.specs.Prelude.{◌≡◌, ◌++◌, ◌∷◌, map, OnOk, string_bytes};
 ghost use Rattle.std.specs.List.{flat_map};
 ghost use Rattle.slot_report.specs.Lines.{line_text};
-ghost use Rattle.slot_report.specs.Pieces.{after_space, word_text};
+ghost use Rattle.slot_report.specs.PieceSteps.{after_space, word_text};
 ghost use Rattle.slot_report.specs.Texts.{letter_of, pair_text};
 
 use itoa::{Buffer, Integer};

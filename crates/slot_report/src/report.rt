@@ -1,7 +1,7 @@
 ghost use Rattle.std.specs.Prelude.{◌≡◌, ◌∷◌, ◌++◌, ◌≤◌, length, map, codes, decimal, IfOk, OnOk, string_bytes};
 ghost use Rattle.std.specs.Option.{option_copied};
 ghost use Rattle.slot_report.specs.Lines.{line_text, lines_text};
-ghost use Rattle.slot_report.specs.Pieces.{count_line};
+ghost use Rattle.slot_report.specs.PieceSteps.{count_line};
 ghost use Rattle.slot_report.specs.Texts.{map_with_place, output_line, report_bytes, slots_of, summary_lines};
 
 use crate::lines::Word::{Name, Number};

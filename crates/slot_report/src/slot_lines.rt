@@ -3,7 +3,7 @@ ghost use Rattle.std.specs.Prelude.{◌≡◌, ◌++◌, OnOk, option_to_list, s
 ghost use Rattle.std.specs.List.{flat_map};
 ghost use Rattle.std.specs.Option.{option_copied};
 ghost use Rattle.slot_report.specs.Lines.{line_text, lines_text};
-ghost use Rattle.slot_report.specs.Pieces.{after_space};
+ghost use Rattle.slot_report.specs.PieceSteps.{after_space};
 ghost use Rattle.slot_report.specs.Texts.{journal_line, map_with_place, pair_at, pairs_of, slot_line, slots_of};
 
 use crate::lines::Word::{Name, Number, Pair};

@@ -12,13 +12,13 @@ use Rattle.card_core.specs.Plans.{Plan as CardPlan}
 use Rattle.card_core.specs.declared.outcome.CardOut.{CardOut}
 use Rattle.card_worker.specs.declared.hands.Hand.{Hand}
 use Rattle.card_worker.specs.declared.hands.Group.{Group}
-use Rattle.card_worker.specs.Alone.{plans_of}
+use Rattle.card_worker.specs.AloneSteps.{plans_of}
 use Rattle.card_worker.specs.Disbanding.{AreFrom}
 use Rattle.card_worker.proofs.Passes.{some_same}
 use Rattle.card_worker.proofs.Removing.{get-snoc}
 use Rattle.card_worker.proofs.Grouping.{at_place}
-use Rattle.switch_jobs.specs.Sharing.{ArePlanned, HaveWaited}
-use Rattle.switch_jobs.specs.Ending.{Leaves, AreLeft, AreOfPlans}
+use Rattle.switch_jobs.specs.SharingSteps.{ArePlanned, HaveWaited}
+use Rattle.switch_jobs.specs.EndingSteps.{Leaves, AreLeft, AreOfPlans}
 use Rattle.switch_jobs.proofs.Adding.{least-from}
 
 module _ (groups : List Group) (seats : List (SeatValue Event)) (hands : List Hand) (count : ℕ) (from : AreFrom groups seats hands count) where

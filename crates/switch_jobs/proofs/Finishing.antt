@@ -24,9 +24,9 @@ use Rattle.whole_run.specs.Crossings.{cells_under}
 use Rattle.switch_jobs.specs.declared.ready.Terms.{Terms}
 use Rattle.switch_jobs.specs.Outcomes.{messages_under, admitted_count, dropped_count, longest_under, longest_at, summary_under, summary_of}
 use Rattle.switch_jobs.specs.Outcomes.{IsOutputUnder, IsOutput}
-use Rattle.switch_jobs.specs.Readiness.{plan_with}
-use Rattle.switch_jobs.specs.Journals.{noted_in, longest_in, HaveSums, summary_with, summary_in}
-use Rattle.switch_jobs.specs.Ending.{AreLeft, IsRunOf}
+use Rattle.switch_jobs.specs.ReadinessSteps.{plan_with}
+use Rattle.switch_jobs.specs.JournalSteps.{noted_in, longest_in, HaveSums, summary_with, summary_in}
+use Rattle.switch_jobs.specs.EndingSteps.{AreLeft, IsRunOf}
 use Rattle.switch_jobs.proofs.Adding.{map-map, sum_of, sum_fits}
 use Rattle.switch_jobs.proofs.Leaving.{IsFew, few_of}
 use Rattle.switch_jobs.proofs.Limits.{slots_few}

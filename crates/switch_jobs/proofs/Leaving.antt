@@ -24,7 +24,7 @@ use Rattle.whole_run.specs.Runs.{card_at, setup_for, parts_under, posts_under, t
 use Rattle.whole_run.specs.Crossings.{cells_under}
 use Rattle.whole_run.specs.Ends.{IsLength}
 use Rattle.switch_jobs.specs.Outcomes.{IsOutputUnder, IsOutput}
-use Rattle.switch_jobs.specs.Ending.{Leaves}
+use Rattle.switch_jobs.specs.EndingSteps.{Leaves}
 use Rattle.switch_jobs.proofs.Adding.{count_before-le, messages-le, cells-le}
 use Rattle.switch_jobs.proofs.Serving.{served_taken, cells_crossed, takings_end}
 

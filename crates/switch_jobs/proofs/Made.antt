@@ -18,7 +18,7 @@ use Rattle.switch_plan.specs.GoodPlans.{SwitchPlan}
 use Rattle.whole_run.specs.Runs.{ports_of, setup_for, card_at, no_plan, run_journal, run_takings}
 use Rattle.whole_run.specs.Ends.{IsLength}
 use Rattle.switch_jobs.specs.Outcomes.{IsOutput}
-use Rattle.switch_jobs.specs.Ending.{Leaves, AreOfPlans, IsRunOf}
+use Rattle.switch_jobs.specs.EndingSteps.{Leaves, AreOfPlans, IsRunOf}
 use Rattle.switch_jobs.proofs.Leaving.{output_left}
 
 -- each port posts what its plan gives

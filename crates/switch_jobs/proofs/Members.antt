@@ -9,7 +9,7 @@ use Rattle.card_core.specs.Plans.{plan_of}
 use Rattle.card_worker.specs.declared.hands.Member.{Member}
 use Rattle.card_worker.specs.Trying.{IsMember}
 use Rattle.card_worker.proofs.Removing.{get-snoc}
-use Rattle.switch_jobs.specs.Readiness.{plans_in}
+use Rattle.switch_jobs.specs.ReadinessSteps.{plans_in}
 
 -- the element after those that were gone through
 pub get_next : {X : Type 0} (ys : List X) (x : X) (xs : List X) → slice_get (ys ++ x ∷ xs) (length ys) ≡ Some x

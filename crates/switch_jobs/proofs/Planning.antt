@@ -15,8 +15,8 @@ use Rattle.card_worker.specs.Groups.{IsDrivenGroup}
 use Rattle.card_worker.proofs.Passes.{get-set_same, get-set_other, some_same}
 use Rattle.card_worker.proofs.Removing.{get-snoc}
 use Rattle.card_worker.proofs.Grouping.{at_place}
-use Rattle.switch_jobs.specs.Readiness.{AreEmptyGroups, HaveRoomFor}
-use Rattle.switch_jobs.specs.Sharing.{ArePlanned, HaveWaited}
+use Rattle.switch_jobs.specs.ReadinessSteps.{AreEmptyGroups, HaveRoomFor}
+use Rattle.switch_jobs.specs.SharingSteps.{ArePlanned, HaveWaited}
 
 -- groups without members
 pub ArePlanned-none : (plans : List CardPlan) (groups : List Group) → AreEmptyGroups groups → ArePlanned plans groups

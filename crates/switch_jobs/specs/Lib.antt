@@ -1,7 +1,8 @@
 pub mod Outcomes
 pub mod Captures
-pub mod Journals
-pub mod Readiness
-pub mod Sharing
-pub mod Ending
+pub mod JournalSteps
+pub mod ReadinessSteps
+pub mod SharingSteps
+pub mod EndingSteps
+pub mod OneJournal
 pub mod Departures

@@ -2,7 +2,7 @@ ghost use Rattle.std.specs.Prelude.{◌<◌, ℕ, List, All, length, slice_index
 ghost use Rattle.card_core.specs.Plans.{Plan as CardPlan};
 ghost use Rattle.card_worker.specs.declared.hands.Group.{Group};
 ghost use Rattle.card_worker.specs.Groups.{AreGroups, IsGroup, IsDrivenGroup};
-ghost use Rattle.switch_jobs.specs.Sharing.{ArePlanned, HaveWaited};
+ghost use Rattle.switch_jobs.specs.SharingSteps.{ArePlanned, HaveWaited};
 
 use card_worker::{Gate, Group, drive, laws};
 use slot_board::Board;

@@ -5,8 +5,9 @@ ghost use Rattle.card_worker.specs.Groups.{AreGroups};
 ghost use Rattle.card_worker.specs.Alone.{AreHandsOf, IsOver};
 ghost use Rattle.switch_plan.specs.GoodPlans.{SwitchPlan, IsGood};
 ghost use Rattle.whole_run.specs.Runs.{setup_for};
-ghost use Rattle.switch_jobs.specs.Sharing.{ArePlanned, HaveWaited};
-ghost use Rattle.switch_jobs.specs.Ending.{AreLeft, AreOfPlans, IsRunOf, GoesOnFrom};
+ghost use Rattle.switch_jobs.specs.SharingSteps.{ArePlanned, HaveWaited};
+ghost use Rattle.switch_jobs.specs.EndingSteps.{AreLeft, AreOfPlans, IsRunOf};
+ghost use Rattle.switch_jobs.specs.OneJournal.{GoesOnFrom};
 
 use card_core::CardOut;
 use card_worker::{Group, Hand, Hands, close_with, disband, finish_alone, laws};

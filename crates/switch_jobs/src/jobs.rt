@@ -7,7 +7,7 @@ ghost use Rattle.card_core.specs.declared.plan.CardPlan.{CardPlan};
 ghost use Rattle.card_core.specs.Plans.{plan_of, IsGoodPlan};
 ghost use Rattle.card_core.specs.Cards.{IsAfter};
 ghost use Rattle.switch_plan.specs.GoodPlans.{switch_plan_of, packets_in, IsGood};
-ghost use Rattle.switch_jobs.specs.Readiness.{plans_in, plan_with, AreMembers, AreEmptyGroups, HaveRoomFor, AreRooms};
+ghost use Rattle.switch_jobs.specs.ReadinessSteps.{plans_in, plan_with, AreMembers, AreEmptyGroups, HaveRoomFor, AreRooms};
 
 use crate::ready::{Ready, Rooms, Terms};
 use card_core::{Card, CardPlan};

@@ -2,8 +2,8 @@ ghost use Rattle.std.specs.Prelude.{◌≡◌, ◌+◌, ◌<◌, ◌≤◌, List
 ghost use Rattle.std.specs.List.{range_with_len};
 ghost use Rattle.slot_match.specs.Rows.{AreWithin};
 ghost use Rattle.service_bound.specs.Waits.{NotedSlot, longest_wait};
-ghost use Rattle.service_bound.specs.Meters.{HasNoted};
-ghost use Rattle.switch_jobs.specs.Journals.{rows_of, noted_in, longest_in};
+ghost use Rattle.service_bound.specs.MeterSteps.{HasNoted};
+ghost use Rattle.switch_jobs.specs.JournalSteps.{rows_of, noted_in, longest_in};
 
 use crossbar::{Post, put_rows};
 use rotating_pick::{LEVEL_COUNT, LEVELS, MAX_PORTS, PORT_COUNT};

@@ -56,7 +56,7 @@ pub struct Ready {
 
 impl Model for Ready {
     ghost use Rattle.switch_plan.specs.GoodPlans.{SwitchPlan};
-    ghost use Rattle.switch_jobs.specs.Readiness.{plans_in, plan_with, IsReady};
+    ghost use Rattle.switch_jobs.specs.ReadinessSteps.{plans_in, plan_with, IsReady};
 
     ghost Value = { SwitchPlan };
 

@@ -2,7 +2,7 @@ ghost use Rattle.std.specs.Prelude.{◌≤◌, IfOk, length};
 ghost use Rattle.switch_plan.specs.GoodPlans.{switch_plan_of, IsGood};
 ghost use Rattle.whole_run.specs.Promises.{CompletesMulticast, ServesWaiting, WaitsAreShort};
 ghost use Rattle.switch_jobs.specs.Outcomes.{IsOutcome};
-ghost use Rattle.switch_jobs.specs.Ending.{IsOneJournal};
+ghost use Rattle.switch_jobs.specs.OneJournal.{IsOneJournal};
 
 use crate::driving::drive_all;
 use crate::ending::{end_run, finish_cards, run_is_made};

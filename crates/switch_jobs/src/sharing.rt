@@ -2,8 +2,8 @@ ghost use Rattle.std.specs.Prelude.{◌≡◌, ◌+◌, ◌<◌, ℕ, List, Some
 ghost use Rattle.card_core.specs.Plans.{Plan as CardPlan};
 ghost use Rattle.card_worker.specs.Trying.{IsMember};
 ghost use Rattle.card_worker.specs.Groups.{AreGroups};
-ghost use Rattle.switch_jobs.specs.Readiness.{plans_in, AreMembers, AreEmptyGroups, HaveRoomFor};
-ghost use Rattle.switch_jobs.specs.Sharing.{ArePlanned, AreShared};
+ghost use Rattle.switch_jobs.specs.ReadinessSteps.{plans_in, AreMembers, AreEmptyGroups, HaveRoomFor};
+ghost use Rattle.switch_jobs.specs.SharingSteps.{ArePlanned, AreShared};
 
 use card_worker::{Group, Member, laws};
 use slot_board::Board;

@@ -1,7 +1,7 @@
 ghost use Rattle.std.specs.Prelude.{◌≡◌, ◌^◌, ◌<◌, ◌≤◌, [], length};
 ghost use Rattle.std.specs.List.{sum_by};
-ghost use Rattle.service_bound.specs.Meters.{HasNoted};
-ghost use Rattle.switch_jobs.specs.Journals.{summary_with, summary_in, HaveSums};
+ghost use Rattle.service_bound.specs.MeterSteps.{HasNoted};
+ghost use Rattle.switch_jobs.specs.JournalSteps.{summary_with, summary_in, HaveSums};
 
 use crate::meters::longest_waits;
 use crate::ready::Terms;

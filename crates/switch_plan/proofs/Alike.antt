@@ -15,8 +15,8 @@ use Rattle.forward_table.specs.declared.route_lines.RouteLine.{RouteLine}
 use Rattle.switch_plan.specs.declared.fault.PlanFault.TheVariants.{MixedLink}
 use Rattle.switch_plan.specs.Traffic.{CaptureFile, file_of, is_nano, port_traffic, pace_of, traffic_of}
 use Rattle.switch_plan.specs.Refusals.{first_link, mixed_links}
-use Rattle.switch_plan.specs.Reading.{IsCaptureOf}
-use Rattle.switch_plan.specs.Cards.{CanBePlanned, traffic_at}
+use Rattle.switch_plan.specs.ReadingSteps.{IsCaptureOf}
+use Rattle.switch_plan.specs.CardSteps.{CanBePlanned, traffic_at}
 use Rattle.switch_plan.proofs.Folding.{map_map}
 use Rattle.switch_plan.proofs.Leasts.{all_come}
 

@@ -8,8 +8,8 @@ use Rattle.card_core.specs.declared.plan.CardPlan.{CardPlan}
 use Rattle.switch_plan.specs.declared.port_rooms.PortRoom.{PortRoom}
 use Rattle.switch_plan.specs.declared.output_rooms.OutputRoom.{OutputRoom}
 use Rattle.switch_plan.specs.Totals.{sizes_for, body_room_for, packet_room_for}
-use Rattle.switch_plan.specs.Counting.{AreCountable, packets_of_cards}
-use Rattle.switch_plan.specs.AtOutputs.{room_for, IsRoomOf, AreRoomsOf}
+use Rattle.switch_plan.specs.CountingSteps.{AreCountable, packets_of_cards}
+use Rattle.switch_plan.specs.OutputSteps.{room_for, IsRoomOf, AreRoomsOf}
 use Rattle.switch_plan.proofs.Folding.{length_map}
 use Rattle.switch_plan.proofs.Summing.{bytes_next, messages_next}
 use Rattle.switch_plan.proofs.Flows.{sizes_next}

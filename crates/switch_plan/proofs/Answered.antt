@@ -9,7 +9,7 @@ use Rattle.pcap_records.specs.Captures.{IsCapture}
 use Rattle.pcap_records.specs.Faults.{IsFault}
 use Rattle.switch_plan.specs.Traffic.{CaptureFile, file_of, IsFile}
 use Rattle.switch_plan.specs.Refusals.{IsFirstFault}
-use Rattle.switch_plan.specs.Reading.{IsCaptureOf, IsReadAs, AreReadAs, AreCapturesOf}
+use Rattle.switch_plan.specs.ReadingSteps.{IsCaptureOf, IsReadAs, AreReadAs, AreCapturesOf}
 use Rattle.switch_plan.proofs.Sizes.{capture_short, capture_few}
 use Rattle.switch_plan.proofs.Folding.{length_map, at_map, at_end, at_front, at_any}
 

@@ -17,8 +17,8 @@ use Rattle.switch_plan.specs.declared.fault.PlanFault.TheVariants.{TooManySlots,
 use Rattle.switch_plan.specs.Traffic.{CaptureFile, file_of}
 use Rattle.switch_plan.specs.Totals.{most_for, slots_of}
 use Rattle.switch_plan.specs.Refusals.{first_over}
-use Rattle.switch_plan.specs.Counting.{packets_of_cards}
-use Rattle.switch_plan.specs.Cards.{slots_at, traffic_at, IsCardFor, AreCardsFor}
+use Rattle.switch_plan.specs.CountingSteps.{packets_of_cards}
+use Rattle.switch_plan.specs.CardSteps.{slots_at, traffic_at, IsCardFor, AreCardsFor}
 use Rattle.switch_plan.proofs.Folding.{fold_map}
 use Rattle.switch_plan.proofs.Placed.{traffic_slots_at}
 

@@ -12,8 +12,8 @@ use Rattle.switch_words.specs.declared.limits.TheConstants.{MAX_WORKERS}
 use Rattle.switch_words.specs.Limits.{IsUpTo}
 use Rattle.switch_plan.specs.declared.plan.Plan.{Plan}
 use Rattle.switch_plan.specs.Totals.{most_for, slots_of, total_work, total_aside, max_slots_of, sizes_for, body_room_for, packet_room_for}
-use Rattle.switch_plan.specs.Counting.{AreCountable, packets_of_cards}
-use Rattle.switch_plan.specs.Checking.{IsOwnCard, AreOwnCards, IsSizedFor, AreWhole, IsConsistent}
+use Rattle.switch_plan.specs.CountingSteps.{AreCountable, packets_of_cards}
+use Rattle.switch_plan.specs.CheckingSteps.{IsOwnCard, AreOwnCards, IsSizedFor, AreWhole, IsConsistent}
 use Rattle.switch_plan.specs.GoodPlans.{IsGood, IsCardOf, switch_plan_of, packets_in}
 use Rattle.switch_plan.proofs.Folding.{map_map, length_map, at_any}
 use Rattle.switch_plan.proofs.Summing.{packets_at}

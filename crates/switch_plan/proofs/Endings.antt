@@ -19,7 +19,7 @@ use Rattle.switch_plan.specs.Traffic.{CaptureFile, file_of, IsFile, AreFiles, tr
 use Rattle.switch_plan.specs.Totals.{most_for, slots_of, total_work}
 use Rattle.switch_plan.specs.Refusals.{IsFirstFault, first_link, mixed_links, first_over, over_work, over_limits, AreRead, IsRefusedWhenRead, IsRefusal}
 use Rattle.switch_plan.specs.Refusals.{refusal_of}
-use Rattle.switch_plan.specs.Reading.{bytes_of_files, IsCaptureOf, AreCapturesOf}
+use Rattle.switch_plan.specs.ReadingSteps.{bytes_of_files, IsCaptureOf, AreCapturesOf}
 use Rattle.switch_plan.specs.GoodPlans.{switch_plan_of, IsPlanOf}
 use Rattle.switch_plan.proofs.Folding.{at_any, at_map, length_map}
 use Rattle.switch_plan.proofs.Checked.{got_at}

@@ -6,9 +6,9 @@ use Rattle.std.proofs.lemmas.Option.{same_Some}
 use Rattle.card_core.specs.declared.plan.Planned.{Planned}
 use Rattle.card_core.specs.declared.plan.CardPlan.{CardPlan}
 use Rattle.switch_plan.specs.declared.output_rooms.OutputRoom.{OutputRoom}
-use Rattle.switch_plan.specs.Counting.{packets_of_cards}
-use Rattle.switch_plan.specs.Sizing.{IsSized}
-use Rattle.switch_plan.specs.AtOutputs.{IsRoomOf}
+use Rattle.switch_plan.specs.CountingSteps.{packets_of_cards}
+use Rattle.switch_plan.specs.SizingSteps.{IsSized}
+use Rattle.switch_plan.specs.OutputSteps.{IsRoomOf}
 
 -- the first k cards have the rooms for the packets of all, and the others are as they were
 pub record AreFilled (k : ℕ) (old new : List CardPlan) : Type 0 where

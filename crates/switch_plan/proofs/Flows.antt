@@ -13,7 +13,7 @@ use Rattle.card_core.specs.Plans.{kind_of}
 use Rattle.card_core.proofs.Arriving.{queue-unicast, queue-multicast}
 use Rattle.card_core.proofs.Sets.{several-of}
 use Rattle.switch_plan.specs.Totals.{flow_of, goes_to, message_length, greatest_message, sizes_for}
-use Rattle.switch_plan.specs.Counting.{packets_of_cards}
+use Rattle.switch_plan.specs.CountingSteps.{packets_of_cards}
 use Rattle.switch_plan.proofs.Folding.{fold_next, take_next, length_map}
 use Rattle.switch_plan.proofs.Summing.{packets_at}
 

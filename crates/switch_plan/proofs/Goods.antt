@@ -23,12 +23,12 @@ use Rattle.switch_plan.specs.declared.fault.PlanFault.TheVariants.{TooManyCells}
 use Rattle.switch_plan.specs.Traffic.{CaptureFile, file_of, is_nano, is_oversize, is_unrouted, unplaced, places_from, pace_of, traffic_of}
 use Rattle.switch_plan.specs.Totals.{most_for, slots_of, work_of, total_work, total_aside, greatest_slots, max_slots_of}
 use Rattle.switch_plan.specs.Refusals.{first_link, mixed_links, first_over, over_work, refusal_of}
-use Rattle.switch_plan.specs.Reading.{IsCaptureOf}
-use Rattle.switch_plan.specs.Counting.{AreCountable, packets_of_cards}
-use Rattle.switch_plan.specs.Checking.{IsOwnCard, AreOwnCards, AreSized, AreWhole}
-use Rattle.switch_plan.specs.Sizing.{IsSized}
+use Rattle.switch_plan.specs.ReadingSteps.{IsCaptureOf}
+use Rattle.switch_plan.specs.CountingSteps.{AreCountable, packets_of_cards}
+use Rattle.switch_plan.specs.CheckingSteps.{IsOwnCard, AreOwnCards, AreSized, AreWhole}
+use Rattle.switch_plan.specs.SizingSteps.{IsSized}
 use Rattle.switch_plan.specs.GoodPlans.{switch_plan_of, IsGood, IsPlanOf}
-use Rattle.switch_plan.specs.Cards.{traffic_at, is_long, AreCardsFor, IsPlanWith}
+use Rattle.switch_plan.specs.CardSteps.{traffic_at, is_long, AreCardsFor, IsPlanWith}
 use Rattle.switch_plan.proofs.Folding.{map_map, length_map, fold_map}
 use Rattle.switch_plan.proofs.RoomBounds.{body_room_few, packet_room_few, sizes_few, sizes_long, most_few}
 use Rattle.switch_plan.proofs.Totalling.{greatest_few}

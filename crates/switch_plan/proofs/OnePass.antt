@@ -12,8 +12,8 @@ use Rattle.card_core.specs.declared.plan.Planned.{Planned}
 use Rattle.card_core.specs.Plans.{no_packet}
 use Rattle.switch_plan.specs.declared.port_rooms.PortRoom.{PortRoom}
 use Rattle.switch_plan.specs.Totals.{goes_to, flow_of, message_length, greatest_message, bytes_to}
-use Rattle.switch_plan.specs.Counting.{IsForwardable, AreCountable}
-use Rattle.switch_plan.specs.AtOutputs.{no_room, beyond, room_at, with_message, with_packet, room_for, AreFew}
+use Rattle.switch_plan.specs.CountingSteps.{IsForwardable, AreCountable}
+use Rattle.switch_plan.specs.OutputSteps.{no_room, beyond, room_at, with_message, with_packet, room_for, AreFew}
 use Rattle.switch_plan.proofs.Folding.{fold_next}
 use Rattle.switch_plan.proofs.Flows.{greatest_of}
 use Rattle.switch_plan.proofs.RoomBounds.{goes_some}

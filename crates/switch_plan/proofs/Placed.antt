@@ -25,9 +25,9 @@ use Rattle.card_core.specs.declared.plan.CardPlan.{CardPlan}
 use Rattle.card_core.specs.Plans.{IsPlanned, AreRising, plan_of, bytes_of, no_packet}
 use Rattle.switch_plan.specs.Traffic.{is_oversize, is_unrouted, route_for, fan_of, level_of, planned, unplaced, places_from}
 use Rattle.switch_plan.specs.Totals.{most_for, slots_of}
-use Rattle.switch_plan.specs.Reading.{IsCaptureOf}
-use Rattle.switch_plan.specs.Counting.{IsForwardable, AreCountable}
-use Rattle.switch_plan.specs.Cards.{slots_at, traffic_at, is_long, IsCardFor}
+use Rattle.switch_plan.specs.ReadingSteps.{IsCaptureOf}
+use Rattle.switch_plan.specs.CountingSteps.{IsForwardable, AreCountable}
+use Rattle.switch_plan.specs.CardSteps.{slots_at, traffic_at, is_long, IsCardFor}
 use Rattle.switch_plan.proofs.Folding.{at_any, at_map, at_zip, length_map, length_zip, map_map}
 use Rattle.switch_plan.proofs.Times.{no_stored, length-captured_in}
 use Rattle.switch_plan.proofs.Rising.{arrivals_rise, slots_long, rising_apart, rising_below, rising_few, zip_right}

@@ -14,7 +14,7 @@ use Rattle.cell_cutter.specs.Messages.{cells_of_packet}
 use Rattle.card_core.specs.declared.plan.Planned.{Planned}
 use Rattle.switch_plan.specs.Totals.{most_for, goes_to, message_length, flow_of, bytes_to, work_of, total_work, greatest_message, sizes_for}
 use Rattle.switch_plan.specs.Totals.{body_room_for, packet_room_for}
-use Rattle.switch_plan.specs.Counting.{IsForwardable, AreCountable}
+use Rattle.switch_plan.specs.CountingSteps.{IsForwardable, AreCountable}
 
 -- ---- a packet
 -- a number with a bit that is set has one at least

@@ -8,8 +8,8 @@ use Rattle.card_core.specs.declared.plan.Planned.{Planned}
 use Rattle.card_core.specs.declared.plan.CardPlan.{CardPlan}
 use Rattle.card_core.specs.Plans.{no_packet}
 use Rattle.switch_plan.specs.Totals.{work_of, total_work, total_aside, bytes_to, goes_to, body_room_for, packet_room_for, slots_of, greatest_slots}
-use Rattle.switch_plan.specs.Counting.{AreCountable, packets_of_cards}
-use Rattle.switch_plan.specs.Cards.{is_long}
+use Rattle.switch_plan.specs.CountingSteps.{AreCountable, packets_of_cards}
+use Rattle.switch_plan.specs.CardSteps.{is_long}
 use Rattle.switch_plan.proofs.Folding.{at_map, length_map, fold_next}
 use Rattle.switch_plan.proofs.Arriving.{taken_last}
 

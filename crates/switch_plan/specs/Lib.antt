@@ -2,10 +2,10 @@ pub mod Made
 pub mod Traffic
 pub mod Totals
 pub mod Refusals
-pub mod Reading
-pub mod Counting
-pub mod Sizing
-pub mod AtOutputs
+pub mod ReadingSteps
+pub mod CountingSteps
+pub mod SizingSteps
+pub mod OutputSteps
 pub mod GoodPlans
-pub mod Cards
-pub mod Checking
+pub mod CardSteps
+pub mod CheckingSteps

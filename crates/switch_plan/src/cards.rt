@@ -2,7 +2,7 @@ ghost use Rattle.std.specs.Prelude.{◌≡◌, ◌⊎◌, ◌<◌, ◌≤◌, ma
 ghost use Rattle.line_pace.specs.Arrivals.{IsPace, slots_taken};
 ghost use Rattle.switch_plan.specs.Totals.{most_for};
 ghost use Rattle.switch_plan.specs.Refusals.{first_over};
-ghost use Rattle.switch_plan.specs.Cards.{CanBePlanned, IsCardFor, AreCardsFor, slots_at, traffic_at};
+ghost use Rattle.switch_plan.specs.CardSteps.{CanBePlanned, IsCardFor, AreCardsFor, slots_at, traffic_at};
 
 use crate::fault::PlanFault;
 use crate::limits::most_for;

@@ -1,8 +1,8 @@
 ghost use Rattle.std.specs.Prelude.{◌≡◌, ◌↔◌, ◌+◌, ◌<◌, ◌≤◌, false, length, All, IsTrue};
 ghost use Rattle.switch_words.specs.Limits.{IsUpTo};
 ghost use Rattle.switch_plan.specs.Totals.{total_aside, sizes_for};
-ghost use Rattle.switch_plan.specs.Counting.{AreCountable, packets_of_cards};
-ghost use Rattle.switch_plan.specs.Checking.{IsOwnCard, AreOwnCards, IsSizedFor, AreSized, AreTotals, AreWhole, IsConsistent};
+ghost use Rattle.switch_plan.specs.CountingSteps.{AreCountable, packets_of_cards};
+ghost use Rattle.switch_plan.specs.CheckingSteps.{IsOwnCard, AreOwnCards, IsSizedFor, AreSized, AreTotals, AreWhole, IsConsistent};
 ghost use Rattle.switch_plan.specs.GoodPlans.{IsGood, switch_plan_of};
 
 use crate::limits::{MAX_CELLS, most_for};

@@ -10,9 +10,9 @@ ghost use Rattle.switch_plan.specs.declared.fault.PlanFault.{PlanFault};
 ghost use Rattle.switch_plan.specs.Traffic.{CaptureFile, file_of};
 ghost use Rattle.switch_plan.specs.Totals.{most_for, total_aside, greatest_slots};
 ghost use Rattle.switch_plan.specs.Refusals.{AreRead, IsRefusal, refusal_of, over_work};
-ghost use Rattle.switch_plan.specs.Reading.{bytes_of_files, IsCaptureOf};
-ghost use Rattle.switch_plan.specs.Counting.{AreCountable, packets_of_cards};
-ghost use Rattle.switch_plan.specs.Cards.{is_long, IsPlanWith};
+ghost use Rattle.switch_plan.specs.ReadingSteps.{bytes_of_files, IsCaptureOf};
+ghost use Rattle.switch_plan.specs.CountingSteps.{AreCountable, packets_of_cards};
+ghost use Rattle.switch_plan.specs.CardSteps.{is_long, IsPlanWith};
 ghost use Rattle.switch_plan.specs.GoodPlans.{switch_plan_of, IsGood, IsPlanOf};
 
 use crate::cards::cards_of;

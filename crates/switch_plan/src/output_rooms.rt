@@ -1,9 +1,9 @@
 ghost use Rattle.std.specs.Prelude.{◌≡◌, ℕ, ◌+◌, ◌^◌, ◌<◌, ◌≤◌, [], ◌++◌, length, take, slice_get, Some, All, IfOk, OnOk};
 ghost use Rattle.card_core.specs.declared.plan.CardPlan.{CardPlan as ACardPlan};
 ghost use Rattle.switch_plan.specs.Totals.{most_for, total_work};
-ghost use Rattle.switch_plan.specs.Counting.{AreCountable, packets_of_cards};
-ghost use Rattle.switch_plan.specs.Sizing.{IsSized};
-ghost use Rattle.switch_plan.specs.AtOutputs.{AreRoomsOf};
+ghost use Rattle.switch_plan.specs.CountingSteps.{AreCountable, packets_of_cards};
+ghost use Rattle.switch_plan.specs.SizingSteps.{IsSized};
+ghost use Rattle.switch_plan.specs.OutputSteps.{AreRoomsOf};
 
 use crate::port_rooms::{PortRoom, port_rooms};
 use card_core::CardPlan;

@@ -3,7 +3,7 @@ ghost use Rattle.pcap_records.specs.Packets.{IsWithin, captured_in, packet_in};
 ghost use Rattle.frame_fields.specs.Destination.{destination_of};
 ghost use Rattle.forward_table.specs.Routing.{route_of};
 ghost use Rattle.switch_plan.specs.Traffic.{fan_of, level_of, route_for, planned, unplaced};
-ghost use Rattle.switch_plan.specs.Reading.{IsTrafficOf};
+ghost use Rattle.switch_plan.specs.ReadingSteps.{IsTrafficOf};
 
 use card_core::Planned;
 use cell_cutter::MAX_FORWARDED_BYTES;

@@ -1,6 +1,6 @@
 ghost use Rattle.std.specs.Prelude.{◌≡◌, ℕ, ◌<◌, ◌≤◌, max, slice_index, slice_set};
-ghost use Rattle.switch_plan.specs.Counting.{IsForwardable, AreCountable};
-ghost use Rattle.switch_plan.specs.AtOutputs.{room_at, with_message, with_packet, room_for, AreFew};
+ghost use Rattle.switch_plan.specs.CountingSteps.{IsForwardable, AreCountable};
+ghost use Rattle.switch_plan.specs.OutputSteps.{room_at, with_message, with_packet, room_for, AreFew};
 
 use crate::rooms::flow_of;
 use card_core::Planned;

@@ -1,7 +1,7 @@
 ghost use Rattle.std.specs.Prelude.{◌≡◌, ◌≢◌, ◌⊎◌, ℕ, ◌≤◌, List, All, vec_len, IfOk, IfErr};
 ghost use Rattle.pcap_records.specs.declared.fault.PcapFault.{PcapFault};
 ghost use Rattle.switch_plan.specs.Refusals.{IsFirstFault};
-ghost use Rattle.switch_plan.specs.Reading.{bytes_of_files, IsReadAs, AreReadAs, AreCapturesOf};
+ghost use Rattle.switch_plan.specs.ReadingSteps.{bytes_of_files, IsReadAs, AreReadAs, AreCapturesOf};
 
 use crate::fault::PlanFault;
 use pcap_records::{Capture, PcapFault, read_capture};

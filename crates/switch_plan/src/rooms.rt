@@ -3,8 +3,8 @@ ghost use Rattle.std.specs.List.{range_with_len};
 ghost use Rattle.card_core.specs.declared.plan.CardPlan.{CardPlan as ACardPlan};
 ghost use Rattle.switch_plan.specs.Totals.{most_for, total_work, goes_to, bytes_to, flow_of, message_length, greatest_message, sizes_for, body_room_for};
 ghost use Rattle.switch_plan.specs.Totals.{packet_room_for};
-ghost use Rattle.switch_plan.specs.Counting.{IsForwardable, AreCountable, packets_of_cards};
-ghost use Rattle.switch_plan.specs.Sizing.{IsSized};
+ghost use Rattle.switch_plan.specs.CountingSteps.{IsForwardable, AreCountable, packets_of_cards};
+ghost use Rattle.switch_plan.specs.SizingSteps.{IsSized};
 
 use card_core::{CardPlan, MAX_ARRIVALS, Planned};
 use cell_cutter::{MAX_FORWARDED_BYTES, MAX_MESSAGE_BYTES, MESSAGE_HEADER_BYTES};

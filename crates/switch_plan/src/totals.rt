@@ -1,7 +1,7 @@
 ghost use Rattle.std.specs.Prelude.{◌≡◌, ◌≢◌, ◌==◌, ◌*◌, ◌<◌, ◌≤◌, length, All, sum_by, count_by};
 ghost use Rattle.switch_plan.specs.Totals.{work_of, total_work, total_aside, slots_of, greatest_slots};
-ghost use Rattle.switch_plan.specs.Counting.{IsForwardable, AreCountable, packets_of_cards};
-ghost use Rattle.switch_plan.specs.Cards.{is_long};
+ghost use Rattle.switch_plan.specs.CountingSteps.{IsForwardable, AreCountable, packets_of_cards};
+ghost use Rattle.switch_plan.specs.CardSteps.{is_long};
 
 use card_core::{CardPlan, MAX_ARRIVALS, Planned};
 use cell_cutter::{MAX_FORWARDED_BYTES, MAX_FORWARDED_CELLS, cells_of};

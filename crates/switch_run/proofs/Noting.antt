@@ -16,13 +16,13 @@ use Rattle.switch_plan.specs.GoodPlans.{SwitchPlan, IsGood}
 use Rattle.whole_run.specs.Runs.{IsSlotUnder, posts_under, run_slot}
 use Rattle.whole_run.proofs.Base.{requested}
 use Rattle.output_queued.specs.Lines.{line_of, lines_of}
-use Rattle.output_queued.specs.Noting.{HasNoted, State, cards_in}
+use Rattle.output_queued.specs.NotingSteps.{HasNoted, State, cards_in}
 use Rattle.output_queued.specs.Steps.{SameSwitch}
 use Rattle.output_queued.specs.Switches.{Matched}
-use Rattle.reference_run.specs.Meeting.{IsReferenceOf}
+use Rattle.reference_run.specs.MeetingSteps.{IsReferenceOf}
 use Rattle.reference_run.specs.RunLines.{run_matches}
 use Rattle.reference_run.proofs.Told.{line-told}
-use Rattle.switch_run.specs.Making.{IsJournalOf}
+use Rattle.switch_run.specs.MakingSteps.{IsJournalOf}
 
 -- a slot of the journal is that of the run
 pub slot_of_run : (plan : SwitchPlan) (slots t : ℕ) (journal : BoardJournal) → IsJournalOf plan slots journal → t < slots

@@ -31,9 +31,9 @@ use Rattle.queue_measures.specs.Lines.{queue_lines}
 use Rattle.packet_times.specs.declared.limits.TheConstants.{MAX_PACKETS_BYTES}
 use Rattle.journal_run.specs.RunFiles.{journal_text, run_file}
 use Rattle.switch_run.specs.declared.making.Measured.{Measured}
-use Rattle.switch_run.specs.Making.{AreMade, HaveMessages, IsFirmRan, IsJournalFor, IsPacketsFor, IsRan, RunLeft, StopsJournal, StopsPackets}
-use Rattle.switch_run.specs.Making.{StopsTexts, ToWrite}
-use Rattle.switch_run.specs.Making.{file_of_board, line_of_card, measured_by, queues_wanted, reference_wanted, report_of_left, slots_told, text_or_none}
+use Rattle.switch_run.specs.MakingSteps.{AreMade, HaveMessages, IsFirmRan, IsJournalFor, IsPacketsFor, IsRan, RunLeft, StopsJournal, StopsPackets}
+use Rattle.switch_run.specs.MakingSteps.{StopsTexts, ToWrite}
+use Rattle.switch_run.specs.MakingSteps.{file_of_board, line_of_card, measured_by, queues_wanted, reference_wanted, report_of_left, slots_told, text_or_none}
 use Rattle.job_files.specs.Jobs.{Wanted, wanted_by, nothing_wanted}
 use Rattle.job_files.specs.OutputFiles.{files_in_order, Texts}
 use Rattle.switch_run.specs.Switched.{IsLongJournal, IsRunOf, firm_texts, out_line, out_lines, report_of, texts_of}

@@ -17,7 +17,7 @@ use Rattle.job_files.specs.Inputs.{AreInputs}
 use Rattle.job_files.specs.LineParts.{GivesLine}
 use Rattle.job_files.specs.RefusalLines.{memory_line}
 use Rattle.switch_run.specs.Endings.{Command, IsDone, IsMade, IsStopped, IsWriteFault, Means, Stops, StopsAtFile, StopsWriting, captures_made}
-use Rattle.switch_run.specs.Making.{AreMade, AreToWrite, StopsPlan, StopsTexts, ToWrite}
+use Rattle.switch_run.specs.MakingSteps.{AreMade, AreToWrite, StopsPlan, StopsTexts, ToWrite}
 use Rattle.job_files.specs.FileSteps.{StopsPutting, StopsReading}
 use Rattle.job_files.specs.declared.ending.Written.{Written}
 use Rattle.job_files.specs.declared.ending.Written.TheVariants.{Output, Report, Journal, Packets, StandardOutput}

@@ -11,7 +11,7 @@ use Rattle.switch_jobs.specs.declared.outcome.Outcome.{Outcome}
 use Rattle.switch_jobs.specs.Outcomes.{IsOutcome}
 use Rattle.job_files.specs.Inputs.{AreInputs}
 use Rattle.switch_run.specs.Endings.{Stops}
-use Rattle.switch_run.specs.Making.{AreMade, AreToWrite, StopsTexts, to_write}
+use Rattle.switch_run.specs.MakingSteps.{AreMade, AreToWrite, StopsTexts, to_write}
 use Rattle.job_files.specs.declared.output_files.JobTexts.{JobTexts}
 use Rattle.job_files.specs.declared.ending.Ending.{Ending}
 use Rattle.switch_run.proofs.Stopping.{texts_stop}

@@ -1,4 +1,4 @@
 pub mod Switched
 pub mod Endings
 pub mod Causes
-pub mod Making
+pub mod MakingSteps

@@ -4,7 +4,7 @@ ghost use Rattle.outside.specs.Faults.{NeverFall, Place};
 ghost use Rattle.switch_words.specs.Limits.{IsFirmWithinLimits, IsGenWithinLimits, IsRunWithinLimits, IsWithinLimits};
 ghost use Rattle.switch_words.specs.Reading.{run, gen, check, firm, run_words, firm_words, job_words};
 ghost use Rattle.switch_run.specs.Endings.{Stops};
-ghost use Rattle.switch_run.specs.Making.{AreToWrite, to_write};
+ghost use Rattle.switch_run.specs.MakingSteps.{AreToWrite, to_write};
 
 use crate::making::{Measured, NOTHING_MEASURED, plan_and_run, plan_and_run_firm};
 use crate::texts::{run_texts, summary_alone};

@@ -2,10 +2,10 @@ ghost use Rattle.std.specs.Prelude.{◌≡◌, IfErr, IfOk};
 ghost use Rattle.slot_report.specs.declared.summary.Summary.{Summary as ASummary};
 ghost use Rattle.switch_words.specs.Limits.{AreWithinLimits};
 ghost use Rattle.switch_plan.specs.GoodPlans.{IsGood, switch_plan_of};
-ghost use Rattle.switch_plan.specs.Reading.{bytes_of_files};
+ghost use Rattle.switch_plan.specs.ReadingSteps.{bytes_of_files};
 ghost use Rattle.firm_run.specs.FirmRuns.{IsFirmRun};
 ghost use Rattle.job_files.specs.FileSteps.{AreOfSize};
-ghost use Rattle.switch_run.specs.Making.{IsFirmRan, IsRan, IsRanOf, StopsPlan};
+ghost use Rattle.switch_run.specs.MakingSteps.{IsFirmRan, IsRan, IsRanOf, StopsPlan};
 ghost use Rattle.switch_run.specs.Switched.{IsPlanned};
 
 use crate::packets::{noted_times, times_for};
@@ -62,7 +62,7 @@ pub(crate) struct EndedRun {
 
 impl Model for EndedRun {
     ghost use Rattle.std.specs.Prelude.{option_map, string_bytes};
-    ghost use Rattle.switch_run.specs.Making.{RunLeft};
+    ghost use Rattle.switch_run.specs.MakingSteps.{RunLeft};
 
     ghost Value = { RunLeft };
 

@@ -2,8 +2,8 @@ ghost use Rattle.std.specs.Prelude.{◌≡◌, ℕ, Bool, option_map, string_byt
 ghost use Rattle.eslip_rounds.specs.Decisions.{decision_of};
 ghost use Rattle.switch_plan.specs.GoodPlans.{SwitchPlan, IsGood, switch_plan_of};
 ghost use Rattle.whole_run.specs.Ends.{IsLength};
-ghost use Rattle.packet_times.specs.Noting.{HasNoted};
-ghost use Rattle.switch_run.specs.Making.{AreTimesOf, IsJournalOf, IsPacketsFor, StopsPackets};
+ghost use Rattle.packet_times.specs.NotingSteps.{HasNoted};
+ghost use Rattle.switch_run.specs.MakingSteps.{AreTimesOf, IsJournalOf, IsPacketsFor, StopsPackets};
 
 use job_files::Ending;
 use packet_times::{MAX_PACKETS_BYTES, PacketTimes};

@@ -3,8 +3,8 @@ ghost use Rattle.eslip_rounds.specs.Decisions.{decision_of};
 ghost use Rattle.slot_report.specs.Lines.{lines_text};
 ghost use Rattle.switch_plan.specs.GoodPlans.{SwitchPlan, IsGood, switch_plan_of};
 ghost use Rattle.queue_measures.specs.Lines.{queue_lines as lines_of_queues};
-ghost use Rattle.queue_measures.specs.Noting.{HasNoted};
-ghost use Rattle.switch_run.specs.Making.{AreMeasuresFor, IsJournalOf, queues_wanted};
+ghost use Rattle.queue_measures.specs.NotingSteps.{HasNoted};
+ghost use Rattle.switch_run.specs.MakingSteps.{AreMeasuresFor, IsJournalOf, queues_wanted};
 
 use queue_measures::QueueMeasures;
 use rotating_pick::OutOfMemory;

@@ -5,11 +5,11 @@ ghost use Rattle.switch_plan.specs.GoodPlans.{SwitchPlan, IsGood, switch_plan_of
 ghost use Rattle.whole_run.specs.Ends.{IsLength};
 ghost use Rattle.switch_jobs.specs.Outcomes.{IsOutcome};
 ghost use Rattle.output_queued.specs.Lines.{line_of};
-ghost use Rattle.output_queued.specs.Noting.{cards_in, HasNoted};
+ghost use Rattle.output_queued.specs.NotingSteps.{cards_in, HasNoted};
 ghost use Rattle.output_queued.specs.Switches.{Matched};
-ghost use Rattle.reference_run.specs.Meeting.{IsReferenceOf};
+ghost use Rattle.reference_run.specs.MeetingSteps.{IsReferenceOf};
 ghost use Rattle.reference_run.specs.RunLines.{run_lines, run_matches};
-ghost use Rattle.switch_run.specs.Making.{IsJournalOf, IsReferenceFor, reference_wanted};
+ghost use Rattle.switch_run.specs.MakingSteps.{IsJournalOf, IsReferenceFor, reference_wanted};
 
 use crossbar::Post;
 use output_queued::{RefLine, Reference, reference_text};

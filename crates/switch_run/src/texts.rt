@@ -4,11 +4,11 @@ ghost use Rattle.pcap_records.specs.Output.{capture_text};
 ghost use Rattle.slot_report.specs.Lines.{lines_text};
 ghost use Rattle.slot_report.specs.Texts.{report_bytes, summary_lines};
 ghost use Rattle.switch_words.specs.Reading.{run, gen, firm, run_words, firm_words};
-ghost use Rattle.switch_plan.specs.Reading.{bytes_of_files};
+ghost use Rattle.switch_plan.specs.ReadingSteps.{bytes_of_files};
 ghost use Rattle.switch_jobs.specs.Captures.{IsCut};
 ghost use Rattle.whole_run.specs.Ends.{IsLength};
-ghost use Rattle.switch_run.specs.Making.{AreMade, AreTimesOf, HaveMessages, IsJournalFor, IsPacketsFor, IsRan, StopsJournal, StopsTexts};
-ghost use Rattle.switch_run.specs.Making.{line_of_card, measured_by, report_of_left, to_write};
+ghost use Rattle.switch_run.specs.MakingSteps.{AreMade, AreTimesOf, HaveMessages, IsJournalFor, IsPacketsFor, IsRan, StopsJournal, StopsTexts};
+ghost use Rattle.switch_run.specs.MakingSteps.{line_of_card, measured_by, report_of_left, to_write};
 
 use crate::making::EndedRun;
 use crate::packets::packets_wanted;

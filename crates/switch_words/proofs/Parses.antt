@@ -21,7 +21,7 @@ use Rattle.clap.proofs.OnLiterals.{clap_on_literals}
 use Rattle.switch_words.specs.declared.options.Command.{Command}
 use Rattle.switch_words.specs.declared.options.Command.TheVariants.{Run, Gen, Check, Firm}
 use Rattle.switch_words.specs.Options.{Flag, slots, journal, reference, queues, packets}
-use Rattle.switch_words.specs.Lines.{flags_for, line_for, lookup_in, parts_in, parts_of}
+use Rattle.switch_words.specs.LineSteps.{flags_for, line_for, lookup_in, parts_in, parts_of}
 use Rattle.switch_words.specs.Parts.{no_parts, parts_from}
 use Rattle.switch_words.proofs.Rows.{has_row-lookup, lookup-with, put, tells}
 use Rattle.switch_words.proofs.Rules.{HasRules, IsSound, absent, flag_id, flag_rule, has_rules, names_rule, parts_in-put_default}

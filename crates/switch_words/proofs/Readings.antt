@@ -8,7 +8,7 @@ use Rattle.clap.specs.Walk.{Row, Rule, Text, Waiting, idle, option as awaits, po
 use Rattle.clap.specs.Faults.{use_fault}
 use Rattle.switch_words.specs.declared.options.Command.{Command}
 use Rattle.switch_words.specs.Options.{Setting, Switch, value, flag, option_of}
-use Rattle.switch_words.specs.Lines.{lookup_in, parts_in}
+use Rattle.switch_words.specs.LineSteps.{lookup_in, parts_in}
 use Rattle.switch_words.specs.Parts.{Parts, closing, name, option, parts_from, refused, with_names, word_of}
 use Rattle.switch_words.proofs.Rules.{HasRules, IsMet, IsSound, flag_id, flag_is_set, flag_rule, id_of, names_rule, option_rule, parts_name, set_value}
 use Rattle.switch_words.proofs.Rules.{sound_name, sound_use, under, unless, unless-then}

@@ -5,7 +5,7 @@ use Rattle.std.proofs.lemmas.List.{map-append}
 use Rattle.clap.specs.Walk.{Rule, Text}
 use Rattle.clap.specs.Simple.{App, with_rule}
 use Rattle.switch_words.specs.declared.options.Command.{Command}
-use Rattle.switch_words.specs.Lines.{bare_line, flag_arg, flags_for, line_for, names_arg, option_arg, options_for, with_rules}
+use Rattle.switch_words.specs.LineSteps.{bare_line, flag_arg, flags_for, line_for, names_arg, option_arg, options_for, with_rules}
 
 with_rules-append : (line : App) (first more : List Rule) → with_rules (with_rules line first) more ≡ with_rules line (first ++ more)
 with_rules-append line first more = λ i. record line { top = record line.top { rules = append_assoc line.top.rules first more i } }

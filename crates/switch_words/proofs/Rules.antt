@@ -13,7 +13,7 @@ use Rattle.switch_words.specs.declared.options.Command.{Command}
 use Rattle.switch_words.specs.declared.options.Command.TheVariants.{Run, Gen, Check, Firm}
 use Rattle.switch_words.specs.Options.{Setting, rounds, depth, workers, pace_us, Switch, value, flag, option_of}
 use Rattle.switch_words.specs.Options.{Flag, slots, journal, reference, queues, packets}
-use Rattle.switch_words.specs.Lines.{Lookup, first_text, flag_arg, flags_for, is_true_text, lookup_in, names_arg, option_arg, options_for, parts_in}
+use Rattle.switch_words.specs.LineSteps.{Lookup, first_text, flag_arg, flags_for, is_true_text, lookup_in, names_arg, option_arg, options_for, parts_in}
 use Rattle.switch_words.specs.Parts.{Parts, is_given, set_flag, set_text, text_in, with_flag, with_names, with_text}
 use Rattle.switch_words.proofs.Rows.{has_row-lookup, lookup-with, put, tells, without-none}
 

@@ -8,7 +8,7 @@ use Rattle.clap.specs.Walk.{arg_by_index, arg_by_long, arg_by_short, is_pending,
 use Rattle.clap.specs.Kinds.{Kinds, or_else}
 use Rattle.clap.specs.Faults.{settle_fault, turn_fault, use_fault, walk_fault, flags_fault}
 use Rattle.clap.specs.declared.error.kind.ErrorKind.TheVariants.{UnknownArgument, TooManyValues}
-use Rattle.switch_words.specs.Lines.{lookup_in, parts_in}
+use Rattle.switch_words.specs.LineSteps.{lookup_in, parts_in}
 use Rattle.switch_words.specs.Parts.{Parts}
 use Rattle.switch_words.proofs.Rules.{flag_rule, names_rule, option_rule, shape_with, unless, unless-or_else}
 

@@ -3,4 +3,4 @@ pub mod Options
 pub mod Parts
 pub mod Reading
 pub mod Limits
-pub mod Lines
+pub mod LineSteps

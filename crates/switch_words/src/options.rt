@@ -1,7 +1,7 @@
 ghost use Rattle.std.specs.Prelude.{◌≡◌, IfOk, false, map};
 ghost use Rattle.clap.specs.Words.{app_of, rule_of};
 ghost use Rattle.switch_words.specs.Options.{command_named};
-ghost use Rattle.switch_words.specs.Lines.{bare_line, flag_arg, flags_for, line_for, names_arg, option_arg, options_for, with_rules};
+ghost use Rattle.switch_words.specs.LineSteps.{bare_line, flag_arg, flags_for, line_for, names_arg, option_arg, options_for, with_rules};
 
 use clap::{Arg, ArgAction};
 use std::alloc::{AllocError, Global};

@@ -4,7 +4,7 @@ ghost use Rattle.switch_words.specs.Parts.{no_parts, parts_from};
 ghost use Rattle.switch_words.specs.Reading.{number_given, settings_of, inputs_in, run_with, firm_with, check_with, gen_with};
 ghost use Rattle.switch_words.specs.Reading.{run_words, firm_words, job_words, job_with, reading_of};
 ghost use Rattle.switch_words.specs.Limits.{AreWithinLimits, IsUpTo, IsRunWithinLimits, IsGenWithinLimits, IsFirmWithinLimits, IsWithinLimits};
-ghost use Rattle.switch_words.specs.Lines.{first_text, is_true_text, lookup_of, parts_of};
+ghost use Rattle.switch_words.specs.LineSteps.{first_text, is_true_text, lookup_of, parts_of};
 
 use crate::fault::WordsFault;
 use crate::job::{CheckJob, FirmJob, GenJob, Job, RunJob, Settings};

@@ -12,7 +12,7 @@ use Rattle.cell_cutter.specs.declared.cell.CellName.{CellName}
 use Rattle.cell_rings.specs.declared.ring.QueuedCell.{QueuedCell}
 use Rattle.cell_rings.specs.CellQueues.{names_of_packet, cells_with_fan, empty_queue, queue_with}
 use Rattle.voq_banks.specs.Queues.{Queues, place_of, queue_at, spare_at, Waits, OthersStay, empty_queues}
-use Rattle.voq_banks.specs.Fields.{Kept, names_of, queues_in, ring_at, HasDepth, AreMasks, AreKept}
+use Rattle.voq_banks.specs.FieldSteps.{Kept, names_of, queues_in, ring_at, HasDepth, AreMasks, AreKept}
 
 -- ---- a queue is what its ring stands for
 pub queue-of_ring : (ports depth : ℕ) (kept : List Kept) (output level : ℕ)

@@ -21,7 +21,7 @@ pub struct Banks {
 
 impl Model for Banks {
     ghost use Rattle.voq_banks.specs.Queues.{Queues};
-    ghost use Rattle.voq_banks.specs.Fields.{AreKept, queues_in};
+    ghost use Rattle.voq_banks.specs.FieldSteps.{AreKept, queues_in};
 
     ghost Value = { Queues };
 

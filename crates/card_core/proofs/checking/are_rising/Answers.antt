@@ -21,5 +21,5 @@ returns-then-arrival-least c = (
   λ rising.
       let less : (slice_index_or c.args.packets.now c.loop-packet.packet-index no_packet).arrival < c.loop-packet.least = omega arith in
       absurd (rises_not c.args.packets.now c.loop-packet.packet-index c.loop-packet.least no_packet c.loop-packet.invariant c.loop-packet-test.true less
-          rising),
+      rising),
 )

@@ -2,7 +2,7 @@ use Rattle.std.proofs.Common.{◌≡◌, ◌∙◌, ◌+◌, ◌<◌, ℕ, List,
 use Rattle.std.proofs.lemmas.List.{take_more, take_all, take_at}
 use Rattle.card_core.specs.declared.plan.Planned.{Planned}
 use Rattle.card_core.specs.Plans.{no_packet}
-use Rattle.card_core.specs.States.{HasRooms, AreFew}
+use Rattle.card_core.specs.StateSteps.{HasRooms, AreFew}
 use Rattle.card_core.proofs.Ascending.{some_get}
 use Rattle.card_core.proofs.Plenty.{rooms_begin, few_up}
 use Rattle.card_core.proofs.rooms.count_rooms.Goals as goal

@@ -1,5 +1,5 @@
 use Rattle.std.proofs.Common.{take}
-use Rattle.card_core.specs.States.{HasRooms, AreFew}
+use Rattle.card_core.specs.StateSteps.{HasRooms, AreFew}
 use Rattle.card_core.proofs.rooms.count_rooms.Given as goal
 
 abbrev pub invariant-loop-packet : goal.invariant-loop-packet

@@ -4,7 +4,8 @@ use Rattle.slot_board.specs.States.{StateValue}
 use Rattle.slot_histories.specs.Columns.{column_of}
 use Rattle.card_worker.proofs.Steps.{next_post}
 use Rattle.card_worker.specs.Agreeing.{IsAhead}
-use Rattle.card_worker.specs.Alone.{IsHandOf, AfterAct}
+use Rattle.card_worker.specs.Alone.{IsHandOf}
+use Rattle.card_worker.specs.AloneSteps.{AfterAct}
 use Rattle.card_worker.proofs.Columns.{posts_same, can_post, may_post, hand-posted, AfterAct-post}
 use Rattle.card_worker.proofs.alone.post_alone.Goals as goal
 

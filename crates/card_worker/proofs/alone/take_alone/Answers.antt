@@ -1,7 +1,8 @@
 use Rattle.std.proofs.Common.{◌∙◌, true, ap, sym, subst}
 use Rattle.slot_histories.specs.Legal.{IsLegal}
 use Rattle.slot_board.specs.States.{StateValue}
-use Rattle.card_worker.specs.Alone.{IsHandOf, AfterAct}
+use Rattle.card_worker.specs.Alone.{IsHandOf}
+use Rattle.card_worker.specs.AloneSteps.{AfterAct}
 use Rattle.card_worker.proofs.Columns.{level, card_slot, servable, hand-taken, AfterAct-take}
 use Rattle.card_worker.proofs.alone.take_alone.Goals as goal
 

@@ -1,7 +1,7 @@
 use Rattle.std.proofs.Common.{◌∙◌, ◌++◌, ap, sym, arith, string_bytes}
 use Rattle.std.specs.Prelude.{decimal}
 use Rattle.std.proofs.lemmas.List.Folds.{flat_map-map}
-use Rattle.slot_report.specs.Pieces.{after_space}
+use Rattle.slot_report.specs.PieceSteps.{after_space}
 use Rattle.slot_report.proofs.Appending.{all_of, one_more}
 use Rattle.check_job.proofs.telling.put_numbers.Goals as goal
 

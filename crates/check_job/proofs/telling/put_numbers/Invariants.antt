@@ -1,7 +1,7 @@
 use Rattle.std.proofs.Common.{◌≡◌, ◌++◌, take, string_bytes}
 use Rattle.std.specs.Prelude.{decimal}
 use Rattle.std.specs.List.{flat_map}
-use Rattle.slot_report.specs.Pieces.{after_space}
+use Rattle.slot_report.specs.PieceSteps.{after_space}
 use Rattle.check_job.proofs.telling.put_numbers.Given as goal
 
 abbrev pub invariant-loop-number : goal.invariant-loop-number

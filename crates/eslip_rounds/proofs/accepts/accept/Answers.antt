@@ -13,13 +13,13 @@ add-requires-clause-may c =
     let P : ℕ → Type 0 = λ k. MayAdd k c.args.out.now c.args.i c.taken-outputs.result c.level_of-level.result c.kind_of-kind.result in
     subst P (sym c.requires.whole.count)
     (MayAdd-taken c.args.n c.args.first_kind c.args.p.now c.args.offers.now c.args.i c.args.out.now c.requires.whole c.requires.open c.level_of-level.result
-        c.accept.result c.taken-outputs.result c.kind_of-kind.result c.level_of-level.ensures.value c.kind_of-kind.ensures c.accept.ensures.value from_in
-        c.taken-outputs.ensures)
+    c.accept.result c.taken-outputs.result c.kind_of-kind.result c.level_of-level.ensures.value c.kind_of-kind.ensures c.accept.ensures.value from_in
+    c.taken-outputs.ensures)
 
 pub returns-clause-pairs : goal.returns-clause-pairs
 returns-clause-pairs c =
     let from_in : c.accept.result < c.args.n = let below = c.accept.ensures.within in omega arith in
     pairs-taken c.args.n c.args.first_kind c.args.p.now c.args.offers.now c.args.i c.args.out.now c.requires.whole c.requires.open c.level_of-level.result
-        c.accept.result c.taken-outputs.result c.kind_of-kind.result c.level_of-level.ensures.value c.kind_of-kind.ensures c.accept.ensures.value from_in
-        c.taken-outputs.ensures
+    c.accept.result c.taken-outputs.result c.kind_of-kind.result c.level_of-level.ensures.value c.kind_of-kind.ensures c.accept.ensures.value from_in
+    c.taken-outputs.ensures
     c.add.new.self c.requires.granted c.level_of-level.ensures.level_in c.add.ensures.count c.add.ensures.fed c.add.ensures.stays

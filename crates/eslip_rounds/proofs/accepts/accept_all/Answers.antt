@@ -6,7 +6,7 @@ use Rattle.eslip_rounds.proofs.accepts.accept_all.Goals as goal
 pub accept-requires-clause-open : goal.accept-requires-clause-open
 accept-requires-clause-open c =
     IsOpen-waiting c.args.n c.args.first_kind c.args.p.now c.args.offers.now c.args.out.now c.loop-i.out c.loop-i.rest c.requires.open
-        c.loop-i.invariant.pairs c.in-Some.i c.in-Some.ensures.member (c.loop-i.invariant.left c.in-Some.i c.in-Some.ensures.member)
+    c.loop-i.invariant.pairs c.in-Some.i c.in-Some.ensures.member (c.loop-i.invariant.left c.in-Some.i c.in-Some.ensures.member)
 
 pub loop-i-preserved : goal.loop-i-preserved
 loop-i-preserved c =

@@ -15,13 +15,13 @@ loop-rank-preserved c =
     elim c.if-not-is_empty.branch [
       | then-not-is_empty w ↦ rw (w.columns-is, w.ranks-is)
           (AreDone-put c.args.n c.loop-rank.rank c.args.first_kind c.args.rows.now c.args.before c.loop-rank.columns c.loop-rank.ranks c.loop-rank.invariant
-              level kind c.level_of-level.ensures.value c.kind_of-kind.ensures w.gather.new.columns w.with-ranks.result
-              (omega arith) w.gather.ensures w.with-ranks.ensures)
+          level kind c.level_of-level.ensures.value c.kind_of-kind.ensures w.gather.new.columns w.with-ranks.result
+          (omega arith) w.gather.ensures w.with-ranks.ensures)
       | else-not-is_empty w ↦
           let none : c.outputs.result ≡ 0 = c.is_empty.ensures.zero.0 w.if-not-is_empty.false in
           rw (w.columns-is, w.ranks-is)
           (AreDone-skip c.args.n c.loop-rank.rank c.args.first_kind c.args.rows.now c.args.before c.loop-rank.columns c.loop-rank.ranks c.loop-rank.invariant
-              level kind c.level_of-level.ensures.value c.kind_of-kind.ensures
+          level kind c.level_of-level.ensures.value c.kind_of-kind.ensures
           w.contains.result w.empty_if.new.columns (omega arith) w.contains.ensures w.empty_if.ensures
           (λ i j i_in named. zero-has c.outputs.result j none (subst (λ set. Has set j) (sym c.outputs.ensures) (c.requires.named i j level kind i_in named))))
     ]

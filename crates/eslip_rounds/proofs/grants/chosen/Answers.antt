@@ -4,7 +4,7 @@ use Rattle.rotating_pick.specs.Rotation.{IsFirstFrom}
 use Rattle.rotating_pick.proofs.Bits.{IsAmong-from_members}
 use Rattle.rotating_pick.proofs.First.{IsFirstFrom-along}
 use Rattle.eslip_rounds.specs.declared.grants.Choice.{Choice}
-use Rattle.eslip_rounds.specs.Ranks.{level_at, kind_at}
+use Rattle.eslip_rounds.specs.RankSteps.{level_at, kind_at}
 use Rattle.eslip_rounds.specs.Rounds.{from_of}
 use Rattle.eslip_rounds.specs.Steps.{AsksAt}
 use Rattle.eslip_rounds.proofs.Choosing.{Some-iff_chosen}

@@ -1,7 +1,7 @@
 use Rattle.std.proofs.Common.{◌≡◌, ℕ, ◌<◌, ◌↔◌, length, slice_index}
 use Rattle.rotating_pick.specs.PortSets.{Has}
 use Rattle.eslip_rounds.specs.declared.ranks.TheConstants.{RANKS}
-use Rattle.eslip_rounds.specs.Ranks.{level_at, kind_at}
+use Rattle.eslip_rounds.specs.RankSteps.{level_at, kind_at}
 use Rattle.eslip_rounds.specs.Steps.{MayAsk}
 use Rattle.eslip_rounds.proofs.grants.ready_inputs.Given as goal
 

@@ -14,8 +14,11 @@ loop-i-preserved c x =
         λ h. elim ((w.with-posted.ensures x).0 h) [
           | inl same ↦ (
             omega arith,
-            subst P (sym same) (elim (HasHead-decides c.args.n c.args.rows.now c.args.level c.loop-i.i c.requires.rows c.loop-i-test.true) [ inl
-                head ↦ head | inr none ↦ absurd (let empty = c.is_empty-in-loop-i.ensures.members.1 (λ j has. none (j, has)) in cc) ]),
+            subst P (sym same) (elim (HasHead-decides c.args.n c.args.rows.now c.args.level c.loop-i.i c.requires.rows c.loop-i-test.true) [
+              | inl
+                  head ↦ head
+              | inr none ↦ absurd (let empty = c.is_empty-in-loop-i.ensures.members.1 (λ j has. none (j, has)) in cc)
+            ]),
           )
           | inr old ↦ (let below = (said.0 old).0 in omega arith, (said.0 old).1)
         ],

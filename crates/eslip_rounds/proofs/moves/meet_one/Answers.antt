@@ -21,4 +21,4 @@ returns-in-Uni-clause-met c =
     ) in
     AreMet-along (λ i j level. (i ≡ pair.input) × (j ≡ c.args.j) × (level ≡ pair.level)) _ c.args.p.now c.met.new.self same
     (AreMet-one pair.input c.args.j pair.level c.args.p.now c.met.new.self c.met.ensures.ports c.met.ensures.grant c.met.ensures.accept c.met.ensures.grants
-        c.met.ensures.accepts c.met.ensures.shared)
+    c.met.ensures.accepts c.met.ensures.shared)

@@ -1,7 +1,7 @@
 use Rattle.std.proofs.Common.{◌≡◌, ℕ, ◌∙◌, Some, sym, ap, subst, inl, inr}
 use Rattle.std.proofs.lemmas.Option.{same_Some}
 use Rattle.eslip_rounds.specs.declared.grants.Choice.{Choice}
-use Rattle.eslip_rounds.specs.Ranks.{level_at}
+use Rattle.eslip_rounds.specs.RankSteps.{level_at}
 use Rattle.eslip_rounds.proofs.refusals.note.Goals as goal
 
 pub returns-in-Uni : goal.returns-in-Uni

@@ -1,6 +1,7 @@
 use Rattle.std.proofs.Common.{ℕ, ◌<◌, ◌↔◌}
 use Rattle.rotating_pick.specs.PortSets.{Has}
-use Rattle.eslip_rounds.specs.Steps.{Tells, GrantsUnicast}
+use Rattle.eslip_rounds.specs.Steps.{GrantsUnicast}
+use Rattle.eslip_rounds.specs.Refusals.{Tells}
 use Rattle.eslip_rounds.proofs.refusals.refused_grants.Given as goal
 
 abbrev pub invariant-loop-j : goal.invariant-loop-j

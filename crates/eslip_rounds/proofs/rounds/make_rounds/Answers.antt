@@ -53,11 +53,11 @@ loop-done-preserved c =
                   IsDecided-next n t rows places first_kind first_is asks are c.loop-done.done now w.round-then-added-gt0.new.out matched w.count-now.result
                       c.loop-done.numbers after.result c.difference-first_outputs.result w.saturating_sub-added.result decided
                       w.round-then-added-gt0.ensures.step w.round-then-added-gt0.ensures.whole w.count-now.ensures w.saturating_sub-added.ensures numbered
-                          after.ensures.used,
+                      after.ensures.used,
                   IsSettled-next n t rows places first_kind first_is asks are now w.round-then-added-gt0.new.out matched w.count-now.result
                       w.saturating_sub-added.result c.requires.at_ports c.requires.ports known.whole
                       w.round-then-added-gt0.ensures.step w.round-then-added-gt0.ensures.whole decided.run.counted w.count-now.ensures
-                          w.saturating_sub-added.ensures,
+                      w.saturating_sub-added.ensures,
                 );
           })
       | else-added-gt0 w ↦
@@ -79,4 +79,4 @@ loop-done-preserved c =
 pub returns-clause-made : goal.returns-clause-made
 returns-clause-made c t rows first_is are =
     AreMade-from c.args.n c.loop-done.done t rows c.args.p.now c.loop-done.out c.loop-done.matched c.loop-done.numbers c.difference-first_outputs.result
-        c.args.rounds (c.loop-done.invariant.decided t rows first_is are).0 (omega arith)
+    c.args.rounds (c.loop-done.invariant.decided t rows first_is are).0 (omega arith)

@@ -16,7 +16,7 @@ accept_all-requires-clause-open c =
     subst (λ k. (j : ℕ) → Has c.free_outputs.result j ↔ ((j < k) × IsFreeOutput before j)) size c.free_outputs.ensures in
     AreOpen-from_offers n c.args.first_kind c.args.asks.now ready c.args.p.now before c.offer_all.new.offers c.requires.at_ports c.requires.ports readies
     (AreOffers-asked n c.args.first_kind c.args.asks.now ready c.args.p.now before c.free_outputs.result c.intersection-asked.result c.offer_all.new.offers
-        free c.intersection-asked.ensures c.requires.asked c.offer_all.ensures)
+    free c.intersection-asked.ensures c.requires.asked c.offer_all.ensures)
 
 pub returns-clause-step : goal.returns-clause-step
 returns-clause-step c =

@@ -16,7 +16,7 @@ returns-clause-slot c =
     let are : AreMade c.args.n c.args.rounds c.args.slot c.args.rows.now c.args.p.now c.make_rounds-made.new.out c.make_rounds-made.result =
     c.make_rounds-made.ensures.made c.args.slot c.args.rows.now c.preferred_kind-first_kind.ensures c.read.ensures in
     IsSlot-from c.args.n c.args.rounds c.args.slot c.args.rows.now c.args.p.now c.make_rounds-made.new.out c.make_rounds-made.result c.requires.rounds_some
-        are c.make_rounds-made.ensures.whole c.move_pointers.new.p (c.move_pointers.ensures.moved c.args.slot)
+    are c.make_rounds-made.ensures.whole c.move_pointers.new.p (c.move_pointers.ensures.moved c.args.slot)
 
 -- and the slot has one decision
 pub returns-clause-decision : goal.returns-clause-decision
@@ -32,13 +32,13 @@ pub returns-clause-unused : goal.returns-clause-unused
 returns-clause-unused c =
     nothing_added c.args.n c.args.rounds c.args.slot c.args.rows.now c.args.p.now c.make_rounds-made.new.out c.make_rounds-made.result c.requires.rounds_some
     (c.make_rounds-made.ensures.made c.args.slot c.args.rows.now c.preferred_kind-first_kind.ensures c.read.ensures) c.ports.ensures.at_ports
-        c.requires.pointers c.requires.rows
+    c.requires.pointers c.requires.rows
 
 pub returns-clause-enough : goal.returns-clause-enough
 returns-clause-enough c =
     enough_rounds c.args.n c.args.rounds c.args.slot c.args.rows.now c.args.p.now c.make_rounds-made.new.out c.make_rounds-made.result c.requires.rounds_some
     (c.make_rounds-made.ensures.made c.args.slot c.args.rows.now c.preferred_kind-first_kind.ensures c.read.ensures) c.ports.ensures.at_ports
-        c.requires.pointers c.requires.rows
+    c.requires.pointers c.requires.rows
 
 -- only the columns of this slot's ranks have members
 pub invariant_of-scratch : goal.invariant_of-scratch

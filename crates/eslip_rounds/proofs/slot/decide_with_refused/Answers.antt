@@ -17,7 +17,7 @@ returns-clause-slot c =
     let are : AreMade c.args.n c.args.rounds c.args.slot c.args.rows.now c.args.p.now c.make_rounds-made.new.out c.make_rounds-made.result =
     c.make_rounds-made.ensures.made c.args.slot c.args.rows.now c.preferred_kind-first_kind.ensures c.read.ensures in
     IsSlot-from c.args.n c.args.rounds c.args.slot c.args.rows.now c.args.p.now c.make_rounds-made.new.out c.make_rounds-made.result c.requires.rounds_some
-        are c.make_rounds-made.ensures.whole c.move_pointers.new.p (c.move_pointers.ensures.moved c.args.slot)
+    are c.make_rounds-made.ensures.whole c.move_pointers.new.p (c.move_pointers.ensures.moved c.args.slot)
 
 -- and the slot has one decision
 pub returns-clause-decision : goal.returns-clause-decision
@@ -33,18 +33,18 @@ pub returns-clause-unused : goal.returns-clause-unused
 returns-clause-unused c =
     nothing_added c.args.n c.args.rounds c.args.slot c.args.rows.now c.args.p.now c.make_rounds-made.new.out c.make_rounds-made.result c.requires.rounds_some
     (c.make_rounds-made.ensures.made c.args.slot c.args.rows.now c.preferred_kind-first_kind.ensures c.read.ensures) c.ports.ensures.at_ports
-        c.requires.pointers c.requires.rows
+    c.requires.pointers c.requires.rows
 
 pub returns-clause-enough : goal.returns-clause-enough
 returns-clause-enough c =
     enough_rounds c.args.n c.args.rounds c.args.slot c.args.rows.now c.args.p.now c.make_rounds-made.new.out c.make_rounds-made.result c.requires.rounds_some
     (c.make_rounds-made.ensures.made c.args.slot c.args.rows.now c.preferred_kind-first_kind.ensures c.read.ensures) c.ports.ensures.at_ports
-        c.requires.pointers c.requires.rows
+    c.requires.pointers c.requires.rows
 
 pub returns-clause-refused : goal.returns-clause-refused
 returns-clause-refused c =
     AreRefused-from c.args.n c.args.slot c.args.rounds c.args.rows.now c.args.p.now c.preferred_kind-first_kind.result c.read.new.self
-        c.ports.ensures.at_ports c.requires.pointers c.preferred_kind-first_kind.ensures c.read.ensures c.make_rounds-made.new.out c.make_rounds-made.result
-        c.requires.rounds_some
+    c.ports.ensures.at_ports c.requires.pointers c.preferred_kind-first_kind.ensures c.read.ensures c.make_rounds-made.new.out c.make_rounds-made.result
+    c.requires.rounds_some
     (c.make_rounds-made.ensures.made c.args.slot c.args.rows.now c.preferred_kind-first_kind.ensures c.read.ensures) c.refused_grants-refused.result
-        c.refused_grants-refused.ensures
+    c.refused_grants-refused.ensures

@@ -2,7 +2,7 @@ use Rattle.std.proofs.Common.{◌≡◌, ℕ, ◌⊎◌, refl, sym, subst, inl, 
 use Rattle.std.proofs.lemmas.Bool.{cases_eq}
 use Rattle.rotating_pick.specs.PortSets.{Has}
 use Rattle.slot_match.proofs.Sets.{zero-has}
-use Rattle.eslip_rounds.specs.Steps.{Tells}
+use Rattle.eslip_rounds.specs.Refusals.{Tells}
 use Rattle.firm_rounds.proofs.Holding.{AreHeld-none, AreHeld-along, AreHeld-next}
 use Rattle.firm_rounds.proofs.slot.hold.Goals as goal
 

@@ -2,7 +2,7 @@ use Rattle.std.proofs.Common.{◌≡◌, List, ◌∷◌, [], ◌++◌, length, 
 use Rattle.std.specs.Vec.Iter.{into_iter_items}
 use Rattle.card_core.specs.declared.outcome.CardOut.{CardOut}
 use Rattle.switch_jobs.proofs.Members.{gone_more}
-use Rattle.firm_run.specs.Acting.{AreOutputs}
+use Rattle.firm_run.specs.ActingSteps.{AreOutputs}
 use Rattle.firm_run.proofs.Leavings.{AreOutputs-more}
 use Rattle.firm_run.proofs.leaving.finish_cards.Goals as goal
 

@@ -1,7 +1,7 @@
 use Rattle.std.proofs.Common.{◌≡◌, ◌≤◌, ◌++◌, length}
 use Rattle.std.specs.Prelude.{vec_capacity}
 use Rattle.std.specs.Vec.Iter.{into_iter_items, into_iter_len}
-use Rattle.firm_run.specs.Acting.{AreOutputs}
+use Rattle.firm_run.specs.ActingSteps.{AreOutputs}
 use Rattle.firm_run.proofs.leaving.finish_cards.Given as goal
 
 abbrev pub invariant-loop-card : goal.invariant-loop-card

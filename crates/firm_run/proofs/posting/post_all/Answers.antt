@@ -4,7 +4,7 @@ use Rattle.std.proofs.lemmas.List.{length-set}
 use Rattle.std.proofs.lemmas.Option.{slice_get-get_or}
 use Rattle.card_core.specs.Cards.{CardState}
 use Rattle.card_worker.proofs.Passes.{get-set_other}
-use Rattle.firm_run.specs.Acting.{ArePosted}
+use Rattle.firm_run.specs.ActingSteps.{ArePosted}
 use Rattle.firm_run.proofs.Places.{map-set, ArePosted-more, more_comes, no_more_comes}
 use Rattle.firm_run.proofs.posting.post_all.Goals.{then-post, else-post}
 use Rattle.firm_run.proofs.posting.post_all.Goals as goal

@@ -2,7 +2,7 @@ use Rattle.std.proofs.Common.{◌≡◌, ◌≤◌, ℕ, List, false, length}
 use Rattle.std.specs.Prelude.{slice_get}
 use Rattle.crossbar.specs.declared.cards.Post.{Post}
 use Rattle.crossbar.specs.declared.cards.Taken.{Taken}
-use Rattle.firm_run.specs.Acting.{AreAfter, plans_in, ArePosts, ArePosted}
+use Rattle.firm_run.specs.ActingSteps.{AreAfter, plans_in, ArePosts, ArePosted}
 use Rattle.firm_run.proofs.posting.post_all.Given as goal
 
 abbrev pub invariant-loop-place : goal.invariant-loop-place

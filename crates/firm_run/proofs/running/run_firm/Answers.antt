@@ -11,11 +11,11 @@ use Rattle.switch_plan.specs.GoodPlans.{SwitchPlan, switch_plan_of, packets_in, 
 use Rattle.whole_run.specs.Runs.{ports_of}
 use Rattle.whole_run.specs.Ends.{IsLengthUnder}
 use Rattle.whole_run.specs.Sums.{IsBestUnder}
-use Rattle.switch_jobs.specs.Readiness.{plan_with}
+use Rattle.switch_jobs.specs.ReadinessSteps.{plan_with}
 use Rattle.switch_jobs.specs.Outcomes.{summary_under}
-use Rattle.switch_jobs.specs.Journals.{HaveSums, summary_with}
+use Rattle.switch_jobs.specs.JournalSteps.{HaveSums, summary_with}
 use Rattle.firm_run.specs.FirmRuns.{IsFirmRun, HasShortWaits}
-use Rattle.firm_run.specs.Standing.{IsBefore}
+use Rattle.firm_run.specs.StandingSteps.{IsBefore}
 use Rattle.firm_run.proofs.Numbers.{count-all, sums, numbers-are, short}
 use Rattle.firm_run.proofs.Promised.{promises-of}
 use Rattle.firm_run.proofs.running.run_firm.Goals as goal

@@ -5,7 +5,7 @@ use Rattle.std.proofs.lemmas.Option.{slice_get_within}
 use Rattle.card_core.specs.Plans.{plan_of}
 use Rattle.card_core.specs.Cards.{CardState}
 use Rattle.switch_jobs.proofs.Members.{gone_more, here_of}
-use Rattle.firm_run.specs.Acting.{AreAfter, plans_in}
+use Rattle.firm_run.specs.ActingSteps.{AreAfter, plans_in}
 use Rattle.firm_run.proofs.Leavings.{made-more, new-more}
 use Rattle.firm_run.proofs.switch.cards_of.Goals as goal
 

@@ -2,7 +2,7 @@ use Rattle.std.proofs.Common.{◌≡◌, ◌≤◌, ◌++◌, [], false, length,
 use Rattle.std.specs.Prelude.{vec_capacity}
 use Rattle.std.specs.Vec.Iter.{into_iter_items, into_iter_len}
 use Rattle.card_core.specs.Plans.{plan_of}
-use Rattle.firm_run.specs.Acting.{AreAfter, plans_in}
+use Rattle.firm_run.specs.ActingSteps.{AreAfter, plans_in}
 use Rattle.firm_run.proofs.switch.cards_of.Given as goal
 
 abbrev pub invariant-loop-plan : goal.invariant-loop-plan

@@ -5,7 +5,7 @@ use Rattle.std.proofs.lemmas.Option.{slice_get-get_or, slice_get_within}
 use Rattle.crossbar.specs.declared.cards.Taken.{Taken}
 use Rattle.card_core.specs.Cards.{CardState, IsAfter}
 use Rattle.card_worker.proofs.Passes.{get-set_other}
-use Rattle.firm_run.specs.Acting.{taken_now}
+use Rattle.firm_run.specs.ActingSteps.{taken_now}
 use Rattle.firm_run.proofs.Places.{map-set, each-more}
 use Rattle.firm_run.proofs.taking.take_all.Goals as goal
 

@@ -2,7 +2,7 @@ use Rattle.std.proofs.Common.{◌≡◌, ◌<◌, ◌≤◌, ◌∷◌, ◌++◌
 use Rattle.std.specs.Prelude.{slice_get}
 use Rattle.crossbar.specs.declared.cards.Taken.{Taken}
 use Rattle.card_core.specs.Cards.{CardState, IsAfter}
-use Rattle.firm_run.specs.Acting.{AreAfter, plans_in, taken_now}
+use Rattle.firm_run.specs.ActingSteps.{AreAfter, plans_in, taken_now}
 use Rattle.firm_run.proofs.taking.take_all.Given as goal
 
 abbrev pub invariant-loop-place : goal.invariant-loop-place

@@ -22,7 +22,7 @@ returns-then-is_some c table indexed lengths =
     let looked = c.line_of-line.ensures ∙ ap (λ (a : ℕ). line_with (Prefix (32 - k) a) c.args.ordered.now) c.without_host_bits.ensures in
     let few = c.requires.within k (c.loop-host_bits.invariant.left k c.in-Some.ensures.member) in
     let none = none_before table c.args.ordered.now c.args.lengths c.loop-host_bits.rest c.args.address k indexed lengths c.loop-host_bits.invariant.searched
-        c.in-Some.ensures.least (omega arith) in
+    c.in-Some.ensures.least (omega arith) in
     found_longest table c.args.address k c.line_of-line.result few indexed.prefixes none (sym c.is_some.ensures ∙ c.if-is_some.true)
     (looked ∙ indexed.found (prefix_at c.args.address k))
 

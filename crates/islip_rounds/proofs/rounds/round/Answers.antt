@@ -39,7 +39,7 @@ returns-clause-round c asks turned =
     IsRound-from_tables c.args.n asks c.args.columns.now c.args.pointers.now c.args.fed.now c.free_inputs.result c.free_outputs.result c.all.result
     c.requests-asked.result c.by_input-offers.result c.choices-granted.result c.choices-accepted.result
     turned c.free_inputs.ensures c.free_outputs.ensures c.requests-asked.ensures c.choices-granted.ensures c.by_input-offers.ensures c.all.ensures.members
-        c.choices-accepted.ensures
+    c.choices-accepted.ensures
     c.feed.new.fed c.feed.ensures
 
 pub returns-clause-within : goal.returns-clause-within

@@ -111,10 +111,10 @@ pub returns-clause-unused : goal.returns-clause-unused
 returns-clause-unused c =
     let known = c.loop-done.invariant in
     maximal_if_unused c.args.n c.args.asks.now c.args.p.now c.loop-done.done c.loop-done.fed c.loop-done.matched c.loop-done.added c.loop-done.numbers
-        known.ending c.requires.grant c.requires.accept known.within
+    known.ending c.requires.grant c.requires.accept known.within
 
 pub returns-clause-enough : goal.returns-clause-enough
 returns-clause-enough c enough =
     let known = c.loop-done.invariant in
     maximal_if_enough c.args.n c.args.asks.now c.args.p.now c.loop-done.done c.loop-done.fed c.loop-done.matched c.loop-done.added c.loop-done.numbers
-        known.ending c.requires.grant c.requires.accept known.within known.run.counted (omega arith)
+    known.ending c.requires.grant c.requires.accept known.within known.run.counted (omega arith)

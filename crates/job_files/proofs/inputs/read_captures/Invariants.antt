@@ -3,7 +3,7 @@ use Rattle.std.specs.Prelude.{IfSome}
 use Rattle.outside.specs.Faults.{NeverFall}
 use Rattle.job_files.specs.Inputs.{CapturesRead, EarlierFit}
 use Rattle.job_files.specs.FileSteps.{reads_words}
-use Rattle.switch_plan.specs.Reading.{bytes_of_files}
+use Rattle.switch_plan.specs.ReadingSteps.{bytes_of_files}
 use Rattle.job_files.specs.declared.inputs.InputFile.TheVariants.{Capture}
 use Rattle.job_files.proofs.inputs.read_captures.Given as goal
 

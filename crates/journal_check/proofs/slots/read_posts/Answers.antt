@@ -14,7 +14,7 @@ pub returns-in_err-post : goal.returns-in_err-post
 returns-in_err-post c =
     let p = err_from_is_err_and c.from_residual.result c.from_residual.ensures.1 in
     rw (p.1, p.2) (posts_fail c.args.ports c.args.bytes.now c.args.at c.loop-i.i c.loop-i.next c.in_err-post.field-0.0.at c.loop-i.rows c.loop-i.more
-        c.loop-i-test.true c.loop-i.invariant c.in_err-post.ensures)
+    c.loop-i-test.true c.loop-i.invariant c.in_err-post.ensures)
 
 pub returns : goal.returns
 returns c =

@@ -4,5 +4,7 @@ use Rattle.journal_check.proofs.slots.read_slot.Goals as goal
 pub returns : goal.returns
 returns c =
     let posts = c.in_ok-outputs_at.ensures in
-    record { read = slot_outcome c.args.ports c.args.bytes.now c.args.at c.in_ok-outputs_at.outputs_at posts.0 c.read_posts.new.rows c.read_posts.new.more
-        c.read_outputs.new.fed c.read_outputs.result posts.1 posts.2 posts.3 c.read_outputs.ensures }
+    record {
+      read = slot_outcome c.args.ports c.args.bytes.now c.args.at c.in_ok-outputs_at.outputs_at posts.0 c.read_posts.new.rows c.read_posts.new.more
+          c.read_outputs.new.fed c.read_outputs.result posts.1 posts.2 posts.3 c.read_outputs.ensures;
+    }

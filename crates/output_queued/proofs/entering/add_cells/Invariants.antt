@@ -1,6 +1,6 @@
 use Rattle.std.proofs.Common.{◌≡◌, ℕ, Some, length}
 use Rattle.rotating_pick.specs.PortSets.{Has}
-use Rattle.output_queued.specs.Noting.{tally_at}
+use Rattle.output_queued.specs.NotingSteps.{tally_at}
 use Rattle.output_queued.specs.Steps.{cells_to, with_cells}
 use Rattle.output_queued.proofs.entering.add_cells.Given as goal
 

@@ -1,7 +1,7 @@
 use Rattle.std.proofs.Common.{◌≡◌, ◌∙◌, ◌+◌, ◌<◌, None, Some, length, length-set, ap, sym, subst, arith}
 use Rattle.rotating_pick.proofs.Bits.{Has-lt}
 use Rattle.output_queued.specs.Switches.{card_for, IsComing}
-use Rattle.output_queued.specs.Noting.{Source, no_source, source_at, tally_at, IsBefore}
+use Rattle.output_queued.specs.NotingSteps.{Source, no_source, source_at, tally_at, IsBefore}
 use Rattle.output_queued.specs.Steps.{IsPart, HasEntered, HaveEntered, IsAdmissible, cells_to, with_cells}
 use Rattle.output_queued.proofs.Places.{found-at}
 use Rattle.output_queued.proofs.Arrivals.{next-part, next-before, one-entered, none-more, cells-few, unserved-more}

@@ -1,6 +1,6 @@
 use Rattle.std.proofs.Common.{◌≡◌, ◌+◌, ◌*◌, ℕ, ◌≤◌, List, Option, length}
 use Rattle.slot_match.specs.declared.matching.Served.{Served}
-use Rattle.output_queued.specs.Noting.{tally_at, IsUnserved}
+use Rattle.output_queued.specs.NotingSteps.{tally_at, IsUnserved}
 use Rattle.output_queued.specs.Steps.{Stand, HaveEntered}
 use Rattle.output_queued.proofs.entering.let_in.Given as goal
 

@@ -1,6 +1,6 @@
 use Rattle.std.proofs.Common.{◌≡◌, ℕ, ◌<◌, ◌≤◌, length}
 use Rattle.slot_match.specs.Parts.{served_of}
-use Rattle.output_queued.specs.Noting.{source_at}
+use Rattle.output_queued.specs.NotingSteps.{source_at}
 use Rattle.output_queued.specs.Steps.{HasTaken}
 use Rattle.output_queued.proofs.entering.take_served.Given as goal
 

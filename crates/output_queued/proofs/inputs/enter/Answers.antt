@@ -3,7 +3,7 @@ use Rattle.std.proofs.lemmas.Nat.Bits.{bit_at-pow_same}
 use Rattle.rotating_pick.specs.PortSets.{Has, HasSeveral}
 use Rattle.rotating_pick.proofs.Bits.{Has-lt}
 use Rattle.rotating_pick.proofs.Members.{only_member, not_several}
-use Rattle.card_core.specs.States.{EntersUnicast}
+use Rattle.card_core.specs.StateSteps.{EntersUnicast}
 use Rattle.card_core.proofs.Sets.{several-of}
 use Rattle.card_core.proofs.Offering.{enters-unicast, enters-multicast}
 use Rattle.output_queued.specs.Switches.{planned_of}

@@ -4,7 +4,7 @@ use Rattle.rotating_pick.proofs.Members.{only_member}
 use Rattle.cell_cutter.specs.declared.cell.CellName.{CellName}
 use Rattle.voq_banks.specs.Queues.{Waits}
 use Rattle.multicast_queue.specs.FanQueues.{FanCell, first_name, queue_at as fan_at}
-use Rattle.card_core.specs.States.{MayLeave, Leaves, LeavesUnicast}
+use Rattle.card_core.specs.StateSteps.{MayLeave, Leaves, LeavesUnicast}
 use Rattle.output_queued.proofs.inputs.leave.Goals as goal
 
 head_of : (cells : List FanCell) → 0 < length cells → (name : CellName) × (Some name ≡ first_name cells)

@@ -1,8 +1,8 @@
 use Rattle.std.proofs.Common.{◌∙◌, map, refl, sym, arith}
 use Rattle.std.proofs.lemmas.List.{length-map, get_or-map, ext_get_or}
 use Rattle.slot_match.specs.Rows.{no_row}
-use Rattle.card_core.specs.States.{row_of}
-use Rattle.output_queued.specs.Noting.{Source, no_source}
+use Rattle.card_core.specs.StateSteps.{row_of}
+use Rattle.output_queued.specs.NotingSteps.{Source, no_source}
 use Rattle.output_queued.proofs.reference.are_rows.Goals as goal
 
 pub returns : goal.returns

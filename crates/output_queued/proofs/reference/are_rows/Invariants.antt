@@ -1,7 +1,7 @@
 use Rattle.std.proofs.Common.{◌≡◌, ℕ, ◌<◌}
 use Rattle.slot_match.specs.Rows.{row_of as row_in}
-use Rattle.card_core.specs.States.{row_of}
-use Rattle.output_queued.specs.Noting.{source_at}
+use Rattle.card_core.specs.StateSteps.{row_of}
+use Rattle.output_queued.specs.NotingSteps.{source_at}
 use Rattle.output_queued.proofs.reference.are_rows.Given as goal
 
 abbrev pub invariant-loop-input : goal.invariant-loop-input

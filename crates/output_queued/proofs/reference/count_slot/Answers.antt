@@ -5,7 +5,7 @@ use Rattle.std.proofs.lemmas.Bool.{cases_eq}
 use Rattle.rotating_pick.specs.PortSets.{Has}
 use Rattle.slot_match.specs.Matches.{fed_of}
 use Rattle.output_queued.specs.declared.tally.Tally.{Tally}
-use Rattle.output_queued.specs.Noting.{no_tally, tally_at, IsUnserved}
+use Rattle.output_queued.specs.NotingSteps.{no_tally, tally_at, IsUnserved}
 use Rattle.output_queued.specs.Steps.{Ticks}
 use Rattle.output_queued.proofs.Places.{found-at, set-here, set-other, set-case}
 use Rattle.output_queued.proofs.reference.count_slot.Goals as goal

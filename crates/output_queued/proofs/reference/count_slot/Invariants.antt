@@ -2,7 +2,7 @@ use Rattle.std.proofs.Common.{◌≡◌, ℕ, length, if◌then◌else◌}
 use Rattle.std.specs.Prelude.{is_some}
 use Rattle.rotating_pick.specs.PortSets.{Has}
 use Rattle.slot_match.specs.Matches.{fed_of}
-use Rattle.output_queued.specs.Noting.{tally_at, IsUnserved}
+use Rattle.output_queued.specs.NotingSteps.{tally_at, IsUnserved}
 use Rattle.output_queued.specs.Steps.{Ticks}
 use Rattle.output_queued.proofs.reference.count_slot.Given as goal
 

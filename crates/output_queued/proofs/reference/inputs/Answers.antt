@@ -7,7 +7,7 @@ use Rattle.std.proofs.Math.ListN.{get_or-append}
 use Rattle.std.proofs.Math.Seq.{get_or-append_seam}
 use Rattle.output_queued.specs.declared.coming.Coming.{Coming}
 use Rattle.output_queued.specs.Switches.{card_for}
-use Rattle.output_queued.specs.Noting.{Source, no_source, source_at, IsBefore}
+use Rattle.output_queued.specs.NotingSteps.{Source, no_source, source_at, IsBefore}
 use Rattle.output_queued.proofs.reference.inputs.Goals as goal
 
 gone_more : {X : Type 0} (gone rest next whole : List X) (x : X) → gone ++ rest ≡ whole → rest ≡ x ∷ next → (gone ++ x ∷ []) ++ next ≡ whole

@@ -1,7 +1,7 @@
 use Rattle.std.proofs.Common.{◌≡◌, ◌<◌, ◌++◌, ℕ, [], map, length}
 use Rattle.std.specs.Vec.Iter.{into_iter_items, into_iter_len}
 use Rattle.output_queued.specs.Switches.{card_for}
-use Rattle.output_queued.specs.Noting.{source_at, IsBefore}
+use Rattle.output_queued.specs.NotingSteps.{source_at, IsBefore}
 use Rattle.output_queued.proofs.reference.inputs.Given as goal
 
 abbrev pub invariant-loop-packets : goal.invariant-loop-packets

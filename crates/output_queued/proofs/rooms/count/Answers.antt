@@ -1,6 +1,6 @@
 use Rattle.std.proofs.Common.{ℕ, List, ◌∷◌, [], ◌++◌, map, refl, sym, subst, arith, length}
 use Rattle.std.proofs.lemmas.List.{map-append}
-use Rattle.card_core.specs.States.{HasRooms}
+use Rattle.card_core.specs.StateSteps.{HasRooms}
 use Rattle.card_core.proofs.Plenty.{place_inside, rooms-unicast, rooms-multicast}
 use Rattle.card_core.proofs.Sets.{several-of}
 use Rattle.output_queued.specs.declared.coming.Coming.{Coming}

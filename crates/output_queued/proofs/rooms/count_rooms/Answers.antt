@@ -1,6 +1,6 @@
 use Rattle.std.proofs.Common.{◌≡◌, ◌∙◌, ◌+◌, ◌<◌, ℕ, List, [], ◌∷◌, ◌++◌, map, arith, sym, subst, take, drop, length, slice_index_or}
 use Rattle.std.proofs.lemmas.List.{take_more, take_all, take_at}
-use Rattle.card_core.specs.States.{HasRooms, AreFew}
+use Rattle.card_core.specs.StateSteps.{HasRooms, AreFew}
 use Rattle.card_core.proofs.Plenty.{rooms_begin, few_up}
 use Rattle.output_queued.specs.declared.coming.Coming.{Coming}
 use Rattle.output_queued.specs.Switches.{planned_of}

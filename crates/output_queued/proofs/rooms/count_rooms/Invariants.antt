@@ -1,5 +1,5 @@
 use Rattle.std.proofs.Common.{map, take}
-use Rattle.card_core.specs.States.{HasRooms, AreFew}
+use Rattle.card_core.specs.StateSteps.{HasRooms, AreFew}
 use Rattle.output_queued.specs.Switches.{planned_of}
 use Rattle.output_queued.proofs.rooms.count_rooms.Given as goal
 

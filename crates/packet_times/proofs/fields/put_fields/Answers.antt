@@ -1,6 +1,6 @@
 use Rattle.std.proofs.Common.{arith, string_bytes}
 use Rattle.slot_report.proofs.Appending.{all_of, both, one_more}
-use Rattle.packet_times.specs.Fields.{after_comma}
+use Rattle.packet_times.specs.FieldSteps.{after_comma}
 use Rattle.packet_times.proofs.fields.put_fields.Goals as goal
 
 pub loop-field-preserved : goal.loop-field-preserved

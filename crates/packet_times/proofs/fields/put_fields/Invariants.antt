@@ -1,6 +1,6 @@
 use Rattle.std.proofs.Common.{◌≡◌, ◌++◌, take, string_bytes}
 use Rattle.std.specs.List.{flat_map}
-use Rattle.packet_times.specs.Fields.{after_comma}
+use Rattle.packet_times.specs.FieldSteps.{after_comma}
 use Rattle.packet_times.proofs.fields.put_fields.Given as goal
 
 abbrev pub invariant-loop-field : goal.invariant-loop-field

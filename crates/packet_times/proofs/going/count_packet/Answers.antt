@@ -2,7 +2,7 @@ use Rattle.std.proofs.Common.{◌≡◌, ◌∙◌, ◌<◌, ◌+◌, ℕ, List,
 use Rattle.rotating_pick.specs.PortSets.{Has}
 use Rattle.rotating_pick.specs.declared.kinds.Kind.{Kind}
 use Rattle.rotating_pick.specs.declared.limits.TheConstants.{MAX_PORTS}
-use Rattle.packet_times.specs.Walking.{own_place, with_one, IsCounted}
+use Rattle.packet_times.specs.WalkingSteps.{own_place, with_one, IsCounted}
 use Rattle.packet_times.proofs.Counted.{counted-first, counted-no, counted-yes}
 use Rattle.packet_times.proofs.Places.{kind_few}
 use Rattle.packet_times.proofs.going.count_packet.Goals as goal

@@ -1,7 +1,7 @@
 use Rattle.std.proofs.Common.{◌≡◌, ◌<◌, length}
 use Rattle.rotating_pick.specs.declared.limits.TheConstants.{LEVELS}
 use Rattle.packet_times.specs.declared.going.TheConstants.{MOST_FLOWS}
-use Rattle.packet_times.specs.Walking.{IsCounted}
+use Rattle.packet_times.specs.WalkingSteps.{IsCounted}
 use Rattle.packet_times.proofs.going.count_packet.Given as goal
 
 abbrev pub invariant-loop-output : goal.invariant-loop-output

@@ -4,7 +4,7 @@ use Rattle.crossbar.specs.declared.cards.Post.{Post}
 use Rattle.card_core.specs.Posts.{IsServable}
 use Rattle.whole_run.specs.Runs.{ports_of, card_at, parts_under}
 use Rattle.whole_run.proofs.Base.{served-length}
-use Rattle.packet_times.specs.Noting.{Input, no_input, IsNoted}
+use Rattle.packet_times.specs.NotingSteps.{Input, no_input, IsNoted}
 use Rattle.packet_times.proofs.Noted.{posts-long, row-at, servable-at, noted-more}
 use Rattle.packet_times.proofs.inputs.note_inputs.Goals as goal
 

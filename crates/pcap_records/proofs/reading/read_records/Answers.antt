@@ -16,12 +16,12 @@ returns-in_err-packet-clause-fault c =
     let p = err_from_is_err_and c.from_residual.result c.from_residual.ensures.1 in
     rw (p.1, p.2)
     (inr (broken c.args.header.order c.args.header.nano c.args.header.link c.args.bytes.now c.loop-at.at c.loop-at.packets.items c.in_err-packet.field-0.0
-        c.requires.header c.loop-at.invariant c.in_err-packet.ensures.fault))
+    c.requires.header c.loop-at.invariant c.in_err-packet.ensures.fault))
 
 pub loop-at-preserved : goal.loop-at-preserved
 loop-at-preserved c = rw c.in_ok-push.ensures.items
     (read_more c.args.header.order c.args.header.nano c.args.bytes.now c.loop-at.at c.loop-at.packets.items c.in_ok-packet.packet c.loop-at.invariant
-        c.in_ok-packet.ensures.found)
+    c.in_ok-packet.ensures.found)
 
 pub returns-clause-found : goal.returns-clause-found
 returns-clause-found c = read_all c.args.header.order c.args.header.nano c.args.header.link c.args.bytes.now c.loop-at.at c.loop-at.packets.items

@@ -1,5 +1,5 @@
 use Rattle.std.proofs.Common.{◌≡◌, ℕ, ◌+◌, ◌-◌, ◌∙◌, sym, arith}
-use Rattle.port_square.specs.Exchange.{take_bit, take_above}
+use Rattle.port_square.specs.ExchangeSteps.{take_bit, take_above}
 use Rattle.port_square.proofs.Turning.{take_bit-lt, take_above-more}
 use Rattle.port_square.proofs.square.turn_square.Goals as goal
 

@@ -1,5 +1,5 @@
 use Rattle.std.proofs.Common.{◌≡◌, ℕ, ◌-◌, ◌<◌}
-use Rattle.port_square.specs.Exchange.{bit_of, take_above}
+use Rattle.port_square.specs.ExchangeSteps.{bit_of, take_above}
 use Rattle.port_square.proofs.square.turn_square.Given as goal
 
 abbrev pub invariant-loop-step : goal.invariant-loop-step

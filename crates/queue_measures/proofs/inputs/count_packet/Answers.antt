@@ -2,7 +2,7 @@ use Rattle.std.proofs.Common.{◌≡◌, ◌≢◌, ◌∙◌, true, refl, ap, s
 use Rattle.std.proofs.lemmas.Bool.{ne_eqb}
 use Rattle.card_core.specs.Plans.{size_of}
 use Rattle.card_core.specs.Queues.{is_routed}
-use Rattle.queue_measures.specs.Noting.{no_numbers}
+use Rattle.queue_measures.specs.NotingSteps.{no_numbers}
 use Rattle.queue_measures.specs.Steps.{with_packet}
 use Rattle.queue_measures.proofs.inputs.count_packet.Goals as goal
 

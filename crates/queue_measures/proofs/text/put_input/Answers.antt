@@ -1,7 +1,7 @@
 use Rattle.std.proofs.Common.{[], arith, string_bytes}
 use Rattle.slot_report.specs.Lines.{lines_text}
 use Rattle.slot_report.proofs.Appending.{place_more, places_all}
-use Rattle.queue_measures.specs.Noting.{no_numbers}
+use Rattle.queue_measures.specs.NotingSteps.{no_numbers}
 use Rattle.queue_measures.specs.Steps.{line_at}
 use Rattle.queue_measures.proofs.text.put_input.Goals as goal
 

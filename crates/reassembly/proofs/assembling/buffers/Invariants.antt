@@ -1,6 +1,6 @@
 use Rattle.std.proofs.Common.{◌≡◌, map, take}
 use Rattle.reassembly.specs.Flows.{fresh}
-use Rattle.reassembly.specs.Buffers.{flow_in}
+use Rattle.reassembly.specs.BufferSteps.{flow_in}
 use Rattle.reassembly.proofs.assembling.buffers.Given as goal
 
 abbrev pub invariant-loop-size : goal.invariant-loop-size

@@ -8,8 +8,9 @@ use Rattle.switch_plan.specs.GoodPlans.{SwitchPlan, switch_plan_of}
 use Rattle.whole_run.specs.Runs.{ports_of}
 use Rattle.output_queued.specs.declared.coming.Coming.{Coming}
 use Rattle.output_queued.specs.Switches.{IsSwitch}
-use Rattle.output_queued.specs.Noting.{State, HasNoted}
-use Rattle.reference_run.specs.Meeting.{IsReferenceOf, coming_in}
+use Rattle.output_queued.specs.NotingSteps.{State, HasNoted}
+use Rattle.reference_run.specs.Meeting.{coming_in}
+use Rattle.reference_run.specs.MeetingSteps.{IsReferenceOf}
 use Rattle.reference_run.proofs.ToldInputs.{told-switch}
 use Rattle.reference_run.proofs.making.reference_of.Goals as goal
 

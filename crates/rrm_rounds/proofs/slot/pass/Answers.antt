@@ -2,7 +2,7 @@ use Rattle.std.proofs.Common.{◌≡◌, ℕ, ◌⊎◌, ◌∙◌, refl, sym, s
 use Rattle.std.proofs.lemmas.Bool.{cases_eq}
 use Rattle.rotating_pick.specs.PortSets.{Has}
 use Rattle.slot_match.proofs.Sets.{zero-has}
-use Rattle.eslip_rounds.specs.Steps.{Tells}
+use Rattle.eslip_rounds.specs.Refusals.{Tells}
 use Rattle.rrm_rounds.proofs.Passing.{AreBeyond-none, AreBeyond-along, AreBeyond-next}
 use Rattle.rrm_rounds.proofs.slot.pass.Goals as goal
 

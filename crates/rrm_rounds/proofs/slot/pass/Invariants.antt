@@ -1,7 +1,7 @@
 use Rattle.std.proofs.Common.{ℕ}
 use Rattle.rotating_pick.specs.PortSets.{Has}
 use Rattle.pointer_state.specs.Places.{AreAtPorts}
-use Rattle.eslip_rounds.specs.Steps.{Tells}
+use Rattle.eslip_rounds.specs.Refusals.{Tells}
 use Rattle.rrm_rounds.specs.SlotSteps.{AreBeyond}
 use Rattle.rrm_rounds.proofs.slot.pass.Given as goal
 

@@ -1,6 +1,6 @@
 use Rattle.std.proofs.Common.{◌≡◌, ℕ, max}
 use Rattle.rotating_pick.specs.PortSets.{Has}
-use Rattle.service_bound.specs.Meters.{longest_of}
+use Rattle.service_bound.specs.MeterSteps.{longest_of}
 use Rattle.service_bound.proofs.level_queues.longest_of.Given as goal
 
 abbrev pub invariant-loop-output : goal.invariant-loop-output

@@ -5,7 +5,7 @@ use Rattle.rotating_pick.specs.declared.limits.TheConstants.{LEVELS, MAX_PORTS}
 use Rattle.slot_match.specs.Matches.{Serves}
 use Rattle.slot_match.specs.Keeping.{Gives}
 use Rattle.service_bound.specs.Waits.{NotedSlot, is_waiting}
-use Rattle.service_bound.specs.Meters.{Queues, queues_at, NotesSlot}
+use Rattle.service_bound.specs.MeterSteps.{Queues, queues_at, NotesSlot}
 use Rattle.service_bound.proofs.Noting.{found_is, NotesSlot-along, noted-set, left-set}
 use Rattle.service_bound.proofs.Waiting.{Gives-iff_serves, member-waits}
 use Rattle.service_bound.proofs.PartsServed.{part_is_free, part_serves}

@@ -1,7 +1,7 @@
 use Rattle.std.proofs.Common.{◌≡◌, ℕ, ◌/◌, ◌%◌, ◌<◌, ◌≤◌, length}
 use Rattle.rotating_pick.specs.declared.limits.TheConstants.{LEVELS}
 use Rattle.service_bound.specs.Waits.{is_waiting}
-use Rattle.service_bound.specs.Meters.{place_of, queues_at, NotesSlot}
+use Rattle.service_bound.specs.MeterSteps.{place_of, queues_at, NotesSlot}
 use Rattle.service_bound.proofs.meter.note_input.Given as goal
 
 abbrev pub invariant-loop-level : goal.invariant-loop-level

@@ -2,7 +2,7 @@ use Rattle.std.proofs.Common.{◌∙◌, ℕ, ◌/◌, ◌%◌, subst, inl, inr,
 use Rattle.std.proofs.lemmas.Bool.{cases_eq}
 use Rattle.rotating_pick.specs.declared.limits.TheConstants.{LEVELS}
 use Rattle.service_bound.specs.Waits.{is_waiting}
-use Rattle.service_bound.specs.Meters.{Queues, queues_at, NotesSlot}
+use Rattle.service_bound.specs.MeterSteps.{Queues, queues_at, NotesSlot}
 use Rattle.service_bound.proofs.meter.note_slot.Goals as goal
 
 pub loop-input-preserved : goal.loop-input-preserved

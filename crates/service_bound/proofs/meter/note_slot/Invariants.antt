@@ -1,7 +1,7 @@
 use Rattle.std.proofs.Common.{◌≡◌, ℕ, ◌/◌, ◌%◌, ◌<◌, ◌≤◌, length}
 use Rattle.rotating_pick.specs.declared.limits.TheConstants.{LEVELS}
 use Rattle.service_bound.specs.Waits.{is_waiting}
-use Rattle.service_bound.specs.Meters.{queues_at, NotesSlot}
+use Rattle.service_bound.specs.MeterSteps.{queues_at, NotesSlot}
 use Rattle.service_bound.proofs.meter.note_slot.Given as goal
 
 abbrev pub invariant-loop-input : goal.invariant-loop-input

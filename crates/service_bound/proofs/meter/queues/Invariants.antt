@@ -1,5 +1,5 @@
 use Rattle.std.proofs.Common.{◌≡◌, replicate}
-use Rattle.service_bound.specs.Meters.{queues_at_first}
+use Rattle.service_bound.specs.MeterSteps.{queues_at_first}
 use Rattle.service_bound.proofs.meter.queues.Given as goal
 
 abbrev pub invariant-loop : goal.invariant-loop

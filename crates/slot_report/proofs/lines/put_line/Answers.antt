@@ -1,7 +1,7 @@
 use Rattle.std.proofs.Common.{map, string_bytes}
 use Rattle.std.proofs.lemmas.Result.{on_ok_weaker}
 use Rattle.std.specs.Prelude.{codes}
-use Rattle.slot_report.specs.Pieces.{word_text}
+use Rattle.slot_report.specs.PieceSteps.{word_text}
 use Rattle.slot_report.proofs.Appending.{appended, whole_line}
 use Rattle.slot_report.proofs.lines.put_line.Goals as goal
 

@@ -1,6 +1,6 @@
 use Rattle.std.proofs.Common.{◌∙◌, ◌++◌, ap, arith, string_bytes}
 use Rattle.std.proofs.lemmas.List.Folds.{flat_map-map}
-use Rattle.slot_report.specs.Pieces.{after_space, word_text}
+use Rattle.slot_report.specs.PieceSteps.{after_space, word_text}
 use Rattle.slot_report.proofs.Appending.{all_of, both, one_more}
 use Rattle.slot_report.proofs.lines.put_words.Goals as goal
 use Rattle.std.proofs.Common.{sym}

@@ -1,6 +1,6 @@
 use Rattle.std.proofs.Common.{◌≡◌, ◌++◌, take, string_bytes}
 use Rattle.std.specs.List.{flat_map}
-use Rattle.slot_report.specs.Pieces.{after_space, word_text}
+use Rattle.slot_report.specs.PieceSteps.{after_space, word_text}
 use Rattle.slot_report.proofs.lines.put_words.Given as goal
 
 abbrev pub invariant-loop-word : goal.invariant-loop-word

@@ -1,7 +1,7 @@
 use Rattle.std.proofs.Common.{◌∙◌, ◌++◌, ap, arith, string_bytes, sym}
 use Rattle.std.proofs.lemmas.List.Folds.{flat_map-map}
 use Rattle.slot_report.specs.Lines.{line_text}
-use Rattle.slot_report.specs.Pieces.{count_line}
+use Rattle.slot_report.specs.PieceSteps.{count_line}
 use Rattle.slot_report.proofs.Appending.{all_of, one_more}
 use Rattle.slot_report.proofs.report.put_counts.Goals as goal
 

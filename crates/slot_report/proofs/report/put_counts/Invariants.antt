@@ -1,7 +1,7 @@
 use Rattle.std.proofs.Common.{◌≡◌, ◌++◌, take, string_bytes}
 use Rattle.std.specs.List.{flat_map}
 use Rattle.slot_report.specs.Lines.{line_text}
-use Rattle.slot_report.specs.Pieces.{count_line}
+use Rattle.slot_report.specs.PieceSteps.{count_line}
 use Rattle.slot_report.proofs.report.put_counts.Given as goal
 
 abbrev pub invariant-loop-name : goal.invariant-loop-name

@@ -1,7 +1,7 @@
 use Rattle.std.proofs.Common.{◌∙◌, ◌++◌, ap, arith, string_bytes}
 use Rattle.std.specs.Prelude.{option_to_list, None}
 use Rattle.std.specs.List.{flat_map}
-use Rattle.slot_report.specs.Pieces.{after_space}
+use Rattle.slot_report.specs.PieceSteps.{after_space}
 use Rattle.slot_report.specs.Texts.{map_with_place, pair_at}
 use Rattle.slot_report.proofs.Appending.{pairs_joined, place_more, places_all}
 use Rattle.slot_report.proofs.slot_lines.put_pairs.Goals as goal

@@ -1,7 +1,7 @@
 use Rattle.std.proofs.Common.{List}
 use Rattle.card_core.specs.Plans.{Plan as CardPlan}
 use Rattle.card_worker.specs.Groups.{AreGroups}
-use Rattle.switch_jobs.specs.Sharing.{ArePlanned, HaveWaited}
+use Rattle.switch_jobs.specs.SharingSteps.{ArePlanned, HaveWaited}
 use Rattle.switch_jobs.proofs.driving.drive_all.Given as goal
 
 abbrev pub invariant-loop : goal.invariant-loop

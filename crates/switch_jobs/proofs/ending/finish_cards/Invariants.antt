@@ -1,7 +1,7 @@
 use Rattle.std.proofs.Common.{◌≡◌, ◌≤◌, ◌++◌, length}
 use Rattle.std.specs.Prelude.{vec_capacity}
 use Rattle.std.specs.Vec.Iter.{into_iter_items, into_iter_len}
-use Rattle.switch_jobs.specs.Ending.{AreLeft}
+use Rattle.switch_jobs.specs.EndingSteps.{AreLeft}
 use Rattle.switch_jobs.proofs.ending.finish_cards.Given as goal
 
 abbrev pub invariant-loop-hand : goal.invariant-loop-hand

@@ -1,5 +1,5 @@
 use Rattle.std.proofs.Common.{◌≡◌, length}
-use Rattle.switch_jobs.specs.Readiness.{AreEmptyGroups, HaveRoomFor}
+use Rattle.switch_jobs.specs.ReadinessSteps.{AreEmptyGroups, HaveRoomFor}
 use Rattle.switch_jobs.proofs.jobs.empty_groups.Given as goal
 
 abbrev pub invariant-loop-worker : goal.invariant-loop-worker

@@ -9,7 +9,7 @@ use Rattle.card_core.specs.Plans.{Plan, plan_of}
 use Rattle.card_worker.specs.declared.hands.Member.{Member}
 use Rattle.card_worker.specs.Trying.{IsMember}
 use Rattle.card_worker.proofs.Grouping.{next_seats, next_length}
-use Rattle.switch_jobs.specs.Readiness.{plans_in}
+use Rattle.switch_jobs.specs.ReadinessSteps.{plans_in}
 use Rattle.switch_jobs.proofs.Members.{gone_more, here_of, AreInPlace, AreInPlace-more, plans_more}
 use Rattle.switch_jobs.proofs.jobs.members_of.Goals as goal
 

@@ -6,7 +6,7 @@ use Rattle.turn_lock.specs.Seats.{SeatValue, new_seat}
 use Rattle.card_core.specs.Plans.{plan_of}
 use Rattle.card_worker.specs.declared.hands.Member.{Member}
 use Rattle.card_worker.specs.Trying.{IsMember}
-use Rattle.switch_jobs.specs.Readiness.{plans_in}
+use Rattle.switch_jobs.specs.ReadinessSteps.{plans_in}
 use Rattle.switch_jobs.proofs.jobs.members_of.Given as goal
 
 abbrev pub invariant-loop-card : goal.invariant-loop-card

@@ -1,6 +1,6 @@
 use Rattle.std.proofs.Common.{◌≡◌, ◌<◌, ℕ, List, length, get_or}
 use Rattle.service_bound.specs.Waits.{NotedSlot, longest_wait}
-use Rattle.service_bound.specs.Meters.{HasNoted}
+use Rattle.service_bound.specs.MeterSteps.{HasNoted}
 use Rattle.switch_jobs.proofs.meters.longest_of.Given as goal
 
 abbrev pub invariant-loop-level : goal.invariant-loop-level

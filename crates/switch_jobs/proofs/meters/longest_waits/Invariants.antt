@@ -1,6 +1,6 @@
 use Rattle.std.proofs.Common.{◌≡◌, map, take}
-use Rattle.service_bound.specs.Meters.{HasNoted}
-use Rattle.switch_jobs.specs.Journals.{noted_in}
+use Rattle.service_bound.specs.MeterSteps.{HasNoted}
+use Rattle.switch_jobs.specs.JournalSteps.{noted_in}
 use Rattle.switch_jobs.proofs.meters.longest_waits.Given as goal
 
 abbrev pub invariant-loop-slot : goal.invariant-loop-slot

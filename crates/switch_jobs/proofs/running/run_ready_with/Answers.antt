@@ -14,10 +14,10 @@ use Rattle.whole_run.proofs.RunWindows.{served-in-window, waits-short}
 use Rattle.whole_run.proofs.RunCompletes.{heads-complete}
 use Rattle.switch_jobs.specs.declared.outcome.Outcome.{Outcome}
 use Rattle.switch_jobs.specs.Outcomes.{IsOutcome}
-use Rattle.switch_jobs.specs.Readiness.{plan_with, plans_in}
-use Rattle.switch_jobs.specs.Sharing.{ArePlanned, HaveWaited}
-use Rattle.switch_jobs.specs.Journals.{HaveSums, summary_in}
-use Rattle.switch_jobs.specs.Ending.{AreOfPlans, IsRunOf}
+use Rattle.switch_jobs.specs.ReadinessSteps.{plan_with, plans_in}
+use Rattle.switch_jobs.specs.SharingSteps.{ArePlanned, HaveWaited}
+use Rattle.switch_jobs.specs.JournalSteps.{HaveSums, summary_in}
+use Rattle.switch_jobs.specs.EndingSteps.{AreOfPlans, IsRunOf}
 use Rattle.switch_jobs.proofs.Finishing.{journal_few, ports_left, output_is, sums_fit, summary_is}
 use Rattle.switch_jobs.proofs.running.run_ready_with.Goals as goal
 

@@ -3,7 +3,7 @@ use Rattle.std.specs.Prelude.{slice_get}
 use Rattle.std.proofs.lemmas.List.{length-take, get_or-take}
 use Rattle.std.proofs.lemmas.Option.{slice_get_within, slice_get-get_or, get_or_from_slice_get}
 use Rattle.card_worker.specs.declared.hands.Group.{Group}
-use Rattle.switch_jobs.specs.Readiness.{AreEmptyGroups, HaveRoomFor}
+use Rattle.switch_jobs.specs.ReadinessSteps.{AreEmptyGroups, HaveRoomFor}
 use Rattle.switch_jobs.proofs.sharing.for_processors.Goals as goal
 
 -- a group that is among the first ones

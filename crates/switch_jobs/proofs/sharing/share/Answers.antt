@@ -7,7 +7,7 @@ use Rattle.std.proofs.lemmas.Option.{slice_get-map, slice_get_within}
 use Rattle.card_worker.specs.declared.hands.Member.{Member}
 use Rattle.card_worker.specs.Groups.{AreGroups}
 use Rattle.card_worker.proofs.Grouping.{AreGroups-none}
-use Rattle.switch_jobs.specs.Readiness.{plans_in}
+use Rattle.switch_jobs.specs.ReadinessSteps.{plans_in}
 use Rattle.switch_jobs.proofs.Members.{gone_more, here_of}
 use Rattle.switch_jobs.proofs.Planning.{ArePlanned-none}
 use Rattle.switch_jobs.proofs.sharing.share.Goals as goal

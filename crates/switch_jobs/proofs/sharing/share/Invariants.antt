@@ -1,8 +1,8 @@
 use Rattle.std.proofs.Common.{◌≡◌, ◌++◌, length}
 use Rattle.std.specs.Vec.Iter.{into_iter_items, into_iter_len}
 use Rattle.card_worker.specs.Groups.{AreGroups}
-use Rattle.switch_jobs.specs.Readiness.{plans_in, HaveRoomFor}
-use Rattle.switch_jobs.specs.Sharing.{ArePlanned}
+use Rattle.switch_jobs.specs.ReadinessSteps.{plans_in, HaveRoomFor}
+use Rattle.switch_jobs.specs.SharingSteps.{ArePlanned}
 use Rattle.switch_jobs.proofs.sharing.share.Given as goal
 
 abbrev pub invariant-loop-member : goal.invariant-loop-member

@@ -6,7 +6,7 @@ use Rattle.card_core.specs.declared.plan.CardPlan.{CardPlan}
 use Rattle.switch_plan.specs.Totals.{most_for}
 use Rattle.switch_plan.specs.Refusals.{first_over}
 use Rattle.switch_plan.specs.declared.fault.PlanFault.TheVariants.{OutOfMemory}
-use Rattle.switch_plan.specs.Cards.{IsCardFor, AreCardsFor, traffic_at}
+use Rattle.switch_plan.specs.CardSteps.{IsCardFor, AreCardsFor, traffic_at}
 use Rattle.switch_plan.proofs.Carded.{cards_next, over_refused}
 use Rattle.switch_plan.proofs.cards.cards_of.Goals as goal
 

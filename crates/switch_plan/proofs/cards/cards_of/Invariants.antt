@@ -1,6 +1,6 @@
 use Rattle.std.proofs.Common.{◌≡◌, ◌++◌, length}
 use Rattle.std.specs.Vec.Iter.{into_iter_items, into_iter_len}
-use Rattle.switch_plan.specs.Cards.{AreCardsFor}
+use Rattle.switch_plan.specs.CardSteps.{AreCardsFor}
 use Rattle.switch_plan.proofs.cards.cards_of.Given as goal
 
 abbrev pub invariant-loop-capture : goal.invariant-loop-capture

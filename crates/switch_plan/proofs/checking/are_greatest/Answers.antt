@@ -3,7 +3,7 @@ use Rattle.std.proofs.lemmas.Slice.Eq.{strip_prefix_is}
 use Rattle.std.proofs.lemmas.Bool.Decides.{Decides-eqb}
 use Rattle.card_core.specs.declared.plan.Planned.{Planned}
 use Rattle.switch_plan.specs.Totals.{sizes_for}
-use Rattle.switch_plan.specs.Counting.{AreCountable, packets_of_cards}
+use Rattle.switch_plan.specs.CountingSteps.{AreCountable, packets_of_cards}
 use Rattle.switch_plan.proofs.Summing.{countable_at}
 use Rattle.switch_plan.proofs.Flows.{greatest_of, sizes_left, sizes_more}
 use Rattle.switch_plan.proofs.checking.are_greatest.Goals as goal

@@ -1,7 +1,7 @@
 use Rattle.std.proofs.Common.{◌≡◌, ℕ, ◌<◌, length, Some}
 use Rattle.std.specs.Prelude.{slice_get}
 use Rattle.card_core.specs.declared.plan.CardPlan.{CardPlan}
-use Rattle.switch_plan.specs.Checking.{IsOwnCard}
+use Rattle.switch_plan.specs.CheckingSteps.{IsOwnCard}
 use Rattle.switch_plan.proofs.checking.are_own_cards.Given as goal
 
 abbrev pub invariant-loop-port : goal.invariant-loop-port

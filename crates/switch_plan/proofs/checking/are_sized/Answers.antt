@@ -1,7 +1,7 @@
 use Rattle.std.proofs.Common.{refl, arith}
 use Rattle.std.proofs.lemmas.Option.{slice_get_within}
-use Rattle.switch_plan.specs.Counting.{packets_of_cards}
-use Rattle.switch_plan.specs.Checking.{IsSizedFor}
+use Rattle.switch_plan.specs.CountingSteps.{packets_of_cards}
+use Rattle.switch_plan.specs.CheckingSteps.{IsSizedFor}
 use Rattle.switch_plan.proofs.Totalling.{each_next}
 use Rattle.switch_plan.proofs.checking.are_sized.Goals as goal
 

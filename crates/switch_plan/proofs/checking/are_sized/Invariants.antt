@@ -1,8 +1,8 @@
 use Rattle.std.proofs.Common.{◌≡◌, ℕ, ◌<◌, Some}
 use Rattle.std.specs.Prelude.{slice_get}
 use Rattle.card_core.specs.declared.plan.CardPlan.{CardPlan}
-use Rattle.switch_plan.specs.Counting.{packets_of_cards}
-use Rattle.switch_plan.specs.Checking.{IsSizedFor}
+use Rattle.switch_plan.specs.CountingSteps.{packets_of_cards}
+use Rattle.switch_plan.specs.CheckingSteps.{IsSizedFor}
 use Rattle.switch_plan.proofs.checking.are_sized.Given as goal
 
 abbrev pub invariant-loop-output : goal.invariant-loop-output

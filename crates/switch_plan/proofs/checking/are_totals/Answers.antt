@@ -1,6 +1,6 @@
 use Rattle.std.proofs.Common.{◌≡◌, ◌≤◌, length, sym, subst}
 use Rattle.switch_plan.specs.Totals.{most_for}
-use Rattle.switch_plan.specs.Counting.{packets_of_cards}
+use Rattle.switch_plan.specs.CountingSteps.{packets_of_cards}
 use Rattle.switch_plan.proofs.Totalling.{totals_from, totals_to}
 use Rattle.switch_plan.proofs.checking.are_totals.Goals as goal
 

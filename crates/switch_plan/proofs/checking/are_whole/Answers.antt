@@ -1,6 +1,6 @@
 use Rattle.std.proofs.Common.{List, refl, sym, subst}
 use Rattle.card_core.specs.declared.plan.Planned.{Planned}
-use Rattle.switch_plan.specs.Checking.{AreWhole}
+use Rattle.switch_plan.specs.CheckingSteps.{AreWhole}
 use Rattle.switch_plan.proofs.Totalling.{all_at, all_next, all_end}
 use Rattle.switch_plan.proofs.checking.are_whole.Goals as goal
 

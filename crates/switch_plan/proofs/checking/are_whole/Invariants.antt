@@ -1,7 +1,7 @@
 use Rattle.std.proofs.Common.{take}
 use Rattle.std.specs.Prelude.{All}
-use Rattle.switch_plan.specs.Counting.{packets_of_cards}
-use Rattle.switch_plan.specs.Checking.{AreWhole}
+use Rattle.switch_plan.specs.CountingSteps.{packets_of_cards}
+use Rattle.switch_plan.specs.CheckingSteps.{AreWhole}
 use Rattle.switch_plan.proofs.checking.are_whole.Given as goal
 
 abbrev pub invariant-loop-card : goal.invariant-loop-card

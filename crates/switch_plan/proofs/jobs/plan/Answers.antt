@@ -3,7 +3,7 @@ use Rattle.std.specs.Prelude.{vec_len}
 use Rattle.std.proofs.lemmas.Result.{err_from_is_err_and}
 use Rattle.forward_table.specs.Reading.{reading_of}
 use Rattle.forward_table.specs.Routes.{AreRoutesOf}
-use Rattle.switch_plan.specs.Reading.{bytes_of_files}
+use Rattle.switch_plan.specs.ReadingSteps.{bytes_of_files}
 use Rattle.switch_plan.proofs.Endings.{own_bytes, files_long, told_once, capture_refused, planned_result, refused_result, every_from}
 use Rattle.switch_plan.proofs.jobs.plan.Goals as goal
 

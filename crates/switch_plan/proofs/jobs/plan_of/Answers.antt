@@ -6,9 +6,9 @@ use Rattle.switch_plan.specs.declared.fault.PlanFault.TheVariants.{OutOfMemory}
 use Rattle.switch_plan.specs.Traffic.{file_of, is_nano, pace_of}
 use Rattle.switch_plan.specs.Totals.{most_for}
 use Rattle.switch_plan.specs.Refusals.{first_link, mixed_links, over_work, refusal_of}
-use Rattle.switch_plan.specs.Counting.{packets_of_cards}
+use Rattle.switch_plan.specs.CountingSteps.{packets_of_cards}
 use Rattle.switch_plan.specs.GoodPlans.{switch_plan_of, IsGood, IsPlanOf}
-use Rattle.switch_plan.specs.Cards.{IsPlanWith}
+use Rattle.switch_plan.specs.CardSteps.{IsPlanWith}
 use Rattle.switch_plan.proofs.Alike.{can_be_planned}
 use Rattle.switch_plan.proofs.Goods.{count_is, countable_all, slots_few, long_within, refused_over, refused_work, unrefused, plan_good, plan_is}
 use Rattle.switch_plan.proofs.jobs.plan_of.Goals as goal

@@ -2,8 +2,8 @@ use Rattle.std.proofs.Common.{◌≡◌, ◌∙◌, ◌≤◌, List, length, ap,
 use Rattle.std.specs.Prelude.{sum_by, count_by}
 use Rattle.card_core.specs.declared.plan.CardPlan.{CardPlan}
 use Rattle.switch_plan.specs.Totals.{total_aside}
-use Rattle.switch_plan.specs.Counting.{packets_of_cards}
-use Rattle.switch_plan.specs.Cards.{is_long}
+use Rattle.switch_plan.specs.CountingSteps.{packets_of_cards}
+use Rattle.switch_plan.specs.CardSteps.{is_long}
 use Rattle.switch_plan.proofs.Folding.{length_map}
 use Rattle.switch_plan.proofs.Goods.{aside_few}
 use Rattle.switch_plan.proofs.jobs.plan_with.Goals as goal

@@ -1,8 +1,8 @@
 use Rattle.std.proofs.Common.{◌≡◌, ℕ, ◌+◌, ◌<◌, ◌≤◌, Some, length, take}
 use Rattle.std.specs.Prelude.{slice_get}
 use Rattle.switch_plan.specs.declared.output_rooms.OutputRoom.{OutputRoom}
-use Rattle.switch_plan.specs.Counting.{packets_of_cards}
-use Rattle.switch_plan.specs.AtOutputs.{IsRoomOf}
+use Rattle.switch_plan.specs.CountingSteps.{packets_of_cards}
+use Rattle.switch_plan.specs.OutputSteps.{IsRoomOf}
 use Rattle.switch_plan.proofs.output_rooms.add_port.Given as goal
 
 abbrev pub invariant-loop-output : goal.invariant-loop-output

@@ -1,5 +1,5 @@
 use Rattle.std.proofs.Common.{◌≡◌, [], subst, arith}
-use Rattle.switch_plan.specs.AtOutputs.{AreRoomsOf}
+use Rattle.switch_plan.specs.OutputSteps.{AreRoomsOf}
 use Rattle.switch_plan.proofs.AllPorts.{rooms_push}
 use Rattle.switch_plan.proofs.output_rooms.empty_rooms.Goals as goal
 

@@ -1,7 +1,7 @@
 use Rattle.std.proofs.Common.{◌≤◌, length, subst, arith}
 use Rattle.card_core.specs.declared.plan.CardPlan.{CardPlan}
-use Rattle.switch_plan.specs.Counting.{packets_of_cards}
-use Rattle.switch_plan.specs.AtOutputs.{AreRoomsOf}
+use Rattle.switch_plan.specs.CountingSteps.{packets_of_cards}
+use Rattle.switch_plan.specs.OutputSteps.{AreRoomsOf}
 use Rattle.switch_plan.proofs.Folding.{take_all, length_map}
 use Rattle.switch_plan.proofs.output_rooms.output_rooms.Goals as goal
 

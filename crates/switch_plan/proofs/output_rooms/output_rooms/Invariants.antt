@@ -1,6 +1,6 @@
 use Rattle.std.proofs.Common.{length, take}
-use Rattle.switch_plan.specs.Counting.{packets_of_cards}
-use Rattle.switch_plan.specs.AtOutputs.{AreRoomsOf}
+use Rattle.switch_plan.specs.CountingSteps.{packets_of_cards}
+use Rattle.switch_plan.specs.OutputSteps.{AreRoomsOf}
 use Rattle.switch_plan.proofs.output_rooms.output_rooms.Given as goal
 
 abbrev pub invariant-loop-input : goal.invariant-loop-input

@@ -1,8 +1,8 @@
 use Rattle.std.proofs.Common.{◌≡◌, ℕ, ◌≤◌, Some, length}
 use Rattle.std.specs.Prelude.{slice_get}
 use Rattle.switch_plan.specs.declared.output_rooms.OutputRoom.{OutputRoom}
-use Rattle.switch_plan.specs.Counting.{packets_of_cards}
-use Rattle.switch_plan.specs.AtOutputs.{IsRoomOf}
+use Rattle.switch_plan.specs.CountingSteps.{packets_of_cards}
+use Rattle.switch_plan.specs.OutputSteps.{IsRoomOf}
 use Rattle.switch_plan.proofs.Filling.{AreFilled}
 use Rattle.switch_plan.proofs.output_rooms.with_rooms.Given as goal
 

@@ -2,7 +2,7 @@ use Rattle.std.proofs.Common.{◌≡◌, ◌∙◌, ◌+◌, ◌<◌, ℕ, lengt
 use Rattle.std.specs.Prelude.{slice_set}
 use Rattle.std.proofs.lemmas.Bool.{cases_eq}
 use Rattle.rotating_pick.proofs.Bits.{Has-lt}
-use Rattle.switch_plan.specs.AtOutputs.{room_at, with_message, with_packet, AreFew}
+use Rattle.switch_plan.specs.OutputSteps.{room_at, with_message, with_packet, AreFew}
 use Rattle.switch_plan.proofs.OnePass.{packet_aside, packet_here, packet_else}
 use Rattle.switch_plan.proofs.port_rooms.add_packet.Goals as goal
 

@@ -1,6 +1,6 @@
 use Rattle.std.proofs.Common.{◌≡◌, ℕ, ◌<◌, length}
 use Rattle.rotating_pick.specs.PortSets.{Has}
-use Rattle.switch_plan.specs.AtOutputs.{room_at, with_packet}
+use Rattle.switch_plan.specs.OutputSteps.{room_at, with_packet}
 use Rattle.switch_plan.proofs.port_rooms.add_packet.Given as goal
 
 abbrev pub invariant-loop-output : goal.invariant-loop-output

@@ -1,6 +1,6 @@
 use Rattle.std.proofs.Common.{refl, sym, subst}
 use Rattle.std.proofs.lemmas.List.{get_or-replicate}
-use Rattle.switch_plan.specs.AtOutputs.{no_room, beyond, AreFew}
+use Rattle.switch_plan.specs.OutputSteps.{no_room, beyond, AreFew}
 use Rattle.switch_plan.proofs.OnePass.{room_is_few, rooms_next}
 use Rattle.switch_plan.proofs.port_rooms.port_rooms.Goals as goal
 

@@ -1,5 +1,5 @@
 use Rattle.std.proofs.Common.{◌≡◌, ℕ, ◌<◌, length, take}
-use Rattle.switch_plan.specs.AtOutputs.{room_at, room_for}
+use Rattle.switch_plan.specs.OutputSteps.{room_at, room_for}
 use Rattle.switch_plan.proofs.port_rooms.port_rooms.Given as goal
 
 abbrev pub invariant-loop-packet : goal.invariant-loop-packet

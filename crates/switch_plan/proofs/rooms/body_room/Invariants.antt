@@ -1,7 +1,7 @@
 use Rattle.std.proofs.Common.{◌≡◌, ◌*◌, ◌≤◌, take}
 use Rattle.switch_plan.specs.declared.rooms.TheConstants.{MAX_PORT_BYTES}
 use Rattle.switch_plan.specs.Totals.{body_room_for}
-use Rattle.switch_plan.specs.Counting.{packets_of_cards}
+use Rattle.switch_plan.specs.CountingSteps.{packets_of_cards}
 use Rattle.switch_plan.proofs.rooms.body_room.Given as goal
 
 abbrev pub invariant-loop-card : goal.invariant-loop-card

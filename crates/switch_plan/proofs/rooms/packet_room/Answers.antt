@@ -2,7 +2,7 @@ use Rattle.std.proofs.Common.{◌∙◌, ◌+◌, ◌≤◌, List, length, take,
 use Rattle.std.specs.Prelude.{count_by}
 use Rattle.card_core.specs.declared.plan.Planned.{Planned}
 use Rattle.switch_plan.specs.Totals.{goes_to, packet_room_for}
-use Rattle.switch_plan.specs.Counting.{packets_of_cards}
+use Rattle.switch_plan.specs.CountingSteps.{packets_of_cards}
 use Rattle.switch_plan.proofs.Summing.{countable_at, messages_next}
 use Rattle.switch_plan.proofs.rooms.packet_room.Goals as goal
 

@@ -1,7 +1,7 @@
 use Rattle.std.proofs.Common.{◌≡◌, ◌*◌, ◌≤◌, take}
 use Rattle.card_core.specs.declared.limits.TheConstants.{MAX_ARRIVALS}
 use Rattle.switch_plan.specs.Totals.{packet_room_for}
-use Rattle.switch_plan.specs.Counting.{packets_of_cards}
+use Rattle.switch_plan.specs.CountingSteps.{packets_of_cards}
 use Rattle.switch_plan.proofs.rooms.packet_room.Given as goal
 
 abbrev pub invariant-loop-card : goal.invariant-loop-card

@@ -1,6 +1,6 @@
 use Rattle.std.proofs.Common.{◌≡◌, take}
 use Rattle.switch_plan.specs.Totals.{greatest_slots}
-use Rattle.switch_plan.specs.Counting.{packets_of_cards}
+use Rattle.switch_plan.specs.CountingSteps.{packets_of_cards}
 use Rattle.switch_plan.proofs.totals.greatest_slots.Given as goal
 
 abbrev pub invariant-loop-card : goal.invariant-loop-card

@@ -1,6 +1,6 @@
 use Rattle.std.proofs.Common.{◌≡◌, ◌≤◌, take}
 use Rattle.std.specs.Prelude.{count_by}
-use Rattle.switch_plan.specs.Cards.{is_long}
+use Rattle.switch_plan.specs.CardSteps.{is_long}
 use Rattle.switch_plan.proofs.totals.port_oversize.Given as goal
 
 abbrev pub invariant-loop-packet : goal.invariant-loop-packet

@@ -2,7 +2,7 @@ use Rattle.std.proofs.Common.{◌∙◌, ◌+◌, ◌≤◌, ◌==◌, List, len
 use Rattle.std.specs.Prelude.{count_by}
 use Rattle.card_core.specs.declared.plan.Planned.{Planned}
 use Rattle.switch_plan.specs.Totals.{total_aside}
-use Rattle.switch_plan.specs.Counting.{packets_of_cards}
+use Rattle.switch_plan.specs.CountingSteps.{packets_of_cards}
 use Rattle.switch_plan.proofs.Summing.{countable_at, aside_next}
 use Rattle.switch_plan.proofs.totals.total_aside.Goals as goal
 

@@ -1,7 +1,7 @@
 use Rattle.std.proofs.Common.{◌≡◌, ◌*◌, ◌≤◌, take}
 use Rattle.card_core.specs.declared.limits.TheConstants.{MAX_ARRIVALS}
 use Rattle.switch_plan.specs.Totals.{total_aside}
-use Rattle.switch_plan.specs.Counting.{packets_of_cards}
+use Rattle.switch_plan.specs.CountingSteps.{packets_of_cards}
 use Rattle.switch_plan.proofs.totals.total_aside.Given as goal
 
 abbrev pub invariant-loop-card : goal.invariant-loop-card

@@ -1,8 +1,8 @@
 use Rattle.std.proofs.Common.{◌∙◌, ◌+◌, ◌≤◌, List, length, take, ap, sym, subst, arith}
 use Rattle.std.specs.Prelude.{sum_by, count_by}
 use Rattle.card_core.specs.declared.plan.Planned.{Planned}
-use Rattle.switch_plan.specs.Counting.{packets_of_cards}
-use Rattle.switch_plan.specs.Cards.{is_long}
+use Rattle.switch_plan.specs.CountingSteps.{packets_of_cards}
+use Rattle.switch_plan.specs.CardSteps.{is_long}
 use Rattle.switch_plan.proofs.Summing.{countable_at, oversize_next}
 use Rattle.switch_plan.proofs.totals.total_oversize.Goals as goal
 

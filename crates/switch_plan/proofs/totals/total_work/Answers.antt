@@ -2,7 +2,7 @@ use Rattle.std.proofs.Common.{◌∙◌, ◌+◌, List, take, ap, sym, subst, ar
 use Rattle.std.specs.Prelude.{sum_by}
 use Rattle.card_core.specs.declared.plan.Planned.{Planned}
 use Rattle.switch_plan.specs.Totals.{work_of, total_work}
-use Rattle.switch_plan.specs.Counting.{AreCountable, packets_of_cards}
+use Rattle.switch_plan.specs.CountingSteps.{AreCountable, packets_of_cards}
 use Rattle.switch_plan.proofs.Summing.{countable_at, work_next}
 use Rattle.switch_plan.proofs.totals.total_work.Goals as goal
 

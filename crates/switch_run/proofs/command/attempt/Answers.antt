@@ -2,7 +2,7 @@ use Rattle.std.proofs.Common.{arith}
 use Rattle.std.proofs.lemmas.List.{length-map}
 use Rattle.switch_words.specs.Reading.{job_words}
 use Rattle.job_files.specs.OutputFiles.{shown}
-use Rattle.switch_run.specs.Making.{to_write}
+use Rattle.switch_run.specs.MakingSteps.{to_write}
 use Rattle.switch_run.proofs.Stopping.{done, few_files, write_fault}
 use Rattle.switch_run.proofs.command.attempt.Goals as goal
 

@@ -1,11 +1,11 @@
 use Rattle.std.proofs.Common.{ap, arith, map, refl, string_bytes}
 use Rattle.std.proofs.lemmas.List.{length-map}
-use Rattle.switch_plan.specs.Reading.{bytes_of_files}
+use Rattle.switch_plan.specs.ReadingSteps.{bytes_of_files}
 use Rattle.switch_words.specs.Reading.{firm, firm_words}
 use Rattle.job_files.specs.Jobs.{firm_reads}
 use Rattle.job_files.specs.OutputFiles.{shown}
 use Rattle.job_files.proofs.InputFiles.{read_of_size}
-use Rattle.switch_run.specs.Making.{to_write}
+use Rattle.switch_run.specs.MakingSteps.{to_write}
 use Rattle.switch_run.proofs.RunTexts.{firm_made}
 use Rattle.switch_run.proofs.Stopping.{plan_stops, reading_stops}
 use Rattle.switch_run.proofs.job_texts.texts_of_firm.Goals as goal

@@ -1,10 +1,10 @@
 use Rattle.std.proofs.Common.{ap, map, refl, ◌∙◌}
 use Rattle.slot_report.specs.Lines.{lines_text}
 use Rattle.slot_report.specs.Texts.{summary_lines}
-use Rattle.switch_plan.specs.Reading.{bytes_of_files}
+use Rattle.switch_plan.specs.ReadingSteps.{bytes_of_files}
 use Rattle.switch_words.specs.Reading.{gen}
 use Rattle.job_files.specs.OutputFiles.{shown}
-use Rattle.switch_run.specs.Making.{RunLeft, to_write}
+use Rattle.switch_run.specs.MakingSteps.{RunLeft, to_write}
 use Rattle.switch_run.proofs.RunTexts.{gen_made}
 use Rattle.switch_run.proofs.Stopping.{plan_stops}
 use Rattle.switch_run.proofs.job_texts.texts_of_gen.Goals as goal

@@ -1,6 +1,6 @@
 use Rattle.std.proofs.Common.{arith, refl, string_bytes}
 use Rattle.std.proofs.lemmas.List.{length-map}
-use Rattle.switch_plan.specs.Reading.{bytes_of_files}
+use Rattle.switch_plan.specs.ReadingSteps.{bytes_of_files}
 use Rattle.switch_words.specs.Reading.{run, run_words}
 use Rattle.job_files.specs.Jobs.{run_reads}
 use Rattle.job_files.proofs.InputFiles.{read_of_size}

@@ -1,6 +1,6 @@
 use Rattle.std.proofs.Common.{refl, arith}
 use Rattle.switch_plan.specs.GoodPlans.{switch_plan_of}
-use Rattle.switch_run.specs.Making.{IsJournalOf}
+use Rattle.switch_run.specs.MakingSteps.{IsJournalOf}
 use Rattle.switch_run.proofs.Cutting.{cut_outputs}
 use Rattle.switch_run.proofs.making.run_plan.Goals as goal
 

@@ -1,6 +1,6 @@
 use Rattle.std.proofs.Common.{◌≡◌, ℕ, ◌<◌, subst, arith}
 use Rattle.eslip_rounds.specs.Decisions.{decision_of}
-use Rattle.packet_times.specs.Noting.{HasNoted}
+use Rattle.packet_times.specs.NotingSteps.{HasNoted}
 use Rattle.switch_run.proofs.Noting.{count_of_run, slot_of_journal}
 use Rattle.switch_run.proofs.packets.note_slots.Goals as goal
 

@@ -3,7 +3,7 @@ use Rattle.std.specs.Prelude.{if◌then◌else◌}
 use Rattle.eslip_rounds.specs.Decisions.{decision_of}
 use Rattle.packet_times.specs.Rows.{packets_text}
 use Rattle.whole_run.proofs.Arrivals.{arrivals_first}
-use Rattle.switch_run.specs.Making.{AreTimesOf}
+use Rattle.switch_run.specs.MakingSteps.{AreTimesOf}
 use Rattle.switch_run.proofs.packets.packets_wanted.Goals as goal
 
 pub returns-then-len-clause-stops : goal.returns-then-len-clause-stops

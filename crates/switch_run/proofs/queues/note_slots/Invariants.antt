@@ -1,8 +1,8 @@
 use Rattle.std.proofs.Common.{ℕ}
 use Rattle.eslip_rounds.specs.Decisions.{decision_of}
 use Rattle.switch_plan.specs.GoodPlans.{SwitchPlan}
-use Rattle.queue_measures.specs.Noting.{HasNoted}
-use Rattle.switch_run.specs.Making.{IsJournalOf}
+use Rattle.queue_measures.specs.NotingSteps.{HasNoted}
+use Rattle.switch_run.specs.MakingSteps.{IsJournalOf}
 use Rattle.switch_run.proofs.queues.note_slots.Given as goal
 
 abbrev pub invariant-loop-slot : goal.invariant-loop-slot

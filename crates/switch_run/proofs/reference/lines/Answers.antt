@@ -1,7 +1,7 @@
 use Rattle.std.proofs.Common.{arith}
 use Rattle.std.proofs.lemmas.List.FromFn.{map-range_with_len_more}
 use Rattle.output_queued.specs.Lines.{line_of}
-use Rattle.output_queued.specs.Noting.{cards_in}
+use Rattle.output_queued.specs.NotingSteps.{cards_in}
 use Rattle.switch_run.proofs.reference.lines.Goals as goal
 
 pub loop-output-preserved : goal.loop-output-preserved

@@ -1,7 +1,7 @@
 use Rattle.std.proofs.Common.{◌≡◌, List, map}
 use Rattle.std.specs.List.{range_with_len}
 use Rattle.output_queued.specs.Lines.{line_of}
-use Rattle.output_queued.specs.Noting.{cards_in, HasNoted}
+use Rattle.output_queued.specs.NotingSteps.{cards_in, HasNoted}
 use Rattle.output_queued.specs.Switches.{Matched}
 use Rattle.switch_run.proofs.reference.lines.Given as goal
 

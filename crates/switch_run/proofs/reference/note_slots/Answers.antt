@@ -3,9 +3,9 @@ use Rattle.slot_match.specs.declared.rows.Row.{Row}
 use Rattle.crossbar.specs.declared.cards.Post.{Post}
 use Rattle.slot_histories.specs.Answers.{JournalSlot}
 use Rattle.whole_run.specs.Runs.{run_slot}
-use Rattle.output_queued.specs.Noting.{MayNote}
+use Rattle.output_queued.specs.NotingSteps.{MayNote}
 use Rattle.output_queued.specs.Switches.{Matched}
-use Rattle.reference_run.specs.Meeting.{IsReferenceOf, run_rows}
+use Rattle.reference_run.specs.MeetingSteps.{IsReferenceOf, run_rows}
 use Rattle.reference_run.specs.RunLines.{run_matches}
 use Rattle.switch_run.proofs.Noting.{slot_of_run, count_of_run, noted_more}
 use Rattle.switch_run.proofs.reference.note_slots.Goals as goal

@@ -3,7 +3,7 @@ use Rattle.std.proofs.lemmas.List.FromFn.{length-map-range_with_len}
 use Rattle.slot_report.specs.Lines.{lines_text}
 use Rattle.output_queued.specs.declared.line.RefLine.{RefLine}
 use Rattle.output_queued.specs.Lines.{line_of, lines_of}
-use Rattle.output_queued.specs.Noting.{cards_in}
+use Rattle.output_queued.specs.NotingSteps.{cards_in}
 use Rattle.output_queued.specs.Texts.{reference_lines}
 use Rattle.reference_run.specs.RunLines.{run_lines, run_matches}
 use Rattle.switch_run.proofs.Noting.{lines_of_run}

@@ -1,5 +1,5 @@
 use Rattle.std.proofs.Common.{◌≡◌, map, take}
-use Rattle.switch_run.specs.Making.{line_of_card}
+use Rattle.switch_run.specs.MakingSteps.{line_of_card}
 use Rattle.switch_run.proofs.texts.out_lines.Given as goal
 
 abbrev pub invariant-loop-output : goal.invariant-loop-output

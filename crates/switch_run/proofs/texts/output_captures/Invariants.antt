@@ -1,8 +1,8 @@
 use Rattle.std.proofs.Common.{◌≡◌, ℕ, List, map}
 use Rattle.std.specs.List.{range_with_len}
 use Rattle.pcap_records.specs.Output.{capture_text}
-use Rattle.switch_plan.specs.Reading.{bytes_of_files}
-use Rattle.switch_run.specs.Making.{HaveMessages}
+use Rattle.switch_plan.specs.ReadingSteps.{bytes_of_files}
+use Rattle.switch_run.specs.MakingSteps.{HaveMessages}
 use Rattle.switch_run.proofs.texts.output_captures.Given as goal
 
 abbrev pub invariant-loop-output : goal.invariant-loop-output

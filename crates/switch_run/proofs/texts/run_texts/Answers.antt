@@ -1,6 +1,6 @@
 use Rattle.std.proofs.Common.{option_map, sym, subst}
 use Rattle.switch_words.specs.Reading.{run_words}
-use Rattle.switch_run.specs.Making.{AreTimesOf, IsJournalFor, RunLeft, StopsJournal}
+use Rattle.switch_run.specs.MakingSteps.{AreTimesOf, IsJournalFor, RunLeft, StopsJournal}
 use Rattle.switch_run.proofs.RunTexts.{run_stops, run_stops_packets}
 use Rattle.switch_run.proofs.texts.run_texts.Goals as goal
 

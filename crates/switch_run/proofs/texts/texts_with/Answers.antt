@@ -5,9 +5,9 @@ use Rattle.card_core.specs.declared.outcome.CardOut.{CardOut}
 use Rattle.pcap_records.specs.Output.{capture_text}
 use Rattle.slot_report.specs.Lines.{lines_text}
 use Rattle.slot_report.specs.Texts.{summary_lines}
-use Rattle.switch_plan.specs.Reading.{bytes_of_files}
+use Rattle.switch_plan.specs.ReadingSteps.{bytes_of_files}
 use Rattle.switch_words.specs.Reading.{run_words}
-use Rattle.switch_run.specs.Making.{HaveMessages, RunLeft}
+use Rattle.switch_run.specs.MakingSteps.{HaveMessages, RunLeft}
 use Rattle.switch_jobs.specs.Outcomes.{messages_to}
 use Rattle.switch_run.proofs.RunTexts.{have_messages, is_some-mapped, run_made}
 use Rattle.switch_run.proofs.texts.texts_with.Goals as goal

@@ -1,5 +1,5 @@
 use Rattle.clap.specs.Words.{app_of, rule_of}
-use Rattle.switch_words.specs.Lines.{flag_arg}
+use Rattle.switch_words.specs.LineSteps.{flag_arg}
 use Rattle.switch_words.proofs.RuleLists.{with_rules-more}
 use Rattle.switch_words.proofs.options.with_flags.Goals as goal
 

@@ -1,6 +1,6 @@
 use Rattle.std.proofs.Common.{◌≡◌, map, take}
 use Rattle.clap.specs.Words.{app_of}
-use Rattle.switch_words.specs.Lines.{flag_arg, with_rules}
+use Rattle.switch_words.specs.LineSteps.{flag_arg, with_rules}
 use Rattle.switch_words.proofs.options.with_flags.Given as goal
 
 abbrev pub invariant-loop-id : goal.invariant-loop-id

@@ -1,6 +1,6 @@
 use Rattle.std.proofs.Common.{◌≡◌, map, take}
 use Rattle.clap.specs.Words.{app_of}
-use Rattle.switch_words.specs.Lines.{option_arg, with_rules}
+use Rattle.switch_words.specs.LineSteps.{option_arg, with_rules}
 use Rattle.switch_words.proofs.options.with_options.Given as goal
 
 abbrev pub invariant-loop-id : goal.invariant-loop-id

@@ -11,5 +11,5 @@ join_seat-requires g c = (
   omega (arith, c.requires.words),
   joins g.K.Kept.entries g.K.Kept.numbers g.K.Kept.may_add
       (opening g.K.Kept.entries g.K.Kept.numbers c.args.words.now.key.value.value c.args.words.now.key.seats) c.args.first.now.id c.second.inside.seat.id
-          c.args.first.now.me.0 c.second.inside.seat.me.0 c.requires.first.0 c.requires.first.1 c.second.invariant.live c.second.invariant.phase,
+      c.args.first.now.me.0 c.second.inside.seat.me.0 c.requires.first.0 c.requires.first.1 c.second.invariant.live c.second.invariant.phase,
 )

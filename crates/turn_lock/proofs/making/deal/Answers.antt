@@ -9,5 +9,5 @@ split_seat-requires g c = (
   omega (arith, c.requires.words),
   splits g.K.Kept.entries g.K.Kept.numbers g.K.Kept.may_add
       (opening g.K.Kept.entries g.K.Kept.numbers c.args.words.now.key.value.value c.args.words.now.key.seats) c.args.dealer.now.id c.args.dealer.now.me.0
-          c.requires.live c.requires.phase c.requires.some,
+      c.requires.live c.requires.phase c.requires.some,
 )

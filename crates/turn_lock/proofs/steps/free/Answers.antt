@@ -9,5 +9,5 @@ store-requires g c = (
   omega (arith, c.requires.words),
   free_of g.K.Kept.entries g.K.Kept.numbers g.K.Kept.may_add
       (opening g.K.Kept.entries g.K.Kept.numbers c.args.words.now.key.value.value c.args.words.now.key.seats) c.args.words.now.table_id.slots
-          c.args.seat.now.id c.args.seat.now.me c.requires.live c.requires.may,
+      c.args.seat.now.id c.args.seat.now.me c.requires.live c.requires.may,
 )

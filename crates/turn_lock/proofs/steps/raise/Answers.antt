@@ -9,6 +9,6 @@ store-requires g c = (
   omega (arith, c.requires.words),
   raise_of g.K.Kept.entries g.K.Kept.numbers g.K.Kept.may_add
       (opening g.K.Kept.entries g.K.Kept.numbers c.args.words.now.key.value.value c.args.words.now.key.seats) c.args.words.now.table_id.slots
-          c.args.seat.now.id c.args.seat.now.me c.requires.live.0 c.requires.value.0 c.args.turns c.requires.value.1 c.requires.phase c.requires.turns
-          c.requires.live.1 c.requires.number c.requires.value.2,
+      c.args.seat.now.id c.args.seat.now.me c.requires.live.0 c.requires.value.0 c.args.turns c.requires.value.1 c.requires.phase c.requires.turns
+      c.requires.live.1 c.requires.number c.requires.value.2,
 )

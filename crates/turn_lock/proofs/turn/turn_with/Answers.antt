@@ -12,7 +12,7 @@ free-requires-clause-may g c =
     let got = c.if-not-take.ensures.taken refl in
     let x = c.in-Some.stamped in
     let home = home_is g.K.Kept.entries g.K.Kept.numbers g.K.Kept.may_add c.args.seat.now.me c.take.new.seat.me got x c.take_out.new.seat.me
-        c.put_home.new.seat.me c.take_out.ensures.left c.put_home.ensures.left in
+    c.put_home.new.seat.me c.take_out.ensures.left c.put_home.ensures.left in
     let standing = stands_out g.K.Kept.entries g.K.Kept.numbers g.K.Kept.may_add c.args.seat.now.me c.take.new.seat.me got x c.in-Some.ensures.value in
     let turns : x.turns ≡ length got.history = standing.turns in
     let last : x.turns ≡ 18446744073709551615 = c.if-stamped.true in
@@ -26,7 +26,7 @@ raise-requires-clause-value g c =
     let v = c.args.seat.now.me.0 in
     let es = g.A.Act.adds c.args.act v.opening.numbers (v.opening.first ++ entries_of got.history) in
     let home = home_is g.K.Kept.entries g.K.Kept.numbers g.K.Kept.may_add c.args.seat.now.me c.take.new.seat.me got y c.take_out.new.seat.me
-        c.put_home-2.new.seat.me c.take_out.ensures.left c.put_home-2.ensures.left in
+    c.put_home-2.new.seat.me c.take_out.ensures.left c.put_home-2.ensures.left in
     let grown = entries_after g.K.Kept.entries g.K.Kept.numbers g.K.Kept.may_add c.args.seat.now.me c.take.new.seat.me got x y
     (stands_out g.K.Kept.entries g.K.Kept.numbers g.K.Kept.may_add c.args.seat.now.me c.take.new.seat.me got x c.in-Some.ensures.value)
     (g.A.Act.adds c.args.act) (λ _ _. ⊥) c.apply-out.ensures.entries in
@@ -42,11 +42,11 @@ free-requires-2-clause-may g c =
     let es = g.A.Act.adds c.args.act v.opening.numbers (v.opening.first ++ entries_of got.history) in
     let standing = stands_out g.K.Kept.entries g.K.Kept.numbers g.K.Kept.may_add c.args.seat.now.me c.take.new.seat.me got x c.in-Some.ensures.value in
     let home = home_is g.K.Kept.entries g.K.Kept.numbers g.K.Kept.may_add c.args.seat.now.me c.take.new.seat.me got y c.take_out.new.seat.me
-        c.put_home-2.new.seat.me c.take_out.ensures.left c.put_home-2.ensures.left in
+    c.put_home-2.new.seat.me c.take_out.ensures.left c.put_home-2.ensures.left in
     let grown = entries_after g.K.Kept.entries g.K.Kept.numbers g.K.Kept.may_add c.args.seat.now.me c.take.new.seat.me got x y standing
     (g.A.Act.adds c.args.act) (λ _ _. ⊥) c.apply-out.ensures.entries in
     let up = raised_is g.K.Kept.entries g.K.Kept.numbers g.K.Kept.may_add v got.history y es c.put_home-2.new.seat.me c.raise.new.seat.me home grown
-        c.raise.ensures.raised in
+    c.raise.ensures.raised in
     may_free g.K.Kept.entries g.K.Kept.numbers g.K.Kept.may_add v got.history y es c.raise.new.seat.me up grown (ap (λ n. n + 1) standing.turns)
     (c.apply-out.ensures.numbers ∙ standing.numbers_are)
 
@@ -59,11 +59,11 @@ returns-clause-turn g c =
     let es = g.A.Act.adds c.args.act v.opening.numbers (v.opening.first ++ entries_of got.history) in
     let standing = stands_out g.K.Kept.entries g.K.Kept.numbers g.K.Kept.may_add c.args.seat.now.me c.take.new.seat.me got x c.in-Some.ensures.value in
     let home = home_is g.K.Kept.entries g.K.Kept.numbers g.K.Kept.may_add c.args.seat.now.me c.take.new.seat.me got y c.take_out.new.seat.me
-        c.put_home-2.new.seat.me c.take_out.ensures.left c.put_home-2.ensures.left in
+    c.put_home-2.new.seat.me c.take_out.ensures.left c.put_home-2.ensures.left in
     let grown = entries_after g.K.Kept.entries g.K.Kept.numbers g.K.Kept.may_add c.args.seat.now.me c.take.new.seat.me got x y standing
     (g.A.Act.adds c.args.act) (λ _ _. ⊥) c.apply-out.ensures.entries in
     let up = raised_is g.K.Kept.entries g.K.Kept.numbers g.K.Kept.may_add v got.history y es c.put_home-2.new.seat.me c.raise.new.seat.me home grown
-        c.raise.ensures.raised in
+    c.raise.ensures.raised in
     whole_turn g.K.Kept.entries g.K.Kept.numbers g.K.Kept.may_add c.args.seat.now.me c.take.new.seat.me got x y standing (g.A.Act.adds c.args.act)
     (λ numbers entries. g.A.Act.answers c.args.act numbers entries c.apply-out.result) c.raise.new.seat.me c.free-2.new.seat.me up c.free-2.ensures.freed
     (c.requires.allowed (v.opening.first ++ entries_of got.history)) c.requires.number refl c.apply-out.ensures.answer

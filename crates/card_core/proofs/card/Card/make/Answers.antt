@@ -1,7 +1,8 @@
 use Rattle.std.proofs.Common.{◌∙◌, ◌<◌, ◌≤◌, ℕ, List, [], length, map, false, slice_index_or, sym, ap, subst}
 use Rattle.reassembly.specs.Flows.{fresh}
 use Rattle.card_core.specs.Plans.{plan_of}
-use Rattle.card_core.specs.Cards.{IsAfter, card_of}
+use Rattle.card_core.specs.Cards.{IsAfter}
+use Rattle.card_core.specs.CardSteps.{card_of}
 use Rattle.card_core.proofs.Standing.{begun_after}
 use Rattle.card_core.proofs.Collecting.{received_of}
 use Rattle.card_core.proofs.card.Card.make.Goals as goal

@@ -1,6 +1,6 @@
 use Rattle.std.proofs.Common.{◌≡◌, ◌*◌, ℕ, zero, suc, List, [], ◌∷◌, map, length, slice_index_or, sym, subst, arith, refl}
 use Rattle.reassembly.specs.Flows.{fresh}
-use Rattle.card_core.specs.Cards.{AreFull, IsRoom}
+use Rattle.card_core.specs.CardSteps.{AreFull, IsRoom}
 use Rattle.card_core.proofs.egress.Egress.make.Goals as goal
 
 fresh_at : (sizes : List ℕ) (place : ℕ)

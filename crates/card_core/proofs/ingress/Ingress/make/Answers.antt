@@ -1,7 +1,8 @@
 use Rattle.std.proofs.Common.{◌≡◌, ◌∙◌, ◌<◌, ◌≤◌, ℕ, List, [], false, None, slice_get, slice_index, slice_index_or, length, refl, sym, ap, subst, arith}
 use Rattle.std.proofs.lemmas.List.{get_or_default}
 use Rattle.card_core.specs.Plans.{Plan, IsGoodPlan, plan_of}
-use Rattle.card_core.specs.States.{HasRooms, HasSent, state_of}
+use Rattle.card_core.specs.States.{HasSent, state_of}
+use Rattle.card_core.specs.StateSteps.{HasRooms}
 use Rattle.voq_banks.specs.Queues.{Queues as UniQueues, empty_queues as empty_unis}
 use Rattle.multicast_queue.specs.FanQueues.{Queues as FanQueues, empty_queues as empty_fans}
 use Rattle.slot_match.specs.declared.rows.Row.{Row}

@@ -1,7 +1,8 @@
 use Rattle.std.proofs.Common.{◌∙◌, List, length, false, ap, sym, subst, arith}
 use Rattle.card_core.specs.declared.plan.Planned.{Planned}
 use Rattle.card_core.specs.Posts.{post_at}
-use Rattle.card_core.specs.States.{State, HasSent, next_in}
+use Rattle.card_core.specs.States.{State, HasSent}
+use Rattle.card_core.specs.StateSteps.{next_in}
 use Rattle.card_core.proofs.Plenty.{few_packets}
 use Rattle.card_core.proofs.Posted.{may_arrive, few, next_few, posted_is, post_is}
 use Rattle.card_core.specs.contracts.ingress.Ingress.{the_view}
@@ -58,7 +59,7 @@ overflow_add-self c =
     let posted = ap (λ (b : State). b.posted) c.self.view_is ∙ c.requires.posted in
     let was = subst (HasSent (the_view c.self.inside) c.self.invariant.0) posted c.self.invariant.1 in
     let f = next_few (the_view c.self.inside) c.self.invariant.0 was c.arriving-arrived.result c.enter-count.result c.enter-count.new.banks
-        c.enter-count.new.fans (c.arriving-arrived.ensures
-        ∙ ap (λ (ps : List Planned). next_in ps c.self.inside.next c.self.inside.slot) c.deref.ensures.value) c.enter-count.ensures in
+    c.enter-count.new.fans (c.arriving-arrived.ensures
+    ∙ ap (λ (ps : List Planned). next_in ps c.self.inside.next c.self.inside.slot) c.deref.ensures.value) c.enter-count.ensures in
     let all = few_packets (the_view c.self.inside).plan was.plan in
     omega (arith, f, all)

@@ -3,7 +3,8 @@ use Rattle.slot_match.specs.declared.matching.Served.{Served}
 use Rattle.voq_banks.specs.Queues.{Queues as UniQueues}
 use Rattle.multicast_queue.specs.FanQueues.{Queues as FanQueues}
 use Rattle.slot_histories.specs.Parts.{IsPartOf}
-use Rattle.card_core.specs.States.{State, HasSent, Leaves}
+use Rattle.card_core.specs.States.{State, HasSent}
+use Rattle.card_core.specs.StateSteps.{Leaves}
 use Rattle.card_core.proofs.After.{may_leave, taken, take_none, take_some, Named, named-of, cell-is, part-of}
 use Rattle.card_core.specs.contracts.ingress.Ingress.{the_view}
 use Rattle.card_core.proofs.ingress.Ingress.take.Goals as goal
@@ -28,7 +29,7 @@ places c =
     let was = subst (HasSent (the_view c.self.inside) c.self.invariant.0) posted c.self.invariant.1 in
     let may = part-of _ _ c.args.served c.in-Some.part c.requires.servable (sym (ap (λ (b : State). b.row) c.self.view_is)) c.in-Some.is in
     named (the_view c.self.inside) c.self.invariant.0 was c.in-Some.part may c.leave-name.result c.leave-name.new.banks c.leave-name.new.fans
-        c.leave-name.ensures
+    c.leave-name.ensures
 
 pub cell_for-requires-clause-there : goal.cell_for-requires-clause-there
 cell_for-requires-clause-there c = (places c).there

@@ -3,7 +3,7 @@ use Rattle.firm_rounds.specs.Decisions.{firm_decision}
 use Rattle.slot_histories.specs.Slots.{is_done_before}
 use Rattle.switch_plan.specs.GoodPlans.{SwitchPlan, IsGood}
 use Rattle.whole_run.specs.Runs.{ports_of, posts_under}
-use Rattle.firm_run.specs.Standing.{IsBefore}
+use Rattle.firm_run.specs.StandingSteps.{IsBefore}
 use Rattle.firm_run.proofs.switch.Switch.run.Given as goal
 
 abbrev pub invariant-loop-slot : goal.invariant-loop-slot

@@ -4,7 +4,7 @@ use Rattle.std.proofs.lemmas.List.{get_or_default}
 use Rattle.forward_table.specs.declared.faults.TableFault.TheVariants.{Repeated}
 use Rattle.forward_table.specs.declared.route_lines.RouteLine.{RouteLine}
 use Rattle.forward_table.specs.Reading.{line_with}
-use Rattle.forward_table.specs.Index.{no_line, IsGapFor, IsPlaceOf}
+use Rattle.forward_table.specs.IndexSteps.{no_line, IsGapFor, IsPlaceOf}
 use Rattle.forward_table.proofs.Indexing.{IsIndexed-push, AreLengths-push, line_at, line_in_gap}
 use Rattle.forward_table.proofs.lookup.Table.with_line.Goals as goal
 

@@ -1,6 +1,6 @@
 use Rattle.std.proofs.Common.{◌≡◌, ◌∙◌, ◌++◌, ◌∷◌, [], ℕ, None, length, take, refl, sym, subst}
 use Rattle.service_bound.specs.Waits.{NotedSlot}
-use Rattle.service_bound.specs.Meters.{HasNoted}
+use Rattle.service_bound.specs.MeterSteps.{HasNoted}
 use Rattle.journal_check.specs.Lawful.{after_slot, failure_in}
 use Rattle.journal_check.specs.Steps.{before_of}
 use Rattle.journal_check.proofs.Judged.{passed, noted_same}

@@ -8,5 +8,5 @@ returns-in-Some c file count ports judged =
 pub returns-in-None : goal.returns-in-None
 returns-in-None c file count ports judged =
     yes_verdict file c.args.self.now c.args.slots c.longest.result c.longest-in-None.result c.longest-in-None-2.result c.longest-in-None-3.result count ports
-        judged (c.in-None.ensures file.ports file.rounds)
+    judged (c.in-None.ensures file.ports file.rounds)
     c.longest.ensures c.longest-in-None.ensures c.longest-in-None-2.ensures c.longest-in-None-3.ensures

@@ -2,7 +2,7 @@ use Rattle.std.proofs.Common.{◌∙◌, ◌≢◌, ◌<◌, ◌≤◌, ◌+◌,
 use Rattle.rotating_pick.specs.PortSets.{Has, IsAmong}
 use Rattle.rotating_pick.proofs.Bits.{no_member-zero}
 use Rattle.multicast_queue.specs.FanQueues.{queue_at, queue_with}
-use Rattle.multicast_queue.specs.Fields.{IsKept}
+use Rattle.multicast_queue.specs.FieldSteps.{IsKept}
 use Rattle.multicast_queue.proofs.Levels.{read_is, queue-of_kept, queue-set, others-set, AreKept-set, IsKept-admitted}
 use Rattle.multicast_queue.proofs.fan_queues.FanQueues.admit.Goals as goal
 

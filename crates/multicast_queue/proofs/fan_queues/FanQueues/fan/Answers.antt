@@ -1,6 +1,6 @@
 use Rattle.std.proofs.Common.{◌<◌, subst, arith, slice_index_or}
 use Rattle.rotating_pick.specs.PortSets.{Has}
-use Rattle.multicast_queue.specs.Fields.{IsKept}
+use Rattle.multicast_queue.specs.FieldSteps.{IsKept}
 use Rattle.multicast_queue.proofs.Rests.{rest-in}
 use Rattle.multicast_queue.proofs.Levels.{read_is}
 use Rattle.multicast_queue.proofs.fan_queues.FanQueues.fan.Goals as goal

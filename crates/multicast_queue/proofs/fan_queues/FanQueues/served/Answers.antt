@@ -1,7 +1,7 @@
 use Rattle.std.proofs.Common.{◌∙◌, ◌↔◌, ℕ, ◌<◌, ap, sym, subst, arith, slice_index_or, length, drop, IsTrue}
 use Rattle.rotating_pick.specs.PortSets.{Has}
 use Rattle.multicast_queue.specs.FanQueues.{FanQueue, HeadStays, queue_at}
-use Rattle.multicast_queue.specs.Fields.{IsKept}
+use Rattle.multicast_queue.specs.FieldSteps.{IsKept}
 use Rattle.multicast_queue.proofs.Rests.{some_wait}
 use Rattle.multicast_queue.proofs.Levels.{read_is, queue-of_kept, queue-set, others-set, AreKept-set, IsKept-served}
 use Rattle.multicast_queue.proofs.fan_queues.FanQueues.served.Goals as goal

@@ -1,9 +1,9 @@
 use Rattle.std.proofs.Common.{rules, ◌≡◌, ◌∙◌, ◌+◌, ◌<◌, List, map, length, Some, None, slice_get, ap, sym, subst, arith, if◌then◌else◌}
 use Rattle.std.specs.Option.{option_map}
-use Rattle.card_core.specs.States.{next_in}
+use Rattle.card_core.specs.StateSteps.{next_in}
 use Rattle.output_queued.specs.declared.coming.Coming.{Coming}
 use Rattle.output_queued.specs.Switches.{planned_of, card_for}
-use Rattle.output_queued.specs.Noting.{Source, IsBefore}
+use Rattle.output_queued.specs.NotingSteps.{Source, IsBefore}
 use Rattle.output_queued.specs.Steps.{IsPart, HasEntered}
 use Rattle.output_queued.specs.contracts.inputs.Input.{the_view}
 use Rattle.output_queued.proofs.LookedAt.{some_lt}

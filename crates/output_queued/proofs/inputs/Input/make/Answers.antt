@@ -1,7 +1,7 @@
 use Rattle.std.proofs.Common.{◌∙◌, ◌<◌, ◌≤◌, ℕ, List, map, slice_index, slice_index_or, length, ap, sym, subst, arith}
 use Rattle.std.proofs.lemmas.List.{get_or_default}
 use Rattle.voq_banks.specs.Queues.{empty_queues as empty_unis}
-use Rattle.card_core.specs.States.{HasRooms}
+use Rattle.card_core.specs.StateSteps.{HasRooms}
 use Rattle.output_queued.specs.Switches.{planned_of}
 use Rattle.output_queued.proofs.Sources.{few_coming, begins_as}
 use Rattle.output_queued.proofs.inputs.Input.make.Goals as goal

@@ -1,7 +1,7 @@
 use Rattle.std.proofs.Common.{◌∙◌, ap}
-use Rattle.card_core.specs.States.{row_of}
+use Rattle.card_core.specs.StateSteps.{row_of}
 use Rattle.card_core.proofs.Sets.{mask_is, row-by}
-use Rattle.output_queued.specs.Noting.{Source}
+use Rattle.output_queued.specs.NotingSteps.{Source}
 use Rattle.output_queued.proofs.inputs.Input.row.Goals as goal
 
 pub returns : goal.returns

@@ -1,4 +1,4 @@
-use Rattle.output_queued.specs.Noting.{cards_in}
+use Rattle.output_queued.specs.NotingSteps.{cards_in}
 use Rattle.output_queued.proofs.Runs.{ran-behind}
 use Rattle.output_queued.proofs.Noted.{cards-in-good}
 use Rattle.output_queued.proofs.reference.Reference.line.Goals as goal

@@ -2,9 +2,9 @@ use Rattle.std.proofs.Common.{◌≡◌, ◌∙◌, List, [], length, ap, sym, s
 use Rattle.std.proofs.lemmas.List.{length-replicate}
 use Rattle.output_queued.specs.declared.tally.Tally.{Tally}
 use Rattle.output_queued.specs.Switches.{IsSwitch}
-use Rattle.output_queued.specs.Noting.{no_tally, tally_at}
+use Rattle.output_queued.specs.NotingSteps.{no_tally, tally_at}
 use Rattle.output_queued.specs.Steps.{HaveEntered}
-use Rattle.output_queued.proofs.Noted.{no_tallies, first-stand, first-noted, first-same}
+use Rattle.output_queued.proofs.FirstNoted.{no_tallies, first-stand, first-noted, first-same}
 use Rattle.output_queued.proofs.reference.Reference.make.Goals as goal
 
 pub let_in-unserved-requires-clause-stand : goal.let_in-unserved-requires-clause-stand

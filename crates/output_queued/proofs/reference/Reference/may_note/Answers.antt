@@ -1,7 +1,7 @@
 use Rattle.std.proofs.Common.{◌≡◌, ◌∙◌, Bool, true, false, map, ap, sym, subst, arith}
 use Rattle.std.proofs.lemmas.Bool.{eqb-true, eq-eqb, le-ltb}
-use Rattle.card_core.specs.States.{row_of}
-use Rattle.output_queued.specs.Noting.{Source, State, MayNote}
+use Rattle.card_core.specs.StateSteps.{row_of}
+use Rattle.output_queued.specs.NotingSteps.{Source, State, MayNote}
 use Rattle.output_queued.specs.contracts.reference.Reference.{the_view}
 use Rattle.output_queued.proofs.Noted.{note_from, note_rows, note_ports}
 use Rattle.output_queued.proofs.reference.Reference.may_note.Goals as goal

@@ -1,6 +1,6 @@
 use Rattle.std.proofs.Common.{◌∙◌, ◌++◌, ◌∷◌, [], ap, sym, subst, arith}
 use Rattle.output_queued.specs.Switches.{served_in}
-use Rattle.output_queued.specs.Noting.{State, HasNoted, MayNote}
+use Rattle.output_queued.specs.NotingSteps.{State, HasNoted, MayNote}
 use Rattle.output_queued.specs.contracts.reference.Reference.{the_view}
 use Rattle.output_queued.proofs.Noted.{coming_of, sources-long, rows-are, follows, may-take, stand, coming-stays, noted-next}
 use Rattle.output_queued.proofs.reference.Reference.note.Goals as goal

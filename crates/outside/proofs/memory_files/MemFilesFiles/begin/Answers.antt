@@ -24,4 +24,4 @@ returns-in-Err-clause-counts c p =
     let m = c.self.inside in
     rw (← c.self.view_is, ← c.in-Err.ensures.err)
     (begin_counted c.args.name.now c.begin_file.new.files.items c.count_fault-in-Err.new.files.items m.elsewhere c.count_fault-in-Err.new.elsewhere
-        m.out.items m.err.items c.count_fault-in-Err.ensures p)
+    m.out.items m.err.items c.count_fault-in-Err.ensures p)

@@ -2,7 +2,7 @@ use Rattle.std.proofs.Common.{◌≡◌, ◌∙◌, length, refl, ap, sym, subst
 use Rattle.std.specs.Prelude.{Some, None}
 use Rattle.card_core.specs.Posts.{row_at}
 use Rattle.queue_lengths.specs.Counters.{arrival_in}
-use Rattle.packet_times.specs.Noting.{Input, IsNoted}
+use Rattle.packet_times.specs.NotingSteps.{Input, IsNoted}
 use Rattle.packet_times.specs.contracts.inputs.Input.{the_view}
 use Rattle.packet_times.proofs.Arriving.{noted-none, noted-some, failed}
 use Rattle.packet_times.proofs.inputs.Input.note.Goals as goal

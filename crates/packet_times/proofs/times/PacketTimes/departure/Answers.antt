@@ -5,8 +5,8 @@ use Rattle.std.proofs.lemmas.List.{get_or_default}
 use Rattle.rotating_pick.specs.declared.limits.TheConstants.{LEVELS}
 use Rattle.whole_run.specs.Runs.{ports_of}
 use Rattle.packet_departures.specs.Departures.{Flow, departure_under}
-use Rattle.packet_times.specs.Noting.{Times, HasNoted, flow_place}
-use Rattle.packet_times.specs.Walking.{own_place}
+use Rattle.packet_times.specs.NotingSteps.{Times, HasNoted, flow_place}
+use Rattle.packet_times.specs.WalkingSteps.{own_place}
 use Rattle.packet_times.proofs.Walked.{few-inputs, planned-is, departure-is}
 use Rattle.packet_times.proofs.times.PacketTimes.departure.Goals as goal
 use Rattle.packet_times.proofs.times.PacketTimes.departure.Goals.{then-not-is_flow-via-then-not-is_flow}

@@ -5,7 +5,7 @@ use Rattle.slot_match.specs.declared.matching.Fed.{Fed}
 use Rattle.crossbar.specs.declared.cards.Post.{Post}
 use Rattle.crossbar.specs.Crossing.{fetched}
 use Rattle.whole_run.specs.Runs.{ports_of}
-use Rattle.packet_times.specs.Noting.{Input, Times, HasNoted}
+use Rattle.packet_times.specs.NotingSteps.{Input, Times, HasNoted}
 use Rattle.packet_times.specs.Steps.{HasEnds, AreNoted}
 use Rattle.packet_times.specs.contracts.times.PacketTimes.{the_view}
 use Rattle.packet_times.proofs.Noted.{are-noted, all-noted}

@@ -7,9 +7,9 @@ use Rattle.card_core.specs.declared.plan.Planned.{Planned}
 use Rattle.card_core.specs.Plans.{kind_of, queue_of, no_packet}
 use Rattle.whole_run.specs.Runs.{ports_of, card_at, parts_under}
 use Rattle.packet_times.specs.declared.walk.Outcome.{Outcome}
-use Rattle.packet_times.specs.Noting.{Input, Times, was_admitted}
+use Rattle.packet_times.specs.NotingSteps.{Input, Times, was_admitted}
 use Rattle.packet_times.specs.Rows.{row_text, packet_rows}
-use Rattle.packet_times.specs.Walking.{IsCounted, HasGone, IsOutcome}
+use Rattle.packet_times.specs.WalkingSteps.{IsCounted, HasGone, IsOutcome}
 use Rattle.packet_times.proofs.Walked.{gone-first, gone-more, gone-same, planned-is, own-packets, few-own, own-outcome}
 use Rattle.packet_times.proofs.Rowing.{walk-more, walk-all}
 use Rattle.packet_times.proofs.times.PacketTimes.put_input.Goals as goal

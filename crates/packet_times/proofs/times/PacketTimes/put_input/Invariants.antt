@@ -3,9 +3,9 @@ use Rattle.std.specs.List.{flat_map, enumerate_from}
 use Rattle.eslip_rounds.specs.Schedulers.{Scheduler}
 use Rattle.switch_plan.specs.GoodPlans.{SwitchPlan}
 use Rattle.whole_run.specs.Promises.{ArrivalsComeFirst}
-use Rattle.packet_times.specs.Noting.{HasNoted}
+use Rattle.packet_times.specs.NotingSteps.{HasNoted}
 use Rattle.packet_times.specs.Rows.{row_text, packet_rows}
-use Rattle.packet_times.specs.Walking.{HasGone}
+use Rattle.packet_times.specs.WalkingSteps.{HasGone}
 use Rattle.packet_times.proofs.times.PacketTimes.put_input.Given as goal
 
 abbrev pub invariant-loop-number : goal.invariant-loop-number

@@ -2,7 +2,7 @@ use Rattle.std.proofs.Common.{◌≡◌, ◌∙◌, ◌<◌, ◌+◌, ◌++◌, 
 use Rattle.std.specs.List.{flat_map}
 use Rattle.whole_run.specs.Runs.{ports_of, card_at, parts_under}
 use Rattle.packet_times.specs.Rows.{row_text}
-use Rattle.packet_times.specs.Walking.{rows_to}
+use Rattle.packet_times.specs.WalkingSteps.{rows_to}
 use Rattle.packet_times.proofs.Walked.{few-inputs}
 use Rattle.packet_times.proofs.Rowing.{row-is, row-yes, row-no, rows-all}
 use Rattle.packet_times.proofs.times.PacketTimes.put_routed.Goals as goal

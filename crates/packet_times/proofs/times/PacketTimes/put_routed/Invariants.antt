@@ -3,9 +3,9 @@ use Rattle.std.specs.List.{flat_map, range_with_len}
 use Rattle.eslip_rounds.specs.Schedulers.{Scheduler}
 use Rattle.slot_histories.specs.Tests.{has}
 use Rattle.switch_plan.specs.GoodPlans.{SwitchPlan}
-use Rattle.packet_times.specs.Noting.{HasNoted}
+use Rattle.packet_times.specs.NotingSteps.{HasNoted}
 use Rattle.packet_times.specs.Rows.{row_text}
-use Rattle.packet_times.specs.Walking.{HasGone, IsOutcome, rows_to}
+use Rattle.packet_times.specs.WalkingSteps.{HasGone, IsOutcome, rows_to}
 use Rattle.packet_times.proofs.times.PacketTimes.put_routed.Given as goal
 
 abbrev pub invariant-loop-output : goal.invariant-loop-output

@@ -4,7 +4,7 @@ use Rattle.std.proofs.lemmas.List.{with_items_is, places}
 use Rattle.card_core.specs.declared.plan.Planned.{Planned}
 use Rattle.slot_match.specs.declared.matching.Served.{Served}
 use Rattle.card_core.specs.Plans.{Plan}
-use Rattle.card_core.specs.States.{next_in}
+use Rattle.card_core.specs.StateSteps.{next_in}
 use Rattle.card_core.proofs.After.{some_in}
 use Rattle.card_core.proofs.Plenty.{few_packets}
 use Rattle.queue_lengths.specs.Counters.{Counters, CountBefore, CountIn, arrival_in}

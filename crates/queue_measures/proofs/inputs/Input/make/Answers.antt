@@ -2,9 +2,9 @@ use Rattle.std.proofs.Common.{◌≡◌, ◌∙◌, ℕ, zero, suc, refl, ◌<�
 use Rattle.card_core.specs.Plans.{plan_of}
 use Rattle.queue_lengths.specs.Lengths.{place_of}
 use Rattle.queue_measures.specs.declared.numbers.QueueNumbers.{QueueNumbers}
-use Rattle.queue_measures.specs.Noting.{no_numbers}
+use Rattle.queue_measures.specs.NotingSteps.{no_numbers}
 use Rattle.queue_measures.proofs.SoFar.{numbers-first}
-use Rattle.queue_measures.proofs.Counting.{place-inside}
+use Rattle.queue_lengths.proofs.Places.{place-inside}
 use Rattle.queue_measures.proofs.inputs.Input.make.Goals as goal
 
 all-same : (n k : ℕ) → k < n → slice_index_or (replicate n no_numbers) k no_numbers ≡ no_numbers

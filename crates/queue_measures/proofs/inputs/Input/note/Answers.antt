@@ -1,6 +1,6 @@
 use Rattle.std.proofs.Common.{◌≡◌, ◌∙◌, ◌++◌, ℕ, List, length, take, drop, ap, sym, subst, arith}
 use Rattle.std.proofs.lemmas.List.{append-nil, take_all, drop_all}
-use Rattle.queue_measures.specs.Noting.{Input, IsNoted}
+use Rattle.queue_measures.specs.NotingSteps.{Input, IsNoted}
 use Rattle.queue_measures.specs.Steps.{MayCount, with_arrivals}
 use Rattle.queue_measures.proofs.Counting.{noted-may, noted-next, with_arrivals-count}
 use Rattle.queue_measures.proofs.inputs.Input.note.Goals as goal

@@ -5,7 +5,7 @@ use Rattle.card_core.specs.Plans.{Plan, plan_of}
 use Rattle.switch_plan.specs.GoodPlans.{switch_plan_of}
 use Rattle.whole_run.specs.Runs.{card_at, no_plan}
 use Rattle.whole_run.proofs.Base.{served-is}
-use Rattle.queue_measures.specs.Noting.{Input, IsNoted, no_input}
+use Rattle.queue_measures.specs.NotingSteps.{Input, IsNoted, no_input}
 use Rattle.queue_measures.proofs.Slots.{noted-more}
 use Rattle.queue_measures.proofs.measures.QueueMeasures.make.Goals as goal
 

@@ -1,7 +1,7 @@
 use Rattle.std.proofs.Common.{◌≡◌, ◌∙◌, ◌++◌, ◌<◌, [], length, slice_index_or, ap, arith, string_bytes}
 use Rattle.std.proofs.lemmas.List.{get_or_default}
 use Rattle.slot_report.proofs.Appending.{place_more, places_all}
-use Rattle.queue_measures.specs.Noting.{no_input}
+use Rattle.queue_measures.specs.NotingSteps.{no_input}
 use Rattle.queue_measures.specs.Steps.{input_text, numbers_text}
 use Rattle.queue_measures.proofs.Report.{report-is}
 use Rattle.queue_measures.proofs.measures.QueueMeasures.text.Goals as goal

@@ -1,6 +1,6 @@
 use Rattle.std.proofs.Common.{arith, refl, sym, [], ◌∷◌, ◌++◌, ap, ◌∙◌, ◌≡◌, ◌<◌, length, slice_set}
 use Rattle.reassembly.specs.Flows.{after_cell, flow_of}
-use Rattle.reassembly.specs.Buffers.{flows_in}
+use Rattle.reassembly.specs.BufferSteps.{flows_in}
 use Rattle.reassembly.specs.Cutting.{messages_of}
 use Rattle.reassembly.proofs.Pieces.{messages_of-last}
 use Rattle.reassembly.proofs.Storing.{flows-put, message-put, kind_byte-lt}
@@ -25,13 +25,13 @@ stands : (c : After-add) → flows_in c.self.inside.ports
     (slice_set c.self.inside.buffers.items c.place_of-place.result c.add.new.self) ≡ after_cell c.args.self.now c.args.cell.now
 stands c =
     flows-put c.self.inside.ports c.self.inside.buffers.items c.args.cell.now c.place_of-place.result c.index_mut.result.now c.add.new.self c.args.self.now
-        c.self.view_is c.place_of-place.ensures (in_place c) c.index_mut.ensures.value c.add.ensures
+    c.self.view_is c.place_of-place.ensures (in_place c) c.index_mut.ensures.value c.add.ensures
 
 pub returns-then-cell : goal.returns-then-cell
 returns-then-cell c =
     let shown = message-put c.self.inside.ports c.self.inside.buffers.items c.args.cell.now c.place_of-place.result c.index_mut.result.now c.add.new.self
-        c.index.result.now c.args.self.now c.self.view_is c.place_of-place.ensures
-        (in_place (goal.at.returns-then-cell c).After-add) c.index_mut.ensures.value c.add.ensures c.index.ensures in (
+    c.index.result.now c.args.self.now c.self.view_is c.place_of-place.ensures
+    (in_place (goal.at.returns-then-cell c).After-add) c.index_mut.ensures.value c.add.ensures c.index.ensures in (
       (refl, λ _. tt, stands (goal.at.returns-then-cell c).After-add),
       record {
         after = tt;

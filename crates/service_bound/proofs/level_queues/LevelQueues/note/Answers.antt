@@ -1,7 +1,7 @@
 use Rattle.std.proofs.Common.{◌≡◌, ◌∙◌, ℕ, ◌<◌, eqb, max, length, subst, sym, ap}
 use Rattle.std.specs.Int.{bit_at}
 use Rattle.rotating_pick.specs.PortSets.{Has}
-use Rattle.service_bound.specs.Meters.{NotesSlot, Queues, longest_of, HaveBegun}
+use Rattle.service_bound.specs.MeterSteps.{NotesSlot, Queues, longest_of, HaveBegun}
 use Rattle.service_bound.proofs.Levels.{NotesSlot-on, NotesSlot-same}
 use Rattle.service_bound.proofs.level_queues.LevelQueues.note.Goals as goal
 
@@ -27,4 +27,4 @@ returns c =
     subst (λ (q : Queues). NotesSlot c.args.count (λ j. eqb (bit_at c.args.outputs j) 1) q
     (record { waiting = c.args.outputs; began = c.begin.new.began; ended = c.max-self-inside.result })) same
     (NotesSlot-on c.args.count c.args.outputs old c.begin.new.began c.difference-ended.result c.difference.result c.max-self-inside.result
-        c.difference-ended.ensures c.difference.ensures c.begin.auto.began inside begun c.begin.ensures.begun c.begin.ensures.others longest)
+    c.difference-ended.ensures c.difference.ensures c.begin.auto.began inside begun c.begin.ensures.begun c.begin.ensures.others longest)

@@ -1,7 +1,7 @@
 use Rattle.std.proofs.Common.{◌≡◌, ◌∙◌, ◌<◌, max, length, map, ap, subst, sym, arith}
 use Rattle.std.specs.List.{range_with_len}
 use Rattle.service_bound.specs.Waits.{greatest, longest_wait}
-use Rattle.service_bound.specs.Meters.{Queues, Meter, place_of, queues_at, longest_at, HaveBegun, HasNoted}
+use Rattle.service_bound.specs.MeterSteps.{Queues, Meter, place_of, queues_at, longest_at, HaveBegun, HasNoted}
 use Rattle.service_bound.proofs.Greatest.{greatest-more}
 use Rattle.service_bound.proofs.Noting.{found_is, AreBegun-noted, longest-noted}
 use Rattle.service_bound.proofs.meter.WaitMeter.longest.Goals as goal

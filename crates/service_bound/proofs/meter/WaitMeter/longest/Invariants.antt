@@ -1,7 +1,7 @@
 use Rattle.std.proofs.Common.{◌≡◌, map}
 use Rattle.std.specs.List.{range_with_len}
 use Rattle.service_bound.specs.Waits.{greatest}
-use Rattle.service_bound.specs.Meters.{place_of, queues_at, longest_at}
+use Rattle.service_bound.specs.MeterSteps.{place_of, queues_at, longest_at}
 use Rattle.service_bound.proofs.meter.WaitMeter.longest.Given as goal
 
 abbrev pub invariant-loop-input : goal.invariant-loop-input

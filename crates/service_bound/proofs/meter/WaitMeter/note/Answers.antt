@@ -1,7 +1,7 @@
 use Rattle.std.proofs.Common.{◌+◌, ◌++◌, ◌∷◌, [], subst, sym, refl}
 use Rattle.slot_match.specs.Rows.{AreWithin}
 use Rattle.service_bound.specs.Waits.{NotedSlot}
-use Rattle.service_bound.specs.Meters.{Meter, HasNoted}
+use Rattle.service_bound.specs.MeterSteps.{Meter, HasNoted}
 use Rattle.service_bound.proofs.Noting.{AreBegun-noted, HasNoted-more}
 use Rattle.service_bound.proofs.meter.WaitMeter.note.Goals as goal
 

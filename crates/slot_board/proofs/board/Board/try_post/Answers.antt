@@ -17,7 +17,7 @@ invariant_of-seat c =
     (subst (λ turn. slot_of c.args.seat.now < (setup_of turn.numbers).max_slots) (sym c.requires.seat) c.requires.room) in
     let accepted : Accepts s.seat c.args.post = subst (λ seat. Accepts seat c.args.post) (sym same) c.requires.accepted in
     kept_then s.seat s.ports s.card s.slot s.posted s.done s.last s.served s.refused s.room.items _ c.seat.invariant c.try_turn.new.seat c.args.post
-        c.in-Ok.ensures.turn (λ it. c.requires.not_posted (subst IsPosted same it)) going left accepted
+    c.in-Ok.ensures.turn (λ it. c.requires.not_posted (subst IsPosted same it)) going left accepted
 
 pub returns-in-Ok-clause-posted : goal.returns-in-Ok-clause-posted
 returns-in-Ok-clause-posted c =
@@ -30,7 +30,7 @@ returns-in-Ok-clause-posted c =
     let accepted : Accepts s.seat c.args.post = subst (λ seat. Accepts seat c.args.post) (sym same) c.requires.accepted in
     subst (λ seat. HasPosted c.args.post seat c.try_turn.new.seat) same
     (posted_turn s.seat s.ports s.card s.slot s.posted s.done s.last s.served s.refused s.room.items _ c.seat.invariant c.try_turn.new.seat c.args.post
-        c.in-Ok.ensures.turn (λ it. c.requires.not_posted (subst IsPosted same it)) going left accepted)
+    c.in-Ok.ensures.turn (λ it. c.requires.not_posted (subst IsPosted same it)) going left accepted)
 
 pub returns-in-Ok-clause-column : goal.returns-in-Ok-clause-column
 returns-in-Ok-clause-column c = HasPosted-column c.args.post c.args.seat.now c.try_turn.new.seat (returns-in-Ok-clause-posted c)

@@ -1,5 +1,5 @@
 use Rattle.std.proofs.Common.{sym, subst, arith}
-use Rattle.slot_board.specs.Drawings.{drawn_answer}
+use Rattle.slot_board.specs.DrawingSteps.{drawn_answer}
 use Rattle.slot_board.specs.Seats.{IsPosted, HasTaken, IsUndecided}
 use Rattle.slot_board.proofs.CardTurns.{slot-small}
 use Rattle.slot_board.proofs.Drawings.{ready-is, waiting-is}

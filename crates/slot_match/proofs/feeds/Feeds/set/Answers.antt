@@ -1,7 +1,7 @@
 use Rattle.std.proofs.Common.{Some, refl}
 use Rattle.std.proofs.lemmas.List.{map-set}
 use Rattle.slot_match.specs.declared.feeds.Feed.{Feed}
-use Rattle.slot_match.specs.Fields.{fed_from}
+use Rattle.slot_match.specs.FieldSteps.{fed_from}
 use Rattle.slot_match.proofs.feeds.Feeds.set.Goals as goal
 
 pub returns : goal.returns

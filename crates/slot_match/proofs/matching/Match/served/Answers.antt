@@ -30,7 +30,7 @@ returns-in-Some-get-clause-part c =
     let here = subst (λ m. (j : ℕ) → Has fan j ↔ ((level : ℕ) × (kind : Kind) × Serves m i j level kind)) (sym c.self.view_is) feeds in
     subst (λ m. IsServed m i part) c.self.view_is
     (IsServed-from_fan inside.ports inside.count inside.fed inside.free_inputs inside.free_outputs inside.multicasting c.self.invariant i fan c.in-Some.output
-        c.in-Some-get.fed here c.in-Some.ensures.member (sym c.get.ensures ∙ c.in-Some-get.is))
+    c.in-Some-get.fed here c.in-Some.ensures.member (sym c.get.ensures ∙ c.in-Some-get.is))
 
 pub returns-in-Some-get-clause-value : goal.returns-in-Some-get-clause-value
 returns-in-Some-get-clause-value c =

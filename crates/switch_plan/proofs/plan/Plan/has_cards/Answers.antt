@@ -1,6 +1,6 @@
 use Rattle.std.proofs.Common.{List, subst}
 use Rattle.card_core.specs.declared.plan.CardPlan.{CardPlan}
-use Rattle.switch_plan.specs.Checking.{AreOwnCards}
+use Rattle.switch_plan.specs.CheckingSteps.{AreOwnCards}
 use Rattle.switch_plan.proofs.Checked.{countable_cards}
 use Rattle.switch_plan.proofs.plan.Plan.has_cards.Goals as goal
 

@@ -1,7 +1,7 @@
 use Rattle.std.proofs.Common.{List, length, sym, subst}
 use Rattle.card_core.specs.declared.plan.CardPlan.{CardPlan}
-use Rattle.switch_plan.specs.Counting.{packets_of_cards}
-use Rattle.switch_plan.specs.Checking.{AreSized, AreTotals}
+use Rattle.switch_plan.specs.CountingSteps.{packets_of_cards}
+use Rattle.switch_plan.specs.CheckingSteps.{AreSized, AreTotals}
 use Rattle.switch_plan.proofs.plan.Plan.is_consistent.Goals as goal
 use Rattle.switch_plan.proofs.plan.Plan.is_consistent.Goals.{then-are_totals, else-are_totals, then-has_aside, else-has_aside}
 

@@ -1,7 +1,7 @@
 use Rattle.std.proofs.Common.{◌≡◌, ◌∙◌, ◌<◌, ◌≤◌, ◌+◌, ◌-◌, ◌++◌, length, ap, sym, subst, arith, refl, inl, inr}
 use Rattle.cell_rings.specs.CellQueues.{names_of_packet}
 use Rattle.voq_banks.specs.Queues.{queue_at, spare_at, place_of}
-use Rattle.voq_banks.specs.Fields.{names_of}
+use Rattle.voq_banks.specs.FieldSteps.{names_of}
 use Rattle.voq_banks.proofs.Banking.{place-lt, found_is, queue-of_ring, spare-of_ring, count-of_ring, names-admitted, queue-set, spare-set, others-set}
 use Rattle.voq_banks.proofs.Banking.{AreKept-set, HasDepth-admitted, count-admitted}
 use Rattle.voq_banks.proofs.banks.Banks.admit.Goals as goal
@@ -79,6 +79,6 @@ invariant_of-self c =
     omega (arith, c.requires.some, count-admitted c.args.packet c.args.cells old c.admit.new.self c.admit.ensures) in
     rw c.place_of.ensures
     (AreKept-set s.ports s.depth s.queues.items c.args.output c.args.level c.admit.new.self c.self.invariant.long inside c.requires.level s.masks
-        c.with.result c.self.told c.self.invariant deep
-        (λ y other. (λ h. elim ((c.with.ensures y).0 h) [ inl here ↦ absurd (other here) | inr was ↦ was ], λ h. (c.with.ensures y).1 (inr h)))
-        (λ _. some, λ _. (c.with.ensures c.args.output).1 (inl refl)))
+    c.with.result c.self.told c.self.invariant deep
+    (λ y other. (λ h. elim ((c.with.ensures y).0 h) [ inl here ↦ absurd (other here) | inr was ↦ was ], λ h. (c.with.ensures y).1 (inr h)))
+    (λ _. some, λ _. (c.with.ensures c.args.output).1 (inl refl)))

@@ -1,7 +1,7 @@
 use Rattle.std.proofs.Common.{◌∙◌, ◌<◌, ◌∷◌, ◌↔◌, ap, map, sym, subst}
 use Rattle.rotating_pick.specs.PortSets.{Has}
 use Rattle.voq_banks.specs.Queues.{place_of}
-use Rattle.voq_banks.specs.Fields.{names_of}
+use Rattle.voq_banks.specs.FieldSteps.{names_of}
 use Rattle.voq_banks.proofs.Banking.{place-lt, found_is, queue-of_ring, spare-of_ring, queue-set, spare-set, others-set, AreKept-set, HasDepth-popped}
 use Rattle.voq_banks.proofs.banks.Banks.pop.Goals as goal
 
@@ -48,4 +48,4 @@ invariant_of-self c =
     let here = subst (λ waiting. Has c.mask_after.result c.args.output ↔ (0 < waiting)) c.cells-waiting.ensures.cells c.mask_after.ensures.output in
     rw c.place_of.ensures
     (AreKept-set s.ports s.depth s.queues.items c.args.output c.args.level c.pop.new.self c.self.invariant.long inside c.requires.level s.masks
-        c.mask_after.result c.self.told c.self.invariant deep c.mask_after.ensures.others here)
+    c.mask_after.result c.self.told c.self.invariant deep c.mask_after.ensures.others here)

@@ -1,11 +1,8 @@
 -- What a reference keeps of the slots that it has noted.
 use Rattle.std.specs.Prelude.{◌≡◌, ℕ, ◌+◌, ◌*◌, ◌<◌, ◌≤◌, ◌↔◌, List, [], map, length, Option, slice_index_or}
 use Rattle.rotating_pick.specs.PortSets.{Has}
-use Rattle.rotating_pick.specs.declared.kinds.Kind.{Kind}
 use Rattle.slot_match.specs.declared.rows.Row.{Row}
 use Rattle.slot_match.specs.declared.matching.Served.{Served}
-use Rattle.slot_match.specs.Rows.{Names, row_of}
-use Rattle.slot_match.specs.Matches.{Serves, IsMatch}
 use Rattle.voq_banks.specs.Queues.{Queues as UniQueues}
 use Rattle.multicast_queue.specs.FanQueues.{Queues as FanQueues}
 use Rattle.card_core.specs.declared.limits.TheConstants.{MAX_SLOTS}
@@ -15,8 +12,9 @@ use Rattle.card_core.specs.States.{AreQueues, IsNext}
 use Rattle.output_queued.specs.declared.coming.Coming.{Coming}
 use Rattle.output_queued.specs.declared.tally.Tally.{Tally}
 use Rattle.output_queued.specs.Ideal.{total}
-use Rattle.output_queued.specs.Switches.{Matched, card_for, comes, served_in, rows_after, AreServed, IsSwitch}
+use Rattle.output_queued.specs.Switches.{Matched, card_for, comes, served_in, AreServed, IsSwitch}
 use Rattle.output_queued.specs.Lines.{ideal, ran, line_of}
+use Rattle.output_queued.specs.Following.{MayFollow}
 
 -- an input: its packets, how many of them have come, and its queues
 pub record Source : Type 0 where
@@ -38,14 +36,6 @@ pub record State : Type 0 where
 -- the switch: what each input is to send
 abbrev pub cards_in : State → List Plan
 cards_in s = map (λ source. card_for s.ports s.depth source.coming) s.sources
-
--- A slot of these rows and this match may follow: fewer than 262,145 slots have gone before, the rows are those of the
--- queues, and the match is one of the switch's ports and serves only what the rows name.
-pub record MayFollow (cards : List Plan) (matches : List Matched) (rows : List Row) (matched : Matched) : Type 0 where
-  pub few : length matches < MAX_SLOTS
-  pub rows_are : rows ≡ rows_after cards matches
-  pub whole : IsMatch (length cards) matched
-  pub named : (i j level : ℕ) (kind : Kind) → Serves matched i j level kind → Names (row_of rows i) level kind j
 
 -- ---- how the state stands
 -- the input at a place; one without packets where there is none

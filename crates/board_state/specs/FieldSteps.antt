@@ -5,7 +5,7 @@ use Rattle.slot_match.specs.declared.matching.Fed.{Fed}
 use Rattle.slot_match.specs.declared.matching.Served.{Served}
 use Rattle.slot_match.specs.Parts.{served_of}
 use Rattle.board_state.specs.Boards.{BoardValue}
-use Rattle.board_state.specs.Kept.{Parts, events_in, IsKept, IsRoom}
+use Rattle.board_state.specs.KeepingSteps.{Parts, events_in, IsKept, IsRoom}
 
 -- what the fields keep
 abbrev pub parts_of : Inside → Parts

@@ -22,8 +22,8 @@ use Rattle.firm_run.specs.FirmRuns.{IsFirmRun, HasShortWaits}
 use Rattle.journal_check.specs.declared.limits.TheConstants.{MAX_JOURNAL_BYTES}
 use Rattle.journal_check.specs.Files.{JournalFile}
 use Rattle.journal_check.specs.Texts.{file_slot, file_text}
-use Rattle.output_queued.specs.Noting.{State}
-use Rattle.reference_run.specs.Meeting.{IsReferenceOf}
+use Rattle.output_queued.specs.NotingSteps.{State}
+use Rattle.reference_run.specs.MeetingSteps.{IsReferenceOf}
 use Rattle.switch_jobs.specs.declared.outcome.Outcome.{Outcome}
 use Rattle.switch_jobs.specs.Outcomes.{IsOutcome}
 use Rattle.switch_jobs.specs.Captures.{IsCut}
@@ -31,10 +31,10 @@ use Rattle.slot_report.specs.Lines.{lines_text}
 use Rattle.slot_report.specs.Texts.{report_bytes}
 use Rattle.eslip_rounds.specs.Decisions.{decision_of}
 use Rattle.queue_measures.specs.Lines.{queue_lines}
-use Rattle.queue_measures.specs.Noting.{Input, HasNoted}
+use Rattle.queue_measures.specs.NotingSteps.{Input, HasNoted}
 use Rattle.packet_times.specs.declared.limits.TheConstants.{MAX_PACKETS_BYTES}
 use Rattle.packet_times.specs.Rows.{packets_text}
-use Rattle.packet_times.specs.Noting.{Times, HasNoted as HasNotedTimes}
+use Rattle.packet_times.specs.NotingSteps.{Times, HasNoted as HasNotedTimes}
 use Rattle.reference_run.specs.RunLines.{run_lines}
 use Rattle.job_files.specs.Inputs.{AreInputs}
 use Rattle.job_files.specs.OutputFiles.{Texts, files_of, shown}

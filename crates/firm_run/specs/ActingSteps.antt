@@ -13,7 +13,7 @@ use Rattle.card_core.specs.Plans.{Plan as CardPlan}
 use Rattle.card_core.specs.Posts.{post_at}
 use Rattle.card_core.specs.declared.outcome.CardOut.{CardOut}
 use Rattle.card_core.specs.Cards.{CardState, IsAfter, served_in}
-use Rattle.switch_jobs.specs.Ending.{Leaves}
+use Rattle.switch_jobs.specs.EndingSteps.{Leaves}
 
 -- each card has taken these takings, and posted since or not
 abbrev pub AreAfter : List CardState → (ℕ → List Taken) → Bool → Type 0

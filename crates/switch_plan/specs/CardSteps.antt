@@ -13,9 +13,9 @@ use Rattle.switch_words.specs.declared.job.Settings.{Settings}
 use Rattle.switch_plan.specs.declared.plan.Plan.{Plan}
 use Rattle.switch_plan.specs.Traffic.{stamp_of, port_traffic}
 use Rattle.switch_plan.specs.Totals.{most_for, total_work, total_aside, max_slots_of}
-use Rattle.switch_plan.specs.Reading.{IsCaptureOf, IsTrafficOf}
-use Rattle.switch_plan.specs.Counting.{packets_of_cards}
-use Rattle.switch_plan.specs.Sizing.{IsSized}
+use Rattle.switch_plan.specs.ReadingSteps.{IsCaptureOf, IsTrafficOf}
+use Rattle.switch_plan.specs.CountingSteps.{packets_of_cards}
+use Rattle.switch_plan.specs.SizingSteps.{IsSized}
 
 -- a packet of too many captured bytes, which is not forwarded
 abbrev pub is_long : Planned → Bool

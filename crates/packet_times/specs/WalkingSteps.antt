@@ -11,7 +11,7 @@ use Rattle.whole_run.specs.Runs.{ports_of, card_at, parts_under}
 use Rattle.packet_departures.specs.Departures.{Flow, earlier_by, departure_under}
 use Rattle.packet_times.specs.declared.going.TheConstants.{MOST_FLOWS}
 use Rattle.packet_times.specs.declared.walk.Outcome.{Outcome}
-use Rattle.packet_times.specs.Noting.{IsFlow, kind_place, was_admitted}
+use Rattle.packet_times.specs.NotingSteps.{IsFlow, kind_place, was_admitted}
 use Rattle.packet_times.specs.Rows.{row_text, state_of, routed_row, departure_if, outputs_in, packet_rows}
 
 -- the place of a flow among those of its input

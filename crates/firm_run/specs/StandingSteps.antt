@@ -5,12 +5,12 @@ use Rattle.slot_match.specs.Matches.{unmatched}
 use Rattle.eslip_rounds.specs.Schedulers.{Scheduler}
 use Rattle.slot_histories.specs.Slots.{places_under, decision_under}
 use Rattle.service_bound.specs.Waits.{noted_of}
-use Rattle.service_bound.specs.Meters.{HasNoted}
+use Rattle.service_bound.specs.MeterSteps.{HasNoted}
 use Rattle.switch_plan.specs.GoodPlans.{SwitchPlan}
 use Rattle.whole_run.specs.Runs.{ports_of, setup_for, posts_under, takings_under}
 use Rattle.whole_run.specs.Sums.{schedule_under}
 use Rattle.firm_run.specs.declared.switch.Switch.{Switch}
-use Rattle.firm_run.specs.Acting.{AreAfter, plans_in}
+use Rattle.firm_run.specs.ActingSteps.{AreAfter, plans_in}
 
 -- the match of the slot before slot t, and nothing matched before slot 0
 abbrev pub matched_before : Scheduler → SwitchPlan → ℕ → List (Option Fed)

@@ -5,7 +5,7 @@ use Rattle.card_core.specs.declared.plan.CardPlan.{CardPlan}
 use Rattle.card_core.specs.Plans.{plan_of, IsGoodPlan}
 use Rattle.switch_plan.specs.declared.plan.Plan.{Plan}
 use Rattle.switch_plan.specs.Totals.{most_for, slots_of, total_work, total_aside, max_slots_of, sizes_for, body_room_for, packet_room_for}
-use Rattle.switch_plan.specs.Counting.{packets_of_cards}
+use Rattle.switch_plan.specs.CountingSteps.{packets_of_cards}
 
 -- a card that is well formed, of the port, of a switch of `ports` ports, and with queues of this depth
 pub record IsOwnCard (ports depth port : ℕ) (card : CardPlan) : Type 0 where

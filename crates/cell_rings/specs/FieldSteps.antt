@@ -3,7 +3,7 @@ use Rattle.std.specs.Prelude.{ℕ, ◌+◌, ◌≤◌, List, [], Option, Some, N
 use Rattle.circular_buffer.specs.Buffer.{Buffer}
 use Rattle.cell_rings.specs.declared.ring.Waiting.{Waiting}
 use Rattle.cell_rings.specs.CellQueues.{CellQueue}
-use Rattle.cell_rings.specs.Runs.{cells_left, IsQueue}
+use Rattle.cell_rings.specs.RunSteps.{cells_left, IsQueue}
 
 module _ {F : Type 0} where
   -- the packets in a ring: none where there is no ring

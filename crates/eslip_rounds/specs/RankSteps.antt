@@ -2,11 +2,7 @@
 use Rattle.std.specs.Prelude.{ℕ, ◌+◌, ◌*◌, ◌/◌, ◌%◌, ◌==◌, if◌then◌else◌}
 use Rattle.rotating_pick.specs.declared.kinds.Kind.{Kind}
 use Rattle.rotating_pick.specs.declared.kinds.Kind.TheVariants.{Uni, Multi}
-
--- the kind that is not this one
-abbrev pub other_kind : Kind → Kind
-other_kind Uni = Multi
-other_kind Multi = Uni
+use Rattle.eslip_rounds.specs.Rounds.{other_kind}
 
 -- the level of a rank
 abbrev pub level_at : ℕ → ℕ

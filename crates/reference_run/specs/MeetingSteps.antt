@@ -1,0 +1,19 @@
+-- How the reference of a plan stands after the slots that it has noted.
+use Rattle.std.specs.Prelude.{◌≡◌, ℕ, List, map}
+use Rattle.slot_match.specs.declared.rows.Row.{Row}
+use Rattle.switch_plan.specs.GoodPlans.{SwitchPlan}
+use Rattle.whole_run.specs.Runs.{ports_of, run_slot}
+use Rattle.output_queued.specs.Switches.{Matched}
+use Rattle.output_queued.specs.NotingSteps.{State, HasNoted}
+use Rattle.reference_run.specs.Meeting.{coming_in}
+
+-- the rows of slot t of the run, by input
+abbrev pub run_rows : SwitchPlan → ℕ → List Row
+run_rows plan t = map (λ post. post.row) (run_slot plan t).posts
+
+-- the reference is that of the plan, and has noted these slots
+pub record IsReferenceOf (plan : SwitchPlan) (reference : State) (matches : List Matched) : Type 0 where
+  pub ports : reference.ports ≡ ports_of plan
+  pub depth : reference.depth ≡ plan.depth
+  pub coming : map (λ source. source.coming) reference.sources ≡ map coming_in plan.cards
+  pub noted : HasNoted reference matches
