@@ -94,6 +94,21 @@ def mounted(place, name, options):
     return lambda: subprocess.run(["umount", folder], check=True)
 
 
+def expect_full_within(place, last, size, flags):
+    """Runs a job twice, on a disk of its own with this room too; there it stops within its last file, `out` and `last`."""
+    whole = place.run_job(*flags, "table", "out", "a", "b")
+    expect(whole, 0, out=whole.out)
+    unmount = mounted(place, "small", f"size={size}")
+    try:
+        before = place.state()
+        expect(place.run_job(*flags, "table", "small/out", "a", "b"), 6, write_fault(f"small/out{last}"))
+        changed = {f"small/{name}": before[name] for name in before if name.startswith("out.")}
+        changed[f"small/out{last}"] = expect_part(place, f"small/out{last}", before[f"out{last}"])
+        expect_state(place, before, changed)
+    finally:
+        unmount()
+
+
 @case("a disk that becomes full within an output", {**INPUTS, **LONG_INPUTS})
 def disk_becomes_full(place):
     unmount = mounted(place, "small", "size=32k")

@@ -4,13 +4,13 @@ import os
 import re
 
 from .cases import case
-from .failing_outputs import FULL, mounted, write_fault
+from .failing_outputs import FULL, expect_full_within, mounted, write_fault
 from .failing_streams import OUT, OUT_FAULT, closing
 from .files import (
     EMPTY, INPUTS, JOURNAL, ONE_FRAME, RAW_IP, REPORT, SUMMARY, TABLE, WORDS, YES, header, outputs, packet, record,
 )
 from .long_journals import MAX_BYTES
-from .running import Wrong, expect, expect_part, expect_state
+from .running import Wrong, expect, expect_state
 
 FLAG = "--journal"
 
@@ -85,19 +85,7 @@ FAR_PACKETS = header(RAW_IP) + b"".join(record(packet(20, (10, 0, 1, 1)), 1, at)
 
 @case("a disk that becomes full within the journal", {**INPUTS, "a": FAR_PACKETS, "b": header(RAW_IP)})
 def disk_becomes_full(place):
-    flags = (FLAG, "--pace-us", "1", "table")
-    whole = place.run_job(*flags, "out", "a", "b")
-    expect(whole, 0, out=whole.out)
-    unmount = mounted(place, "small", "size=16k")
-    try:
-        before = place.state()
-        expect(place.run_job(*flags, "small/out", "a", "b"), 6, write_fault("small/out.journal"))
-        names = [name.removeprefix("out.") for name in before if name.startswith("out.")]
-        changed = {f"small/out.{name}": before[f"out.{name}"] for name in names}
-        changed["small/out.journal"] = expect_part(place, "small/out.journal", before["out.journal"])
-        expect_state(place, before, changed)
-    finally:
-        unmount()
+    expect_full_within(place, ".journal", "16k", (FLAG, "--pace-us", "1"))
 
 
 @case("a closed standard output of a run with a journal")

@@ -1,12 +1,12 @@
 """`run --packets` and `--queues`: a packets file that cannot be begun or written, or would be too long."""
 
 from .cases import case
-from .failing_outputs import FULL, mounted, write_fault
+from .failing_outputs import FULL, expect_full_within, write_fault
 from .failing_streams import OUT, OUT_FAULT, closing
 from .files import (
     INPUTS, JOURNAL, MAX_RECORDS, PACKETS, QUEUES, RAW_IP, REPORT, SUMMARY, WORDS, header, outputs, packet, record,
 )
-from .running import expect, expect_part, expect_state
+from .running import expect, expect_state
 
 FLAG = "--packets"
 FLAGS = ("--journal", FLAG)
@@ -20,6 +20,13 @@ def before_it(prefix="out"):
 def written(prefix="out"):
     """All files that the job writes, by name."""
     return {**before_it(prefix), f"{prefix}.packets.csv": PACKETS}
+
+
+def expect_no_packets(place):
+    """Runs the job where its packets file cannot be written: the files before it are whole."""
+    before = place.state()
+    expect(place.run_job(*FLAGS, *WORDS), 6, write_fault("out.packets.csv"))
+    expect_state(place, before, before_it())
 
 
 @case("a packets file, and the lines of queues")
@@ -47,25 +54,19 @@ def packets_are_kept(place):
 @case("a packets file that is a folder")
 def packets_are_folder(place):
     place.make_folder("out.packets.csv")
-    before = place.state()
-    expect(place.run_job(*FLAGS, *WORDS), 6, write_fault("out.packets.csv"))
-    expect_state(place, before, before_it())
+    expect_no_packets(place)
 
 
 @case("a packets file that is there without write permission")
 def packets_without_permission(place):
     place.write("out.packets.csv", b"kept", 0o444)
-    before = place.state()
-    expect(place.run_job(*FLAGS, *WORDS), 6, write_fault("out.packets.csv"))
-    expect_state(place, before, before_it())
+    expect_no_packets(place)
 
 
 @case("a full disk as the packets file")
 def packets_full(place):
     place.link("out.packets.csv", FULL)
-    before = place.state()
-    expect(place.run_job(*FLAGS, *WORDS), 6, write_fault("out.packets.csv"))
-    expect_state(place, before, before_it())
+    expect_no_packets(place)
 
 
 @case("a journal that is a folder, and a packets file behind it")
@@ -82,18 +83,7 @@ UNROUTED = header(RAW_IP) + record(packet(20, (10, 0, 9, 1))) * 2_000
 
 @case("a disk that becomes full within the packets file", {**INPUTS, "a": UNROUTED, "b": header(RAW_IP)})
 def disk_becomes_full(place):
-    whole = place.run_job(FLAG, "table", "out", "a", "b")
-    expect(whole, 0, out=whole.out)
-    unmount = mounted(place, "small", "size=32k")
-    try:
-        before = place.state()
-        expect(place.run_job(FLAG, "table", "small/out", "a", "b"), 6, write_fault("small/out.packets.csv"))
-        names = [name.removeprefix("out.") for name in before if name.startswith("out.")]
-        changed = {f"small/out.{name}": before[f"out.{name}"] for name in names}
-        changed["small/out.packets.csv"] = expect_part(place, "small/out.packets.csv", before["out.packets.csv"])
-        expect_state(place, before, changed)
-    finally:
-        unmount()
+    expect_full_within(place, ".packets.csv", "32k", (FLAG,))
 
 
 @case("a closed standard output of a run with a packets file")
