@@ -9,7 +9,7 @@ use Rattle.card_core.specs.Plans.{Plan, Queue, OfOutput, OfLevel}
 use Rattle.eslip_rounds.specs.Schedulers.{Scheduler}
 use Rattle.queue_lengths.specs.Lengths.{IsQueue, queues_of, greatest, length_in, peak_of, deepest_of}
 use Rattle.switch_plan.specs.GoodPlans.{SwitchPlan}
-use Rattle.whole_run.specs.Runs.{ports_of, card_at, parts_under}
+use Rattle.run_laws.specs.Runs.{ports_of, card_at, parts_under}
 use Rattle.buffer_sizing.specs.Sizing.{deepest_under}
 
 -- ---- the greatest of numbers

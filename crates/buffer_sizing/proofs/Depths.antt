@@ -12,7 +12,7 @@ use Rattle.switch_words.specs.Limits.{IsUpTo}
 use Rattle.switch_plan.specs.Traffic.{CaptureFile, unplaced}
 use Rattle.switch_plan.specs.Totals.{total_aside, max_slots_of, sizes_for, body_room_for, packet_room_for}
 use Rattle.switch_plan.specs.GoodPlans.{SwitchPlan, IsCardOf, IsGood, IsPlanOf, packets_in}
-use Rattle.whole_run.specs.Runs.{ports_of, setup_for, card_at, no_plan}
+use Rattle.run_laws.specs.Runs.{ports_of, setup_for, card_at, no_plan}
 use Rattle.buffer_sizing.specs.Sizing.{card_with_depth, with_depth}
 
 module _ (depth : ℕ) (plan : SwitchPlan) where

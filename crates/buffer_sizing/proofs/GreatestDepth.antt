@@ -19,8 +19,8 @@ use Rattle.card_core.proofs.Passing.{arriving-there}
 use Rattle.eslip_rounds.specs.Schedulers.{Scheduler}
 use Rattle.switch_plan.specs.Totals.{most_for, work_of}
 use Rattle.switch_plan.specs.GoodPlans.{SwitchPlan, IsGood, packets_in}
-use Rattle.whole_run.specs.Runs.{ports_of, card_at, no_plan, parts_under}
-use Rattle.whole_run.proofs.Base.{good-card}
+use Rattle.run_laws.specs.Runs.{ports_of, card_at, no_plan, parts_under}
+use Rattle.run_laws.proofs.Base.{good-card}
 use Rattle.buffer_sizing.specs.Sizing.{DropsNothing}
 use Rattle.queue_lengths.proofs.Lengths.{cells_count}
 use Rattle.buffer_sizing.proofs.Rooms.{HasRooms}

@@ -15,10 +15,10 @@ use Rattle.card_core.specs.Queues.{Passed, before as queue_before, waiting, drop
 use Rattle.card_core.specs.Posts.{post_at}
 use Rattle.queue_lengths.specs.Lengths.{length_in}
 use Rattle.switch_plan.specs.GoodPlans.{SwitchPlan, IsGood}
-use Rattle.whole_run.specs.Runs.{Before, ports_of, setup_for, card_at, rows_in, decision_in, after_slot, before_under, parts_under, posts_under}
-use Rattle.whole_run.specs.Ends.{IsLengthUnder}
-use Rattle.whole_run.specs.Crossings.{cells_under}
-use Rattle.whole_run.proofs.Base.{good-card, before-same}
+use Rattle.run_laws.specs.Runs.{Before, ports_of, setup_for, card_at, rows_in, decision_in, after_slot, before_under, parts_under, posts_under}
+use Rattle.run_laws.specs.Ends.{IsLengthUnder}
+use Rattle.run_laws.specs.Crossings.{cells_under}
+use Rattle.run_laws.proofs.Base.{good-card, before-same}
 use Rattle.buffer_sizing.specs.Sizing.{with_depth, deepest_under, DropsNothing, IsSameRun}
 use Rattle.buffer_sizing.proofs.Rooms.{HasRooms, HasRooms-alike, HasRooms-own, HasRooms-length}
 use Rattle.buffer_sizing.proofs.SameCards.{queue_same, post_same, drops_none}

@@ -5,10 +5,10 @@ use Rattle.card_core.specs.Plans.{Queue}
 use Rattle.eslip_rounds.specs.Schedulers.{Scheduler}
 use Rattle.queue_lengths.specs.Lengths.{length_in}
 use Rattle.switch_plan.specs.GoodPlans.{SwitchPlan, IsGood}
-use Rattle.whole_run.specs.Runs.{ports_of, card_at, parts_under}
-use Rattle.whole_run.specs.Ends.{IsLengthUnder}
-use Rattle.whole_run.proofs.Base.{good-card}
-use Rattle.whole_run.proofs.FirstDone.{one_length}
+use Rattle.run_laws.specs.Runs.{ports_of, card_at, parts_under}
+use Rattle.run_laws.specs.Ends.{IsLengthUnder}
+use Rattle.run_laws.proofs.Base.{good-card}
+use Rattle.run_laws.proofs.FirstDone.{one_length}
 use Rattle.buffer_sizing.specs.Sizing.{with_depth, deepest_under, DropsNothing, IsSized}
 use Rattle.queue_lengths.proofs.Lengths.{in_few}
 use Rattle.buffer_sizing.proofs.Deepest.{deepest_within}

@@ -7,9 +7,9 @@ use Rattle.card_core.specs.Plans.{Plan as CardPlan}
 use Rattle.card_core.specs.Queues.{dropped}
 use Rattle.queue_lengths.specs.Lengths.{greatest, deepest_of}
 use Rattle.switch_plan.specs.GoodPlans.{SwitchPlan}
-use Rattle.whole_run.specs.Runs.{ports_of, setup_for, card_at, parts_under, posts_under}
-use Rattle.whole_run.specs.Ends.{IsLengthUnder}
-use Rattle.whole_run.specs.Crossings.{cells_under}
+use Rattle.run_laws.specs.Runs.{ports_of, setup_for, card_at, parts_under, posts_under}
+use Rattle.run_laws.specs.Ends.{IsLengthUnder}
+use Rattle.run_laws.specs.Crossings.{cells_under}
 
 -- what a card is to send, with queues of another depth
 abbrev pub card_with_depth : ℕ → CardPlan → CardPlan

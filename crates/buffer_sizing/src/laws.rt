@@ -8,7 +8,7 @@ ghost use Rattle.forward_table.specs.declared.route_lines.RouteLine.{RouteLine};
 ghost use Rattle.switch_words.specs.declared.job.Settings.{Settings};
 ghost use Rattle.switch_plan.specs.Traffic.{CaptureFile};
 ghost use Rattle.switch_plan.specs.GoodPlans.{SwitchPlan, IsGood, IsPlanOf};
-ghost use Rattle.whole_run.specs.Ends.{IsLengthUnder};
+ghost use Rattle.run_laws.specs.Ends.{IsLengthUnder};
 ghost use Rattle.buffer_sizing.specs.Sizing.{with_depth, DropsNothing, IsSized};
 
 /// The sizing theorem, under any scheduler: where the run of a plan drops nothing, with each depth from the cells of its

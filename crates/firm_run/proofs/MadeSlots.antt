@@ -12,8 +12,8 @@ use Rattle.crossbar.specs.declared.cards.Taken.{Taken}
 use Rattle.slot_histories.specs.Slots.{slot_rows, places_under, decision_under, is_done_at, taken_under}
 use Rattle.card_core.specs.Cards.{CardState, IsAfter, MayTake}
 use Rattle.switch_plan.specs.GoodPlans.{SwitchPlan, IsGood}
-use Rattle.whole_run.specs.Runs.{ports_of, setup_for, posts_under, takings_under}
-use Rattle.whole_run.proofs.Base.{within}
+use Rattle.run_laws.specs.Runs.{ports_of, setup_for, posts_under, takings_under}
+use Rattle.run_laws.proofs.Base.{within}
 use Rattle.firm_run.specs.ActingSteps.{AreAfter, plans_in, ArePosted, taken_now}
 use Rattle.firm_run.specs.StandingSteps.{matched_before}
 use Rattle.firm_run.proofs.NextSlot.{count-cards, takings-more, rows-are, deposits-are, end-is, posted-after, taken-is, may-take}

@@ -27,11 +27,11 @@ use Rattle.card_core.specs.Posts.{IsServable, row_at, post_at}
 use Rattle.card_core.specs.Cards.{CardState, HasReceived, IsAfter, MayTake, served_in, is_done}
 use Rattle.card_core.specs.Deliveries.{cells_taken}
 use Rattle.switch_plan.specs.GoodPlans.{SwitchPlan, IsGood}
-use Rattle.whole_run.specs.Runs.{ports_of, setup_for, card_at, no_plan, parts_under, posts_under, takings_under}
-use Rattle.whole_run.specs.Crossings.{cells_under}
-use Rattle.whole_run.specs.Sums.{schedule_under}
-use Rattle.whole_run.proofs.Base.{requested}
-use Rattle.whole_run.proofs.Fitting.{cell_fits}
+use Rattle.run_laws.specs.Runs.{ports_of, setup_for, card_at, no_plan, parts_under, posts_under, takings_under}
+use Rattle.run_laws.specs.Crossings.{cells_under}
+use Rattle.run_laws.specs.Sums.{schedule_under}
+use Rattle.run_laws.proofs.Base.{requested}
+use Rattle.run_laws.proofs.Fitting.{cell_fits}
 use Rattle.switch_jobs.proofs.Serving.{served_taken, cells_crossed}
 use Rattle.switch_jobs.proofs.Limits.{slots_few}
 use Rattle.firm_run.specs.ActingSteps.{AreAfter, plans_in, MayPostAll, ArePosts, ArePosted, taken_now}

@@ -16,9 +16,9 @@ use Rattle.card_core.specs.Plans.{Plan as CardPlan}
 use Rattle.card_core.specs.Cards.{IsOut}
 use Rattle.card_worker.proofs.Grouping.{at_place}
 use Rattle.switch_plan.specs.GoodPlans.{SwitchPlan, packets_in, IsGood}
-use Rattle.whole_run.specs.Runs.{ports_of, takings_under}
-use Rattle.whole_run.specs.Sums.{schedule_under, IsBestUnder}
-use Rattle.whole_run.proofs.RunWindows.{best-window, best-alone}
+use Rattle.run_laws.specs.Runs.{ports_of, takings_under}
+use Rattle.run_laws.specs.Sums.{schedule_under, IsBestUnder}
+use Rattle.run_laws.proofs.RunWindows.{best-window, best-alone}
 use Rattle.switch_jobs.specs.declared.ready.Terms.{Terms}
 use Rattle.switch_jobs.specs.Outcomes.{longest_under, summary_under, IsOutputUnder}
 use Rattle.switch_jobs.specs.ReadinessSteps.{plan_with}

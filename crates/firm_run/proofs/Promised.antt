@@ -14,18 +14,18 @@ use Rattle.firm_rounds.specs.Decisions.{firm_decision}
 use Rattle.firm_rounds.proofs.InTime.{firm_longest_wait, firm_served_in_time}
 use Rattle.firm_rounds.proofs.PointersKept.{firm_keep, firm_pass}
 use Rattle.switch_plan.specs.GoodPlans.{SwitchPlan, IsGood}
-use Rattle.whole_run.specs.Runs.{ports_of, setup_for, posts_under}
-use Rattle.whole_run.specs.Ends.{IsLengthUnder}
-use Rattle.whole_run.specs.Sums.{schedule_under}
-use Rattle.whole_run.specs.Promises.{ServesUnder, WaitsUnder}
-use Rattle.whole_run.proofs.Arrivals.{arrivals_first}
-use Rattle.whole_run.proofs.BusySlots.{busy_matches}
-use Rattle.whole_run.proofs.Emptied.{packets_delivered}
-use Rattle.whole_run.proofs.OfFlows.{all_of_flows}
-use Rattle.whole_run.proofs.RunCompletes.{heads-complete_by}
-use Rattle.whole_run.proofs.RunEnds.{run_bound}
-use Rattle.whole_run.proofs.RunSchedule.{run-schedule, run-within, run-kept}
-use Rattle.whole_run.proofs.RunWindows.{begins, middle, in_first, best-window, best-alone}
+use Rattle.run_laws.specs.Runs.{ports_of, setup_for, posts_under}
+use Rattle.run_laws.specs.Ends.{IsLengthUnder}
+use Rattle.run_laws.specs.Sums.{schedule_under}
+use Rattle.run_laws.specs.Promises.{ServesUnder, WaitsUnder}
+use Rattle.run_laws.proofs.Arrivals.{arrivals_first}
+use Rattle.run_laws.proofs.BusySlots.{busy_matches}
+use Rattle.run_laws.proofs.Emptied.{packets_delivered}
+use Rattle.run_laws.proofs.OfFlows.{all_of_flows}
+use Rattle.run_laws.proofs.RunCompletes.{heads-complete_by}
+use Rattle.run_laws.proofs.RunEnds.{run_bound}
+use Rattle.run_laws.proofs.RunSchedule.{run-schedule, run-within, run-kept}
+use Rattle.run_laws.proofs.RunWindows.{begins, middle, in_first, best-window, best-alone}
 use Rattle.switch_jobs.proofs.Counted.{counted-once}
 use Rattle.firm_run.specs.FirmRuns.{FirmPromises}
 use Rattle.firm_run.proofs.SecondScheduler.{IsSchedulerBy-firm_decision, IsScheduler-firm_decision}

@@ -20,9 +20,9 @@ use Rattle.service_bound.specs.MeterSteps.{Meter, HasNoted}
 use Rattle.card_core.specs.Cards.{CardState, MayTake}
 use Rattle.card_worker.proofs.Removing.{whole_back}
 use Rattle.switch_plan.specs.GoodPlans.{SwitchPlan, IsGood}
-use Rattle.whole_run.specs.Runs.{ports_of, setup_for, posts_under, takings_under}
-use Rattle.whole_run.specs.Sums.{schedule_under}
-use Rattle.whole_run.proofs.Base.{within, sound}
+use Rattle.run_laws.specs.Runs.{ports_of, setup_for, posts_under, takings_under}
+use Rattle.run_laws.specs.Sums.{schedule_under}
+use Rattle.run_laws.proofs.Base.{within, sound}
 use Rattle.switch_jobs.proofs.Limits.{slots_few}
 use Rattle.firm_run.specs.declared.switch.Switch.{Switch}
 use Rattle.firm_run.specs.ActingSteps.{AreAfter, plans_in, MayPostAll, ArePosts, ArePosted, taken_now}

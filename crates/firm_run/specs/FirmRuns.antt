@@ -3,11 +3,11 @@ use Rattle.std.specs.Prelude.{◌≡◌, ℕ, ◌*◌, ◌<◌, ◌≤◌, slice
 use Rattle.firm_rounds.specs.Decisions.{firm_decision}
 use Rattle.slot_report.specs.declared.summary.Summary.{Summary}
 use Rattle.switch_plan.specs.GoodPlans.{SwitchPlan}
-use Rattle.whole_run.specs.Runs.{ports_of}
-use Rattle.whole_run.specs.Ends.{IsLengthUnder}
-use Rattle.whole_run.specs.Sums.{IsBestUnder}
-use Rattle.whole_run.specs.Promises.{ArrivalsComeFirst, BusySlotsMatchUnder, CompletesUnder, DeliversUnder, DeliversNoOthersUnder, HasFewSlotsUnder}
-use Rattle.whole_run.specs.Promises.{ServesUnder, WaitsUnder}
+use Rattle.run_laws.specs.Runs.{ports_of}
+use Rattle.run_laws.specs.Ends.{IsLengthUnder}
+use Rattle.run_laws.specs.Sums.{IsBestUnder}
+use Rattle.run_laws.specs.Promises.{ArrivalsComeFirst, BusySlotsMatchUnder, CompletesUnder, DeliversUnder, DeliversNoOthersUnder, HasFewSlotsUnder}
+use Rattle.run_laws.specs.Promises.{ServesUnder, WaitsUnder}
 use Rattle.switch_jobs.specs.Outcomes.{summary_under, CountsPacketsOnce}
 
 -- these are the numbers of the plan's run, to its end

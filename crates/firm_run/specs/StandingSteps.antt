@@ -7,8 +7,8 @@ use Rattle.slot_histories.specs.Slots.{places_under, decision_under}
 use Rattle.service_bound.specs.Waits.{noted_of}
 use Rattle.service_bound.specs.MeterSteps.{HasNoted}
 use Rattle.switch_plan.specs.GoodPlans.{SwitchPlan}
-use Rattle.whole_run.specs.Runs.{ports_of, setup_for, posts_under, takings_under}
-use Rattle.whole_run.specs.Sums.{schedule_under}
+use Rattle.run_laws.specs.Runs.{ports_of, setup_for, posts_under, takings_under}
+use Rattle.run_laws.specs.Sums.{schedule_under}
 use Rattle.firm_run.specs.declared.switch.Switch.{Switch}
 use Rattle.firm_run.specs.ActingSteps.{AreAfter, plans_in}
 

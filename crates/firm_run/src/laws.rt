@@ -8,9 +8,9 @@ ghost use Rattle.service_bound.specs.Windows.{AreKept};
 ghost use Rattle.firm_rounds.specs.Slots.{AreMovedByFirm};
 ghost use Rattle.firm_rounds.specs.Decisions.{firm_decision};
 ghost use Rattle.switch_plan.specs.GoodPlans.{SwitchPlan, IsGood};
-ghost use Rattle.whole_run.specs.Runs.{ports_of};
-ghost use Rattle.whole_run.specs.Ends.{IsLengthUnder};
-ghost use Rattle.whole_run.specs.Sums.{schedule_under};
+ghost use Rattle.run_laws.specs.Runs.{ports_of};
+ghost use Rattle.run_laws.specs.Ends.{IsLengthUnder};
+ghost use Rattle.run_laws.specs.Sums.{schedule_under};
 ghost use Rattle.firm_run.specs.FirmRuns.{FirmPromises};
 
 /// The slots of the run are a schedule of the second scheduler, from slot 0 and all pointers at port 0 on, of rows that

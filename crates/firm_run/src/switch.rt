@@ -6,8 +6,8 @@ ghost use Rattle.card_core.specs.declared.plan.CardPlan.{CardPlan};
 ghost use Rattle.card_core.specs.Plans.{IsGoodPlan, plan_of};
 ghost use Rattle.card_core.specs.Cards.{CardState, IsAfter};
 ghost use Rattle.switch_plan.specs.GoodPlans.{SwitchPlan, IsGood};
-ghost use Rattle.whole_run.specs.Runs.{ports_of, posts_under};
-ghost use Rattle.whole_run.specs.Ends.{IsLengthUnder};
+ghost use Rattle.run_laws.specs.Runs.{ports_of, posts_under};
+ghost use Rattle.run_laws.specs.Ends.{IsLengthUnder};
 ghost use Rattle.firm_run.specs.ActingSteps.{AreAfter, plans_in};
 ghost use Rattle.firm_run.specs.StandingSteps.{IsBefore};
 
@@ -22,7 +22,7 @@ use service_bound::WaitMeter;
 use slot_match::{Match, Row};
 use std::alloc::Global;
 use std::mem::replace;
-use whole_run::ends;
+use run_laws::ends;
 
 /// A switch between two slots of its run.
 #[derive(Drop)]

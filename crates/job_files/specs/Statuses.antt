@@ -1,7 +1,7 @@
 -- The exit status of each way in which a command ends.
 use Rattle.std.specs.Prelude.{ℕ}
-use Rattle.check_job.specs.declared.ending.CheckEnding.{CheckEnding}
-use Rattle.check_job.specs.declared.ending.CheckEnding.TheVariants as check_ending
+use Rattle.journal_command.specs.declared.ending.CheckEnding.{CheckEnding}
+use Rattle.journal_command.specs.declared.ending.CheckEnding.TheVariants as check_ending
 use Rattle.job_files.specs.declared.ending.Ending.{Ending}
 use Rattle.job_files.specs.declared.ending.Ending.TheVariants.{Done, Usage, ReadFault, TooLong, Refused, JournalTooLong, PacketsTooLong, OutOfMemory}
 use Rattle.job_files.specs.declared.ending.Ending.TheVariants.{WriteFault, Checked}

@@ -2,7 +2,7 @@ ghost use Rattle.std.specs.Prelude.{◌≡◌};
 ghost use Rattle.job_files.specs.Statuses.{check_status, status_of};
 
 use crate::inputs::InputFile;
-use check_job::CheckEnding;
+use journal_command::CheckEnding;
 use switch_plan::PlanFault;
 
 /// What a job writes.

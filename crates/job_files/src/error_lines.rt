@@ -9,7 +9,7 @@ ghost use Rattle.job_files.specs.RefusalLines.{capture_line, memory_line, refusa
 
 use crate::ending::{Ending, Written};
 use crate::inputs::{InputFile, input_name, reads_of_firm, reads_of_run};
-use check_job::CheckEnding;
+use journal_command::CheckEnding;
 use forward_table::TableFault;
 use itoa::Buffer;
 use journal_check::Reason;

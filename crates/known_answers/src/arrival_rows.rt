@@ -8,7 +8,7 @@ use crate::texts::numbers_text;
 use cell_cutter::MAX_CAPTURED_CELLS;
 use line_pace::{MAX_CAPTURE_PACKETS, MAX_SLOT_MICROS, Pace, PaceFault, Stamp, arrivals};
 use std::alloc::{AllocError, Global};
-use vector_rows::{NoAnswer, Row, number, words};
+use test_vectors::{NoAnswer, Row, number, words};
 
 /// The row that a line is.
 pub fn row(alloc: Global, line: &str) -> Result<Row, AllocError> {

@@ -5,7 +5,7 @@ use crate::texts::{add_item, link_number, unit_name};
 use pcap_records::{Capture, PcapFault, Stored, read_capture};
 use rotating_pick::MAX_FILE_BYTES;
 use std::alloc::{AllocError, Global};
-use vector_rows::{NoAnswer, Row};
+use test_vectors::{NoAnswer, Row};
 
 /// The row that a line is.
 pub fn row(alloc: Global, line: &str) -> Result<Row, AllocError> {

@@ -8,7 +8,7 @@ use cell_cutter::{
 };
 use rotating_pick::{LEVELS, MAX_PORTS};
 use std::alloc::{AllocError, Global};
-use vector_rows::{NoAnswer, Row, byte, number, words};
+use test_vectors::{NoAnswer, Row, byte, number, words};
 
 /// The row that a line is.
 pub fn row(alloc: Global, line: &str) -> Result<Row, AllocError> {

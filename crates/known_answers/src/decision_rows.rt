@@ -14,7 +14,7 @@ use pointer_state::Pointers;
 use rotating_pick::{LEVEL_COUNT, MAX_PORTS, MAX_ROUNDS, PORT_COUNT};
 use slot_match::{Match, are_within};
 use std::alloc::{AllocError, Global};
-use vector_rows::{NoAnswer, Row, number, set_up_row};
+use test_vectors::{NoAnswer, Row, number, set_up_row};
 
 /// The block that is being read.
 #[derive(Drop)]

@@ -2,7 +2,7 @@
 use crate::fields::{bytes, link};
 use frame_fields::destination;
 use std::alloc::{AllocError, Global};
-use vector_rows::{NoAnswer, Row, words};
+use test_vectors::{NoAnswer, Row, words};
 
 /// The row that a line is.
 pub fn row(alloc: Global, line: &str) -> Result<Row, AllocError> {

@@ -5,7 +5,7 @@ ghost use Rattle.rotating_pick.specs.PortSets.{IsAmong};
 use pcap_records::Link;
 use rotating_pick::{Kind, MAX_PORTS, PORT_COUNT, Ports, is_among};
 use std::alloc::{AllocError, Global};
-use vector_rows::{NoAnswer, number, port_set};
+use test_vectors::{NoAnswer, number, port_set};
 
 /// A decimal number that can be long.
 pub fn long_number(text: &str) -> Result<u64, NoAnswer> {

@@ -8,7 +8,7 @@ use crate::texts::{choices_text, numbers_text};
 use islip_rounds::{UniMatch, UniPointers, islip_slot};
 use rotating_pick::{MAX_PORTS, MAX_ROUNDS, Ports};
 use std::alloc::{AllocError, Global};
-use vector_rows::{NoAnswer, Row, number, port_count, words};
+use test_vectors::{NoAnswer, Row, number, port_count, words};
 
 /// The row that a line is.
 pub fn row(alloc: Global, line: &str) -> Result<Row, AllocError> {

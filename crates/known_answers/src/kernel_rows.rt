@@ -5,7 +5,7 @@ use crate::texts::{choices_text, port_sets_text};
 use islip_rounds::{picks, transpose};
 use rotating_pick::PORT_COUNT;
 use std::alloc::{AllocError, Global};
-use vector_rows::{NoAnswer, Row, port_count, port_set, words};
+use test_vectors::{NoAnswer, Row, port_count, port_set, words};
 
 /// The row that a line is.
 pub fn row(alloc: Global, line: &str) -> Result<Row, AllocError> {

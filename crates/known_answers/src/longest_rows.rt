@@ -19,7 +19,7 @@ use rotating_pick::{Kind, LEVEL_COUNT, MAX_PORTS, MAX_ROUNDS, PORT_COUNT, Ports}
 use service_bound::{MAX_NOTED, WaitMeter, longest_service};
 use slot_match::{Fed, Match, Row, are_within};
 use std::alloc::{AllocError, Global};
-use vector_rows::{NoAnswer, Row as VectorRow, number, set_up_row};
+use test_vectors::{NoAnswer, Row as VectorRow, number, set_up_row};
 
 /// What decides the slots.
 #[derive(Clone, Copy)]

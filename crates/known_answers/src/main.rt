@@ -29,7 +29,7 @@ mod wait_rows;
 use crate::vector_file::Reader;
 use std::io;
 use std::process::ExitCode;
-use vector_rows::check_named_files;
+use test_vectors::check_named_files;
 
 fn main(rt: HostRuntime) -> io::Result<ExitCode> {
     check_named_files::<Reader>(&rt)

@@ -4,7 +4,7 @@ use crate::fields::{bytes, link, unit};
 use cell_cutter::MAX_CAPTURED_BYTES;
 use pcap_records::{FILE_HEADER_BYTES, Link, RECORD_HEADER_BYTES, write_header, write_record};
 use std::alloc::{AllocError, Global};
-use vector_rows::{NoAnswer, Row, words};
+use test_vectors::{NoAnswer, Row, words};
 
 /// The row that a line is.
 pub fn row(alloc: Global, line: &str) -> Result<Row, AllocError> {

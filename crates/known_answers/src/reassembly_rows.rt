@@ -8,7 +8,7 @@ use cell_cutter::{Cell, MAX_MESSAGE_BYTES};
 use reassembly::{FLOWS_PER_INPUT, Reassembly};
 use rotating_pick::Kind;
 use std::alloc::{AllocError, Global};
-use vector_rows::{NoAnswer, Row, byte, number, port_count, set_up_row, words};
+use test_vectors::{NoAnswer, Row, byte, number, port_count, set_up_row, words};
 
 /// The block that is being read.
 #[derive(Drop)]

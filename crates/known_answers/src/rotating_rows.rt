@@ -3,7 +3,7 @@
 use crate::texts::choice_text;
 use rotating_pick::{MAX_PORTS, dist, is_among, lowest, next, pick, rotate};
 use std::alloc::{AllocError, Global};
-use vector_rows::{NoAnswer, Row, number, port_set, words};
+use test_vectors::{NoAnswer, Row, number, port_set, words};
 
 /// The row that a line is.
 pub fn row(alloc: Global, line: &str) -> Result<Row, AllocError> {

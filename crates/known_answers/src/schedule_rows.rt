@@ -6,7 +6,7 @@ use pointer_state::Pointers;
 use rotating_pick::{MAX_PORTS, MAX_ROUNDS};
 use slot_match::Match;
 use std::alloc::{AllocError, Global};
-use vector_rows::{NoAnswer, Row, number, set_up_row};
+use test_vectors::{NoAnswer, Row, number, set_up_row};
 
 /// The block that is being read.
 #[derive(Drop)]

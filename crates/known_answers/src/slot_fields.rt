@@ -9,7 +9,7 @@ use pointer_state::Pointers;
 use rotating_pick::{Kind, LEVEL_COUNT, LEVELS, MAX_PORTS, PORT_COUNT, with};
 use slot_match::{Fed, Match, Row, are_within};
 use std::alloc::{AllocError, Global};
-use vector_rows::{NoAnswer, byte, number, port_set};
+use test_vectors::{NoAnswer, byte, number, port_set};
 
 /// Pointers of four levels, as a row states them.
 #[derive(Clone, Copy)]

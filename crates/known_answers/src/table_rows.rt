@@ -3,7 +3,7 @@
 use forward_table::{Table, TableFault, read_table};
 use rotating_pick::{MAX_FILE_BYTES, MAX_PORTS};
 use std::alloc::{AllocError, Global};
-use vector_rows::{NoAnswer, Row, TableText, address, set_up_row};
+use test_vectors::{NoAnswer, Row, TableText, address, set_up_row};
 
 /// The block that is being read.
 #[derive(Drop)]

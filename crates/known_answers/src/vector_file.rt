@@ -7,7 +7,7 @@ use crate::{
     table_rows, wait_rows,
 };
 use std::alloc::{AllocError, Global};
-use vector_rows::{Row, RowReader};
+use test_vectors::{Row, RowReader};
 
 /// How the lines of a vector file are read, by the file's name.
 #[derive(Drop)]
@@ -32,7 +32,7 @@ pub enum Reader {
 
 impl RowReader for Reader {
     ghost use Rattle.known_answers.specs.declared.vector_file.Reader.TheVariants.{Unknown};
-    ghost use Rattle.vector_rows.specs.Rows.{is_wrong};
+    ghost use Rattle.test_vectors.specs.Rows.{is_wrong};
 
     // Each line of a file of no known name is a wrong row.
     ghost reads = { λ old _ given _. old ≡ Unknown → IsSomeAnd given (λ row. is_wrong row ≡ true) };

@@ -4,7 +4,7 @@ use crate::slot_fields::{posted_rows, stated_match};
 use rotating_pick::MAX_PORTS;
 use service_bound::{MAX_NOTED, WaitMeter};
 use std::alloc::{AllocError, Global};
-use vector_rows::{NoAnswer, Row, number};
+use test_vectors::{NoAnswer, Row, number};
 
 /// The block that is being read.
 #[derive(Drop)]

@@ -5,7 +5,7 @@ ghost use Rattle.std.specs.Prelude.{◌≡◌, ◌++◌, ℕ, List, IsSomeAnd, c
 use journal_check::{JournalFault, MAX_JOURNAL_BYTES, Reason, Verdict, check_journal};
 use rotating_pick::LEVEL_COUNT;
 use std::alloc::{AllocError, Global};
-use vector_rows::{NoAnswer, Row, RowReader, set_up_row};
+use test_vectors::{NoAnswer, Row, RowReader, set_up_row};
 
 /// The journal file that is asked about.
 #[derive(Drop)]

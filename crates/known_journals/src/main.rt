@@ -11,7 +11,7 @@ mod journal_rows;
 use crate::journal_rows::Block;
 use std::io;
 use std::process::ExitCode;
-use vector_rows::check_named_files;
+use test_vectors::check_named_files;
 
 fn main(rt: HostRuntime) -> io::Result<ExitCode> {
     check_named_files::<Block>(&rt)

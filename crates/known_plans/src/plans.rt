@@ -6,7 +6,7 @@ use std::alloc::{AllocError, Global};
 use std::thread::Threads;
 use switch_plan::{Plan, PlanFault, jobs};
 use switch_words::Settings;
-use vector_rows::{NoAnswer, TableText};
+use test_vectors::{NoAnswer, TableText};
 
 // The settings of a job whose words have no options.
 const SETTINGS: Settings = Settings {

@@ -5,7 +5,7 @@ use crate::plans::{route_answer, table_answer};
 use std::alloc::{AllocError, Global};
 use std::collections::VecDeque;
 use std::thread::Threads;
-use vector_rows::{Row, TableText, address, is_comment, set_up_row};
+use test_vectors::{Row, TableText, address, is_comment, set_up_row};
 
 /// What each line of a file gives, in order: a row, or None where it sets up the text. Comments are left out.
 pub fn rows_of_lines<R: Threads + Sync>(

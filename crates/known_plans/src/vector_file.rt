@@ -1,9 +1,9 @@
 ghost use Rattle.std.specs.Prelude.{◌≡◌, [], ◌∷◌, List, Option, true, IsSomeAnd};
-ghost use Rattle.vector_rows.specs.declared.row.Row.{Row};
+ghost use Rattle.test_vectors.specs.declared.row.Row.{Row};
 
 use std::alloc::{AllocError, Global};
 use std::collections::VecDeque;
-use vector_rows::{Row, RowReader};
+use test_vectors::{Row, RowReader};
 
 /// Hands out what was made of the lines of a vector file beforehand, since a plan is made by threads, and a
 /// reader has nothing to start them with.
@@ -14,7 +14,7 @@ pub struct Reader {
 }
 
 impl RowReader for Reader {
-    ghost use Rattle.vector_rows.specs.Rows.{is_wrong};
+    ghost use Rattle.test_vectors.specs.Rows.{is_wrong};
 
     // Each line gives the first that is left; where nothing is left it is a wrong row.
     ghost reads = { λ old _ given new. ((first : Option Row) (rest : List (Option Row)) → old.rows.items ≡ first ∷ rest → (given ≡ first)

@@ -8,7 +8,7 @@ use crate::fields::{cell_name_text, level};
 use cell_cutter::MAX_FORWARDED_CELLS;
 use rotating_pick::{LEVELS, MAX_PORTS};
 use std::alloc::{AllocError, Global};
-use vector_rows::{NoAnswer, Row, number, port_count, set_up_row, words};
+use test_vectors::{NoAnswer, Row, number, port_count, set_up_row, words};
 use voq_banks::{Banks, MAX_DEPTH, MAX_QUEUE_PACKETS};
 
 /// The block that is being read.

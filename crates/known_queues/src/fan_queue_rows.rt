@@ -10,7 +10,7 @@ use cell_cutter::MAX_FORWARDED_CELLS;
 use multicast_queue::FanQueues;
 use rotating_pick::{LEVELS, Ports, is_among, is_empty, is_subset, lowest, without};
 use std::alloc::{AllocError, Global};
-use vector_rows::{NoAnswer, Row, number, port_count, port_set, set_up_row, words};
+use test_vectors::{NoAnswer, Row, number, port_count, port_set, set_up_row, words};
 use voq_banks::{MAX_DEPTH, MAX_QUEUE_PACKETS};
 
 /// The block that is being read.

@@ -4,7 +4,7 @@ ghost use Rattle.std.specs.Prelude.{◌<◌, IfOk};
 use cell_cutter::CellName;
 use rotating_pick::LEVELS;
 use std::alloc::{AllocError, Global};
-use vector_rows::NoAnswer;
+use test_vectors::NoAnswer;
 
 /// A priority level: 0 to 3.
 pub fn level(text: &str) -> Result<u8, NoAnswer>

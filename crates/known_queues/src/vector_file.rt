@@ -2,7 +2,7 @@ ghost use Rattle.std.specs.Prelude.{◌≡◌, true, IsSomeAnd};
 
 use crate::{bank_rows, fan_queue_rows};
 use std::alloc::{AllocError, Global};
-use vector_rows::{Row, RowReader};
+use test_vectors::{Row, RowReader};
 
 /// How the lines of a vector file are read, by the file's name.
 #[derive(Drop)]
@@ -15,7 +15,7 @@ pub enum Reader {
 
 impl RowReader for Reader {
     ghost use Rattle.known_queues.specs.declared.vector_file.Reader.TheVariants.{Unknown};
-    ghost use Rattle.vector_rows.specs.Rows.{is_wrong};
+    ghost use Rattle.test_vectors.specs.Rows.{is_wrong};
 
     // Each line of a file of no known name is a wrong row.
     ghost reads = { λ old _ given _. old ≡ Unknown → IsSomeAnd given (λ row. is_wrong row ≡ true) };

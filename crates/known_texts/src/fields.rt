@@ -4,7 +4,7 @@ use rotating_pick::{LEVELS, MAX_PORTS, Ports, with};
 use slot_match::Row;
 use slot_report::{OutLine, Summary};
 use std::alloc::Global;
-use vector_rows::{NoAnswer, number, words};
+use test_vectors::{NoAnswer, number, words};
 
 fn numbers(alloc: Global, text: &str) -> Result<Vec<u32>, NoAnswer> {
     let mut numbers = Vec::new(alloc);

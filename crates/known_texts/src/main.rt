@@ -14,7 +14,7 @@ mod text_rows;
 use crate::text_rows::Block;
 use std::io;
 use std::process::ExitCode;
-use vector_rows::check_named_files;
+use test_vectors::check_named_files;
 
 fn main(rt: HostRuntime) -> io::Result<ExitCode> {
     check_named_files::<Block>(&rt)

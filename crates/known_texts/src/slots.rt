@@ -7,7 +7,7 @@ use rotating_pick::{MAX_PORTS, MAX_ROUNDS};
 use slot_histories::{Answer, Event};
 use slot_match::{Row, Served};
 use std::alloc::Global;
-use vector_rows::NoAnswer;
+use test_vectors::NoAnswer;
 
 // The most slots of a block.
 const MAX_SLOTS: u32 = 8;

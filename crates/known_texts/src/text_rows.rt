@@ -8,7 +8,7 @@ use crate::slots::Slots;
 use rotating_pick::{MAX_PORTS, OutOfMemory};
 use slot_report::{OutLine, Summary, report_text, summary_text};
 use std::alloc::{AllocError, Global};
-use vector_rows::{NoAnswer, Row, RowReader, set_up_row};
+use test_vectors::{NoAnswer, Row, RowReader, set_up_row};
 
 /// The block that is being read.
 #[derive(Drop)]

@@ -3,7 +3,7 @@
 use crate::job_texts::job_text;
 use std::alloc::{AllocError, Global};
 use switch_words::{WordsFault, read_words};
-use vector_rows::{NoAnswer, Row};
+use test_vectors::{NoAnswer, Row};
 
 const USAGE: &str = "usage";
 

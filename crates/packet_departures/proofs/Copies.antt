@@ -20,13 +20,13 @@ use Rattle.card_core.specs.Deliveries.{messages_from}
 use Rattle.card_core.proofs.After.{level-queue}
 use Rattle.switch_plan.specs.GoodPlans.{SwitchPlan, IsGood}
 use Rattle.switch_jobs.specs.Outcomes.{messages_under, over_ports, summary_under}
-use Rattle.whole_run.specs.Runs.{ports_of, card_at, parts_under}
-use Rattle.whole_run.specs.Ends.{IsLengthUnder}
-use Rattle.whole_run.specs.Crossings.{cells_under, queue_to}
-use Rattle.whole_run.proofs.Base.{good-card}
-use Rattle.whole_run.proofs.Emptied.{packets_delivered}
-use Rattle.whole_run.proofs.FlowSums.{sum_same, sum_at, level_sum, level_add, delivered-sum}
-use Rattle.whole_run.proofs.OfFlows.{all_of_flows}
+use Rattle.run_laws.specs.Runs.{ports_of, card_at, parts_under}
+use Rattle.run_laws.specs.Ends.{IsLengthUnder}
+use Rattle.run_laws.specs.Crossings.{cells_under, queue_to}
+use Rattle.run_laws.proofs.Base.{good-card}
+use Rattle.run_laws.proofs.Emptied.{packets_delivered}
+use Rattle.run_laws.proofs.FlowSums.{sum_same, sum_at, level_sum, level_add, delivered-sum}
+use Rattle.run_laws.proofs.OfFlows.{all_of_flows}
 use Rattle.packet_departures.specs.Departures.{goes_by}
 use Rattle.packet_departures.specs.Promises.{leaves_by, leaving_by, CountsDepartures}
 use Rattle.packet_departures.proofs.Filtered.{count-cons}

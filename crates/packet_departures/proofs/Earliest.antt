@@ -27,13 +27,13 @@ use Rattle.card_core.specs.Deliveries.{is_of_flow, flow_cells}
 use Rattle.card_core.proofs.CellCounts.{granted_few}
 use Rattle.card_core.proofs.Messaging.{message-long}
 use Rattle.switch_plan.specs.GoodPlans.{SwitchPlan, IsGood}
-use Rattle.whole_run.specs.Runs.{ports_of, setup_for, card_at, parts_under, posts_under}
-use Rattle.whole_run.specs.Ends.{IsLengthUnder}
-use Rattle.whole_run.specs.Crossings.{cells_under, queue_to}
-use Rattle.whole_run.proofs.Arrivals.{arrivals_first}
-use Rattle.whole_run.proofs.Base.{good-card, servable, before-same, granted_to-same}
-use Rattle.whole_run.proofs.FlowCells.{level_to, kind_to, granted_cells, flow_first}
-use Rattle.whole_run.proofs.PacketCells.{named, packets_cells}
+use Rattle.run_laws.specs.Runs.{ports_of, setup_for, card_at, parts_under, posts_under}
+use Rattle.run_laws.specs.Ends.{IsLengthUnder}
+use Rattle.run_laws.specs.Crossings.{cells_under, queue_to}
+use Rattle.run_laws.proofs.Arrivals.{arrivals_first}
+use Rattle.run_laws.proofs.Base.{good-card, servable, before-same, granted_to-same}
+use Rattle.run_laws.proofs.FlowCells.{level_to, kind_to, granted_cells, flow_first}
+use Rattle.run_laws.proofs.PacketCells.{named, packets_cells}
 use Rattle.packet_departures.specs.Departures.{Flow, is_end_of, ends_of, goes_by}
 use Rattle.packet_departures.proofs.Filtered.{count-cons, count_less, sum_most, place_in, place_map, take_range, range_get, slot_of}
 use Rattle.packet_departures.proofs.FlowEnds.{flow_to}

@@ -25,11 +25,11 @@ use Rattle.card_core.proofs.Arriving.{is_queue-refl}
 use Rattle.card_core.proofs.Passing.{is_queue-same}
 use Rattle.switch_plan.specs.GoodPlans.{SwitchPlan}
 use Rattle.switch_jobs.specs.Departures.{Departure, is_from, is_last, IsEnding, AreDepartures}
-use Rattle.whole_run.specs.Runs.{ports_of, setup_for, card_at, parts_under, posts_under}
-use Rattle.whole_run.specs.Ends.{IsLengthUnder}
-use Rattle.whole_run.specs.Crossings.{queue_to, admitted_under}
-use Rattle.whole_run.proofs.Arrivals.{arrivals_first}
-use Rattle.whole_run.proofs.FlowCells.{level_to, kind_to}
+use Rattle.run_laws.specs.Runs.{ports_of, setup_for, card_at, parts_under, posts_under}
+use Rattle.run_laws.specs.Ends.{IsLengthUnder}
+use Rattle.run_laws.specs.Crossings.{queue_to, admitted_under}
+use Rattle.run_laws.proofs.Arrivals.{arrivals_first}
+use Rattle.run_laws.proofs.FlowCells.{level_to, kind_to}
 use Rattle.packet_departures.specs.Departures.{Flow, flow_of, is_end_of, ends_of, goes_by}
 use Rattle.packet_departures.specs.Promises.{Leaves}
 use Rattle.packet_departures.proofs.Filtered.{filter_twice, filter_same, map_filter}

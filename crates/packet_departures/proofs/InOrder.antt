@@ -10,8 +10,8 @@ use Rattle.card_core.specs.Plans.{message_of}
 use Rattle.switch_plan.specs.GoodPlans.{SwitchPlan, IsGood}
 use Rattle.switch_jobs.specs.Departures.{Departure, is_from, AreDepartures}
 use Rattle.switch_jobs.proofs.Departing.{departures-are}
-use Rattle.whole_run.specs.Runs.{ports_of, card_at}
-use Rattle.whole_run.specs.Ends.{IsLengthUnder}
+use Rattle.run_laws.specs.Runs.{ports_of, card_at}
+use Rattle.run_laws.specs.Ends.{IsLengthUnder}
 use Rattle.packet_departures.specs.Departures.{Flow, flow_of, ends_of, goes_by, earlier_by}
 use Rattle.packet_departures.specs.Promises.{DepartsAs, RecordsAreInOrder}
 use Rattle.packet_departures.proofs.Filtered.{place_in, place_of, map_place, place_map}

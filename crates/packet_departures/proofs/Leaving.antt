@@ -15,9 +15,9 @@ use Rattle.card_core.specs.Deliveries.{is_of_flow}
 use Rattle.card_core.proofs.After.{level-queue}
 use Rattle.switch_plan.specs.GoodPlans.{SwitchPlan, IsGood}
 use Rattle.switch_jobs.proofs.Departing.{departures-are}
-use Rattle.whole_run.specs.Runs.{setup_for, card_at, posts_under}
-use Rattle.whole_run.specs.Ends.{IsLengthUnder}
-use Rattle.whole_run.proofs.Base.{good-card}
+use Rattle.run_laws.specs.Runs.{setup_for, card_at, posts_under}
+use Rattle.run_laws.specs.Ends.{IsLengthUnder}
+use Rattle.run_laws.proofs.Base.{good-card}
 use Rattle.packet_departures.specs.Departures.{Flow, flow_of, is_end_of, ends_of, goes_by, earlier_by, departure_under}
 use Rattle.packet_departures.specs.Promises.{Leaves, EachDeparts, DeparturesRise, DeparturesDiffer}
 use Rattle.packet_departures.proofs.Filtered.{count_less, count_within, slot_of, slots_rise}

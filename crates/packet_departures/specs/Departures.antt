@@ -11,8 +11,8 @@ use Rattle.card_core.specs.Plans.{level_of, kind_of, queue_of}
 use Rattle.card_core.specs.Queues.{enters}
 use Rattle.card_core.specs.Deliveries.{is_of_flow}
 use Rattle.switch_plan.specs.GoodPlans.{SwitchPlan}
-use Rattle.whole_run.specs.Runs.{setup_for, card_at, parts_under, posts_under}
-use Rattle.whole_run.specs.Crossings.{queue_to}
+use Rattle.run_laws.specs.Runs.{setup_for, card_at, parts_under, posts_under}
+use Rattle.run_laws.specs.Crossings.{queue_to}
 
 -- a flow to an output: from an input, of a level and a kind
 pub record Flow : Type 0 where

@@ -10,7 +10,7 @@ use Rattle.card_core.specs.Queues.{is_routed, is_admitted}
 use Rattle.switch_plan.specs.GoodPlans.{SwitchPlan}
 use Rattle.switch_jobs.specs.Departures.{AreDepartures, Departure}
 use Rattle.switch_jobs.specs.Outcomes.{messages_under, over_ports, summary_under}
-use Rattle.whole_run.specs.Runs.{ports_of, card_at, parts_under}
+use Rattle.run_laws.specs.Runs.{ports_of, card_at, parts_under}
 use Rattle.packet_departures.specs.Departures.{flow_of, departure_under}
 
 -- A packet of the run that leaves by output j: the one of input i and number k, admitted, with j in its fan-out.

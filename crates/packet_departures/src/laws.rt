@@ -3,7 +3,7 @@
 ghost use Rattle.std.specs.Prelude.{ℕ};
 ghost use Rattle.eslip_rounds.specs.Schedulers.{Scheduler, IsScheduler};
 ghost use Rattle.switch_plan.specs.GoodPlans.{SwitchPlan, IsGood};
-ghost use Rattle.whole_run.specs.Ends.{IsLengthUnder};
+ghost use Rattle.run_laws.specs.Ends.{IsLengthUnder};
 ghost use Rattle.packet_departures.specs.Promises.{EachDeparts, DeparturesRise, DeparturesDiffer, RecordsAreInOrder, HasDeparturesUnder, CountsDepartures};
 
 /// Each packet that is admitted has one departure at each of its outputs: a slot of the run, its arrival slot and its cells

@@ -15,7 +15,7 @@ use Rattle.card_core.specs.Queues.{is_routed, is_admitted, fits}
 use Rattle.card_core.specs.States.{IsNext}
 use Rattle.queue_lengths.specs.declared.counting.Arrival.{Arrival}
 use Rattle.queue_lengths.specs.Counters.{Counters, CountBefore, CountIn, arrival_in}
-use Rattle.whole_run.proofs.SameParts.{before-alike}
+use Rattle.run_laws.proofs.SameParts.{before-alike}
 use Rattle.packet_times.specs.NotingSteps.{Input, was_admitted, IsNoted}
 use Rattle.packet_times.specs.Steps.{HasArrived}
 

@@ -16,7 +16,7 @@ use Rattle.card_core.specs.Plans.{no_packet}
 use Rattle.card_core.specs.Queues.{is_routed}
 use Rattle.card_core.proofs.Ascending.{some_lt}
 use Rattle.switch_plan.specs.GoodPlans.{SwitchPlan}
-use Rattle.whole_run.specs.Runs.{ports_of, card_at, parts_under}
+use Rattle.run_laws.specs.Runs.{ports_of, card_at, parts_under}
 use Rattle.packet_departures.specs.Departures.{departure_under}
 use Rattle.packet_times.specs.declared.state.PacketState.{PacketState}
 use Rattle.packet_times.specs.declared.state.PacketState.TheVariants.{Forwarded, Dropped, Unrouted, Oversize}

@@ -11,7 +11,7 @@ use Rattle.eslip_rounds.specs.Schedulers.{Scheduler}
 use Rattle.slot_report.proofs.Appending.{both}
 use Rattle.switch_plan.specs.GoodPlans.{SwitchPlan}
 use Rattle.switch_plan.proofs.Making.{flat_map_next}
-use Rattle.whole_run.specs.Runs.{ports_of}
+use Rattle.run_laws.specs.Runs.{ports_of}
 use Rattle.packet_times.specs.declared.fields.Field.{Field}
 use Rattle.packet_times.specs.Rows.{row_text, header, packets_text_under}
 use Rattle.packet_times.specs.Steps.{input_text}

@@ -20,10 +20,10 @@ use Rattle.card_core.proofs.Ascending.{some_lt}
 use Rattle.card_core.proofs.Passing.{is_queue-same}
 use Rattle.card_core.proofs.Plenty.{few_packets}
 use Rattle.switch_plan.specs.GoodPlans.{SwitchPlan, IsGood}
-use Rattle.whole_run.specs.Runs.{ports_of, card_at, parts_under}
-use Rattle.whole_run.specs.Promises.{ArrivalsComeFirst}
-use Rattle.whole_run.specs.Crossings.{queue_to}
-use Rattle.whole_run.proofs.Base.{good-card, served-length}
+use Rattle.run_laws.specs.Runs.{ports_of, card_at, parts_under}
+use Rattle.run_laws.specs.Promises.{ArrivalsComeFirst}
+use Rattle.run_laws.specs.Crossings.{queue_to}
+use Rattle.run_laws.proofs.Base.{good-card, served-length}
 use Rattle.packet_departures.specs.Departures.{Flow, flow_of, ends_of, goes_by, earlier_by, departure_under}
 use Rattle.packet_times.specs.declared.going.TheConstants.{MOST_FLOWS}
 use Rattle.packet_times.specs.declared.walk.Outcome.{Outcome}

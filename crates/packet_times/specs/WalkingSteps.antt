@@ -7,7 +7,7 @@ use Rattle.reassembly.specs.declared.limits.TheConstants.{FLOWS_PER_INPUT}
 use Rattle.eslip_rounds.specs.Schedulers.{Scheduler}
 use Rattle.card_core.specs.declared.plan.Planned.{Planned}
 use Rattle.switch_plan.specs.GoodPlans.{SwitchPlan}
-use Rattle.whole_run.specs.Runs.{ports_of, card_at, parts_under}
+use Rattle.run_laws.specs.Runs.{ports_of, card_at, parts_under}
 use Rattle.packet_departures.specs.Departures.{Flow, earlier_by, departure_under}
 use Rattle.packet_times.specs.declared.going.TheConstants.{MOST_FLOWS}
 use Rattle.packet_times.specs.declared.walk.Outcome.{Outcome}

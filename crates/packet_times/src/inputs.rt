@@ -6,7 +6,7 @@ ghost use Rattle.eslip_rounds.specs.Schedulers.{Scheduler};
 ghost use Rattle.card_core.specs.Plans.{Plan as APlan, IsGoodPlan, plan_of};
 ghost use Rattle.card_core.specs.Posts.{row_at, IsServable};
 ghost use Rattle.switch_plan.specs.GoodPlans.{SwitchPlan, IsGood, switch_plan_of};
-ghost use Rattle.whole_run.specs.Runs.{ports_of, IsSlotUnder};
+ghost use Rattle.run_laws.specs.Runs.{ports_of, IsSlotUnder};
 ghost use Rattle.packet_times.specs.NotingSteps.{IsNoted};
 ghost use Rattle.packet_times.specs.Steps.{AreNoted};
 

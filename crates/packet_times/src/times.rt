@@ -2,8 +2,8 @@ ghost use Rattle.std.specs.Prelude.{◌≡◌, ◌+◌, ◌≤◌, ℕ, length, 
 ghost use Rattle.rotating_pick.specs.declared.limits.TheConstants.{MAX_PORTS};
 ghost use Rattle.eslip_rounds.specs.Schedulers.{Scheduler};
 ghost use Rattle.switch_plan.specs.GoodPlans.{SwitchPlan, IsGood, switch_plan_of};
-ghost use Rattle.whole_run.specs.Runs.{ports_of, IsSlotUnder};
-ghost use Rattle.whole_run.specs.Promises.{ArrivalsComeFirst};
+ghost use Rattle.run_laws.specs.Runs.{ports_of, IsSlotUnder};
+ghost use Rattle.run_laws.specs.Promises.{ArrivalsComeFirst};
 ghost use Rattle.packet_times.specs.Rows.{packets_text_under};
 ghost use Rattle.packet_times.specs.NotingSteps.{HasNoted};
 

@@ -2,8 +2,8 @@ ghost use Rattle.std.specs.Prelude.{◌≡◌, ◌≢◌, ℕ, ◌<◌, ◌≤�
 ghost use Rattle.rotating_pick.specs.declared.limits.TheConstants.{LEVELS, MAX_PORTS};
 ghost use Rattle.eslip_rounds.specs.Schedulers.{Scheduler};
 ghost use Rattle.switch_plan.specs.GoodPlans.{SwitchPlan};
-ghost use Rattle.whole_run.specs.Runs.{ports_of};
-ghost use Rattle.whole_run.specs.Promises.{ArrivalsComeFirst};
+ghost use Rattle.run_laws.specs.Runs.{ports_of};
+ghost use Rattle.run_laws.specs.Promises.{ArrivalsComeFirst};
 ghost use Rattle.packet_departures.specs.Departures.{departure_under};
 ghost use Rattle.packet_times.specs.NotingSteps.{HasNoted};
 ghost use Rattle.packet_times.specs.Steps.{input_text};

@@ -19,9 +19,9 @@ use Rattle.card_core.specs.declared.plan.Planned.{Planned}
 use Rattle.card_core.specs.Plans.{Plan, Queue, OfOutput, OfLevel, size_of}
 use Rattle.card_core.specs.Queues.{is_admitted, enters}
 use Rattle.switch_plan.specs.GoodPlans.{SwitchPlan}
-use Rattle.whole_run.specs.Runs.{ports_of, card_at, parts_under}
-use Rattle.whole_run.specs.Promises.{ArrivalsComeFirst}
-use Rattle.whole_run.proofs.Base.{good-card, served-length}
+use Rattle.run_laws.specs.Runs.{ports_of, card_at, parts_under}
+use Rattle.run_laws.specs.Promises.{ArrivalsComeFirst}
+use Rattle.run_laws.proofs.Base.{good-card, served-length}
 use Rattle.buffer_sizing.specs.Sizing.{deepest_under}
 use Rattle.queue_lengths.specs.Lengths.{count_of, queues_of, greatest, deepest_of, is_for, packets_of}
 use Rattle.queue_measures.specs.declared.numbers.QueueNumbers.{QueueNumbers}

@@ -13,8 +13,8 @@ use Rattle.slot_histories.specs.Slots.{served_under}
 use Rattle.card_core.specs.Plans.{Plan}
 use Rattle.card_core.specs.Posts.{row_at, IsServable}
 use Rattle.switch_plan.specs.GoodPlans.{SwitchPlan}
-use Rattle.whole_run.specs.Runs.{ports_of, setup_for, card_at, no_plan, parts_under, posts_under, IsSlotUnder}
-use Rattle.whole_run.proofs.Base.{served-is, served-length, good-card}
+use Rattle.run_laws.specs.Runs.{ports_of, setup_for, card_at, no_plan, parts_under, posts_under, IsSlotUnder}
+use Rattle.run_laws.proofs.Base.{served-is, served-length, good-card}
 use Rattle.queue_measures.specs.NotingSteps.{Input, HasNoted, IsNoted, no_input}
 
 -- one input more, before slot 0

@@ -12,7 +12,7 @@ use Rattle.card_core.specs.Queues.{is_routed, is_admitted}
 use Rattle.card_core.proofs.Passing.{is_queue-same}
 use Rattle.card_core.proofs.Arriving.{is_queue-refl}
 use Rattle.card_core.proofs.Admitting.{count-is, both-are}
-use Rattle.whole_run.proofs.RangeSums.{sum_by-zero, sum_by-plus, sum_by-same}
+use Rattle.run_laws.proofs.RangeSums.{sum_by-zero, sum_by-plus, sum_by-same}
 use Rattle.queue_lengths.specs.Lengths.{IsQueue, count_of, place_of, queues_of, is_for}
 use Rattle.queue_measures.specs.Steps.{queue_at}
 use Rattle.queue_measures.specs.Sums.{AddUp}

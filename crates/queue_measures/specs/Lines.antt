@@ -9,7 +9,7 @@ use Rattle.card_core.specs.Plans.{Plan, Queue, OfOutput, OfLevel}
 use Rattle.queue_lengths.specs.Lengths.{queues_of, packets_of, dropped_of, cells_of_admitted, peak_of, peak_slot}
 use Rattle.queue_measures.specs.declared.numbers.QueueNumbers.{QueueNumbers}
 use Rattle.switch_plan.specs.GoodPlans.{SwitchPlan}
-use Rattle.whole_run.specs.Runs.{ports_of, card_at, parts_under}
+use Rattle.run_laws.specs.Runs.{ports_of, card_at, parts_under}
 use Rattle.buffer_sizing.specs.Sizing.{deepest_under}
 
 -- the numbers of a queue of an input that was served these parts, over the first slots

@@ -9,7 +9,7 @@ use Rattle.queue_lengths.specs.Lengths.{IsQueue, place_of, count_of, is_for, pea
 use Rattle.queue_lengths.specs.Counters.{Counters, CountBefore}
 use Rattle.queue_measures.specs.declared.numbers.QueueNumbers.{QueueNumbers}
 use Rattle.switch_plan.specs.GoodPlans.{SwitchPlan, IsGood}
-use Rattle.whole_run.specs.Runs.{ports_of, card_at, parts_under}
+use Rattle.run_laws.specs.Runs.{ports_of, card_at, parts_under}
 
 -- an input: the counters of its queues, and the numbers of each queue, by its place
 pub record Input : Type 0 where

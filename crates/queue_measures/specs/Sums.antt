@@ -8,7 +8,7 @@ use Rattle.card_core.specs.Plans.{Plan}
 use Rattle.card_core.specs.Queues.{admitted, dropped}
 use Rattle.queue_lengths.specs.Lengths.{queues_of, packets_of, dropped_of}
 use Rattle.switch_plan.specs.GoodPlans.{SwitchPlan}
-use Rattle.whole_run.specs.Runs.{ports_of, card_at, parts_under}
+use Rattle.run_laws.specs.Runs.{ports_of, card_at, parts_under}
 
 -- Over the queues of an input the packets add up to those that were admitted and dropped, and the dropped ones to those
 -- that were dropped.

@@ -3,7 +3,7 @@
 ghost use Rattle.std.specs.Prelude.{ℕ};
 ghost use Rattle.eslip_rounds.specs.Schedulers.{Scheduler};
 ghost use Rattle.switch_plan.specs.GoodPlans.{SwitchPlan, IsGood};
-ghost use Rattle.whole_run.specs.Promises.{ArrivalsComeFirst};
+ghost use Rattle.run_laws.specs.Promises.{ArrivalsComeFirst};
 ghost use Rattle.queue_measures.specs.Sums.{QueuesAddUpUnder};
 
 /// The numbers of the queues of each input add up, under any scheduler: their packets to those that the input admitted and

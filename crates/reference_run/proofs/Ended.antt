@@ -8,11 +8,11 @@ use Rattle.eslip_rounds.proofs.Scheduling.{IsScheduler-decision_of}
 use Rattle.slot_histories.specs.Slots.{is_done_at}
 use Rattle.card_core.specs.Queues.{waiting, before as queue_before}
 use Rattle.switch_plan.specs.GoodPlans.{SwitchPlan, IsGood}
-use Rattle.whole_run.specs.Runs.{ports_of, card_at, served_by, posts_in}
-use Rattle.whole_run.specs.Ends.{IsLength}
-use Rattle.whole_run.specs.Crossings.{queue_to}
-use Rattle.whole_run.proofs.Base.{good-card}
-use Rattle.whole_run.proofs.Emptied.{none_waits, stays_empty, last_row}
+use Rattle.run_laws.specs.Runs.{ports_of, card_at, served_by, posts_in}
+use Rattle.run_laws.specs.Ends.{IsLength}
+use Rattle.run_laws.specs.Crossings.{queue_to}
+use Rattle.run_laws.proofs.Base.{good-card}
+use Rattle.run_laws.proofs.Emptied.{none_waits, stays_empty, last_row}
 use Rattle.output_queued.specs.Switches.{served_in, AreEmptied}
 use Rattle.reference_run.specs.RunLines.{run_matches}
 use Rattle.reference_run.proofs.Matches.{matches-long, served-run}

@@ -15,12 +15,12 @@ use Rattle.slot_histories.specs.Answers.{JournalSlot}
 use Rattle.card_core.specs.Posts.{row_at}
 use Rattle.switch_plan.specs.GoodPlans.{SwitchPlan, IsGood}
 use Rattle.switch_plan.proofs.RoomBounds.{most_few}
-use Rattle.whole_run.specs.Runs.{ports_of, setup_for, card_at, served_by, posts_in, run_slot}
-use Rattle.whole_run.specs.Ends.{IsLength}
-use Rattle.whole_run.proofs.Base.{served-is, row_at-same, good-card, sound, is-slot, pair-named}
-use Rattle.whole_run.proofs.RunEnds.{run_bound}
-use Rattle.whole_run.proofs.SlotLimits.{greatest-le}
-use Rattle.whole_run.proofs.RunWork.{total_admitted-le}
+use Rattle.run_laws.specs.Runs.{ports_of, setup_for, card_at, served_by, posts_in, run_slot}
+use Rattle.run_laws.specs.Ends.{IsLength}
+use Rattle.run_laws.proofs.Base.{served-is, row_at-same, good-card, sound, is-slot, pair-named}
+use Rattle.run_laws.proofs.RunEnds.{run_bound}
+use Rattle.run_laws.proofs.SlotLimits.{greatest-le}
+use Rattle.run_laws.proofs.RunWork.{total_admitted-le}
 use Rattle.output_queued.specs.Switches.{Matched, match_at, served_in, AreCards, AreServed}
 use Rattle.reference_run.specs.RunLines.{run_matches}
 use Rattle.reference_run.specs.MeetingSteps.{run_rows}

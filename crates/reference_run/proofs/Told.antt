@@ -7,9 +7,9 @@ use Rattle.slot_match.specs.Rows.{Names, no_row}
 use Rattle.slot_match.specs.Matches.{IsMatch}
 use Rattle.card_core.specs.Posts.{row_at}
 use Rattle.switch_plan.specs.GoodPlans.{SwitchPlan, IsGood}
-use Rattle.whole_run.specs.Runs.{ports_of, card_at, no_plan, served_by, run_slot}
-use Rattle.whole_run.specs.Ends.{IsLength}
-use Rattle.whole_run.proofs.Base.{good-card}
+use Rattle.run_laws.specs.Runs.{ports_of, card_at, no_plan, served_by, run_slot}
+use Rattle.run_laws.specs.Ends.{IsLength}
+use Rattle.run_laws.proofs.Base.{good-card}
 use Rattle.output_queued.specs.Ideal.{total}
 use Rattle.output_queued.specs.Switches.{Matched, served_in, card_of, no_card, card_for, cells_from, comes, rows_after}
 use Rattle.output_queued.specs.Lines.{ideal, ran, line_of}

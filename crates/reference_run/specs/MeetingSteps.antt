@@ -2,7 +2,7 @@
 use Rattle.std.specs.Prelude.{◌≡◌, ℕ, List, map}
 use Rattle.slot_match.specs.declared.rows.Row.{Row}
 use Rattle.switch_plan.specs.GoodPlans.{SwitchPlan}
-use Rattle.whole_run.specs.Runs.{ports_of, run_slot}
+use Rattle.run_laws.specs.Runs.{ports_of, run_slot}
 use Rattle.output_queued.specs.Switches.{Matched}
 use Rattle.output_queued.specs.NotingSteps.{State, HasNoted}
 use Rattle.reference_run.specs.Meeting.{coming_in}

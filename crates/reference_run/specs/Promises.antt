@@ -1,7 +1,7 @@
 -- What is promised of the reference of a run of so many slots: when it ends, and what its last column adds up.
 use Rattle.std.specs.Prelude.{◌≡◌, ℕ, ◌-◌, ◌<◌, ◌≤◌, List, [], ◌∷◌, sum}
 use Rattle.switch_plan.specs.GoodPlans.{SwitchPlan}
-use Rattle.whole_run.specs.Runs.{ports_of}
+use Rattle.run_laws.specs.Runs.{ports_of}
 use Rattle.output_queued.specs.declared.line.RefLine.{RefLine}
 use Rattle.output_queued.specs.Lines.{ideal, ran, rises, line_of}
 use Rattle.reference_run.specs.RunLines.{run_matches}

@@ -1,7 +1,7 @@
 -- The run of a plan against the ideal switch: the last lines of its report.
 use Rattle.std.specs.Prelude.{ℕ, List, map}
 use Rattle.switch_plan.specs.GoodPlans.{SwitchPlan}
-use Rattle.whole_run.specs.Runs.{run_journal}
+use Rattle.run_laws.specs.Runs.{run_journal}
 use Rattle.output_queued.specs.Switches.{Matched}
 use Rattle.output_queued.specs.Lines.{lines_of}
 use Rattle.output_queued.specs.Texts.{reference_lines}

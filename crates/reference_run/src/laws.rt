@@ -2,8 +2,8 @@
 
 ghost use Rattle.std.specs.Prelude.{◌≡◌, ℕ, ◌+◌, ◌<◌, ◌≤◌, [], ◌∷◌, ◌++◌, sum};
 ghost use Rattle.switch_plan.specs.GoodPlans.{SwitchPlan, IsGood};
-ghost use Rattle.whole_run.specs.Runs.{ports_of, run_slot};
-ghost use Rattle.whole_run.specs.Ends.{IsLength};
+ghost use Rattle.run_laws.specs.Runs.{ports_of, run_slot};
+ghost use Rattle.run_laws.specs.Ends.{IsLength};
 ghost use Rattle.output_queued.specs.NotingSteps.{State, MayNote, cards_in};
 ghost use Rattle.output_queued.specs.Ideal.{total};
 ghost use Rattle.output_queued.specs.Switches.{comes};

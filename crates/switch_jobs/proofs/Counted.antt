@@ -13,12 +13,12 @@ use Rattle.card_core.specs.Plans.{Plan as CardPlan}
 use Rattle.card_core.specs.Queues.{is_routed}
 use Rattle.card_core.proofs.Admitting.{both-are}
 use Rattle.switch_plan.specs.GoodPlans.{SwitchPlan, packets_in, IsGood}
-use Rattle.whole_run.specs.Runs.{ports_of, card_at, parts_under}
-use Rattle.whole_run.specs.Ends.{IsLengthUnder}
-use Rattle.whole_run.proofs.Base.{good-card}
-use Rattle.whole_run.proofs.Rooms.{packets-at}
-use Rattle.whole_run.proofs.Arrivals.{arrivals_first}
-use Rattle.whole_run.proofs.FlowSums.{sum_add, sum_range-le}
+use Rattle.run_laws.specs.Runs.{ports_of, card_at, parts_under}
+use Rattle.run_laws.specs.Ends.{IsLengthUnder}
+use Rattle.run_laws.proofs.Base.{good-card}
+use Rattle.run_laws.proofs.Rooms.{packets-at}
+use Rattle.run_laws.proofs.Arrivals.{arrivals_first}
+use Rattle.run_laws.proofs.FlowSums.{sum_add, sum_range-le}
 use Rattle.switch_jobs.specs.Outcomes.{admitted_count, dropped_count, over_ports, summary_under, CountsPacketsOnce}
 use Rattle.switch_jobs.proofs.Adding.{sum_by-map}
 

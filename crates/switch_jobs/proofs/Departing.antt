@@ -11,10 +11,10 @@ use Rattle.eslip_rounds.specs.Schedulers.{Scheduler, IsScheduler}
 use Rattle.slot_histories.specs.Slots.{crossed_under}
 use Rattle.card_core.specs.Deliveries.{is_of_flow, message_with, messages_after, messages_from}
 use Rattle.switch_plan.specs.GoodPlans.{SwitchPlan, IsGood}
-use Rattle.whole_run.specs.Runs.{ports_of, setup_for, posts_under}
-use Rattle.whole_run.specs.Ends.{IsLengthUnder}
-use Rattle.whole_run.proofs.Emptied.{packets_delivered}
-use Rattle.whole_run.proofs.OfFlows.{all_of_flows}
+use Rattle.run_laws.specs.Runs.{ports_of, setup_for, posts_under}
+use Rattle.run_laws.specs.Ends.{IsLengthUnder}
+use Rattle.run_laws.proofs.Emptied.{packets_delivered}
+use Rattle.run_laws.proofs.OfFlows.{all_of_flows}
 use Rattle.switch_jobs.specs.Departures.{Departure, is_from, messages_in, is_last, IsEnding, AreDepartures}
 
 -- ---- one element or none

@@ -18,9 +18,9 @@ use Rattle.card_worker.specs.declared.hands.Hand.{Hand}
 use Rattle.card_worker.proofs.Grouping.{at_place}
 use Rattle.slot_report.specs.declared.summary.Summary.{Summary}
 use Rattle.switch_plan.specs.GoodPlans.{SwitchPlan, packets_in, IsGood}
-use Rattle.whole_run.specs.Runs.{ports_of, setup_for, posts_in, run_slot, run_journal}
-use Rattle.whole_run.specs.Sums.{run_schedule}
-use Rattle.whole_run.specs.Crossings.{cells_under}
+use Rattle.run_laws.specs.Runs.{ports_of, setup_for, posts_in, run_slot, run_journal}
+use Rattle.run_laws.specs.Sums.{run_schedule}
+use Rattle.run_laws.specs.Crossings.{cells_under}
 use Rattle.switch_jobs.specs.declared.ready.Terms.{Terms}
 use Rattle.switch_jobs.specs.Outcomes.{messages_under, admitted_count, dropped_count, longest_under, longest_at, summary_under, summary_of}
 use Rattle.switch_jobs.specs.Outcomes.{IsOutputUnder, IsOutput}

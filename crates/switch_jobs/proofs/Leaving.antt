@@ -20,9 +20,9 @@ use Rattle.card_core.specs.Deliveries.{delivered}
 use Rattle.card_worker.specs.declared.hands.Hand.{Hand}
 use Rattle.card_worker.specs.Agreeing.{AreGiven, IsInStep}
 use Rattle.switch_plan.specs.GoodPlans.{SwitchPlan}
-use Rattle.whole_run.specs.Runs.{card_at, setup_for, parts_under, posts_under, takings_under, run_takings}
-use Rattle.whole_run.specs.Crossings.{cells_under}
-use Rattle.whole_run.specs.Ends.{IsLength}
+use Rattle.run_laws.specs.Runs.{card_at, setup_for, parts_under, posts_under, takings_under, run_takings}
+use Rattle.run_laws.specs.Crossings.{cells_under}
+use Rattle.run_laws.specs.Ends.{IsLength}
 use Rattle.switch_jobs.specs.Outcomes.{IsOutputUnder, IsOutput}
 use Rattle.switch_jobs.specs.EndingSteps.{Leaves}
 use Rattle.switch_jobs.proofs.Adding.{count_before-le, messages-le, cells-le}

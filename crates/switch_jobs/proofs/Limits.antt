@@ -2,7 +2,7 @@
 use Rattle.std.proofs.Common.{◌<◌, ◌≤◌, length, arith}
 use Rattle.switch_plan.specs.GoodPlans.{SwitchPlan, IsGood}
 use Rattle.switch_plan.proofs.RoomBounds.{most_few}
-use Rattle.whole_run.proofs.SlotLimits.{greatest-le, most-halved}
+use Rattle.run_laws.proofs.SlotLimits.{greatest-le, most-halved}
 
 module _ (plan : SwitchPlan) (good : IsGood plan) where
   pub slots_some : 0 < plan.max_slots

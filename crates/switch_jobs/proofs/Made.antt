@@ -15,8 +15,8 @@ use Rattle.card_worker.specs.Agreeing.{AreGiven, IsDriven}
 use Rattle.card_worker.specs.Alone.{AreHandsOf, IsOver}
 use Rattle.card_worker.proofs.Grouping.{at_place}
 use Rattle.switch_plan.specs.GoodPlans.{SwitchPlan}
-use Rattle.whole_run.specs.Runs.{ports_of, setup_for, card_at, no_plan, run_journal, run_takings}
-use Rattle.whole_run.specs.Ends.{IsLength}
+use Rattle.run_laws.specs.Runs.{ports_of, setup_for, card_at, no_plan, run_journal, run_takings}
+use Rattle.run_laws.specs.Ends.{IsLength}
 use Rattle.switch_jobs.specs.Outcomes.{IsOutput}
 use Rattle.switch_jobs.specs.EndingSteps.{Leaves, AreOfPlans, IsRunOf}
 use Rattle.switch_jobs.proofs.Leaving.{output_left}

@@ -9,10 +9,10 @@ use Rattle.slot_histories.specs.Slots.{taken_under}
 use Rattle.card_core.specs.Cards.{served_in, is_done}
 use Rattle.card_core.specs.Deliveries.{cells_taken}
 use Rattle.switch_plan.specs.GoodPlans.{SwitchPlan}
-use Rattle.whole_run.specs.Runs.{setup_for, parts_under, posts_under, takings_under}
-use Rattle.whole_run.specs.Crossings.{cells_under}
-use Rattle.whole_run.specs.Ends.{IsLengthUnder}
-use Rattle.whole_run.proofs.Base.{served-is}
+use Rattle.run_laws.specs.Runs.{setup_for, parts_under, posts_under, takings_under}
+use Rattle.run_laws.specs.Crossings.{cells_under}
+use Rattle.run_laws.specs.Ends.{IsLengthUnder}
+use Rattle.run_laws.proofs.Base.{served-is}
 use Rattle.switch_jobs.proofs.Adding.{map-map}
 
 flat_map-map : {A B C : Type 0} (g : B → List C) (f : A → B) (xs : List A) → flat_map g (map f xs) ≡ flat_map (λ x. g (f x)) xs

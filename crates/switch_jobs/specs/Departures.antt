@@ -10,8 +10,8 @@ use Rattle.eslip_rounds.specs.Decisions.{decision_of, is_kind}
 use Rattle.slot_histories.specs.Slots.{crossed_under}
 use Rattle.card_core.specs.Plans.{message_of}
 use Rattle.switch_plan.specs.GoodPlans.{SwitchPlan}
-use Rattle.whole_run.specs.Runs.{ports_of, setup_for, card_at, posts_under}
-use Rattle.whole_run.specs.Crossings.{admitted_under}
+use Rattle.run_laws.specs.Runs.{ports_of, setup_for, card_at, posts_under}
+use Rattle.run_laws.specs.Crossings.{admitted_under}
 use Rattle.switch_jobs.specs.Outcomes.{messages_under}
 
 -- A message that leaves by an output: the slot in which its last cell crosses, and its input, level and kind, which are its

@@ -9,8 +9,8 @@ use Rattle.card_core.specs.Plans.{Plan as CardPlan}
 use Rattle.card_core.specs.Cards.{CardState, IsAfter, IsOut}
 use Rattle.card_worker.specs.declared.hands.Hand.{Hand}
 use Rattle.switch_plan.specs.GoodPlans.{SwitchPlan}
-use Rattle.whole_run.specs.Runs.{ports_of, setup_for, run_journal}
-use Rattle.whole_run.specs.Ends.{IsLength}
+use Rattle.run_laws.specs.Runs.{ports_of, setup_for, run_journal}
+use Rattle.run_laws.specs.Ends.{IsLength}
 use Rattle.switch_jobs.specs.Outcomes.{IsOutput}
 
 -- what the card leaves, over all that it may have taken

@@ -11,10 +11,10 @@ use Rattle.slot_report.specs.declared.summary.Summary.{Summary}
 use Rattle.switch_plan.specs.GoodPlans.{SwitchPlan, packets_in}
 use Rattle.eslip_rounds.specs.Schedulers.{Scheduler}
 use Rattle.eslip_rounds.specs.Decisions.{decision_of}
-use Rattle.whole_run.specs.Runs.{ports_of, setup_for, card_at, parts_under, run_journal}
-use Rattle.whole_run.specs.Ends.{IsLength}
-use Rattle.whole_run.specs.Crossings.{cells_under}
-use Rattle.whole_run.specs.Sums.{schedule_under}
+use Rattle.run_laws.specs.Runs.{ports_of, setup_for, card_at, parts_under, run_journal}
+use Rattle.run_laws.specs.Ends.{IsLength}
+use Rattle.run_laws.specs.Crossings.{cells_under}
+use Rattle.run_laws.specs.Sums.{schedule_under}
 use Rattle.switch_jobs.specs.declared.outcome.Outcome.{Outcome}
 
 -- the messages that are delivered to output j in the first slots, in the order of the slots in which their last cells cross

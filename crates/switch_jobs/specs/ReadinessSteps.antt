@@ -10,7 +10,7 @@ use Rattle.card_worker.specs.declared.hands.Member.{Member}
 use Rattle.card_worker.specs.declared.hands.Group.{Group}
 use Rattle.card_worker.specs.Trying.{IsMember}
 use Rattle.switch_plan.specs.GoodPlans.{SwitchPlan, packets_in, IsGood}
-use Rattle.whole_run.specs.Runs.{ports_of, setup_for}
+use Rattle.run_laws.specs.Runs.{ports_of, setup_for}
 use Rattle.switch_jobs.specs.declared.ready.Terms.{Terms}
 use Rattle.switch_jobs.specs.declared.ready.Rooms.{Rooms}
 

@@ -4,7 +4,7 @@ ghost use Rattle.card_core.specs.Plans.{Plan as CardPlan};
 ghost use Rattle.card_worker.specs.Groups.{AreGroups};
 ghost use Rattle.card_worker.specs.Alone.{AreHandsOf, IsOver};
 ghost use Rattle.switch_plan.specs.GoodPlans.{SwitchPlan, IsGood};
-ghost use Rattle.whole_run.specs.Runs.{setup_for};
+ghost use Rattle.run_laws.specs.Runs.{setup_for};
 ghost use Rattle.switch_jobs.specs.SharingSteps.{ArePlanned, HaveWaited};
 ghost use Rattle.switch_jobs.specs.EndingSteps.{AreLeft, AreOfPlans, IsRunOf};
 ghost use Rattle.switch_jobs.specs.OneJournal.{GoesOnFrom};
@@ -12,7 +12,7 @@ ghost use Rattle.switch_jobs.specs.OneJournal.{GoesOnFrom};
 use card_core::CardOut;
 use card_worker::{Group, Hand, Hands, close_with, disband, finish_alone, laws};
 use slot_board::{Board, BoardState, Seats};
-use whole_run::{boards, ends};
+use run_laws::{boards, ends};
 
 /// Disbands the groups into the two empty lists, which have room for all, closes the board, and makes on this
 /// thread what is left of the run: the events of the board and those made here are one legal list. It takes no

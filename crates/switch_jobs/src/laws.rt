@@ -3,7 +3,7 @@
 ghost use Rattle.std.specs.Prelude.{ℕ};
 ghost use Rattle.eslip_rounds.specs.Schedulers.{Scheduler, IsScheduler};
 ghost use Rattle.switch_plan.specs.GoodPlans.{SwitchPlan, IsGood};
-ghost use Rattle.whole_run.specs.Ends.{IsLengthUnder};
+ghost use Rattle.run_laws.specs.Ends.{IsLengthUnder};
 ghost use Rattle.switch_jobs.specs.Outcomes.{summary_under, CountsPacketsOnce};
 ghost use Rattle.switch_jobs.specs.Departures.{InterleavesFlowsUnder};
 

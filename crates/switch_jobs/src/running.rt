@@ -1,6 +1,6 @@
 ghost use Rattle.std.specs.Prelude.{◌≤◌, IfOk, length};
 ghost use Rattle.switch_plan.specs.GoodPlans.{switch_plan_of, IsGood};
-ghost use Rattle.whole_run.specs.Promises.{CompletesMulticast, ServesWaiting, WaitsAreShort};
+ghost use Rattle.run_laws.specs.Promises.{CompletesMulticast, ServesWaiting, WaitsAreShort};
 ghost use Rattle.switch_jobs.specs.Outcomes.{IsOutcome};
 ghost use Rattle.switch_jobs.specs.OneJournal.{IsOneJournal};
 

@@ -8,7 +8,7 @@ use Rattle.outside.specs.Contents.{Contents}
 use Rattle.outside.specs.WholeFiles.{Fits, IsTooLong}
 use Rattle.switch_words.specs.Reading.{JobWords, run, gen, check, firm}
 use Rattle.switch_plan.specs.GoodPlans.{SwitchPlan, IsGood}
-use Rattle.whole_run.specs.Ends.{IsLength}
+use Rattle.run_laws.specs.Ends.{IsLength}
 use Rattle.switch_run.specs.Causes.{Answers, IsReadable, IsRunFor, TooLongIsExact, UsageIsExact}
 use Rattle.switch_run.specs.Endings.{Command, IsFirstTooLong, IsMade, IsStopped, Stops}
 use Rattle.job_files.specs.Statuses.{check_status}
@@ -16,8 +16,8 @@ use Rattle.job_files.specs.Inputs.{AreFilesRead, AreInputs, CapturesRead, Earlie
 use Rattle.job_files.specs.Jobs.{ReadWords, reads_of, IsInput, input_name}
 use Rattle.job_files.specs.OutputFiles.{Texts}
 use Rattle.switch_run.specs.Switched.{AreTexts}
-use Rattle.check_job.specs.declared.ending.CheckEnding.{CheckEnding}
-use Rattle.check_job.specs.declared.ending.CheckEnding.TheVariants as check_ending
+use Rattle.journal_command.specs.declared.ending.CheckEnding.{CheckEnding}
+use Rattle.journal_command.specs.declared.ending.CheckEnding.TheVariants as check_ending
 use Rattle.job_files.specs.declared.ending.Ending.{Ending}
 use Rattle.job_files.specs.declared.ending.Ending.TheVariants.{Done, Usage, ReadFault, TooLong, Refused, JournalTooLong, PacketsTooLong, OutOfMemory}
 use Rattle.job_files.specs.declared.ending.Ending.TheVariants.{WriteFault, Checked}

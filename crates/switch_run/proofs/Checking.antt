@@ -9,9 +9,9 @@ use Rattle.journal_check.specs.declared.verdict.Verdict.TheVariants as verdict
 use Rattle.journal_check.specs.declared.verdict.JournalFault.{JournalFault}
 use Rattle.journal_check.specs.declared.verdict.JournalFault.TheVariants as journal_fault
 use Rattle.journal_check.specs.declared.verdict.Reason.{Reason}
-use Rattle.check_job.specs.Checks.{HasAnswer, IsTooLong, MeansCheck}
-use Rattle.check_job.specs.declared.ending.CheckEnding.{CheckEnding}
-use Rattle.check_job.specs.declared.ending.CheckEnding.TheVariants as check_ending
+use Rattle.journal_command.specs.Checks.{HasAnswer, IsTooLong, MeansCheck}
+use Rattle.journal_command.specs.declared.ending.CheckEnding.{CheckEnding}
+use Rattle.journal_command.specs.declared.ending.CheckEnding.TheVariants as check_ending
 use Rattle.switch_words.specs.Reading.{JobWords, check}
 use Rattle.switch_run.specs.Causes.{Answers, AnswersUnlessOut, CheckIsExact, IsCheckable}
 use Rattle.switch_run.specs.Endings.{Command, IsMade, IsStopped, Stops}

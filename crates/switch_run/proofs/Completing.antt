@@ -7,7 +7,7 @@ use Rattle.std.proofs.Math.Seq.{get_or-append_seam}
 use Rattle.outside.specs.Contents.{Contents}
 use Rattle.outside.specs.WholeFiles.{AtBegin, AtWrite, NamedBytes, StopsAt}
 use Rattle.switch_words.specs.Reading.{JobWords, run, gen, check, firm, RunWords}
-use Rattle.journal_run.specs.RunFiles.{journal_text}
+use Rattle.run_journals.specs.RunFiles.{journal_text}
 use Rattle.packet_times.specs.Rows.{packets_text}
 use Rattle.switch_run.specs.Causes.{Answers, AreWritable, IsComplete, IsWritable}
 use Rattle.switch_run.specs.Endings.{Command, IsMade, StopsWriting}

@@ -25,14 +25,14 @@ use Rattle.card_core.specs.Deliveries.{ended_by, is_of_flow, messages_after, mes
 use Rattle.slot_histories.specs.Tests.{has}
 use Rattle.switch_plan.specs.GoodPlans.{SwitchPlan, IsGood}
 use Rattle.eslip_rounds.proofs.Scheduling.{IsScheduler-decision_of}
-use Rattle.whole_run.specs.Runs.{card_at, no_plan, ports_of, served_by}
-use Rattle.whole_run.specs.Ends.{IsLength}
-use Rattle.whole_run.specs.Crossings.{admitted_to, cells_to, queue_to}
+use Rattle.run_laws.specs.Runs.{card_at, no_plan, ports_of, served_by}
+use Rattle.run_laws.specs.Ends.{IsLength}
+use Rattle.run_laws.specs.Crossings.{admitted_to, cells_to, queue_to}
 use Rattle.switch_jobs.specs.declared.outcome.Outcome.{Outcome}
 use Rattle.switch_jobs.specs.Outcomes.{IsOutcome, messages_to}
 use Rattle.switch_jobs.specs.Captures.{IsCut}
-use Rattle.whole_run.proofs.Emptied.{packets_delivered}
-use Rattle.whole_run.proofs.OfFlows.{all_of_flows}
+use Rattle.run_laws.proofs.Emptied.{packets_delivered}
+use Rattle.run_laws.proofs.OfFlows.{all_of_flows}
 
 -- ---- what holds of all messages of each flow holds of all messages
 

@@ -13,8 +13,8 @@ use Rattle.slot_histories.proofs.Agreeing.{map_range-same}
 use Rattle.slot_board.specs.States.{JournalValue as BoardJournal}
 use Rattle.board_state.specs.Boards.{no_slot}
 use Rattle.switch_plan.specs.GoodPlans.{SwitchPlan, IsGood}
-use Rattle.whole_run.specs.Runs.{IsSlotUnder, posts_under, run_slot}
-use Rattle.whole_run.proofs.Base.{requested}
+use Rattle.run_laws.specs.Runs.{IsSlotUnder, posts_under, run_slot}
+use Rattle.run_laws.proofs.Base.{requested}
 use Rattle.output_queued.specs.Lines.{line_of, lines_of}
 use Rattle.output_queued.specs.NotingSteps.{HasNoted, State, cards_in}
 use Rattle.output_queued.specs.Steps.{SameSwitch}

@@ -21,10 +21,10 @@ use Rattle.firm_rounds.specs.Decisions.{firm_decision}
 use Rattle.slot_report.specs.declared.summary.Summary.{Summary}
 use Rattle.journal_check.specs.declared.limits.TheConstants.{MAX_JOURNAL_BYTES}
 use Rattle.switch_words.specs.Reading.{JobWords, run, gen, check, firm, RunWords}
-use Rattle.whole_run.specs.Runs.{no_plan, ports_of, posts_under}
-use Rattle.whole_run.specs.Ends.{IsLength, IsLengthUnder}
+use Rattle.run_laws.specs.Runs.{no_plan, ports_of, posts_under}
+use Rattle.run_laws.specs.Ends.{IsLength, IsLengthUnder}
 use Rattle.switch_jobs.specs.Outcomes.{summary_under}
-use Rattle.journal_run.specs.RunFiles.{journal_text}
+use Rattle.run_journals.specs.RunFiles.{journal_text}
 use Rattle.packet_times.specs.declared.limits.TheConstants.{MAX_PACKETS_BYTES}
 use Rattle.packet_times.specs.Rows.{packets_text}
 use Rattle.firm_run.specs.FirmRuns.{IsFirmRun}

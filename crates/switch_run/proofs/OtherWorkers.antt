@@ -32,12 +32,12 @@ use Rattle.switch_words.specs.Limits.{IsUpTo}
 use Rattle.switch_words.specs.Reading.{JobWords, run, gen, check, firm}
 use Rattle.switch_plan.specs.declared.fault.PlanFault.{PlanFault}
 use Rattle.switch_plan.specs.GoodPlans.{SwitchPlan, IsGood}
-use Rattle.whole_run.specs.Runs.{after_slot, before_under, card_at, decision_in, parts_under, ports_of, posts_under, run_journal, setup_for}
-use Rattle.whole_run.specs.Ends.{IsLengthUnder}
-use Rattle.whole_run.specs.Crossings.{cells_under, queue_to}
-use Rattle.whole_run.specs.Sums.{IsAdmittedUnder, IsBestUnder}
+use Rattle.run_laws.specs.Runs.{after_slot, before_under, card_at, decision_in, parts_under, ports_of, posts_under, run_journal, setup_for}
+use Rattle.run_laws.specs.Ends.{IsLengthUnder}
+use Rattle.run_laws.specs.Crossings.{cells_under, queue_to}
+use Rattle.run_laws.specs.Sums.{IsAdmittedUnder, IsBestUnder}
 use Rattle.switch_jobs.specs.Outcomes.{over_ports, summary_under}
-use Rattle.journal_run.specs.RunFiles.{journal_text}
+use Rattle.run_journals.specs.RunFiles.{journal_text}
 use Rattle.reference_run.specs.RunLines.{run_lines}
 use Rattle.queue_lengths.specs.Lengths.{deepest_of, greatest}
 use Rattle.queue_measures.specs.Lines.{deepest_line, input_lines, queue_lines, queue_lines_under}

@@ -23,13 +23,13 @@ use Rattle.journal_check.specs.declared.limits.TheConstants.{MAX_JOURNAL_BYTES}
 use Rattle.journal_check.specs.Files.{JournalFile}
 use Rattle.journal_check.specs.Texts.{file_of, file_slot, file_text}
 use Rattle.switch_plan.specs.GoodPlans.{SwitchPlan}
-use Rattle.whole_run.specs.Runs.{ports_of, run_journal, setup_for}
+use Rattle.run_laws.specs.Runs.{ports_of, run_journal, setup_for}
 use Rattle.switch_jobs.specs.declared.outcome.Outcome.{Outcome}
 use Rattle.switch_jobs.specs.Outcomes.{IsOutcome, messages_to, summary_of}
 use Rattle.reference_run.specs.RunLines.{run_lines}
 use Rattle.queue_measures.specs.Lines.{queue_lines}
 use Rattle.packet_times.specs.declared.limits.TheConstants.{MAX_PACKETS_BYTES}
-use Rattle.journal_run.specs.RunFiles.{journal_text, run_file}
+use Rattle.run_journals.specs.RunFiles.{journal_text, run_file}
 use Rattle.switch_run.specs.declared.making.Measured.{Measured}
 use Rattle.switch_run.specs.MakingSteps.{AreMade, HaveMessages, IsFirmRan, IsJournalFor, IsPacketsFor, IsRan, RunLeft, StopsJournal, StopsPackets}
 use Rattle.switch_run.specs.MakingSteps.{StopsTexts, ToWrite}

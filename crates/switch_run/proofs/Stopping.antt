@@ -7,9 +7,9 @@ use Rattle.outside.specs.Faults.{Place, ReadOf, ToOut, NeverFall}
 use Rattle.outside.specs.WholeFiles.{NamedBytes}
 use Rattle.outside.proofs.Counting.{NeverFall-refl, Rose-wider, le-Rose}
 use Rattle.outside.proofs.Putting.{StopsAt-wider}
-use Rattle.check_job.specs.Checks.{MeansCheck}
-use Rattle.check_job.specs.declared.ending.CheckEnding.{CheckEnding}
-use Rattle.check_job.specs.declared.ending.CheckEnding.TheVariants as check_ending
+use Rattle.journal_command.specs.Checks.{MeansCheck}
+use Rattle.journal_command.specs.declared.ending.CheckEnding.{CheckEnding}
+use Rattle.journal_command.specs.declared.ending.CheckEnding.TheVariants as check_ending
 use Rattle.switch_words.specs.Reading.{JobWords, run, gen, check, firm, RunWords}
 use Rattle.job_files.specs.Jobs.{ReadWords, reads_of, pace_in, input_name}
 use Rattle.job_files.specs.OutputFiles.{Texts, files_from, files_of, journal_files, packets_files, packets_place, put_files, put_texts, report_name, run_files}

@@ -6,7 +6,7 @@ use Rattle.outside.specs.Contents.{Contents}
 use Rattle.outside.specs.Faults.{Place}
 use Rattle.switch_words.specs.Reading.{JobWords, run, RunWords}
 use Rattle.switch_plan.specs.GoodPlans.{SwitchPlan}
-use Rattle.whole_run.specs.Runs.{run_slot}
+use Rattle.run_laws.specs.Runs.{run_slot}
 use Rattle.switch_jobs.specs.declared.outcome.Outcome.{Outcome}
 use Rattle.switch_jobs.specs.Outcomes.{IsOutcome}
 use Rattle.job_files.specs.Inputs.{AreInputs}

@@ -7,24 +7,24 @@ use Rattle.journal_check.specs.declared.verdict.Verdict.TheVariants as verdict
 use Rattle.journal_check.specs.declared.verdict.JournalFault.TheVariants as journal_fault
 use Rattle.journal_check.specs.declared.verdict.Reason.{Reason}
 use Rattle.journal_check.specs.Verdicts.{answer_to}
-use Rattle.check_job.specs.Checks.{HasAnswer, IsTooLong as IsTooLongToCheck}
-use Rattle.check_job.specs.declared.ending.CheckEnding.TheVariants as check_ending
+use Rattle.journal_command.specs.Checks.{HasAnswer, IsTooLong as IsTooLongToCheck}
+use Rattle.journal_command.specs.declared.ending.CheckEnding.TheVariants as check_ending
 use Rattle.switch_words.specs.Reading.{JobWords, run, gen, check, firm, RunWords, FirmWords}
 use Rattle.switch_plan.specs.declared.fault.PlanFault.{PlanFault}
 use Rattle.switch_plan.specs.Refusals.{IsRefusal}
 use Rattle.switch_plan.specs.GoodPlans.{SwitchPlan}
 use Rattle.eslip_rounds.specs.Decisions.{decision_of}
 use Rattle.firm_rounds.specs.Decisions.{firm_decision}
-use Rattle.whole_run.specs.Runs.{ports_of}
-use Rattle.whole_run.specs.Ends.{IsLengthUnder}
-use Rattle.whole_run.specs.Promises.{ArrivalsComeFirst, BusySlotsMatch, CompletesMulticast, DeliversAdmitted, DeliversNoOthers, HasFewSlots}
-use Rattle.whole_run.specs.Promises.{ServesWaiting, WaitsAreShort}
+use Rattle.run_laws.specs.Runs.{ports_of}
+use Rattle.run_laws.specs.Ends.{IsLengthUnder}
+use Rattle.run_laws.specs.Promises.{ArrivalsComeFirst, BusySlotsMatch, CompletesMulticast, DeliversAdmitted, DeliversNoOthers, HasFewSlots}
+use Rattle.run_laws.specs.Promises.{ServesWaiting, WaitsAreShort}
 use Rattle.switch_jobs.specs.Outcomes.{summary_of, CountsPacketsOnce}
 use Rattle.switch_jobs.specs.Departures.{InterleavesFlows}
 use Rattle.buffer_sizing.specs.Sizing.{IsSized}
 use Rattle.queue_measures.specs.Sums.{QueuesAddUp}
 use Rattle.packet_departures.specs.Promises.{HasDepartures, CountsDepartures}
-use Rattle.journal_run.specs.RunFiles.{journal_text}
+use Rattle.run_journals.specs.RunFiles.{journal_text}
 use Rattle.output_queued.specs.Lines.{ideal, ran}
 use Rattle.reference_run.specs.RunLines.{run_matches}
 use Rattle.reference_run.specs.Promises.{EndsNoLater, ExtraIsDelays}

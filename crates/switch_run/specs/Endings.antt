@@ -3,8 +3,8 @@ use Rattle.std.specs.Prelude.{◌≡◌, ◌<◌, ◌+◌, ℕ, true, is_some, L
 use Rattle.outside.specs.Contents.{Contents, append_out}
 use Rattle.outside.specs.Faults.{Place, ReadOf, ToOut, ToErr, Rose}
 use Rattle.outside.specs.WholeFiles.{IsTooLong, StopsAt}
-use Rattle.check_job.specs.Checks.{MeansCheck}
-use Rattle.check_job.specs.declared.ending.CheckEnding.{CheckEnding}
+use Rattle.journal_command.specs.Checks.{MeansCheck}
+use Rattle.journal_command.specs.declared.ending.CheckEnding.{CheckEnding}
 use Rattle.switch_words.specs.Reading.{JobWords, run, gen, check, firm, RunWords, reading_of}
 use Rattle.switch_plan.specs.declared.fault.PlanFault.{PlanFault}
 use Rattle.job_files.specs.Jobs.{ReadWords, reads_of, input_name, IsInput}

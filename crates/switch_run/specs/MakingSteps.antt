@@ -16,8 +16,8 @@ use Rattle.slot_histories.specs.Answers.{JournalSlot}
 use Rattle.switch_plan.specs.Refusals.{IsRefusal}
 use Rattle.switch_plan.specs.GoodPlans.{SwitchPlan, IsGood}
 use Rattle.slot_board.specs.States.{JournalValue as BoardJournal}
-use Rattle.whole_run.specs.Runs.{setup_for, run_journal}
-use Rattle.whole_run.specs.Ends.{IsLength}
+use Rattle.run_laws.specs.Runs.{setup_for, run_journal}
+use Rattle.run_laws.specs.Ends.{IsLength}
 use Rattle.firm_run.specs.FirmRuns.{IsFirmRun, HasShortWaits}
 use Rattle.journal_check.specs.declared.limits.TheConstants.{MAX_JOURNAL_BYTES}
 use Rattle.journal_check.specs.Files.{JournalFile}

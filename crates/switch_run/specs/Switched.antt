@@ -14,14 +14,14 @@ use Rattle.switch_plan.specs.declared.fault.PlanFault.{PlanFault}
 use Rattle.switch_plan.specs.Traffic.{CaptureFile}
 use Rattle.switch_plan.specs.Refusals.{AreRead, refusal_of, IsRefusal}
 use Rattle.switch_plan.specs.GoodPlans.{SwitchPlan, IsGood, IsPlanOf}
-use Rattle.whole_run.specs.Runs.{ports_of, run_journal}
-use Rattle.whole_run.specs.Ends.{IsLength}
-use Rattle.whole_run.specs.Crossings.{cells_to}
+use Rattle.run_laws.specs.Runs.{ports_of, run_journal}
+use Rattle.run_laws.specs.Ends.{IsLength}
+use Rattle.run_laws.specs.Crossings.{cells_to}
 use Rattle.switch_jobs.specs.Outcomes.{messages_to, summary_of}
 use Rattle.queue_measures.specs.Lines.{queue_lines}
 use Rattle.packet_times.specs.declared.limits.TheConstants.{MAX_PACKETS_BYTES}
 use Rattle.packet_times.specs.Rows.{packets_text}
-use Rattle.journal_run.specs.RunFiles.{journal_text}
+use Rattle.run_journals.specs.RunFiles.{journal_text}
 use Rattle.reference_run.specs.RunLines.{run_lines}
 use Rattle.firm_run.specs.FirmRuns.{IsFirmRun, HasShortWaits}
 use Rattle.job_files.specs.OutputFiles.{Texts}

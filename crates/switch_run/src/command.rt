@@ -11,7 +11,7 @@ use buffer_sizing::laws as sizes;
 use card_worker::Gate;
 use firm_run::laws as second_runs;
 use job_files::{Ending, print_line, print_memory, print_usage, put_texts};
-use journal_run::laws as journals;
+use run_journals::laws as journals;
 use outside::Files;
 use packet_departures::laws as departures;
 use queue_measures::laws as measures;
@@ -20,7 +20,7 @@ use std::alloc::Global;
 use std::thread::Threads;
 use switch_jobs::laws as numbers;
 use switch_words::{Job, WordsFault, read_words};
-use whole_run::{deliveries, ends, waits};
+use run_laws::{deliveries, ends, waits};
 
 // Reads the job's inputs, runs it and writes its texts, up to the first call that is refused.
 fn attempt<R: Threads + Sync, F: Files, G: Gate + Sync>(

@@ -9,7 +9,7 @@ ghost use Rattle.switch_run.specs.MakingSteps.{AreToWrite, to_write};
 use crate::making::{Measured, NOTHING_MEASURED, plan_and_run, plan_and_run_firm};
 use crate::texts::{run_texts, summary_alone};
 use card_worker::Gate;
-use check_job::{CheckEnding, check_file};
+use journal_command::{CheckEnding, check_file};
 use job_files::{Ending, JobTexts, made_inputs, read_inputs, reads_of_firm, reads_of_run};
 use outside::Files;
 use std::alloc::Global;

@@ -1,7 +1,7 @@
 ghost use Rattle.std.specs.Prelude.{◌≡◌, ℕ, Bool, option_map, string_bytes, IfErr, IfOk, OnOk};
 ghost use Rattle.eslip_rounds.specs.Decisions.{decision_of};
 ghost use Rattle.switch_plan.specs.GoodPlans.{SwitchPlan, IsGood, switch_plan_of};
-ghost use Rattle.whole_run.specs.Ends.{IsLength};
+ghost use Rattle.run_laws.specs.Ends.{IsLength};
 ghost use Rattle.packet_times.specs.NotingSteps.{HasNoted};
 ghost use Rattle.switch_run.specs.MakingSteps.{AreTimesOf, IsJournalOf, IsPacketsFor, StopsPackets};
 

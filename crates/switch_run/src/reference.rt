@@ -2,7 +2,7 @@ ghost use Rattle.std.specs.Prelude.{◌≡◌, ℕ, ◌≤◌, Bool, List, [], l
 ghost use Rattle.std.specs.List.{range_with_len};
 ghost use Rattle.slot_report.specs.Lines.{lines_text};
 ghost use Rattle.switch_plan.specs.GoodPlans.{SwitchPlan, IsGood, switch_plan_of};
-ghost use Rattle.whole_run.specs.Ends.{IsLength};
+ghost use Rattle.run_laws.specs.Ends.{IsLength};
 ghost use Rattle.switch_jobs.specs.Outcomes.{IsOutcome};
 ghost use Rattle.output_queued.specs.Lines.{line_of};
 ghost use Rattle.output_queued.specs.NotingSteps.{cards_in, HasNoted};

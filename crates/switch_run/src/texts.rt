@@ -6,7 +6,7 @@ ghost use Rattle.slot_report.specs.Texts.{report_bytes, summary_lines};
 ghost use Rattle.switch_words.specs.Reading.{run, gen, firm, run_words, firm_words};
 ghost use Rattle.switch_plan.specs.ReadingSteps.{bytes_of_files};
 ghost use Rattle.switch_jobs.specs.Captures.{IsCut};
-ghost use Rattle.whole_run.specs.Ends.{IsLength};
+ghost use Rattle.run_laws.specs.Ends.{IsLength};
 ghost use Rattle.switch_run.specs.MakingSteps.{AreMade, AreTimesOf, HaveMessages, IsJournalFor, IsPacketsFor, IsRan, StopsJournal, StopsTexts};
 ghost use Rattle.switch_run.specs.MakingSteps.{line_of_card, measured_by, report_of_left, to_write};
 

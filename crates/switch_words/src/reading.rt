@@ -54,7 +54,7 @@ fn job_of(alloc: Global, command: Command, matches: &ArgMatches<'_>) -> Result<J
     match command {
         Command::Run => Ok(Job::Run(run_job(alloc, settings(matches)?, flags(matches), names)?)),
         Command::Gen => Ok(Job::Gen(gen_job(settings(matches)?, names)?)),
-        Command::Check => Ok(Job::Check(check_job(alloc, names)?)),
+        Command::Check => Ok(Job::Check(journal_command(alloc, names)?)),
         Command::Firm => Ok(Job::Firm(firm_job(alloc, settings(matches)?, names)?)),
     }
 }
@@ -187,7 +187,7 @@ fn firm_job(alloc: Global, settings: Settings, names: &[&str]) -> Result<FirmJob
 }
 
 // The job of `check` with these names: one file.
-fn check_job(alloc: Global, names: &[&str]) -> Result<CheckJob, WordsFault>
+fn journal_command(alloc: Global, names: &[&str]) -> Result<CheckJob, WordsFault>
     ensures job { IfOk result (λ job. check_with (map (λ name. name.now) names.now) ≡ Some (string_bytes job.file)) }
     ensures usage { result ≡ Err WordsFault.Usage → check_with (map (λ name. name.now) names.now) ≡ None }
 {

@@ -1,7 +1,7 @@
 use crate::ending::{Ending, Written};
 use crate::error_lines::print_line;
 use crate::inputs::InputFile;
-use check_job::CheckEnding;
+use journal_command::CheckEnding;
 use forward_table::TableFault;
 use journal_check::Reason;
 use outside::MemFiles;

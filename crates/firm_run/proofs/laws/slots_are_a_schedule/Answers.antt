@@ -1,6 +1,6 @@
 use Rattle.firm_rounds.specs.Slots.{AreMovedByFirm}
 use Rattle.firm_rounds.specs.Decisions.{firm_decision}
-use Rattle.whole_run.proofs.RunSchedule.{run-schedule, run-within, run-kept}
+use Rattle.run_laws.proofs.RunSchedule.{run-schedule, run-within, run-kept}
 use Rattle.firm_run.proofs.SecondScheduler.{IsSchedulerBy-firm_decision, IsScheduler-firm_decision}
 use Rattle.firm_run.proofs.laws.slots_are_a_schedule.Goals as goal
 

@@ -8,9 +8,9 @@ use Rattle.firm_rounds.specs.Decisions.{firm_decision}
 use Rattle.card_core.specs.Plans.{plan_of}
 use Rattle.slot_report.specs.declared.summary.Summary.{Summary}
 use Rattle.switch_plan.specs.GoodPlans.{SwitchPlan, switch_plan_of, packets_in, IsGood}
-use Rattle.whole_run.specs.Runs.{ports_of}
-use Rattle.whole_run.specs.Ends.{IsLengthUnder}
-use Rattle.whole_run.specs.Sums.{IsBestUnder}
+use Rattle.run_laws.specs.Runs.{ports_of}
+use Rattle.run_laws.specs.Ends.{IsLengthUnder}
+use Rattle.run_laws.specs.Sums.{IsBestUnder}
 use Rattle.switch_jobs.specs.ReadinessSteps.{plan_with}
 use Rattle.switch_jobs.specs.Outcomes.{summary_under}
 use Rattle.switch_jobs.specs.JournalSteps.{HaveSums, summary_with}

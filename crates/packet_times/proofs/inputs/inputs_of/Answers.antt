@@ -1,5 +1,5 @@
 use Rattle.std.proofs.Common.{◌≡◌, ◌∙◌, ◌+◌, ◌<◌, ℕ, List, [], ◌∷◌, ◌++◌, length, length-append, refl, ap, sym, subst, arith, slice_index_or}
-use Rattle.whole_run.specs.Runs.{card_at}
+use Rattle.run_laws.specs.Runs.{card_at}
 use Rattle.packet_times.specs.NotingSteps.{Input, no_input, IsNoted}
 use Rattle.card_core.specs.declared.plan.CardPlan.{CardPlan}
 use Rattle.card_core.specs.Plans.{IsGoodPlan, plan_of}

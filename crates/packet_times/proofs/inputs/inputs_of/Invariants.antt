@@ -1,6 +1,6 @@
 use Rattle.std.proofs.Common.{◌≡◌, ◌<◌, ℕ, [], length, slice_index_or}
 use Rattle.switch_plan.specs.GoodPlans.{switch_plan_of}
-use Rattle.whole_run.specs.Runs.{card_at}
+use Rattle.run_laws.specs.Runs.{card_at}
 use Rattle.packet_times.specs.NotingSteps.{IsNoted, no_input}
 use Rattle.packet_times.proofs.inputs.inputs_of.Given as goal
 

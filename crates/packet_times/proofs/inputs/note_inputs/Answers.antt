@@ -2,8 +2,8 @@ use Rattle.std.proofs.Common.{None, false, ◌∙◌, ◌<◌, ◌++◌, ◌∷�
 use Rattle.std.proofs.lemmas.List.{get_or_default}
 use Rattle.crossbar.specs.declared.cards.Post.{Post}
 use Rattle.card_core.specs.Posts.{IsServable}
-use Rattle.whole_run.specs.Runs.{ports_of, card_at, parts_under}
-use Rattle.whole_run.proofs.Base.{served-length}
+use Rattle.run_laws.specs.Runs.{ports_of, card_at, parts_under}
+use Rattle.run_laws.proofs.Base.{served-length}
 use Rattle.packet_times.specs.NotingSteps.{Input, no_input, IsNoted}
 use Rattle.packet_times.proofs.Noted.{posts-long, row-at, servable-at, noted-more}
 use Rattle.packet_times.proofs.inputs.note_inputs.Goals as goal

@@ -1,7 +1,7 @@
 use Rattle.std.proofs.Common.{◌≡◌, length}
 use Rattle.eslip_rounds.specs.Schedulers.{Scheduler}
 use Rattle.switch_plan.specs.GoodPlans.{SwitchPlan}
-use Rattle.whole_run.specs.Runs.{IsSlotUnder}
+use Rattle.run_laws.specs.Runs.{IsSlotUnder}
 use Rattle.packet_times.specs.Steps.{AreNoted}
 use Rattle.packet_times.proofs.inputs.note_inputs.Given as goal
 

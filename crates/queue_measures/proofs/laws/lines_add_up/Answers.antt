@@ -1,5 +1,5 @@
-use Rattle.whole_run.specs.Runs.{card_at, parts_under}
-use Rattle.whole_run.proofs.Base.{good-card}
+use Rattle.run_laws.specs.Runs.{card_at, parts_under}
+use Rattle.run_laws.proofs.Base.{good-card}
 use Rattle.queue_measures.proofs.Sums.{add-up}
 use Rattle.queue_measures.proofs.laws.lines_add_up.Goals as goal
 

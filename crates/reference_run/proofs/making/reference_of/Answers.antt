@@ -5,7 +5,7 @@ use Rattle.std.proofs.lemmas.List.{map-append, length-map, take_more, take_all}
 use Rattle.std.proofs.lemmas.Simd.{map-map}
 use Rattle.card_core.specs.Plans.{plan_of}
 use Rattle.switch_plan.specs.GoodPlans.{SwitchPlan, switch_plan_of}
-use Rattle.whole_run.specs.Runs.{ports_of}
+use Rattle.run_laws.specs.Runs.{ports_of}
 use Rattle.output_queued.specs.declared.coming.Coming.{Coming}
 use Rattle.output_queued.specs.Switches.{IsSwitch}
 use Rattle.output_queued.specs.NotingSteps.{State, HasNoted}

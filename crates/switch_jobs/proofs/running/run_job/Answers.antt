@@ -1,6 +1,6 @@
 use Rattle.std.proofs.Common.{length, subst}
 use Rattle.switch_plan.specs.GoodPlans.{SwitchPlan}
-use Rattle.whole_run.specs.Promises.{CompletesMulticast, ServesWaiting, WaitsAreShort}
+use Rattle.run_laws.specs.Promises.{CompletesMulticast, ServesWaiting, WaitsAreShort}
 use Rattle.switch_jobs.proofs.running.run_job.Goals as goal
 
 pub returns-clause-serves : goal.returns-clause-serves

@@ -8,10 +8,10 @@ use Rattle.card_worker.specs.Groups.{AreGroups}
 use Rattle.card_worker.proofs.Removing.{whole_back}
 use Rattle.switch_plan.specs.GoodPlans.{SwitchPlan, IsGood}
 use Rattle.switch_plan.proofs.Folding.{length_map}
-use Rattle.whole_run.specs.Runs.{setup_for}
-use Rattle.whole_run.specs.Promises.{CompletesMulticast, ServesWaiting, WaitsAreShort}
-use Rattle.whole_run.proofs.RunWindows.{served-in-window, waits-short}
-use Rattle.whole_run.proofs.RunCompletes.{heads-complete}
+use Rattle.run_laws.specs.Runs.{setup_for}
+use Rattle.run_laws.specs.Promises.{CompletesMulticast, ServesWaiting, WaitsAreShort}
+use Rattle.run_laws.proofs.RunWindows.{served-in-window, waits-short}
+use Rattle.run_laws.proofs.RunCompletes.{heads-complete}
 use Rattle.switch_jobs.specs.declared.outcome.Outcome.{Outcome}
 use Rattle.switch_jobs.specs.Outcomes.{IsOutcome}
 use Rattle.switch_jobs.specs.ReadinessSteps.{plan_with, plans_in}

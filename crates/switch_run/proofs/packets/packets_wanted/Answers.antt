@@ -2,7 +2,7 @@ use Rattle.std.proofs.Common.{Bool, Some, None, length, sym, ◌∙◌, ap, subs
 use Rattle.std.specs.Prelude.{if◌then◌else◌}
 use Rattle.eslip_rounds.specs.Decisions.{decision_of}
 use Rattle.packet_times.specs.Rows.{packets_text}
-use Rattle.whole_run.proofs.Arrivals.{arrivals_first}
+use Rattle.run_laws.proofs.Arrivals.{arrivals_first}
 use Rattle.switch_run.specs.MakingSteps.{AreTimesOf}
 use Rattle.switch_run.proofs.packets.packets_wanted.Goals as goal
 

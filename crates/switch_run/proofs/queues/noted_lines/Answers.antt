@@ -1,5 +1,5 @@
 use Rattle.eslip_rounds.specs.Decisions.{decision_of}
-use Rattle.whole_run.proofs.Arrivals.{arrivals_first}
+use Rattle.run_laws.proofs.Arrivals.{arrivals_first}
 use Rattle.switch_run.proofs.queues.noted_lines.Goals as goal
 
 pub returns : goal.returns

@@ -2,7 +2,7 @@ use Rattle.std.proofs.Common.{◌≡◌, ℕ, ◌<◌, ◌++◌, [], ◌∷◌, 
 use Rattle.slot_match.specs.declared.rows.Row.{Row}
 use Rattle.crossbar.specs.declared.cards.Post.{Post}
 use Rattle.slot_histories.specs.Answers.{JournalSlot}
-use Rattle.whole_run.specs.Runs.{run_slot}
+use Rattle.run_laws.specs.Runs.{run_slot}
 use Rattle.output_queued.specs.NotingSteps.{MayNote}
 use Rattle.output_queued.specs.Switches.{Matched}
 use Rattle.reference_run.specs.MeetingSteps.{IsReferenceOf, run_rows}

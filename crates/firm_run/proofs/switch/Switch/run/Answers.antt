@@ -2,8 +2,8 @@ use Rattle.std.proofs.Common.{arith}
 use Rattle.std.proofs.lemmas.Bool.{both_ways}
 use Rattle.firm_rounds.specs.Decisions.{firm_decision}
 use Rattle.slot_histories.specs.Slots.{is_done_at}
-use Rattle.whole_run.specs.Runs.{ports_of, posts_under}
-use Rattle.whole_run.proofs.FirstDone.{not_done}
+use Rattle.run_laws.specs.Runs.{ports_of, posts_under}
+use Rattle.run_laws.proofs.FirstDone.{not_done}
 use Rattle.firm_run.proofs.SecondScheduler.{IsScheduler-firm_decision}
 use Rattle.firm_run.proofs.switch.Switch.run.Goals as goal
 

@@ -2,7 +2,7 @@ use Rattle.std.proofs.Common.{◌≡◌, false}
 use Rattle.firm_rounds.specs.Decisions.{firm_decision}
 use Rattle.slot_histories.specs.Slots.{is_done_before}
 use Rattle.switch_plan.specs.GoodPlans.{SwitchPlan, IsGood}
-use Rattle.whole_run.specs.Runs.{ports_of, posts_under}
+use Rattle.run_laws.specs.Runs.{ports_of, posts_under}
 use Rattle.firm_run.specs.StandingSteps.{IsBefore}
 use Rattle.firm_run.proofs.switch.Switch.run.Given as goal
 

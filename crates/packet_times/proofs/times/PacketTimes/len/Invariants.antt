@@ -1,7 +1,7 @@
 use Rattle.std.proofs.Common.{◌≡◌, ℕ, length}
 use Rattle.eslip_rounds.specs.Schedulers.{Scheduler}
 use Rattle.switch_plan.specs.GoodPlans.{SwitchPlan}
-use Rattle.whole_run.specs.Promises.{ArrivalsComeFirst}
+use Rattle.run_laws.specs.Promises.{ArrivalsComeFirst}
 use Rattle.packet_times.specs.NotingSteps.{HasNoted}
 use Rattle.packet_times.proofs.Texts.{first_inputs}
 use Rattle.packet_times.proofs.times.PacketTimes.len.Given as goal

@@ -1,7 +1,7 @@
 use Rattle.std.proofs.Common.{◌≡◌, ◌∙◌, ◌*◌, ℕ, [], length, refl, ap, sym, arith, replicate}
 use Rattle.reassembly.specs.declared.limits.TheConstants.{FLOWS_PER_INPUT}
 use Rattle.switch_plan.specs.GoodPlans.{switch_plan_of}
-use Rattle.whole_run.specs.Runs.{ports_of}
+use Rattle.run_laws.specs.Runs.{ports_of}
 use Rattle.packet_times.specs.contracts.times.PacketTimes.{the_view}
 use Rattle.packet_times.proofs.Noted.{ports-are, first-noted}
 use Rattle.packet_times.proofs.times.PacketTimes.make.Goals as goal

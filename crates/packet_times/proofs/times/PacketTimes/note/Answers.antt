@@ -4,7 +4,7 @@ use Rattle.std.proofs.lemmas.List.{with_items_is}
 use Rattle.slot_match.specs.declared.matching.Fed.{Fed}
 use Rattle.crossbar.specs.declared.cards.Post.{Post}
 use Rattle.crossbar.specs.Crossing.{fetched}
-use Rattle.whole_run.specs.Runs.{ports_of}
+use Rattle.run_laws.specs.Runs.{ports_of}
 use Rattle.packet_times.specs.NotingSteps.{Input, Times, HasNoted}
 use Rattle.packet_times.specs.Steps.{HasEnds, AreNoted}
 use Rattle.packet_times.specs.contracts.times.PacketTimes.{the_view}

@@ -5,7 +5,7 @@ use Rattle.std.proofs.lemmas.List.{append-nil}
 use Rattle.rotating_pick.specs.declared.limits.TheConstants.{LEVELS, MAX_PORTS}
 use Rattle.card_core.specs.declared.plan.Planned.{Planned}
 use Rattle.card_core.specs.Plans.{kind_of, queue_of, no_packet}
-use Rattle.whole_run.specs.Runs.{ports_of, card_at, parts_under}
+use Rattle.run_laws.specs.Runs.{ports_of, card_at, parts_under}
 use Rattle.packet_times.specs.declared.walk.Outcome.{Outcome}
 use Rattle.packet_times.specs.NotingSteps.{Input, Times, was_admitted}
 use Rattle.packet_times.specs.Rows.{row_text, packet_rows}

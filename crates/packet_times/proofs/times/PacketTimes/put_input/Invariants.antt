@@ -2,7 +2,7 @@ use Rattle.std.proofs.Common.{◌≡◌, ◌++◌, ℕ, take, length, string_byt
 use Rattle.std.specs.List.{flat_map, enumerate_from}
 use Rattle.eslip_rounds.specs.Schedulers.{Scheduler}
 use Rattle.switch_plan.specs.GoodPlans.{SwitchPlan}
-use Rattle.whole_run.specs.Promises.{ArrivalsComeFirst}
+use Rattle.run_laws.specs.Promises.{ArrivalsComeFirst}
 use Rattle.packet_times.specs.NotingSteps.{HasNoted}
 use Rattle.packet_times.specs.Rows.{row_text, packet_rows}
 use Rattle.packet_times.specs.WalkingSteps.{HasGone}

@@ -1,6 +1,6 @@
 use Rattle.std.proofs.Common.{◌≡◌, ◌∙◌, ◌<◌, ◌+◌, ◌++◌, ℕ, List, sym, ap, subst, arith, string_bytes}
 use Rattle.std.specs.List.{flat_map}
-use Rattle.whole_run.specs.Runs.{ports_of, card_at, parts_under}
+use Rattle.run_laws.specs.Runs.{ports_of, card_at, parts_under}
 use Rattle.packet_times.specs.Rows.{row_text}
 use Rattle.packet_times.specs.WalkingSteps.{rows_to}
 use Rattle.packet_times.proofs.Walked.{few-inputs}

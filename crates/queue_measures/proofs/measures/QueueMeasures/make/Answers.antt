@@ -3,8 +3,8 @@ use Rattle.std.proofs.Common.{length-append}
 use Rattle.std.proofs.lemmas.List.{get_or-map, length-map}
 use Rattle.card_core.specs.Plans.{Plan, plan_of}
 use Rattle.switch_plan.specs.GoodPlans.{switch_plan_of}
-use Rattle.whole_run.specs.Runs.{card_at, no_plan}
-use Rattle.whole_run.proofs.Base.{served-is}
+use Rattle.run_laws.specs.Runs.{card_at, no_plan}
+use Rattle.run_laws.proofs.Base.{served-is}
 use Rattle.queue_measures.specs.NotingSteps.{Input, IsNoted, no_input}
 use Rattle.queue_measures.proofs.Slots.{noted-more}
 use Rattle.queue_measures.proofs.measures.QueueMeasures.make.Goals as goal

@@ -1,6 +1,6 @@
 use Rattle.std.proofs.Common.{◌≡◌, ℕ, ◌<◌, [], map, length, slice_index_or}
 use Rattle.card_core.specs.Plans.{plan_of}
-use Rattle.whole_run.specs.Runs.{no_plan}
+use Rattle.run_laws.specs.Runs.{no_plan}
 use Rattle.queue_measures.specs.NotingSteps.{IsNoted, no_input}
 use Rattle.queue_measures.proofs.measures.QueueMeasures.make.Given as goal
 

@@ -2,8 +2,8 @@ use Rattle.std.proofs.Common.{◌≡◌, ◌∙◌, ◌<◌, ◌+◌, ℕ, [], �
 use Rattle.std.proofs.lemmas.Bool.{cases_eq}
 use Rattle.std.proofs.lemmas.Grind.{get_or-set_at}
 use Rattle.std.proofs.lemmas.List.{get_or-set_other, get_or_default, length-set}
-use Rattle.whole_run.specs.Runs.{ports_of, card_at, parts_under}
-use Rattle.whole_run.proofs.Base.{served-length}
+use Rattle.run_laws.specs.Runs.{ports_of, card_at, parts_under}
+use Rattle.run_laws.proofs.Base.{served-length}
 use Rattle.queue_measures.specs.NotingSteps.{Input, IsNoted, no_input}
 use Rattle.queue_measures.proofs.Slots.{posts-count, row-is, serves, ports-is, next-parts}
 use Rattle.queue_measures.proofs.measures.QueueMeasures.note.Goals as goal

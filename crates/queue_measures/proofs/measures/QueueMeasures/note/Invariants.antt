@@ -1,7 +1,7 @@
 use Rattle.std.proofs.Common.{◌≡◌, ℕ, ◌+◌, ◌<◌, ◌≤◌, length, slice_index_or}
 use Rattle.eslip_rounds.specs.Schedulers.{Scheduler}
 use Rattle.switch_plan.specs.GoodPlans.{SwitchPlan}
-use Rattle.whole_run.specs.Runs.{card_at, parts_under, IsSlotUnder}
+use Rattle.run_laws.specs.Runs.{card_at, parts_under, IsSlotUnder}
 use Rattle.queue_measures.specs.NotingSteps.{HasNoted, IsNoted, no_input}
 use Rattle.queue_measures.proofs.measures.QueueMeasures.note.Given as goal
 

@@ -1,0 +1,31 @@
+ghost use Rattle.std.specs.Prelude.{◌≡◌, ◌≤◌, Some, length, IfErr, IfOk, IfSome};
+ghost use Rattle.outside.specs.Faults.{NeverFall};
+ghost use Rattle.journal_command.specs.Checks.{MeansCheck};
+
+use crate::ending::CheckEnding;
+use journal_check::MAX_JOURNAL_BYTES;
+use outside::{Files, ReadFailure, read_buffer, read_whole};
+use std::alloc::Global;
+
+/// All bytes of the named file, of which there are at most 134,217,728.
+pub(crate) fn read_journal<F: Files>(
+    alloc: Global,
+    name: &str,
+    files: &mut F,
+) -> Result<Vec<u8>, CheckEnding>
+    ensures told { F.told files.new ≡ F.told files.old }
+    ensures never_fall { NeverFall (F.faults files.old) (F.faults files.new) }
+    ensures bytes { IfOk result (λ v. IfSome (F.told files.old) (λ c. c.file name.now ≡ Some v.items)) }
+    ensures fits { IfOk result (λ v. length v.items ≤ MAX_JOURNAL_BYTES) }
+    ensures stops { IfErr result (MeansCheck name.now (F.told files.old) (F.told files.new) (F.faults files.old) (F.faults files.new)) }
+{
+    let Ok(mut piece) = read_buffer(alloc) else {
+        return Err(CheckEnding::OutOfMemory);
+    };
+    match read_whole(alloc, files, name, MAX_JOURNAL_BYTES, piece.as_mut_slice()) {
+        Ok(bytes) => Ok(bytes),
+        Err(ReadFailure::Fault) => Err(CheckEnding::ReadFault),
+        Err(ReadFailure::TooLong) => Err(CheckEnding::TooLong),
+        Err(ReadFailure::OutOfMemory) => Err(CheckEnding::OutOfMemory),
+    }
+}

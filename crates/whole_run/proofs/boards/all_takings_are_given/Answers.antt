@@ -1,5 +1,0 @@
-use Rattle.whole_run.proofs.Given.{all-given}
-use Rattle.whole_run.proofs.boards.all_takings_are_given.Goals as goal
-
-pub returns : goal.returns
-returns c plan j slots given good inside are = all-given plan j good inside slots given are

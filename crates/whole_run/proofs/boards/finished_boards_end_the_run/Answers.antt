@@ -1,8 +1,0 @@
-use Rattle.whole_run.proofs.Finished.{length-run, taken-all}
-use Rattle.whole_run.proofs.boards.finished_boards_end_the_run.Goals as goal
-
-pub returns-clause-length : goal.returns-clause-length
-returns-clause-length c plan events good legal driven over = length-run plan events good legal driven over
-
-pub returns-clause-taken : goal.returns-clause-taken
-returns-clause-taken c plan events good legal driven over i inside = taken-all plan events good legal driven over i inside

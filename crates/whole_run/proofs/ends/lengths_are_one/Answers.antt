@@ -1,5 +1,0 @@
-use Rattle.whole_run.proofs.FirstDone.{one_length}
-use Rattle.whole_run.proofs.ends.lengths_are_one.Goals as goal
-
-pub returns : goal.returns
-returns c scheduler plan a b ends also = one_length scheduler plan a b ends also

@@ -1,5 +1,0 @@
-use Rattle.whole_run.proofs.Base.{requested}
-use Rattle.whole_run.proofs.slots.parts_are_requested.Goals as goal
-
-pub returns : goal.returns
-returns c scheduler plan i t scheduling good inside = requested scheduler scheduling plan good i t inside

@@ -1,5 +1,0 @@
-use Rattle.whole_run.proofs.RunCompletes.{heads-complete}
-use Rattle.whole_run.proofs.waits.multicast_heads_complete.Goals as goal
-
-pub returns : goal.returns
-returns c plan slots good first level i j below inside few clean named = heads-complete plan good slots first level i j below inside few clean named

@@ -1,5 +1,0 @@
-use Rattle.whole_run.proofs.LineRate.{at-line_rate}
-use Rattle.whole_run.proofs.waits.runs_are_at_line_rate.Goals as goal
-
-pub returns : goal.returns
-returns c scheduler plan slots level good = at-line_rate scheduler plan good level 0 slots

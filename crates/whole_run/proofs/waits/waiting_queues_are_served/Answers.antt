@@ -1,5 +1,0 @@
-use Rattle.whole_run.proofs.RunWindows.{served-in-window}
-use Rattle.whole_run.proofs.waits.waiting_queues_are_served.Goals as goal
-
-pub returns : goal.returns
-returns c plan slots good first level i j below inside few quiet named = served-in-window plan good slots first level i j below inside few quiet named
