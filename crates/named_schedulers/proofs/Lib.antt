@@ -1,0 +1,2 @@
+pub mod SecondScheduler
+pub mod Schedulers

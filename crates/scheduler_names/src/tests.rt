@@ -1,0 +1,19 @@
+use crate::SchedulerName;
+use std::test::Fail;
+
+#[test]
+fn names_are_read_letter_for_letter(rt: HostRuntime) -> Result<(), Fail> {
+    let names = [
+        ("islip", SchedulerName::Islip),
+        ("firm", SchedulerName::Firm),
+        ("rrm", SchedulerName::Rrm),
+    ];
+    for (word, name) in names {
+        assert_eq!(rt; SchedulerName::named(word), Some(name));
+        assert_eq!(rt; name.word(), word);
+    }
+    for word in ["", "ISLIP", "islip ", "rr", "eslip"] {
+        assert_eq!(rt; SchedulerName::named(word), None);
+    }
+    Ok(())
+}
