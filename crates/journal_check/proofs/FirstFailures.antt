@@ -8,6 +8,7 @@ use Rattle.slot_match.specs.declared.matching.Fed.{Fed}
 use Rattle.slot_match.specs.Rows.{row_of}
 use Rattle.slot_match.specs.Matches.{fed_of}
 use Rattle.slot_match.specs.Parts.{served_of}
+use Rattle.eslip_rounds.specs.Schedulers.{Scheduler, IsScheduler}
 use Rattle.slot_histories.specs.Tests.{keeps_rest}
 use Rattle.slot_histories.proofs.KeepingTests.{Decides-keeps_rest}
 use Rattle.journal_check.specs.declared.verdict.Reason.{Reason}
@@ -16,8 +17,8 @@ use Rattle.journal_check.specs.declared.verdict.Failure.{Failure}
 use Rattle.journal_check.specs.Files.{FileSlot, JournalFile, rows_of, mores_of}
 use Rattle.journal_check.specs.Texts.{IsFileSlot, IsFile}
 use Rattle.journal_check.specs.Lawful.{Before, at_first, decided_in, after_slot, first_of, lacks_more, breaks, is_alike, differs, post_failure}
-use Rattle.journal_check.specs.Lawful.{output_failure, failure_in, failure_or, failure_from, MayFollow, first_failure}
-use Rattle.journal_check.specs.Failures.{HasMore, KeepsRow, IsFedAsDecided, HoldsBelow, IsFirstWithout, FailsBy, FailsFirst, IsFirstFailure}
+use Rattle.journal_check.specs.Lawful.{output_failure, failure_in, failure_or, failure_from, MayFollow, first_failure_under}
+use Rattle.journal_check.specs.Failures.{HasMore, KeepsRow, IsFedAsDecided, HoldsBelow, IsFirstWithout, FailsBy, FailsFirst, IsFirstFailureUnder}
 use Rattle.journal_check.proofs.Goods.{AreRows, IsGood, sound_slot, good_after, good_at_first}
 use Rattle.journal_check.proofs.LawfulFiles.{none_of, none_map, going_on, lacks_none, from_not, not_from, Decides-alike, no_failure}
 
@@ -110,9 +111,9 @@ ended true r e = absurd (cc)
 ended false r e = (refl, cc)
 
 -- ---- why a slot fails
-module _ (n rounds t : ℕ) (before : Before) (slot : FileSlot) (rows : AreRows n before.rows) where
+module _ (scheduler : Scheduler) (n rounds t : ℕ) (before : Before) (slot : FileSlot) (rows : AreRows n before.rows) where
   abbrev decided : List (Option Fed)
-  decided = (decided_in n rounds t before slot).matched
+  decided = (decided_in scheduler n rounds t before slot).matched
 
   tells_more : (i : ℕ) → i < n → (lacks_more (rows_of slot) (mores_of slot) i ≡ false) ↔ HasMore slot i
   tells_more i below = lacks_none n (rows_of slot) (mores_of slot) i
@@ -124,7 +125,7 @@ module _ (n rounds t : ℕ) (before : Before) (slot : FileSlot) (rows : AreRows 
       (row_of (rows_of slot) i) in
       (λ e. tells.0 (from_not kept e), λ h. not_from kept (tells.1 h))
 
-  tells_fed : (j : ℕ) → j < n → (differs slot.matched decided j ≡ false) ↔ IsFedAsDecided n rounds t before slot j
+  tells_fed : (j : ℕ) → j < n → (differs slot.matched decided j ≡ false) ↔ IsFedAsDecided scheduler n rounds t before slot j
   tells_fed j below =
       let alike = is_alike (fed_of slot.matched j) (fed_of decided j) in
       let tells = Decides-alike (fed_of slot.matched j) (fed_of decided j) in
@@ -155,32 +156,33 @@ module _ (n rounds t : ℕ) (before : Before) (slot : FileSlot) (rows : AreRows 
   keeps_none : (keeps_reason ≡ None) ↔ HoldsBelow n (KeepsRow before slot)
   keeps_none = all_below (breaks n before.matched before.rows (rows_of slot)) (KeepsRow before slot) Keeps tells_keeps
 
-  by_more : (r : Reason) → before.going ≡ true → more_reason ≡ Some r → FailsBy n rounds t before slot r
+  by_more : (r : Reason) → before.going ≡ true → more_reason ≡ Some r → FailsBy scheduler n rounds t before slot r
   by_more r going e =
       let made = some_map More (first_of n (lacks_more (rows_of slot) (mores_of slot))) r e in
-      subst (FailsBy n rounds t before slot) made.made
+      subst (FailsBy scheduler n rounds t before slot) made.made
       (going, (first_is n (lacks_more (rows_of slot) (mores_of slot)) (HasMore slot) tells_more made.k).0 made.is)
 
-  by_keeps : (r : Reason) → before.going ≡ true → HoldsBelow n (HasMore slot) → option_or keeps_reason None ≡ Some r → FailsBy n rounds t before slot r
+  by_keeps : (r : Reason) → before.going ≡ true → HoldsBelow n (HasMore slot) → option_or keeps_reason None ≡ Some r
+      → FailsBy scheduler n rounds t before slot r
   by_keeps r going more e = elim (some_or keeps_reason None r e) [
     | inl is ↦
         let made = some_map Keeps (first_of n (breaks n before.matched before.rows (rows_of slot))) r is in
-        subst (FailsBy n rounds t before slot) made.made
+        subst (FailsBy scheduler n rounds t before slot) made.made
         (going, more, (first_is n (breaks n before.matched before.rows (rows_of slot)) (KeepsRow before slot) tells_keeps made.k).0 made.is)
     | inr nothing ↦ absurd (let never = nothing.some in cc)
   ]
 
   by_output : (r : Reason) → before.going ≡ true → HoldsBelow n (HasMore slot) → HoldsBelow n (KeepsRow before slot) → output_reason ≡ Some r
-      → FailsBy n rounds t before slot r
+      → FailsBy scheduler n rounds t before slot r
   by_output r going more keeps e =
       let made = some_map Output (first_of n (differs slot.matched decided)) r e in
-      subst (FailsBy n rounds t before slot) made.made
-      (going, more, keeps, (first_is n (differs slot.matched decided) (IsFedAsDecided n rounds t before slot) tells_fed made.k).0 made.is)
+      subst (FailsBy scheduler n rounds t before slot) made.made
+      (going, more, keeps, (first_is n (differs slot.matched decided) (IsFedAsDecided scheduler n rounds t before slot) tells_fed made.k).0 made.is)
 
-  by_posts : (r : Reason) → post_failure n before (rows_of slot) (mores_of slot) ≡ Some r → FailsBy n rounds t before slot r
+  by_posts : (r : Reason) → post_failure n before (rows_of slot) (mores_of slot) ≡ Some r → FailsBy scheduler n rounds t before slot r
   unfolding post_failure
   by_posts r e = elim (some_or end_reason (option_or more_reason (option_or keeps_reason None)) r e) [
-    | inl is ↦ let over = ended before.going r is in subst (FailsBy n rounds t before slot) over.1 over.0
+    | inl is ↦ let over = ended before.going r is in subst (FailsBy scheduler n rounds t before slot) over.1 over.0
     | inr after ↦
         let going = (going_on n before.going).0 after.none in
         elim (some_or more_reason (option_or keeps_reason None) r after.some) [
@@ -202,7 +204,7 @@ module _ (n rounds t : ℕ) (before : Before) (slot : FileSlot) (rows : AreRows 
         none_parts (Some x) b none = absurd (cc)
 
   -- the reason is the first
-  pub fails_by : (r : Reason) → failure_in n rounds t before slot ≡ Some r → FailsBy n rounds t before slot r
+  pub fails_by : (r : Reason) → failure_in scheduler n rounds t before slot ≡ Some r → FailsBy scheduler n rounds t before slot r
   unfolding failure_in output_failure
   fails_by r e = elim (some_or (post_failure n before (rows_of slot) (mores_of slot)) output_reason r e) [
     | inl is ↦ by_posts r is
@@ -210,7 +212,7 @@ module _ (n rounds t : ℕ) (before : Before) (slot : FileSlot) (rows : AreRows 
   ]
 
   -- and the first reason is told
-  pub reason_is : (r : Reason) → FailsBy n rounds t before slot r → failure_in n rounds t before slot ≡ Some r
+  pub reason_is : (r : Reason) → FailsBy scheduler n rounds t before slot r → failure_in scheduler n rounds t before slot ≡ Some r
   unfolding failure_in output_failure post_failure
   reason_is AfterEnd ends =
       let is : end_reason ≡ Some AfterEnd = ap (λ (b : Bool). if b then None else Some AfterEnd) ends in
@@ -230,7 +232,7 @@ module _ (n rounds t : ℕ) (before : Before) (slot : FileSlot) (rows : AreRows 
       (or_second more_reason (option_or keeps_reason None) (Keeps i) (more_none.1 fails.1) (or_first keeps_reason None (Keeps i) is)))
   reason_is (Output j) fails =
       let is : output_reason ≡ Some (Output j) = ap (option_map Output)
-      ((first_is n (differs slot.matched decided) (IsFedAsDecided n rounds t before slot) tells_fed j).1 fails.3) in
+      ((first_is n (differs slot.matched decided) (IsFedAsDecided scheduler n rounds t before slot) tells_fed j).1 fails.3) in
       or_second (option_or end_reason (option_or more_reason (option_or keeps_reason None))) output_reason (Output j)
       (both_none end_reason (option_or more_reason (option_or keeps_reason None)) ((going_on n before.going).1 fails.0)
       (both_none more_reason (option_or keeps_reason None) (more_none.1 fails.1) (both_none keeps_reason None (keeps_none.1 fails.2) refl))) is where
@@ -250,19 +252,21 @@ end_is true t at r = (
 )
 end_is false t at r = (λ e. absurd (cc), λ p. absurd (let never = p.0 in cc))
 
-module _ (n rounds t : ℕ) (before : Before) (slot : FileSlot) (slots : List FileSlot) (good : IsGood n before) (file : IsFileSlot n slot) (at : ℕ)
-    (r : Reason) where
+module _ (scheduler : Scheduler) (n rounds t : ℕ) (before : Before) (slot : FileSlot) (slots : List FileSlot) (good : IsGood n before)
+    (file : IsFileSlot n slot) (at : ℕ) (r : Reason) where
   abbrev later : Option Failure
-  later = failure_from n rounds (t + 1) (after_slot n rounds t before slot) slots
+  later = failure_from scheduler n rounds (t + 1) (after_slot scheduler n rounds t before slot) slots
 
   -- this slot fails, or one that comes later
-  by_reason : (o : Option Reason) → failure_in n rounds t before slot ≡ o → (failure_in n rounds t before slot ≡ None) ↔ MayFollow n rounds t before slot
-      → (MayFollow n rounds t before slot → (later ≡ Some (failure at r)) ↔ FailsFirst n rounds (t + 1) (after_slot n rounds t before slot) slots at r)
-      → (failure_or t o later ≡ Some (failure at r)) ↔ FailsFirst n rounds t before (slot ∷ slots) at r
+  by_reason : (o : Option Reason) → failure_in scheduler n rounds t before slot ≡ o
+      → (failure_in scheduler n rounds t before slot ≡ None) ↔ MayFollow scheduler n rounds t before slot
+      → (MayFollow scheduler n rounds t before slot → (later ≡ Some (failure at r))
+      ↔ FailsFirst scheduler n rounds (t + 1) (after_slot scheduler n rounds t before slot) slots at r)
+      → (failure_or t o later ≡ Some (failure at r)) ↔ FailsFirst scheduler n rounds t before (slot ∷ slots) at r
   by_reason None is here next = (
     λ e. let follows = here.0 is in inr (follows, (next follows).0 e),
     λ s. elim s [
-      | inl fails ↦ absurd (let some = reason_is n rounds t before slot good.rows r fails.1 in let both : None ≡ Some r = sym is ∙ some in cc)
+      | inl fails ↦ absurd (let some = reason_is scheduler n rounds t before slot good.rows r fails.1 in let both : None ≡ Some r = sym is ∙ some in cc)
       | inr follows ↦ (next follows.0).1 follows.1
     ],
   )
@@ -270,10 +274,10 @@ module _ (n rounds t : ℕ) (before : Before) (slot : FileSlot) (slots : List Fi
     λ e.
         let same : failure t reason ≡ failure at r = cc in
         let why : reason ≡ r = ap (λ (f : Failure). f.reason) same in
-        inl (sym (ap (λ (f : Failure). f.slot) same), fails_by n rounds t before slot good.rows r (is ∙ ap Some why)),
+        inl (sym (ap (λ (f : Failure). f.slot) same), fails_by scheduler n rounds t before slot good.rows r (is ∙ ap Some why)),
     λ s. elim s [
       | inl fails ↦
-          let some = reason_is n rounds t before slot good.rows r fails.1 in
+          let some = reason_is scheduler n rounds t before slot good.rows r fails.1 in
           let both : Some reason ≡ Some r = sym is ∙ some in
           let why : reason ≡ r = cc in
           ap (λ k. Some (failure k reason)) (sym fails.0) ∙ ap (λ q. Some (failure at q)) why
@@ -281,19 +285,22 @@ module _ (n rounds t : ℕ) (before : Before) (slot : FileSlot) (slots : List Fi
     ],
   )
 
-module _ (n rounds : ℕ) where
+module _ (scheduler : Scheduler) (scheduling : IsScheduler scheduler) (n rounds : ℕ) where
   pub fails_from : (t : ℕ) (before : Before) (slots : List FileSlot) → IsGood n before → All (IsFileSlot n) slots → (at : ℕ) (r : Reason)
-      → (failure_from n rounds t before slots ≡ Some (failure at r)) ↔ FailsFirst n rounds t before slots at r
+      → (failure_from scheduler n rounds t before slots ≡ Some (failure at r)) ↔ FailsFirst scheduler n rounds t before slots at r
   fails_from t before [] good each at r = end_is before.going t at r
   fails_from t before (slot ∷ slots) good each at r =
       let file : IsFileSlot n slot = each 0 slot (omega arith) in
       let rest : All (IsFileSlot n) slots = λ k d below. each (suc k) d (omega arith) in
-      let sound = sound_slot n rounds t before slot good file in
-      by_reason n rounds t before slot slots good file at r (failure_in n rounds t before slot) refl
-      (no_failure n rounds t before slot good.rows file.outputs sound.matches.count)
-      (λ follows. fails_from (t + 1) (after_slot n rounds t before slot) slots (good_after n rounds t before slot good file follows.decided) rest at r)
+      let sound = sound_slot scheduler scheduling n rounds t before slot good file in
+      by_reason scheduler n rounds t before slot slots good file at r (failure_in scheduler n rounds t before slot) refl
+      (no_failure n scheduler rounds t before slot good.rows file.outputs sound.matches.count)
+      (λ follows. fails_from (t + 1) (after_slot scheduler n rounds t before slot) slots
+      (good_after scheduler scheduling n rounds t before slot good file follows.decided) rest at r)
 
-pub file_fails : (file : JournalFile) → IsFile file → (at : ℕ) (r : Reason) → (first_failure file ≡ Some (failure at r)) ↔ IsFirstFailure file at r
-unfolding first_failure IsFirstFailure
-file_fails file good at r =
-    fails_from file.ports file.rounds 0 (at_first file.ports) file.slots (good_at_first file.ports good.ports_some good.ports_few) good.slots at r
+pub file_fails : (scheduler : Scheduler) → IsScheduler scheduler → (file : JournalFile) → IsFile file → (at : ℕ) (r : Reason)
+    → (first_failure_under scheduler file ≡ Some (failure at r)) ↔ IsFirstFailureUnder scheduler file at r
+unfolding first_failure_under IsFirstFailureUnder
+file_fails scheduler scheduling file good at r =
+    fails_from scheduler scheduling file.ports file.rounds 0 (at_first file.ports) file.slots
+    (good_at_first file.ports good.ports_some good.ports_few) good.slots at r

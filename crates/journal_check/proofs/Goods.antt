@@ -11,9 +11,8 @@ use Rattle.slot_match.specs.Matches.{IsMatch}
 use Rattle.slot_match.proofs.Kept.{IsMatch-unmatched}
 use Rattle.pointer_state.specs.Places.{AreAtPorts, places_at_first}
 use Rattle.pointer_state.proofs.Moves.{AreAtPorts-at_first}
-use Rattle.eslip_rounds.specs.Decisions.{decision_of}
+use Rattle.eslip_rounds.specs.Schedulers.{Scheduler, IsScheduler}
 use Rattle.slot_histories.proofs.EventTests.{IsEmptyRow-empty}
-use Rattle.eslip_rounds.proofs.Scheduling.{IsScheduler-decision_of}
 use Rattle.slot_histories.proofs.SoundDecisions.{IsSoundDecision, IsSoundDecision-slot}
 use Rattle.journal_check.specs.declared.posts.FilePost.{FilePost}
 use Rattle.journal_check.specs.Files.{FileSlot, rows_of}
@@ -91,20 +90,21 @@ good_at_first n some few = record {
   ports = ports-first n;
 }
 
-pub sound_slot : (n rounds t : ℕ) (before : Before) (slot : FileSlot) → IsGood n before → IsFileSlot n slot
-    → IsSoundDecision n (decided_in n rounds t before slot)
-sound_slot n rounds t before slot good file =
-    IsSoundDecision-slot n rounds t (rows_of slot) before.places (decision_of n rounds t (rows_of slot) before.places) good.at_ports good.ports
-    (IsScheduler-decision_of n rounds t (rows_of slot) before.places (file_within n slot file) good.at_ports good.ports)
+module _ (scheduler : Scheduler) (scheduling : IsScheduler scheduler) where
+  pub sound_slot : (n rounds t : ℕ) (before : Before) (slot : FileSlot) → IsGood n before → IsFileSlot n slot
+      → IsSoundDecision n (decided_in scheduler n rounds t before slot)
+  sound_slot n rounds t before slot good file =
+      IsSoundDecision-slot n rounds t (rows_of slot) before.places (scheduler n rounds t (rows_of slot) before.places) good.at_ports good.ports
+      (scheduling n rounds t (rows_of slot) before.places (file_within n slot file) good.at_ports good.ports)
 
-pub good_after : (n rounds t : ℕ) (before : Before) (slot : FileSlot) → IsGood n before → IsFileSlot n slot
-    → slot.matched ≡ (decided_in n rounds t before slot).matched → IsGood n (after_slot n rounds t before slot)
-unfolding after_slot
-good_after n rounds t before slot good file decided =
-    let sound = sound_slot n rounds t before slot good file in
-    record {
-      rows = file_rows n slot file;
-      whole = subst (IsMatch n) (sym decided) sound.matches;
-      at_ports = sound.at_ports;
-      ports = sound.ports;
-    }
+  pub good_after : (n rounds t : ℕ) (before : Before) (slot : FileSlot) → IsGood n before → IsFileSlot n slot
+      → slot.matched ≡ (decided_in scheduler n rounds t before slot).matched → IsGood n (after_slot scheduler n rounds t before slot)
+  unfolding after_slot
+  good_after n rounds t before slot good file decided =
+      let sound = sound_slot n rounds t before slot good file in
+      record {
+        rows = file_rows n slot file;
+        whole = subst (IsMatch n) (sym decided) sound.matches;
+        at_ports = sound.at_ports;
+        ports = sound.ports;
+      }

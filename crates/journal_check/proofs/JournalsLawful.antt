@@ -1,6 +1,7 @@
 -- The journal of a board on which every card has taken the last slot is a lawful file.
 use Rattle.std.proofs.Common.{◌≡◌, ℕ, zero, suc, ◌<◌, ◌||◌, ◌∙◌, not, Bool, true, false, All, List, length, refl, sym, ap, subst, arith, inl, inr, add-one}
 use Rattle.std.proofs.lemmas.Bool.{cases_Bool, or_parts}
+use Rattle.eslip_rounds.specs.Decisions.{decision_of}
 use Rattle.crossbar.specs.declared.cards.Post.{Post as CardPost}
 use Rattle.slot_histories.specs.declared.events.Event.{Event}
 use Rattle.slot_histories.specs.Events.{Setup, posts_of, takes_of, decides, posted, no_post}
@@ -45,7 +46,7 @@ module _ (s : Setup) (events : List Event) (setup : IsSetup s) (legal : IsLegal 
       let last : decides events ≡ suc found.0 = done_is_last s events setup.ports_some legal found.0 below found.2 ∙ add-one found.0 in
       ap (going_before s.ports (posted events)) last ∙ ap not found.2
 
-  whole : AreWhole s (posted events) (decides events)
+  whole : AreWhole decision_of s (posted events) (decides events)
   whole = record {
     accepted = λ i t inside below. (AreAccepted-legal s events legal).accepted i t inside (posted_in i t inside below);
     matches = λ t below. (decision_at-legal s events setup.ports_some setup.ports_few legal t below).matches;
@@ -54,22 +55,23 @@ module _ (s : Setup) (events : List Event) (setup : IsSetup s) (legal : IsLegal 
   }
 
   pub journal_lawful : IsLawful (file_of (board_journal (record { setup = s; events = events })))
-  journal_lawful = slots_lawful s (posted events) (decides events) whole
+  journal_lawful = slots_lawful decision_of s (posted events) (decides events) whole
 
   four_levels : HaveLevels (file_of (board_journal (record { setup = s; events = events }))) → (i t : ℕ) → i < s.ports → t < decides events
       → HasLevels (posted events i t).row
   four_levels four i t inside below =
-      let count = count_slots s (posted events) (decides events) in
-      let cards = count_posts s (posted events) t in
+      let count = count_slots decision_of s (posted events) (decides events) in
+      let cards = count_posts decision_of s (posted events) t in
       let none = file_slot no_slot in
-      let posts : All (λ (post : FilePost). HasLevels post.row) (slot s (posted events) t).posts =
-      subst (λ (v : FileSlot). All (λ (post : FilePost). HasLevels post.row) v.posts) (slot_in s (posted events) (decides events) t none below)
+      let posts : All (λ (post : FilePost). HasLevels post.row) (slot decision_of s (posted events) t).posts =
+      subst (λ (v : FileSlot). All (λ (post : FilePost). HasLevels post.row) v.posts) (slot_in decision_of s (posted events) (decides events) t none below)
       (four t none (omega arith)) in
-      subst (λ (post : FilePost). HasLevels post.row) (post_in s (posted events) t i (file_post no_post) inside) (posts i (file_post no_post) (omega arith))
+      subst (λ (post : FilePost). HasLevels post.row) (post_in decision_of s (posted events) t i (file_post no_post) inside)
+      (posts i (file_post no_post) (omega arith))
 
   pub journal_is_file : HaveLevels (file_of (board_journal (record { setup = s; events = events })))
       → IsFile (file_of (board_journal (record { setup = s; events = events })))
   journal_is_file four =
       let step = AreInStep-legal s events legal in
-      slots_are_file s (posted events) (decides events) whole setup
+      slots_are_file decision_of s (posted events) (decides events) whole setup
       (omega (arith, step.decided_posted 0 setup.ports_some, step.posts_within 0 setup.ports_some)) (four_levels four)

@@ -13,6 +13,7 @@ use Rattle.slot_match.specs.Matches.{fed_of}
 use Rattle.slot_match.specs.Parts.{served_of}
 use Rattle.eslip_rounds.specs.Decisions.{is_kind}
 use Rattle.eslip_rounds.proofs.Testing.{Decides-kind}
+use Rattle.eslip_rounds.specs.Schedulers.{Scheduler, IsScheduler}
 use Rattle.slot_histories.specs.Tests.{is_empty, keeps_rest}
 use Rattle.slot_histories.proofs.SetTests.{Decides-is_empty}
 use Rattle.slot_histories.proofs.KeepingTests.{Decides-keeps_rest}
@@ -23,10 +24,10 @@ use Rattle.journal_check.specs.declared.verdict.JournalFault.{JournalFault}
 use Rattle.journal_check.specs.declared.verdict.Verdict.{Verdict}
 use Rattle.journal_check.specs.Files.{FileSlot, JournalFile, rows_of, mores_of}
 use Rattle.journal_check.specs.Lawful.{Before, at_first, decided_in, after_slot, first_of, lacks_more, breaks, is_alike, differs, post_failure}
-use Rattle.journal_check.specs.Lawful.{output_failure, failure_in, failure_or, failure_from, MayFollow, MayFollowAll, first_failure, IsLawful}
+use Rattle.journal_check.specs.Lawful.{output_failure, failure_in, failure_or, failure_from, MayFollow, MayFollowAll, first_failure_under, IsLawfulUnder}
 use Rattle.journal_check.proofs.Goods.{AreRows, IsGood, sound_slot, good_after, good_at_first}
 use Rattle.journal_check.specs.Texts.{IsFileSlot, IsFile, file_text}
-use Rattle.journal_check.specs.Verdicts.{yes_on, verdict_by, answer_by, answer_to}
+use Rattle.journal_check.specs.Verdicts.{yes_on, verdict_by, answer_by, answer_under}
 use Rattle.journal_check.proofs.FilesAgain.{journal_again}
 
 -- no number below n is found exactly where none has the test
@@ -146,13 +147,14 @@ module _ (n : ℕ) where
       ]
 
   -- a slot has no failure exactly where it may follow
-  pub no_failure : (rounds t : ℕ) (before : Before) (slot : FileSlot) → AreRows n before.rows → length slot.matched ≡ n
-      → length (decided_in n rounds t before slot).matched ≡ n → (failure_in n rounds t before slot ≡ None) ↔ MayFollow n rounds t before slot
+  pub no_failure : (scheduler : Scheduler) (rounds t : ℕ) (before : Before) (slot : FileSlot) → AreRows n before.rows → length slot.matched ≡ n
+      → length (decided_in scheduler n rounds t before slot).matched ≡ n
+      → (failure_in scheduler n rounds t before slot ≡ None) ↔ MayFollow scheduler n rounds t before slot
   unfolding failure_in post_failure
-  no_failure rounds t before slot rows long also =
+  no_failure scheduler rounds t before slot rows long also =
       let new = rows_of slot in
       let more = mores_of slot in
-      let decided = (decided_in n rounds t before slot).matched in
+      let decided = (decided_in scheduler n rounds t before slot).matched in
       let a : Option Reason = if before.going then None else Some AfterEnd in
       let b = option_map More (first_of n (lacks_more new more)) in
       let c = option_map Keeps (first_of n (breaks n before.matched before.rows new)) in
@@ -203,31 +205,33 @@ module _ (n : ℕ) where
   none_going true f = (λ e. absurd (cc), λ e. absurd (cc))
   none_going false f = (λ e. refl, λ e. refl)
 
-module _ (n rounds : ℕ) where
+module _ (scheduler : Scheduler) (scheduling : IsScheduler scheduler) (n rounds : ℕ) where
   pub no_failure_from : (t : ℕ) (before : Before) (slots : List FileSlot) → IsGood n before → All (IsFileSlot n) slots
-      → (failure_from n rounds t before slots ≡ None) ↔ MayFollowAll n rounds t before slots
+      → (failure_from scheduler n rounds t before slots ≡ None) ↔ MayFollowAll scheduler n rounds t before slots
   no_failure_from t before [] good each = none_going n before.going (record { slot = t - 1; reason = NoEnd })
   no_failure_from t before (slot ∷ slots) good each =
       let file : IsFileSlot n slot = each 0 slot (omega arith) in
       let rest : All (IsFileSlot n) slots = λ k d below. each (suc k) d (omega arith) in
-      let sound = sound_slot n rounds t before slot good file in
-      let here = no_failure n rounds t before slot good.rows file.outputs sound.matches.count in
-      let later = failure_from n rounds (t + 1) (after_slot n rounds t before slot) slots in
-      let both = none_later n t (failure_in n rounds t before slot) later in
-      let next = λ (follows : MayFollow n rounds t before slot). no_failure_from (t + 1) (after_slot n rounds t before slot) slots
-      (good_after n rounds t before slot good file follows.decided) rest in (
+      let sound = sound_slot scheduler scheduling n rounds t before slot good file in
+      let here = no_failure n scheduler rounds t before slot good.rows file.outputs sound.matches.count in
+      let later = failure_from scheduler n rounds (t + 1) (after_slot scheduler n rounds t before slot) slots in
+      let both = none_later n t (failure_in scheduler n rounds t before slot) later in
+      let next = λ (follows : MayFollow scheduler n rounds t before slot). no_failure_from (t + 1) (after_slot scheduler n rounds t before slot) slots
+      (good_after scheduler scheduling n rounds t before slot good file follows.decided) rest in (
         λ e. let p = both.0 e in let follows = here.0 p.0 in (follows, (next follows).0 p.1),
         λ h. both.1 (here.1 h.0, (next h.0).1 h.1),
       )
 
-pub file_failure : (file : JournalFile) → IsFile file → (first_failure file ≡ None) ↔ IsLawful file
-unfolding first_failure IsLawful
-file_failure file good = no_failure_from file.ports file.rounds 0 (at_first file.ports) file.slots
+pub file_failure : (scheduler : Scheduler) → IsScheduler scheduler → (file : JournalFile) → IsFile file
+    → (first_failure_under scheduler file ≡ None) ↔ IsLawfulUnder scheduler file
+unfolding first_failure_under IsLawfulUnder
+file_failure scheduler scheduling file good = no_failure_from scheduler scheduling file.ports file.rounds 0 (at_first file.ports) file.slots
     (good_at_first file.ports good.ports_some good.ports_few) good.slots
 
 -- a lawful file is answered yes
-pub lawful_answer : (file : JournalFile) → IsFile file → IsLawful file → answer_to (file_text file) ≡ Ok (yes_on file)
-unfolding answer_to
-lawful_answer file good lawful =
-    ap answer_by (journal_again file good)
-    ∙ ap (λ (f : Option Failure). let a : Result Verdict JournalFault = Ok (verdict_by file f) in a) ((file_failure file good).1 lawful)
+pub lawful_answer : (scheduler : Scheduler) → IsScheduler scheduler → (file : JournalFile) → IsFile file → IsLawfulUnder scheduler file
+    → answer_under scheduler (file_text file) ≡ Ok (yes_on file)
+unfolding answer_under
+lawful_answer scheduler scheduling file good lawful =
+    ap (answer_by scheduler) (journal_again file good)
+    ∙ ap (λ (f : Option Failure). let a : Result Verdict JournalFault = Ok (verdict_by file f) in a) ((file_failure scheduler scheduling file good).1 lawful)

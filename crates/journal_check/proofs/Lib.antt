@@ -9,12 +9,14 @@ pub mod ReadFiles
 pub mod Goods
 pub mod LawfulFiles
 pub mod Scheduling
+pub mod Bounds
 pub mod SlotsLawful
 pub mod JournalsLawful
 pub mod Judged
 pub mod SlotFails
 pub mod Checked
 pub mod Written
+pub mod SlotsAdded
 pub mod Flags
 pub mod NumbersSpelled
 pub mod FilesSpelled

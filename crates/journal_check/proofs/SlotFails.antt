@@ -4,8 +4,13 @@ use Rattle.std.specs.List.{list_any}
 use Rattle.std.specs.Option.{option_or}
 use Rattle.slot_match.specs.declared.rows.Row.{Row}
 use Rattle.slot_match.specs.declared.matching.Fed.{Fed}
-use Rattle.pointer_state.specs.Places.{Places}
-use Rattle.eslip_rounds.specs.Decisions.{decision_of}
+use Rattle.slot_match.specs.Rows.{AreWithin}
+use Rattle.pointer_state.specs.Places.{Places, AreAtPorts}
+use Rattle.eslip_rounds.specs.Slots.{Decision}
+use Rattle.eslip_rounds.specs.Schedulers.{Scheduler}
+use Rattle.scheduler_names.specs.declared.names.SchedulerName.{SchedulerName}
+use Rattle.named_schedulers.specs.Named.{decision_named}
+use Rattle.named_schedulers.proofs.Schedulers.{IsScheduler-named}
 use Rattle.journal_check.specs.declared.slots.SlotRead.{SlotRead}
 use Rattle.journal_check.specs.declared.verdict.Reason.{Reason}
 use Rattle.journal_check.specs.declared.judging.Judge.{Judge}
@@ -14,43 +19,9 @@ use Rattle.journal_check.specs.Lawful.{Before, decided_in, after_slot, post_fail
 use Rattle.journal_check.specs.Steps.{IsSlotRead, before_of}
 use Rattle.journal_check.proofs.LawfulFiles.{no_output_failure}
 
-module _ (n rounds t : ℕ) (before : Before) (read : SlotRead) (value : FileSlot) (is : IsSlotRead n read value) where
-  posts_are : post_failure n before (take n read.rows) (take n read.more) ≡ post_failure n before (rows_of value) (mores_of value)
-  posts_are = ap (λ (rows : List Row). post_failure n before rows (take n read.more)) is.rows ∙ ap (post_failure n before (rows_of value)) is.more
-
-  outputs_are : (decided : List (Option Fed)) → decided ≡ (decision_of n rounds t (take n read.rows) before.places).matched
-      → output_failure n (take n read.fed) decided ≡ output_failure n value.matched (decided_in n rounds t before value).matched
-  outputs_are decided same =
-      ap (λ (fed : List (Option Fed)). output_failure n fed decided) is.outputs
-      ∙ ap (output_failure n value.matched) (same ∙ ap (λ (rows : List Row). (decision_of n rounds t rows before.places).matched) is.rows)
-
-  pub posts_fail : (reason : Reason) → Some reason ≡ post_failure n before (take n read.rows) (take n read.more)
-      → Some reason ≡ failure_in n rounds t before value
-  unfolding failure_in
-  posts_fail reason e = ap (λ (r : Option Reason). option_or r (output_failure n value.matched (decided_in n rounds t before value).matched)) (e ∙ posts_are)
-
-  pub then_outputs : (outcome : Option Reason) (decided : List (Option Fed)) → None ≡ post_failure n before (take n read.rows) (take n read.more)
-      → decided ≡ (decision_of n rounds t (take n read.rows) before.places).matched → outcome ≡ output_failure n (take n read.fed) decided
-      → outcome ≡ failure_in n rounds t before value
-  unfolding failure_in
-  then_outputs outcome decided none same e =
-      e ∙ outputs_are decided same
-      ∙ ap (λ (r : Option Reason). option_or r (output_failure n value.matched (decided_in n rounds t before value).matched)) (none ∙ posts_are)
-
-  -- what the slot leaves, if it may follow
-  pub left : (new : Judge) → new.rows ≡ read.rows → new.going ≡ list_any (λ (more : Bool). more) (take n read.more)
-      → new.pointers ≡ (decision_of n rounds t (take n read.rows) before.places).places
-      → length (take n read.fed) ≡ n → length new.matched ≡ n → None ≡ output_failure n (take n read.fed) new.matched
-      → before_of n new ≡ after_slot n rounds t before value
-  unfolding after_slot
-  left new rows going places long also none =
-      let matched : take n read.fed ≡ new.matched = (no_output_failure n (take n read.fed) new.matched long also).0 (sym none) in
-      let made : List Row → List (Option Fed) → Bool → Places → Before = λ r m g p. record { rows = r; matched = m; going = g; places = p } in
-      ap (λ (r : List Row). made r new.matched new.going new.pointers) (ap (take n) rows ∙ is.rows)
-      ∙ ap (λ (m : List (Option Fed)). made (rows_of value) m new.going new.pointers) (sym matched ∙ is.outputs)
-      ∙ ap (λ (g : Bool). made (rows_of value) value.matched g new.pointers) (going ∙ ap (list_any (λ (more : Bool). more)) is.more)
-      ∙ ap (made (rows_of value) value.matched (list_any (λ (more : Bool). more) (mores_of value)))
-      (places ∙ ap (λ (r : List Row). (decision_of n rounds t r before.places).places) is.rows)
+pub is_none : {X : Type 0} (o : Option X) → is_some o ≡ false → o ≡ None
+is_none None e = refl
+is_none (Some x) e = absurd (cc)
 
 -- the same of slices that are as long and have the same elements
 pub post_again : (n m : ℕ) (judge : Judge) (r : Option Reason) (rows others : List Row) (more also : List Bool) → m ≡ n → others ≡ rows → also ≡ more
@@ -59,19 +30,63 @@ post_again n m judge r rows others more also len same_rows same_more e =
     e ∙ ap (λ (k : ℕ). post_failure k (before_of k judge) others also) len ∙ ap (λ (xs : List Row). post_failure n (before_of n judge) xs also) same_rows
     ∙ ap (post_failure n (before_of n judge) rows) same_more
 
-pub output_again : (n m rounds t : ℕ) (places : Places) (r : Option Reason) (rows others : List Row) (fed also decided : List (Option Fed)) → m ≡ n
-    → others ≡ rows → also ≡ fed → r ≡ output_failure m also decided → decided ≡ (decision_of m rounds t others places).matched
-    → r ≡ output_failure n fed (decision_of n rounds t rows places).matched
-output_again n m rounds t places r rows others fed also decided len same_rows same_fed e is =
-    e ∙ ap (λ (k : ℕ). output_failure k also decided) len ∙ ap (λ (xs : List (Option Fed)). output_failure n xs decided) same_fed
-    ∙ ap (output_failure n fed) (is ∙ ap (λ (k : ℕ). (decision_of k rounds t others places).matched) len
-    ∙ ap (λ (xs : List Row). (decision_of n rounds t xs places).matched) same_rows)
+-- the pointers after a slot are of as many ports
+pub decided_ports : (name : SchedulerName) (n m rounds t : ℕ) (rows : List Row) (places : Places) (decision : Decision) → m ≡ n → AreWithin n rows
+    → AreAtPorts places → places.ports ≡ n → decision ≡ decision_named name m rounds t rows places → decision.places.ports ≡ n
+decided_ports name n m rounds t rows places decision len within at_ports ports same =
+    ap (λ (d : Decision). d.places.ports) same ∙ ap (λ (k : ℕ). (decision_named name k rounds t rows places).places.ports) len
+    ∙ (IsScheduler-named name n rounds t rows places within at_ports ports).moved.1 ∙ ports
 
-pub places_again : (n m rounds t : ℕ) (places after : Places) (rows others : List Row) → m ≡ n → others ≡ rows
-    → after ≡ (decision_of m rounds t others places).places → after ≡ (decision_of n rounds t rows places).places
-places_again n m rounds t places after rows others len same_rows is = is ∙ ap (λ (k : ℕ). (decision_of k rounds t others places).places) len
-    ∙ ap (λ (xs : List Row). (decision_of n rounds t xs places).places) same_rows
+module _ (scheduler : Scheduler) where
+  module _ (n rounds t : ℕ) (before : Before) (read : SlotRead) (value : FileSlot) (is : IsSlotRead n read value) where
+    posts_are : post_failure n before (take n read.rows) (take n read.more) ≡ post_failure n before (rows_of value) (mores_of value)
+    posts_are = ap (λ (rows : List Row). post_failure n before rows (take n read.more)) is.rows ∙ ap (post_failure n before (rows_of value)) is.more
 
-pub is_none : {X : Type 0} (o : Option X) → is_some o ≡ false → o ≡ None
-is_none None e = refl
-is_none (Some x) e = absurd (cc)
+    outputs_are : (decided : List (Option Fed)) → decided ≡ (scheduler n rounds t (take n read.rows) before.places).matched
+        → output_failure n (take n read.fed) decided ≡ output_failure n value.matched (decided_in scheduler n rounds t before value).matched
+    outputs_are decided same =
+        ap (λ (fed : List (Option Fed)). output_failure n fed decided) is.outputs
+        ∙ ap (output_failure n value.matched) (same ∙ ap (λ (rows : List Row). (scheduler n rounds t rows before.places).matched) is.rows)
+
+    pub posts_fail : (reason : Reason) → Some reason ≡ post_failure n before (take n read.rows) (take n read.more)
+        → Some reason ≡ failure_in scheduler n rounds t before value
+    unfolding failure_in
+    posts_fail reason e =
+        ap (λ (r : Option Reason). option_or r (output_failure n value.matched (decided_in scheduler n rounds t before value).matched)) (e ∙ posts_are)
+
+    pub then_outputs : (outcome : Option Reason) (decided : List (Option Fed)) → None ≡ post_failure n before (take n read.rows) (take n read.more)
+        → decided ≡ (scheduler n rounds t (take n read.rows) before.places).matched → outcome ≡ output_failure n (take n read.fed) decided
+        → outcome ≡ failure_in scheduler n rounds t before value
+    unfolding failure_in
+    then_outputs outcome decided none same e =
+        e ∙ outputs_are decided same
+        ∙ ap (λ (r : Option Reason). option_or r (output_failure n value.matched (decided_in scheduler n rounds t before value).matched)) (none ∙ posts_are)
+
+    -- what the slot leaves, if it may follow
+    pub left : (new : Judge) → new.rows ≡ read.rows → new.going ≡ list_any (λ (more : Bool). more) (take n read.more)
+        → new.pointers ≡ (scheduler n rounds t (take n read.rows) before.places).places
+        → length (take n read.fed) ≡ n → length new.matched ≡ n → None ≡ output_failure n (take n read.fed) new.matched
+        → before_of n new ≡ after_slot scheduler n rounds t before value
+    unfolding after_slot
+    left new rows going places long also none =
+        let matched : take n read.fed ≡ new.matched = (no_output_failure n (take n read.fed) new.matched long also).0 (sym none) in
+        let made : List Row → List (Option Fed) → Bool → Places → Before = λ r m g p. record { rows = r; matched = m; going = g; places = p } in
+        ap (λ (r : List Row). made r new.matched new.going new.pointers) (ap (take n) rows ∙ is.rows)
+        ∙ ap (λ (m : List (Option Fed)). made (rows_of value) m new.going new.pointers) (sym matched ∙ is.outputs)
+        ∙ ap (λ (g : Bool). made (rows_of value) value.matched g new.pointers) (going ∙ ap (list_any (λ (more : Bool). more)) is.more)
+        ∙ ap (made (rows_of value) value.matched (list_any (λ (more : Bool). more) (mores_of value)))
+        (places ∙ ap (λ (r : List Row). (scheduler n rounds t r before.places).places) is.rows)
+
+  -- the same of slices that are as long and have the same elements
+  pub output_again : (n m rounds t : ℕ) (places : Places) (r : Option Reason) (rows others : List Row) (fed also decided : List (Option Fed)) → m ≡ n
+      → others ≡ rows → also ≡ fed → r ≡ output_failure m also decided → decided ≡ (scheduler m rounds t others places).matched
+      → r ≡ output_failure n fed (scheduler n rounds t rows places).matched
+  output_again n m rounds t places r rows others fed also decided len same_rows same_fed e is =
+      e ∙ ap (λ (k : ℕ). output_failure k also decided) len ∙ ap (λ (xs : List (Option Fed)). output_failure n xs decided) same_fed
+      ∙ ap (output_failure n fed) (is ∙ ap (λ (k : ℕ). (scheduler k rounds t others places).matched) len
+      ∙ ap (λ (xs : List Row). (scheduler n rounds t xs places).matched) same_rows)
+
+  pub places_again : (n m rounds t : ℕ) (places after : Places) (rows others : List Row) → m ≡ n → others ≡ rows
+      → after ≡ (scheduler m rounds t others places).places → after ≡ (scheduler n rounds t rows places).places
+  places_again n m rounds t places after rows others len same_rows is = is ∙ ap (λ (k : ℕ). (scheduler k rounds t others places).places) len
+      ∙ ap (λ (xs : List Row). (scheduler n rounds t xs places).places) same_rows

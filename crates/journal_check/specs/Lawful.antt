@@ -1,4 +1,5 @@
 -- Lawful files: what a scheduler may have decided, from its first slot to its last.
+-- What ends in `under` is of any scheduler; the plain names are of the scheduler of the board.
 use Rattle.std.specs.Prelude.{◌≡◌, ℕ, ◌+◌, ◌-◌, ◌<◌, ◌==◌, ◌&&◌, ◌⊎◌, not, Bool, true, false, if◌then◌else◌, List, [], ◌∷◌, replicate, find, Option}
 use Rattle.std.specs.Prelude.{None, Some, option_map, slice_index_or}
 use Rattle.std.specs.List.{range_with_len, list_any}
@@ -11,6 +12,7 @@ use Rattle.slot_match.specs.Keeping.{KeepsRest, Gives}
 use Rattle.slot_match.specs.Parts.{served_of}
 use Rattle.pointer_state.specs.Places.{Places, places_at_first}
 use Rattle.eslip_rounds.specs.Slots.{Decision}
+use Rattle.eslip_rounds.specs.Schedulers.{Scheduler}
 use Rattle.eslip_rounds.specs.Decisions.{decision_of, is_kind}
 use Rattle.slot_histories.specs.Tests.{is_empty, keeps_rest}
 use Rattle.eslip_rounds.specs.Schedules.{DecidedSlot}
@@ -32,16 +34,16 @@ unfoldable pub at_first : ℕ → Before
 at_first n = record { rows = replicate n empty_row; matched = unmatched n; going = true; places = places_at_first n }
 
 -- what slot t of a file decides
-abbrev pub decided_in : ℕ → ℕ → ℕ → Before → FileSlot → Decision
-decided_in n rounds t before slot = decision_of n rounds t (rows_of slot) before.places
+abbrev pub decided_in : Scheduler → ℕ → ℕ → ℕ → Before → FileSlot → Decision
+decided_in scheduler n rounds t before slot = scheduler n rounds t (rows_of slot) before.places
 
 -- the same, after slot t
-unfoldable pub after_slot : ℕ → ℕ → ℕ → Before → FileSlot → Before
-after_slot n rounds t before slot = record {
+unfoldable pub after_slot : Scheduler → ℕ → ℕ → ℕ → Before → FileSlot → Before
+after_slot scheduler n rounds t before slot = record {
   rows = rows_of slot;
   matched = slot.matched;
   going = list_any (λ more. more) (mores_of slot);
-  places = (decided_in n rounds t before slot).places;
+  places = (decided_in scheduler n rounds t before slot).places;
 }
 
 -- the first of these numbers with the test, from 0 to n - 1
@@ -86,9 +88,9 @@ unfoldable pub output_failure : ℕ → List (Option Fed) → List (Option Fed) 
 output_failure n matched decided = option_map Output (first_of n (differs matched decided))
 
 -- why slot t fails, if it does: for its posts, or else for an output
-unfoldable pub failure_in : ℕ → ℕ → ℕ → Before → FileSlot → Option Reason
-failure_in n rounds t before slot =
-    option_or (post_failure n before (rows_of slot) (mores_of slot)) (output_failure n slot.matched (decided_in n rounds t before slot).matched)
+unfoldable pub failure_in : Scheduler → ℕ → ℕ → ℕ → Before → FileSlot → Option Reason
+failure_in scheduler n rounds t before slot =
+    option_or (post_failure n before (rows_of slot) (mores_of slot)) (output_failure n slot.matched (decided_in scheduler n rounds t before slot).matched)
 
 -- the failure of slot t, or else that of the later slots
 abbrev pub failure_or : ℕ → Option Reason → Option Failure → Option Failure
@@ -96,40 +98,51 @@ failure_or t None later = later
 failure_or t (Some reason) later = Some (record { slot = t; reason = reason })
 
 -- The first failure of the slots from slot t on. After the last slot, it is that more was to come.
-abbrev pub failure_from : ℕ → ℕ → ℕ → Before → List FileSlot → Option Failure
-failure_from n rounds t before [] = if before.going then Some (record { slot = t - 1; reason = NoEnd }) else None
-failure_from n rounds t before (slot ∷ slots) =
-    failure_or t (failure_in n rounds t before slot) (failure_from n rounds (t + 1) (after_slot n rounds t before slot) slots)
+abbrev pub failure_from : Scheduler → ℕ → ℕ → ℕ → Before → List FileSlot → Option Failure
+failure_from scheduler n rounds t before [] = if before.going then Some (record { slot = t - 1; reason = NoEnd }) else None
+failure_from scheduler n rounds t before (slot ∷ slots) =
+    failure_or t (failure_in scheduler n rounds t before slot)
+    (failure_from scheduler n rounds (t + 1) (after_slot scheduler n rounds t before slot) slots)
 
 -- the first failure of a file
-unfoldable pub first_failure : JournalFile → Option Failure
-first_failure file = failure_from file.ports file.rounds 0 (at_first file.ports) file.slots
+unfoldable pub first_failure_under : Scheduler → JournalFile → Option Failure
+first_failure_under scheduler file = failure_from scheduler file.ports file.rounds 0 (at_first file.ports) file.slots
+
+abbrev pub first_failure : JournalFile → Option Failure
+first_failure = first_failure_under decision_of
 
 -- what the slots of a file decide, from slot t on
-abbrev pub decided_from : ℕ → ℕ → ℕ → Places → List FileSlot → List DecidedSlot
-decided_from n rounds t places [] = []
-decided_from n rounds t places (slot ∷ slots) =
-    record { rows = rows_of slot; decision = decision_of n rounds t (rows_of slot) places }
-    ∷ decided_from n rounds (t + 1) (decision_of n rounds t (rows_of slot) places).places slots
+abbrev pub decided_from : Scheduler → ℕ → ℕ → ℕ → Places → List FileSlot → List DecidedSlot
+decided_from scheduler n rounds t places [] = []
+decided_from scheduler n rounds t places (slot ∷ slots) =
+    record { rows = rows_of slot; decision = scheduler n rounds t (rows_of slot) places }
+    ∷ decided_from scheduler n rounds (t + 1) (scheduler n rounds t (rows_of slot) places).places slots
 
 -- what the slots of a file decide, from their rows alone
-unfoldable pub decided_slots : JournalFile → List DecidedSlot
-decided_slots file = decided_from file.ports file.rounds 0 (places_at_first file.ports) file.slots
+unfoldable pub decided_slots_under : Scheduler → JournalFile → List DecidedSlot
+decided_slots_under scheduler file = decided_from scheduler file.ports file.rounds 0 (places_at_first file.ports) file.slots
+
+abbrev pub decided_slots : JournalFile → List DecidedSlot
+decided_slots = decided_slots_under decision_of
 
 -- The slot may follow what is before it: more was to come, each post that names an output has `more`, each card's
 -- row keeps its row of the slot before, of which its part of the match was served, and the match is what the
 -- scheduler decides.
-pub record MayFollow (n rounds t : ℕ) (before : Before) (slot : FileSlot) : Type 0 where
+pub record MayFollow (scheduler : Scheduler) (n rounds t : ℕ) (before : Before) (slot : FileSlot) : Type 0 where
   pub goes_on : before.going ≡ true
   pub more : (i : ℕ) → i < n → IsEmptyRow (row_of (rows_of slot) i) ⊎ (slice_index_or (mores_of slot) i false ≡ true)
   pub keeps : (i : ℕ) → i < n → KeepsRest (Gives (served_of before.matched i)) (row_of before.rows i) (row_of (rows_of slot) i)
-  pub decided : slot.matched ≡ (decided_in n rounds t before slot).matched
+  pub decided : slot.matched ≡ (decided_in scheduler n rounds t before slot).matched
 
 -- each slot from slot t on may follow what is before it, and after the last one no more is to come
-abbrev pub MayFollowAll : ℕ → ℕ → ℕ → Before → List FileSlot → Type 0
-MayFollowAll n rounds t before [] = before.going ≡ false
-MayFollowAll n rounds t before (slot ∷ slots) = MayFollow n rounds t before slot × MayFollowAll n rounds (t + 1) (after_slot n rounds t before slot) slots
+abbrev pub MayFollowAll : Scheduler → ℕ → ℕ → ℕ → Before → List FileSlot → Type 0
+MayFollowAll scheduler n rounds t before [] = before.going ≡ false
+MayFollowAll scheduler n rounds t before (slot ∷ slots) =
+    MayFollow scheduler n rounds t before slot × MayFollowAll scheduler n rounds (t + 1) (after_slot scheduler n rounds t before slot) slots
 
 -- a lawful file: all of its slots may follow, one after another
-unfoldable pub IsLawful : JournalFile → Type 0
-IsLawful file = MayFollowAll file.ports file.rounds 0 (at_first file.ports) file.slots
+unfoldable pub IsLawfulUnder : Scheduler → JournalFile → Type 0
+IsLawfulUnder scheduler file = MayFollowAll scheduler file.ports file.rounds 0 (at_first file.ports) file.slots
+
+abbrev pub IsLawful : JournalFile → Type 0
+IsLawful = IsLawfulUnder decision_of

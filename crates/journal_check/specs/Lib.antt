@@ -5,3 +5,4 @@ pub mod Lawful
 pub mod Verdicts
 pub mod Steps
 pub mod Failures
+pub mod WritingSteps

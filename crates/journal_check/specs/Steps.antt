@@ -2,6 +2,7 @@
 -- is known of the slots so far.
 use Rattle.std.specs.Prelude.{◌≡◌, ◌≢◌, ℕ, ◌+◌, ◌-◌, ◌<◌, ◌≤◌, ◌++◌, slice_index, List, Option, None, Some, Ok, Err, length, drop, take, map}
 use Rattle.slot_match.specs.Rows.{AreWithin}
+use Rattle.eslip_rounds.specs.Schedulers.{Scheduler}
 use Rattle.service_bound.specs.MeterSteps.{HasNoted}
 use Rattle.journal_check.specs.declared.header.Header.{Header}
 use Rattle.journal_check.specs.declared.slots.SlotRead.{SlotRead}
@@ -42,9 +43,9 @@ abbrev pub before_of : ℕ → Judge → Before
 before_of n judge = record { rows = take n judge.rows; matched = judge.matched; going = judge.going; places = judge.pointers }
 
 -- the first failure of all slots, where this is the one of the slots so far and these slots follow slot t
-abbrev pub failure_with : ℕ → ℕ → ℕ → Judge → Option Failure → List FileSlot → Option Failure
-failure_with n rounds t judge None slots = failure_from n rounds t (before_of n judge) slots
-failure_with n rounds t judge (Some failure) slots = Some failure
+abbrev pub failure_with : Scheduler → ℕ → ℕ → ℕ → Judge → Option Failure → List FileSlot → Option Failure
+failure_with scheduler n rounds t judge None slots = failure_from scheduler n rounds t (before_of n judge) slots
+failure_with scheduler n rounds t judge (Some failure) slots = Some failure
 
 -- what a judge keeps is for n ports and these rounds, the rows of the slot before name none but the ports, and its meter has noted no more than t slots
 pub record IsFor (n rounds t : ℕ) (judge : Judge) : Type 0 where
@@ -61,8 +62,9 @@ pub record IsFor (n rounds t : ℕ) (judge : Judge) : Type 0 where
 
 -- the slots so far are judged: their first failure is known, whatever follows, and where they have none their waits
 -- are noted
-pub record IsJudged (n rounds : ℕ) (slots : List FileSlot) (judge : Judge) : Type 0 where
-  pub found : (more : List FileSlot) → failure_from n rounds 0 (at_first n) (slots ++ more) ≡ failure_with n rounds (length slots) judge judge.failure more
+pub record IsJudged (scheduler : Scheduler) (n rounds : ℕ) (slots : List FileSlot) (judge : Judge) : Type 0 where
+  pub found : (more : List FileSlot)
+      → failure_from scheduler n rounds 0 (at_first n) (slots ++ more) ≡ failure_with scheduler n rounds (length slots) judge judge.failure more
   pub noted : judge.failure ≡ None → HasNoted judge.meter (map noted_of slots)
 
 -- bit k is that of one of the first `count` sets, from bit `first` on, and the set is not empty

@@ -2,15 +2,16 @@ ghost use Rattle.std.specs.Prelude.{◌≡◌, ◌≤◌, ◌<◌, ◌+◌, ◌+
 ghost use Rattle.slot_match.specs.Rows.{AreWithin, IsWithin, IsOfLevels, empty_row};
 ghost use Rattle.slot_histories.specs.Tests.{is_empty, keeps_rest};
 ghost use Rattle.std.specs.List.{list_any};
-ghost use Rattle.eslip_rounds.specs.Decisions.{decision_of};
+ghost use Rattle.eslip_rounds.specs.Schedulers.{Scheduler};
+ghost use Rattle.named_schedulers.specs.Named.{decision_named};
 ghost use Rattle.journal_check.specs.Files.{FileSlot, JournalFile};
 ghost use Rattle.journal_check.specs.Lawful.{after_slot, post_failure, output_failure, failure_in, first_of, is_alike, lacks_more, breaks, differs};
-ghost use Rattle.journal_check.specs.Verdicts.{verdict_on};
+ghost use Rattle.journal_check.specs.Verdicts.{verdict_under};
 ghost use Rattle.journal_check.specs.Steps.{IsSlotRead, before_of, failure_with, IsFor, IsJudged};
 
 use crate::slots::SlotRead;
 use crate::verdict::{Failure, Reason, Verdict};
-use eslip_rounds::decide;
+use named_schedulers::NamedScheduler;
 use pointer_state::Pointers;
 use rotating_pick::{MAX_PORTS, MAX_ROUNDS, OutOfMemory, PORT_COUNT};
 use service_bound::{MAX_NOTED, WaitMeter};
@@ -20,6 +21,8 @@ use std::alloc::Global;
 // What is known of the slots so far, in their order.
 #[derive(Drop)]
 pub(crate) struct Judge {
+    // The scheduler by which the slots are decided.
+    pub(crate) scheduler: NamedScheduler,
     pub(crate) rounds: u32,
     // The rows of the slot before, in the first places.
     pub(crate) rows: [Row; PORT_COUNT],
@@ -37,16 +40,23 @@ pub(crate) struct Judge {
 
 impl Judge {
     // What is known before the first slot of a file.
-    pub(crate) fn make(alloc: Global, ports: u32, rounds: u32) -> Result<Judge, OutOfMemory>
+    pub(crate) fn make(
+        alloc: Global,
+        scheduler: NamedScheduler,
+        ports: u32,
+        rounds: u32,
+    ) -> Result<Judge, OutOfMemory>
         requires ports_some { 0 < ports }
         requires ports_few { ports ≤ MAX_PORTS }
         requires rounds_some { 0 < rounds }
         requires rounds_few { rounds ≤ MAX_ROUNDS }
         ensures ready { IfOk result (IsFor ports rounds 0) }
-        ensures judged { IfOk result (IsJudged ports rounds []) }
+        ensures judged { IfOk result (IsJudged (decision_named scheduler) ports rounds []) }
+        ensures scheduler { IfOk result (λ judge. judge.scheduler ≡ scheduler) }
     {
         let rows = no_rows();
         Ok(Judge {
+            scheduler,
             rounds,
             rows,
             matched: Match::new(ports),
@@ -84,13 +94,13 @@ impl Judge {
         requires within { AreWithin (length rows.now) rows.now }
         requires outputs { length fed.now ≡ length rows.now }
         ensures failure { result ≡ output_failure (length rows.now) fed.now self.new.matched }
-        ensures matched { self.new.matched ≡ (decision_of (length rows.now) self.old.rounds t rows.now self.old.pointers).matched }
-        ensures places { self.new.pointers ≡ (decision_of (length rows.now) self.old.rounds t rows.now self.old.pointers).places }
+        ensures matched { self.new.matched ≡ (decision_named self.old.scheduler (length rows.now) self.old.rounds t rows.now self.old.pointers).matched }
+        ensures places { self.new.pointers ≡ (decision_named self.old.scheduler (length rows.now) self.old.rounds t rows.now self.old.pointers).places }
         ensures stays { self.new ≡ record self.old { matched = self.new.matched; pointers = self.new.pointers } }
         ensures ready { IsFor (length rows.now) self.new.rounds t self.new }
     {
-        let ports = rows.len() as u32;
-        let _numbers = decide(
+        let ports = self.pointers.ports();
+        let _numbers = self.scheduler.decide(
             ports,
             self.rounds,
             t,
@@ -107,10 +117,12 @@ impl Judge {
         requires ready { IsFor ports self.old.rounds t self.old }
         requires within { AreWithin ports (take ports slot.now.rows) }
         ensures failure { result ≡ output_failure ports (take ports slot.now.fed)
-            (decision_of ports self.old.rounds t (take ports slot.now.rows) self.old.pointers).matched }
+            (decision_named self.old.scheduler ports self.old.rounds t (take ports slot.now.rows) self.old.pointers).matched }
         ensures next { (value : FileSlot) → IsSlotRead ports slot.now value
-            → IfNone result (before_of ports self.new ≡ after_slot ports self.old.rounds t (before_of ports self.old) value) }
-        ensures stays { (self.new.rounds ≡ self.old.rounds) × (self.new.meter ≡ self.old.meter) × (self.new.failure ≡ self.old.failure) }
+            → IfNone result (before_of ports self.new
+            ≡ after_slot (decision_named self.old.scheduler) ports self.old.rounds t (before_of ports self.old) value) }
+        ensures stays { (self.new.scheduler ≡ self.old.scheduler) × (self.new.rounds ≡ self.old.rounds) × (self.new.meter ≡ self.old.meter)
+            × (self.new.failure ≡ self.old.failure) }
         ensures ready { IsFor ports self.new.rounds t self.new }
     {
         let count = ports as usize;
@@ -128,10 +140,13 @@ impl Judge {
     fn slot_failure(&mut self, t: u32, ports: u32, slot: &SlotRead) -> Option<Reason>
         requires ready { IsFor ports self.old.rounds t self.old }
         requires within { AreWithin ports (take ports slot.now.rows) }
-        ensures failure { (value : FileSlot) → IsSlotRead ports slot.now value → result ≡ failure_in ports self.old.rounds t (before_of ports self.old) value }
+        ensures failure { (value : FileSlot) → IsSlotRead ports slot.now value
+            → result ≡ failure_in (decision_named self.old.scheduler) ports self.old.rounds t (before_of ports self.old) value }
         ensures next { (value : FileSlot) → IsSlotRead ports slot.now value
-            → IfNone result (before_of ports self.new ≡ after_slot ports self.old.rounds t (before_of ports self.old) value) }
-        ensures stays { (self.new.rounds ≡ self.old.rounds) × (self.new.meter ≡ self.old.meter) × (self.new.failure ≡ self.old.failure) }
+            → IfNone result (before_of ports self.new
+            ≡ after_slot (decision_named self.old.scheduler) ports self.old.rounds t (before_of ports self.old) value) }
+        ensures stays { (self.new.scheduler ≡ self.old.scheduler) × (self.new.rounds ≡ self.old.rounds) × (self.new.meter ≡ self.old.meter)
+            × (self.new.failure ≡ self.old.failure) }
         ensures ready { IsFor ports self.new.rounds t self.new }
     {
         let count = ports as usize;
@@ -147,7 +162,9 @@ impl Judge {
         requires few { t < MAX_NOTED }
         requires within { AreWithin ports (take ports slot.now.rows) }
         ensures judged { (slots : List FileSlot) (value : FileSlot) → t ≡ length slots → IsSlotRead ports slot.now value
-            → IsJudged ports self.old.rounds slots self.old → IsJudged ports self.old.rounds (slots ++ value ∷ []) self.new }
+            → IsJudged (decision_named self.old.scheduler) ports self.old.rounds slots self.old
+            → IsJudged (decision_named self.old.scheduler) ports self.old.rounds (slots ++ value ∷ []) self.new }
+        ensures scheduler { self.new.scheduler ≡ self.old.scheduler }
         ensures ready { IsFor ports self.old.rounds (t + 1) self.new }
     {
         if self.failure.is_some() {
@@ -162,7 +179,7 @@ impl Judge {
     // The first failure of a file of so many slots, all of which are judged.
     fn failure(&self, slots: u32) -> Option<Failure>
         requires { 0 < slots }
-        ensures { (n rounds : ℕ) → result ≡ failure_with n rounds slots self.now self.now.failure [] }
+        ensures { (scheduler : Scheduler) (n rounds : ℕ) → result ≡ failure_with scheduler n rounds slots self.now self.now.failure [] }
     {
         if self.failure.is_none() && self.going {
             Some(Failure {
@@ -177,8 +194,8 @@ impl Judge {
     // The verdict on a file of so many slots, all of which are judged.
     pub(crate) fn verdict(&self, slots: u32) -> Verdict
         requires { 0 < slots }
-        ensures { (file : JournalFile) → slots ≡ length file.slots → self.now.meter.ports ≡ file.ports → IsJudged file.ports file.rounds file.slots self.now
-            → result ≡ verdict_on file }
+        ensures { (scheduler : Scheduler) (file : JournalFile) → slots ≡ length file.slots → self.now.meter.ports ≡ file.ports
+            → IsJudged scheduler file.ports file.rounds file.slots self.now → result ≡ verdict_under scheduler file }
     {
         match self.failure(slots) {
             Some(Failure { slot, reason }) => Verdict::No { slot, reason },

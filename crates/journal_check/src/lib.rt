@@ -6,6 +6,7 @@
 
 mod checking;
 mod fields;
+mod growing;
 mod header;
 mod judging;
 pub mod laws;
@@ -17,7 +18,8 @@ mod tests;
 mod verdict;
 mod writing;
 
-pub use checking::check_journal;
+pub use checking::{check_journal, check_journal_by};
+pub use growing::JournalWriter;
 pub use limits::{MAX_JOURNAL_BYTES, limits_are};
 pub use verdict::{JournalFault, Reason, Verdict};
 pub use writing::{journal_bytes, journal_len};

@@ -1,8 +1,11 @@
 use crate::laws::finished_journals_are_lawful;
-use crate::{JournalFault, Reason, Verdict, check_journal, journal_bytes, journal_len};
+use crate::{
+    JournalFault, Reason, Verdict, check_journal, check_journal_by, journal_bytes, journal_len,
+};
 use board_state::BoardState;
 use crossbar::Post;
 use rotating_pick::LEVEL_COUNT;
+use scheduler_names::SchedulerName;
 use slot_histories::Event;
 use slot_match::Row;
 use std::alloc::Global;
@@ -121,6 +124,24 @@ fn files_are_answered(rt: HostRuntime) {
     ];
     for case in cases {
         assert_eq!(rt; check(&rt, rt.alloc(), case), case.answer);
+    }
+}
+
+// The seven slots are those of iSLIP: under the others slot 3 feeds output 0 otherwise. A slot in which nothing is posted
+// is lawful under each.
+#[test]
+fn files_are_answered_by_each_scheduler(rt: HostRuntime) {
+    let islip = yes(7, [3, 0, 0, 0]);
+    let other = no(3, Reason::Output { output: 0 });
+    let cases = [
+        (SchedulerName::Islip, islip),
+        (SchedulerName::Firm, other),
+        (SchedulerName::Rrm, other),
+    ];
+    for (name, answer) in cases {
+        assert_eq!(rt; check_journal_by(rt.alloc(), name, &SEVEN_SLOTS), answer);
+        let empty = check_journal_by(rt.alloc(), name, &EMPTY_SLOT);
+        assert_eq!(rt; empty, yes(1, [0; LEVEL_COUNT]));
     }
 }
 

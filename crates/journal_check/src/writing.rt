@@ -39,7 +39,7 @@ pub fn journal_len(journal: &Journal) -> u64
 }
 
 // How many bytes the outputs of a slot have.
-fn outputs_len(matched: &Match) -> u64
+pub(crate) fn outputs_len(matched: &Match) -> u64
     ensures value { result ≡ length (flat_map output_text matched.now) }
     ensures few { result ≤ 128 }
 {
@@ -47,7 +47,7 @@ fn outputs_len(matched: &Match) -> u64
 }
 
 // How many bytes the posts of a slot have.
-fn posts_len(posts: &[Post]) -> u64
+pub(crate) fn posts_len(posts: &[Post]) -> u64
     requires { length posts.now ≤ 64 }
     ensures value { result ≡ length (flat_map (λ post. post_text (file_post post)) posts.now) }
     ensures few { result ≤ 66 * length posts.now }
@@ -115,7 +115,12 @@ pub fn journal_bytes(alloc: Global, journal: &Journal) -> Result<Vec<u8>, OutOfM
 }
 
 // Appends the header of a file.
-fn put_header(text: &mut Vec<u8>, ports: u32, rounds: u32, slots: u32) -> Result<(), OutOfMemory>
+pub(crate) fn put_header(
+    text: &mut Vec<u8>,
+    ports: u32,
+    rounds: u32,
+    slots: u32,
+) -> Result<(), OutOfMemory>
     requires ports { ports < 256 }
     requires rounds { rounds < 256 }
     ensures { OnOk result (text.new.items ≡ text.old.items ++ header_text ports rounds slots) }
@@ -129,7 +134,7 @@ fn put_header(text: &mut Vec<u8>, ports: u32, rounds: u32, slots: u32) -> Result
 }
 
 // Appends the posts of a slot.
-fn put_posts(text: &mut Vec<u8>, posts: &[Post]) -> Result<(), OutOfMemory>
+pub(crate) fn put_posts(text: &mut Vec<u8>, posts: &[Post]) -> Result<(), OutOfMemory>
     ensures { OnOk result (text.new.items ≡ text.old.items ++ flat_map (λ post. post_text (file_post post)) posts.now) }
 {
     for post in posts {
@@ -200,7 +205,7 @@ fn put_set(text: &mut Vec<u8>, set: Ports) -> Result<(), OutOfMemory>
 }
 
 // Appends what feeds each output.
-fn put_outputs(text: &mut Vec<u8>, matched: &Match) -> Result<(), OutOfMemory>
+pub(crate) fn put_outputs(text: &mut Vec<u8>, matched: &Match) -> Result<(), OutOfMemory>
     ensures { OnOk result (text.new.items ≡ text.old.items ++ flat_map output_text matched.now) }
 {
     for output in 0..matched.ports() {

@@ -1,5 +1,6 @@
--- What checking a journal file comes to, and what it leaves.
+-- What checking a journal file by a scheduler comes to, and what it leaves.
 use Rattle.std.specs.Prelude.{◌≡◌, ◌≤◌, ℕ, List, [], ◌∷◌, take, length, map, Option, Some, Result, Ok, Err, IfSome, option_map, codes, decimal}
+use Rattle.eslip_rounds.specs.Schedulers.{Scheduler}
 use Rattle.outside.specs.Contents.{Contents, append_out}
 use Rattle.outside.specs.Faults.{Place, ReadOf, ToOut, Rose}
 use Rattle.outside.specs.WholeFiles.{IsLongerThan}
@@ -9,7 +10,7 @@ use Rattle.journal_check.specs.declared.verdict.Verdict.{Verdict}
 use Rattle.journal_check.specs.declared.verdict.Verdict.TheVariants as verdict
 use Rattle.journal_check.specs.declared.verdict.JournalFault.{JournalFault}
 use Rattle.journal_check.specs.declared.verdict.JournalFault.TheVariants as fault
-use Rattle.journal_check.specs.Verdicts.{answer_to}
+use Rattle.journal_check.specs.Verdicts.{answer_under}
 use Rattle.journal_command.specs.declared.ending.CheckEnding.{CheckEnding}
 use Rattle.journal_command.specs.declared.ending.CheckEnding.TheVariants.{Yes, No, Bad, TooLong, ReadFault, OutOfMemory, OutFault}
 
@@ -17,28 +18,29 @@ use Rattle.journal_command.specs.declared.ending.CheckEnding.TheVariants.{Yes, N
 abbrev pub IsTooLong : Contents → List ℕ → Type 0
 IsTooLong c name = IsLongerThan MAX_JOURNAL_BYTES c name
 
--- the file is there, is not too long, and its bytes have this answer
-abbrev pub HasAnswer : List ℕ → Result Verdict JournalFault → Contents → Type 0
-HasAnswer name answer c = (bytes : List ℕ) × (c.file name ≡ Some bytes) × (length bytes ≤ MAX_JOURNAL_BYTES) × (answer_to bytes ≡ answer)
+-- the file is there, is not too long, and its bytes have this answer where matches are those of the scheduler
+abbrev pub HasAnswer : Scheduler → List ℕ → Result Verdict JournalFault → Contents → Type 0
+HasAnswer scheduler name answer c = (bytes : List ℕ) × (c.file name ≡ Some bytes) × (length bytes ≤ MAX_JOURNAL_BYTES)
+    × (answer_under scheduler bytes ≡ answer)
 
 -- the lines of yes: how many slots, and the longest waits of each level
 abbrev pub yes_text : ℕ → List ℕ → List ℕ
 yes_text slots longest = lines_text ((codes "yes" ∷ []) ∷ (codes "slots" ∷ decimal slots ∷ []) ∷ (codes "longest" ∷ map decimal longest) ∷ [])
 
--- The file is lawful, with this text for yes.
-pub record IsYes (name : List ℕ) (old : Option Contents) (text : List ℕ) : Type 0 where
+-- The file is lawful under the scheduler, with this text for yes.
+pub record IsYes (scheduler : Scheduler) (name : List ℕ) (old : Option Contents) (text : List ℕ) : Type 0 where
   pub slots : ℕ
   pub longest : List ℕ
-  pub answer : IfSome old (HasAnswer name (Ok (verdict.Yes slots longest)))
+  pub answer : IfSome old (HasAnswer scheduler name (Ok (verdict.Yes slots longest)))
   pub text_is : text ≡ yes_text slots longest
 
 -- what each ending means, and what it leaves
-abbrev pub MeansCheck : List ℕ → Option Contents → Option Contents → (Place → ℕ) → (Place → ℕ) → CheckEnding → Type 0
-MeansCheck name old new was now Yes = (text : List ℕ) × IsYes name old text × (new ≡ option_map (append_out text) old)
-MeansCheck name old new was now (No slot reason) = IfSome old (HasAnswer name (Ok (verdict.No slot reason))) × (new ≡ old)
-MeansCheck name old new was now (Bad at) = IfSome old (HasAnswer name (Err (fault.Bad at))) × (new ≡ old)
-MeansCheck name old new was now TooLong = IfSome old (λ c. IsTooLong c name) × (new ≡ old)
-MeansCheck name old new was now ReadFault = Rose (was (ReadOf name)) (now (ReadOf name)) × (new ≡ old)
-MeansCheck name old new was now OutOfMemory = new ≡ old
-MeansCheck name old new was now OutFault = (text : List ℕ) × (given : ℕ) × IsYes name old text × Rose (was ToOut) (now ToOut)
+abbrev pub MeansCheck : Scheduler → List ℕ → Option Contents → Option Contents → (Place → ℕ) → (Place → ℕ) → CheckEnding → Type 0
+MeansCheck scheduler name old new was now Yes = (text : List ℕ) × IsYes scheduler name old text × (new ≡ option_map (append_out text) old)
+MeansCheck scheduler name old new was now (No slot reason) = IfSome old (HasAnswer scheduler name (Ok (verdict.No slot reason))) × (new ≡ old)
+MeansCheck scheduler name old new was now (Bad at) = IfSome old (HasAnswer scheduler name (Err (fault.Bad at))) × (new ≡ old)
+MeansCheck scheduler name old new was now TooLong = IfSome old (λ c. IsTooLong c name) × (new ≡ old)
+MeansCheck scheduler name old new was now ReadFault = Rose (was (ReadOf name)) (now (ReadOf name)) × (new ≡ old)
+MeansCheck scheduler name old new was now OutOfMemory = new ≡ old
+MeansCheck scheduler name old new was now OutFault = (text : List ℕ) × (given : ℕ) × IsYes scheduler name old text × Rose (was ToOut) (now ToOut)
     × (new ≡ option_map (append_out (take given text)) old)

@@ -1,4 +1,5 @@
 ghost use Rattle.std.specs.Prelude.{◌≡◌, ◌≤◌, Some, length, IfErr, IfOk, IfSome};
+ghost use Rattle.eslip_rounds.specs.Schedulers.{Scheduler};
 ghost use Rattle.outside.specs.Faults.{NeverFall};
 ghost use Rattle.journal_command.specs.Checks.{MeansCheck};
 
@@ -17,7 +18,8 @@ pub(crate) fn read_journal<F: Files>(
     ensures never_fall { NeverFall (F.faults files.old) (F.faults files.new) }
     ensures bytes { IfOk result (λ v. IfSome (F.told files.old) (λ c. c.file name.now ≡ Some v.items)) }
     ensures fits { IfOk result (λ v. length v.items ≤ MAX_JOURNAL_BYTES) }
-    ensures stops { IfErr result (MeansCheck name.now (F.told files.old) (F.told files.new) (F.faults files.old) (F.faults files.new)) }
+    ensures stops { (scheduler : Scheduler)
+        → IfErr result (MeansCheck scheduler name.now (F.told files.old) (F.told files.new) (F.faults files.old) (F.faults files.new)) }
 {
     let Ok(mut piece) = read_buffer(alloc) else {
         return Err(CheckEnding::OutOfMemory);

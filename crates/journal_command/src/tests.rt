@@ -1,6 +1,7 @@
 use crate::{CheckEnding, check_file};
 use journal_check::Reason;
 use outside::{Call, Fail, MemFiles, names_differ};
+use scheduler_names::SchedulerName;
 use std::alloc::Global;
 use std::process::Abort;
 use std::test;
@@ -30,17 +31,40 @@ const SEVEN_SLOTS: [u8; 184] = [
     0, 0, 0, 0xff, 0, 0xff, 0, 0xff, 0,
 ];
 
+// Two ports and four slots of one round under FIRM. In slot 0 input 1 takes output 0 of the two that grant it, and the
+// pointer of output 1 stays at input 1, which it grants again in slot 1.
+const FIRM_SLOTS: [u8; 76] = [
+    0x54, 0x54, 0x4a, 0x31, 2, 1, 0, 0, 0, 0, 0, 4, 0, 1, 1, 1, 0, 0, 0, 0, 0, 0, 0, 3, 1, 0, 0xff,
+    0, 1, 1, 0, 0, 0, 0, 0, 0, 0, 2, 1, 1, 0, 0, 0, 0, 0, 0, 0, 2, 0xff, 0, 1, 0, 1, 1, 0, 0, 0, 0,
+    0, 0, 0, 2, 0, 0, 0xff, 0, 0, 0, 0, 0, 0, 0, 0xff, 0, 0xff, 0,
+];
+
+// Two ports and five slots of one round under RRM. In slot 0 both outputs grant input 0, so that both pointers go to
+// input 1, and in slot 1 both grant that.
+const RRM_SLOTS: [u8; 108] = [
+    0x54, 0x54, 0x4a, 0x31, 2, 1, 0, 0, 0, 0, 0, 5, 1, 1, 0, 0, 0, 0, 0, 0, 0, 3, 1, 1, 0, 0, 0, 0,
+    0, 0, 0, 3, 0, 0, 0xff, 0, 1, 1, 0, 0, 0, 0, 0, 0, 0, 2, 1, 1, 0, 0, 0, 0, 0, 0, 0, 3, 1, 0,
+    0xff, 0, 1, 1, 0, 0, 0, 0, 0, 0, 0, 2, 1, 1, 0, 0, 0, 0, 0, 0, 0, 2, 0xff, 0, 0, 0, 0, 0, 1, 1,
+    0, 0, 0, 0, 0, 0, 0, 2, 0xff, 0, 1, 0, 0, 0, 0, 0, 0xff, 0, 0xff, 0,
+];
+
 const YES_OF_ONE: &str = "yes\nslots 1\nlongest 0 0 0 0\n";
 
 const YES_OF_SEVEN: &str = "yes\nslots 7\nlongest 3 0 0 0\n";
 
-// The first `len` bytes of a file, of which one is changed, and the ending. All else is zeros.
+const YES_OF_FIRM: &str = "yes\nslots 4\nlongest 1 0 0 0\n";
+
+const YES_OF_RRM: &str = "yes\nslots 5\nlongest 3 0 0 0\n";
+
+// The first `len` bytes of a file, of which one is changed, the scheduler by which it is checked, and the ending. All
+// else is zeros.
 #[derive(Clone, Copy)]
 struct Case<'a> {
     file: &'a [u8],
     place: usize,
     byte: u8,
     len: usize,
+    scheduler: SchedulerName,
     ending: CheckEnding,
 }
 
@@ -50,6 +74,18 @@ const fn no(slot: u32, reason: Reason) -> CheckEnding {
 
 const fn bad(at: u32) -> CheckEnding {
     CheckEnding::Bad { at }
+}
+
+// A whole file.
+const fn whole(file: &[u8], scheduler: SchedulerName, ending: CheckEnding) -> Case<'_> {
+    Case {
+        file,
+        place: 0,
+        byte: 0x54,
+        len: file.len(),
+        scheduler,
+        ending,
+    }
 }
 
 // Files with the one that has these bytes.
@@ -72,7 +108,10 @@ fn compare(rt: &impl Abort, alloc: Global, case: Case<'_>, out: &str) -> Result<
     bytes[..case.file.len()].copy_from_slice(case.file);
     bytes[case.place] = case.byte;
     let mut files = files_with(rt, alloc, &bytes[..case.len], &[])?;
-    assert_eq!(rt; check_file(alloc, FILE, &mut files), case.ending);
+    assert_eq!(rt;
+        check_file(alloc, FILE, case.scheduler, &mut files),
+        case.ending
+    );
     assert_eq!(rt; files.out_text(), out.as_bytes());
     Ok(())
 }
@@ -85,6 +124,7 @@ fn lawful_files_are_told(rt: HostRuntime) -> Result<(), test::Fail> {
         place: 0,
         byte: 0x54,
         len: 20,
+        scheduler: SchedulerName::Islip,
         ending,
     };
     compare(&rt, rt.alloc(), one, YES_OF_ONE)?;
@@ -103,6 +143,7 @@ fn other_files_are_not_told(rt: HostRuntime) -> Result<(), test::Fail> {
         place,
         byte,
         len,
+        scheduler: SchedulerName::Islip,
         ending,
     };
     let (one, seven) = (&ONE_SLOT, &SEVEN_SLOTS);
@@ -129,10 +170,33 @@ fn other_files_are_not_told(rt: HostRuntime) -> Result<(), test::Fail> {
 }
 
 #[test]
+fn files_are_checked_by_the_named_scheduler(rt: HostRuntime) -> Result<(), test::Fail> {
+    use SchedulerName::{Firm, Islip, Rrm};
+    let (seven, firm, rrm) = (&SEVEN_SLOTS, &FIRM_SLOTS, &RRM_SLOTS);
+    let yes = CheckEnding::Yes;
+    let other = |slot, output| no(slot, Reason::Output { output });
+    compare(&rt, rt.alloc(), whole(seven, Islip, yes), YES_OF_SEVEN)?;
+    compare(&rt, rt.alloc(), whole(firm, Firm, yes), YES_OF_FIRM)?;
+    compare(&rt, rt.alloc(), whole(rrm, Rrm, yes), YES_OF_RRM)?;
+    let cases = [
+        whole(seven, Firm, other(3, 0)),
+        whole(seven, Rrm, other(3, 0)),
+        whole(firm, Islip, other(1, 1)),
+        whole(firm, Rrm, other(1, 1)),
+        whole(rrm, Islip, other(1, 1)),
+        whole(rrm, Firm, other(1, 1)),
+    ];
+    for case in cases {
+        compare(&rt, rt.alloc(), case, "")?;
+    }
+    Ok(())
+}
+
+#[test]
 fn refused_calls_end_it(rt: HostRuntime) -> Result<(), test::Fail> {
     let mut files = files_with(&rt, rt.alloc(), &ONE_SLOT, &[])?;
     assert_eq!(rt;
-        check_file(rt.alloc(), "another", &mut files),
+        check_file(rt.alloc(), "another", SchedulerName::Islip, &mut files),
         CheckEnding::ReadFault
     );
     assert_eq!(rt; files.out_text(), b"".as_slice());
@@ -142,7 +206,7 @@ fn refused_calls_end_it(rt: HostRuntime) -> Result<(), test::Fail> {
     }];
     let mut files = files_with(&rt, rt.alloc(), &ONE_SLOT, &fails)?;
     assert_eq!(rt;
-        check_file(rt.alloc(), FILE, &mut files),
+        check_file(rt.alloc(), FILE, SchedulerName::Islip, &mut files),
         CheckEnding::OutFault
     );
     assert_eq!(rt; files.out_text(), b"yes\nslo".as_slice());

@@ -1,15 +1,18 @@
 //! Rows of journal files: a line in hexadecimal is the bytes of a file, `-` for none, and each row
-//! `> ANSWER` states the answer to the file before it.
+//! `> ANSWER` states the answer to the file before it. From a line `by NAME` on the scheduler of this name
+//! decides; before the first such line it is iSLIP.
 ghost use Rattle.std.specs.Prelude.{◌≡◌, ◌++◌, ℕ, List, IsSomeAnd, codes, string_bytes};
 
-use journal_check::{JournalFault, MAX_JOURNAL_BYTES, Reason, Verdict, check_journal};
+use journal_check::{JournalFault, MAX_JOURNAL_BYTES, Reason, Verdict, check_journal_by};
 use rotating_pick::LEVEL_COUNT;
+use scheduler_names::SchedulerName;
 use std::alloc::{AllocError, Global};
 use test_vectors::{NoAnswer, Row, RowReader, set_up_row};
 
 /// The journal file that is asked about.
 #[derive(Drop)]
 pub struct Block {
+    scheduler: SchedulerName,
     bytes: Vec<u8>,
 }
 
@@ -19,21 +22,35 @@ impl RowReader for Block {
 
     fn at(alloc: Global, _name: &str) -> Block {
         Block {
+            scheduler: SchedulerName::Islip,
             bytes: Vec::new(alloc),
         }
     }
 
     fn row(&mut self, alloc: Global, line: &str) -> Result<Option<Row>, AllocError> {
         if let Some(stated) = line.strip_prefix("> ") {
-            let answer = answer(alloc, self.bytes.as_slice());
+            let answer = answer(alloc, self.scheduler, self.bytes.as_slice());
             return Ok(Some(Row::new(alloc, stated, answer)?));
         }
-        let set_up = self.set_bytes(alloc, line);
+        let set_up = match line.strip_prefix("by ") {
+            Some(name) => self.set_scheduler(name),
+            None => self.set_bytes(alloc, line),
+        };
         set_up_row(alloc, line, set_up)
     }
 }
 
 impl Block {
+    fn set_scheduler(&mut self, name: &str) -> Result<(), NoAnswer> {
+        match SchedulerName::named(name) {
+            Some(scheduler) => {
+                self.scheduler = scheduler;
+                Ok(())
+            }
+            None => Err(NoAnswer),
+        }
+    }
+
     fn set_bytes(&mut self, alloc: Global, line: &str) -> Result<(), NoAnswer> {
         if line == "-" {
             self.bytes = Vec::new(alloc);
@@ -49,12 +66,12 @@ impl Block {
     }
 }
 
-// The answer to a file.
-fn answer(alloc: Global, bytes: &[u8]) -> Result<String, NoAnswer> {
+// The answer to a file by this scheduler.
+fn answer(alloc: Global, scheduler: SchedulerName, bytes: &[u8]) -> Result<String, NoAnswer> {
     if bytes.len() > MAX_JOURNAL_BYTES {
         return Err(NoAnswer);
     }
-    let text = match check_journal(alloc, bytes) {
+    let text = match check_journal_by(alloc, scheduler, bytes) {
         Ok(Verdict::Yes { slots, longest }) => yes_text(alloc, slots, longest),
         Ok(Verdict::No { slot, reason }) => no_text(alloc, slot, reason),
         Err(JournalFault::Bad { at }) => format!(in alloc; "bad at {at}"),

@@ -10,7 +10,7 @@ pub returns-in_err-at : goal.returns-in_err-at
 returns-in_err-at c =
     let h = c.args.header in
     let p = err_from_is_err_and c.from_residual.result c.from_residual.ensures.1 in
-    rw (p.1, p.2) (slots_fail h.ports h.rounds h.slots c.args.bytes.now c.loop-t.t c.loop-t.at c.in_err-at.field-0.0.at c.loop-t.judge c.loop-t-test.true
+    rw (p.1, p.2) (slots_fail _ h.ports h.rounds h.slots c.args.bytes.now c.loop-t.t c.loop-t.at c.in_err-at.field-0.0.at c.loop-t.judge c.loop-t-test.true
     c.loop-t.invariant c.in_err-at.ensures.read)
 
 pub judge-requires-clause-within : goal.judge-requires-clause-within
@@ -23,5 +23,5 @@ pub loop-t-preserved : goal.loop-t-preserved
 loop-t-preserved c =
     let h = c.args.header in
     let read = c.in_ok-at.ensures.read in
-    slots_go_on h.ports h.rounds h.slots c.args.bytes.now c.loop-t.t c.loop-t.at c.in_ok-at.at c.loop-t.judge c.judge.new.self c.read_slot.new.slot read.0
-    c.loop-t-test.true c.loop-t.invariant read.1 read.2 c.judge.ensures.judged c.judge.ensures.ready
+    slots_go_on _ h.ports h.rounds h.slots c.args.bytes.now c.loop-t.t c.loop-t.at c.in_ok-at.at c.loop-t.judge c.judge.new.self c.read_slot.new.slot read.0
+    c.loop-t-test.true c.loop-t.invariant read.1 read.2 c.judge.ensures.judged c.judge.ensures.scheduler c.judge.ensures.ready

@@ -1,3 +1,5 @@
+use Rattle.eslip_rounds.specs.Decisions.{decision_of}
+use Rattle.eslip_rounds.proofs.Scheduling.{IsScheduler-decision_of}
 use Rattle.board_state.specs.Boards.{board_journal}
 use Rattle.journal_check.specs.Texts.{file_of}
 use Rattle.journal_check.proofs.LawfulFiles.{lawful_answer}
@@ -12,5 +14,5 @@ returns-clause-lawful c s events setup legal finished = journal_lawful s events 
 
 pub returns-clause-answer : goal.returns-clause-answer
 returns-clause-answer c s events setup legal finished four =
-    lawful_answer (file_of (board_journal (record { setup = s; events = events }))) (journal_is_file s events setup legal finished four)
-    (journal_lawful s events setup legal finished)
+    lawful_answer decision_of IsScheduler-decision_of (file_of (board_journal (record { setup = s; events = events })))
+    (journal_is_file s events setup legal finished four) (journal_lawful s events setup legal finished)

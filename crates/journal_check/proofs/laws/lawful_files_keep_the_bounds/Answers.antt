@@ -1,4 +1,4 @@
-use Rattle.journal_check.proofs.Scheduling.{unicast_in_time, multicast_in_time}
+use Rattle.journal_check.proofs.Bounds.{unicast_in_time, multicast_in_time}
 use Rattle.journal_check.proofs.laws.lawful_files_keep_the_bounds.Goals as goal
 
 pub returns-clause-unicast : goal.returns-clause-unicast

@@ -1,0 +1,32 @@
+use Rattle.std.proofs.Common.{◌≡◌, ◌∙◌, Option, Some, Ok, sym, ap, subst, inl, inr}
+use Rattle.std.specs.Prelude.{IfSome}
+use Rattle.named_schedulers.specs.Named.{decision_named}
+use Rattle.outside.specs.Contents.{Contents}
+use Rattle.journal_check.specs.declared.verdict.Verdict.TheVariants as verdict
+use Rattle.journal_check.specs.Verdicts.{answer_under}
+use Rattle.journal_command.specs.Checks.{HasAnswer, MeansCheck}
+use Rattle.journal_command.proofs.Later.{later_check, has_answer}
+use Rattle.journal_command.proofs.checking.check_file.Goals as goal
+
+pub returns-in-Err-clause-meaning : goal.returns-in-Err-clause-meaning
+returns-in-Err-clause-meaning g c = c.in-Err.ensures.stops (decision_named c.args.scheduler)
+
+pub returns-in-Ok-Yes-clause-meaning : goal.returns-in-Ok-Yes-clause-meaning
+returns-in-Ok-Yes-clause-meaning g c =
+    let s = decision_named c.args.scheduler in
+    let name = c.args.name.now in
+    let told = g.F.Files.told in
+    let same : told c.read_journal.new.files ≡ told c.args.files.now = c.in-Ok.ensures.told in
+    let bytes : c.deref.result.now ≡ c.in-Ok.bytes.items = c.deref.ensures.value in
+    let answer : answer_under s c.deref.result.now ≡ Ok (verdict.Yes c.in-Ok-Yes.slots c.in-Ok-Yes.longest) = elim c.check_journal_by.ensures [
+      | inl none ↦ absurd (let is = c.in-Ok-Yes.is in cc)
+      | inr is ↦ sym is ∙ c.in-Ok-Yes.is ∙ ap Ok c.in-Ok-Yes.field-0-is
+    ] in
+    let lawful : IfSome (told c.read_journal.new.files) (HasAnswer s name (Ok (verdict.Yes c.in-Ok-Yes.slots c.in-Ok-Yes.longest))) =
+    has_answer s name c.in-Ok.bytes.items (Ok (verdict.Yes c.in-Ok-Yes.slots c.in-Ok-Yes.longest)) (told c.read_journal.new.files)
+    (subst (λ (o : Option Contents). IfSome o (λ (x : Contents). x.file name ≡ Some c.in-Ok.bytes.items)) (sym same) c.in-Ok.ensures.bytes)
+    c.in-Ok.ensures.fits (ap (answer_under s) (sym bytes) ∙ answer) in
+    later_check s name (told c.args.files.now) (g.F.Files.faults c.args.files.now) (g.F.Files.faults c.read_journal.new.files)
+    (g.F.Files.faults c.tell_yes.new.files) c.in-Ok.ensures.never_fall c.tell_yes.result (told c.tell_yes.new.files)
+    (subst (λ (o : Option Contents). MeansCheck s name o (told c.tell_yes.new.files) (g.F.Files.faults c.read_journal.new.files)
+    (g.F.Files.faults c.tell_yes.new.files) c.tell_yes.result) same (c.tell_yes.ensures.meaning s lawful))
