@@ -6,9 +6,10 @@ use Rattle.std.proofs.lemmas.List.FromFn.{length-map-range_with_len, get_or-map-
 use Rattle.slot_match.specs.Rows.{Names, no_row}
 use Rattle.slot_match.specs.Matches.{IsMatch}
 use Rattle.card_core.specs.Posts.{row_at}
+use Rattle.eslip_rounds.specs.Schedulers.{Scheduler, IsScheduler}
 use Rattle.switch_plan.specs.GoodPlans.{SwitchPlan, IsGood}
-use Rattle.run_laws.specs.Runs.{ports_of, card_at, no_plan, served_by, run_slot}
-use Rattle.run_laws.specs.Ends.{IsLength}
+use Rattle.run_laws.specs.Runs.{ports_of, card_at, no_plan, parts_under, slot_under}
+use Rattle.run_laws.specs.Ends.{IsLengthUnder}
 use Rattle.run_laws.proofs.Base.{good-card}
 use Rattle.output_queued.specs.Ideal.{total}
 use Rattle.output_queued.specs.Switches.{Matched, served_in, card_of, no_card, card_for, cells_from, comes, rows_after}
@@ -18,9 +19,9 @@ use Rattle.output_queued.specs.Following.{MayFollow}
 use Rattle.output_queued.proofs.Totals.{total-same}
 use Rattle.output_queued.proofs.Following.{given-same, line-same}
 use Rattle.output_queued.proofs.Noted.{cards-are}
-use Rattle.reference_run.specs.RunLines.{run_matches}
+use Rattle.reference_run.specs.RunLines.{run_matches_under}
 use Rattle.reference_run.specs.Meeting.{coming_in}
-use Rattle.reference_run.specs.MeetingSteps.{IsReferenceOf, run_rows}
+use Rattle.reference_run.specs.MeetingSteps.{IsReferenceOf, run_rows_under}
 use Rattle.reference_run.proofs.Alike.{row-told, cells-told}
 use Rattle.reference_run.proofs.Matches.{match_of, matches-long, served-run, rows-run, row-run, run-whole, run-named, run-few}
 
@@ -55,33 +56,38 @@ module _ (plan : SwitchPlan) (good : IsGood plan) (r : State) (matches : List Ma
       line-same (ideal (cards_in r) those j) (ideal plan.cards those j) (ran those j) (ran those j) (length those)
       (λ t within. given-same (comes (cards_in r) those j) (comes plan.cards those j) t (λ u below. comes-told those j u)) (λ t within. refl)
 
-module _ (plan : SwitchPlan) (good : IsGood plan) (r : State) (t : ℕ) (is : IsReferenceOf plan r (run_matches plan t)) where
-  rows-told : run_rows plan t ≡ rows_after (cards_in r) (run_matches plan t)
+module _ (scheduler : Scheduler) (plan : SwitchPlan) (good : IsGood plan) (r : State) (t : ℕ)
+    (is : IsReferenceOf plan r (run_matches_under scheduler plan t)) where
+  rows-told : run_rows_under scheduler plan t ≡ rows_after (cards_in r) (run_matches_under scheduler plan t)
   rows-told =
-      let f = λ (i : ℕ). row_at (card_at plan i) (served_by plan i t) t in
-      let g = λ (i : ℕ). row_at (card_of (cards_in r) i) (served_in (run_matches plan t) i) (length (run_matches plan t)) in
-      let n = told-long plan good r (run_matches plan t) is in
+      let f = λ (i : ℕ). row_at (card_at plan i) (parts_under scheduler plan i t) t in
+      let g = λ (i : ℕ). row_at (card_of (cards_in r) i) (served_in (run_matches_under scheduler plan t) i) (length (run_matches_under scheduler plan t)) in
+      let n = told-long plan good r (run_matches_under scheduler plan t) is in
       let a = length-map-range_with_len f 0 (ports_of plan) in
       let b = length-map-range_with_len g 0 (length (cards_in r)) in
-      rows-run plan t
-      ∙ ext_get_or no_row (map f (range_with_len 0 (ports_of plan))) (rows_after (cards_in r) (run_matches plan t)) (omega arith)
+      rows-run scheduler plan t
+      ∙ ext_get_or no_row (map f (range_with_len 0 (ports_of plan))) (rows_after (cards_in r) (run_matches_under scheduler plan t)) (omega arith)
       (λ i inside.
       get_or-map-range_with_len f 0 (ports_of plan) i i no_row (omega arith) (omega arith)
-      ∙ sym (ap (λ card. row_at card (served_in (run_matches plan t) i) (length (run_matches plan t)))
-      (card-told plan good r (run_matches plan t) is i (omega arith))
-      ∙ row-told (card_at plan i) (good-card plan good i (omega arith)).good (served_in (run_matches plan t) i) (length (run_matches plan t))
-      ∙ ap (λ served. row_at (card_at plan i) served (length (run_matches plan t))) (served-run plan t i)
-      ∙ ap (row_at (card_at plan i) (served_by plan i t)) (matches-long plan t))
+      ∙ sym (ap (λ card. row_at card (served_in (run_matches_under scheduler plan t) i) (length (run_matches_under scheduler plan t)))
+      (card-told plan good r (run_matches_under scheduler plan t) is i (omega arith))
+      ∙ row-told (card_at plan i) (good-card plan good i (omega arith)).good (served_in (run_matches_under scheduler plan t) i)
+      (length (run_matches_under scheduler plan t))
+      ∙ ap (λ served. row_at (card_at plan i) served (length (run_matches_under scheduler plan t))) (served-run scheduler plan t i)
+      ∙ ap (row_at (card_at plan i) (parts_under scheduler plan i t)) (matches-long scheduler plan t))
       ∙ sym (get_or-map-range_with_len g 0 (length (cards_in r)) i i no_row (omega arith) (omega arith)))
 
-  pub may_follow : (slots : ℕ) → IsLength plan slots → t < slots → MayFollow (cards_in r) (run_matches plan t) (run_rows plan t) (run_slot plan t).matched
-  may_follow slots end below =
-      let few = run-few plan good slots end in
-      let long = matches-long plan t in
+  pub may_follow : IsScheduler scheduler → (slots : ℕ) → IsLengthUnder scheduler plan slots → t < slots
+      → MayFollow (cards_in r) (run_matches_under scheduler plan t) (run_rows_under scheduler plan t) (slot_under scheduler plan t).matched
+  may_follow scheduling slots end below =
+      let few = run-few scheduler scheduling plan good slots end in
+      let long = matches-long scheduler plan t in
       record {
         few = omega arith;
         rows_are = rows-told;
-        whole = subst (λ n. IsMatch n (match_of plan t)) (sym (told-long plan good r (run_matches plan t) is)) (run-whole plan good t);
-        named = λ i j level kind pair. subst (λ row. Names row level kind j) (sym (row-run plan t i ((run-whole plan good t).input_in i j level kind pair)))
-            (run-named plan good t i j level kind pair);
+        whole = subst (λ n. IsMatch n (match_of scheduler plan t)) (sym (told-long plan good r (run_matches_under scheduler plan t) is))
+            (run-whole scheduler scheduling plan good t);
+        named = λ i j level kind pair. subst (λ row. Names row level kind j)
+            (sym (row-run scheduler plan t i ((run-whole scheduler scheduling plan good t).input_in i j level kind pair)))
+            (run-named scheduler scheduling plan good t i j level kind pair);
       }

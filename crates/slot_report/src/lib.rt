@@ -6,5 +6,6 @@ mod report;
 mod slot_lines;
 mod summary;
 
-pub use report::{report_text, summary_text};
+pub use report::{report_text, report_with_lines, summary_text};
+pub use slot_lines::put_slot_line;
 pub use summary::{OutLine, Summary};

@@ -1,8 +1,9 @@
-ghost use Rattle.std.specs.Prelude.{◌≡◌, ◌∷◌, ◌++◌, ◌≤◌, length, map, codes, decimal, IfOk, OnOk, string_bytes};
+ghost use Rattle.std.specs.Prelude.{◌≡◌, ◌∷◌, ◌++◌, ◌≤◌, List, length, map, codes, decimal, IfOk, OnOk, string_bytes};
 ghost use Rattle.std.specs.Option.{option_copied};
+ghost use Rattle.slot_histories.specs.Answers.{JournalSlot};
 ghost use Rattle.slot_report.specs.Lines.{line_text, lines_text};
 ghost use Rattle.slot_report.specs.PieceSteps.{count_line};
-ghost use Rattle.slot_report.specs.Texts.{map_with_place, output_line, report_bytes, slots_of, summary_lines};
+ghost use Rattle.slot_report.specs.Texts.{journal_line, map_with_place, output_line, report_bytes, slots_of, summary_lines};
 
 use crate::lines::Word::{Name, Number};
 use crate::lines::put_line;
@@ -99,15 +100,46 @@ pub fn report_text(
     requires { length outputs.now ≤ MAX_PORTS }
     ensures { IfOk result (λ text. string_bytes text ≡ report_bytes summary.now outputs.now more.now (slots_of (option_copied slots.entry))) }
 {
+    let bytes = slots_bytes(slots);
+    let mut text = report_start(alloc, summary, outputs, more, bytes)?;
+    put_slots(&mut text, slots)?;
+    Ok(text)
+}
+
+/// The report of a run, as `report_text` makes it, whose slots' lines are given as text. The only error is want of memory.
+pub fn report_with_lines(
+    alloc: Global,
+    summary: &Summary,
+    outputs: &[OutLine],
+    more: &str,
+    slot_lines: &str,
+) -> Result<String, OutOfMemory>
+    requires { length outputs.now ≤ MAX_PORTS }
+    ensures { (slots : List JournalSlot) → slot_lines.now ≡ lines_text (map_with_place journal_line slots)
+        → IfOk result (λ text. string_bytes text ≡ report_bytes summary.now outputs.now more.now slots) }
+{
+    let mut text = report_start(alloc, summary, outputs, more, slot_lines.len())?;
+    text.push_str(slot_lines)?;
+    Ok(text)
+}
+
+// The report up to the slots' lines, with room for that many bytes after it.
+fn report_start(
+    alloc: Global,
+    summary: &Summary,
+    outputs: &[OutLine],
+    more: &str,
+    slots_bytes: usize,
+) -> Result<String, AllocError>
+    requires { length outputs.now ≤ MAX_PORTS }
+    ensures { IfOk result (λ text. string_bytes text ≡ lines_text (summary_lines summary.now ++ map_with_place output_line outputs.now) ++ more.now) }
+{
     let lines = SUMMARY_BYTES + OUTPUT_BYTES * outputs.len();
-    let bytes = lines
-        .saturating_add(more.len())
-        .saturating_add(slots_bytes(slots));
+    let bytes = lines.saturating_add(more.len()).saturating_add(slots_bytes);
     let mut text = String::with_capacity(alloc, bytes)?;
     put_summary(&mut text, summary)?;
     put_outputs(&mut text, outputs)?;
     text.push_str(more)?;
-    put_slots(&mut text, slots)?;
     Ok(text)
 }
 

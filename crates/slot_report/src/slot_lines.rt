@@ -39,8 +39,8 @@ fn put_pairs(text: &mut String, matched: &Match) -> Result<(), AllocError>
     Ok(())
 }
 
-// Appends the line of a slot.
-fn put_slot_line(
+/// Appends the line of a slot: its number, how its rounds were used, and its match. The only error is want of memory.
+pub fn put_slot_line(
     text: &mut String,
     slot: u32,
     numbers: RoundsUsed,

@@ -1,16 +1,11 @@
-use Rattle.std.proofs.Common.{◌∙◌, ◌++◌, ap, sym}
+use Rattle.std.proofs.Common.{◌∙◌, ◌++◌, ap}
 use Rattle.std.specs.Option.{option_copied}
-use Rattle.std.proofs.lemmas.List.Concat.{flat_map-append}
-use Rattle.slot_report.specs.Lines.{line_text, lines_text}
-use Rattle.slot_report.specs.Texts.{journal_line, map_with_place, output_line, report_bytes, slots_of, summary_lines}
+use Rattle.slot_report.specs.Lines.{lines_text}
+use Rattle.slot_report.specs.Texts.{journal_line, map_with_place, report_bytes, slots_of}
 use Rattle.slot_report.proofs.report.report_text.Goals as goal
 
 pub returns : goal.returns
 unfolding report_bytes
 returns c =
-    let first = summary_lines c.args.summary.now in
-    let next = map_with_place output_line c.args.outputs.now in
     let last = map_with_place journal_line (slots_of (option_copied c.args.slots)) in
-    let begun = c.in_ok-put_summary.ensures ∙ ap (λ s. s ++ lines_text first) c.in_ok-text.ensures.bytes in
-    let lines = c.in_ok-put_outputs.ensures ∙ ap (λ s. s ++ lines_text next) begun ∙ sym (flat_map-append line_text first next) in
-    c.in_ok-put_slots.ensures ∙ ap (λ s. s ++ lines_text last) (c.in_ok-push_str.ensures.bytes ∙ ap (λ s. s ++ c.args.more.now) lines)
+    c.in_ok-put_slots.ensures ∙ ap (λ s. s ++ lines_text last) c.in_ok-text.ensures

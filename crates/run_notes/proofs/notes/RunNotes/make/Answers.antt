@@ -1,0 +1,12 @@
+use Rattle.switch_plan.specs.GoodPlans.{switch_plan_of}
+use Rattle.run_notes.proofs.notes.RunNotes.make.Goals as goal
+
+pub returns : goal.returns
+returns c = λ scheduler. record {
+  good = c.requires;
+  slots = c.lines_for-slots.ensures scheduler (switch_plan_of c.args.plan.now);
+  journal = c.in_ok-journal.ensures scheduler;
+  reference = c.in_ok-reference.ensures scheduler;
+  queues = c.in_ok-queues.ensures scheduler;
+  packets = c.in_ok-packets.ensures scheduler;
+}

@@ -1,0 +1,150 @@
+ghost use Rattle.std.specs.Prelude.{◌≡◌, ◌<◌, ◌≤◌, ◌+◌, ℕ, length, IfErr, IfOk, IfSome, OnOk};
+ghost use Rattle.eslip_rounds.specs.Schedulers.{Scheduler, IsScheduler};
+ghost use Rattle.eslip_rounds.specs.Decisions.{decision_of};
+ghost use Rattle.switch_plan.specs.GoodPlans.{SwitchPlan, IsGood, switch_plan_of};
+ghost use Rattle.run_laws.specs.Ends.{IsLength, IsLengthUnder};
+ghost use Rattle.run_laws.specs.Runs.{run_journal};
+ghost use Rattle.journal_check.specs.declared.limits.TheConstants.{MAX_JOURNAL_BYTES};
+ghost use Rattle.packet_times.specs.declared.limits.TheConstants.{MAX_PACKETS_BYTES};
+ghost use Rattle.run_notes.specs.declared.wanted.Wanted.{Wanted as AWanted};
+ghost use Rattle.run_notes.specs.NotingSteps.{HasNoted, IsRunSlot, StopsTold, told_by};
+ghost use Rattle.run_notes.specs.Told.{told_under};
+
+use crate::journal::{bytes_of, journal_for, put_slot_into};
+use crate::packets::{note_times, packets_file, times_for};
+use crate::queues::{measures_for, note_queues, queue_lines};
+use crate::reference::{note_matched, reference_for, reference_lines};
+use crate::slot_lines::{lines_for, lines_or_empty, put_line_of};
+use crate::texts::{NotedTexts, NotesFault};
+use crate::wanted::Wanted;
+use crossbar::Post;
+use islip_rounds::RoundsUsed;
+use journal_check::JournalWriter;
+use output_queued::Reference;
+use packet_times::PacketTimes;
+use queue_measures::QueueMeasures;
+use rotating_pick::OutOfMemory;
+use slot_board::Journal;
+use slot_match::{Match, Row};
+use std::alloc::Global;
+use std::marker::Model;
+use switch_plan::Plan;
+
+/// What is noted of a run, slot by slot, for the texts that are wanted of it. Of the posts no more is kept than the rows of
+/// one slot.
+#[derive(Drop)]
+pub struct RunNotes {
+    slots: Option<String>,
+    journal: Option<JournalWriter>,
+    reference: Option<Reference>,
+    // Room for the rows of a slot, for the reference.
+    rows: Vec<Row>,
+    queues: Option<QueueMeasures>,
+    packets: Option<PacketTimes>,
+}
+
+impl Model for RunNotes {
+    ghost use Rattle.std.specs.Prelude.{option_map, string_bytes};
+    ghost use Rattle.run_notes.specs.NotingSteps.{Notes};
+
+    ghost Value = { Notes };
+
+    ghost view = { λ n. record {
+      slots = option_map string_bytes n.slots;
+      journal = n.journal;
+      reference = n.reference;
+      queues = n.queues;
+      packets = n.packets;
+    } };
+}
+
+impl RunNotes {
+    /// The notes of a run of a plan that is good, before slot 0, for the texts that are wanted. Want of memory is the only
+    /// error.
+    pub fn make(alloc: Global, wanted: Wanted, plan: &Plan) -> Result<RunNotes, OutOfMemory>
+        requires { IsGood (switch_plan_of plan.now) }
+        ensures { IfOk result (λ notes. (scheduler : Scheduler) → HasNoted scheduler wanted (switch_plan_of plan.now) notes 0) }
+    {
+        let slots = lines_for(alloc, wanted.slots);
+        let journal = journal_for(alloc, wanted.journal, plan)?;
+        let reference = reference_for(alloc, wanted.reference, plan)?;
+        let queues = measures_for(alloc, wanted.queues, plan)?;
+        let packets = times_for(alloc, wanted.packets, plan)?;
+        Ok(RunNotes {
+            slots,
+            journal,
+            reference,
+            rows: Vec::new(alloc),
+            queues,
+            packets,
+        })
+    }
+
+    /// Notes the next slot of the run, from slot 0 on and before its end: what its ports posted, its match, and how its
+    /// rounds were used. Want of memory is the only error; after it no text can be made of these notes.
+    pub fn note(
+        &mut self,
+        slot: u32,
+        posts: &[Post],
+        matched: &Match,
+        numbers: RoundsUsed,
+    ) -> Result<(), OutOfMemory>
+        requires { (scheduler : Scheduler) × (wanted : AWanted) × (plan : SwitchPlan) × (slots : ℕ) × IsScheduler scheduler
+            × IsLengthUnder scheduler plan slots × (slot < slots) × HasNoted scheduler wanted plan self.old slot
+            × IsRunSlot scheduler plan slot posts.now matched.now numbers }
+        ensures { (scheduler : Scheduler) (wanted : AWanted) (plan : SwitchPlan) → HasNoted scheduler wanted plan self.old slot
+            → IsRunSlot scheduler plan slot posts.now matched.now numbers → OnOk result (HasNoted scheduler wanted plan self.new (slot + 1)) }
+    {
+        reference_run::laws::slots_may_be_noted();
+        put_line_of(&mut self.slots, slot, matched, numbers)?;
+        put_slot_into(&mut self.journal, posts, matched)?;
+        note_matched(&mut self.reference, &mut self.rows, posts, matched)?;
+        note_queues(&mut self.queues, slot, posts, matched);
+        note_times(&mut self.packets, slot, posts, matched)
+    }
+
+    /// Notes all slots of the journal of a run at the board, of which none is noted. Want of memory is the only error;
+    /// after it no text can be made of these notes.
+    pub fn note_journal(&mut self, journal: &Journal) -> Result<(), OutOfMemory>
+        requires { (wanted : AWanted) × (plan : SwitchPlan) × (slots : ℕ) × IsLength plan slots × (journal.now.slots ≡ run_journal plan slots)
+            × HasNoted decision_of wanted plan self.old 0 }
+        ensures { (wanted : AWanted) (plan : SwitchPlan) (slots : ℕ) → IsLength plan slots → journal.now.slots ≡ run_journal plan slots
+            → HasNoted decision_of wanted plan self.old 0 → OnOk result (HasNoted decision_of wanted plan self.new slots) }
+    {
+        for slot in 0..journal.slots() {
+            self.note(
+                slot,
+                journal.posts(slot),
+                journal.decided(slot),
+                journal.used(slot),
+            )?;
+        }
+        Ok(())
+    }
+
+    /// The texts of a run that has come to its end, of which all slots are noted. The journal's length is tested first, then
+    /// that of the packets file; the other error is want of memory.
+    pub fn texts(self, alloc: Global) -> Result<NotedTexts, NotesFault>
+        requires { (scheduler : Scheduler) × (wanted : AWanted) × (plan : SwitchPlan) × (slots : ℕ) × IsLengthUnder scheduler plan slots
+            × HasNoted scheduler wanted plan self slots }
+        ensures made { (scheduler : Scheduler) (wanted : AWanted) (plan : SwitchPlan) (slots : ℕ) → IsLengthUnder scheduler plan slots
+            → HasNoted scheduler wanted plan self slots → IfOk result (λ texts. told_by texts ≡ told_under scheduler wanted plan slots) }
+        ensures small_journal { IfOk result (λ texts. IfSome (told_by texts).journal (λ bytes. length bytes ≤ MAX_JOURNAL_BYTES)) }
+        ensures small_packets { IfOk result (λ texts. IfSome (told_by texts).packets (λ bytes. length bytes ≤ MAX_PACKETS_BYTES)) }
+        ensures stops { (scheduler : Scheduler) (wanted : AWanted) (plan : SwitchPlan) (slots : ℕ) → IsLengthUnder scheduler plan slots
+            → HasNoted scheduler wanted plan self slots → IfErr result (StopsTold scheduler wanted plan slots) }
+    {
+        let journal = bytes_of(self.journal)?;
+        let packets = packets_file(alloc, &self.packets)?;
+        let reference = reference_lines(alloc, &self.reference)?;
+        let queues = queue_lines(alloc, &self.queues)?;
+        let slots = lines_or_empty(alloc, self.slots);
+        Ok(NotedTexts {
+            slots,
+            journal,
+            reference,
+            queues,
+            packets,
+        })
+    }
+}

@@ -1,0 +1,70 @@
+ghost use Rattle.std.specs.Prelude.{◌+◌, ℕ, Bool, option_map, IfErr, IfOk, IfSome, OnOk, string_bytes};
+ghost use Rattle.eslip_rounds.specs.Schedulers.{Scheduler};
+ghost use Rattle.switch_plan.specs.GoodPlans.{SwitchPlan, IsGood, switch_plan_of};
+ghost use Rattle.run_laws.specs.Promises.{ArrivalsComeFirst};
+ghost use Rattle.run_laws.specs.Runs.{IsSlotUnder};
+ghost use Rattle.packet_times.specs.Rows.{packets_text_under};
+ghost use Rattle.run_notes.specs.NotingSteps.{AreTimesAfter, IsKept, IsPacketsFile, StopsPackets};
+
+use crate::texts::NotesFault;
+use crossbar::Post;
+use packet_times::{MAX_PACKETS_BYTES, PacketTimes};
+use rotating_pick::OutOfMemory;
+use slot_match::Match;
+use std::alloc::Global;
+use switch_plan::Plan;
+
+/// The times of the plan's packets before slot 0, where they are wanted.
+pub(crate) fn times_for(
+    alloc: Global,
+    is_wanted: bool,
+    plan: &Plan,
+) -> Result<Option<PacketTimes>, OutOfMemory>
+    requires { IsGood (switch_plan_of plan.now) }
+    ensures { IfOk result (λ times. (scheduler : Scheduler) → IsKept is_wanted (AreTimesAfter scheduler (switch_plan_of plan.now) 0) times) }
+{
+    if is_wanted {
+        Ok(Some(PacketTimes::make(alloc, plan)?))
+    } else {
+        Ok(None)
+    }
+}
+
+/// Notes the slot, where the packets file is wanted.
+pub(crate) fn note_times(
+    times: &mut Option<PacketTimes>,
+    slot: u32,
+    posts: &[Post],
+    matched: &Match,
+) -> Result<(), OutOfMemory>
+    requires { (scheduler : Scheduler) × (plan : SwitchPlan) × IfSome times.old (AreTimesAfter scheduler plan slot)
+        × IsSlotUnder scheduler plan slot posts.now matched.now }
+    ensures { (scheduler : Scheduler) (plan : SwitchPlan) (is_wanted : Bool) → IsKept is_wanted (AreTimesAfter scheduler plan slot) times.old
+        → IsSlotUnder scheduler plan slot posts.now matched.now → OnOk result (IsKept is_wanted (AreTimesAfter scheduler plan (slot + 1)) times.new) }
+{
+    match times {
+        Some(times) => times.note(slot, posts, matched),
+        None => Ok(()),
+    }
+}
+
+/// The packets file, of at most 134,217,728 bytes, where it is wanted.
+pub(crate) fn packets_file(
+    alloc: Global,
+    times: &Option<PacketTimes>,
+) -> Result<Option<String>, NotesFault>
+    ensures bytes { (scheduler : Scheduler) (plan : SwitchPlan) (is_wanted : Bool) (slots : ℕ) → IsKept is_wanted (AreTimesAfter scheduler plan slots) times.now
+        → ArrivalsComeFirst plan slots
+        → IfOk result (λ text. IsPacketsFile is_wanted (packets_text_under scheduler plan slots) (option_map string_bytes text)) }
+    ensures stops { (scheduler : Scheduler) (plan : SwitchPlan) (is_wanted : Bool) (slots : ℕ) → IsKept is_wanted (AreTimesAfter scheduler plan slots) times.now
+        → ArrivalsComeFirst plan slots → IfErr result (StopsPackets is_wanted (packets_text_under scheduler plan slots)) }
+{
+    let Some(times) = times else {
+        return Ok(None);
+    };
+    let len = times.len(alloc)?;
+    if len > MAX_PACKETS_BYTES as u64 {
+        return Err(NotesFault::PacketsTooLong(len));
+    }
+    Ok(Some(times.text(alloc)?))
+}

@@ -1,0 +1,101 @@
+ghost use Rattle.std.specs.Prelude.{◌≡◌, ◌∷◌, ◌++◌, ℕ, Bool, if◌then◌else◌, List, [], map, IfOk, IfSome, OnOk, string_bytes};
+ghost use Rattle.std.specs.List.{range_with_len};
+ghost use Rattle.eslip_rounds.specs.Schedulers.{Scheduler};
+ghost use Rattle.slot_report.specs.Lines.{lines_text};
+ghost use Rattle.switch_plan.specs.GoodPlans.{SwitchPlan, IsGood, switch_plan_of};
+ghost use Rattle.output_queued.specs.Lines.{line_of};
+ghost use Rattle.output_queued.specs.NotingSteps.{HasNoted, MayNote, cards_in};
+ghost use Rattle.output_queued.specs.Switches.{Matched};
+ghost use Rattle.reference_run.specs.MeetingSteps.{IsReferenceOf};
+ghost use Rattle.reference_run.specs.RunLines.{run_lines_under};
+ghost use Rattle.run_notes.specs.NotingSteps.{IsKept, IsReferenceAfter};
+
+use crossbar::Post;
+use output_queued::{RefLine, Reference, reference_text};
+use reference_run::reference_of;
+use rotating_pick::OutOfMemory;
+use slot_match::{Match, Row};
+use std::alloc::{AllocError, Global};
+use switch_plan::Plan;
+
+/// The reference of the plan before slot 0, where it is wanted.
+pub(crate) fn reference_for(
+    alloc: Global,
+    is_wanted: bool,
+    plan: &Plan,
+) -> Result<Option<Reference>, OutOfMemory>
+    requires { IsGood (switch_plan_of plan.now) }
+    ensures { IfOk result (λ reference. (scheduler : Scheduler) → IsKept is_wanted (IsReferenceAfter scheduler (switch_plan_of plan.now) 0) reference) }
+{
+    if is_wanted {
+        Ok(Some(reference_of(alloc, plan)?))
+    } else {
+        Ok(None)
+    }
+}
+
+/// Notes the next slot, where the reference is wanted. The posts' rows are copied to `rows`.
+pub(crate) fn note_matched(
+    reference: &mut Option<Reference>,
+    rows: &mut Vec<Row>,
+    posts: &[Post],
+    matched: &Match,
+) -> Result<(), AllocError>
+    requires { IfSome reference.old (λ r. MayNote r (map (λ post. post.row) posts.now) matched.now) }
+    ensures { (plan : SwitchPlan) (is_wanted : Bool) (matches : List Matched) → IsKept is_wanted (λ r. IsReferenceOf plan r matches) reference.old
+        → OnOk result (IsKept is_wanted (λ r. IsReferenceOf plan r (matches ++ matched.now ∷ [])) reference.new) }
+{
+    if let Some(reference) = reference {
+        copy_rows(posts, rows)?;
+        reference.note(rows, matched);
+    }
+    Ok(())
+}
+
+// Puts the rows of the posts into the list, and nothing else.
+fn copy_rows(posts: &[Post], rows: &mut Vec<Row>) -> Result<(), AllocError>
+    ensures { OnOk result (rows.new.items ≡ map (λ post. post.row) posts.now) }
+{
+    rows.clear();
+    for post in posts {
+        rows.push(post.row)?;
+    }
+    Ok(())
+}
+
+/// The lines of the reference, empty where they are not wanted.
+pub(crate) fn reference_lines(
+    alloc: Global,
+    reference: &Option<Reference>,
+) -> Result<String, OutOfMemory>
+    ensures { (scheduler : Scheduler) (plan : SwitchPlan) (is_wanted : Bool) (slots : ℕ) → IsGood plan
+        → IsKept is_wanted (IsReferenceAfter scheduler plan slots) reference.now
+        → IfOk result (λ text. string_bytes text ≡ (if is_wanted then lines_text (run_lines_under scheduler plan slots) else [])) }
+{
+    match reference {
+        Some(reference) => text_of(alloc, reference),
+        None => Ok(String::new(alloc)),
+    }
+}
+
+// The lines of a reference that has noted the run's slots.
+fn text_of(alloc: Global, reference: &Reference) -> Result<String, OutOfMemory>
+    ensures { (scheduler : Scheduler) (plan : SwitchPlan) (slots : ℕ) → IsGood plan → IsReferenceAfter scheduler plan slots reference.now
+        → IfOk result (λ text. string_bytes text ≡ lines_text (run_lines_under scheduler plan slots)) }
+{
+    reference.noted_slots();
+    let lines = lines(alloc, reference)?;
+    reference_text(alloc, &lines)
+}
+
+// The numbers of each output.
+fn lines(alloc: Global, reference: &Reference) -> Result<Vec<RefLine>, AllocError>
+    ensures { (matches : List Matched) → HasNoted reference.now matches
+        → IfOk result (λ lines. lines.items ≡ map (line_of (cards_in reference.now) matches) (range_with_len 0 reference.now.ports)) }
+{
+    let mut lines = Vec::new(alloc);
+    for output in 0..reference.ports() {
+        lines.push(reference.line(output))?;
+    }
+    Ok(lines)
+}
