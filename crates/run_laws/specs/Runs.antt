@@ -13,8 +13,8 @@ use Rattle.eslip_rounds.specs.Decisions.{decision_of}
 use Rattle.crossbar.specs.declared.cards.Post.{Post}
 use Rattle.crossbar.specs.declared.cards.Taken.{Taken}
 use Rattle.slot_histories.specs.Events.{Setup}
-use Rattle.slot_histories.specs.Slots.{decision_under, taken_under}
-use Rattle.slot_histories.specs.Answers.{JournalSlot, journal_slot}
+use Rattle.slot_histories.specs.Slots.{slot_posts, decision_under, taken_under}
+use Rattle.slot_histories.specs.Answers.{JournalSlot}
 use Rattle.card_core.specs.Plans.{Plan}
 use Rattle.card_core.specs.Posts.{row_at, post_at, IsServable}
 use Rattle.switch_plan.specs.GoodPlans.{SwitchPlan}
@@ -72,12 +72,22 @@ abbrev pub posts_in : SwitchPlan → ℕ → ℕ → Post
 posts_in = posts_under decision_of
 
 -- slot t with its posts, its match and its numbers
+abbrev pub slot_under : Scheduler → SwitchPlan → ℕ → JournalSlot
+slot_under scheduler plan t = record {
+  posts = slot_posts (ports_of plan) (posts_under scheduler plan) t;
+  matched = (decision_under scheduler (setup_for plan) (posts_under scheduler plan) t).matched;
+  numbers = (decision_under scheduler (setup_for plan) (posts_under scheduler plan) t).numbers;
+}
+
 abbrev pub run_slot : SwitchPlan → ℕ → JournalSlot
-run_slot plan t = journal_slot (setup_for plan) (posts_in plan) t
+run_slot = slot_under decision_of
 
 -- the journal of the first slots
+abbrev pub journal_under : Scheduler → SwitchPlan → ℕ → List JournalSlot
+journal_under scheduler plan slots = map (slot_under scheduler plan) (range_with_len 0 slots)
+
 abbrev pub run_journal : SwitchPlan → ℕ → List JournalSlot
-run_journal plan slots = map (run_slot plan) (range_with_len 0 slots)
+run_journal = journal_under decision_of
 
 -- what port i takes of the first slots: its part of each slot, and the cell that crosses to it
 abbrev pub takings_under : Scheduler → SwitchPlan → ℕ → ℕ → List Taken

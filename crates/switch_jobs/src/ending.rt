@@ -11,8 +11,8 @@ ghost use Rattle.switch_jobs.specs.OneJournal.{GoesOnFrom};
 
 use card_core::CardOut;
 use card_worker::{Group, Hand, Hands, close_with, disband, finish_alone, laws};
-use slot_board::{Board, BoardState, Seats};
 use run_laws::{boards, ends};
+use slot_board::{Board, BoardState, Seats};
 
 /// Disbands the groups into the two empty lists, which have room for all, closes the board, and makes on this
 /// thread what is left of the run: the events of the board and those made here are one legal list. It takes no

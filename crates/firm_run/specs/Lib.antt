@@ -1,3 +1,0 @@
-pub mod FirmRuns
-pub mod ActingSteps
-pub mod StandingSteps

@@ -1,0 +1,13 @@
+//! The run of a plan on one thread, under any of the schedulers, with the notes of its slots.
+#![tactic(auto)]
+
+pub mod laws;
+mod leaving;
+mod posting;
+mod running;
+mod switch;
+mod taking;
+#[cfg(test)]
+mod tests;
+
+pub use running::{AloneOutcome, run_alone, run_firm};
