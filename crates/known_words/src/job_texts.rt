@@ -1,4 +1,5 @@
 //! Jobs as the rows state them.
+use scheduler_names::SchedulerName;
 use std::alloc::{AllocError, Global};
 use switch_words::{CheckJob, FirmJob, GenJob, Job, RunJob, Settings};
 
@@ -18,11 +19,13 @@ fn run_text(alloc: Global, job: &RunJob) -> Result<String, AllocError> {
     let journal = u32::from(job.journal);
     let reference = u32::from(job.reference);
     let measures = measures_text(job);
+    let scheduler = scheduler_text(job.scheduler);
+    let alone = if job.alone { " alone=1" } else { "" };
     let table = job.table.as_str();
     let prefix = job.prefix.as_str();
     let inputs = list_text(alloc, job.inputs.as_slice())?;
     format!(in alloc;
-        "run {settings} slots={slots} journal={journal} reference={reference}{measures} table={table:?} prefix={prefix:?} inputs={inputs}"
+        "run {settings} slots={slots} journal={journal} reference={reference}{measures}{scheduler}{alone} table={table:?} prefix={prefix:?} inputs={inputs}"
     )
 }
 
@@ -36,17 +39,28 @@ fn measures_text(job: &RunJob) -> &'static str {
     }
 }
 
+// The scheduler: rows of iSLIP do not name it.
+fn scheduler_text(name: SchedulerName) -> &'static str {
+    match name {
+        SchedulerName::Islip => "",
+        SchedulerName::Firm => " scheduler=firm",
+        SchedulerName::Rrm => " scheduler=rrm",
+    }
+}
+
 fn gen_text(alloc: Global, job: &GenJob) -> Result<String, AllocError> {
     let settings = settings_text(alloc, job.settings)?;
     let seed = job.seed;
     let count = job.count;
     let ports = job.ports;
-    format!(in alloc; "gen {settings} seed={seed} count={count} ports={ports}")
+    let scheduler = scheduler_text(job.scheduler);
+    format!(in alloc; "gen {settings} seed={seed} count={count} ports={ports}{scheduler}")
 }
 
 fn check_text(alloc: Global, job: &CheckJob) -> Result<String, AllocError> {
     let file = job.file.as_str();
-    format!(in alloc; "check file={file:?}")
+    let scheduler = scheduler_text(job.scheduler);
+    format!(in alloc; "check file={file:?}{scheduler}")
 }
 
 fn firm_text(alloc: Global, job: &FirmJob) -> Result<String, AllocError> {

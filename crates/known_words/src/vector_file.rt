@@ -21,7 +21,7 @@ impl RowReader for Reader {
 
     fn at(_alloc: Global, name: &str) -> Reader {
         match name {
-            "words.txt" | "measure_words.txt" => Reader::Words,
+            "words.txt" | "measure_words.txt" | "scheduler_words.txt" => Reader::Words,
             _ => Reader::Unknown,
         }
     }

@@ -7,6 +7,7 @@ use crate::{Made, Plan, made_input};
 use card_core::{CardPlan, Planned};
 use pcap_records::Link;
 use rotating_pick::{MAX_PORTS, OutOfMemory};
+use scheduler_names::SchedulerName;
 use std::alloc::Global;
 use std::test::Fail;
 use switch_words::{GenJob, MAX_COUNT, Settings};
@@ -43,6 +44,7 @@ fn made_from_1(alloc: Global, count: u32, ports: u32) -> Result<Made, OutOfMemor
         alloc,
         &GenJob {
             settings: SETTINGS,
+            scheduler: SchedulerName::Islip,
             seed: 1,
             count,
             ports,

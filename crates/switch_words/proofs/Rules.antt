@@ -5,16 +5,16 @@ use Rattle.std.proofs.lemmas.Slice.Eq.{bytes_eq-Decides}
 use Rattle.std.specs.Str.{bytes_eq}
 use Rattle.clap.specs.Walk.{Row, Rule, Text, arg_by_id, arg_by_index, arg_by_long, arg_by_short, has_row, used}
 use Rattle.clap.specs.Simple.{Shape, filled, new_shape, with_index}
-use Rattle.clap.specs.Kinds.{Kinds, or_else}
 use Rattle.clap.specs.Faults.{use_fault}
 use Rattle.clap.specs.declared.builder.value_parser.Reading.TheVariants.{AsWritten}
 use Rattle.clap.specs.declared.parser.matches.ValueSource.TheVariants.{CommandLine}
 use Rattle.switch_words.specs.declared.options.Command.{Command}
 use Rattle.switch_words.specs.declared.options.Command.TheVariants.{Run, Gen, Check, Firm}
-use Rattle.switch_words.specs.Options.{Setting, rounds, depth, workers, pace_us, Switch, value, flag, option_of}
-use Rattle.switch_words.specs.Options.{Flag, slots, journal, reference, queues, packets}
+use Rattle.switch_words.specs.Options.{Setting, rounds, depth, workers, pace_us, scheduler, Switch, value, flag, option_of}
+use Rattle.switch_words.specs.Options.{Flag, slots, journal, reference, queues, packets, alone}
 use Rattle.switch_words.specs.LineSteps.{Lookup, first_text, flag_arg, flags_for, is_true_text, lookup_in, names_arg, option_arg, options_for, parts_in}
 use Rattle.switch_words.specs.Parts.{Parts, is_given, set_flag, set_text, text_in, with_flag, with_names, with_text}
+use Rattle.switch_words.proofs.Unless.{unless}
 use Rattle.switch_words.proofs.Rows.{has_row-lookup, lookup-with, put, tells, without-none}
 
 -- ---- the rules, as they are written and as they are built
@@ -24,6 +24,7 @@ id_of rounds = codes "rounds"
 id_of depth = codes "depth"
 id_of workers = codes "workers"
 id_of pace_us = codes "pace-us"
+id_of scheduler = codes "scheduler"
 
 abbrev pub flag_id : Flag → Text
 flag_id slots = codes "slots"
@@ -31,6 +32,7 @@ flag_id journal = codes "journal"
 flag_id reference = codes "reference"
 flag_id queues = codes "queues"
 flag_id packets = codes "packets"
+flag_id alone = codes "alone"
 
 abbrev pub option_rule : Text → Rule
 option_rule id = filled (option_arg id)
@@ -71,18 +73,22 @@ met_value Run rounds = (refl, refl)
 met_value Run depth = (refl, refl)
 met_value Run workers = (refl, refl)
 met_value Run pace_us = (refl, refl)
+met_value Run scheduler = (refl, refl)
 met_value Gen rounds = (refl, refl)
 met_value Gen depth = (refl, refl)
 met_value Gen workers = (refl, refl)
 met_value Gen pace_us = refl
+met_value Gen scheduler = (refl, refl)
 met_value Check rounds = refl
 met_value Check depth = refl
 met_value Check workers = refl
 met_value Check pace_us = refl
+met_value Check scheduler = (refl, refl)
 met_value Firm rounds = (refl, refl)
 met_value Firm depth = (refl, refl)
 met_value Firm workers = refl
 met_value Firm pace_us = (refl, refl)
+met_value Firm scheduler = refl
 
 met_flag : (command : Command) (f : Flag) → IsMet (rules_for command) (flag_id f) (option_of command (flag_id f))
 met_flag Run slots = refl
@@ -90,30 +96,34 @@ met_flag Run journal = refl
 met_flag Run reference = refl
 met_flag Run queues = refl
 met_flag Run packets = refl
+met_flag Run alone = refl
 met_flag Gen slots = refl
 met_flag Gen journal = refl
 met_flag Gen reference = refl
 met_flag Gen queues = refl
 met_flag Gen packets = refl
+met_flag Gen alone = refl
 met_flag Check slots = refl
 met_flag Check journal = refl
 met_flag Check reference = refl
 met_flag Check queues = refl
 met_flag Check packets = refl
+met_flag Check alone = refl
 met_flag Firm slots = refl
 met_flag Firm journal = refl
 met_flag Firm reference = refl
 met_flag Firm queues = refl
 met_flag Firm packets = refl
+met_flag Firm alone = refl
 
 -- a name is that of an option, or of none
 data Named (name : Text) : Type 0 where
   setting : (s : Setting) → id_of s ≡ name → Named name
   switch : (f : Flag) → flag_id f ≡ name → Named name
   unknown : bytes_eq (codes "rounds") name ≡ false → bytes_eq (codes "depth") name ≡ false → bytes_eq (codes "workers") name ≡ false
-      → bytes_eq (codes "pace-us") name ≡ false → bytes_eq (codes "slots") name ≡ false → bytes_eq (codes "journal") name ≡ false
-      → bytes_eq (codes "reference") name ≡ false
-      → bytes_eq (codes "queues") name ≡ false → bytes_eq (codes "packets") name ≡ false → Named name
+      → bytes_eq (codes "pace-us") name ≡ false → bytes_eq (codes "scheduler") name ≡ false → bytes_eq (codes "slots") name ≡ false
+      → bytes_eq (codes "journal") name ≡ false → bytes_eq (codes "reference") name ≡ false → bytes_eq (codes "queues") name ≡ false
+      → bytes_eq (codes "packets") name ≡ false → bytes_eq (codes "alone") name ≡ false → Named name
 
 is_text : (a b : Text) → bytes_eq a b ≡ true → a ≡ b
 is_text a b h = (bytes_eq-Decides a b).0 h
@@ -127,17 +137,23 @@ named name = elim (tells (bytes_eq (codes "rounds") name)) [
       | inl h ↦ setting workers (is_text _ _ h)
       | inr d ↦ elim (tells (bytes_eq (codes "pace-us") name)) [
         | inl h ↦ setting pace_us (is_text _ _ h)
-        | inr e ↦ elim (tells (bytes_eq (codes "slots") name)) [
-          | inl h ↦ switch slots (is_text _ _ h)
-          | inr f ↦ elim (tells (bytes_eq (codes "journal") name)) [
-            | inl h ↦ switch journal (is_text _ _ h)
-            | inr g ↦ elim (tells (bytes_eq (codes "reference") name)) [
-              | inl h ↦ switch reference (is_text _ _ h)
-              | inr k ↦ elim (tells (bytes_eq (codes "queues") name)) [
-                | inl h ↦ switch queues (is_text _ _ h)
-                | inr m ↦ elim (tells (bytes_eq (codes "packets") name)) [
-                  | inl h ↦ switch packets (is_text _ _ h)
-                  | inr n ↦ unknown a b d e f g k m n
+        | inr e ↦ elim (tells (bytes_eq (codes "scheduler") name)) [
+          | inl h ↦ setting scheduler (is_text _ _ h)
+          | inr s ↦ elim (tells (bytes_eq (codes "slots") name)) [
+            | inl h ↦ switch slots (is_text _ _ h)
+            | inr f ↦ elim (tells (bytes_eq (codes "journal") name)) [
+              | inl h ↦ switch journal (is_text _ _ h)
+              | inr g ↦ elim (tells (bytes_eq (codes "reference") name)) [
+                | inl h ↦ switch reference (is_text _ _ h)
+                | inr k ↦ elim (tells (bytes_eq (codes "queues") name)) [
+                  | inl h ↦ switch queues (is_text _ _ h)
+                  | inr m ↦ elim (tells (bytes_eq (codes "packets") name)) [
+                    | inl h ↦ switch packets (is_text _ _ h)
+                    | inr n ↦ elim (tells (bytes_eq (codes "alone") name)) [
+                      | inl h ↦ switch alone (is_text _ _ h)
+                      | inr o ↦ unknown a b d e s f g k m n o
+                    ]
+                  ]
                 ]
               ]
             ]
@@ -151,18 +167,19 @@ named name = elim (tells (bytes_eq (codes "rounds") name)) [
 -- no command has an option of another name
 none_met : (command : Command) (name : Text)
     → bytes_eq (codes "rounds") name ≡ false → bytes_eq (codes "depth") name ≡ false → bytes_eq (codes "workers") name ≡ false
-    → bytes_eq (codes "pace-us") name ≡ false → bytes_eq (codes "slots") name ≡ false → bytes_eq (codes "journal") name ≡ false
-    → bytes_eq (codes "reference") name ≡ false → bytes_eq (codes "queues") name ≡ false → bytes_eq (codes "packets") name ≡ false
+    → bytes_eq (codes "pace-us") name ≡ false → bytes_eq (codes "scheduler") name ≡ false → bytes_eq (codes "slots") name ≡ false
+    → bytes_eq (codes "journal") name ≡ false → bytes_eq (codes "reference") name ≡ false → bytes_eq (codes "queues") name ≡ false
+    → bytes_eq (codes "packets") name ≡ false → bytes_eq (codes "alone") name ≡ false
     → IsMet (rules_for command) name (option_of command name)
-none_met Run name a b d e f g k m n = rw (a, b, d, e, f, g, k, m, n) (rw (a, b, d, e, f, g, k, m, n) refl)
-none_met Gen name a b d e f g k m n = rw (a, b, d, e, f, g, k, m, n) (rw (a, b, d) refl)
-none_met Check name a b d e f g k m n = rw (a, b, d, e, f, g, k, m, n) refl
-none_met Firm name a b d e f g k m n = rw (a, b, d, e, f, g, k, m, n) (rw (a, b, e) refl)
+none_met Run name a b d e s f g k m n o = rw (a, b, d, e, s, f, g, k, m, n, o) (rw (a, b, d, e, s, f, g, k, m, n, o) refl)
+none_met Gen name a b d e s f g k m n o = rw (a, b, d, e, s, f, g, k, m, n, o) (rw (a, b, d, s) refl)
+none_met Check name a b d e s f g k m n o = rw (a, b, d, e, s, f, g, k, m, n, o) (rw s refl)
+none_met Firm name a b d e s f g k m n o = rw (a, b, d, e, s, f, g, k, m, n, o) (rw (a, b, e) refl)
 
 long_met : (command : Command) (name : Text) → Named name → IsMet (rules_for command) name (option_of command name)
 long_met command name (setting s is) = subst (λ (n : Text). IsMet (rules_for command) n (option_of command n)) is (met_value command s)
 long_met command name (switch f is) = subst (λ (n : Text). IsMet (rules_for command) n (option_of command n)) is (met_flag command f)
-long_met command name (unknown a b d e f g k m n) = none_met command name a b d e f g k m n
+long_met command name (unknown a b d e s f g k m n o) = none_met command name a b d e s f g k m n o
 
 pub has_rules : (command : Command) → HasRules command (rules_for command)
 has_rules Run = record { short = λ x. refl; place = refl; by_id = refl; long = λ name. long_met Run name (named name) }
@@ -195,21 +212,31 @@ value_apart rounds journal = refl
 value_apart rounds reference = refl
 value_apart rounds queues = refl
 value_apart rounds packets = refl
+value_apart rounds alone = refl
 value_apart depth slots = refl
 value_apart depth journal = refl
 value_apart depth reference = refl
 value_apart depth queues = refl
 value_apart depth packets = refl
+value_apart depth alone = refl
 value_apart workers slots = refl
 value_apart workers journal = refl
 value_apart workers reference = refl
 value_apart workers queues = refl
 value_apart workers packets = refl
+value_apart workers alone = refl
 value_apart pace_us slots = refl
 value_apart pace_us journal = refl
 value_apart pace_us reference = refl
 value_apart pace_us queues = refl
 value_apart pace_us packets = refl
+value_apart pace_us alone = refl
+value_apart scheduler slots = refl
+value_apart scheduler journal = refl
+value_apart scheduler reference = refl
+value_apart scheduler queues = refl
+value_apart scheduler packets = refl
+value_apart scheduler alone = refl
 
 names_apart : (f : Flag) → bytes_eq (codes "names") (flag_id f) ≡ false
 names_apart slots = refl
@@ -217,6 +244,7 @@ names_apart journal = refl
 names_apart reference = refl
 names_apart queues = refl
 names_apart packets = refl
+names_apart alone = refl
 
 -- what is put at another id leaves a flag as it is
 flag_stays : (id : Text) (vs : List Text) (lookup : Lookup) (f : Flag) → IsSound lookup → bytes_eq id (flag_id f) ≡ false
@@ -254,6 +282,7 @@ is_given-parts_in journal lookup = refl
 is_given-parts_in reference lookup = refl
 is_given-parts_in queues lookup = refl
 is_given-parts_in packets lookup = refl
+is_given-parts_in alone lookup = refl
 
 parts_in-put_flag : (f : Flag) (lookup : Lookup)
     → parts_in (put (flag_id f) (codes "true" ∷ []) lookup) ≡ record (parts_in lookup) { flags = set_flag (parts_in lookup).flags f }
@@ -262,6 +291,7 @@ parts_in-put_flag journal lookup = refl
 parts_in-put_flag reference lookup = refl
 parts_in-put_flag queues lookup = refl
 parts_in-put_flag packets lookup = refl
+parts_in-put_flag alone lookup = refl
 
 -- the default of a flag says what no flag says
 pub parts_in-put_default : (f : Flag) (lookup : Lookup) → lookup (flag_id f) ≡ None → parts_in (put (flag_id f) (codes "false" ∷ []) lookup) ≡ parts_in lookup
@@ -270,37 +300,23 @@ parts_in-put_default journal lookup none = rw none refl
 parts_in-put_default reference lookup none = rw none refl
 parts_in-put_default queues lookup none = rw none refl
 parts_in-put_default packets lookup none = rw none refl
+parts_in-put_default alone lookup none = rw none refl
 
 text_in-parts_in : (s : Setting) (lookup : Lookup) → text_in (parts_in lookup) s ≡ first_text (lookup (id_of s))
 text_in-parts_in rounds lookup = refl
 text_in-parts_in depth lookup = refl
 text_in-parts_in workers lookup = refl
 text_in-parts_in pace_us lookup = refl
+text_in-parts_in scheduler lookup = refl
 
 parts_in-put : (s : Setting) (v : Text) (lookup : Lookup) → parts_in (put (id_of s) (v ∷ []) lookup) ≡ set_text (parts_in lookup) s v
 parts_in-put rounds v lookup = refl
 parts_in-put depth v lookup = refl
 parts_in-put workers v lookup = refl
 parts_in-put pace_us v lookup = refl
+parts_in-put scheduler v lookup = refl
 
 -- ---- what a use of an argument adds
-
--- what goes on where no kind of error comes
-abbrev pub unless : {A : Type 0} → Kinds → Option A → Option A
-unless [] o = o
-unless (kind ∷ kinds) o = None
-
-pub unless-or_else : {A : Type 0} (a b : Kinds) (o : Option A) → unless (or_else a b) o ≡ unless a (unless b o)
-unless-or_else [] b o = refl
-unless-or_else (kind ∷ kinds) b o = refl
-
-pub unless-then : {A B : Type 0} (a : Kinds) (k : A → Option B) (o : Option A) → option_and_then k (unless a o) ≡ unless a (option_and_then k o)
-unless-then [] k o = refl
-unless-then (kind ∷ kinds) k o = refl
-
-pub under : {A : Type 0} (a : Kinds) (x y : Option A) → (a ≡ [] → x ≡ y) → unless a x ≡ unless a y
-under [] x y h = h refl
-under (kind ∷ kinds) x y h = refl
 
 pub absent : (o : Option (List Text)) → is_some o ≡ false → o ≡ None
 absent None h = refl

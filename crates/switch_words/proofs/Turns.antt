@@ -10,7 +10,8 @@ use Rattle.clap.specs.Faults.{settle_fault, turn_fault, use_fault, walk_fault, f
 use Rattle.clap.specs.declared.error.kind.ErrorKind.TheVariants.{UnknownArgument, TooManyValues}
 use Rattle.switch_words.specs.LineSteps.{lookup_in, parts_in}
 use Rattle.switch_words.specs.Parts.{Parts}
-use Rattle.switch_words.proofs.Rules.{flag_rule, names_rule, option_rule, shape_with, unless, unless-or_else}
+use Rattle.switch_words.proofs.Rules.{flag_rule, names_rule, option_rule, shape_with}
+use Rattle.switch_words.proofs.Unless.{unless, unless-or_else}
 
 abbrev pub Pending : Type 0
 Pending = Option (Text × List Text)

@@ -22,13 +22,13 @@ names_arg = record (new_rule (codes "names")) { action = Some Append }
 
 -- the names of a command's options with a value, and of its flags
 abbrev pub options_for : Command → List Text
-options_for Run = codes "rounds" ∷ codes "depth" ∷ codes "workers" ∷ codes "pace-us" ∷ []
-options_for Gen = codes "rounds" ∷ codes "depth" ∷ codes "workers" ∷ []
-options_for Check = []
+options_for Run = codes "rounds" ∷ codes "depth" ∷ codes "workers" ∷ codes "pace-us" ∷ codes "scheduler" ∷ []
+options_for Gen = codes "rounds" ∷ codes "depth" ∷ codes "workers" ∷ codes "scheduler" ∷ []
+options_for Check = codes "scheduler" ∷ []
 options_for Firm = codes "rounds" ∷ codes "depth" ∷ codes "pace-us" ∷ []
 
 abbrev pub flags_for : Command → List Text
-flags_for Run = codes "slots" ∷ codes "journal" ∷ codes "reference" ∷ codes "queues" ∷ codes "packets" ∷ []
+flags_for Run = codes "slots" ∷ codes "journal" ∷ codes "reference" ∷ codes "queues" ∷ codes "packets" ∷ codes "alone" ∷ []
 flags_for Gen = []
 flags_for Check = []
 flags_for Firm = []
@@ -69,12 +69,14 @@ parts_in lookup = record {
   depth = first_text (lookup (codes "depth"));
   workers = first_text (lookup (codes "workers"));
   pace_us = first_text (lookup (codes "pace-us"));
+  scheduler = first_text (lookup (codes "scheduler"));
   flags = record {
     slots = is_true_text (first_text (lookup (codes "slots")));
     journal = is_true_text (first_text (lookup (codes "journal")));
     reference = is_true_text (first_text (lookup (codes "reference")));
     queues = is_true_text (first_text (lookup (codes "queues")));
     packets = is_true_text (first_text (lookup (codes "packets")));
+    alone = is_true_text (first_text (lookup (codes "alone")));
   };
   names = unwrap_or (lookup (codes "names")) [];
 }

@@ -3,13 +3,13 @@ use Rattle.std.specs.Prelude.{ℕ, Bool, true, false, if◌then◌else◌, List,
 use Rattle.switch_words.specs.declared.options.Command.{Command}
 use Rattle.switch_words.specs.declared.options.Command.TheVariants.{Run, Gen, Check, Firm}
 
--- an option with a number as its value
+-- an option with a value
 pub data Setting : Type 0 where
-  rounds depth workers pace_us : Setting
+  rounds depth workers pace_us scheduler : Setting
 
 -- an option without a value
 pub data Flag : Type 0 where
-  slots journal reference queues packets : Flag
+  slots journal reference queues packets alone : Flag
 
 pub data Switch : Type 0 where
   value : Setting → Switch
@@ -36,12 +36,14 @@ option_named name =
     else (if bytes_eq (codes "depth") name then Some (value depth)
     else (if bytes_eq (codes "workers") name then Some (value workers)
     else (if bytes_eq (codes "pace-us") name then Some (value pace_us)
+    else (if bytes_eq (codes "scheduler") name then Some (value scheduler)
     else (if bytes_eq (codes "slots") name then Some (flag slots)
     else (if bytes_eq (codes "journal") name then Some (flag journal)
     else (if bytes_eq (codes "reference") name then Some (flag reference)
     else (if bytes_eq (codes "queues") name then Some (flag queues)
     else (if bytes_eq (codes "packets") name then Some (flag packets)
-    else None))))))))
+    else (if bytes_eq (codes "alone") name then Some (flag alone)
+    else None))))))))))
 
 -- whether a command has an option
 abbrev pub is_option_of : Command → Switch → Bool
@@ -50,12 +52,19 @@ is_option_of Gen (value rounds) = true
 is_option_of Gen (value depth) = true
 is_option_of Gen (value workers) = true
 is_option_of Gen (value pace_us) = false
+is_option_of Gen (value scheduler) = true
 is_option_of Gen (flag f) = false
-is_option_of Check switch = false
+is_option_of Check (value rounds) = false
+is_option_of Check (value depth) = false
+is_option_of Check (value workers) = false
+is_option_of Check (value pace_us) = false
+is_option_of Check (value scheduler) = true
+is_option_of Check (flag f) = false
 is_option_of Firm (value rounds) = true
 is_option_of Firm (value depth) = true
 is_option_of Firm (value workers) = false
 is_option_of Firm (value pace_us) = true
+is_option_of Firm (value scheduler) = false
 is_option_of Firm (flag f) = false
 
 -- the option of a name that a command has

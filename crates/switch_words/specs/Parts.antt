@@ -3,8 +3,8 @@ use Rattle.std.specs.Prelude.{ℕ, Bool, true, false, is_some, ◌==◌, ◌++�
 use Rattle.std.specs.List.{list_any, before_first, after_first}
 use Rattle.switch_words.specs.declared.options.Command.{Command}
 use Rattle.switch_words.specs.declared.options.Flags.{Flags}
-use Rattle.switch_words.specs.Options.{Setting, rounds, depth, workers, pace_us, Switch, value, flag, option_of}
-use Rattle.switch_words.specs.Options.{Flag, slots, journal, reference, queues, packets}
+use Rattle.switch_words.specs.Options.{Setting, rounds, depth, workers, pace_us, scheduler, Switch, value, flag, option_of}
+use Rattle.switch_words.specs.Options.{Flag, slots, journal, reference, queues, packets, alone}
 
 -- the texts that the options have, which flags were given, and the names
 pub record Parts : Type 0 where
@@ -12,6 +12,7 @@ pub record Parts : Type 0 where
   pub depth : Option (List ℕ)
   pub workers : Option (List ℕ)
   pub pace_us : Option (List ℕ)
+  pub scheduler : Option (List ℕ)
   pub flags : Flags
   pub names : List (List ℕ)
 
@@ -22,7 +23,8 @@ no_parts = record {
   depth = None;
   workers = None;
   pace_us = None;
-  flags = record { slots = false; journal = false; reference = false; queues = false; packets = false };
+  scheduler = None;
+  flags = record { slots = false; journal = false; reference = false; queues = false; packets = false; alone = false };
   names = [];
 }
 
@@ -32,6 +34,7 @@ text_in parts rounds = parts.rounds
 text_in parts depth = parts.depth
 text_in parts workers = parts.workers
 text_in parts pace_us = parts.pace_us
+text_in parts scheduler = parts.scheduler
 
 -- with this text of an option
 abbrev pub set_text : Parts → Setting → List ℕ → Parts
@@ -39,6 +42,7 @@ set_text parts rounds text = record parts { rounds = Some text }
 set_text parts depth text = record parts { depth = Some text }
 set_text parts workers text = record parts { workers = Some text }
 set_text parts pace_us text = record parts { pace_us = Some text }
+set_text parts scheduler text = record parts { scheduler = Some text }
 
 -- with the text of an option that was not given before
 abbrev pub with_text : Parts → Setting → List ℕ → Option Parts
@@ -51,6 +55,7 @@ is_given flags journal = flags.journal
 is_given flags reference = flags.reference
 is_given flags queues = flags.queues
 is_given flags packets = flags.packets
+is_given flags alone = flags.alone
 
 -- with this flag
 abbrev pub set_flag : Flags → Flag → Flags
@@ -59,6 +64,7 @@ set_flag flags journal = record flags { journal = true }
 set_flag flags reference = record flags { reference = true }
 set_flag flags queues = record flags { queues = true }
 set_flag flags packets = record flags { packets = true }
+set_flag flags alone = record flags { alone = true }
 
 -- with a flag that was not given before
 abbrev pub with_flag : Parts → Flag → Option Parts

@@ -4,10 +4,14 @@ use Rattle.std.specs.Prelude.{Option, None, Some, option_and_then, option_map, u
 use Rattle.rotating_pick.specs.declared.limits.TheConstants.{MAX_PORTS, MAX_ROUNDS}
 use Rattle.line_pace.specs.declared.pace.TheConstants.{MAX_SLOT_MICROS}
 use Rattle.voq_banks.specs.declared.limits.TheConstants.{MAX_DEPTH}
+use Rattle.scheduler_names.specs.declared.names.SchedulerName.{SchedulerName}
+use Rattle.scheduler_names.specs.declared.names.SchedulerName.TheVariants.{Islip}
+use Rattle.scheduler_names.specs.Words.{scheduler_named}
 use Rattle.switch_words.specs.declared.limits.TheConstants.{DEFAULT_ROUNDS, DEFAULT_WORKERS, MAX_COUNT, MAX_SEED, MAX_WORKERS}
 use Rattle.switch_words.specs.declared.job.Settings.{Settings}
 use Rattle.switch_words.specs.declared.job.RunJob.{RunJob}
 use Rattle.switch_words.specs.declared.job.GenJob.{GenJob}
+use Rattle.switch_words.specs.declared.job.CheckJob.{CheckJob}
 use Rattle.switch_words.specs.declared.job.FirmJob.{FirmJob}
 use Rattle.switch_words.specs.declared.job.Job.{Job}
 use Rattle.switch_words.specs.declared.job.Job.TheVariants as job
@@ -34,17 +38,29 @@ settings_of parts =
     }) (number_given MAX_SLOT_MICROS parts.pace_us)) (number_given MAX_WORKERS parts.workers))
     (number_given MAX_DEPTH parts.depth)) (number_given MAX_ROUNDS parts.rounds)
 
+-- The scheduler that an option's text names, iSLIP where the option was not given. None where there is none of that name.
+abbrev pub scheduler_given : Option (List ℕ) → Option SchedulerName
+scheduler_given None = Some Islip
+scheduler_given (Some text) = scheduler_named text
+
 -- a job of `run`, with the bytes of its names
 pub record RunWords : Type 0 where
   pub settings : Settings
+  pub scheduler : SchedulerName
   pub slots : Bool
   pub journal : Bool
   pub reference : Bool
   pub queues : Bool
   pub packets : Bool
+  pub alone : Bool
   pub table : List ℕ
   pub prefix : List ℕ
   pub inputs : List (List ℕ)
+
+-- a job of `check`, with the bytes of its name
+pub record CheckWords : Type 0 where
+  pub scheduler : SchedulerName
+  pub file : List ℕ
 
 -- a job of `firm`, with the bytes of its names
 pub record FirmWords : Type 0 where
@@ -57,20 +73,22 @@ abbrev pub inputs_in : List (List ℕ) → Option (List (List ℕ))
 inputs_in names = if nat_le 1 (length names) && nat_le (length names) MAX_PORTS then Some names else None
 
 -- the names of `run`: a table, a prefix and the captures
-abbrev pub run_with : Settings → Flags → List (List ℕ) → Option RunWords
-run_with settings flags (table ∷ prefix ∷ names) =
+abbrev pub run_with : Settings → SchedulerName → Flags → List (List ℕ) → Option RunWords
+run_with settings scheduler flags (table ∷ prefix ∷ names) =
     option_map (λ inputs. record {
       settings = settings;
+      scheduler = scheduler;
       slots = flags.slots;
       journal = flags.journal;
       reference = flags.reference;
       queues = flags.queues;
       packets = flags.packets;
+      alone = flags.alone;
       table = table;
       prefix = prefix;
       inputs = inputs;
     }) (inputs_in names)
-run_with settings flags _ = None
+run_with settings scheduler flags _ = None
 
 -- the names of `firm`: a table and the captures
 abbrev pub firm_with : Settings → List (List ℕ) → Option FirmWords
@@ -79,33 +97,37 @@ firm_with settings (table ∷ names) =
 firm_with settings _ = None
 
 -- the names of `check`: one file
-abbrev pub check_with : List (List ℕ) → Option (List ℕ)
-check_with (file ∷ []) = Some file
-check_with _ = None
+abbrev pub check_with : SchedulerName → List (List ℕ) → Option CheckWords
+check_with scheduler (file ∷ []) = Some (record { scheduler = scheduler; file = file })
+check_with scheduler _ = None
 
 -- the names of `gen`: a seed, a count and a number of ports
-abbrev pub gen_with : Settings → List (List ℕ) → Option GenJob
-gen_with settings (seed ∷ count ∷ ports ∷ []) =
+abbrev pub gen_with : Settings → SchedulerName → List (List ℕ) → Option GenJob
+gen_with settings scheduler (seed ∷ count ∷ ports ∷ []) =
     option_and_then (λ s. option_and_then (λ c. option_map (λ p. record {
       settings = settings;
+      scheduler = scheduler;
       seed = s;
       count = c;
       ports = p;
     }) (number_within 1 MAX_PORTS ports)) (number_within 0 MAX_COUNT count)) (number_within 0 MAX_SEED seed)
-gen_with settings _ = None
+gen_with settings scheduler _ = None
 
--- what a list of words asks for; of `check` the name of its file
+-- what a list of words asks for
 pub data JobWords : Type 0 where
   run : RunWords → JobWords
   gen : GenJob → JobWords
-  check : List ℕ → JobWords
+  check : CheckWords → JobWords
   firm : FirmWords → JobWords
 
 unfoldable pub job_with : Command → Parts → Option JobWords
 job_with Run parts =
-    option_and_then (λ settings. option_map run (run_with settings parts.flags parts.names)) (settings_of parts)
-job_with Gen parts = option_and_then (λ settings. option_map gen (gen_with settings parts.names)) (settings_of parts)
-job_with Check parts = option_map check (check_with parts.names)
+    option_and_then (λ settings. option_and_then (λ scheduler. option_map run (run_with settings scheduler parts.flags parts.names))
+    (scheduler_given parts.scheduler)) (settings_of parts)
+job_with Gen parts =
+    option_and_then (λ settings. option_and_then (λ scheduler. option_map gen (gen_with settings scheduler parts.names))
+    (scheduler_given parts.scheduler)) (settings_of parts)
+job_with Check parts = option_and_then (λ scheduler. option_map check (check_with scheduler parts.names)) (scheduler_given parts.scheduler)
 job_with Firm parts = option_and_then (λ settings. option_map firm (firm_with settings parts.names)) (settings_of parts)
 
 -- The job that a list of words means; None where they mean none.
@@ -118,15 +140,20 @@ reading_of (word ∷ rest) = option_and_then (λ command.
 abbrev pub run_words : RunJob → RunWords
 run_words r = record {
   settings = r.settings;
+  scheduler = r.scheduler;
   slots = r.slots;
   journal = r.journal;
   reference = r.reference;
   queues = r.queues;
   packets = r.packets;
+  alone = r.alone;
   table = string_bytes r.table;
   prefix = string_bytes r.prefix;
   inputs = map string_bytes r.inputs.items;
 }
+
+abbrev pub check_words : CheckJob → CheckWords
+check_words c = record { scheduler = c.scheduler; file = string_bytes c.file }
 
 abbrev pub firm_words : FirmJob → FirmWords
 firm_words f = record {
@@ -138,5 +165,5 @@ firm_words f = record {
 abbrev pub job_words : Job → JobWords
 job_words (job.Run r) = run (run_words r)
 job_words (job.Gen g) = gen g
-job_words (job.Check c) = check (string_bytes c.file)
+job_words (job.Check c) = check (check_words c)
 job_words (job.Firm f) = firm (firm_words f)

@@ -1,3 +1,5 @@
+use scheduler_names::SchedulerName;
+
 /// How a job runs.
 #[derive(Clone, Copy, Debug, PartialEq, Eq)]
 pub struct Settings {
@@ -16,6 +18,8 @@ pub struct Settings {
 pub struct RunJob {
     /// How the job runs.
     pub settings: Settings,
+    /// The scheduler of the run, iSLIP where no option names one.
+    pub scheduler: SchedulerName,
     /// Whether the report names each slot.
     pub slots: bool,
     /// Whether the journal is written.
@@ -26,6 +30,8 @@ pub struct RunJob {
     pub queues: bool,
     /// Whether the packets file is written: when each packet left.
     pub packets: bool,
+    /// Whether the slots are made on one thread, without board and workers.
+    pub alone: bool,
     /// The name of the table's file.
     pub table: String,
     /// What the names of all files that are written begin with.
@@ -39,6 +45,8 @@ pub struct RunJob {
 pub struct GenJob {
     /// How the job runs.
     pub settings: Settings,
+    /// The scheduler of the run, iSLIP where no option names one.
+    pub scheduler: SchedulerName,
     /// Where the random numbers begin: 0 to 1,000,000,000.
     pub seed: u32,
     /// How many packets each port gets: 0 to 4,000.
@@ -50,6 +58,8 @@ pub struct GenJob {
 /// Check the journal of a run.
 #[derive(Debug, Drop)]
 pub struct CheckJob {
+    /// The scheduler whose matches are lawful, iSLIP where no option names one.
+    pub scheduler: SchedulerName,
     /// The name of the journal's file.
     pub file: String,
 }

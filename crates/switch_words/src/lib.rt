@@ -10,11 +10,13 @@
 //! --depth D     cells of a queue, 1 to 131,072  run, gen, firm
 //! --workers W   1 to 32                         run, gen
 //! --pace-us K   microseconds of a slot, 1 to 1,000,000   run, firm
+//! --scheduler NAME   islip, firm or rrm         run, gen, check
 //! --slots       report each slot                run
 //! --journal     write the journal               run
 //! --reference   compare each output with the output-queued reference   run
 //! --queues      report how long each queue was  run
 //! --packets     write when each packet left     run
+//! --alone       make the slots on one thread    run
 //! ```
 #![tactic(auto)]
 

@@ -23,6 +23,7 @@ pub(crate) struct Flags {
     pub(crate) reference: bool,
     pub(crate) queues: bool,
     pub(crate) packets: bool,
+    pub(crate) alone: bool,
 }
 
 impl Command {
@@ -54,9 +55,9 @@ impl Command {
         ensures { map (λ id. id.now) result.now ≡ options_for self }
     {
         match self {
-            Command::Run => &["rounds", "depth", "workers", "pace-us"],
-            Command::Gen => &["rounds", "depth", "workers"],
-            Command::Check => &[],
+            Command::Run => &["rounds", "depth", "workers", "pace-us", "scheduler"],
+            Command::Gen => &["rounds", "depth", "workers", "scheduler"],
+            Command::Check => &["scheduler"],
             Command::Firm => &["rounds", "depth", "pace-us"],
         }
     }
@@ -66,7 +67,14 @@ impl Command {
         ensures { map (λ id. id.now) result.now ≡ flags_for self }
     {
         match self {
-            Command::Run => &["slots", "journal", "reference", "queues", "packets"],
+            Command::Run => &[
+                "slots",
+                "journal",
+                "reference",
+                "queues",
+                "packets",
+                "alone",
+            ],
             Command::Gen | Command::Check | Command::Firm => &[],
         }
     }

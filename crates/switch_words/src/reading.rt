@@ -1,8 +1,8 @@
 ghost use Rattle.std.specs.Prelude.{◌≡◌, codes, Some, None, Err, drop, map, ok_or, option_map, string_bytes, vec_len, IfOk, IfSome};
 ghost use Rattle.switch_words.specs.Options.{command_in};
 ghost use Rattle.switch_words.specs.Parts.{no_parts, parts_from};
-ghost use Rattle.switch_words.specs.Reading.{number_given, settings_of, inputs_in, run_with, firm_with, check_with, gen_with};
-ghost use Rattle.switch_words.specs.Reading.{run_words, firm_words, job_words, job_with, reading_of};
+ghost use Rattle.switch_words.specs.Reading.{number_given, scheduler_given, settings_of, inputs_in, run_with, firm_with, check_with, gen_with};
+ghost use Rattle.switch_words.specs.Reading.{run_words, check_words, firm_words, job_words, job_with, reading_of};
 ghost use Rattle.switch_words.specs.Limits.{AreWithinLimits, IsUpTo, IsRunWithinLimits, IsGenWithinLimits, IsFirmWithinLimits, IsWithinLimits};
 ghost use Rattle.switch_words.specs.LineSteps.{first_text, is_true_text, lookup_of, parts_of};
 
@@ -14,6 +14,7 @@ use crate::options::{Command, Flags};
 use clap::ArgMatches;
 use line_pace::MAX_SLOT_MICROS;
 use rotating_pick::{MAX_PORTS, MAX_ROUNDS};
+use scheduler_names::SchedulerName;
 use std::alloc::{AllocError, Global};
 use voq_banks::MAX_DEPTH;
 
@@ -26,8 +27,8 @@ use voq_banks::MAX_DEPTH;
 ///
 /// `Usage` comes exactly where the words give no job, want of memory aside: there is no such command,
 /// a word is refused, the command lacks an option, an option is repeated, a flag has a value, a value is
-/// no number within its limits, or there are more or fewer names. `OutOfMemory` may come in place of
-/// any answer but that there is no such command.
+/// no number within its limits or no scheduler's name, or there are more or fewer names. `OutOfMemory`
+/// may come in place of any answer but that there is no such command.
 #[tactic(auto, unfolding(crate::specs::Reading::reading_of))]
 pub fn read_words(alloc: Global, words: &[String]) -> Result<Job, WordsFault>
     ensures job { IfOk result (λ job. reading_of (map string_bytes words.now) ≡ Some (job_words job)) }
@@ -52,9 +53,14 @@ fn job_of(alloc: Global, command: Command, matches: &ArgMatches<'_>) -> Result<J
 {
     let names = names(matches).ok_or(WordsFault::Usage)?;
     match command {
-        Command::Run => Ok(Job::Run(run_job(alloc, settings(matches)?, flags(matches), names)?)),
-        Command::Gen => Ok(Job::Gen(gen_job(settings(matches)?, names)?)),
-        Command::Check => Ok(Job::Check(journal_command(alloc, names)?)),
+        Command::Run => {
+            let settings = settings(matches)?;
+            let scheduler = scheduler(matches)?;
+            let flags = flags(matches);
+            Ok(Job::Run(run_job(alloc, settings, scheduler, flags, names)?))
+        }
+        Command::Gen => Ok(Job::Gen(gen_job(settings(matches)?, scheduler(matches)?, names)?)),
+        Command::Check => Ok(Job::Check(check_job(alloc, scheduler(matches)?, names)?)),
         Command::Firm => Ok(Job::Firm(firm_job(alloc, settings(matches)?, names)?)),
     }
 }
@@ -106,6 +112,16 @@ fn number(matches: &ArgMatches<'_>, id: &str, most: u32) -> Option<Option<u32>>
     }
 }
 
+// The scheduler that the option names, if it was given, else iSLIP.
+fn scheduler(matches: &ArgMatches<'_>) -> Result<SchedulerName, WordsFault>
+    ensures { result ≡ ok_or (scheduler_given (parts_of matches.now).scheduler) WordsFault.Usage }
+{
+    match text(matches, "scheduler") {
+        None => Ok(SchedulerName::Islip),
+        Some(name) => SchedulerName::named(name).ok_or(WordsFault::Usage),
+    }
+}
+
 // The flags that were given. One that the command lacks is not.
 fn flags(matches: &ArgMatches<'_>) -> Flags
     ensures { result ≡ (parts_of matches.now).flags }
@@ -116,6 +132,7 @@ fn flags(matches: &ArgMatches<'_>) -> Flags
         reference: has_flag(matches, "reference"),
         queues: has_flag(matches, "queues"),
         packets: has_flag(matches, "packets"),
+        alone: has_flag(matches, "alone"),
     }
 }
 
@@ -147,11 +164,12 @@ fn names<'m, 'a>(matches: &'m ArgMatches<'a>) -> Option<&'m [&'a str]>
 fn run_job(
     alloc: Global,
     settings: Settings,
+    scheduler: SchedulerName,
     flags: Flags,
     names: &[&str],
 ) -> Result<RunJob, WordsFault>
-    ensures job { IfOk result (λ job. run_with settings flags (map (λ name. name.now) names.now) ≡ Some (run_words job)) }
-    ensures usage { result ≡ Err WordsFault.Usage → run_with settings flags (map (λ name. name.now) names.now) ≡ None }
+    ensures job { IfOk result (λ job. run_with settings scheduler flags (map (λ name. name.now) names.now) ≡ Some (run_words job)) }
+    ensures usage { result ≡ Err WordsFault.Usage → run_with settings scheduler flags (map (λ name. name.now) names.now) ≡ None }
     ensures limits { AreWithinLimits settings → IfOk result IsRunWithinLimits }
 {
     let [table, prefix, names @ ..] = names else {
@@ -159,11 +177,13 @@ fn run_job(
     };
     Ok(RunJob {
         settings,
+        scheduler,
         slots: flags.slots,
         journal: flags.journal,
         reference: flags.reference,
         queues: flags.queues,
         packets: flags.packets,
+        alone: flags.alone,
         inputs: inputs(alloc, names)?,
         table: String::from_str(alloc, table)?,
         prefix: String::from_str(alloc, prefix)?,
@@ -187,14 +207,19 @@ fn firm_job(alloc: Global, settings: Settings, names: &[&str]) -> Result<FirmJob
 }
 
 // The job of `check` with these names: one file.
-fn journal_command(alloc: Global, names: &[&str]) -> Result<CheckJob, WordsFault>
-    ensures job { IfOk result (λ job. check_with (map (λ name. name.now) names.now) ≡ Some (string_bytes job.file)) }
-    ensures usage { result ≡ Err WordsFault.Usage → check_with (map (λ name. name.now) names.now) ≡ None }
+fn check_job(
+    alloc: Global,
+    scheduler: SchedulerName,
+    names: &[&str],
+) -> Result<CheckJob, WordsFault>
+    ensures job { IfOk result (λ job. check_with scheduler (map (λ name. name.now) names.now) ≡ Some (check_words job)) }
+    ensures usage { result ≡ Err WordsFault.Usage → check_with scheduler (map (λ name. name.now) names.now) ≡ None }
 {
     let [file] = names else {
         return Err(WordsFault::Usage);
     };
     Ok(CheckJob {
+        scheduler,
         file: String::from_str(alloc, file)?,
     })
 }
@@ -222,16 +247,20 @@ fn copied(alloc: Global, names: &[&str]) -> Result<Vec<String>, AllocError>
 }
 
 // The job of `gen` with these names: a seed, a count and a number of ports.
-fn gen_job(settings: Settings, names: &[&str]) -> Result<GenJob, WordsFault>
-    ensures job { result ≡ ok_or (gen_with settings (map (λ name. name.now) names.now)) WordsFault.Usage }
+fn gen_job(
+    settings: Settings,
+    scheduler: SchedulerName,
+    names: &[&str],
+) -> Result<GenJob, WordsFault>
+    ensures job { result ≡ ok_or (gen_with settings scheduler (map (λ name. name.now) names.now)) WordsFault.Usage }
     ensures limits { AreWithinLimits settings → IfOk result IsGenWithinLimits }
 {
-    made_job(settings, names).ok_or(WordsFault::Usage)
+    made_job(settings, scheduler, names).ok_or(WordsFault::Usage)
 }
 
 // A seed, a count and a number of ports, where each name is a number within its limits.
-fn made_job(settings: Settings, names: &[&str]) -> Option<GenJob>
-    ensures job { result ≡ gen_with settings (map (λ name. name.now) names.now) }
+fn made_job(settings: Settings, scheduler: SchedulerName, names: &[&str]) -> Option<GenJob>
+    ensures job { result ≡ gen_with settings scheduler (map (λ name. name.now) names.now) }
     ensures limits { AreWithinLimits settings → IfSome result IsGenWithinLimits }
 {
     let [seed, count, ports] = names else {
@@ -239,6 +268,7 @@ fn made_job(settings: Settings, names: &[&str]) -> Option<GenJob>
     };
     Some(GenJob {
         settings,
+        scheduler,
         seed: number_within(0, MAX_SEED, seed)?,
         count: number_within(0, MAX_COUNT, count)?,
         ports: number_within(1, MAX_PORTS, ports)?,

@@ -1,4 +1,5 @@
 use crate::{Job, RunJob, WordsFault, read_words};
+use scheduler_names::SchedulerName;
 use std::alloc::Global;
 use std::test::Fail;
 
@@ -84,6 +85,46 @@ fn words_with_flags(rt: HostRuntime) -> Result<(), Fail> {
     Ok(())
 }
 
+// The scheduler of a job of `run`, `gen` or `check`.
+fn scheduler(alloc: Global, line: &str) -> Result<SchedulerName, WordsFault> {
+    match job(alloc, line)? {
+        Job::Run(run) => Ok(run.scheduler),
+        Job::Gen(made) => Ok(made.scheduler),
+        Job::Check(check) => Ok(check.scheduler),
+        Job::Firm(_) => Err(WordsFault::Usage),
+    }
+}
+
+#[test]
+fn words_that_name_a_scheduler(rt: HostRuntime) -> Result<(), Fail> {
+    let rows = [
+        ("run t out a", SchedulerName::Islip),
+        ("run --scheduler firm t out a", SchedulerName::Firm),
+        ("run t out a --scheduler=rrm", SchedulerName::Rrm),
+        ("gen 1 2 2", SchedulerName::Islip),
+        ("gen --scheduler rrm 3 2 33", SchedulerName::Rrm),
+        ("check journal", SchedulerName::Islip),
+        ("check --scheduler islip journal", SchedulerName::Islip),
+        ("check journal --scheduler=firm", SchedulerName::Firm),
+        ("check --scheduler rrm -- journal", SchedulerName::Rrm),
+    ];
+    for (line, name) in rows {
+        assert_eq!(rt; scheduler(rt.alloc(), line)?, name);
+    }
+    Ok(())
+}
+
+#[test]
+fn words_of_a_run_without_the_board(rt: HostRuntime) -> Result<(), Fail> {
+    for (line, alone) in [
+        ("run t out a", false),
+        ("run t --alone --workers 2 out a", true),
+    ] {
+        assert_eq!(rt; run_job(rt.alloc(), line)?.alone, alone);
+    }
+    Ok(())
+}
+
 #[test]
 fn words_of_a_check(rt: HostRuntime) -> Result<(), Fail> {
     match job(rt.alloc(), "check -- -f")? {
@@ -131,6 +172,20 @@ fn other_words(rt: HostRuntime) -> Result<(), Fail> {
         "firm t",
         "firm --workers 2 t a",
         "firm --slots t a",
+        "run --scheduler eslip t out a",
+        "run --scheduler FIRM t out a",
+        "run --scheduler= t out a",
+        "run --scheduler=rrm --scheduler=rrm t out a",
+        "run t out a --scheduler",
+        "run --scheduler --queues t out a",
+        "firm --scheduler firm t a",
+        "check --scheduler rrm",
+        "check --scheduler=rrm f --scheduler=rrm",
+        "run --alone --alone t out a",
+        "run --alone=1 t out a",
+        "gen --alone 1 2 2",
+        "check --alone f",
+        "firm --alone t a",
     ];
     for line in lines {
         assert_eq!(rt; job(rt.alloc(), line).err(), Some(WordsFault::Usage));

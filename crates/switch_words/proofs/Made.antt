@@ -1,0 +1,25 @@
+-- Where the words of a made input give no job.
+use Rattle.std.proofs.Common.{◌≡◌, List, Option, None, Some, Ok, Err, ok_or, refl}
+use Rattle.scheduler_names.specs.declared.names.SchedulerName.{SchedulerName}
+use Rattle.clap.specs.Walk.{Text}
+use Rattle.switch_words.specs.declared.fault.WordsFault.{WordsFault}
+use Rattle.switch_words.specs.declared.job.Settings.{Settings}
+use Rattle.switch_words.specs.declared.options.Command.{Command}
+use Rattle.switch_words.specs.declared.options.Command.TheVariants.{Gen}
+use Rattle.switch_words.specs.Parts.{Parts}
+use Rattle.switch_words.specs.Reading.{gen_with, job_with, scheduler_given, settings_of}
+
+is_there : {A E : Type 0} (o : Option A) (e : E) (x : A) → ok_or o e ≡ Ok x → o ≡ Some x
+is_there None e x h = cc
+is_there (Some y) e x h = cc
+
+is_absent : {A E : Type 0} (o : Option A) (e f : E) → ok_or o e ≡ Err f → o ≡ None
+is_absent None e f h = refl
+is_absent (Some y) e f h = cc
+
+pub no_made_job : (command : Command) (parts : Parts) (settings : Settings) (scheduler : SchedulerName) (names : List Text) (fault other : WordsFault)
+    → command ≡ Gen → ok_or (settings_of parts) other ≡ Ok settings → ok_or (scheduler_given parts.scheduler) other ≡ Ok scheduler
+    → parts.names ≡ names → ok_or (gen_with settings scheduler names) other ≡ Err fault → job_with command parts ≡ None
+unfolding job_with
+no_made_job command parts settings scheduler names fault other is has_settings has_scheduler has_names none =
+    rw (is, is_there _ _ _ has_settings) (rw (is_there _ _ _ has_scheduler, has_names) (rw (is_absent _ _ _ none) refl))
