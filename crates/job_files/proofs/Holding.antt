@@ -8,7 +8,7 @@ use Rattle.std.proofs.lemmas.List.Elements.{All-head, All-tail}
 use Rattle.outside.specs.Contents.{Contents, append_out, begin_file}
 use Rattle.outside.specs.WholeFiles.{NamedBytes, put_file}
 use Rattle.outside.proofs.Effects.{file-append_file-begin_file, file-append_file-other, file-begin_file-other}
-use Rattle.switch_words.specs.Reading.{JobWords, run, gen, check, firm, RunWords}
+use Rattle.switch_words.specs.Reading.{CheckWords, JobWords, run, gen, check, firm, RunWords}
 use Rattle.job_files.specs.OutputFiles.{Texts, HoldsTexts, files_from, journal_files, journal_name, output_name, packets_files, packets_name}
 use Rattle.job_files.specs.OutputFiles.{report_name, put_files, put_texts, run_files}
 
@@ -219,8 +219,8 @@ holds_alone job texts c other = record {
 pub gen_is_no_run : (g : _) (r : RunWords) → gen g ≡ run r → ⊥
 gen_is_no_run g r is = absurd (cc)
 
-pub check_is_no_run : (file : List ℕ) (r : RunWords) → check file ≡ run r → ⊥
-check_is_no_run file r is = absurd (cc)
+pub check_is_no_run : (c : CheckWords) (r : RunWords) → check c ≡ run r → ⊥
+check_is_no_run c r is = absurd (cc)
 
 pub firm_is_no_run : (f : _) (r : RunWords) → firm f ≡ run r → ⊥
 firm_is_no_run f r is = absurd (cc)
@@ -236,7 +236,7 @@ holds (run r) texts c fits = record {
   err = err_put (run_files r.prefix texts) c;
 }
 holds (gen g) texts c fits = holds_alone (gen g) texts c (gen_is_no_run g)
-holds (check file) texts c fits = holds_alone (check file) texts c (check_is_no_run file)
+holds (check words) texts c fits = holds_alone (check words) texts c (check_is_no_run words)
 holds (firm f) texts c fits = holds_alone (firm f) texts c (firm_is_no_run f)
 
 pub holds_told : (job : JobWords) (texts : Texts) (old new : Option Contents) → length texts.outputs ≤ 2 ^ 64 → new ≡ option_map (put_texts job texts) old

@@ -29,7 +29,7 @@ named_line what name = concat (what ∷ name ∷ codes "\n" ∷ [])
 abbrev pub name_read : JobWords → InputFile → List ℕ
 name_read (run r) input = input_name (run_reads r) input
 name_read (gen g) input = []
-name_read (check file) input = []
+name_read (check c) input = []
 name_read (firm f) input = input_name (firm_reads f) input
 
 -- the name of what a run writes
@@ -52,7 +52,7 @@ name_without_files StandardOutput = codes "standard output"
 abbrev pub name_written : JobWords → Written → List ℕ
 name_written (run r) written = name_in_run r.prefix written
 name_written (gen g) written = name_without_files written
-name_written (check file) written = name_without_files written
+name_written (check c) written = name_without_files written
 name_written (firm f) written = name_without_files written
 
 -- the line where a journal has more bytes than a journal file may have
@@ -85,7 +85,7 @@ check_line file check_ending.OutFault = named_line (codes "write fault: ") (code
 abbrev pub checked_line : JobWords → CheckEnding → List ℕ
 checked_line (run r) ending = []
 checked_line (gen g) ending = []
-checked_line (check file) ending = check_line file ending
+checked_line (check c) ending = check_line c.file ending
 checked_line (firm f) ending = []
 
 -- the line of each ending

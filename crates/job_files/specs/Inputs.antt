@@ -30,5 +30,5 @@ pub record AreFilesRead (r : ReadWords) (told : Option Contents) (table : List �
 abbrev pub AreInputs : JobWords → Option Contents → List ℕ → List (List ℕ) → Type 0
 AreInputs (run r) told table captures = AreFilesRead (run_reads r) told table captures
 AreInputs (gen g) told table captures = (table ≡ made_table g.ports) × (captures ≡ made_captures g)
-AreInputs (check file) told table captures = ⊥
+AreInputs (check c) told table captures = ⊥
 AreInputs (firm f) told table captures = AreFilesRead (firm_reads f) told table captures

@@ -1,5 +1,5 @@
 -- What the words of a job say, whichever its command is.
-use Rattle.std.specs.Prelude.{ℕ, ◌<◌, Bool, false, List, [], length, slice_index_or, Option, Some, None}
+use Rattle.std.specs.Prelude.{ℕ, ◌<◌, Bool, List, [], length, slice_index_or, Option, Some, None}
 use Rattle.switch_words.specs.declared.job.Settings.{Settings}
 use Rattle.switch_words.specs.Reading.{JobWords, run, gen, check, firm, RunWords, FirmWords}
 use Rattle.job_files.specs.declared.inputs.InputFile.{InputFile}
@@ -9,7 +9,7 @@ use Rattle.job_files.specs.declared.inputs.InputFile.TheVariants.{Table, Capture
 abbrev pub pace_in : JobWords → Option ℕ
 pace_in (run r) = r.settings.pace_us
 pace_in (gen g) = g.settings.pace_us
-pace_in (check file) = None
+pace_in (check c) = None
 pace_in (firm f) = f.settings.pace_us
 
 -- the same settings but for the number of workers
@@ -20,23 +20,15 @@ settings_with workers settings = record settings { workers = workers }
 abbrev pub with_workers : ℕ → JobWords → JobWords
 with_workers workers (run r) = run (record r { settings = settings_with workers r.settings })
 with_workers workers (gen g) = gen (record g { settings = settings_with workers g.settings })
-with_workers workers (check file) = check file
+with_workers workers (check c) = check c
 with_workers workers (firm f) = firm (record f { settings = settings_with workers f.settings })
 
--- what a run is to tell beside its captures, the report's numbers and the summary: a line for each slot, the journal, the
--- lines of the output-queued reference, the lines of the queues, and the packets file
-pub record Wanted : Type 0 where
-  pub slots : Bool
-  pub journal : Bool
-  pub reference : Bool
-  pub queues : Bool
-  pub packets : Bool
-
-abbrev pub wanted_by : RunWords → Wanted
-wanted_by r = record { slots = r.slots; journal = r.journal; reference = r.reference; queues = r.queues; packets = r.packets }
-
-abbrev pub nothing_wanted : Wanted
-nothing_wanted = record { slots = false; journal = false; reference = false; queues = false; packets = false }
+-- the same job with or without the board; it is an option of `run` alone
+abbrev pub with_alone : Bool → JobWords → JobWords
+with_alone alone (run r) = run (record r { alone = alone })
+with_alone alone (gen g) = gen g
+with_alone alone (check c) = check c
+with_alone alone (firm f) = firm f
 
 -- the names of the files that a job reads: the table, and the capture of each port
 pub record ReadWords : Type 0 where
@@ -53,7 +45,7 @@ firm_reads f = record { table = f.table; inputs = f.inputs }
 abbrev pub reads_of : JobWords → Option ReadWords
 reads_of (run r) = Some (run_reads r)
 reads_of (gen g) = None
-reads_of (check file) = None
+reads_of (check c) = None
 reads_of (firm f) = Some (firm_reads f)
 
 -- the name of a file that a job reads: the table's, or that of the capture of a port
@@ -70,5 +62,5 @@ IsInput r (Capture port) = port < length r.inputs
 abbrev pub RunsSwitch : JobWords → Type 0
 RunsSwitch (run r) = Unit {0}
 RunsSwitch (gen g) = Unit {0}
-RunsSwitch (check file) = ⊥
+RunsSwitch (check c) = ⊥
 RunsSwitch (firm f) = Unit {0}

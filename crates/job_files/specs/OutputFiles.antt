@@ -73,7 +73,7 @@ packets_place outputs with_journal = outputs + 1 + (if with_journal then 1 else 
 abbrev pub files_of : JobWords → Texts → List NamedBytes
 files_of (run r) texts = run_files r.prefix texts
 files_of (gen g) texts = []
-files_of (check file) texts = []
+files_of (check c) texts = []
 files_of (firm f) texts = []
 
 -- the files are put, one after the other

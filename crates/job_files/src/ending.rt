@@ -3,6 +3,7 @@ ghost use Rattle.job_files.specs.Statuses.{check_status, status_of};
 
 use crate::inputs::InputFile;
 use journal_command::CheckEnding;
+use rotating_pick::OutOfMemory;
 use switch_plan::PlanFault;
 
 /// What a job writes.
@@ -41,6 +42,17 @@ pub enum Ending {
     WriteFault(Written),
     /// The end of a check.
     Checked(CheckEnding),
+}
+
+impl From<OutOfMemory> for Ending {
+    ghost use Rattle.std.specs.Prelude.{◌≡◌};
+    ghost use Rattle.job_files.specs.declared.ending.Ending.TheVariants.{OutOfMemory as NoMemory};
+
+    ghost from_gives = { λ _ ending. ending ≡ NoMemory };
+
+    fn from(_error: OutOfMemory) -> Ending {
+        Ending::OutOfMemory
+    }
 }
 
 impl Ending {

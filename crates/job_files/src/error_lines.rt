@@ -9,10 +9,10 @@ ghost use Rattle.job_files.specs.RefusalLines.{capture_line, memory_line, refusa
 
 use crate::ending::{Ending, Written};
 use crate::inputs::{InputFile, input_name, reads_of_firm, reads_of_run};
-use journal_command::CheckEnding;
 use forward_table::TableFault;
 use itoa::Buffer;
 use journal_check::Reason;
+use journal_command::CheckEnding;
 use outside::{Failed, Files};
 use pcap_records::PcapFault;
 use switch_plan::PlanFault;

@@ -6,10 +6,11 @@ use Rattle.std.proofs.lemmas.List.Elements.{All-get_or}
 use Rattle.rotating_pick.specs.declared.limits.TheConstants.{MAX_FILE_BYTES}
 use Rattle.outside.specs.Contents.{Contents}
 use Rattle.outside.specs.WholeFiles.{Fits, IsTooLong}
-use Rattle.switch_words.specs.Reading.{JobWords, run, gen, check, firm}
+use Rattle.switch_words.specs.Reading.{JobWords, run, gen, check, firm, CheckWords}
 use Rattle.switch_plan.specs.GoodPlans.{SwitchPlan, IsGood}
-use Rattle.run_laws.specs.Ends.{IsLength}
-use Rattle.switch_run.specs.Causes.{Answers, IsReadable, IsRunFor, TooLongIsExact, UsageIsExact}
+use Rattle.run_laws.specs.Ends.{IsLengthUnder}
+use Rattle.named_schedulers.specs.Named.{decision_named}
+use Rattle.switch_run.specs.Causes.{Answers, IsReadable, IsRunFor, TooLongIsExact, UsageIsExact, scheduler_in}
 use Rattle.switch_run.specs.Endings.{Command, IsFirstTooLong, IsMade, IsStopped, Stops}
 use Rattle.job_files.specs.Statuses.{check_status}
 use Rattle.job_files.specs.Inputs.{AreFilesRead, AreInputs, CapturesRead, EarlierFit}
@@ -86,7 +87,7 @@ pub same_inputs : (job : JobWords) (c : Contents) (t u : List ℕ) (xs ys : List
     × (xs ≡ ys)
 same_inputs (run r) c t u xs ys a b = same_read _ c t u xs ys a b
 same_inputs (gen g) c t u xs ys a b = (a.0 ∙ sym b.0, a.1 ∙ sym b.1)
-same_inputs (check file) c t u xs ys a b = absurd a
+same_inputs (check w) c t u xs ys a b = absurd a
 same_inputs (firm f) c t u xs ys a b = same_read _ c t u xs ys a b
 
 -- The words mean one job, and the contents told are one
@@ -111,16 +112,16 @@ files_read : (job : JobWords) (r : ReadWords) (told : Option Contents) (table : 
     → AreInputs job told table captures → AreFilesRead r told table captures
 files_read (run w) r told table captures reads inputs = subst (λ (s : ReadWords). AreFilesRead s told table captures) (same_reads _ r reads) inputs
 files_read (gen g) r told table captures reads inputs = absurd (none_read r reads)
-files_read (check file) r told table captures reads inputs = absurd inputs
+files_read (check w) r told table captures reads inputs = absurd inputs
 files_read (firm f) r told table captures reads inputs = subst (λ (s : ReadWords). AreFilesRead s told table captures) (same_reads _ r reads) inputs
 
 -- a check has no inputs, and reads no table and no captures
-pub no_inputs : (job : JobWords) (file : List ℕ) (told : Option Contents) (table : List ℕ) (captures : List (List ℕ)) → job ≡ check file
+pub no_inputs : (job : JobWords) (words : CheckWords) (told : Option Contents) (table : List ℕ) (captures : List (List ℕ)) → job ≡ check words
     → AreInputs job told table captures → ⊥
-no_inputs job file told table captures is inputs = subst (λ (j : JobWords). AreInputs j told table captures) is inputs
+no_inputs job words told table captures is inputs = subst (λ (j : JobWords). AreInputs j told table captures) is inputs
 
-pub no_reads : (job : JobWords) (file : List ℕ) (r : ReadWords) → job ≡ check file → reads_of job ≡ Some r → ⊥
-no_reads job file r is reads = none_read r (subst (λ (j : JobWords). reads_of j ≡ Some r) is reads)
+pub no_reads : (job : JobWords) (words : CheckWords) (r : ReadWords) → job ≡ check words → reads_of job ≡ Some r → ⊥
+no_reads job words r is reads = none_read r (subst (λ (j : JobWords). reads_of j ≡ Some r) is reads)
 
 -- no check has the status of usage
 check_is_no_usage : (e : CheckEnding) → check_status e ≡ 2 → ⊥
@@ -219,7 +220,7 @@ too_long_exact c status (WriteFault written) a job r contents input read reads k
     absurd (long_of_inputs job r contents stops.made.table stops.made.captures input reads stops.made.inputs known long)
 too_long_exact c status (Checked e) a job r contents input read reads known earlier long =
     let stops = stops_here c job contents (Checked e) read.words read.told a.1 in
-    absurd (no_reads job stops.file r stops.is_check reads)
+    absurd (no_reads job stops.words r stops.is_check reads)
 
 -- ---- the run behind a command
 
@@ -227,12 +228,12 @@ pub run_good : (job : JobWords) (table : List ℕ) (captures : List (List ℕ)) 
     → IsGood plan
 run_good (run r) table captures plan slots is = is.planned.good
 run_good (gen g) table captures plan slots is = is.planned.good
-run_good (check file) table captures plan slots is = absurd is
+run_good (check w) table captures plan slots is = absurd is
 run_good (firm f) table captures plan slots is = absurd is
 
 pub run_ends : (job : JobWords) (table : List ℕ) (captures : List (List ℕ)) (plan : SwitchPlan) (slots : ℕ) → IsRunFor job table captures plan slots
-    → IsLength plan slots
+    → IsLengthUnder (decision_named (scheduler_in job)) plan slots
 run_ends (run r) table captures plan slots is = is.ends
 run_ends (gen g) table captures plan slots is = is.ends
-run_ends (check file) table captures plan slots is = absurd is
+run_ends (check w) table captures plan slots is = absurd is
 run_ends (firm f) table captures plan slots is = absurd is

@@ -3,7 +3,7 @@ use Rattle.std.proofs.Common.{◌≡◌, ℕ, List, length, Option, Some, inl, i
 use Rattle.std.specs.Prelude.{◌⊎◌, Ok, Err, Result}
 use Rattle.outside.specs.Contents.{Contents}
 use Rattle.outside.specs.Faults.{ToOut, Rose}
-use Rattle.journal_check.specs.Verdicts.{answer_to}
+use Rattle.journal_check.specs.Verdicts.{answer_under}
 use Rattle.journal_check.specs.declared.verdict.Verdict.{Verdict}
 use Rattle.journal_check.specs.declared.verdict.Verdict.TheVariants as verdict
 use Rattle.journal_check.specs.declared.verdict.JournalFault.{JournalFault}
@@ -12,7 +12,9 @@ use Rattle.journal_check.specs.declared.verdict.Reason.{Reason}
 use Rattle.journal_command.specs.Checks.{HasAnswer, IsTooLong, MeansCheck}
 use Rattle.journal_command.specs.declared.ending.CheckEnding.{CheckEnding}
 use Rattle.journal_command.specs.declared.ending.CheckEnding.TheVariants as check_ending
-use Rattle.switch_words.specs.Reading.{JobWords, check}
+use Rattle.eslip_rounds.specs.Schedulers.{Scheduler}
+use Rattle.named_schedulers.specs.Named.{decision_named}
+use Rattle.switch_words.specs.Reading.{JobWords, check, CheckWords}
 use Rattle.switch_run.specs.Causes.{Answers, AnswersUnlessOut, CheckIsExact, IsCheckable}
 use Rattle.switch_run.specs.Endings.{Command, IsMade, IsStopped, Stops}
 use Rattle.job_files.specs.ErrorLines.{line_of}
@@ -24,11 +26,13 @@ use Rattle.switch_run.proofs.Answering.{no_job, no_reads, same_job, stops_here}
 
 -- ---- the file has one answer
 
-answers_once : (name : List ℕ) (c : Contents) (a b : Result Verdict JournalFault) → HasAnswer name a c → HasAnswer name b c → a ≡ b
-answers_once name c a b p q = let there = p.1 in let other = q.1 in let same : p.0 ≡ q.0 = cc in sym p.3 ∙ ap answer_to same ∙ q.3
+answers_once : (scheduler : Scheduler) (name : List ℕ) (c : Contents) (a b : Result Verdict JournalFault) → HasAnswer scheduler name a c
+    → HasAnswer scheduler name b c → a ≡ b
+answers_once scheduler name c a b p q = let there = p.1 in let other = q.1 in let same : p.0 ≡ q.0 = cc in sym p.3 ∙ ap (answer_under scheduler) same ∙ q.3
 
-long_has_none : (name : List ℕ) (c : Contents) (a : Result Verdict JournalFault) → HasAnswer name a c → IsTooLong c name → ⊥
-long_has_none name c a p q = let there = p.1 in let other = q.1 in let same : p.0 ≡ q.0 = cc in let n = ap length same in omega (arith, n, p.2, q.2)
+long_has_none : (scheduler : Scheduler) (name : List ℕ) (c : Contents) (a : Result Verdict JournalFault) → HasAnswer scheduler name a c
+    → IsTooLong c name → ⊥
+long_has_none scheduler name c a p q = let there = p.1 in let other = q.1 in let same : p.0 ≡ q.0 = cc in let n = ap length same in omega (arith, n, p.2, q.2)
 
 yes_is_no_bad : (slots at : ℕ) (longest : List ℕ) → ◌≡◌ {A = Result Verdict JournalFault} (Ok (verdict.Yes slots longest)) (Err (journal_fault.Bad at)) → ⊥
 yes_is_no_bad slots at longest h = cc
@@ -48,17 +52,21 @@ no_once a b p q h = (cc, cc)
 
 -- ---- the command is a check
 
-module _ (c : Command) (file : List ℕ) (contents : Contents) (is : IsCheckable c file contents) where
-  same_file : (other : List ℕ) → check file ≡ check other → other ≡ file
-  same_file other same = cc
+module _ (c : Command) (words : CheckWords) (contents : Contents) (is : IsCheckable c words contents) where
+  abbrev by : Scheduler
+  by = decision_named words.scheduler
 
-  here : (ending : Ending) → (s : IsStopped c ending) → Stops (check file) (Some contents) c.was c.now s.told ending
-  here ending s = stops_here c (check file) contents ending is.words is.told s
+  same_words : (other : CheckWords) → check words ≡ check other → other ≡ words
+  same_words other same = cc
+
+  here : (ending : Ending) → (s : IsStopped c ending) → Stops (check words) (Some contents) c.was c.now s.told ending
+  here ending s = stops_here c (check words) contents ending is.words is.told s
 
   -- how the check of this file ended
-  means : (e : CheckEnding) → (s : IsStopped c (Checked e)) → MeansCheck file (Some contents) s.told c.was c.now e
+  means : (e : CheckEnding) → (s : IsStopped c (Checked e)) → MeansCheck by words.file (Some contents) s.told c.was c.now e
   means e s = let stops = here (Checked e) s in
-      subst (λ (name : List ℕ). MeansCheck name (Some contents) s.told c.was c.now e) (same_file stops.file stops.is_check) stops.means
+      subst (λ (w : CheckWords). MeansCheck (decision_named w.scheduler) w.file (Some contents) s.told c.was c.now e)
+      (same_words stops.words stops.is_check) stops.means
 
   -- memory ran out in the check
   out : (status : ℕ) → Answers c status (Checked check_ending.OutOfMemory) → Answers c status OutOfMemory
@@ -66,7 +74,7 @@ module _ (c : Command) (file : List ℕ) (contents : Contents) (is : IsCheckable
       let s = a.1 in
       let told : s.told ≡ c.old = means check_ending.OutOfMemory s ∙ sym is.told in
       let line = subst (λ (job : JobWords). GivesLine (line_of job (Checked check_ending.OutOfMemory)) s.told c.new _ _)
-      (same_job c (check file) s.job is.words s.words) s.line in
+      (same_job c (check words) s.job is.words s.words) s.line in
       (a.0, subst (λ (o : Option Contents). GivesLine _ o c.new _ _) told line)
 
   -- a check ends as one, or memory ran out
@@ -75,11 +83,11 @@ module _ (c : Command) (file : List ℕ) (contents : Contents) (is : IsCheckable
 
   ends : (status : ℕ) (ending : Ending) → Answers c status ending → EndsAs ending
   ends status Done a =
-      let made = subst (λ (job : JobWords). IsMade job c.old a.1.2.texts) (same_job c (check file) a.1.0 is.words a.1.1) a.1.2.made in
+      let made = subst (λ (job : JobWords). IsMade job c.old a.1.2.texts) (same_job c (check words) a.1.0 is.words a.1.1) a.1.2.made in
       absurd made.inputs
-  ends status Usage a = absurd (no_job c (check file) is.words a.1.0)
-  ends status (ReadFault input) a = let stops = here (ReadFault input) a.1 in absurd (no_reads (check file) file stops.0.words refl stops.0.reads)
-  ends status (TooLong input) a = let stops = here (TooLong input) a.1 in absurd (no_reads (check file) file stops.0.words refl stops.0.reads)
+  ends status Usage a = absurd (no_job c (check words) is.words a.1.0)
+  ends status (ReadFault input) a = let stops = here (ReadFault input) a.1 in absurd (no_reads (check words) words stops.0.words refl stops.0.reads)
+  ends status (TooLong input) a = let stops = here (TooLong input) a.1 in absurd (no_reads (check words) words stops.0.words refl stops.0.reads)
   ends status (Refused fault) a = let stops = here (Refused fault) a.1 in absurd stops.0.inputs
   ends status (JournalTooLong size) a = let stops = here (JournalTooLong size) a.1 in absurd stops.0.inputs
   ends status (PacketsTooLong size) a = let stops = here (PacketsTooLong size) a.1 in absurd stops.0.inputs
@@ -95,66 +103,71 @@ module _ (c : Command) (file : List ℕ) (contents : Contents) (is : IsCheckable
     | inr memory ↦ inr (subst (λ (n : Ending). Answers c status n) memory a)
   ]
 
-  too_long_end : (status : ℕ) → IsTooLong contents file → (e : CheckEnding) → Answers c status (Checked e)
+  too_long_end : (status : ℕ) → IsTooLong contents words.file → (e : CheckEnding) → Answers c status (Checked e)
       → AnswersUnlessOut c status (Checked check_ending.TooLong)
-  too_long_end status long check_ending.Yes a = let m = means check_ending.Yes a.1 in absurd (long_has_none file contents _ m.1.answer long)
-  too_long_end status long (check_ending.No slot reason) a = let m = means (check_ending.No slot reason) a.1 in absurd (long_has_none file contents _ m.0 long)
-  too_long_end status long (check_ending.Bad at) a = let m = means (check_ending.Bad at) a.1 in absurd (long_has_none file contents _ m.0 long)
+  too_long_end status long check_ending.Yes a = let m = means check_ending.Yes a.1 in absurd (long_has_none by words.file contents _ m.1.answer long)
+  too_long_end status long (check_ending.No slot reason) a = let m = means (check_ending.No slot reason) a.1 in
+      absurd (long_has_none by words.file contents _ m.0 long)
+  too_long_end status long (check_ending.Bad at) a = let m = means (check_ending.Bad at) a.1 in absurd (long_has_none by words.file contents _ m.0 long)
   too_long_end status long check_ending.TooLong a = inl a
   too_long_end status long check_ending.ReadFault a = let m = means check_ending.ReadFault a.1 in absurd (is.reads m.0)
   too_long_end status long check_ending.OutOfMemory a = inr (out status a)
-  too_long_end status long check_ending.OutFault a = let m = means check_ending.OutFault a.1 in absurd (long_has_none file contents _ m.2.answer long)
+  too_long_end status long check_ending.OutFault a = let m = means check_ending.OutFault a.1 in absurd (long_has_none by words.file contents _ m.2.answer long)
 
-  bad_end : (status at : ℕ) → HasAnswer file (Err (journal_fault.Bad at)) contents → (e : CheckEnding) → Answers c status (Checked e)
+  bad_end : (status at : ℕ) → HasAnswer by words.file (Err (journal_fault.Bad at)) contents → (e : CheckEnding) → Answers c status (Checked e)
       → AnswersUnlessOut c status (Checked (check_ending.Bad at))
-  bad_end status at has check_ending.Yes a = let m = means check_ending.Yes a.1 in absurd (yes_is_no_bad _ _ _ (answers_once file contents _ _ m.1.answer has))
+  bad_end status at has check_ending.Yes a = let m = means check_ending.Yes a.1 in
+      absurd (yes_is_no_bad _ _ _ (answers_once by words.file contents _ _ m.1.answer has))
   bad_end status at has (check_ending.No slot reason) a = let m = means (check_ending.No slot reason) a.1 in
-      absurd (no_is_no_bad _ _ _ (answers_once file contents _ _ m.0 has))
+      absurd (no_is_no_bad _ _ _ (answers_once by words.file contents _ _ m.0 has))
   bad_end status at has (check_ending.Bad found) a =
       let m = means (check_ending.Bad found) a.1 in
-      inl (subst (λ (n : ℕ). Answers c status (Checked (check_ending.Bad n))) (bad_once found at (answers_once file contents _ _ m.0 has)) a)
-  bad_end status at has check_ending.TooLong a = let m = means check_ending.TooLong a.1 in absurd (long_has_none file contents _ has m.0)
+      inl (subst (λ (n : ℕ). Answers c status (Checked (check_ending.Bad n))) (bad_once found at (answers_once by words.file contents _ _ m.0 has)) a)
+  bad_end status at has check_ending.TooLong a = let m = means check_ending.TooLong a.1 in absurd (long_has_none by words.file contents _ has m.0)
   bad_end status at has check_ending.ReadFault a = let m = means check_ending.ReadFault a.1 in absurd (is.reads m.0)
   bad_end status at has check_ending.OutOfMemory a = inr (out status a)
   bad_end status at has check_ending.OutFault a = let m = means check_ending.OutFault a.1 in
-      absurd (yes_is_no_bad _ _ _ (answers_once file contents _ _ m.2.answer has))
+      absurd (yes_is_no_bad _ _ _ (answers_once by words.file contents _ _ m.2.answer has))
 
-  no_end : (status slot : ℕ) (reason : Reason) → HasAnswer file (Ok (verdict.No slot reason)) contents → (e : CheckEnding) → Answers c status (Checked e)
+  no_end : (status slot : ℕ) (reason : Reason) → HasAnswer by words.file (Ok (verdict.No slot reason)) contents
+      → (e : CheckEnding) → Answers c status (Checked e)
       → AnswersUnlessOut c status (Checked (check_ending.No slot reason))
   no_end status slot reason has check_ending.Yes a = let m = means check_ending.Yes a.1 in
-      absurd (yes_is_no_no _ _ _ _ (answers_once file contents _ _ m.1.answer has))
+      absurd (yes_is_no_no _ _ _ _ (answers_once by words.file contents _ _ m.1.answer has))
   no_end status slot reason has (check_ending.No other why) a =
       let m = means (check_ending.No other why) a.1 in
-      let same = no_once other slot why reason (answers_once file contents _ _ m.0 has) in
+      let same = no_once other slot why reason (answers_once by words.file contents _ _ m.0 has) in
       inl (subst (λ (r : Reason). Answers c status (Checked (check_ending.No slot r))) same.1
       (subst (λ (n : ℕ). Answers c status (Checked (check_ending.No n why))) same.0 a))
   no_end status slot reason has (check_ending.Bad at) a = let m = means (check_ending.Bad at) a.1 in
-      absurd (no_is_no_bad _ _ _ (answers_once file contents _ _ has m.0))
-  no_end status slot reason has check_ending.TooLong a = let m = means check_ending.TooLong a.1 in absurd (long_has_none file contents _ has m.0)
+      absurd (no_is_no_bad _ _ _ (answers_once by words.file contents _ _ has m.0))
+  no_end status slot reason has check_ending.TooLong a = let m = means check_ending.TooLong a.1 in absurd (long_has_none by words.file contents _ has m.0)
   no_end status slot reason has check_ending.ReadFault a = let m = means check_ending.ReadFault a.1 in absurd (is.reads m.0)
   no_end status slot reason has check_ending.OutOfMemory a = inr (out status a)
   no_end status slot reason has check_ending.OutFault a = let m = means check_ending.OutFault a.1 in
-      absurd (yes_is_no_no _ _ _ _ (answers_once file contents _ _ m.2.answer has))
+      absurd (yes_is_no_no _ _ _ _ (answers_once by words.file contents _ _ m.2.answer has))
 
-  yes_end : (status slots : ℕ) (longest : List ℕ) → HasAnswer file (Ok (verdict.Yes slots longest)) contents → (Rose (c.was ToOut) (c.now ToOut) → ⊥)
+  yes_end : (status slots : ℕ) (longest : List ℕ) → HasAnswer by words.file (Ok (verdict.Yes slots longest)) contents → (Rose (c.was ToOut) (c.now ToOut) → ⊥)
       → (e : CheckEnding) → Answers c status (Checked e)
       → AnswersUnlessOut c status (Checked check_ending.Yes)
   yes_end status slots longest has free check_ending.Yes a = inl a
   yes_end status slots longest has free (check_ending.No slot reason) a = let m = means (check_ending.No slot reason) a.1 in
-      absurd (yes_is_no_no _ _ _ _ (answers_once file contents _ _ has m.0))
+      absurd (yes_is_no_no _ _ _ _ (answers_once by words.file contents _ _ has m.0))
   yes_end status slots longest has free (check_ending.Bad at) a = let m = means (check_ending.Bad at) a.1 in
-      absurd (yes_is_no_bad _ _ _ (answers_once file contents _ _ has m.0))
-  yes_end status slots longest has free check_ending.TooLong a = let m = means check_ending.TooLong a.1 in absurd (long_has_none file contents _ has m.0)
+      absurd (yes_is_no_bad _ _ _ (answers_once by words.file contents _ _ has m.0))
+  yes_end status slots longest has free check_ending.TooLong a = let m = means check_ending.TooLong a.1 in
+      absurd (long_has_none by words.file contents _ has m.0)
   yes_end status slots longest has free check_ending.ReadFault a = let m = means check_ending.ReadFault a.1 in absurd (is.reads m.0)
   yes_end status slots longest has free check_ending.OutOfMemory a = inr (out status a)
   yes_end status slots longest has free check_ending.OutFault a = let m = means check_ending.OutFault a.1 in absurd (free m.3)
 
 pub check_exact : (c : Command) (status : ℕ) (ending : Ending) → Answers c status ending → CheckIsExact c status
 check_exact c status ending a = record {
-  too_long = λ file contents is long. of_ends c file contents is status ending (Checked check_ending.TooLong) a (too_long_end c file contents is status long);
-  bad = λ file contents at is has. of_ends c file contents is status ending (Checked (check_ending.Bad at)) a (bad_end c file contents is status at has);
-  no = λ file contents slot reason is has. of_ends c file contents is status ending (Checked (check_ending.No slot reason)) a
-      (no_end c file contents is status slot reason has);
-  yes = λ file contents slots longest is has free. of_ends c file contents is status ending (Checked check_ending.Yes) a
-      (yes_end c file contents is status slots longest has free);
+  too_long = λ words contents is long. of_ends c words contents is status ending (Checked check_ending.TooLong) a
+      (too_long_end c words contents is status long);
+  bad = λ words contents at is has. of_ends c words contents is status ending (Checked (check_ending.Bad at)) a (bad_end c words contents is status at has);
+  no = λ words contents slot reason is has. of_ends c words contents is status ending (Checked (check_ending.No slot reason)) a
+      (no_end c words contents is status slot reason has);
+  yes = λ words contents slots longest is has free. of_ends c words contents is status ending (Checked check_ending.Yes) a
+      (yes_end c words contents is status slots longest has free);
 }

@@ -6,9 +6,10 @@ use Rattle.std.proofs.Math.ListN.{get_or-append}
 use Rattle.std.proofs.Math.Seq.{get_or-append_seam}
 use Rattle.outside.specs.Contents.{Contents}
 use Rattle.outside.specs.WholeFiles.{AtBegin, AtWrite, NamedBytes, StopsAt}
-use Rattle.switch_words.specs.Reading.{JobWords, run, gen, check, firm, RunWords}
-use Rattle.run_journals.specs.RunFiles.{journal_text}
-use Rattle.packet_times.specs.Rows.{packets_text}
+use Rattle.switch_words.specs.Reading.{JobWords, run, gen, check, firm, RunWords, CheckWords}
+use Rattle.named_schedulers.specs.Named.{decision_named}
+use Rattle.run_journals.specs.RunFiles.{journal_text_under}
+use Rattle.packet_times.specs.Rows.{packets_text_under}
 use Rattle.switch_run.specs.Causes.{Answers, AreWritable, IsComplete, IsWritable}
 use Rattle.switch_run.specs.Endings.{Command, IsMade, StopsWriting}
 use Rattle.job_files.specs.Jobs.{RunsSwitch}
@@ -126,26 +127,28 @@ no_write_fault c (run r) contents texts told Report runs free made s =
     goes_on c _ (report_name r.prefix) _ told (name_of_report r texts) (free.report r refl) s.stops
 no_write_fault c (run r) contents texts told Journal runs free made s =
     let is = made.outcome in
-    let wanted = was_wanted r.journal (journal_text is.plan is.slots) texts.journal (ap (λ (t : Texts). t.journal) is.are) s.0 in
+    let wanted = was_wanted r.journal (journal_text_under (decision_named r.scheduler) is.plan is.slots) texts.journal
+    (ap (λ (t : Texts). t.journal) is.are) s.0 in
     goes_on c _ (journal_name r.prefix) _ told (journal_at r texts texts.journal texts.packets s.0) (free.journal r refl wanted) s.1.stops
 no_write_fault c (run r) contents texts told Packets runs free made s =
     let is = made.outcome in
     let at = packets_at r texts texts.journal texts.packets s.within in
-    let wanted = was_wanted r.packets (packets_text is.plan is.slots) texts.packets (ap (λ (t : Texts). t.packets) is.are) at.0 in
+    let wanted = was_wanted r.packets (packets_text_under (decision_named r.scheduler) is.plan is.slots) texts.packets
+    (ap (λ (t : Texts). t.packets) is.are) at.0 in
     goes_on c _ (packets_name r.prefix) _ told at.1 (free.packets r refl wanted) s.stops
 no_write_fault c (gen g) contents texts told (Output port) runs free made s = omega (arith, s.1.within)
 no_write_fault c (gen g) contents texts told Report runs free made s = omega (arith, s.within)
 no_write_fault c (gen g) contents texts told Journal runs free made s = omega (arith, s.1.within)
 no_write_fault c (gen g) contents texts told Packets runs free made s = omega (arith, s.within)
-no_write_fault c (check file) contents texts told written runs free made s = runs
+no_write_fault c (check w) contents texts told written runs free made s = runs
 no_write_fault c (firm f) contents texts told (Output port) runs free made s = omega (arith, s.1.within)
 no_write_fault c (firm f) contents texts told Report runs free made s = omega (arith, s.within)
 no_write_fault c (firm f) contents texts told Journal runs free made s = omega (arith, s.1.within)
 no_write_fault c (firm f) contents texts told Packets runs free made s = omega (arith, s.within)
 no_write_fault c job contents texts told StandardOutput runs free made s = free.out s.rose
 
-check_runs_none : (job : JobWords) (file : List ℕ) → job ≡ check file → RunsSwitch job → ⊥
-check_runs_none job file is runs = subst RunsSwitch is runs
+check_runs_none : (job : JobWords) (words : CheckWords) → job ≡ check words → RunsSwitch job → ⊥
+check_runs_none job words is runs = subst RunsSwitch is runs
 
 pub complete : (c : Command) (status : ℕ) (ending : Ending) → Answers c status ending → IsComplete c status
 complete c status Done a job contents runs read written fit taken short small = inl a.0
@@ -169,4 +172,4 @@ complete c status (WriteFault what) a job contents runs read written fit taken s
     absurd (no_write_fault c job contents stops.texts a.1.told what runs written stops.made stops.stops)
 complete c status (Checked e) a job contents runs read written fit taken short small =
     let stops = stops_here c job contents (Checked e) read.words read.told a.1 in
-    absurd (check_runs_none job stops.file stops.is_check runs)
+    absurd (check_runs_none job stops.words stops.is_check runs)

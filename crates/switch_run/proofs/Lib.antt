@@ -8,5 +8,6 @@ pub mod Cutting
 pub mod RunTexts
 pub mod OnePlan
 pub mod Checking
-pub mod Noting
 pub mod OtherWorkers
+pub mod RunsMade
+pub mod Bounds

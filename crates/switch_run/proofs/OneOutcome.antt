@@ -1,6 +1,7 @@
 -- A job has one outcome: a cause why it is refused stands against texts, and what was read is one.
 use Rattle.std.proofs.Common.{◌≡◌, ℕ, List}
 use Rattle.forward_table.specs.declared.route_lines.RouteLine.{RouteLine}
+use Rattle.eslip_rounds.specs.Schedulers.{Scheduler}
 use Rattle.switch_words.specs.declared.job.Settings.{Settings}
 use Rattle.switch_words.specs.Reading.{JobWords, run, gen, check, firm}
 use Rattle.switch_plan.specs.declared.fault.PlanFault.{PlanFault}
@@ -27,19 +28,19 @@ not_planned : (settings : Settings) (text : List ℕ) (files : List (List ℕ)) 
 not_planned settings text files a plan p q = no_refusal settings.pace_us text files q.lines q.captures a q.read q.allowed p
 
 -- the journal of a job that is refused is not too long
-pub not_long : (settings : Settings) (text : List ℕ) (files : List (List ℕ)) (a : PlanFault) (size : ℕ) → IsRefusal settings.pace_us text files a
-    → IsLongJournal settings text files size → ⊥
-not_long settings text files a size p q = not_planned settings text files a q.plan p q.run.planned
+pub not_long : (scheduler : Scheduler) (settings : Settings) (text : List ℕ) (files : List (List ℕ)) (a : PlanFault) (size : ℕ)
+    → IsRefusal settings.pace_us text files a → IsLongJournal scheduler settings text files size → ⊥
+not_long scheduler settings text files a size p q = not_planned settings text files a q.plan p q.run.planned
 
 -- nor is its packets file
-pub not_long_packets : (settings : Settings) (text : List ℕ) (files : List (List ℕ)) (a : PlanFault) (size : ℕ) → IsRefusal settings.pace_us text files a
-    → IsLongPackets settings text files size → ⊥
-not_long_packets settings text files a size p q = not_planned settings text files a q.plan p q.run.planned
+pub not_long_packets : (scheduler : Scheduler) (settings : Settings) (text : List ℕ) (files : List (List ℕ)) (a : PlanFault) (size : ℕ)
+    → IsRefusal settings.pace_us text files a → IsLongPackets scheduler settings text files size → ⊥
+not_long_packets scheduler settings text files a size p q = not_planned settings text files a q.plan p q.run.planned
 
 -- a job that is refused makes no texts
 pub not_made : (job : JobWords) (text : List ℕ) (files : List (List ℕ)) (a : PlanFault) (texts : Texts) → IsRefusal (pace_in job) text files a
     → AreTexts job text files texts → ⊥
 not_made (run r) text files a texts p q = not_planned r.settings text files a q.plan p q.run.planned
 not_made (gen g) text files a texts p q = not_planned g.settings text files a q.plan p q.run.planned
-not_made (check file) text files a texts p q = q
+not_made (check c) text files a texts p q = q
 not_made (firm f) text files a texts p q = not_planned f.settings text files a q.plan p q.planned

@@ -16,21 +16,22 @@ use Rattle.switch_plan.specs.Traffic.{CaptureFile, unplaced}
 use Rattle.switch_plan.specs.Totals.{body_room_for, max_slots_of, packet_room_for, sizes_for}
 use Rattle.switch_plan.specs.GoodPlans.{SwitchPlan, IsCardOf, IsGood, IsPlanOf, packets_in}
 use Rattle.eslip_rounds.specs.Schedulers.{Scheduler}
-use Rattle.eslip_rounds.specs.Decisions.{decision_of}
+use Rattle.named_schedulers.specs.Named.{decision_named}
 use Rattle.firm_rounds.specs.Decisions.{firm_decision}
 use Rattle.slot_report.specs.declared.summary.Summary.{Summary}
 use Rattle.journal_check.specs.declared.limits.TheConstants.{MAX_JOURNAL_BYTES}
-use Rattle.switch_words.specs.Reading.{JobWords, run, gen, check, firm, RunWords}
+use Rattle.switch_words.specs.Reading.{JobWords, run, gen, check, firm}
 use Rattle.run_laws.specs.Runs.{no_plan, ports_of, posts_under}
-use Rattle.run_laws.specs.Ends.{IsLength, IsLengthUnder}
+use Rattle.run_laws.specs.Ends.{IsLengthUnder}
 use Rattle.switch_jobs.specs.Outcomes.{summary_under}
-use Rattle.run_journals.specs.RunFiles.{journal_text}
+use Rattle.run_journals.specs.RunFiles.{journal_text_under}
 use Rattle.packet_times.specs.declared.limits.TheConstants.{MAX_PACKETS_BYTES}
-use Rattle.packet_times.specs.Rows.{packets_text}
-use Rattle.firm_run.specs.FirmRuns.{IsFirmRun}
-use Rattle.job_files.specs.Jobs.{Wanted, wanted_by, nothing_wanted}
+use Rattle.packet_times.specs.Rows.{packets_text_under}
+use Rattle.one_thread.specs.FirmRuns.{IsFirmRun}
+use Rattle.run_notes.specs.declared.wanted.Wanted.{Wanted}
 use Rattle.job_files.specs.OutputFiles.{Texts}
-use Rattle.switch_run.specs.Switched.{AreTexts, IsLongJournal, IsLongPackets, IsPlanned, IsRunOf, IsSwitched, IsSwitchedByFirm, firm_texts, texts_of}
+use Rattle.switch_run.specs.Switched.{AreTexts, IsLongJournal, IsLongPackets, IsPlanned, IsRunOf, IsSwitched, IsSwitchedByFirm, firm_texts}
+use Rattle.switch_run.specs.Switched.{nothing_wanted, texts_under, wanted_by}
 use Rattle.switch_run.proofs.OneOutcome.{same_captures, same_table}
 
 -- ---- the length of a run
@@ -205,18 +206,18 @@ same_plan settings table files p q a b =
     plans_once settings files a.lines a.captures p q a.planned
     (subst (λ (read : List RouteLine). IsPlanOf settings files read a.captures q) (sym lines) planned) a.good b.good
 
--- the run of a job is one
-same_run : (settings : Settings) (table : List ℕ) (files : List (List ℕ)) (p q : SwitchPlan) (s t : ℕ) → IsRunOf settings table files p s
-    → IsRunOf settings table files q t → (p ≡ q) × (s ≡ t)
-same_run settings table files p q s t a b =
+-- the run of a job under a scheduler is one
+same_run : (scheduler : Scheduler) (settings : Settings) (table : List ℕ) (files : List (List ℕ)) (p q : SwitchPlan) (s t : ℕ)
+    → IsRunOf scheduler settings table files p s → IsRunOf scheduler settings table files q t → (p ≡ q) × (s ≡ t)
+same_run scheduler settings table files p q s t a b =
     let plan = same_plan settings table files p q a.planned b.planned in
-    (plan, lengths_once decision_of q s t (subst (λ (plan : SwitchPlan). IsLength plan s) plan a.ends) b.ends)
+    (plan, lengths_once scheduler q s t (subst (λ (plan : SwitchPlan). IsLengthUnder scheduler plan s) plan a.ends) b.ends)
 
-switched_once : (settings : Settings) (wanted : Wanted) (table : List ℕ) (files : List (List ℕ)) (a b : Texts) → IsSwitched settings wanted table files a
-    → IsSwitched settings wanted table files b → a ≡ b
-switched_once settings wanted table files a b p q =
-    let same = same_run settings table files p.plan q.plan p.slots q.slots p.run q.run in
-    p.are ∙ ap (λ (plan : SwitchPlan). texts_of wanted plan p.slots) same.0 ∙ ap (texts_of wanted q.plan) same.1 ∙ sym q.are
+switched_once : (scheduler : Scheduler) (settings : Settings) (wanted : Wanted) (table : List ℕ) (files : List (List ℕ)) (a b : Texts)
+    → IsSwitched scheduler settings wanted table files a → IsSwitched scheduler settings wanted table files b → a ≡ b
+switched_once scheduler settings wanted table files a b p q =
+    let same = same_run scheduler settings table files p.plan q.plan p.slots q.slots p.run q.run in
+    p.are ∙ ap (λ (plan : SwitchPlan). texts_under scheduler wanted plan p.slots) same.0 ∙ ap (texts_under scheduler wanted q.plan) same.1 ∙ sym q.are
 
 -- the numbers of a run under the second scheduler are one
 firm_runs_once : (plan : SwitchPlan) (a b : Summary) → IsFirmRun plan a → IsFirmRun plan b → a ≡ b
@@ -231,51 +232,50 @@ firm_once settings table files a b p q =
 
 -- a job makes one list of texts
 pub texts_once : (job : JobWords) (table : List ℕ) (files : List (List ℕ)) (a b : Texts) → AreTexts job table files a → AreTexts job table files b → a ≡ b
-texts_once (run r) table files a b p q = switched_once r.settings (wanted_by r) table files a b p q
-texts_once (gen g) table files a b p q = switched_once g.settings nothing_wanted table files a b p q
-texts_once (check file) table files a b p q = absurd p
+texts_once (run r) table files a b p q = switched_once (decision_named r.scheduler) r.settings (wanted_by r) table files a b p q
+texts_once (gen g) table files a b p q = switched_once (decision_named g.scheduler) g.settings nothing_wanted table files a b p q
+texts_once (check c) table files a b p q = absurd p
 texts_once (firm f) table files a b p q = firm_once f.settings table files a b p q
 
--- a journal that is too long is that of the job's run
-pub journal_of_run : (settings : Settings) (table : List ℕ) (files : List (List ℕ)) (plan : SwitchPlan) (slots size : ℕ)
-    → IsRunOf settings table files plan slots
-    → IsLongJournal settings table files size → size ≡ length (journal_text plan slots)
-journal_of_run settings table files plan slots size ran long =
-    let same = same_run settings table files long.plan plan long.slots slots long.run ran in
-    long.size_is ∙ ap (λ (p : SwitchPlan). length (journal_text p long.slots)) same.0 ∙ ap (λ (t : ℕ). length (journal_text plan t)) same.1
+module _ (scheduler : Scheduler) (settings : Settings) (table : List ℕ) (files : List (List ℕ)) where
+  -- a journal that is too long is that of the job's run
+  pub journal_of_run : (plan : SwitchPlan) (slots size : ℕ) → IsRunOf scheduler settings table files plan slots
+      → IsLongJournal scheduler settings table files size → size ≡ length (journal_text_under scheduler plan slots)
+  journal_of_run plan slots size ran long =
+      let same = same_run scheduler settings table files long.plan plan long.slots slots long.run ran in
+      long.size_is ∙ ap (λ (p : SwitchPlan). length (journal_text_under scheduler p long.slots)) same.0
+      ∙ ap (λ (t : ℕ). length (journal_text_under scheduler plan t)) same.1
 
--- and so is a packets file
-packets_of_run : (settings : Settings) (table : List ℕ) (files : List (List ℕ)) (plan : SwitchPlan) (slots size : ℕ) → IsRunOf settings table files plan slots
-    → IsLongPackets settings table files size → size ≡ length (packets_text plan slots)
-packets_of_run settings table files plan slots size ran long =
-    let same = same_run settings table files long.plan plan long.slots slots long.run ran in
-    long.size_is ∙ ap (λ (p : SwitchPlan). length (packets_text p long.slots)) same.0 ∙ ap (λ (t : ℕ). length (packets_text plan t)) same.1
+  -- and so is a packets file
+  packets_of_run : (plan : SwitchPlan) (slots size : ℕ) → IsRunOf scheduler settings table files plan slots
+      → IsLongPackets scheduler settings table files size → size ≡ length (packets_text_under scheduler plan slots)
+  packets_of_run plan slots size ran long =
+      let same = same_run scheduler settings table files long.plan plan long.slots slots long.run ran in
+      long.size_is ∙ ap (λ (p : SwitchPlan). length (packets_text_under scheduler p long.slots)) same.0
+      ∙ ap (λ (t : ℕ). length (packets_text_under scheduler plan t)) same.1
 
--- so each of them has one size
-pub long_once : (settings : Settings) (table : List ℕ) (files : List (List ℕ)) (a b : ℕ) → IsLongJournal settings table files a
-    → IsLongJournal settings table files b → a ≡ b
-long_once settings table files a b p q = journal_of_run settings table files q.plan q.slots a q.run p ∙ sym q.size_is
+  -- so each of them has one size
+  pub long_once : (a b : ℕ) → IsLongJournal scheduler settings table files a → IsLongJournal scheduler settings table files b → a ≡ b
+  long_once a b p q = journal_of_run q.plan q.slots a q.run p ∙ sym q.size_is
 
-pub long_packets_once : (settings : Settings) (table : List ℕ) (files : List (List ℕ)) (a b : ℕ) → IsLongPackets settings table files a
-    → IsLongPackets settings table files b → a ≡ b
-long_packets_once settings table files a b p q = packets_of_run settings table files q.plan q.slots a q.run p ∙ sym q.size_is
+  pub long_packets_once : (a b : ℕ) → IsLongPackets scheduler settings table files a → IsLongPackets scheduler settings table files b → a ≡ b
+  long_packets_once a b p q = packets_of_run q.plan q.slots a q.run p ∙ sym q.size_is
 
--- and where texts were made of it, it was not wanted
-pub long_not_made : (r : RunWords) (table : List ℕ) (files : List (List ℕ)) (texts : Texts) (size : ℕ) → r.journal ≡ true
-    → IsSwitched r.settings (wanted_by r) table files texts → IsLongJournal r.settings table files size → ⊥
-long_not_made r table files texts size wanted p q =
-    let size_is = journal_of_run r.settings table files p.plan p.slots size p.run q in
-    let there : texts.journal ≡ Some (journal_text p.plan p.slots) = ap (λ (t : Texts). t.journal) p.are
-    ∙ ap (λ (b : Bool). if b then Some (journal_text p.plan p.slots) else None) wanted in
-    let small = subst (λ (o : Option (List ℕ)). IfSome o (λ bytes. length bytes ≤ MAX_JOURNAL_BYTES)) there p.small in
-    omega (arith, small, size_is, q.longer)
+  -- and where texts were made of it, it was not wanted
+  pub long_not_made : (wanted : Wanted) (texts : Texts) (size : ℕ) → wanted.journal ≡ true
+      → IsSwitched scheduler settings wanted table files texts → IsLongJournal scheduler settings table files size → ⊥
+  long_not_made wanted texts size is_wanted p q =
+      let size_is = journal_of_run p.plan p.slots size p.run q in
+      let there : texts.journal ≡ Some (journal_text_under scheduler p.plan p.slots) = ap (λ (t : Texts). t.journal) p.are
+      ∙ ap (λ (b : Bool). if b then Some (journal_text_under scheduler p.plan p.slots) else None) is_wanted in
+      let small = subst (λ (o : Option (List ℕ)). IfSome o (λ bytes. length bytes ≤ MAX_JOURNAL_BYTES)) there p.small in
+      omega (arith, small, size_is, q.longer)
 
-pub long_packets_not_made : (r : RunWords) (table : List ℕ) (files : List (List ℕ)) (texts : Texts) (size : ℕ) → r.packets ≡ true
-    → IsSwitched r.settings (wanted_by r) table files texts
-    → IsLongPackets r.settings table files size → ⊥
-long_packets_not_made r table files texts size wanted p q =
-    let size_is = packets_of_run r.settings table files p.plan p.slots size p.run q in
-    let there : texts.packets ≡ Some (packets_text p.plan p.slots) = ap (λ (t : Texts). t.packets) p.are
-    ∙ ap (λ (b : Bool). if b then Some (packets_text p.plan p.slots) else None) wanted in
-    let small = subst (λ (o : Option (List ℕ)). IfSome o (λ bytes. length bytes ≤ MAX_PACKETS_BYTES)) there p.packets_small in
-    omega (arith, small, size_is, q.longer)
+  pub long_packets_not_made : (wanted : Wanted) (texts : Texts) (size : ℕ) → wanted.packets ≡ true
+      → IsSwitched scheduler settings wanted table files texts → IsLongPackets scheduler settings table files size → ⊥
+  long_packets_not_made wanted texts size is_wanted p q =
+      let size_is = packets_of_run p.plan p.slots size p.run q in
+      let there : texts.packets ≡ Some (packets_text_under scheduler p.plan p.slots) = ap (λ (t : Texts). t.packets) p.are
+      ∙ ap (λ (b : Bool). if b then Some (packets_text_under scheduler p.plan p.slots) else None) is_wanted in
+      let small = subst (λ (o : Option (List ℕ)). IfSome o (λ bytes. length bytes ≤ MAX_PACKETS_BYTES)) there p.packets_small in
+      omega (arith, small, size_is, q.longer)

@@ -2,16 +2,16 @@
 -- by slot.
 use Rattle.std.proofs.Common.{◌≡◌, ◌∙◌, ℕ, zero, suc, true, false, List, [], ◌∷◌, ◌++◌, map, length, None, Some, refl, ap, subst}
 use Rattle.std.proofs.Math.Path.{fun_ext}
-use Rattle.std.specs.Prelude.{◌&&◌, if◌then◌else◌, Option, Result, Ok, Err, count_by, filter, slice_get, take}
+use Rattle.std.specs.Prelude.{◌&&◌, ◌↔◌, Bool, if◌then◌else◌, Option, Result, Ok, Err, count_by, filter, slice_get, take}
 use Rattle.std.specs.List.{enumerate_from, flat_map, range_with_len}
 use Rattle.std.specs.Option.{option_to_list}
 use Rattle.rotating_pick.specs.declared.limits.TheConstants.{LEVELS}
 use Rattle.pcap_records.specs.Output.{capture_text}
 use Rattle.eslip_rounds.specs.Schedulers.{Scheduler}
-use Rattle.eslip_rounds.specs.Decisions.{decision_of}
+use Rattle.named_schedulers.specs.Named.{decision_named}
 use Rattle.firm_rounds.specs.Decisions.{firm_decision}
-use Rattle.slot_histories.specs.Slots.{crossed_under, is_done_at, is_done_before}
-use Rattle.slot_histories.specs.Answers.{journal_slot}
+use Rattle.slot_histories.specs.Slots.{crossed_under, decision_under, is_done_at, is_done_before, slot_posts}
+use Rattle.slot_histories.specs.Answers.{JournalSlot}
 use Rattle.slot_board.specs.Schedules.{decided_under}
 use Rattle.service_bound.specs.Waits.{longest_wait, noted_of}
 use Rattle.card_core.specs.declared.plan.Planned.{Planned}
@@ -32,20 +32,22 @@ use Rattle.switch_words.specs.Limits.{IsUpTo}
 use Rattle.switch_words.specs.Reading.{JobWords, run, gen, check, firm}
 use Rattle.switch_plan.specs.declared.fault.PlanFault.{PlanFault}
 use Rattle.switch_plan.specs.GoodPlans.{SwitchPlan, IsGood}
-use Rattle.run_laws.specs.Runs.{after_slot, before_under, card_at, decision_in, parts_under, ports_of, posts_under, run_journal, setup_for}
+use Rattle.run_laws.specs.Runs.{after_slot, before_under, card_at, decision_in, parts_under, journal_under, ports_of, posts_under, setup_for}
 use Rattle.run_laws.specs.Ends.{IsLengthUnder}
 use Rattle.run_laws.specs.Crossings.{cells_under, queue_to}
 use Rattle.run_laws.specs.Sums.{IsAdmittedUnder, IsBestUnder}
 use Rattle.switch_jobs.specs.Outcomes.{over_ports, summary_under}
-use Rattle.run_journals.specs.RunFiles.{journal_text}
-use Rattle.reference_run.specs.RunLines.{run_lines}
+use Rattle.run_journals.specs.RunFiles.{journal_text_under}
+use Rattle.reference_run.specs.RunLines.{run_lines_under}
 use Rattle.queue_lengths.specs.Lengths.{deepest_of, greatest}
-use Rattle.queue_measures.specs.Lines.{deepest_line, input_lines, queue_lines, queue_lines_under}
+use Rattle.queue_measures.specs.Lines.{deepest_line, input_lines, queue_lines_under}
 use Rattle.packet_departures.specs.Departures.{flow_of, is_end_of}
-use Rattle.packet_times.specs.Rows.{aside_row, departure_if, header, outputs_in, packets_text, packets_text_under, routed_row, row_text, state_of}
-use Rattle.job_files.specs.Jobs.{Wanted, nothing_wanted, settings_with, wanted_by, with_workers}
+use Rattle.packet_times.specs.Rows.{aside_row, departure_if, header, outputs_in, packets_text_under, routed_row, row_text, state_of}
+use Rattle.run_notes.specs.declared.wanted.Wanted.{Wanted}
+use Rattle.job_files.specs.Jobs.{settings_with, with_alone, with_workers}
 use Rattle.job_files.specs.OutputFiles.{Texts}
-use Rattle.switch_run.specs.Switched.{IsJobOutcome, IsLongJournal, IsLongPackets, IsPlanned, IsRunOf, IsSwitched, IsSwitchedByFirm, texts_of}
+use Rattle.switch_run.specs.Switched.{IsJobOutcome, IsLongJournal, IsLongPackets, IsPlanned, IsRunOf, IsSwitched, IsSwitchedByFirm}
+use Rattle.switch_run.specs.Switched.{nothing_wanted, texts_under, wanted_by}
 
 -- the same plan but for the number of workers
 abbrev plan_with : ℕ → SwitchPlan → SwitchPlan
@@ -107,29 +109,37 @@ module _ (scheduler : Scheduler) (workers : ℕ) (plan : SwitchPlan) where
 
 -- ---- its texts are the same
 
-module _ (workers : ℕ) (plan : SwitchPlan) (slots : ℕ) where
-  same_journal : run_journal plan slots ≡ run_journal (plan_with workers plan) slots
-  same_journal = ap (λ posts. map (journal_slot (setup_for plan) posts) (range_with_len 0 slots)) (same_posts decision_of workers plan)
+module _ (scheduler : Scheduler) (workers : ℕ) (plan : SwitchPlan) (slots : ℕ) where
+  -- slot t of a run with these posts
+  abbrev slot_with : (ℕ → ℕ → Post) → ℕ → JournalSlot
+  slot_with posts t = record {
+    posts = slot_posts (ports_of plan) posts t;
+    matched = (decision_under scheduler (setup_for plan) posts t).matched;
+    numbers = (decision_under scheduler (setup_for plan) posts t).numbers;
+  }
 
-  same_journal_text : journal_text plan slots ≡ journal_text (plan_with workers plan) slots
+  same_journal : journal_under scheduler plan slots ≡ journal_under scheduler (plan_with workers plan) slots
+  same_journal = ap (λ posts. map (slot_with posts) (range_with_len 0 slots)) (same_posts scheduler workers plan)
+
+  same_journal_text : journal_text_under scheduler plan slots ≡ journal_text_under scheduler (plan_with workers plan) slots
   same_journal_text = ap (λ journal. file_text (record { ports = ports_of plan; rounds = plan.rounds; slots = map file_slot journal })) same_journal
 
-  same_lines : run_lines plan slots ≡ run_lines (plan_with workers plan) slots
-  unfolding run_lines
+  same_lines : run_lines_under scheduler plan slots ≡ run_lines_under scheduler (plan_with workers plan) slots
+  unfolding run_lines_under
   same_lines = ap (λ journal. reference_lines (lines_of plan.cards (map (λ slot. slot.matched) journal))) same_journal
 
-  same_queue_lines : queue_lines plan slots ≡ queue_lines (plan_with workers plan) slots
+  same_queue_lines : queue_lines_under scheduler plan slots ≡ queue_lines_under scheduler (plan_with workers plan) slots
   unfolding queue_lines_under
   same_queue_lines =
       ap (λ parts. flat_map (λ i. input_lines i (card_at plan i) (parts i slots) slots) (range_with_len 0 (ports_of plan))
       ++ deepest_line (greatest (λ i. deepest_of (card_at plan i) (parts i slots) slots) (ports_of plan)) ∷ [])
-      (same_parts decision_of workers plan)
+      (same_parts scheduler workers plan)
 
   -- when packet k of input i leaves by output j, of a run with these parts and posts
   abbrev departure_with : (ℕ → ℕ → List (Option Served)) → (ℕ → ℕ → Post) → ℕ → ℕ → ℕ → Planned → Option ℕ
   departure_with parts posts i j k packet =
       let flow = flow_of i j packet in
-      slice_get (filter (λ t. is_end_of flow (crossed_under decision_of (setup_for plan) posts j t)) (range_with_len 0 slots))
+      slice_get (filter (λ t. is_end_of flow (crossed_under scheduler (setup_for plan) posts j t)) (range_with_len 0 slots))
       (count_by (λ other. enters (card_at plan i) (queue_to j flow.level flow.kind) (parts i slots) other && has other.fan j) (take k (card_at plan i).packets))
 
   -- and the rows of packet k of input i
@@ -140,16 +150,16 @@ module _ (workers : ℕ) (plan : SwitchPlan) (slots : ℕ) where
       (outputs_in (ports_of plan) packet.fan)
       else aside_row i k packet state ∷ []
 
-  same_packets_text : packets_text plan slots ≡ packets_text (plan_with workers plan) slots
+  same_packets_text : packets_text_under scheduler plan slots ≡ packets_text_under scheduler (plan_with workers plan) slots
   unfolding packets_text_under
   same_packets_text = λ p. header
-      ++ flat_map row_text (flat_map (λ i. flat_map (λ k. rows_with (same_parts decision_of workers plan p) (same_posts decision_of workers plan p) i k.0 k.1)
+      ++ flat_map row_text (flat_map (λ i. flat_map (λ k. rows_with (same_parts scheduler workers plan p) (same_posts scheduler workers plan p) i k.0 k.1)
       (enumerate_from 0 (card_at plan i).packets)) (range_with_len 0 (ports_of plan)))
 
-  same_texts : (wanted : Wanted) → texts_of wanted plan slots ≡ texts_of wanted (plan_with workers plan) slots
+  same_texts : (wanted : Wanted) → texts_under scheduler wanted plan slots ≡ texts_under scheduler wanted (plan_with workers plan) slots
   same_texts wanted =
-      let cells = same_cells decision_of workers plan in
-      let summary = same_summary decision_of workers plan slots in
+      let cells = same_cells scheduler workers plan in
+      let summary = same_summary scheduler workers plan slots in
       λ p. record {
         outputs = map (λ j. capture_text plan.nano plan.link (delivered (cells p j slots))) (range_with_len 0 (ports_of plan));
         report =
@@ -209,17 +219,17 @@ module _ (workers : ℕ) (few : IsUpTo MAX_WORKERS workers) where
       };
     }
 
-    still_run : (plan : SwitchPlan) (slots : ℕ) → IsRunOf settings table files plan slots
-        → IsRunOf (settings_with workers settings) table files (plan_with workers plan) slots
-    still_run plan slots r = record { planned = still_planned plan r.planned; ends = same_length decision_of workers plan slots r.ends }
+    still_run : (scheduler : Scheduler) (plan : SwitchPlan) (slots : ℕ) → IsRunOf scheduler settings table files plan slots
+        → IsRunOf scheduler (settings_with workers settings) table files (plan_with workers plan) slots
+    still_run scheduler plan slots r = record { planned = still_planned plan r.planned; ends = same_length scheduler workers plan slots r.ends }
 
-    same_switched : (wanted : Wanted) (texts : Texts) → IsSwitched settings wanted table files texts
-        → IsSwitched (settings_with workers settings) wanted table files texts
-    same_switched wanted texts p = record {
+    same_switched : (scheduler : Scheduler) (wanted : Wanted) (texts : Texts) → IsSwitched scheduler settings wanted table files texts
+        → IsSwitched scheduler (settings_with workers settings) wanted table files texts
+    same_switched scheduler wanted texts p = record {
       plan = plan_with workers p.plan;
       slots = p.slots;
-      run = still_run p.plan p.slots p.run;
-      are = p.are ∙ same_texts workers p.plan p.slots wanted;
+      run = still_run scheduler p.plan p.slots p.run;
+      are = p.are ∙ same_texts scheduler workers p.plan p.slots wanted;
       small = p.small;
       packets_small = p.packets_small;
     }
@@ -242,31 +252,44 @@ module _ (workers : ℕ) (few : IsUpTo MAX_WORKERS workers) where
 
 pub same_outcome : (job : JobWords) (workers : ℕ) (table : List ℕ) (files : List (List ℕ)) (outcome : Result Texts PlanFault) → IsUpTo MAX_WORKERS workers
     → IsJobOutcome job table files outcome → IsJobOutcome (with_workers workers job) table files outcome
-same_outcome (run r) workers table files (Ok texts) few is = same_switched workers few r.settings table files (wanted_by r) texts is
+same_outcome (run r) workers table files (Ok texts) few is = same_switched workers few r.settings table files
+    (decision_named r.scheduler) (wanted_by r) texts is
 same_outcome (run r) workers table files (Err fault) few is = is
-same_outcome (gen g) workers table files (Ok texts) few is = same_switched workers few g.settings table files nothing_wanted texts is
+same_outcome (gen g) workers table files (Ok texts) few is = same_switched workers few g.settings table files
+    (decision_named g.scheduler) nothing_wanted texts is
 same_outcome (gen g) workers table files (Err fault) few is = is
 same_outcome (firm f) workers table files (Ok texts) few is = same_by_firm workers few f.settings table files texts is
 same_outcome (firm f) workers table files (Err fault) few is = is
-same_outcome (check file) workers table files outcome few is = is
+same_outcome (check c) workers table files outcome few is = is
 
-pub same_long_journal : (settings : Settings) (workers : ℕ) (table : List ℕ) (files : List (List ℕ)) (size : ℕ) → IsUpTo MAX_WORKERS workers
-    → IsLongJournal settings table files size → IsLongJournal (settings_with workers settings) table files size
-same_long_journal settings workers table files size few p = record {
+pub same_long_journal : (scheduler : Scheduler) (settings : Settings) (workers : ℕ) (table : List ℕ) (files : List (List ℕ)) (size : ℕ)
+    → IsUpTo MAX_WORKERS workers → IsLongJournal scheduler settings table files size
+    → IsLongJournal scheduler (settings_with workers settings) table files size
+same_long_journal scheduler settings workers table files size few p = record {
   plan = plan_with workers p.plan;
   slots = p.slots;
-  run = still_run workers few settings table files p.plan p.slots p.run;
-  size_is = p.size_is ∙ ap length (same_journal_text workers p.plan p.slots);
+  run = still_run workers few settings table files scheduler p.plan p.slots p.run;
+  size_is = p.size_is ∙ ap length (same_journal_text scheduler workers p.plan p.slots);
   longer = p.longer;
 }
 
-pub same_long_packets : (settings : Settings) (workers : ℕ) (table : List ℕ) (files : List (List ℕ)) (size : ℕ) → IsUpTo MAX_WORKERS workers
-    → IsLongPackets settings table files size
-    → IsLongPackets (settings_with workers settings) table files size
-same_long_packets settings workers table files size few p = record {
+pub same_long_packets : (scheduler : Scheduler) (settings : Settings) (workers : ℕ) (table : List ℕ) (files : List (List ℕ)) (size : ℕ)
+    → IsUpTo MAX_WORKERS workers → IsLongPackets scheduler settings table files size
+    → IsLongPackets scheduler (settings_with workers settings) table files size
+same_long_packets scheduler settings workers table files size few p = record {
   plan = plan_with workers p.plan;
   slots = p.slots;
-  run = still_run workers few settings table files p.plan p.slots p.run;
-  size_is = p.size_is ∙ ap length (same_packets_text workers p.plan p.slots);
+  run = still_run workers few settings table files scheduler p.plan p.slots p.run;
+  size_is = p.size_is ∙ ap length (same_packets_text scheduler workers p.plan p.slots);
   longer = p.longer;
 }
+
+-- ---- nor does it differ without the board
+
+pub same_alone : (job : JobWords) (alone : Bool) (table : List ℕ) (files : List (List ℕ)) (outcome : Result Texts PlanFault)
+    → IsJobOutcome job table files outcome ↔ IsJobOutcome (with_alone alone job) table files outcome
+same_alone (run r) alone table files (Ok texts) = (λ is. is, λ is. is)
+same_alone (run r) alone table files (Err fault) = (λ is. is, λ is. is)
+same_alone (gen g) alone table files outcome = (λ is. is, λ is. is)
+same_alone (check c) alone table files outcome = (λ is. is, λ is. is)
+same_alone (firm f) alone table files outcome = (λ is. is, λ is. is)

@@ -1,7 +1,8 @@
 -- When the answers come that refuse a job: for its inputs, its journal and its packets file.
 use Rattle.std.proofs.Common.{◌≡◌, ℕ, true, List, Some, inl, inr, sym, ◌∙◌, ap, subst}
 use Rattle.outside.specs.Contents.{Contents}
-use Rattle.switch_words.specs.Reading.{JobWords, run, check, RunWords}
+use Rattle.switch_words.specs.Reading.{JobWords, run, check, RunWords, CheckWords}
+use Rattle.named_schedulers.specs.Named.{decision_named}
 use Rattle.switch_plan.specs.declared.fault.PlanFault.{PlanFault}
 use Rattle.switch_plan.specs.Refusals.{IsRefusal}
 use Rattle.switch_run.specs.Causes.{Answers, JournalTooLongIsExact, PacketsTooLongIsExact, RefusalIsExact}
@@ -9,7 +10,7 @@ use Rattle.switch_run.specs.Endings.{Command, IsFirstTooLong, IsJournalTooLong, 
 use Rattle.job_files.specs.Inputs.{AreInputs}
 use Rattle.job_files.specs.Jobs.{pace_in}
 use Rattle.job_files.specs.OutputFiles.{Texts}
-use Rattle.switch_run.specs.Switched.{AreTexts, IsLongJournal, IsLongPackets, JournalFits}
+use Rattle.switch_run.specs.Switched.{AreTexts, IsLongJournal, IsLongPackets, JournalFits, wanted_by}
 use Rattle.job_files.specs.declared.ending.Ending.{Ending}
 use Rattle.job_files.specs.declared.ending.Ending.TheVariants.{Done, Usage, ReadFault, TooLong, Refused, JournalTooLong, PacketsTooLong, OutOfMemory}
 use Rattle.job_files.specs.declared.ending.Ending.TheVariants.{WriteFault, Checked}
@@ -49,7 +50,7 @@ record IsLongIn (r : RunWords) (contents : Contents) (size : ℕ) : Type 0 where
   pub table : List ℕ
   pub captures : List (List ℕ)
   pub inputs : AreInputs (run r) (Some contents) table captures
-  pub longer : IsLongJournal r.settings table captures size
+  pub longer : IsLongJournal (decision_named r.scheduler) r.settings table captures size
 
 long_in : (job : JobWords) (contents : Contents) (size : ℕ) → (j : IsJournalTooLong job (Some contents) size) → IsLongIn j.words contents size
 long_in job contents size j =
@@ -72,10 +73,10 @@ wanted_long r contents size j = (long_of_run r contents size j, ap (λ (w : RunW
 
 refused_is_not_long : (r : RunWords) (c : Contents) (t u : List ℕ) (xs ys : List (List ℕ)) (fault : PlanFault) (size : ℕ) → AreInputs (run r) (Some c) t xs
     → AreInputs (run r) (Some c) u ys
-    → IsRefusal r.settings.pace_us t xs fault → IsLongJournal r.settings u ys size → ⊥
+    → IsRefusal r.settings.pace_us t xs fault → IsLongJournal (decision_named r.scheduler) r.settings u ys size → ⊥
 refused_is_not_long r c t u xs ys fault size a b refused long =
     let same = same_inputs (run r) c t u xs ys a b in
-    not_long r.settings u ys fault size
+    not_long (decision_named r.scheduler) r.settings u ys fault size
     (subst (λ (bytes : List ℕ). IsRefusal r.settings.pace_us bytes ys fault) same.0
     (subst (λ (files : List (List ℕ)). IsRefusal r.settings.pace_us t files fault) same.1 refused)) long
 
@@ -93,7 +94,7 @@ record IsLongPacketsIn (r : RunWords) (contents : Contents) (size : ℕ) : Type 
   pub table : List ℕ
   pub captures : List (List ℕ)
   pub inputs : AreInputs (run r) (Some contents) table captures
-  pub longer : IsLongPackets r.settings table captures size
+  pub longer : IsLongPackets (decision_named r.scheduler) r.settings table captures size
   pub journal_fits : JournalFits r table captures
 
 packets_in : (job : JobWords) (contents : Contents) (size : ℕ) → (p : IsPacketsTooLong job (Some contents) size) → IsLongPacketsIn p.words contents size
@@ -112,25 +113,25 @@ packets_of_run r contents size p =
 -- what is too long of the same files
 packets_elsewhere : (r : RunWords) (c : Contents) (t u : List ℕ) (xs ys : List (List ℕ)) (size : ℕ) → AreInputs (run r) (Some c) t xs
     → AreInputs (run r) (Some c) u ys
-    → IsLongPackets r.settings t xs size → IsLongPackets r.settings u ys size
+    → IsLongPackets (decision_named r.scheduler) r.settings t xs size → IsLongPackets (decision_named r.scheduler) r.settings u ys size
 packets_elsewhere r c t u xs ys size a b long =
     let same = same_inputs (run r) c t u xs ys a b in
-    subst (λ (bytes : List ℕ). IsLongPackets r.settings bytes ys size) same.0
-    (subst (λ (files : List (List ℕ)). IsLongPackets r.settings t files size) same.1 long)
+    subst (λ (bytes : List ℕ). IsLongPackets (decision_named r.scheduler) r.settings bytes ys size) same.0
+    (subst (λ (files : List (List ℕ)). IsLongPackets (decision_named r.scheduler) r.settings t files size) same.1 long)
 
 long_elsewhere : (r : RunWords) (c : Contents) (t u : List ℕ) (xs ys : List (List ℕ)) (size : ℕ) → AreInputs (run r) (Some c) t xs
     → AreInputs (run r) (Some c) u ys
-    → IsLongJournal r.settings t xs size → IsLongJournal r.settings u ys size
+    → IsLongJournal (decision_named r.scheduler) r.settings t xs size → IsLongJournal (decision_named r.scheduler) r.settings u ys size
 long_elsewhere r c t u xs ys size a b long =
     let same = same_inputs (run r) c t u xs ys a b in
-    subst (λ (bytes : List ℕ). IsLongJournal r.settings bytes ys size) same.0
-    (subst (λ (files : List (List ℕ)). IsLongJournal r.settings t files size) same.1 long)
+    subst (λ (bytes : List ℕ). IsLongJournal (decision_named r.scheduler) r.settings bytes ys size) same.0
+    (subst (λ (files : List (List ℕ)). IsLongJournal (decision_named r.scheduler) r.settings t files size) same.1 long)
 
 refused_is_not_long_packets : (r : RunWords) (c : Contents) (t u : List ℕ) (xs ys : List (List ℕ)) (fault : PlanFault) (size : ℕ)
     → AreInputs (run r) (Some c) t xs → AreInputs (run r) (Some c) u ys
-    → IsRefusal r.settings.pace_us t xs fault → IsLongPackets r.settings u ys size → ⊥
+    → IsRefusal r.settings.pace_us t xs fault → IsLongPackets (decision_named r.scheduler) r.settings u ys size → ⊥
 refused_is_not_long_packets r c t u xs ys fault size a b refused long =
-    not_long_packets r.settings t xs fault size refused (packets_elsewhere r c u t ys xs size b a long)
+    not_long_packets (decision_named r.scheduler) r.settings t xs fault size refused (packets_elsewhere r c u t ys xs size b a long)
 
 refused_or_long_packets : (job : JobWords) (c : Contents) (table : List ℕ) (captures : List (List ℕ)) (fault : PlanFault) (size : ℕ)
     → AreInputs job (Some c) table captures
@@ -166,27 +167,27 @@ refusal_exact c status (WriteFault written) a job contents table captures fault 
     absurd (nothing_made job contents table stops.made.table captures stops.made.captures fault stops.texts inputs stops.made.inputs refused stops.made.outcome)
 refusal_exact c status (Checked e) a job contents table captures fault read inputs refused =
     let stops = stops_here c job contents (Checked e) read.words read.told a.1 in
-    absurd (no_inputs job stops.file (Some contents) table captures stops.is_check inputs)
+    absurd (no_inputs job stops.words (Some contents) table captures stops.is_check inputs)
 
 -- a journal that is wanted and too long was not made
 long_is_not_made : (r : RunWords) (c : Contents) (t u : List ℕ) (xs ys : List (List ℕ)) (texts : Texts) (size : ℕ) → r.journal ≡ true
     → AreInputs (run r) (Some c) t xs → AreInputs (run r) (Some c) u ys
-    → AreTexts (run r) t xs texts → IsLongJournal r.settings u ys size → ⊥
+    → AreTexts (run r) t xs texts → IsLongJournal (decision_named r.scheduler) r.settings u ys size → ⊥
 long_is_not_made r c t u xs ys texts size wanted a b outcome long =
     let same = same_inputs (run r) c t u xs ys a b in
-    long_not_made r u ys texts size wanted
+    long_not_made (decision_named r.scheduler) r.settings u ys (wanted_by r) texts size wanted
     (subst (λ (bytes : List ℕ). AreTexts (run r) bytes ys texts) same.0 (subst (λ (files : List (List ℕ)). AreTexts (run r) t files texts) same.1 outcome)) long
 
 same_size : (r : RunWords) (c : Contents) (t u : List ℕ) (xs ys : List (List ℕ)) (a b : ℕ) → AreInputs (run r) (Some c) t xs → AreInputs (run r) (Some c) u ys
-    → IsLongJournal r.settings t xs a → IsLongJournal r.settings u ys b → a ≡ b
+    → IsLongJournal (decision_named r.scheduler) r.settings t xs a → IsLongJournal (decision_named r.scheduler) r.settings u ys b → a ≡ b
 same_size r c t u xs ys a b p q long other =
     let same = same_inputs (run r) c t u xs ys p q in
-    long_once r.settings u ys a b
-    (subst (λ (bytes : List ℕ). IsLongJournal r.settings bytes ys a) same.0
-    (subst (λ (files : List (List ℕ)). IsLongJournal r.settings t files a) same.1 long)) other
+    long_once (decision_named r.scheduler) r.settings u ys a b
+    (subst (λ (bytes : List ℕ). IsLongJournal (decision_named r.scheduler) r.settings bytes ys a) same.0
+    (subst (λ (files : List (List ℕ)). IsLongJournal (decision_named r.scheduler) r.settings t files a) same.1 long)) other
 
-run_is_no_check : (r : RunWords) (file : List ℕ) → run r ≡ check file → ⊥
-run_is_no_check r file same = absurd (cc)
+run_is_no_check : (r : RunWords) (words : CheckWords) → run r ≡ check words → ⊥
+run_is_no_check r words same = absurd (cc)
 
 pub journal_exact : (c : Command) (status : ℕ) (ending : Ending) → Answers c status ending → JournalTooLongIsExact c status
 journal_exact c status Done a r contents table captures size read wanted inputs long =
@@ -216,14 +217,14 @@ journal_exact c status (WriteFault written) a r contents table captures size rea
     stops.made.outcome long)
 journal_exact c status (Checked e) a r contents table captures size read wanted inputs long =
     let stops = stops_here c (run r) contents (Checked e) read.words read.told a.1 in
-    absurd (run_is_no_check r stops.file stops.is_check)
+    absurd (run_is_no_check r stops.words stops.is_check)
 
 -- a packets file that is wanted and too long was not made
 packets_not_made : (r : RunWords) (c : Contents) (t u : List ℕ) (xs ys : List (List ℕ)) (texts : Texts) (size : ℕ) → r.packets ≡ true
     → AreInputs (run r) (Some c) t xs → AreInputs (run r) (Some c) u ys
-    → AreTexts (run r) t xs texts → IsLongPackets r.settings u ys size → ⊥
+    → AreTexts (run r) t xs texts → IsLongPackets (decision_named r.scheduler) r.settings u ys size → ⊥
 packets_not_made r c t u xs ys texts size wanted a b outcome long =
-    long_packets_not_made r t xs texts size wanted outcome (packets_elsewhere r c u t ys xs size b a long)
+    long_packets_not_made (decision_named r.scheduler) r.settings t xs (wanted_by r) texts size wanted outcome (packets_elsewhere r c u t ys xs size b a long)
 
 pub packets_exact : (c : Command) (status : ℕ) (ending : Ending) → Answers c status ending → PacketsTooLongIsExact c status
 packets_exact c status Done a r contents table captures size read wanted inputs fits long =
@@ -246,7 +247,8 @@ packets_exact c status (PacketsTooLong found) a r contents table captures size r
     let stops = stops_here c (run r) contents (PacketsTooLong found) read.words read.told a.1 in
     let here = packets_of_run r contents found stops.0 in
     let there = packets_elsewhere r contents here.table table here.captures captures found here.inputs inputs here.longer in
-    inl (subst (λ (n : ℕ). Answers c status (PacketsTooLong n)) (long_packets_once r.settings table captures found size there long) a)
+    inl (subst (λ (n : ℕ). Answers c status (PacketsTooLong n))
+    (long_packets_once (decision_named r.scheduler) r.settings table captures found size there long) a)
 packets_exact c status OutOfMemory a r contents table captures size read wanted inputs fits long = inr a
 packets_exact c status (WriteFault written) a r contents table captures size read wanted inputs fits long =
     let stops = stops_here c (run r) contents (WriteFault written) read.words read.told a.1 in
@@ -254,4 +256,4 @@ packets_exact c status (WriteFault written) a r contents table captures size rea
     stops.made.outcome long)
 packets_exact c status (Checked e) a r contents table captures size read wanted inputs fits long =
     let stops = stops_here c (run r) contents (Checked e) read.words read.told a.1 in
-    absurd (run_is_no_check r stops.file stops.is_check)
+    absurd (run_is_no_check r stops.words stops.is_check)

@@ -7,9 +7,12 @@ use Rattle.outside.specs.Faults.{Place, ReadOf, ToOut, NeverFall}
 use Rattle.outside.specs.WholeFiles.{NamedBytes}
 use Rattle.outside.proofs.Counting.{NeverFall-refl, Rose-wider, le-Rose}
 use Rattle.outside.proofs.Putting.{StopsAt-wider}
+use Rattle.eslip_rounds.specs.Schedulers.{Scheduler}
+use Rattle.named_schedulers.specs.Named.{decision_named}
 use Rattle.journal_command.specs.Checks.{MeansCheck}
 use Rattle.journal_command.specs.declared.ending.CheckEnding.{CheckEnding}
 use Rattle.journal_command.specs.declared.ending.CheckEnding.TheVariants as check_ending
+use Rattle.switch_words.specs.declared.job.GenJob.{GenJob}
 use Rattle.switch_words.specs.Reading.{JobWords, run, gen, check, firm, RunWords}
 use Rattle.job_files.specs.Jobs.{ReadWords, reads_of, pace_in, input_name}
 use Rattle.job_files.specs.OutputFiles.{Texts, files_from, files_of, journal_files, packets_files, packets_place, put_files, put_texts, report_name, run_files}
@@ -18,6 +21,7 @@ use Rattle.job_files.specs.LineParts.{GivesLine}
 use Rattle.job_files.specs.RefusalLines.{memory_line}
 use Rattle.switch_run.specs.Endings.{Command, IsDone, IsMade, IsStopped, IsWriteFault, Means, Stops, StopsAtFile, StopsWriting, captures_made}
 use Rattle.switch_run.specs.MakingSteps.{AreMade, AreToWrite, StopsPlan, StopsTexts, ToWrite}
+use Rattle.switch_run.specs.Switched.{nothing_wanted, wanted_by}
 use Rattle.job_files.specs.FileSteps.{StopsPutting, StopsReading}
 use Rattle.job_files.specs.declared.ending.Written.{Written}
 use Rattle.job_files.specs.declared.ending.Written.TheVariants.{Output, Report, Journal, Packets, StandardOutput}
@@ -37,15 +41,16 @@ module _ (job : JobWords) (texts : Texts) (a b c d : Place → ℕ) (old told : 
   StopsWriting-wider Packets s = StopsAtFile-wider (packets_place (length texts.outputs) (is_some texts.journal)) s
   StopsWriting-wider StandardOutput s = record { rose = Rose-wider a b c d ToOut start end s.rose; given = s.given; told_is = s.told_is }
 
-MeansCheck-wider : (name : List ℕ) (old new : Option Contents) (a b c d : Place → ℕ) (ending : CheckEnding) → NeverFall a b → NeverFall c d
-    → MeansCheck name old new b c ending → MeansCheck name old new a d ending
-MeansCheck-wider name old new a b c d check_ending.Yes start end m = m
-MeansCheck-wider name old new a b c d (check_ending.No slot reason) start end m = m
-MeansCheck-wider name old new a b c d (check_ending.Bad at) start end m = m
-MeansCheck-wider name old new a b c d check_ending.TooLong start end m = m
-MeansCheck-wider name old new a b c d check_ending.ReadFault start end m = (Rose-wider a b c d (ReadOf name) start end m.0, m.1)
-MeansCheck-wider name old new a b c d check_ending.OutOfMemory start end m = m
-MeansCheck-wider name old new a b c d check_ending.OutFault start end m = (m.0, m.1, m.2, Rose-wider a b c d ToOut start end m.3, m.4)
+MeansCheck-wider : (scheduler : Scheduler) (name : List ℕ) (old new : Option Contents) (a b c d : Place → ℕ) (ending : CheckEnding)
+    → NeverFall a b → NeverFall c d
+    → MeansCheck scheduler name old new b c ending → MeansCheck scheduler name old new a d ending
+MeansCheck-wider scheduler name old new a b c d check_ending.Yes start end m = m
+MeansCheck-wider scheduler name old new a b c d (check_ending.No slot reason) start end m = m
+MeansCheck-wider scheduler name old new a b c d (check_ending.Bad at) start end m = m
+MeansCheck-wider scheduler name old new a b c d check_ending.TooLong start end m = m
+MeansCheck-wider scheduler name old new a b c d check_ending.ReadFault start end m = (Rose-wider a b c d (ReadOf name) start end m.0, m.1)
+MeansCheck-wider scheduler name old new a b c d check_ending.OutOfMemory start end m = m
+MeansCheck-wider scheduler name old new a b c d check_ending.OutFault start end m = (m.0, m.1, m.2, Rose-wider a b c d ToOut start end m.3, m.4)
 
 pub Stops-wider : (job : JobWords) (old : Option Contents) (a b c d : Place → ℕ) (told : Option Contents) (ending : Ending) → NeverFall a b → NeverFall c d
     → Stops job old b c told ending → Stops job old a d told ending
@@ -69,7 +74,11 @@ Stops-wider job old a b c d told OutOfMemory start end stops = stops
 Stops-wider job old a b c d told (WriteFault written) start end stops =
     record { texts = stops.texts; made = stops.made; stops = StopsWriting-wider job stops.texts a b c d old told start end written stops.stops }
 Stops-wider job old a b c d told (Checked ending) start end stops =
-    record { file = stops.file; is_check = stops.is_check; means = MeansCheck-wider stops.file old told a b c d ending start end stops.means }
+    record {
+      words = stops.words;
+      is_check = stops.is_check;
+      means = MeansCheck-wider (decision_named stops.words.scheduler) stops.words.file old told a b c d ending start end stops.means;
+    }
 
 -- a job whose files were not read
 pub reading_stops : (job : JobWords) (r : ReadWords) (old told : Option Contents) (was now : Place → ℕ) (ending : Ending) → reads_of job ≡ Some r → told ≡ old
@@ -108,7 +117,7 @@ plan_stops job old told was now table captures (Checked ending) same inputs stop
 -- the texts of a `run` job were not made
 pub texts_stop : (r : RunWords) (old told : Option Contents) (was now : Place → ℕ) (table : List ℕ) (captures : List (List ℕ)) (ending : Ending) → told ≡ old
     → AreInputs (run r) old table captures
-    → StopsTexts r table captures ending → Stops (run r) old was now told ending
+    → StopsTexts (decision_named r.scheduler) r.settings (wanted_by r) table captures ending → Stops (run r) old was now told ending
 texts_stop r old told was now table captures Done same inputs stops = stops
 texts_stop r old told was now table captures Usage same inputs stops = stops
 texts_stop r old told was now table captures (ReadFault input) same inputs stops = absurd stops
@@ -123,12 +132,31 @@ texts_stop r old told was now table captures OutOfMemory same inputs stops = sam
 texts_stop r old told was now table captures (WriteFault written) same inputs stops = absurd stops
 texts_stop r old told was now table captures (Checked ending) same inputs stops = absurd stops
 
+no_is_no_yes : false ≡ true → ⊥
+no_is_no_yes same = cc
+
+-- nor were those of a `gen` job, of which nothing is wanted
+pub gen_stops : (g : GenJob) (told : Option Contents) (was now : Place → ℕ) (table : List ℕ) (captures : List (List ℕ)) (ending : Ending)
+    → AreInputs (gen g) told table captures
+    → StopsTexts (decision_named g.scheduler) g.settings nothing_wanted table captures ending → Stops (gen g) told was now told ending
+gen_stops g told was now table captures Done inputs stops = stops
+gen_stops g told was now table captures Usage inputs stops = stops
+gen_stops g told was now table captures (ReadFault input) inputs stops = absurd stops
+gen_stops g told was now table captures (TooLong input) inputs stops = absurd stops
+gen_stops g told was now table captures (Refused fault) inputs stops =
+    plan_stops (gen g) told told was now table captures (Refused fault) refl inputs stops
+gen_stops g told was now table captures (JournalTooLong size) inputs stops = absurd (no_is_no_yes stops.0)
+gen_stops g told was now table captures (PacketsTooLong size) inputs stops = absurd (no_is_no_yes stops.0)
+gen_stops g told was now table captures OutOfMemory inputs stops = refl
+gen_stops g told was now table captures (WriteFault written) inputs stops = absurd stops
+gen_stops g told was now table captures (Checked ending) inputs stops = absurd stops
+
 -- What a command makes of its job and of its texts
 
 captures_made-le : (job : JobWords) (n : ℕ) → captures_made job n ≤ n
 captures_made-le (run r) n = omega arith
 captures_made-le (gen g) n = omega arith
-captures_made-le (check file) n = omega arith
+captures_made-le (check c) n = omega arith
 captures_made-le (firm f) n = omega arith
 
 module _ (job : JobWords) (old : Option Contents) (written : ToWrite) (w : AreToWrite job old written) where
@@ -188,7 +216,7 @@ length-run_files prefix texts =
 length-files_of : (job : JobWords) (texts : Texts) → length (files_of job texts) ≤ length texts.outputs + 3
 length-files_of (run r) texts = omega (arith, length-run_files r.prefix texts, place-le (length texts.outputs) (is_some texts.journal))
 length-files_of (gen g) texts = omega arith
-length-files_of (check file) texts = omega arith
+length-files_of (check c) texts = omega arith
 length-files_of (firm f) texts = omega arith
 
 pub few_files : (job : JobWords) (old : Option Contents) (written : ToWrite) → AreToWrite job old written → length written.files ≤ 67
@@ -230,8 +258,8 @@ stops_writing (run r) outputs with_journal texts what old told was now count jou
     (subst (λ (n : ℕ). StopsPutting n with_journal (run_files r.prefix texts) texts.summary what old was now told) (count r refl) s))
 stops_writing (gen g) outputs with_journal texts what old told was now count journal s =
     stops_without_files (gen g) outputs with_journal texts what old told was now refl s
-stops_writing (check file) outputs with_journal texts what old told was now count journal s =
-    stops_without_files (check file) outputs with_journal texts what old told was now refl s
+stops_writing (check c) outputs with_journal texts what old told was now count journal s =
+    stops_without_files (check c) outputs with_journal texts what old told was now refl s
 stops_writing (firm f) outputs with_journal texts what old told was now count journal s =
     stops_without_files (firm f) outputs with_journal texts what old told was now refl s
 

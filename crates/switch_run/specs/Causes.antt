@@ -1,34 +1,37 @@
 -- When each answer comes, that one comes where nothing stands against it, and what holds of the run of a command.
-use Rattle.std.specs.Prelude.{◌≡◌, ◌<◌, ◌≤◌, ◌⊎◌, ℕ, true, List, length, Some, None, Ok, Err}
+use Rattle.std.specs.Prelude.{◌≡◌, ◌<◌, ◌≤◌, ◌*◌, ◌⊎◌, ℕ, true, List, length, Option, Some, None, Ok, Err}
 use Rattle.outside.specs.Contents.{Contents}
 use Rattle.outside.specs.Faults.{ReadOf, BeginOf, WriteOf, ToOut, NeverFall, Rose}
 use Rattle.outside.specs.WholeFiles.{IsTooLong}
 use Rattle.journal_check.specs.declared.verdict.Verdict.TheVariants as verdict
 use Rattle.journal_check.specs.declared.verdict.JournalFault.TheVariants as journal_fault
 use Rattle.journal_check.specs.declared.verdict.Reason.{Reason}
-use Rattle.journal_check.specs.Verdicts.{answer_to}
+use Rattle.journal_check.specs.Verdicts.{answer_under}
 use Rattle.journal_command.specs.Checks.{HasAnswer, IsTooLong as IsTooLongToCheck}
 use Rattle.journal_command.specs.declared.ending.CheckEnding.TheVariants as check_ending
-use Rattle.switch_words.specs.Reading.{JobWords, run, gen, check, firm, RunWords, FirmWords}
+use Rattle.switch_words.specs.Reading.{JobWords, run, gen, check, firm, RunWords, CheckWords, FirmWords}
 use Rattle.switch_plan.specs.declared.fault.PlanFault.{PlanFault}
 use Rattle.switch_plan.specs.Refusals.{IsRefusal}
 use Rattle.switch_plan.specs.GoodPlans.{SwitchPlan}
-use Rattle.eslip_rounds.specs.Decisions.{decision_of}
+use Rattle.scheduler_names.specs.declared.names.SchedulerName.{SchedulerName}
+use Rattle.scheduler_names.specs.declared.names.SchedulerName.TheVariants.{Islip, Firm, Rrm}
+use Rattle.eslip_rounds.specs.Schedulers.{Scheduler}
 use Rattle.firm_rounds.specs.Decisions.{firm_decision}
+use Rattle.named_schedulers.specs.Named.{decision_named}
 use Rattle.run_laws.specs.Runs.{ports_of}
 use Rattle.run_laws.specs.Ends.{IsLengthUnder}
-use Rattle.run_laws.specs.Promises.{ArrivalsComeFirst, BusySlotsMatch, CompletesMulticast, DeliversAdmitted, DeliversNoOthers, HasFewSlots}
-use Rattle.run_laws.specs.Promises.{ServesWaiting, WaitsAreShort}
-use Rattle.switch_jobs.specs.Outcomes.{summary_of, CountsPacketsOnce}
-use Rattle.switch_jobs.specs.Departures.{InterleavesFlows}
+use Rattle.run_laws.specs.Promises.{ArrivalsComeFirst, BusySlotsMatchUnder, CompletesUnder, DeliversNoOthersUnder, DeliversUnder, HasFewSlotsUnder}
+use Rattle.run_laws.specs.Promises.{ServesUnder, WaitsUnder, bound_of}
+use Rattle.switch_jobs.specs.Outcomes.{summary_under, CountsPacketsOnce}
+use Rattle.switch_jobs.specs.Departures.{InterleavesFlowsUnder}
 use Rattle.buffer_sizing.specs.Sizing.{IsSized}
-use Rattle.queue_measures.specs.Sums.{QueuesAddUp}
-use Rattle.packet_departures.specs.Promises.{HasDepartures, CountsDepartures}
-use Rattle.run_journals.specs.RunFiles.{journal_text}
+use Rattle.queue_measures.specs.Sums.{QueuesAddUpUnder}
+use Rattle.packet_departures.specs.Promises.{HasDeparturesUnder, CountsDepartures}
+use Rattle.run_journals.specs.RunFiles.{journal_text_under}
 use Rattle.output_queued.specs.Lines.{ideal, ran}
-use Rattle.reference_run.specs.RunLines.{run_matches}
-use Rattle.reference_run.specs.Promises.{EndsNoLater, ExtraIsDelays}
-use Rattle.firm_run.specs.FirmRuns.{FirmPromises}
+use Rattle.reference_run.specs.RunLines.{run_matches_under}
+use Rattle.reference_run.specs.Promises.{EndsNoLaterUnder, ExtraIsDelaysUnder}
+use Rattle.one_thread.specs.FirmRuns.{FirmPromises}
 use Rattle.job_files.specs.Jobs.{ReadWords, reads_of, pace_in, input_name, IsInput, RunsSwitch}
 use Rattle.switch_run.specs.Switched.{IsLongJournal, IsLongPackets, IsPlanned, IsRunOf, JournalFits}
 use Rattle.job_files.specs.Inputs.{EarlierFit, AreInputs}
@@ -67,11 +70,11 @@ pub record AreWritable (c : Command) (job : JobWords) : Type 0 where
   pub packets : (r : RunWords) → job ≡ run r → r.packets ≡ true → IsWritable c (packets_name r.prefix)
   pub out : Rose (c.was ToOut) (c.now ToOut) → ⊥
 
--- the words mean the check of this file, the contents are told, and no count of refused reads of it rose
-pub record IsCheckable (c : Command) (file : List ℕ) (contents : Contents) : Type 0 where
-  pub words : c.job ≡ Some (check file)
+-- the words mean this check, the contents are told, and no count of refused reads of its file rose
+pub record IsCheckable (c : Command) (job : CheckWords) (contents : Contents) : Type 0 where
+  pub words : c.job ≡ Some (check job)
   pub told : c.old ≡ Some contents
-  pub reads : Rose (c.was (ReadOf file)) (c.now (ReadOf file)) → ⊥
+  pub reads : Rose (c.was (ReadOf job.file)) (c.now (ReadOf job.file)) → ⊥
 
 -- Status 2 comes exactly where the words mean no job, want of memory aside.
 pub record UsageIsExact (c : Command) (status : ℕ) : Type 0 where
@@ -94,26 +97,29 @@ RefusalIsExact c status = (job : JobWords) (contents : Contents) (table : List �
 abbrev pub JournalTooLongIsExact : Command → ℕ → Type 0
 JournalTooLongIsExact c status = (r : RunWords) (contents : Contents) (table : List ℕ) (captures : List (List ℕ)) (size : ℕ) → IsReadable c (run r) contents
     → r.journal ≡ true
-    → AreInputs (run r) (Some contents) table captures → IsLongJournal r.settings table captures size → AnswersUnlessOut c status (JournalTooLong size)
+    → AreInputs (run r) (Some contents) table captures → IsLongJournal (decision_named r.scheduler) r.settings table captures size
+    → AnswersUnlessOut c status (JournalTooLong size)
 
 -- where a packets file is wanted that would be too long, and no journal that is wanted is too long, the answer says so, or
 -- memory ran out
 abbrev pub PacketsTooLongIsExact : Command → ℕ → Type 0
 PacketsTooLongIsExact c status = (r : RunWords) (contents : Contents) (table : List ℕ) (captures : List (List ℕ)) (size : ℕ)
     → IsReadable c (run r) contents → r.packets ≡ true → AreInputs (run r) (Some contents) table captures → JournalFits r table captures
-    → IsLongPackets r.settings table captures size → AnswersUnlessOut c status (PacketsTooLong size)
+    → IsLongPackets (decision_named r.scheduler) r.settings table captures size → AnswersUnlessOut c status (PacketsTooLong size)
 
--- What a check comes to, unless memory runs out: where its file is too long, is no journal file, is not lawful, and is
--- lawful.
+-- What a check comes to, unless memory runs out: where its file is too long, is no journal file, is not lawful under the
+-- scheduler of the words, and is lawful under it.
 pub record CheckIsExact (c : Command) (status : ℕ) : Type 0 where
-  pub too_long : (file : List ℕ) (contents : Contents) → IsCheckable c file contents → IsTooLongToCheck contents file
+  pub too_long : (job : CheckWords) (contents : Contents) → IsCheckable c job contents → IsTooLongToCheck contents job.file
       → AnswersUnlessOut c status (Checked check_ending.TooLong)
-  pub bad : (file : List ℕ) (contents : Contents) (at : ℕ) → IsCheckable c file contents → HasAnswer file (Err (journal_fault.Bad at)) contents
+  pub bad : (job : CheckWords) (contents : Contents) (at : ℕ) → IsCheckable c job contents
+      → HasAnswer (decision_named job.scheduler) job.file (Err (journal_fault.Bad at)) contents
       → AnswersUnlessOut c status (Checked (check_ending.Bad at))
-  pub no : (file : List ℕ) (contents : Contents) (slot : ℕ) (reason : Reason) → IsCheckable c file contents
-      → HasAnswer file (Ok (verdict.No slot reason)) contents → AnswersUnlessOut c status (Checked (check_ending.No slot reason))
-  pub yes : (file : List ℕ) (contents : Contents) (slots : ℕ) (longest : List ℕ) → IsCheckable c file contents
-      → HasAnswer file (Ok (verdict.Yes slots longest)) contents
+  pub no : (job : CheckWords) (contents : Contents) (slot : ℕ) (reason : Reason) → IsCheckable c job contents
+      → HasAnswer (decision_named job.scheduler) job.file (Ok (verdict.No slot reason)) contents
+      → AnswersUnlessOut c status (Checked (check_ending.No slot reason))
+  pub yes : (job : CheckWords) (contents : Contents) (slots : ℕ) (longest : List ℕ) → IsCheckable c job contents
+      → HasAnswer (decision_named job.scheduler) job.file (Ok (verdict.Yes slots longest)) contents
       → (Rose (c.was ToOut) (c.now ToOut) → ⊥) → AnswersUnlessOut c status (Checked check_ending.Yes)
 
 -- Where no call was refused, no file is too long and nothing is refused, and neither a journal nor a packets file that is
@@ -124,16 +130,23 @@ IsComplete c status = (job : JobWords) (contents : Contents) → RunsSwitch job 
     → ((table : List ℕ) (captures : List (List ℕ)) (fault : PlanFault) → AreInputs job (Some contents) table captures
     → IsRefusal (pace_in job) table captures fault → ⊥)
     → ((r : RunWords) (table : List ℕ) (captures : List (List ℕ)) (size : ℕ) → job ≡ run r → r.journal ≡ true → AreInputs job (Some contents) table captures
-    → IsLongJournal r.settings table captures size → ⊥)
+    → IsLongJournal (decision_named r.scheduler) r.settings table captures size → ⊥)
     → ((r : RunWords) (table : List ℕ) (captures : List (List ℕ)) (size : ℕ) → job ≡ run r → r.packets ≡ true
-    → AreInputs job (Some contents) table captures → IsLongPackets r.settings table captures size → ⊥)
+    → AreInputs job (Some contents) table captures → IsLongPackets (decision_named r.scheduler) r.settings table captures size → ⊥)
     → (status ≡ 0) ⊎ (status ≡ 5)
 
--- the run of a job on a board: `firm` and `check` have none
+-- the scheduler of a job; of `firm` it is the second
+abbrev pub scheduler_in : JobWords → SchedulerName
+scheduler_in (run r) = r.scheduler
+scheduler_in (gen g) = g.scheduler
+scheduler_in (check c) = c.scheduler
+scheduler_in (firm f) = Firm
+
+-- the run of a `run` or a `gen` job under its scheduler
 abbrev pub IsRunFor : JobWords → List ℕ → List (List ℕ) → SwitchPlan → ℕ → Type 0
-IsRunFor (run r) table captures plan slots = IsRunOf r.settings table captures plan slots
-IsRunFor (gen g) table captures plan slots = IsRunOf g.settings table captures plan slots
-IsRunFor (check file) table captures plan slots = ⊥
+IsRunFor (run r) table captures plan slots = IsRunOf (decision_named r.scheduler) r.settings table captures plan slots
+IsRunFor (gen g) table captures plan slots = IsRunOf (decision_named g.scheduler) g.settings table captures plan slots
+IsRunFor (check c) table captures plan slots = ⊥
 IsRunFor (firm f) table captures plan slots = ⊥
 
 -- the run of the job that the words mean
@@ -145,39 +158,50 @@ pub record IsRunBy (c : Command) (plan : SwitchPlan) (slots : ℕ) : Type 0 wher
   pub inputs : AreInputs job c.old table captures
   pub run : IsRunFor job table captures plan slots
 
--- At the end of no slot has the run fed more cells to an output than the ideal switch has given out.
-abbrev pub IsNeverAhead : SwitchPlan → ℕ → Type 0
-IsNeverAhead plan slots = (j t : ℕ) → t ≤ slots → ran (run_matches plan slots) j t ≤ ideal plan.cards (run_matches plan slots) j t
+-- Within how many slots a unicast queue is served under each scheduler, where nothing better is posted. Under round-robin
+-- matching no number is promised: it can starve a queue (`rrm_starves()` of `rrm_rounds`).
+abbrev pub bound_named : SchedulerName → SwitchPlan → Option ℕ
+bound_named Islip plan = Some (bound_of plan)
+bound_named Firm plan = Some (ports_of plan * ports_of plan)
+bound_named Rrm plan = None
 
--- The journal of the run is lawful: its check tells the number of slots and the longest waits that the summary tells.
-abbrev pub JournalIsLawful : SwitchPlan → ℕ → Type 0
-JournalIsLawful plan slots = answer_to (journal_text plan slots) ≡ Ok (verdict.Yes slots (summary_of plan slots).longest)
+-- At the end of no slot has the run fed more cells to an output than the ideal switch has given out.
+abbrev pub IsNeverAhead : Scheduler → SwitchPlan → ℕ → Type 0
+IsNeverAhead scheduler plan slots = (j t : ℕ) → t ≤ slots
+    → ran (run_matches_under scheduler plan slots) j t ≤ ideal plan.cards (run_matches_under scheduler plan slots) j t
+
+-- The journal of the run is lawful under its scheduler: its check tells the number of slots and the longest waits that the
+-- summary tells.
+abbrev pub JournalIsLawful : Scheduler → SwitchPlan → ℕ → Type 0
+JournalIsLawful scheduler plan slots =
+    answer_under scheduler (journal_text_under scheduler plan slots) ≡ Ok (verdict.Yes slots (summary_under scheduler plan slots).longest)
 
 -- Over the whole run both serve as many cells at each output.
-abbrev pub ServesAsMany : SwitchPlan → ℕ → Type 0
-ServesAsMany plan slots = (j : ℕ) → j < ports_of plan → ran (run_matches plan slots) j slots ≡ ideal plan.cards (run_matches plan slots) j slots
+abbrev pub ServesAsMany : Scheduler → SwitchPlan → ℕ → Type 0
+ServesAsMany scheduler plan slots = (j : ℕ) → j < ports_of plan
+    → ran (run_matches_under scheduler plan slots) j slots ≡ ideal plan.cards (run_matches_under scheduler plan slots) j slots
 
--- What is promised of the run of a plan that has so many slots.
-pub record RunPromises (plan : SwitchPlan) (slots : ℕ) : Type 0 where
-  pub delivers : DeliversAdmitted plan slots
-  pub no_others : DeliversNoOthers plan slots
+-- What is promised of the run under the scheduler of this name of a plan, that has so many slots.
+pub record RunPromises (name : SchedulerName) (plan : SwitchPlan) (slots : ℕ) : Type 0 where
+  pub delivers : DeliversUnder (decision_named name) plan slots
+  pub no_others : DeliversNoOthersUnder (decision_named name) plan slots
   pub arrivals : ArrivalsComeFirst plan slots
-  pub interleaves : InterleavesFlows plan slots
-  pub counts : CountsPacketsOnce (summary_of plan slots)
-  pub serves : ServesWaiting plan slots
-  pub waits : WaitsAreShort plan slots
-  pub completes : CompletesMulticast plan slots
-  pub few_slots : HasFewSlots plan slots
-  pub busy_slots : BusySlotsMatch plan
-  pub never_ahead : IsNeverAhead plan slots
-  pub serves_as_many : ServesAsMany plan slots
-  pub ends_no_later : EndsNoLater plan slots
-  pub delays : ExtraIsDelays plan slots
-  pub journals : JournalIsLawful plan slots
-  pub queues : QueuesAddUp plan slots
-  pub sized : IsSized decision_of plan slots
-  pub departures : HasDepartures plan slots
-  pub copies : CountsDepartures decision_of plan slots
+  pub interleaves : InterleavesFlowsUnder (decision_named name) plan slots
+  pub counts : CountsPacketsOnce (summary_under (decision_named name) plan slots)
+  pub serves : (bound : ℕ) → bound_named name plan ≡ Some bound → ServesUnder (decision_named name) plan slots bound
+  pub waits : (bound : ℕ) → bound_named name plan ≡ Some bound → WaitsUnder (decision_named name) plan slots bound
+  pub completes : CompletesUnder (decision_named name) plan slots
+  pub few_slots : HasFewSlotsUnder (decision_named name) plan slots
+  pub busy_slots : BusySlotsMatchUnder (decision_named name) plan
+  pub never_ahead : IsNeverAhead (decision_named name) plan slots
+  pub serves_as_many : ServesAsMany (decision_named name) plan slots
+  pub ends_no_later : EndsNoLaterUnder (decision_named name) plan slots
+  pub delays : ExtraIsDelaysUnder (decision_named name) plan slots
+  pub journals : JournalIsLawful (decision_named name) plan slots
+  pub queues : QueuesAddUpUnder (decision_named name) plan slots
+  pub sized : IsSized (decision_named name) plan slots
+  pub departures : HasDeparturesUnder (decision_named name) plan slots
+  pub copies : CountsDepartures (decision_named name) plan slots
 
 -- the run under the second scheduler of the `firm` job that the words mean
 pub record IsFirmRunBy (c : Command) (plan : SwitchPlan) (slots : ℕ) : Type 0 where
@@ -200,5 +224,5 @@ pub record SwitchTheorem (c : Command) (status : ℕ) : Type 0 where
   pub packets_too_long : PacketsTooLongIsExact c status
   pub checks : CheckIsExact c status
   pub complete : IsComplete c status
-  pub runs : (plan : SwitchPlan) (slots : ℕ) → IsRunBy c plan slots → RunPromises plan slots
+  pub runs : (plan : SwitchPlan) (slots : ℕ) → (is : IsRunBy c plan slots) → RunPromises (scheduler_in is.job) plan slots
   pub firm_runs : (plan : SwitchPlan) (slots : ℕ) → IsFirmRunBy c plan slots → FirmPromises plan slots

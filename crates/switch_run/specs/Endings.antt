@@ -5,7 +5,8 @@ use Rattle.outside.specs.Faults.{Place, ReadOf, ToOut, ToErr, Rose}
 use Rattle.outside.specs.WholeFiles.{IsTooLong, StopsAt}
 use Rattle.journal_command.specs.Checks.{MeansCheck}
 use Rattle.journal_command.specs.declared.ending.CheckEnding.{CheckEnding}
-use Rattle.switch_words.specs.Reading.{JobWords, run, gen, check, firm, RunWords, reading_of}
+use Rattle.switch_words.specs.Reading.{JobWords, run, gen, check, firm, RunWords, CheckWords, reading_of}
+use Rattle.named_schedulers.specs.Named.{decision_named}
 use Rattle.switch_plan.specs.declared.fault.PlanFault.{PlanFault}
 use Rattle.job_files.specs.Jobs.{ReadWords, reads_of, input_name, IsInput}
 use Rattle.job_files.specs.OutputFiles.{Texts, nameless, files_of, packets_place, put_files, put_texts, HoldsTexts}
@@ -64,7 +65,7 @@ pub record IsJournalTooLong (job : JobWords) (told : Option Contents) (size : �
   pub table : List ℕ
   pub captures : List (List ℕ)
   pub inputs : AreInputs job told table captures
-  pub longer : IsLongJournal words.settings table captures size
+  pub longer : IsLongJournal (decision_named words.scheduler) words.settings table captures size
 
 -- The packets file of the run has more bytes than it may have. A journal that is wanted has not.
 pub record IsPacketsTooLong (job : JobWords) (told : Option Contents) (size : ℕ) : Type 0 where
@@ -74,14 +75,14 @@ pub record IsPacketsTooLong (job : JobWords) (told : Option Contents) (size : �
   pub table : List ℕ
   pub captures : List (List ℕ)
   pub inputs : AreInputs job told table captures
-  pub longer : IsLongPackets words.settings table captures size
+  pub longer : IsLongPackets (decision_named words.scheduler) words.settings table captures size
   pub journal_fits : JournalFits words table captures
 
 -- how many captures a job makes of those of its ports
 abbrev pub captures_made : JobWords → ℕ → ℕ
 captures_made (run r) ports = ports
 captures_made (gen g) ports = ports
-captures_made (check file) ports = 0
+captures_made (check c) ports = 0
 captures_made (firm f) ports = 0
 
 -- The job makes these texts of the bytes of the table and the captures.
@@ -124,11 +125,11 @@ pub record IsWriteFault (job : JobWords) (old : Option Contents) (was now : Plac
   pub made : IsMade job old texts
   pub stops : StopsWriting job texts written old was now told
 
--- The words name a file to check, and its check ends so.
+-- The words name a file to check and a scheduler, and the file's check by that scheduler ends so.
 pub record IsCheck (job : JobWords) (old : Option Contents) (was now : Place → ℕ) (told : Option Contents) (ending : CheckEnding) : Type 0 where
-  pub file : List ℕ
-  pub is_check : job ≡ check file
-  pub means : MeansCheck file old told was now ending
+  pub words : CheckWords
+  pub is_check : job ≡ check words
+  pub means : MeansCheck (decision_named words.scheduler) words.file old told was now ending
 
 -- why a command stops before its end, and what it has made of the contents by then; or how a check ends
 abbrev pub Stops : JobWords → Option Contents → (Place → ℕ) → (Place → ℕ) → Option Contents → Ending → Type 0

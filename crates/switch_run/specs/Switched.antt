@@ -1,5 +1,5 @@
 -- What a job makes of the bytes of its table and its captures.
-use Rattle.std.specs.Prelude.{◌≡◌, ◌<◌, ◌≤◌, ℕ, true, if◌then◌else◌, List, [], ◌++◌, map, length, None, Some, Result, Ok, Err, IfSome}
+use Rattle.std.specs.Prelude.{◌≡◌, ◌<◌, ◌≤◌, ℕ, true, false, if◌then◌else◌, List, [], ◌++◌, map, length, None, Some, Result, Ok, Err, IfSome}
 use Rattle.std.specs.List.{range_with_len}
 use Rattle.pcap_records.specs.Output.{capture_text}
 use Rattle.forward_table.specs.declared.route_lines.RouteLine.{RouteLine}
@@ -14,43 +14,56 @@ use Rattle.switch_plan.specs.declared.fault.PlanFault.{PlanFault}
 use Rattle.switch_plan.specs.Traffic.{CaptureFile}
 use Rattle.switch_plan.specs.Refusals.{AreRead, refusal_of, IsRefusal}
 use Rattle.switch_plan.specs.GoodPlans.{SwitchPlan, IsGood, IsPlanOf}
-use Rattle.run_laws.specs.Runs.{ports_of, run_journal}
-use Rattle.run_laws.specs.Ends.{IsLength}
-use Rattle.run_laws.specs.Crossings.{cells_to}
-use Rattle.switch_jobs.specs.Outcomes.{messages_to, summary_of}
-use Rattle.queue_measures.specs.Lines.{queue_lines}
+use Rattle.eslip_rounds.specs.Schedulers.{Scheduler}
+use Rattle.named_schedulers.specs.Named.{decision_named}
+use Rattle.run_laws.specs.Runs.{ports_of, journal_under}
+use Rattle.run_laws.specs.Ends.{IsLengthUnder}
+use Rattle.run_laws.specs.Crossings.{cells_under}
+use Rattle.switch_jobs.specs.Outcomes.{messages_under, summary_under}
 use Rattle.packet_times.specs.declared.limits.TheConstants.{MAX_PACKETS_BYTES}
-use Rattle.packet_times.specs.Rows.{packets_text}
-use Rattle.run_journals.specs.RunFiles.{journal_text}
-use Rattle.reference_run.specs.RunLines.{run_lines}
-use Rattle.firm_run.specs.FirmRuns.{IsFirmRun, HasShortWaits}
+use Rattle.packet_times.specs.Rows.{packets_text_under}
+use Rattle.run_journals.specs.RunFiles.{journal_text_under}
+use Rattle.run_notes.specs.declared.wanted.Wanted.{Wanted}
+use Rattle.run_notes.specs.Told.{told_under}
+use Rattle.one_thread.specs.FirmRuns.{IsFirmRun, HasShortWaits}
 use Rattle.job_files.specs.OutputFiles.{Texts}
-use Rattle.job_files.specs.Jobs.{Wanted, wanted_by, nothing_wanted, pace_in}
+use Rattle.job_files.specs.Jobs.{pace_in}
+
+-- what the run of a `run` job is to tell beside its captures, the report's numbers and the summary
+abbrev pub wanted_by : RunWords → Wanted
+wanted_by r = record { slots = r.slots; journal = r.journal; reference = r.reference; queues = r.queues; packets = r.packets }
+
+-- and that of a `gen` job
+abbrev pub nothing_wanted : Wanted
+nothing_wanted = record { slots = false; journal = false; reference = false; queues = false; packets = false }
 
 -- the number of packets and of cells that come to output j in the first slots
-abbrev pub out_line : SwitchPlan → ℕ → ℕ → OutLine
-out_line plan slots j = record { packets = length (messages_to plan j slots); cells = length (cells_to plan j slots) }
+abbrev pub out_line_under : Scheduler → SwitchPlan → ℕ → ℕ → OutLine
+out_line_under scheduler plan slots j = record {
+  packets = length (messages_under scheduler plan j slots);
+  cells = length (cells_under scheduler plan j slots);
+}
 
 -- the numbers of all outputs
-abbrev pub out_lines : SwitchPlan → ℕ → List OutLine
-out_lines plan slots = map (out_line plan slots) (range_with_len 0 (ports_of plan))
+abbrev pub out_lines_under : Scheduler → SwitchPlan → ℕ → List OutLine
+out_lines_under scheduler plan slots = map (out_line_under scheduler plan slots) (range_with_len 0 (ports_of plan))
 
 -- the report of a run of so many slots: its numbers and those of its outputs, and then, each where these are wanted, the
 -- lines of its queues, of its slots and of the reference
-abbrev pub report_of : Wanted → SwitchPlan → ℕ → List ℕ
-report_of wanted plan slots =
-    report_bytes (summary_of plan slots) (out_lines plan slots) (if wanted.queues then lines_text (queue_lines plan slots) else [])
-    (if wanted.slots then run_journal plan slots else [])
-    ++ (if wanted.reference then lines_text (run_lines plan slots) else [])
+abbrev pub report_under : Scheduler → Wanted → SwitchPlan → ℕ → List ℕ
+report_under scheduler wanted plan slots =
+    report_bytes (summary_under scheduler plan slots) (out_lines_under scheduler plan slots) (told_under scheduler wanted plan slots).queues
+    (if wanted.slots then journal_under scheduler plan slots else [])
+    ++ (told_under scheduler wanted plan slots).reference
 
 -- the texts of a run of so many slots
-abbrev pub texts_of : Wanted → SwitchPlan → ℕ → Texts
-texts_of wanted plan slots = record {
-  outputs = map (λ j. capture_text plan.nano plan.link (messages_to plan j slots)) (range_with_len 0 (ports_of plan));
-  report = report_of wanted plan slots;
-  journal = if wanted.journal then Some (journal_text plan slots) else None;
-  packets = if wanted.packets then Some (packets_text plan slots) else None;
-  summary = lines_text (summary_lines (summary_of plan slots));
+abbrev pub texts_under : Scheduler → Wanted → SwitchPlan → ℕ → Texts
+texts_under scheduler wanted plan slots = record {
+  outputs = map (λ j. capture_text plan.nano plan.link (messages_under scheduler plan j slots)) (range_with_len 0 (ports_of plan));
+  report = report_under scheduler wanted plan slots;
+  journal = (told_under scheduler wanted plan slots).journal;
+  packets = (told_under scheduler wanted plan slots).packets;
+  summary = lines_text (summary_lines (summary_under scheduler plan slots));
 }
 
 -- The plan of a job: its table and captures are those that the bytes are, none of the limits refuses them, and the plan
@@ -63,18 +76,19 @@ pub record IsPlanned (settings : Settings) (table : List ℕ) (files : List (Lis
   pub good : IsGood plan
   pub planned : IsPlanOf settings files lines captures plan
 
--- The run of a job: its plan, and how many slots the plan's run has.
-pub record IsRunOf (settings : Settings) (table : List ℕ) (files : List (List ℕ)) (plan : SwitchPlan) (slots : ℕ) : Type 0 where
+-- The run of a job under a scheduler: its plan, and how many slots the plan's run has.
+pub record IsRunOf (scheduler : Scheduler) (settings : Settings) (table : List ℕ) (files : List (List ℕ)) (plan : SwitchPlan) (slots : ℕ) : Type 0 where
   pub planned : IsPlanned settings table files plan
-  pub ends : IsLength plan slots
+  pub ends : IsLengthUnder scheduler plan slots
 
--- The switch theorem for one job: the texts are those of the run of its table and captures. A journal has at most
--- 134,217,728 bytes, and so has a packets file.
-pub record IsSwitched (settings : Settings) (wanted : Wanted) (table : List ℕ) (files : List (List ℕ)) (texts : Texts) : Type 0 where
+-- The switch theorem for one job: the texts are those of the run of its table and captures under the scheduler. A journal
+-- has at most 134,217,728 bytes, and so has a packets file.
+pub record IsSwitched (scheduler : Scheduler) (settings : Settings) (wanted : Wanted) (table : List ℕ) (files : List (List ℕ)) (texts : Texts)
+    : Type 0 where
   pub plan : SwitchPlan
   pub slots : ℕ
-  pub run : IsRunOf settings table files plan slots
-  pub are : texts ≡ texts_of wanted plan slots
+  pub run : IsRunOf scheduler settings table files plan slots
+  pub are : texts ≡ texts_under scheduler wanted plan slots
   pub small : IfSome texts.journal (λ bytes. length bytes ≤ MAX_JOURNAL_BYTES)
   pub packets_small : IfSome texts.packets (λ bytes. length bytes ≤ MAX_PACKETS_BYTES)
 
@@ -82,7 +96,7 @@ pub record IsSwitched (settings : Settings) (wanted : Wanted) (table : List ℕ)
 abbrev pub firm_texts : Summary → Texts
 firm_texts summary = record { outputs = []; report = []; journal = None; packets = None; summary = lines_text (summary_lines summary) }
 
--- The same under the second scheduler: the summary is that of the run of the job's table and captures. Where no admitted
+-- A `firm` job runs under the second scheduler: the summary is that of the run of the job's table and captures. Where no admitted
 -- packet of the best level of all is multicast, that level's longest wait is below N * N slots.
 pub record IsSwitchedByFirm (settings : Settings) (table : List ℕ) (files : List (List ℕ)) (texts : Texts) : Type 0 where
   pub plan : SwitchPlan
@@ -92,11 +106,12 @@ pub record IsSwitchedByFirm (settings : Settings) (table : List ℕ) (files : Li
   pub waits : HasShortWaits plan summary
   pub are : texts ≡ firm_texts summary
 
--- the texts that a job makes of a table and captures
+-- The texts that a job makes of a table and captures. Whether its run is made at a board or on one thread is nowhere in
+-- this: the bytes are the same.
 abbrev pub AreTexts : JobWords → List ℕ → List (List ℕ) → Texts → Type 0
-AreTexts (run r) table files texts = IsSwitched r.settings (wanted_by r) table files texts
-AreTexts (gen g) table files texts = IsSwitched g.settings nothing_wanted table files texts
-AreTexts (check file) table files texts = ⊥
+AreTexts (run r) table files texts = IsSwitched (decision_named r.scheduler) r.settings (wanted_by r) table files texts
+AreTexts (gen g) table files texts = IsSwitched (decision_named g.scheduler) g.settings nothing_wanted table files texts
+AreTexts (check c) table files texts = ⊥
 AreTexts (firm f) table files texts = IsSwitchedByFirm f.settings table files texts
 
 -- what a job comes to: texts, or the first cause for which it is refused
@@ -105,21 +120,21 @@ IsJobOutcome job table files (Ok texts) = AreTexts job table files texts
 IsJobOutcome job table files (Err fault) = IsRefusal (pace_in job) table files fault
 
 -- The journal of the job's run would have this many bytes, which are more than a journal file may have.
-pub record IsLongJournal (settings : Settings) (table : List ℕ) (files : List (List ℕ)) (size : ℕ) : Type 0 where
+pub record IsLongJournal (scheduler : Scheduler) (settings : Settings) (table : List ℕ) (files : List (List ℕ)) (size : ℕ) : Type 0 where
   pub plan : SwitchPlan
   pub slots : ℕ
-  pub run : IsRunOf settings table files plan slots
-  pub size_is : size ≡ length (journal_text plan slots)
+  pub run : IsRunOf scheduler settings table files plan slots
+  pub size_is : size ≡ length (journal_text_under scheduler plan slots)
   pub longer : MAX_JOURNAL_BYTES < size
 
 -- No journal of the job that is wanted is too long.
 abbrev pub JournalFits : RunWords → List ℕ → List (List ℕ) → Type 0
-JournalFits r table files = (size : ℕ) → r.journal ≡ true → IsLongJournal r.settings table files size → ⊥
+JournalFits r table files = (size : ℕ) → r.journal ≡ true → IsLongJournal (decision_named r.scheduler) r.settings table files size → ⊥
 
 -- The packets file of the job's run would have this many bytes, which are more than it may have.
-pub record IsLongPackets (settings : Settings) (table : List ℕ) (files : List (List ℕ)) (size : ℕ) : Type 0 where
+pub record IsLongPackets (scheduler : Scheduler) (settings : Settings) (table : List ℕ) (files : List (List ℕ)) (size : ℕ) : Type 0 where
   pub plan : SwitchPlan
   pub slots : ℕ
-  pub run : IsRunOf settings table files plan slots
-  pub size_is : size ≡ length (packets_text plan slots)
+  pub run : IsRunOf scheduler settings table files plan slots
+  pub size_is : size ≡ length (packets_text_under scheduler plan slots)
   pub longer : MAX_PACKETS_BYTES < size

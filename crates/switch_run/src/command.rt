@@ -9,18 +9,19 @@ ghost use Rattle.job_files.specs.declared.ending.Ending.{Ending};
 use crate::job_texts::job_texts;
 use buffer_sizing::laws as sizes;
 use card_worker::Gate;
-use firm_run::laws as second_runs;
 use job_files::{Ending, print_line, print_memory, print_usage, put_texts};
-use run_journals::laws as journals;
+use named_schedulers::laws as schedulers;
+use one_thread::laws as second_runs;
 use outside::Files;
 use packet_departures::laws as departures;
 use queue_measures::laws as measures;
 use reference_run::laws as references;
+use run_journals::laws as journals;
+use run_laws::{deliveries, ends, waits};
 use std::alloc::Global;
 use std::thread::Threads;
 use switch_jobs::laws as numbers;
 use switch_words::{Job, WordsFault, read_words};
-use run_laws::{deliveries, ends, waits};
 
 // Reads the job's inputs, runs it and writes its texts, up to the first call that is refused.
 fn attempt<R: Threads + Sync, F: Files, G: Gate + Sync>(
@@ -101,10 +102,14 @@ fn end_of<R: Threads + Sync, F: Files, G: Gate + Sync>(
 ///
 /// The words are those of a `run`, a `gen`, a `check` or a `firm` job, as [`switch_words`] says. A `run` and a `firm`
 /// job read their table and then each capture whole. Of these, or of the input that a `gen` job makes, the switch is
-/// planned and run to its end, for `firm` under the second scheduler. A `run` job then writes the capture of output
-/// `j` to `PREFIX.j.pcap`, for each `j` in order, the report to `PREFIX.report` and, each where it is wanted, the journal
-/// to `PREFIX.journal` and after it the packets file to `PREFIX.packets.csv`. Last, the summary is given to standard
-/// output. A `check` job reads a journal file and tells whether it is lawful.
+/// planned and run to its end: for `firm` under the second scheduler, for `run` and `gen` under the one that
+/// `--scheduler` names, `islip`, `firm` or `rrm`, `islip` where it names none. The run under `islip` is made at the
+/// board, by the line cards; with `--alone`, and under the other schedulers, it is made on one thread. What is written
+/// is the same either way. A `run` job then writes the capture of output `j` to `PREFIX.j.pcap`, for each `j` in order,
+/// the report to `PREFIX.report` and, each where it is wanted, the journal to `PREFIX.journal` and after it the packets
+/// file to `PREFIX.packets.csv`. Last, the summary is given to standard output. A `check` job reads a journal file and
+/// tells whether it is lawful: whether its matches are those of the scheduler that `--scheduler` names, `islip` where
+/// it names none.
 ///
 /// - 0: all is written, and nothing else changed; or the journal file is lawful.
 /// - 2: the words are not those of a job.
@@ -118,20 +123,22 @@ fn end_of<R: Threads + Sync, F: Files, G: Gate + Sync>(
 /// - 7: the journal file is not lawful.
 ///
 /// At 0 all that is written is that of the run which the words and the bytes that were read have, slot by slot, in
-/// whatever order the threads made it. Of that run: at each output each flow has just its admitted packets, in order
-/// of arrival, and the messages of its capture are in the order of the slots in which their last cells crossed; every
-/// packet arrives before the run's end and is counted once; a unicast queue that is posted is served within
-/// `longest_service_at_line_rate()` slots of `service_bound`, where nothing better is posted and no multicast of its
-/// level; a multicast head completes within twice as many slots as there are ports, where nothing better is posted; it
-/// has no more slots than the greatest number of arrival slots, the cells of the admitted packets counted for each
-/// output, and one; and an ideal switch whose queues stand at the outputs is never behind it, serves as many cells in
-/// all, and ends no later. A journal that was written is one that a `check` job finds lawful, and of which it tells the
+/// whatever order the threads made it. Of that run: at each output each flow has just its admitted packets, in order of
+/// arrival, and the messages of its capture are in the order of the slots in which their last cells crossed; every
+/// packet arrives before the run's end and is counted once; a unicast queue that is posted is served, where nothing
+/// better is posted and no multicast of its level, within `longest_service_at_line_rate()` slots of `service_bound`
+/// under `islip` and within `n * n` slots of `n` ports under `firm`, while none is promised for `rrm`; a multicast head
+/// completes within twice as many slots as there are ports, where nothing better is posted; it has no more slots than
+/// the greatest number of arrival slots, the cells of the admitted packets counted for each output, and one; and an
+/// ideal switch whose queues stand at the outputs is never behind it, serves as many cells in all, and ends no later. A
+/// journal that was written is one that a `check` job of the same scheduler finds lawful, and of which it tells the
 /// slots and the longest waits that the summary tells. The numbers of an input's queues add up to those of its packets.
 /// Where the run drops no packet, it is the same with queues of each depth from the cells of its deepest queue on, and
 /// with each smaller depth a packet is dropped. Each admitted packet has one departure at each of its outputs, no two
-/// have the same at one output, those of a flow are in the order of arrival, the messages of each output's capture are in
-/// the order of departures, and there are as many as the summary has copies. Of the run of a `firm` job the like holds
-/// under the second scheduler.
+/// have the same at one output, those of a flow are in the order of arrival, the messages of each output's capture are
+/// in the order of departures, and there are as many as the summary has copies. Of the run of a `firm` job, under the
+/// second scheduler, the same is promised of what is delivered, of arrivals and counts, of how soon a unicast queue is
+/// served and a multicast head completes, of how long waits are, and of its slots.
 ///
 /// At 2 to 5 and at 7 every file is as before. Each status but 0 gives one line to standard error; where a call
 /// of that is refused, the rest of the line is left out, and the status stays.
@@ -147,7 +154,8 @@ pub fn switch_main<R: Threads + Sync, F: Files, G: Gate + Sync>(
     deliveries::admitted_packets_are_delivered();
     waits::waiting_queues_are_served();
     waits::best_level_waits_are_short();
-    waits::multicast_heads_complete();
+    second_runs::multicast_completes_under_each();
+    schedulers::each_is_a_scheduler();
     ends::runs_end();
     ends::busy_slots_match();
     ends::arrivals_come_first();

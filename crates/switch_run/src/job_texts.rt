@@ -1,22 +1,37 @@
-ghost use Rattle.std.specs.Prelude.{◌≡◌, ℕ, Option, string_bytes, IfErr, IfOk, OnOk};
+ghost use Rattle.std.specs.Prelude.{◌≡◌, ℕ, Option, IfErr, IfOk, OnOk};
 ghost use Rattle.outside.specs.Contents.{Contents};
 ghost use Rattle.outside.specs.Faults.{NeverFall, Place};
 ghost use Rattle.switch_words.specs.Limits.{IsFirmWithinLimits, IsGenWithinLimits, IsRunWithinLimits, IsWithinLimits};
-ghost use Rattle.switch_words.specs.Reading.{run, gen, check, firm, run_words, firm_words, job_words};
+ghost use Rattle.switch_words.specs.Reading.{run, gen, check, firm, run_words, check_words, firm_words, job_words};
 ghost use Rattle.switch_run.specs.Endings.{Stops};
 ghost use Rattle.switch_run.specs.MakingSteps.{AreToWrite, to_write};
+ghost use Rattle.switch_run.specs.Switched.{wanted_by};
 
-use crate::making::{Measured, NOTHING_MEASURED, plan_and_run, plan_and_run_firm};
+use crate::making::{RunWay, plan_and_run, plan_and_run_firm};
 use crate::texts::{run_texts, summary_alone};
 use card_worker::Gate;
-use journal_command::{CheckEnding, check_file};
 use job_files::{Ending, JobTexts, made_inputs, read_inputs, reads_of_firm, reads_of_run};
+use journal_command::{CheckEnding, check_file};
 use outside::Files;
+use run_notes::Wanted;
 use std::alloc::Global;
 use std::thread::Threads;
 use switch_words::{CheckJob, FirmJob, GenJob, Job, RunJob};
 
-// What a `run` job writes: its inputs are read, and run at a board.
+// What the run of a `run` job is to tell.
+fn wanted_by(job: &RunJob) -> Wanted
+    ensures { result ≡ wanted_by (run_words job.now) }
+{
+    Wanted {
+        slots: job.slots,
+        journal: job.journal,
+        reference: job.reference,
+        queues: job.queues,
+        packets: job.packets,
+    }
+}
+
+// What a `run` job writes: its inputs are read, and run.
 fn texts_of_run<R: Threads + Sync, F: Files, G: Gate + Sync>(
     rt: &R,
     alloc: Global,
@@ -34,19 +49,22 @@ fn texts_of_run<R: Threads + Sync, F: Files, G: Gate + Sync>(
         Ok(inputs) => inputs,
         Err(ending) => return Err(ending),
     };
-    let measured = Measured {
-        reference: job.reference,
-        queues: job.queues,
-        packets: job.packets,
+    let way = RunWay {
+        scheduler: job.scheduler,
+        alone: job.alone,
+        wanted: wanted_by(job),
     };
-    let ran = match plan_and_run(rt, alloc, &job.settings, measured, inputs, gate) {
+    let ran = match plan_and_run(rt, alloc, &job.settings, way, inputs, gate) {
         Ok(ran) => ran,
         Err(ending) => return Err(ending),
     };
-    run_texts(alloc, job, &ran)
+    match run_texts(alloc, job, ran) {
+        Ok(texts) => Ok(texts),
+        Err(_) => Err(Ending::OutOfMemory),
+    }
 }
 
-// What a `gen` job writes: its inputs are made, and run at a board.
+// What a `gen` job writes: its inputs are made, and run.
 fn texts_of_gen<R: Threads + Sync, G: Gate + Sync>(
     rt: &R,
     alloc: Global,
@@ -60,11 +78,16 @@ fn texts_of_gen<R: Threads + Sync, G: Gate + Sync>(
     let Ok(inputs) = made_inputs(alloc, job) else {
         return Err(Ending::OutOfMemory);
     };
-    let ran = match plan_and_run(rt, alloc, &job.settings, NOTHING_MEASURED, inputs, gate) {
+    let way = RunWay {
+        scheduler: job.scheduler,
+        alone: false,
+        wanted: Wanted::NOTHING,
+    };
+    let ran = match plan_and_run(rt, alloc, &job.settings, way, inputs, gate) {
         Ok(ran) => ran,
         Err(ending) => return Err(ending),
     };
-    match summary_alone(alloc, &ran.outcome.summary) {
+    match summary_alone(alloc, &ran.summary) {
         Ok(texts) => Ok(texts),
         Err(_) => Err(Ending::OutOfMemory),
     }
@@ -99,10 +122,10 @@ fn texts_of_firm<R: Threads + Sync, F: Files>(
 
 // How a check ends.
 fn end_of_check<F: Files>(alloc: Global, job: &CheckJob, files: &mut F) -> Ending
-    ensures stops { Stops (check (string_bytes job.now.file)) (F.told files.old) (F.faults files.old) (F.faults files.new) (F.told files.new) result }
+    ensures stops { Stops (check (check_words job.now)) (F.told files.old) (F.faults files.old) (F.faults files.new) (F.told files.new) result }
     ensures never_fall { NeverFall (F.faults files.old) (F.faults files.new) }
 {
-    match check_file(alloc, job.file.as_str(), files) {
+    match check_file(alloc, job.file.as_str(), job.scheduler, files) {
         CheckEnding::OutOfMemory => Ending::OutOfMemory,
         ending => Ending::Checked(ending),
     }

@@ -1,13 +1,14 @@
 //! Laws of jobs: each is the contract of a call that does nothing.
 
-ghost use Rattle.std.specs.Prelude.{◌≡◌, ℕ, Option, List, Result};
+ghost use Rattle.std.specs.Prelude.{◌≡◌, ◌↔◌, ℕ, Bool, Option, List, Result};
 ghost use Rattle.switch_words.specs.declared.limits.TheConstants.{MAX_WORKERS};
 ghost use Rattle.switch_words.specs.declared.job.Settings.{Settings};
 ghost use Rattle.switch_words.specs.Limits.{IsUpTo};
 ghost use Rattle.switch_words.specs.Reading.{JobWords};
 ghost use Rattle.switch_plan.specs.declared.fault.PlanFault.{PlanFault};
 ghost use Rattle.switch_plan.specs.Refusals.{IsRefusal};
-ghost use Rattle.job_files.specs.Jobs.{pace_in, settings_with, with_workers};
+ghost use Rattle.eslip_rounds.specs.Schedulers.{Scheduler};
+ghost use Rattle.job_files.specs.Jobs.{pace_in, settings_with, with_alone, with_workers};
 ghost use Rattle.job_files.specs.OutputFiles.{Texts};
 ghost use Rattle.switch_run.specs.Switched.{AreTexts, IsJobOutcome, IsLongJournal, IsLongPackets};
 
@@ -25,8 +26,16 @@ pub fn one_outcome()
 pub fn workers_make_no_difference()
     ensures outcome { (job : JobWords) (workers : ℕ) (table : List ℕ) (files : List (List ℕ)) (outcome : Result Texts PlanFault) → IsUpTo MAX_WORKERS workers
         → IsJobOutcome job table files outcome → IsJobOutcome (with_workers workers job) table files outcome }
-    ensures long_journal { (settings : Settings) (workers : ℕ) (table : List ℕ) (files : List (List ℕ)) (size : ℕ) → IsUpTo MAX_WORKERS workers
-        → IsLongJournal settings table files size → IsLongJournal (settings_with workers settings) table files size }
-    ensures long_packets { (settings : Settings) (workers : ℕ) (table : List ℕ) (files : List (List ℕ)) (size : ℕ) → IsUpTo MAX_WORKERS workers
-        → IsLongPackets settings table files size → IsLongPackets (settings_with workers settings) table files size }
+    ensures long_journal { (scheduler : Scheduler) (settings : Settings) (workers : ℕ) (table : List ℕ) (files : List (List ℕ)) (size : ℕ)
+        → IsUpTo MAX_WORKERS workers
+        → IsLongJournal scheduler settings table files size → IsLongJournal scheduler (settings_with workers settings) table files size }
+    ensures long_packets { (scheduler : Scheduler) (settings : Settings) (workers : ℕ) (table : List ℕ) (files : List (List ℕ)) (size : ℕ)
+        → IsUpTo MAX_WORKERS workers
+        → IsLongPackets scheduler settings table files size → IsLongPackets scheduler (settings_with workers settings) table files size }
+{}
+
+/// Whether a run is made at the board or on one thread makes no difference: the job has the same outcome.
+pub fn one_thread_makes_no_difference()
+    ensures { (job : JobWords) (alone : Bool) (table : List ℕ) (files : List (List ℕ)) (outcome : Result Texts PlanFault)
+        → IsJobOutcome job table files outcome ↔ IsJobOutcome (with_alone alone job) table files outcome }
 {}

@@ -5,9 +5,6 @@ mod command;
 mod job_texts;
 pub mod laws;
 mod making;
-mod packets;
-mod queues;
-mod reference;
 mod texts;
 
 pub use command::switch_main;

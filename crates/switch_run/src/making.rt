@@ -1,47 +1,46 @@
 ghost use Rattle.std.specs.Prelude.{◌≡◌, IfErr, IfOk};
-ghost use Rattle.slot_report.specs.declared.summary.Summary.{Summary as ASummary};
+ghost use Rattle.eslip_rounds.specs.Decisions.{decision_of};
+ghost use Rattle.named_schedulers.specs.Named.{decision_named};
 ghost use Rattle.switch_words.specs.Limits.{AreWithinLimits};
 ghost use Rattle.switch_plan.specs.GoodPlans.{IsGood, switch_plan_of};
 ghost use Rattle.switch_plan.specs.ReadingSteps.{bytes_of_files};
-ghost use Rattle.firm_run.specs.FirmRuns.{IsFirmRun};
 ghost use Rattle.job_files.specs.FileSteps.{AreOfSize};
-ghost use Rattle.switch_run.specs.MakingSteps.{IsFirmRan, IsRan, IsRanOf, StopsPlan};
+ghost use Rattle.switch_run.specs.MakingSteps.{IsFirmRan, IsNotedRun, IsRan, IsRanOf, StopsPlan, StopsRun, StopsTexts, ending_of};
 ghost use Rattle.switch_run.specs.Switched.{IsPlanned};
 
-use crate::packets::{noted_times, times_for};
-use crate::queues::{measures_for, queue_lines};
-use crate::reference::{reference_for, reference_lines};
+use card_core::CardOut;
 use card_worker::Gate;
-use firm_run::run_firm;
 use job_files::{Ending, Inputs};
-use packet_times::PacketTimes;
+use one_thread::{AloneOutcome, run_alone, run_firm};
 use pcap_records::Link;
 use rotating_pick::OutOfMemory;
+use run_notes::{NotedTexts, NotesFault, RunNotes, Wanted};
+use scheduler_names::SchedulerName;
 use slot_report::Summary;
 use std::alloc::Global;
-use std::marker::Model;
 use std::thread::Threads;
 use switch_jobs::{Outcome, run_job};
 use switch_plan::{Plan, PlanFault, jobs};
 use switch_words::Settings;
 
-/// What a run is measured by beside its numbers, each where it is wanted.
+/// How a plan is run.
 #[derive(Clone, Copy)]
-pub(crate) struct Measured {
-    /// The output-queued reference.
-    pub(crate) reference: bool,
-    /// The lengths of the queues.
-    pub(crate) queues: bool,
-    /// The times of the packets.
-    pub(crate) packets: bool,
+pub(crate) struct RunWay {
+    /// The scheduler of the run.
+    pub(crate) scheduler: SchedulerName,
+    /// Whether the run is made on one thread under the board's scheduler too.
+    pub(crate) alone: bool,
+    /// What the run is to tell beside its captures and its numbers.
+    pub(crate) wanted: Wanted,
 }
 
-/// Nothing of these.
-pub(crate) const NOTHING_MEASURED: Measured = Measured {
-    reference: false,
-    queues: false,
-    packets: false,
-};
+// A run that came to its end, with the notes of its slots.
+#[derive(Drop)]
+struct NotedRun {
+    summary: Summary,
+    outputs: Vec<CardOut>,
+    notes: RunNotes,
+}
 
 /// A run that came to its end.
 #[derive(Drop)]
@@ -50,30 +49,12 @@ pub(crate) struct EndedRun {
     pub(crate) nano: bool,
     /// Their link type.
     pub(crate) link: Link,
-    /// What the run left.
-    pub(crate) outcome: Outcome,
-    /// The lines of the reference, where these are wanted.
-    pub(crate) reference: Option<String>,
-    /// The lines of the queues, where these are wanted.
-    pub(crate) queues: Option<String>,
-    /// The times of the packets, where these are wanted.
-    pub(crate) times: Option<PacketTimes>,
-}
-
-impl Model for EndedRun {
-    ghost use Rattle.std.specs.Prelude.{option_map, string_bytes};
-    ghost use Rattle.switch_run.specs.MakingSteps.{RunLeft};
-
-    ghost Value = { RunLeft };
-
-    ghost view = { λ ran. record {
-      nano = ran.nano;
-      link = ran.link;
-      outcome = ran.outcome;
-      reference = option_map string_bytes ran.reference;
-      queues = option_map string_bytes ran.queues;
-      times = ran.times;
-    } };
+    /// The numbers of the run.
+    pub(crate) summary: Summary,
+    /// What the card of each port is left with, by port.
+    pub(crate) outputs: Vec<CardOut>,
+    /// What the run tells beside these.
+    pub(crate) told: NotedTexts,
 }
 
 // The plan of the inputs.
@@ -96,57 +77,132 @@ fn planned<R: Threads + Sync>(
     }
 }
 
-// Runs the plan to its end, with the measures that are wanted.
+// Runs the plan at a board, whose journal is noted.
+fn run_at_board<R: Threads + Sync, G: Gate + Sync>(
+    rt: &R,
+    alloc: Global,
+    plan: Plan,
+    wanted: Wanted,
+    gate: &G,
+) -> Result<NotedRun, OutOfMemory>
+    requires { IsGood (switch_plan_of plan) }
+    ensures { IfOk result (IsNotedRun decision_of (switch_plan_of plan) wanted) }
+{
+    let mut notes = RunNotes::make(alloc, wanted, &plan)?;
+    let outcome = run_job(rt, alloc, plan, gate)?;
+    notes.note_journal(&outcome.journal)?;
+    let Outcome {
+        outputs,
+        summary,
+        ..
+    } = outcome;
+    Ok(NotedRun {
+        summary,
+        outputs,
+        notes,
+    })
+}
+
+// Runs the plan on this thread under the scheduler.
+fn run_on_thread(
+    alloc: Global,
+    plan: Plan,
+    scheduler: SchedulerName,
+    wanted: Wanted,
+) -> Result<NotedRun, OutOfMemory>
+    requires { IsGood (switch_plan_of plan) }
+    ensures { IfOk result (IsNotedRun (decision_named scheduler) (switch_plan_of plan) wanted) }
+{
+    let AloneOutcome {
+        summary,
+        outputs,
+        notes,
+    } = run_alone(alloc, plan, scheduler, wanted)?;
+    Ok(NotedRun {
+        summary,
+        outputs,
+        notes,
+    })
+}
+
+// Runs the plan to its end: at a board where its scheduler is the board's and it is not to be run alone, else on this
+// thread.
+fn run_noted<R: Threads + Sync, G: Gate + Sync>(
+    rt: &R,
+    alloc: Global,
+    plan: Plan,
+    way: RunWay,
+    gate: &G,
+) -> Result<NotedRun, OutOfMemory>
+    requires { IsGood (switch_plan_of plan) }
+    ensures { IfOk result (IsNotedRun (decision_named way.scheduler) (switch_plan_of plan) way.wanted) }
+{
+    match way.scheduler {
+        SchedulerName::Islip if !way.alone => run_at_board(rt, alloc, plan, way.wanted, gate),
+        scheduler => run_on_thread(alloc, plan, scheduler, way.wanted),
+    }
+}
+
+// How a job ends whose texts are not made.
+fn ending_of(fault: NotesFault) -> Ending
+    ensures { result ≡ ending_of fault }
+{
+    match fault {
+        NotesFault::JournalTooLong(size) => Ending::JournalTooLong(size),
+        NotesFault::PacketsTooLong(size) => Ending::PacketsTooLong(size),
+        NotesFault::OutOfMemory => Ending::OutOfMemory,
+    }
+}
+
+// Runs the plan to its end, and makes the texts that are wanted of it.
 fn run_plan<R: Threads + Sync, G: Gate + Sync>(
     rt: &R,
     alloc: Global,
     plan: Plan,
-    measured: Measured,
+    way: RunWay,
     gate: &G,
-) -> Result<EndedRun, OutOfMemory>
+) -> Result<EndedRun, Ending>
     requires { IsGood (switch_plan_of plan) }
-    ensures ran { IfOk result (IsRanOf (switch_plan_of plan) measured) }
+    ensures ran { IfOk result (IsRanOf (decision_named way.scheduler) (switch_plan_of plan) way.wanted) }
+    ensures stops { IfErr result (StopsRun (decision_named way.scheduler) (switch_plan_of plan) way.wanted) }
 {
     let (nano, link) = (plan.nano, plan.link);
-    let reference = reference_for(alloc, measured.reference, &plan)?;
-    let measures = measures_for(alloc, measured.queues, &plan)?;
-    let times = times_for(alloc, measured.packets, &plan)?;
-    let outcome = run_job(rt, alloc, plan, gate)?;
-    let reference = reference_lines(alloc, reference, &outcome.journal)?;
-    let queues = queue_lines(alloc, measures, &outcome.journal)?;
-    let times = noted_times(times, &outcome.journal)?;
-    Ok(EndedRun {
-        nano,
-        link,
-        outcome,
-        reference,
-        queues,
-        times,
-    })
+    let NotedRun {
+        summary,
+        outputs,
+        notes,
+    } = run_noted(rt, alloc, plan, way, gate)?;
+    match notes.texts(alloc) {
+        Ok(told) => Ok(EndedRun {
+            nano,
+            link,
+            summary,
+            outputs,
+            told,
+        }),
+        Err(fault) => Err(ending_of(fault)),
+    }
 }
 
-/// Plans and runs the job of the inputs, with the measures that are wanted.
+/// Plans and runs the job of the inputs, and makes the texts that are wanted of its run.
 pub(crate) fn plan_and_run<R: Threads + Sync, G: Gate + Sync>(
     rt: &R,
     alloc: Global,
     settings: &Settings,
-    measured: Measured,
+    way: RunWay,
     inputs: Inputs,
     gate: &G,
 ) -> Result<EndedRun, Ending>
     requires limits { AreWithinLimits settings.now }
     requires size { AreOfSize inputs.table.items (bytes_of_files inputs.captures) }
-    ensures ran { IfOk result (IsRan settings.now measured inputs.table.items (bytes_of_files inputs.captures)) }
-    ensures stops { IfErr result (StopsPlan settings.now.pace_us inputs.table.items (bytes_of_files inputs.captures)) }
+    ensures ran { IfOk result (IsRan (decision_named way.scheduler) settings.now way.wanted inputs.table.items (bytes_of_files inputs.captures)) }
+    ensures stops { IfErr result (StopsTexts (decision_named way.scheduler) settings.now way.wanted inputs.table.items (bytes_of_files inputs.captures)) }
 {
     let plan = match planned(rt, alloc, settings, inputs) {
         Ok(plan) => plan,
         Err(ending) => return Err(ending),
     };
-    match run_plan(rt, alloc, plan, measured, gate) {
-        Ok(ran) => Ok(ran),
-        Err(_) => Err(Ending::OutOfMemory),
-    }
+    run_plan(rt, alloc, plan, way, gate)
 }
 
 /// Plans the job of the inputs, runs it under the second scheduler, and answers its summary.

@@ -128,7 +128,7 @@ fn compare_outputs(
 }
 
 // Runs a job, and compares all that it writes.
-fn journal_command<R: Threads + Sync + Abort>(
+fn check_job<R: Threads + Sync + Abort>(
     rt: &R,
     alloc: Global,
     texts: &Texts<'_>,
@@ -168,7 +168,7 @@ fn raw_packets_cross(rt: HostRuntime) -> Result<(), Fail> {
     for job in RAW_JOBS {
         let inputs = captures_of(rt.alloc(), job.inputs)?;
         let outputs = captures_of(rt.alloc(), job.outputs)?;
-        journal_command(&rt, rt.alloc(), &job.texts, inputs, &outputs)?;
+        check_job(&rt, rt.alloc(), &job.texts, inputs, &outputs)?;
     }
     Ok(())
 }
@@ -178,7 +178,7 @@ fn captures_keep_their_bytes_and_times(rt: HostRuntime) -> Result<(), Fail> {
     for job in BYTES_JOBS {
         let inputs = copies_of(rt.alloc(), job.inputs)?;
         let outputs = copies_of(rt.alloc(), job.outputs)?;
-        journal_command(&rt, rt.alloc(), &job.texts, inputs, &outputs)?;
+        check_job(&rt, rt.alloc(), &job.texts, inputs, &outputs)?;
     }
     Ok(())
 }

@@ -5,6 +5,7 @@ use crate::commands::{Given, PIECE, command, compare_file, compare_text, files_o
 use card_worker::{Gate, OpenGate};
 use outside::MemFiles;
 use rotating_pick::{MAX_FILE_BYTES, OutOfMemory};
+use scheduler_names::SchedulerName;
 use std::alloc::{AllocError, Global};
 use std::process::Abort;
 use std::sync::atomic::{AtomicU64, Ordering};
@@ -103,13 +104,30 @@ fn given_files(alloc: Global) -> Result<Given, AllocError> {
     Ok(given)
 }
 
+// Runs the command of these words, and answers its files.
+fn files_of_words<R: Threads + Sync + Abort>(
+    rt: &R,
+    alloc: Global,
+    words: &[&str],
+) -> Result<MemFiles, Fail> {
+    let mut files = files_of(rt, alloc, given_files(alloc)?, PIECE, &[])?;
+    let status = command(rt, alloc, words, &mut files, &OpenGate)?;
+    compare_text(rt, files.err_text(), "", words);
+    assert_eq!(rt; status, 0);
+    compare_text(rt, files.out_text(), SUMMARY, words);
+    for (name, fill, port) in OUTPUTS {
+        let expected = output_capture(alloc, fill, port)?;
+        compare_file(rt, &files, name, Some(expected.as_slice()), words);
+    }
+    Ok(files)
+}
+
 // Runs the command with `workers` workers, and answers its files.
 fn files_after<R: Threads + Sync + Abort>(
     rt: &R,
     alloc: Global,
     workers: &str,
 ) -> Result<MemFiles, Fail> {
-    let mut files = files_of(rt, alloc, given_files(alloc)?, PIECE, &[])?;
     let words = [
         "run",
         "--slots",
@@ -122,15 +140,7 @@ fn files_after<R: Threads + Sync + Abort>(
         "c",
         "d",
     ];
-    let status = command(rt, alloc, &words, &mut files, &OpenGate)?;
-    compare_text(rt, files.err_text(), "", &words);
-    assert_eq!(rt; status, 0);
-    compare_text(rt, files.out_text(), SUMMARY, &words);
-    for (name, fill, port) in OUTPUTS {
-        let expected = output_capture(alloc, fill, port)?;
-        compare_file(rt, &files, name, Some(expected.as_slice()), &words);
-    }
-    Ok(files)
+    files_of_words(rt, alloc, &words)
 }
 
 #[test]
@@ -176,6 +186,46 @@ fn are_short(captures: &[Vec<u8>]) -> bool
         .all(|capture| capture.len() <= MAX_FILE_BYTES)
 }
 
+#[test]
+fn one_thread_does_not_show_in_files(rt: HostRuntime) -> Result<(), Fail> {
+    let at_board = [
+        "run",
+        "--slots",
+        "--journal",
+        "--reference",
+        "--queues",
+        "--packets",
+        "t",
+        "out",
+        "a",
+        "b",
+        "c",
+        "d",
+    ];
+    let alone = [
+        "run",
+        "--alone",
+        "--slots",
+        "--journal",
+        "--reference",
+        "--queues",
+        "--packets",
+        "t",
+        "out",
+        "a",
+        "b",
+        "c",
+        "d",
+    ];
+    let expected = files_of_words(&rt, rt.alloc(), &at_board)?;
+    let files = files_of_words(&rt, rt.alloc(), &alone)?;
+    for name in ["out.report", "out.journal", "out.packets.csv"] {
+        assert!(rt; expected.file(name).is_some(), "{name}");
+        assert!(rt; files.file(name) == expected.file(name), "{name}");
+    }
+    Ok(())
+}
+
 // What is given to the workers.
 #[derive(Clone, Copy, Debug)]
 enum Traffic {
@@ -200,6 +250,7 @@ fn settings_for(workers: u32) -> Settings
 fn made_packets(alloc: Global) -> Result<Made, OutOfMemory> {
     let job = GenJob {
         settings: settings_for(1),
+        scheduler: SchedulerName::Islip,
         seed: 1,
         count: 2,
         ports: 2,

@@ -1,11 +1,12 @@
 use crate::ending::{Ending, Written};
 use crate::error_lines::print_line;
 use crate::inputs::InputFile;
-use journal_command::CheckEnding;
 use forward_table::TableFault;
 use journal_check::Reason;
+use journal_command::CheckEnding;
 use outside::MemFiles;
 use pcap_records::PcapFault;
+use scheduler_names::SchedulerName;
 use std::alloc::{AllocError, Global};
 use std::process::Abort;
 use std::test;
@@ -28,11 +29,13 @@ fn job(alloc: Global) -> Result<Job, AllocError> {
             workers: 4,
             pace_us: None,
         },
+        scheduler: SchedulerName::Islip,
         slots: false,
         journal: true,
         reference: false,
         queues: false,
         packets: false,
+        alone: false,
         table: String::from_str(alloc, "the table")?,
         prefix: String::from_str(alloc, "to")?,
         inputs: input_names(alloc)?,
@@ -212,6 +215,7 @@ fn checks_print_their_lines(rt: HostRuntime) -> Result<(), test::Fail> {
     ];
     for (ending, line) in rows {
         let job = Job::Check(CheckJob {
+            scheduler: SchedulerName::Islip,
             file: String::from_str(rt.alloc(), "f")?,
         });
         prints_of(&rt, rt.alloc(), &job, Ending::Checked(ending), line)?;
@@ -234,6 +238,7 @@ fn unlawful_journals_print_their_lines(rt: HostRuntime) -> Result<(), test::Fail
     ];
     for (slot, reason, line) in rows {
         let job = Job::Check(CheckJob {
+            scheduler: SchedulerName::Islip,
             file: String::from_str(rt.alloc(), "f")?,
         });
         let ending = Ending::Checked(CheckEnding::No { slot, reason });

@@ -1,12 +1,12 @@
 use Rattle.std.proofs.Common.{ap, map, string_bytes, ◌∙◌}
 use Rattle.std.specs.Prelude.{Ok}
-use Rattle.eslip_rounds.specs.Decisions.{decision_of}
-use Rattle.eslip_rounds.proofs.Scheduling.{IsScheduler-decision_of}
-use Rattle.switch_run.specs.Causes.{Answers}
+use Rattle.named_schedulers.specs.Named.{decision_named}
+use Rattle.switch_run.specs.Causes.{Answers, scheduler_in}
 use Rattle.switch_run.specs.Endings.{Command, command_of}
 use Rattle.switch_run.proofs.Answering.{run_ends, run_good, too_long_exact, usage_exact}
 use Rattle.switch_run.proofs.Refusing.{journal_exact, packets_exact, refusal_exact}
 use Rattle.switch_run.proofs.Completing.{complete}
+use Rattle.switch_run.proofs.Bounds.{serves_named, waits_named}
 use Rattle.switch_run.proofs.Checking.{check_exact}
 use Rattle.switch_run.proofs.command.switch_main.Goals as goal
 
@@ -32,29 +32,33 @@ returns g c =
       complete = complete command status ending answers;
       -- the laws of runs, for the run behind the command
       runs = λ plan slots is.
+          let name = scheduler_in is.job in
+          let scheduler = decision_named name in
+          let fair = c.each_is_a_scheduler.ensures name in
           let good = run_good is.job _ _ plan slots is.run in
           let ends = run_ends is.job _ _ plan slots is.run in
           let lawful = c.journals_of_runs_are_lawful.ensures in
+          let firm = c.runs_are_as_promised.ensures plan slots good in
           record {
-            delivers = c.admitted_packets_are_delivered.ensures.flows decision_of plan slots IsScheduler-decision_of good ends;
-            no_others = c.admitted_packets_are_delivered.ensures.no_others decision_of plan slots IsScheduler-decision_of good;
-            arrivals = c.arrivals_come_first.ensures decision_of plan slots ends;
-            interleaves = c.flows_are_interleaved.ensures decision_of plan slots IsScheduler-decision_of good ends;
-            counts = c.packets_are_counted_once.ensures decision_of plan slots good ends;
-            serves = c.waiting_queues_are_served.ensures plan slots good;
-            waits = c.best_level_waits_are_short.ensures plan slots good;
-            completes = c.multicast_heads_complete.ensures plan slots good;
-            few_slots = c.runs_end.ensures.bound decision_of plan slots IsScheduler-decision_of good ends;
-            busy_slots = c.busy_slots_match.ensures decision_of plan IsScheduler-decision_of good;
-            never_ahead = λ j t. c.reference_is_never_behind.ensures plan slots j t good;
-            serves_as_many = λ j. c.whole_runs_serve_the_same.ensures.count plan slots j good ends;
-            ends_no_later = c.lines_tell_the_delays.ensures.ends plan slots good ends;
-            delays = c.lines_tell_the_delays.ensures.delays plan slots good ends;
-            journals = lawful.answer plan slots good ends ∙ ap Ok (lawful.numbers plan slots);
-            queues = c.lines_add_up.ensures decision_of plan slots good (c.arrivals_come_first.ensures decision_of plan slots ends);
-            sized = c.runs_are_sized.ensures decision_of plan slots good ends;
-            departures = c.runs_have_departures.ensures decision_of plan slots IsScheduler-decision_of good ends;
-            copies = c.departures_are_counted.ensures decision_of plan slots IsScheduler-decision_of good ends;
+            delivers = c.admitted_packets_are_delivered.ensures.flows scheduler plan slots fair good ends;
+            no_others = c.admitted_packets_are_delivered.ensures.no_others scheduler plan slots fair good;
+            arrivals = c.arrivals_come_first.ensures scheduler plan slots ends;
+            interleaves = c.flows_are_interleaved.ensures scheduler plan slots fair good ends;
+            counts = c.packets_are_counted_once.ensures scheduler plan slots good ends;
+            serves = serves_named name plan slots ends (c.waiting_queues_are_served.ensures plan slots good) firm;
+            waits = waits_named name plan slots ends (c.best_level_waits_are_short.ensures plan slots good) firm;
+            completes = c.multicast_completes_under_each.ensures name plan slots good;
+            few_slots = c.runs_end.ensures.bound scheduler plan slots fair good ends;
+            busy_slots = c.busy_slots_match.ensures scheduler plan fair good;
+            never_ahead = λ j t. c.reference_is_never_behind.ensures scheduler plan slots j t fair good;
+            serves_as_many = λ j. c.whole_runs_serve_the_same.ensures.count scheduler plan slots j fair good ends;
+            ends_no_later = c.lines_tell_the_delays.ensures.ends scheduler plan slots fair good ends;
+            delays = c.lines_tell_the_delays.ensures.delays scheduler plan slots fair good ends;
+            journals = lawful.answer scheduler plan slots fair good ends ∙ ap Ok (lawful.numbers scheduler plan slots);
+            queues = c.lines_add_up.ensures scheduler plan slots good (c.arrivals_come_first.ensures scheduler plan slots ends);
+            sized = c.runs_are_sized.ensures scheduler plan slots good ends;
+            departures = c.runs_have_departures.ensures scheduler plan slots fair good ends;
+            copies = c.departures_are_counted.ensures scheduler plan slots fair good ends;
           };
       firm_runs = λ plan slots is. c.runs_are_as_promised.ensures plan slots is.planned.good is.ends;
     }

@@ -1,17 +1,14 @@
-use Rattle.std.proofs.Common.{ap, map, refl, ◌∙◌}
-use Rattle.slot_report.specs.Lines.{lines_text}
-use Rattle.slot_report.specs.Texts.{summary_lines}
+use Rattle.std.proofs.Common.{ap, map}
 use Rattle.switch_plan.specs.ReadingSteps.{bytes_of_files}
-use Rattle.switch_words.specs.Reading.{gen}
 use Rattle.job_files.specs.OutputFiles.{shown}
-use Rattle.switch_run.specs.MakingSteps.{RunLeft, to_write}
+use Rattle.switch_run.specs.MakingSteps.{to_write}
 use Rattle.switch_run.proofs.RunTexts.{gen_made}
-use Rattle.switch_run.proofs.Stopping.{plan_stops}
+use Rattle.switch_run.proofs.Stopping.{gen_stops}
 use Rattle.switch_run.proofs.job_texts.texts_of_gen.Goals as goal
 
 pub returns-in-Err-clause-stops : goal.returns-in-Err-clause-stops
 returns-in-Err-clause-stops g c told was now =
-    plan_stops (gen c.args.job.now) told told was now _ _ c.in-Err.ending refl (c.in-Ok.ensures.table, c.in-Ok.ensures.captures) c.in-Err.ensures.stops
+    gen_stops c.args.job.now told was now _ _ c.in-Err.ending (c.in-Ok.ensures.table, c.in-Ok.ensures.captures) c.in-Err.ensures.stops
 
 pub returns-in-Ok-summary_alone-clause-made : goal.returns-in-Ok-summary_alone-clause-made
 returns-in-Ok-summary_alone-clause-made g c told =
@@ -22,7 +19,6 @@ returns-in-Ok-summary_alone-clause-made g c told =
       captures = bytes_of_files inputs.captures;
       inputs = (c.in-Ok.ensures.table, c.in-Ok.ensures.captures);
       few = c.in-Ok.ensures.size.ports.most;
-      made = gen_made c.args.job.now _ inputs.table.items (bytes_of_files inputs.captures) _ c.in-Ok-plan_and_run.ensures.ran (to_write texts)
-          (ap (map shown) c.in-Ok-summary_alone.ensures.files)
-          (c.in-Ok-summary_alone.ensures.summary ∙ ap (λ (it : RunLeft). lines_text (summary_lines it.outcome.summary)) c.ran.view_is);
+      made = gen_made c.args.job.now inputs.table.items (bytes_of_files inputs.captures) _ c.in-Ok-plan_and_run.ensures.ran (to_write texts)
+          (ap (map shown) c.in-Ok-summary_alone.ensures.files) c.in-Ok-summary_alone.ensures.summary;
     }

@@ -4,8 +4,7 @@ use Rattle.switch_plan.specs.ReadingSteps.{bytes_of_files}
 use Rattle.switch_words.specs.Reading.{run, run_words}
 use Rattle.job_files.specs.Jobs.{run_reads}
 use Rattle.job_files.proofs.InputFiles.{read_of_size}
-use Rattle.switch_run.proofs.Stopping.{plan_stops, reading_stops}
-use Rattle.switch_run.proofs.ToWrite.{some_slots, texts_not_made, texts_to_write}
+use Rattle.switch_run.proofs.Stopping.{reading_stops, texts_stop}
 use Rattle.switch_run.proofs.job_texts.texts_of_run.Goals as goal
 
 pub plan_and_run-requires-clause-size : goal.plan_and_run-requires-clause-size
@@ -17,11 +16,6 @@ plan_and_run-requires-clause-size g c κs alive =
       some = omega (arith, length-map names string_bytes, c.requires.inputs.some);
       most = omega (arith, length-map names string_bytes, c.requires.inputs.most);
     })
-
-pub run_texts-requires-clause-some : goal.run_texts-requires-clause-some
-run_texts-requires-clause-some g c =
-    let ran = c.in-Ok-plan_and_run.ensures.ran in
-    some_slots ran.plan c.in-Ok-plan_and_run.ran.outcome ran.ran.left
 
 pub returns-in-Err-clause-stops : goal.returns-in-Err-clause-stops
 returns-in-Err-clause-stops g c =
@@ -37,27 +31,21 @@ returns-in-Err-plan_and_run-clause-stops g c =
     let contents = g.F.Files.told in
     let counts = g.F.Files.faults in
     let read = rw c.reads_of_run.ensures.names at c.in-Ok.ensures.read in
-    plan_stops (run (run_words c.args.job.now)) (contents c.args.files.now) (contents c.read_inputs.new.files) (counts c.args.files.now)
-    (counts c.read_inputs.new.files) _ _ c.in-Err-plan_and_run.ending
-    c.in-Ok.ensures.told read c.in-Err-plan_and_run.ensures.stops
+    let stops = rw c.wanted_by.ensures at c.in-Err-plan_and_run.ensures.stops in
+    texts_stop (run_words c.args.job.now) (contents c.args.files.now) (contents c.read_inputs.new.files) (counts c.args.files.now)
+    (counts c.read_inputs.new.files) _ _ c.in-Err-plan_and_run.ending c.in-Ok.ensures.told read stops
 
-pub returns-clause-made : goal.returns-clause-made
-returns-clause-made g c =
+pub returns-in-Ok-run_texts-clause-made : goal.returns-in-Ok-run_texts-clause-made
+returns-in-Ok-run_texts-clause-made g c =
     let inputs = c.in-Ok.inputs in
     let files = bytes_of_files inputs.captures in
     let read = rw c.reads_of_run.ensures.names at c.in-Ok.ensures.read in
     let names = c.args.job.now.inputs.items in
-    texts_to_write (run (run_words c.args.job.now)) (g.F.Files.told c.args.files.now) c.run_texts.result inputs.table.items files read
-    (omega (arith, read.captures_read.count, length-map names string_bytes, c.requires.inputs.most))
-    (c.run_texts.ensures.made inputs.table.items files c.in-Ok-plan_and_run.ensures.ran)
-
-pub returns-clause-stops : goal.returns-clause-stops
-returns-clause-stops g c =
-    let contents = g.F.Files.told in
-    let counts = g.F.Files.faults in
-    let inputs = c.in-Ok.inputs in
-    let files = bytes_of_files inputs.captures in
-    let read = rw c.reads_of_run.ensures.names at c.in-Ok.ensures.read in
-    texts_not_made (run_words c.args.job.now) (contents c.args.files.now) (contents c.read_inputs.new.files) (counts c.args.files.now)
-    (counts c.read_inputs.new.files) c.run_texts.result inputs.table.items files
-    c.in-Ok.ensures.told read (c.run_texts.ensures.stops inputs.table.items files c.in-Ok-plan_and_run.ensures.ran)
+    let ran = rw c.wanted_by.ensures at c.in-Ok-plan_and_run.ensures.ran in
+    record {
+      table = inputs.table.items;
+      captures = files;
+      inputs = read;
+      few = omega (arith, read.captures_read.count, length-map names string_bytes, c.requires.inputs.most);
+      made = c.in-Ok-run_texts.ensures inputs.table.items files ran;
+    }

@@ -1,54 +1,30 @@
-use Rattle.std.proofs.Common.{refl, arith}
+use Rattle.std.proofs.Common.{refl, subst, sym, arith}
 use Rattle.switch_plan.specs.GoodPlans.{switch_plan_of}
-use Rattle.switch_run.specs.MakingSteps.{IsJournalOf}
-use Rattle.switch_run.proofs.Cutting.{cut_outputs}
+use Rattle.named_schedulers.specs.Named.{decision_named}
+use Rattle.job_files.specs.declared.ending.Ending.{Ending}
+use Rattle.switch_run.specs.MakingSteps.{StopsRun}
+use Rattle.switch_run.proofs.RunsMade.{stops_told}
 use Rattle.switch_run.proofs.making.run_plan.Goals as goal
 
-pub reference_lines-requires : goal.reference_lines-requires
-reference_lines-requires g c =
-    let left = c.in_ok-outcome.ensures.run in (
-      switch_plan_of c.args.plan,
-      left.slots,
-      c.args.measured.reference,
-      record { good = c.requires; ends = left.ends; setup = left.setup; slots_are = left.journal },
-      c.in_ok-reference.ensures,
-    )
-
-pub queue_lines-requires : goal.queue_lines-requires
-queue_lines-requires g c =
-    let left = c.in_ok-outcome.ensures.run in (
-      switch_plan_of c.args.plan,
-      left.slots,
-      c.args.measured.queues,
-      record { good = c.requires; ends = left.ends; setup = left.setup; slots_are = left.journal },
-      c.in_ok-measures.ensures,
-    )
-
-pub noted_times-requires : goal.noted_times-requires
-noted_times-requires g c =
-    let left = c.in_ok-outcome.ensures.run in (
-      switch_plan_of c.args.plan,
-      left.slots,
-      c.args.measured.packets,
-      record { good = c.requires; ends = left.ends; setup = left.setup; slots_are = left.journal },
-      c.in_ok-times.ensures,
-    )
-
-pub returns : goal.returns
-returns g c =
-    let left = c.in_ok-outcome.ensures.run in
-    let few = c.requires.size.most in
-    let journal : IsJournalOf (switch_plan_of c.args.plan) left.slots c.in_ok-outcome.outcome.journal =
-    record { good = c.requires; ends = left.ends; setup = left.setup; slots_are = left.journal } in
+pub returns-in-Ok-clause-ran : goal.returns-in-Ok-clause-ran
+returns-in-Ok-clause-ran g c =
+    let is = c.in_ok-summary.ensures in
     record {
-      ran = record {
-        nano_is = refl;
-        link_is = refl;
-        left = left;
-        cut = cut_outputs (switch_plan_of c.args.plan) c.in_ok-outcome.outcome c.requires left;
-        few = omega (arith, left.ports, few);
-        reference_is = c.in_ok-reference-2.ensures (switch_plan_of c.args.plan) left.slots c.args.measured.reference journal c.in_ok-reference.ensures;
-        queues_are = c.in_ok-queues.ensures (switch_plan_of c.args.plan) left.slots c.args.measured.queues journal c.in_ok-measures.ensures;
-        times_are = c.in_ok-times-2.ensures (switch_plan_of c.args.plan) left.slots c.args.measured.packets journal c.in_ok-times.ensures;
-      };
+      nano_is = refl;
+      link_is = refl;
+      slots = is.slots;
+      left = is.left;
+      few = omega (arith, is.left.ports, c.requires.size.most);
+      told = c.in-Ok.ensures.made (decision_named c.args.way.scheduler) c.args.way.wanted (switch_plan_of c.args.plan) is.slots is.left.ends is.noted;
+      small = c.in-Ok.ensures.small_journal;
+      packets_small = c.in-Ok.ensures.small_packets;
     }
+
+pub returns-in-Err-clause-stops : goal.returns-in-Err-clause-stops
+returns-in-Err-clause-stops g c =
+    let scheduler = decision_named c.args.way.scheduler in
+    let plan = switch_plan_of c.args.plan in
+    let is = c.in_ok-summary.ensures in
+    let stops = c.in-Err.ensures.stops scheduler c.args.way.wanted plan is.slots is.left.ends is.noted in
+    subst (λ (ending : Ending). StopsRun scheduler plan c.args.way.wanted ending) (sym c.ending_of.ensures)
+    (stops_told scheduler c.args.way.wanted plan is.slots c.in-Err.fault is.left.ends stops)

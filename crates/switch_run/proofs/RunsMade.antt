@@ -1,0 +1,93 @@
+-- What the ways of a run leave, and why the texts of a run are not made.
+use Rattle.std.proofs.Common.{◌≡◌, ◌<◌, ◌≤◌, ℕ, true, List, length, arith}
+use Rattle.std.specs.Prelude.{Result, Ok, Err, IfErr, IfOk}
+use Rattle.eslip_rounds.specs.Schedulers.{Scheduler}
+use Rattle.eslip_rounds.specs.Decisions.{decision_of}
+use Rattle.switch_words.specs.declared.job.Settings.{Settings}
+use Rattle.switch_plan.specs.GoodPlans.{SwitchPlan, IsGood}
+use Rattle.switch_jobs.specs.declared.outcome.Outcome.{Outcome}
+use Rattle.switch_jobs.specs.Outcomes.{IsOutcome}
+use Rattle.run_laws.specs.Ends.{IsLengthUnder}
+use Rattle.run_notes.specs.declared.wanted.Wanted.{Wanted}
+use Rattle.run_notes.specs.declared.texts.NotesFault.{NotesFault}
+use Rattle.run_notes.specs.declared.texts.NotesFault.TheVariants as fault
+use Rattle.run_notes.specs.NotingSteps.{StopsTold}
+use Rattle.switch_run.specs.declared.making.EndedRun.{EndedRun}
+use Rattle.switch_run.specs.MakingSteps.{IsLeft, IsRan, IsRanOf, StopsPlan, StopsRun, StopsTexts, ending_of}
+use Rattle.switch_run.specs.Switched.{IsPlanned}
+use Rattle.job_files.specs.declared.ending.Ending.{Ending}
+use Rattle.job_files.specs.declared.ending.Ending.TheVariants.{Done, Usage, ReadFault, TooLong, Refused, JournalTooLong, PacketsTooLong, OutOfMemory}
+use Rattle.job_files.specs.declared.ending.Ending.TheVariants.{WriteFault, Checked}
+use Rattle.switch_run.proofs.Cutting.{cut_outputs}
+use Rattle.switch_run.proofs.OnePlan.{journal_of_run}
+
+-- what a run at the board leaves
+pub left_at_board : (plan : SwitchPlan) (outcome : Outcome) → IsGood plan → (is : IsOutcome plan outcome)
+    → IsLeft decision_of plan is.slots outcome.summary outcome.outputs.items
+left_at_board plan outcome good is = record {
+  ends = is.ends;
+  ports = is.ports;
+  outputs_are = is.outputs;
+  cut = cut_outputs plan outcome good is;
+  summary_is = is.summary;
+}
+
+-- why the texts of a run are not made, as the ending says it
+pub stops_told : (scheduler : Scheduler) (wanted : Wanted) (plan : SwitchPlan) (slots : ℕ) (why : NotesFault) → IsLengthUnder scheduler plan slots
+    → StopsTold scheduler wanted plan slots why → StopsRun scheduler plan wanted (ending_of why)
+stops_told scheduler wanted plan slots (fault.JournalTooLong size) ends stops = (slots, ends, stops)
+stops_told scheduler wanted plan slots (fault.PacketsTooLong size) ends stops = (slots, ends, stops)
+stops_told scheduler wanted plan slots fault.OutOfMemory ends stops = tt
+
+-- the texts of the run of the job's plan are not made
+pub run_stops : (scheduler : Scheduler) (settings : Settings) (wanted : Wanted) (table : List ℕ) (captures : List (List ℕ)) (plan : SwitchPlan)
+    (ending : Ending) → IsPlanned settings table captures plan → StopsRun scheduler plan wanted ending
+    → StopsTexts scheduler settings wanted table captures ending
+run_stops scheduler settings wanted table captures plan Done planned stops = stops
+run_stops scheduler settings wanted table captures plan Usage planned stops = absurd stops
+run_stops scheduler settings wanted table captures plan (ReadFault input) planned stops = absurd stops
+run_stops scheduler settings wanted table captures plan (TooLong input) planned stops = absurd stops
+run_stops scheduler settings wanted table captures plan (Refused fault) planned stops = absurd stops
+run_stops scheduler settings wanted table captures plan (JournalTooLong size) planned stops = (
+  stops.2.0,
+  record { plan = plan; slots = stops.0; run = record { planned = planned; ends = stops.1 }; size_is = stops.2.1; longer = stops.2.2 },
+)
+run_stops scheduler settings wanted table captures plan (PacketsTooLong size) planned stops = (
+  stops.2.0,
+  record { plan = plan; slots = stops.0; run = record { planned = planned; ends = stops.1 }; size_is = stops.2.1; longer = stops.2.2 },
+  λ other journal_wanted long.
+      let size = journal_of_run scheduler settings table captures plan stops.0 other (record { planned = planned; ends = stops.1 }) long in
+      omega (arith, stops.2.3 journal_wanted, size, long.longer),
+)
+run_stops scheduler settings wanted table captures plan OutOfMemory planned stops = tt
+run_stops scheduler settings wanted table captures plan (WriteFault written) planned stops = absurd stops
+run_stops scheduler settings wanted table captures plan (Checked ending) planned stops = absurd stops
+
+-- there is no plan
+pub plan_refused : (scheduler : Scheduler) (settings : Settings) (wanted : Wanted) (table : List ℕ) (captures : List (List ℕ)) (ending : Ending)
+    → StopsPlan settings.pace_us table captures ending → StopsTexts scheduler settings wanted table captures ending
+plan_refused scheduler settings wanted table captures Done stops = absurd stops
+plan_refused scheduler settings wanted table captures Usage stops = absurd stops
+plan_refused scheduler settings wanted table captures (ReadFault input) stops = absurd stops
+plan_refused scheduler settings wanted table captures (TooLong input) stops = absurd stops
+plan_refused scheduler settings wanted table captures (Refused fault) stops = stops
+plan_refused scheduler settings wanted table captures (JournalTooLong size) stops = absurd stops
+plan_refused scheduler settings wanted table captures (PacketsTooLong size) stops = absurd stops
+plan_refused scheduler settings wanted table captures OutOfMemory stops = tt
+plan_refused scheduler settings wanted table captures (WriteFault written) stops = absurd stops
+plan_refused scheduler settings wanted table captures (Checked ending) stops = absurd stops
+
+-- the run of the job's plan was made
+pub plan_ran : {E : Type 0} (scheduler : Scheduler) (settings : Settings) (wanted : Wanted) (table : List ℕ) (captures : List (List ℕ)) (plan : SwitchPlan)
+    (result : Result EndedRun E) → IsPlanned settings table captures plan → IfOk result (IsRanOf scheduler plan wanted)
+    → IfOk result (IsRan scheduler settings wanted table captures)
+plan_ran scheduler settings wanted table captures plan (Ok ran) planned is = record { plan = plan; planned = planned; ran = is }
+plan_ran scheduler settings wanted table captures plan (Err e) planned is = tt
+
+-- or it was not
+pub plan_stopped : {T : Type 0} (scheduler : Scheduler) (settings : Settings) (wanted : Wanted) (table : List ℕ) (captures : List (List ℕ)) (plan : SwitchPlan)
+    (result : Result T Ending) → IsPlanned settings table captures plan → IfErr result (StopsRun scheduler plan wanted)
+    → IfErr result (StopsTexts scheduler settings wanted table captures)
+plan_stopped scheduler settings wanted table captures plan (Ok ran) planned stops = tt
+plan_stopped scheduler settings wanted table captures plan (Err ending) planned stops =
+    run_stops scheduler settings wanted table captures plan ending planned stops
