@@ -11,7 +11,7 @@ from tiny_tera.journal import BadJournal  # noqa: E402
 from tiny_tera.report import BadReport  # noqa: E402
 
 TOP = Path(__file__).resolve().parents[2]
-EXAMPLES = sorted(TOP.glob("examples/*/expected/out.journal"))
+EXAMPLES = sorted(TOP.glob("examples/*/expected/*.journal"))
 PACKETS = sorted(TOP.glob("tests/jobs/*/expected/out.packets.csv"))
 DATA = TOP / "tools/measure_tests/data"
 
@@ -31,7 +31,7 @@ def test_two_inputs():
     assert [list(asks.get_group(card)) for card in (0, 1)] == [list(range(2, 10)), list(range(2, 8))]
 
 
-@pytest.mark.parametrize("name", EXAMPLES, ids=lambda name: name.parts[-3])
+@pytest.mark.parametrize("name", EXAMPLES, ids=lambda name: f"{name.parts[-3]}-{name.stem}")
 def test_examples(name):
     """The journal and the slot lines of a run tell the same matches."""
     told = frames.read_report(name.with_suffix(".report")).matches
