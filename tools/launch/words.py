@@ -28,11 +28,13 @@ OPTIONS = {
     "--depth": Option(("run", "gen", "firm"), "D", 1, 131_072),
     "--workers": Option(("run", "gen"), "W", 1, 32),
     "--pace-us": Option(("run", "firm"), "K", 1, 1_000_000),
+    "--scheduler": Option(("run", "gen", "check"), "NAME", choices=("islip", "firm", "rrm")),
     "--slots": Option(("run",)),
     "--journal": Option(("run",), suffix=".journal"),
     "--reference": Option(("run",)),
     "--queues": Option(("run",)),
     "--packets": Option(("run",), suffix=".packets.csv"),
+    "--alone": Option(("run",)),
 }
 
 # Words of the launcher's own, which come before the command.
@@ -42,7 +44,7 @@ OWN = (OVERWRITE, DRY_RUN)
 SYNOPSIS = {
     "run": "run [options] TABLE PREFIX INPUT..",
     "gen": "gen [options] SEED COUNT PORTS",
-    "check": "check FILE",
+    "check": "check [options] FILE",
     "firm": "firm [options] TABLE INPUT..",
 }
 
@@ -131,7 +133,7 @@ def _read_option(command, options, word, rest, at):
         value = rest[at]
         at += 1
     if not _is_value(option, value):
-        raise Fault(f"{name} {value}: {option.letter} is {range_of(name)}")
+        raise Fault(f"{name} {value}: {option.letter} is {range_of(name)}" + _near(value.lower(), option.choices))
     options[name] = value
     return at
 
@@ -157,7 +159,7 @@ def number_between(low, high):
 
 
 def one_of(words):
-    return ", ".join(words[:-1]) + " or " + words[-1]
+    return ", ".join(words[:-1]) + " or " + words[-1] if len(words) > 1 else words[0]
 
 
 def _near(word, known):
@@ -179,9 +181,15 @@ def _no_option(command, name):
     if not name.startswith("--"):
         return f"{name} is no option; a file whose name begins with - is given after a word --"
     taken = [it for it in OPTIONS if command in OPTIONS[it].commands]
+    if (command, name) == ("firm", "--scheduler"):
+        return "firm has its own scheduler: to choose one, tiny_tera run --scheduler NAME TABLE PREFIX INPUT.."
     if name in OPTIONS:
-        return f"{command} does not take {name}; it takes " + (one_of(taken) if taken else "no option")
-    return f"{name} is no option" + (_near(name, taken) or (": the options of " + command + " are " + one_of(taken) if taken else ""))
+        return f"{command} does not take {name}; it takes " + one_of(taken)
+    return f"{name} is no option" + (_near(name, taken) or ": " + _options_of(command, taken))
+
+
+def _options_of(command, taken):
+    return f"the options of {command} are {one_of(taken)}" if len(taken) > 1 else f"the option of {command} is {taken[0]}"
 
 
 def _test_names(job):

@@ -15,7 +15,7 @@ from .scene import KIT, PROGRAM, TOP, Scene, python
 
 TEXT = (TOP / "docs/USAGE.md").read_text()
 BLOCKS = blocks_of(TEXT)[1]
-VECTORS = TOP / "crates/known_words/data/words.txt"
+VECTORS = sorted((TOP / "crates/known_words/data").glob("*words.txt"))
 
 
 def rows_of(title):
@@ -42,6 +42,8 @@ class Help(Scene):
                 for name in taken:
                     if OPTIONS[name].high:
                         self.assertRegex(told, rf"{OPTIONS[name].low:,} to\s+{OPTIONS[name].high:,}")
+                    for choice in OPTIONS[name].choices:
+                        self.assertRegex(told, rf"\b{choice}\b")
                 self.assertTrue(told.startswith(f"usage:\n  tiny_tera {command} "))
                 self.assertRegex(told, f"\nexample:\n  tiny_tera {command} ")
                 example = re.search("\nexample:\n  tiny_tera (.*)\n", told)[1]
@@ -76,11 +78,13 @@ class Words(unittest.TestCase):
             self.assertEqual(rows[name][0], f"`{name} {option.letter}`" if option.letter else f"`{name}`")
             if option.high:
                 self.assertIn(f", {option.low:,} to {option.high:,}", rows[name][1])
+            for choice in option.choices:
+                self.assertIn(f"`{choice}`", rows[name][1])
 
     def test_vectors(self):
         """The launcher takes the words that the program takes: rows of an independent model."""
         count = 0
-        for line in VECTORS.read_text().splitlines():
+        for line in "".join(path.read_text() for path in VECTORS).splitlines():
             found = re.match(r'\?? ?((?:"(?:[^"\\]|\\.)*" ?)*)=> (.*)$', line)
             if not found:
                 continue
@@ -88,7 +92,7 @@ class Words(unittest.TestCase):
             count += 1
             with self.subTest(line):
                 self.assertEqual(job_of(words), found[2].split(" ")[0] if found[2] != "usage" else None)
-        self.assertGreater(count, 300)
+        self.assertGreater(count, 340)
 
 
 def job_of(words):
