@@ -146,8 +146,13 @@ def capture_names(ports):
 
 def _capture(packets):
     """The bytes of a classic pcap file of these packets."""
-    records = ((packet.slot * PACE_US, _ip_header(packet.input, packet.outputs[0])) for packet in packets)
+    records = ((packet.slot * PACE_US, ip_header(packet.input, _address(packet.outputs[0]), HEADER_BYTES)) for packet in packets)
     return capture_bytes(LINK_RAW_IP, records)
+
+
+def _address(output):
+    """The address that the table sends to an output."""
+    return bytes([10, 0, output, 1])
 
 
 def capture_bytes(link, records):
@@ -162,9 +167,10 @@ def _record(time, frame):
 
 
 @lru_cache(maxsize=None)
-def _ip_header(card, output):
-    source, destination = bytes([10, 1, card, 1]), bytes([10, 0, output, 1])
-    words = struct.pack(">BBHHHBBH", 0x45, 0, HEADER_BYTES, 0, 0, 64, PROTOCOL, 0) + source + destination
+def ip_header(card, destination, length):
+    """The header of an IPv4 packet of so many bytes from a port to an address."""
+    source = bytes([10, 1, card, 1])
+    words = struct.pack(">BBHHHBBH", 0x45, 0, length, 0, 0, 64, PROTOCOL, 0) + source + destination
     total = sum(struct.unpack(">10H", words))
     while total > 0xFFFF:
         total = (total & 0xFFFF) + (total >> 16)
