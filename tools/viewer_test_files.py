@@ -10,12 +10,14 @@ import viewer_files as files
 from disk.sixteen_ports import WORDS, job_files
 from viewer_browser import LEFT, RIGHT, expect
 from viewer_test_rules import judge
+from viewer_test_steps import choose_rule
 
 ROOT = pathlib.Path(__file__).resolve().parent.parent
 PROGRAM = pathlib.Path(os.environ.get("TINY_TERA", ROOT / "crates/tiny_tera/out/tiny_tera"))
 # The most processor time that one drawing of a slot of 64 ports may take, in milliseconds.
 MOST_DRAWING_MS = 250
 MOST_LINES = 100  # Of a table of the page.
+USAGE_FAULT = 2
 
 
 def test_faults(viewer):
@@ -120,17 +122,19 @@ def test_journal(viewer):
 
 def test_examples(viewer):
     """Each report and journal of the examples opens, and a report's slots are those of its lines."""
-    outputs = sorted(ROOT.glob("examples/*/expected/out.report")) + sorted(ROOT.glob("examples/*/expected/out.journal"))
+    outputs = sorted(ROOT.glob("examples/*/expected/*.report")) + sorted(ROOT.glob("examples/*/expected/*.journal"))
     for file in outputs:
         viewer.load()
         viewer.open(file)
         expect(not viewer.is_shown("fault") and viewer.is_shown("run"), f"{file}: {viewer.text('fault')}")
         if file.suffix == ".journal":
+            if file.stem == "rrm":
+                choose_rule(viewer, "RRM")
             expect("The journal is lawful" in viewer.text("summary"), f"{file}: {viewer.text('summary')}")
         else:
             lines = [line for line in file.read_text().splitlines() if line.startswith("slot ")]
             expect(viewer.run(SLOT_LINES) == lines, f"{file}: the slots are not those of the lines")
-        viewer.shoot(f"example_{file.parts[-3]}_{file.suffix[1:]}")
+        viewer.shoot(f"example_{file.parts[-3]}_{file.name.replace('.', '_')}")
     return f"{len(outputs)} files"
 
 
@@ -173,6 +177,28 @@ def test_program(viewer):
     expect(viewer.table("Summary")[-4:] == rows, f"{viewer.table('Summary')[-4:]} and not {rows}")
     viewer.shoot("sixteen_ports")
     return f"{len(lines)} slots, longest waits {' '.join(longest)}"
+
+
+def test_program_schedulers(viewer):
+    """Journals that the program writes of the same job under FIRM and RRM: found to be of these, with the waits that it prints."""
+    if not PROGRAM.is_file():
+        return "skipped, the program is not built"
+    with tempfile.TemporaryDirectory() as folder:
+        for name, data in job_files().items():
+            pathlib.Path(folder, name).write_bytes(data)
+        for name, title in (("firm", "FIRM"), ("rrm", "RRM")):
+            words = [PROGRAM, "run", "--journal", "--scheduler", name, *WORDS]
+            ended = subprocess.run(words, cwd=folder, stdout=subprocess.PIPE, stderr=subprocess.PIPE, text=True)
+            if ended.returncode == USAGE_FAULT:
+                return "skipped, the program does not take --scheduler"
+            expect(ended.returncode == 0, ended.stderr)
+            viewer.load()
+            viewer.open(pathlib.Path(folder, "out.journal"))
+            choose_rule(viewer, title)
+            expect(f"The journal is lawful by {title}" in viewer.text("summary"), viewer.text("summary"))
+            rows = [[f"longest wait of level {level}", wait] for level, wait in enumerate(ended.stdout.splitlines()[-1].split()[1:])]
+            expect(viewer.table("Summary")[-4:] == rows, f"{viewer.table('Summary')[-4:]} and not {rows}")
+    return None
 
 
 def test_heavy(viewer):

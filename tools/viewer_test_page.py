@@ -262,6 +262,8 @@ ADDRESSES = (
     ("#file=lecture/full_load_islip.journal&beside=lecture/full_load_rrm.journal&slot=3", "Slot 3: 4 pairs of 4. 12 queues wait, the longest 4 slots."),
     ("#file=../tests/viewer/firm.journal&packets=../tests/viewer/firm.packets.csv&scheduler=firm&slot=12",
      "Slot 12: 1 pair of 3. 5 queues wait, the longest 12 slots."),
+    ("#file=../examples/synchronised/expected/islip.journal&beside=../examples/synchronised/expected/rrm.journal&scheduler=islip,rrm&pointers=1&slot=33",
+     "Slot 33: 2 pairs of 2. 2 queues wait, the longest 1 slot."),
 )
 
 
@@ -289,6 +291,10 @@ def test_served(viewer):
                         f" && SlotViewer.page.files.file === '{paths[0]}'", f"the example {paths}")
             viewer.wait_read(paths)
             expect(not viewer.is_shown("fault") and viewer.slot() == 0, viewer.text("fault"))
+            if "synchronised" in paths[0]:
+                viewer.wait("document.getElementById('rules-line-2').innerText === 'Each match is that of RRM.'", "the scheduler of the second run")
+                levels = viewer.run("return ['', '-2'].map((suffix) => document.getElementById(`pointer-level${suffix}`).value)")
+                expect(levels == ["1", "1"], f"the pointers of level {levels}")
         for fragment, line in ADDRESSES:
             viewer.driver.get("about:blank")
             viewer.driver.get(page + fragment)

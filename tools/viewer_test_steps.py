@@ -5,6 +5,7 @@ from viewer_browser import ESCAPE, RIGHT, expect
 
 LECTURE = files.ROOT / "viewer/lecture"
 LONG_WAIT = files.ROOT / "examples/long_wait"
+SYNCHRONISED = files.ROOT / "examples/synchronised/expected"
 
 # The steps of slot 0 of steps_journal(): the name, the step in one line, and its sentences.
 STEPS = (
@@ -167,6 +168,34 @@ def test_lecture_of_full_load(viewer):
         viewer.wait("true", "a frame")
         expect(len(viewer.table("Matched pairs")) == min(slot + 1, 4), f"slot {slot}: {viewer.table('Matched pairs')}")
         expect(slot < 3 or sorted(pointers_of(viewer, "grant")) == [0, 1, 2, 3], f"slot {slot}: {pointers_of(viewer, 'grant')}")
+
+
+# For both runs of the page the grant pointers of level 1 of two ports, and how many pairs the slot has.
+SEEN = """
+SlotViewer.page.goByUser(arguments[0]);
+SlotViewer.page.frame();
+return SlotViewer.page.panes.map(({ view }) => [Array.from(view.pointers.grant.slice(2, 4)), view.pairs.length]);
+"""
+
+
+def test_synchronised(viewer):
+    """An example of full queues under two schedulers: RRM has one pair in each slot, iSLIP two from the second slot on."""
+    viewer.load()
+    viewer.open(SYNCHRONISED / "islip.journal")
+    viewer.open(SYNCHRONISED / "rrm.journal", field="file-2")
+    expect(viewer.text("rules-line") == "Each match is that of iSLIP.", viewer.text("rules-line"))
+    viewer.wait("SlotViewer.page.second.fitting !== null", "which scheduler fits")
+    expect("All matches are those of RRM" in viewer.text("rules-line-2"), viewer.text("rules-line-2"))
+    viewer.run("document.querySelector('#rules-line-2 button').click()")
+    viewer.wait("document.getElementById('rules-line-2').innerText === 'Each match is that of RRM.'", "RRM")
+    for slot in range(31, 47):
+        islip, rrm = viewer.run(SEEN, slot)
+        since = slot - 31
+        expect(rrm == [[since % 2] * 2, 1], f"slot {slot}, RRM: {rrm}")
+        expect(islip == ([[0, 0], 1] if since == 0 else [[since % 2, (since + 1) % 2], 2]), f"slot {slot}, iSLIP: {islip}")
+    for name in ("pointer-level", "pointer-level-2"):
+        viewer.choose(name, "1")
+    viewer.shoot("synchronised")
 
 
 def test_lecture_of_long_waits(viewer):

@@ -3,20 +3,26 @@
     "use strict";
 
     const NUMBER = /^\d{1,9}$/;
+    const LEVEL = /^[0-3]$/;
     /** The names of files in an address: the run, the one beside it, and the packets file of the first. */
     const FILES = ["file", "beside", "packets"];
 
-    /** What the address names: a slot and a step or null each, and the paths of files by their names. */
+    /**
+     * What the address names: a slot, a step and the level of the pointers that are shown, or null each; for the runs,
+     * in order, a scheduler or null; and the paths of files by their names.
+     */
     function readAddress() {
         const words = new URLSearchParams(window.location.hash.slice(1));
         const slot = words.get("slot");
         const step = words.get("step");
-        const scheduler = words.get("scheduler");
+        const pointers = words.get("pointers");
+        const schedulers = (words.get("scheduler") || "").split(",").slice(0, 2);
         const files = FILES.filter((name) => words.get(name)).map((name) => [name, words.get(name)]);
         return {
             slot: slot !== null && NUMBER.test(slot) ? Number(slot) : null,
             step: step !== null && viewer.isStepName(step) ? step : null,
-            scheduler: viewer.SCHEDULERS.some(({ name }) => name === scheduler) ? scheduler : null,
+            schedulers: schedulers.map((one) => (viewer.SCHEDULERS.some(({ name }) => name === one) ? one : null)),
+            pointers: pointers !== null && LEVEL.test(pointers) ? pointers : null,
             files: Object.fromEntries(files),
         };
     }

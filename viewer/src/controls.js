@@ -75,7 +75,7 @@
             page.open(files, second.contains(target) && !second.hidden);
         });
         element("close-second").addEventListener("click", () => page.closeSecond());
-        viewer.offerExamples(element("examples"), element("example"), element("open-example"), ({ files }) => page.openExample(files));
+        viewer.offerExamples(element("examples"), element("example"), element("open-example"), (example) => page.openExample(example));
     }
 
     function watchWindow(page) {

@@ -6,14 +6,20 @@
     const LECTURE = "lecture";
     const NAMES = ["two_inputs", "one_packet", "small_network", "long_wait", "long_wait_two_rounds"];
 
-    function pathOf(name) {
-        return `${FOLDER}/${name}/expected/out.journal`;
+    function pathOf(name, prefix = "out") {
+        return `${FOLDER}/${name}/expected/${prefix}.journal`;
     }
 
-    /** Each with its name and its files, as an address names them. */
+    /** Each with its name and, as an address names them, its files and what it shows other than at first. */
     const EXAMPLES = NAMES.map((name) => ({ title: name, files: { file: pathOf(name) } })).concat([
         { title: "long_wait: ten slots", files: { file: `${FOLDER}/long_wait/ten_slots.journal` } },
         { title: "long_wait beside two rounds", files: { file: pathOf("long_wait"), beside: pathOf("long_wait_two_rounds") } },
+        {
+            title: "synchronised: iSLIP beside RRM",
+            files: { file: pathOf("synchronised", "islip"), beside: pathOf("synchronised", "rrm") },
+            schedulers: ["islip", "rrm"],
+            pointers: "1",
+        },
         { title: "full load: RRM", files: { file: `${LECTURE}/full_load_rrm.journal` } },
         { title: "full load: iSLIP", files: { file: `${LECTURE}/full_load_islip.journal` } },
         {

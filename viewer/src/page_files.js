@@ -60,16 +60,21 @@
             this.progress.now();
         },
 
-        /** Opens files from the server, named as an address names them; the first is shown by this scheduler. */
-        async openPaths(paths, scheduler = null) {
+        /** Opens files from the server, named as an address names them, with the schedulers and the level of pointers that it names. */
+        async openPaths({ files: paths, schedulers = [], pointers = null }) {
             try {
                 const files = [];
                 for (const path of Object.values(paths)) {
                     files.push(await viewer.fetchFile(path));
                 }
                 await this.open(files, false, paths);
-                if (scheduler !== null && this.first.isJournal) {
-                    await this.chooseScheduler(this.first, scheduler);
+                if (pointers !== null) {
+                    this.openPanes.forEach((pane) => pane.set("pointerLevel", pointers));
+                }
+                for (const [index, name] of schedulers.entries()) {
+                    if (name !== null && this.panes[index].isJournal) {
+                        await this.chooseScheduler(this.panes[index], name);
+                    }
                 }
             } catch (fault) {
                 this.onFault(fault, () => false);
@@ -77,16 +82,16 @@
         },
 
         /** Opens an example at its first slot. */
-        async openExample(paths) {
-            viewer.putIntoAddress({ slot: 0, step: null, files: paths });
-            await this.openPaths(paths);
+        async openExample(example) {
+            viewer.putIntoAddress({ slot: 0, step: null, files: example.files });
+            await this.openPaths(example);
         },
 
         /** Opens the files of the address, if it names any. */
         openAddress() {
-            const { files, scheduler } = viewer.readAddress();
-            if (files.file !== undefined) {
-                this.openPaths(files, scheduler);
+            const address = viewer.readAddress();
+            if (address.files.file !== undefined) {
+                this.openPaths(address);
             }
         },
 

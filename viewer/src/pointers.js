@@ -1,5 +1,5 @@
 // The rotating pointers, and how a slot moves them under each of the three schedulers.
-// The rules are those of docs/SWITCH.md, and those of RRM are told in docs/VIEWER.md.
+// The rules are those of docs/SWITCH.md.
 (function (viewer) {
     "use strict";
 
