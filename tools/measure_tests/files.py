@@ -54,7 +54,7 @@ class Files(unittest.TestCase):
 
     def test_examples(self):
         """The journals and the slot lines of the examples tell the same matches."""
-        journals = sorted(TOOLS.parent.glob("examples/*/expected/out.journal"))
+        journals = sorted(TOOLS.parent.glob("examples/*/expected/*.journal"))
         self.assertTrue(journals)
         for name in journals:
             with self.subTest(name):

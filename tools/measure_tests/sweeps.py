@@ -30,13 +30,15 @@ BAD_WORDS = [
     (["--kinds", "trace"], "--kinds trace and --trace go together"),
     (["--kinds", "hot-spot", "--loads", "0.7"], "--loads: 0.7 is over 0.571, the most with kind hot-spot"),
 ]
-# The program, but for runs of two rounds while the file `broken` is there, and slow while `slow` is. It takes the
-# name of a scheduler, and runs its own.
+# The program, but for runs of two rounds while the file `broken` is there, slow while `slow` is, and without --alone
+# while `old` is. It takes that word and the name of a scheduler, makes its own run, and keeps the words in `words`.
 SCRIPT = """\
 #!/bin/sh
-set -- $(echo "$*" | sed 's/--scheduler [a-z]*//')
+echo "$*" >>{folder}/words
+case "$*" in *--alone*) [ -e {folder}/old ] && exit 2;; esac
+set -- $(echo "$*" | sed 's/--scheduler [a-z]*//; s/--alone//')
 case " $* " in *" --rounds 2 "*) [ -e {folder}/broken ] && exit 9;; esac
-[ -e {folder}/slow ] && [ "$1" = run ] && touch {folder}/began && sleep 30
+[ -e {folder}/slow ] && case "$*" in *--slots*) touch {folder}/began && sleep 30;; esac
 mkdir {folder}/busy 2>/dev/null || touch {folder}/overlap
 {program} "$@"
 status=$?
@@ -159,6 +161,17 @@ class Sweeps(unittest.TestCase):
         status, told = run(*self.words, "--schedulers", "islip,firm")
         self.assertEqual(status, 0, told)
         self.assertEqual(self.rows("points")[0]["scheduler"].tolist(), ["firm", "firm", "islip", "islip"])
+
+    def test_one_thread(self):
+        """Runs are made without the board where the program can, and else with one worker."""
+        for is_old in (False, True):
+            if is_old:
+                (self.room / "old").touch()
+            status, told = run(*self.words, "--rounds", "1", "--to", self.room / f"old_{is_old}")
+            self.assertEqual(status, 0, told)
+            made = [line for line in (self.room / "words").read_text().splitlines() if "--slots" in line]
+            (self.room / "words").unlink()
+            self.assertEqual([("--alone" in line, "--workers 1" in line) for line in made], [(not is_old, is_old)])
 
     def test_profile_and_trace(self):
         """The profile of two hosts runs a sweep of a trace, which is split into ports."""
