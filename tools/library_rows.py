@@ -4,7 +4,7 @@
     tools/library_rows.py SHARED_OBJECT            by ctypes
     tools/library_rows.py --through PROGRAM        through examples/c/rows.c
 
-The vectors are those of crates/known_answers/data and crates/known_journals/data. Prints how many calls answered as
+The vectors are those of crates/known_answers/data and crates/known_formats/data. Prints how many calls answered as
 stated, or the first that did not, and then exits with 1.
 """
 
@@ -16,7 +16,7 @@ from pathlib import Path
 NONE = 0xFFFFFFFF
 CRATES = Path(__file__).resolve().parent.parent / "crates"
 VECTORS = CRATES / "known_answers" / "data"
-JOURNALS = CRATES / "known_journals" / "data" / "journals.txt"
+JOURNALS = CRATES / "known_formats" / "data" / "journals.txt"
 
 
 def u32(numbers):

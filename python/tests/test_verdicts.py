@@ -11,7 +11,7 @@ needs.library()
 from tiny_tera.library import Refused  # noqa: E402
 from tiny_tera.verdicts import MAX_JOURNAL_BYTES, Lawful, NoJournal, Unlawful, check_journal  # noqa: E402
 
-ROWS = Path(__file__).resolve().parents[2] / "crates/known_journals/data/journals.txt"
+ROWS = Path(__file__).resolve().parents[2] / "crates/known_formats/data/journals.txt"
 YES = re.compile(r"> yes, (\d+) slots, longest (\d+) (\d+) (\d+) (\d+)")
 NO = re.compile(r"> no: slot (\d+) (after end|more|keeps|output|no end)(?: of card)?(?: (\d+))?")
 BAD = re.compile(r"> bad at (\d+)")

@@ -15,7 +15,7 @@ from .scene import KIT, PROGRAM, TOP, Scene, python
 
 TEXT = (TOP / "docs/USAGE.md").read_text()
 BLOCKS = blocks_of(TEXT)[1]
-VECTORS = sorted((TOP / "crates/known_words/data").glob("*words.txt"))
+VECTORS = sorted((TOP / "crates/known_formats/data").glob("*words.txt"))
 
 
 def rows_of(title):

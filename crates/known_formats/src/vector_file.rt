@@ -1,6 +1,4 @@
-ghost use Rattle.std.specs.Prelude.{◌≡◌, true, IsSomeAnd};
-
-use crate::word_rows;
+use crate::{journal_rows, text_rows, word_rows};
 use std::alloc::{AllocError, Global};
 use test_vectors::{Row, RowReader};
 
@@ -8,20 +6,24 @@ use test_vectors::{Row, RowReader};
 #[derive(Drop)]
 pub enum Reader {
     Words,
+    Texts(text_rows::Block),
+    Journals(journal_rows::Block),
     // No file of this name is known: no line of it can be read.
     Unknown,
 }
 
 impl RowReader for Reader {
-    ghost use Rattle.known_words.specs.declared.vector_file.Reader.TheVariants.{Unknown};
-    ghost use Rattle.test_vectors.specs.Rows.{is_wrong};
+    ghost use Rattle.known_formats.specs.Formats.{Reads};
 
-    // Each line of a file of no known name is a wrong row.
-    ghost reads = { λ old _ given _. old ≡ Unknown → IsSomeAnd given (λ row. is_wrong row ≡ true) };
+    ghost reads = { λ old line given _. Reads old line given };
 
-    fn at(_alloc: Global, name: &str) -> Reader {
+    fn at(alloc: Global, name: &str) -> Reader {
         match name {
             "words.txt" | "measure_words.txt" | "scheduler_words.txt" => Reader::Words,
+            "texts.txt" => Reader::Texts(text_rows::Block::new(alloc)),
+            "journals.txt" | "journals_by_scheduler.txt" => {
+                Reader::Journals(journal_rows::Block::new(alloc))
+            }
             _ => Reader::Unknown,
         }
     }
@@ -29,6 +31,8 @@ impl RowReader for Reader {
     fn row(&mut self, alloc: Global, line: &str) -> Result<Option<Row>, AllocError> {
         match self {
             Reader::Words => Ok(Some(word_rows::row(alloc, line)?)),
+            Reader::Texts(block) => block.row(alloc, line),
+            Reader::Journals(block) => block.row(alloc, line),
             Reader::Unknown => Ok(Some(Row::unread(alloc, line)?)),
         }
     }

@@ -1,14 +1,15 @@
 //! Rows of the texts of a run, in blocks. `case NAME` begins a block; `summary ..`, `outputs ..` for a
 //! report, and `slot_lines` with `slot USED FIRST MATCH` for each slot say what the text tells of; `text`
 //! makes it. After that each row `> LINE` states its next line.
-ghost use Rattle.std.specs.Prelude.{◌≡◌, ◌++◌, ℕ, List, IsSomeAnd, codes, string_bytes};
+ghost use Rattle.std.specs.Prelude.{IfOk};
+ghost use Rattle.known_formats.specs.Formats.{StatesAnswer};
 
 use crate::fields::{outputs, summary};
 use crate::slots::Slots;
 use rotating_pick::{MAX_PORTS, OutOfMemory};
 use slot_report::{OutLine, Summary, report_text, summary_text};
 use std::alloc::{AllocError, Global};
-use test_vectors::{NoAnswer, Row, RowReader, set_up_row};
+use test_vectors::{NoAnswer, Row, set_up_row};
 
 /// The block that is being read.
 #[derive(Drop)]
@@ -23,26 +24,9 @@ pub struct Block {
     stated: usize,
 }
 
-impl RowReader for Block {
-    // A line `> LINE` is a row that states LINE.
-    ghost reads = { λ _ line given _. (stated : List ℕ) → line ≡ codes "> " ++ stated → IsSomeAnd given (λ row. string_bytes row.stated ≡ stated) };
-
-    fn at(alloc: Global, _name: &str) -> Block {
-        Block::new(alloc)
-    }
-
-    fn row(&mut self, alloc: Global, line: &str) -> Result<Option<Row>, AllocError> {
-        if let Some(stated) = line.strip_prefix("> ") {
-            let answer = self.next_line(alloc);
-            return Ok(Some(Row::new(alloc, stated, answer)?));
-        }
-        let set_up = self.set_up(alloc, line);
-        set_up_row(alloc, line, set_up)
-    }
-}
-
 impl Block {
-    fn new(alloc: Global) -> Block {
+    /// Before the first block.
+    pub fn new(alloc: Global) -> Block {
         Block {
             summary: None,
             outputs: None,
@@ -50,6 +34,18 @@ impl Block {
             text: String::new(alloc),
             stated: 0,
         }
+    }
+
+    /// The row that a line is; None where it sets up the text.
+    pub fn row(&mut self, alloc: Global, line: &str) -> Result<Option<Row>, AllocError>
+        ensures { IfOk result (StatesAnswer line.now) }
+    {
+        if let Some(stated) = line.strip_prefix("> ") {
+            let answer = self.next_line(alloc);
+            return Ok(Some(Row::new(alloc, stated, answer)?));
+        }
+        let set_up = self.set_up(alloc, line);
+        set_up_row(alloc, line, set_up)
     }
 
     fn set_up(&mut self, alloc: Global, line: &str) -> Result<(), NoAnswer> {

@@ -1,13 +1,14 @@
 //! Rows of journal files: a line in hexadecimal is the bytes of a file, `-` for none, and each row
 //! `> ANSWER` states the answer to the file before it. From a line `by NAME` on the scheduler of this name
 //! decides; before the first such line it is iSLIP.
-ghost use Rattle.std.specs.Prelude.{◌≡◌, ◌++◌, ℕ, List, IsSomeAnd, codes, string_bytes};
+ghost use Rattle.std.specs.Prelude.{IfOk};
+ghost use Rattle.known_formats.specs.Formats.{StatesAnswer};
 
 use journal_check::{JournalFault, MAX_JOURNAL_BYTES, Reason, Verdict, check_journal_by};
 use rotating_pick::LEVEL_COUNT;
 use scheduler_names::SchedulerName;
 use std::alloc::{AllocError, Global};
-use test_vectors::{NoAnswer, Row, RowReader, set_up_row};
+use test_vectors::{NoAnswer, Row, set_up_row};
 
 /// The journal file that is asked about.
 #[derive(Drop)]
@@ -16,18 +17,19 @@ pub struct Block {
     bytes: Vec<u8>,
 }
 
-impl RowReader for Block {
-    // A line `> ANSWER` is a row that states ANSWER.
-    ghost reads = { λ _ line given _. (stated : List ℕ) → line ≡ codes "> " ++ stated → IsSomeAnd given (λ row. string_bytes row.stated ≡ stated) };
-
-    fn at(alloc: Global, _name: &str) -> Block {
+impl Block {
+    /// Before the first file.
+    pub fn new(alloc: Global) -> Block {
         Block {
             scheduler: SchedulerName::Islip,
             bytes: Vec::new(alloc),
         }
     }
 
-    fn row(&mut self, alloc: Global, line: &str) -> Result<Option<Row>, AllocError> {
+    /// The row that a line is; None where it sets up the file or its scheduler.
+    pub fn row(&mut self, alloc: Global, line: &str) -> Result<Option<Row>, AllocError>
+        ensures { IfOk result (StatesAnswer line.now) }
+    {
         if let Some(stated) = line.strip_prefix("> ") {
             let answer = answer(alloc, self.scheduler, self.bytes.as_slice());
             return Ok(Some(Row::new(alloc, stated, answer)?));
@@ -38,9 +40,7 @@ impl RowReader for Block {
         };
         set_up_row(alloc, line, set_up)
     }
-}
 
-impl Block {
     fn set_scheduler(&mut self, name: &str) -> Result<(), NoAnswer> {
         match SchedulerName::named(name) {
             Some(scheduler) => {
