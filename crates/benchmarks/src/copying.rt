@@ -1,3 +1,4 @@
+//! Captures as files in memory, and the reading of them.
 use outside::{Files, MemFiles, names_differ};
 use std::alloc::Global;
 

@@ -1,9 +1,5 @@
 //! How long a post and a take at the board are, where one thread drives all cards in turn with rows that
 //! name nothing. The first touch of the board's memory is part of it.
-//!
-//! The times go to standard error, which no stored run is compared with.
-#![tactic(auto)]
-
 ghost use Rattle.std.specs.Prelude.{◌≡◌, ◌<◌, ◌≤◌};
 ghost use Rattle.turn_lock.specs.Seats.{AreSeats};
 
@@ -101,10 +97,11 @@ fn time_boards<R: Clock + Eprint + AllocGlobal>(rt: &R, n: u32) -> io::Result<()
     eprintln!(rt; "{n} ports: {slot} ns a slot, {each} ns a post and take")
 }
 
-fn main(rt: HostRuntime) -> io::Result<()> {
-    time_boards(&rt, 2)?;
-    time_boards(&rt, 8)?;
-    time_boards(&rt, 16)?;
-    time_boards(&rt, 32)?;
-    time_boards(&rt, 64)
+/// Tells the time of a slot of boards with 2 to 64 ports.
+pub(crate) fn time_all_boards<R: Clock + Eprint + AllocGlobal>(rt: &R) -> io::Result<()> {
+    time_boards(rt, 2)?;
+    time_boards(rt, 8)?;
+    time_boards(rt, 16)?;
+    time_boards(rt, 32)?;
+    time_boards(rt, 64)
 }

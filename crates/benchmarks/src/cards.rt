@@ -1,9 +1,5 @@
 //! How long a post and a take of a line card are, where the card is of a switch of 64 ports and one of its
 //! queues was full.
-//!
-//! The times go to standard error, which no stored run is compared with.
-#![tactic(auto)]
-
 use card_core::{Card, CardPlan, MAX_SLOTS, Planned};
 use cell_cutter::{MAX_FORWARDED_BYTES, MAX_FORWARDED_CELLS};
 use crossbar::Taken;
@@ -129,18 +125,22 @@ fn time_slots<R: Clock + Eprint>(rt: &R, load: Load, card: &mut Card) -> io::Res
     )
 }
 
-fn main(rt: HostRuntime) -> io::Result<()> {
-    for load in [Load::Waiting, Load::Served] {
-        let Ok(plan) = full_plan(rt.alloc()) else {
-            return eprintln!(&rt; "no memory for a plan");
-        };
-        if !plan.is_good() {
-            return eprintln!(&rt; "the plan is not good");
-        }
-        let Ok(mut card) = Card::make(rt.alloc(), plan) else {
-            return eprintln!(&rt; "no memory for a card");
-        };
-        time_slots(&rt, load, &mut card)?;
+// Times a card of a full queue under the load, or tells why there is none.
+fn time_card<R: Clock + Eprint + AllocGlobal>(rt: &R, load: Load) -> io::Result<()> {
+    let Ok(plan) = full_plan(rt.alloc()) else {
+        return eprintln!(rt; "no memory for a plan");
+    };
+    if !plan.is_good() {
+        return eprintln!(rt; "the plan is not good");
     }
-    Ok(())
+    match Card::make(rt.alloc(), plan) {
+        Ok(mut card) => time_slots(rt, load, &mut card),
+        Err(_) => eprintln!(rt; "no memory for a card"),
+    }
+}
+
+/// Tells the time of a post and a take, where nothing is served and where a cell is.
+pub(crate) fn time_cards<R: Clock + Eprint + AllocGlobal>(rt: &R) -> io::Result<()> {
+    time_card(rt, Load::Waiting)?;
+    time_card(rt, Load::Served)
 }

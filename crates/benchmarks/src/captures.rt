@@ -1,3 +1,4 @@
+//! The table and the captures of a load.
 ghost use Rattle.std.specs.Prelude.{◌<◌, ◌≤◌};
 
 use pcap_records::{FILE_HEADER_BYTES, Link, write_header};

@@ -1,28 +1,22 @@
-//! How long the decision of a slot takes, under some loads, and how long a meter of waits takes to note it.
-//!
-//! The times go to standard error, which no stored run is compared with.
-#![tactic(auto)]
-
+//! How long the decision of a slot takes, under some loads.
 ghost use Rattle.std.specs.Prelude.{◌<◌, ◌≤◌};
 
 use eslip_rounds::{Scratch, decide_in};
 use pointer_state::Pointers;
 use rotating_pick::{LEVELS, MAX_PORTS, MAX_ROUNDS, all, next, with};
-use service_bound::{MAX_NOTED, WaitMeter};
 use slot_match::{Match, Row, are_within};
-use std::alloc::Global;
 use std::time::{Clock, Instant};
 use std::{fmt, io};
 
 /// The slots that are timed at once.
-const SLOTS: u32 = 100;
+pub(crate) const SLOTS: u32 = 100;
 
 /// How often they are timed. The least time counts, since it was disturbed least.
-const BATCHES: u32 = 100;
+pub(crate) const BATCHES: u32 = 100;
 
 /// What the inputs of a timed switch post, in each of its slots the same.
 #[derive(Clone, Copy)]
-enum Load {
+pub(crate) enum Load {
     /// Unicast of level 0 for each output.
     Full,
     /// Unicast of level 0 for two outputs.
@@ -36,8 +30,8 @@ enum Load {
 }
 
 impl Load {
-    // The row of input `i` of `n`.
-    fn row(self, n: u32, i: u32) -> Row
+    /// The row of input `i` of `n`.
+    pub(crate) fn row(self, n: u32, i: u32) -> Row
         requires size { n ≤ MAX_PORTS }
         requires i_in { i < n }
     {
@@ -87,8 +81,8 @@ impl fmt::Display for Load {
     }
 }
 
-// Decides slots one after the other, and answers how many pairs they matched.
-fn decide_batch(
+/// Decides slots one after the other, and answers how many pairs they matched.
+pub(crate) fn decide_batch(
     load: Load,
     rounds: u32,
     rows: &[Row],
@@ -144,64 +138,8 @@ fn time_slots<R: Clock + Eprint>(rt: &R, load: Load, n: u32, rounds: u32) -> io:
     )
 }
 
-// Notes slots with these rows, of each match in turn.
-fn note_batch(meter: &mut WaitMeter, rows: &[Row], first: &Match, second: &Match) {
-    let n = meter.ports();
-    if !are_within(n, rows) {
-        return;
-    }
-    for _turn in 0..SLOTS / 2 {
-        if meter.ports() == n && first.ports() == n && meter.count() < MAX_NOTED {
-            meter.note(rows, first);
-        }
-        if meter.ports() == n && second.ports() == n && meter.count() < MAX_NOTED {
-            meter.note(rows, second);
-        }
-    }
-}
-
-// Times how a meter of waits notes full rows of `n` ports: with one match in all slots, so that no wait begins or
-// ends after the first, and with nothing matched in every second slot.
-fn time_meter<R: Clock + Eprint>(rt: &R, alloc: Global, n: u32, changing: bool) -> io::Result<()>
-    requires some { 0 < n }
-    requires size { n ≤ MAX_PORTS }
-{
-    let full = [Load::Full.row(n, 0); MAX_PORTS as usize];
-    let rows = &full[..n as usize];
-    let mut p = Pointers::new(n);
-    let mut matched = Match::new(n);
-    let _pairs = decide_batch(
-        Load::Full,
-        4,
-        rows,
-        &mut p,
-        &mut matched,
-        &mut Scratch::new(),
-    );
-    let nothing = Match::new(n);
-    let mut least = u128::MAX;
-    for _batch in 0..BATCHES {
-        let Ok(mut meter) = WaitMeter::make(alloc, n) else {
-            return eprintln!(rt; "no memory for a meter");
-        };
-        let second = if changing { &nothing } else { &matched };
-        let begin = Instant::now(rt)?;
-        note_batch(&mut meter, rows, &matched, second);
-        let end = Instant::now(rt)?;
-        least = least.min(end.duration_since(begin).as_nanos());
-    }
-    let what = if changing {
-        "waits that begin and end"
-    } else {
-        "waits that go on"
-    };
-    eprintln!(rt;
-        "meter of waits, {what}, {n} ports: {} ns a slot",
-        least / SLOTS as u128
-    )
-}
-
-fn main(rt: HostRuntime) -> io::Result<()> {
+/// Tells the time of a slot with 4 to 64 ports under each load, of four rounds, and of one round with all rows full.
+pub(crate) fn time_decisions<R: Clock + Eprint>(rt: &R) -> io::Result<()> {
     for load in [
         Load::Full,
         Load::Sparse,
@@ -209,15 +147,10 @@ fn main(rt: HostRuntime) -> io::Result<()> {
         Load::Multicast,
         Load::Idle,
     ] {
-        time_slots(&rt, load, 4, 4)?;
-        time_slots(&rt, load, 16, 4)?;
-        time_slots(&rt, load, 32, 4)?;
-        time_slots(&rt, load, 64, 4)?;
+        time_slots(rt, load, 4, 4)?;
+        time_slots(rt, load, 16, 4)?;
+        time_slots(rt, load, 32, 4)?;
+        time_slots(rt, load, 64, 4)?;
     }
-    time_slots(&rt, Load::Full, 64, 1)?;
-    for changing in [false, true] {
-        time_meter(&rt, rt.alloc(), 16, changing)?;
-        time_meter(&rt, rt.alloc(), 64, changing)?;
-    }
-    Ok(())
+    time_slots(rt, Load::Full, 64, 1)
 }

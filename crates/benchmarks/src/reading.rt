@@ -1,5 +1,6 @@
+//! How long the plan of captures takes beside a reading of their bytes, and beside adding them up.
+use crate::captures::{Load, captures_of, table_of};
 use crate::copying::Copies;
-use crate::input::{Load, captures_of, table_of};
 use crate::planning::planned;
 use std::io;
 use std::thread::Threads;

@@ -1,8 +1,9 @@
+//! How long a slot of a whole run is, where each line card always has cells.
 ghost use Rattle.std.specs.Prelude.{IfOk, IfSome, ◌≤◌};
 ghost use Rattle.switch_words.specs.Limits.{IsUpTo};
 ghost use Rattle.switch_plan.specs.GoodPlans.{switch_plan_of, IsGood};
 
-use crate::input::{Load, captures_of, table_of};
+use crate::captures::{Load, captures_of, table_of};
 use crate::planning::planned;
 use card_worker::OpenGate;
 use rotating_pick::MAX_PORTS;
@@ -119,8 +120,8 @@ fn tell_slots<R: Threads + Sync + Clock + Eprint + AllocGlobal>(
     )
 }
 
-/// Tells the time of a slot with `ports` ports, and with 1, 2 and 4 workers.
-pub(crate) fn time_slots<R: Threads + Sync + Clock + Eprint + AllocGlobal>(
+// Tells the time of a slot with `ports` ports, and with 1, 2 and 4 workers.
+fn time_slots<R: Threads + Sync + Clock + Eprint + AllocGlobal>(
     rt: &R,
     ports: u32,
 ) -> io::Result<()>
@@ -129,4 +130,15 @@ pub(crate) fn time_slots<R: Threads + Sync + Clock + Eprint + AllocGlobal>(
     tell_slots(rt, ports, 1)?;
     tell_slots(rt, ports, 2)?;
     tell_slots(rt, ports, 4)
+}
+
+/// Tells the time of a slot with 2 to 64 ports.
+pub(crate) fn time_runs<R: Threads + Sync + Clock + Eprint + AllocGlobal>(
+    rt: &R,
+) -> io::Result<()> {
+    time_slots(rt, 2)?;
+    time_slots(rt, 8)?;
+    time_slots(rt, 16)?;
+    time_slots(rt, 32)?;
+    time_slots(rt, 64)
 }

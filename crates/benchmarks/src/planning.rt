@@ -1,3 +1,4 @@
+//! The plan of a table and captures.
 ghost use Rattle.std.specs.Prelude.{IfSome, IfOk};
 ghost use Rattle.switch_words.specs.Limits.{IsUpTo};
 ghost use Rattle.switch_plan.specs.GoodPlans.{switch_plan_of, IsGood};
