@@ -10,7 +10,7 @@ use Rattle.rotating_pick.proofs.Bits.{no_member-zero}
 use Rattle.slot_match.specs.declared.rows.Row.{Row}
 use Rattle.slot_match.specs.Rows.{Names, row_of}
 use Rattle.slot_match.proofs.Sets.{zero-has}
-use Rattle.rotating_pick.proofs.Tables.{get_or-same, no_members}
+use Rattle.rotating_pick.proofs.Tables.{get_or-same}
 use Rattle.eslip_rounds.specs.declared.ranks.TheConstants.{RANKS}
 use Rattle.eslip_rounds.specs.RankSteps.{level_at, kind_at}
 use Rattle.eslip_rounds.specs.Steps.{column_of}

@@ -13,7 +13,7 @@ use Rattle.slot_match.proofs.Kept.{IsMatch-unmatched, nobody_at_first, fed_of-un
 use Rattle.pointer_state.specs.Places.{Places, AreAtPorts}
 use Rattle.islip_rounds.specs.Numbers.{last_of}
 use Rattle.eslip_rounds.specs.Rounds.{IsRound, AreRounds}
-use Rattle.eslip_rounds.specs.Slots.{Decision, AreMoved, IsSlotBy, IsSlot}
+use Rattle.eslip_rounds.specs.Slots.{Decision, Moving, AreMoved, IsSlotBy, IsSlot}
 use Rattle.eslip_rounds.proofs.Running.{AreRounds-keep}
 use Rattle.eslip_rounds.proofs.Enough.{IsMaximal-from_round}
 
@@ -53,7 +53,7 @@ module _ (n t : ℕ) (rows : List Row) (places : Places) (within : AreWithin n r
         | inr none ↦ absurd (nothing_named step chain.0 none i j level kind i_in named)
       ]
 
-  pub some_pair_by : (Moves : ℕ → ℕ → List Row → List (Option Fed) → List (Option Fed) → Places → Places → Type 0) (rounds : ℕ) (a : Decision) → 0 < rounds
+  pub some_pair_by : (Moves : Moving) (rounds : ℕ) (a : Decision) → 0 < rounds
       → IsSlotBy Moves n rounds t rows places a → (i j level : ℕ) (kind : Kind) → i < n → Names (row_of rows i) level kind j → (x y l : ℕ) × (k : Kind)
       × Serves a.matched x y l k
   some_pair_by Moves rounds a some r i j level kind i_in named =

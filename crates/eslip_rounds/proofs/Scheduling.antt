@@ -3,15 +3,13 @@ use Rattle.std.proofs.Common.{ℕ, List, Option}
 use Rattle.slot_match.specs.declared.rows.Row.{Row}
 use Rattle.slot_match.specs.declared.matching.Fed.{Fed}
 use Rattle.pointer_state.specs.Places.{Places}
-use Rattle.eslip_rounds.specs.Slots.{Decision, AreMoved, IsSlotBy}
+use Rattle.eslip_rounds.specs.Slots.{Decision, Moving, AreMoved, IsSlotBy}
 use Rattle.eslip_rounds.specs.Decisions.{decision_of}
 use Rattle.eslip_rounds.specs.Schedulers.{IsSchedulerBy, StayAtPorts, IsScheduler}
 use Rattle.eslip_rounds.proofs.Settling.{IsSlot-decision_of, AreAtPorts-decision_of}
 
 -- a slot whose pointers are told to move in another way
-pub IsSlotBy-moved : {Moves : ℕ → ℕ → List Row → List (Option Fed) → List (Option Fed) → Places → Places → Type 0}
-    (Others : ℕ → ℕ → List Row → List (Option Fed) → List (Option Fed) → Places → Places → Type 0) (n rounds t : ℕ) (rows : List Row) (before : Places)
-    (a : Decision)
+pub IsSlotBy-moved : {Moves : Moving} (Others : Moving) (n rounds t : ℕ) (rows : List Row) (before : Places) (a : Decision)
     → IsSlotBy Moves n rounds t rows before a
     → ((first_match : List (Option Fed)) → Moves n t rows first_match a.matched before a.places → Others n t rows first_match a.matched before a.places)
     → IsSlotBy Others n rounds t rows before a

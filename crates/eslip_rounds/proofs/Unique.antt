@@ -20,7 +20,7 @@ use Rattle.pointer_state.specs.Places.{Places, AreAtPorts, ArePointing, grant_of
 use Rattle.pointer_state.proofs.Same.{AreAlike, Places-same}
 use Rattle.islip_rounds.specs.Numbers.{last_of, slot_numbers}
 use Rattle.eslip_rounds.specs.Rounds.{Grants, IsRound, AreRounds}
-use Rattle.eslip_rounds.specs.Slots.{Decision, AreMoved, IsSlotBy, IsSlot}
+use Rattle.eslip_rounds.specs.Slots.{Decision, Moving, AreMoved, IsSlotBy, IsSlot}
 use Rattle.eslip_rounds.proofs.Bests.{taken_from}
 use Rattle.eslip_rounds.proofs.Deciding.{some_below, Completes-or, HasHead-decides}
 use Rattle.eslip_rounds.proofs.Matching.{IsMatch-rounds}
@@ -161,7 +161,7 @@ module _ (n rounds t : ℕ) (rows : List Row) (places : Places) (within : AreWit
   first_of_slot : (steps : List (List (Option Fed))) → AreRounds n t rows places (unmatched n) steps → length (slice_index_or steps 0 (unmatched n)) ≡ n
   first_of_slot = first_size n t rows places
 
-  module _ (Moves : ℕ → ℕ → List Row → List (Option Fed) → List (Option Fed) → Places → Places → Type 0) where
+  module _ (Moves : Moving) where
     -- two decisions of one slot are one, where there is one place for each pointer
     pub IsSlotBy-only : ((first_match matched : List (Option Fed)) → length first_match ≡ n → (a b : Places) → AreAtPorts a → AreAtPorts b
         → Moves n t rows first_match matched places a → Moves n t rows first_match matched places b → a ≡ b)
@@ -208,7 +208,7 @@ named_rounds n t rows places before (step ∷ steps) chain i j level kind known 
           elim g.first.member [ inl p ↦ p.1.named | inr on ↦ subst (λ k. Names (row_of rows i) level k j) (sym on.multicast) on.named ]
     ]) s
 
-pub Serves-named_by : (Moves : ℕ → ℕ → List Row → List (Option Fed) → List (Option Fed) → Places → Places → Type 0) (n rounds t : ℕ) (rows : List Row)
+pub Serves-named_by : (Moves : Moving) (n rounds t : ℕ) (rows : List Row)
     (places : Places) (a : Decision) → IsSlotBy Moves n rounds t rows places a → (i j level : ℕ) (kind : Kind) → Serves a.matched i j level kind
     → Names (row_of rows i) level kind j
 Serves-named_by Moves n rounds t rows places a r i j level kind s =

@@ -1,9 +1,8 @@
 -- Schedules: slots one after the other, each from the pointers that the one before left.
-use Rattle.std.specs.Prelude.{ℕ, ◌+◌, List, [], ◌∷◌, Option}
+use Rattle.std.specs.Prelude.{ℕ, ◌+◌, List, [], ◌∷◌}
 use Rattle.slot_match.specs.declared.rows.Row.{Row}
-use Rattle.slot_match.specs.declared.matching.Fed.{Fed}
 use Rattle.pointer_state.specs.Places.{Places}
-use Rattle.eslip_rounds.specs.Slots.{Decision, AreMoved, IsSlotBy}
+use Rattle.eslip_rounds.specs.Slots.{Decision, Moving, AreMoved, IsSlotBy}
 
 -- a slot's rows and what it decides
 pub record DecidedSlot : Type 0 where
@@ -11,7 +10,7 @@ pub record DecidedSlot : Type 0 where
   pub decision : Decision
 
 -- these are the slots from slot t on, where `Moves` says how pointers move
-abbrev pub IsScheduleBy : (ℕ → ℕ → List Row → List (Option Fed) → List (Option Fed) → Places → Places → Type 0) → ℕ → ℕ → ℕ → Places → List DecidedSlot → Type 0
+abbrev pub IsScheduleBy : Moving → ℕ → ℕ → ℕ → Places → List DecidedSlot → Type 0
 IsScheduleBy Moves n rounds t places [] = Unit {0}
 IsScheduleBy Moves n rounds t places (slot ∷ slots) =
     IsSlotBy Moves n rounds t slot.rows places slot.decision × IsScheduleBy Moves n rounds (t + 1) slot.decision.places slots

@@ -17,6 +17,11 @@ pub record Decision : Type 0 where
   pub numbers : RoundsUsed
   pub places : Places
 
+-- How pointers move: of a switch of these ports, the number of the slot, the rows posted in it, the match after its first
+-- round, the whole match, and the pointers before the slot, which pointers there may be after it.
+abbrev pub Moving : Type 1
+Moving = (ports slot : ℕ) (rows : List Row) (first_match matched : List (Option Fed)) (before after : Places) → Type 0
+
 -- The pointers after a slot, of which `first_match` is the match after the first round. The unicast pairs of
 -- the first round move their pointers one beyond each other. The shared pointer of a level moves one
 -- beyond the first input from it on that posted a multicast head, where that head completes. All other
@@ -34,8 +39,7 @@ pub record AreMoved (n t : ℕ) (rows : List Row) (first_match matched : List (O
 
 -- Slot t, of `rounds` rounds, decides this, where `Moves` says how its pointers move. All of its rounds
 -- use the pointers from before it, and the first begins with nothing matched.
-pub record IsSlotBy (Moves : ℕ → ℕ → List Row → List (Option Fed) → List (Option Fed) → Places → Places → Type 0) (n rounds t : ℕ) (rows : List Row)
-    (before : Places) (decision : Decision) : Type 0 where
+pub record IsSlotBy (Moves : Moving) (n rounds t : ℕ) (rows : List Row) (before : Places) (decision : Decision) : Type 0 where
   pub steps : List (List (Option Fed))
   pub count : length steps ≡ rounds
   pub chain : AreRounds n t rows before (unmatched n) steps

@@ -1,5 +1,5 @@
 -- Slots of full load there are, as many as one wants, from any pointers of a switch.
-use Rattle.std.proofs.Common.{◌≡◌, ℕ, zero, suc, ◌+◌, ◌-◌, ◌^◌, ◌<◌, ◌∙◌, List, [], ◌∷◌, Option, length, replicate, slice_index, slice_set, refl, sym}
+use Rattle.std.proofs.Common.{◌≡◌, ℕ, zero, suc, ◌+◌, ◌-◌, ◌^◌, ◌<◌, ◌∙◌, List, [], ◌∷◌, length, replicate, slice_index, slice_set, refl, sym}
 use Rattle.std.proofs.Common.{ap, subst, inl, inr, arith, get_or-set_same, get_or-set_other}
 use Rattle.std.proofs.lemmas.Bool.{cases_eq, cases_lt}
 use Rattle.std.proofs.lemmas.List.{get_or-replicate, length-replicate}
@@ -10,9 +10,9 @@ use Rattle.rotating_pick.specs.declared.kinds.Kind.{Kind}
 use Rattle.rotating_pick.specs.declared.kinds.Kind.TheVariants.{Uni, Multi}
 use Rattle.rotating_pick.specs.declared.limits.TheConstants.{LEVELS}
 use Rattle.slot_match.specs.declared.rows.Row.{Row}
-use Rattle.slot_match.specs.declared.matching.Fed.{Fed}
 use Rattle.slot_match.specs.Rows.{Names, row_of, no_row, AreWithin}
 use Rattle.pointer_state.specs.Places.{Places, AreAtPorts, ArePointing}
+use Rattle.eslip_rounds.specs.Slots.{Moving}
 use Rattle.eslip_rounds.specs.Schedules.{DecidedSlot}
 use Rattle.eslip_rounds.specs.Schedulers.{Scheduler, IsSchedulerBy, IsScheduler}
 use Rattle.service_bound.proofs.Postings.{nothing_in}
@@ -58,8 +58,7 @@ module _ (n level : ℕ) (level_in : level < LEVELS) where
     clean = λ i better j kind i_in less named. let at = (named_in i better j kind i_in named).0 in absurd (omega arith);
   }
 
-  module _ (Moves : ℕ → ℕ → List Row → List (Option Fed) → List (Option Fed) → Places → Places → Type 0) (scheduler : Scheduler)
-      (by : IsSchedulerBy Moves scheduler) (stays : IsScheduler scheduler) where
+  module _ (Moves : Moving) (scheduler : Scheduler) (by : IsSchedulerBy Moves scheduler) (stays : IsScheduler scheduler) where
     -- a slot of full load, before others
     loaded_cons : (rounds t : ℕ) (places : Places) (slots : List DecidedSlot) → AreAtPorts places → places.ports ≡ n
         → let decision = scheduler n rounds t (rows_at n level) places in

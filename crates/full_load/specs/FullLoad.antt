@@ -7,7 +7,7 @@ use Rattle.slot_match.specs.Rows.{Names, row_of, AreWithin}
 use Rattle.slot_match.specs.Matches.{Serves}
 use Rattle.pointer_state.specs.Places.{Places, ArePointing, grant_of}
 use Rattle.islip_rounds.specs.Numbers.{matched_count}
-use Rattle.eslip_rounds.specs.Slots.{AreMoved}
+use Rattle.eslip_rounds.specs.Slots.{Moving, AreMoved}
 use Rattle.eslip_rounds.specs.Schedules.{DecidedSlot, IsScheduleBy}
 use Rattle.service_bound.specs.Windows.{IsClean, IsWithoutMulticast}
 use Rattle.rrm_rounds.specs.Slots.{AreMovedByRrm}
@@ -20,8 +20,7 @@ pub record IsFullLoad (n level : ℕ) (rows : List Row) : Type 0 where
 
 -- Slots from slot t on, decided from these pointers, of which those of the level are at ports, each of full load, where
 -- `Moves` says how pointers move.
-pub record IsFullyLoadedBy (Moves : ℕ → ℕ → List Row → List (Option Fed) → List (Option Fed) → Places → Places → Type 0) (n rounds t level : ℕ)
-    (places : Places) (slots : List DecidedSlot) : Type 0 where
+pub record IsFullyLoadedBy (Moves : Moving) (n rounds t level : ℕ) (places : Places) (slots : List DecidedSlot) : Type 0 where
   pub pointing : ArePointing n level places
   pub schedule : IsScheduleBy Moves n rounds t places slots
   pub within : All (λ slot. AreWithin n slot.rows) slots

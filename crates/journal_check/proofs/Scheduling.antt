@@ -6,7 +6,6 @@ use Rattle.rotating_pick.specs.declared.kinds.Kind.{Kind}
 use Rattle.rotating_pick.specs.declared.kinds.Kind.TheVariants.{Uni, Multi}
 use Rattle.rotating_pick.specs.declared.limits.TheConstants.{LEVELS}
 use Rattle.slot_match.specs.declared.matching.Fed.{Fed}
-use Rattle.slot_match.specs.declared.rows.Row.{Row}
 use Rattle.slot_match.specs.Rows.{Names, row_of, HasHead, AreWithin}
 use Rattle.slot_match.specs.Matches.{Serves, Completes}
 use Rattle.slot_match.specs.Keeping.{KeepsRest, Gives}
@@ -14,6 +13,7 @@ use Rattle.slot_match.specs.Parts.{served_of}
 use Rattle.pointer_state.proofs.Moves.{AreAtPorts-at_first}
 use Rattle.slot_match.proofs.KeepingParts.{KeepsRest-iff_keeps}
 use Rattle.pointer_state.specs.Places.{Places, ArePointing, places_at_first}
+use Rattle.eslip_rounds.specs.Slots.{Moving}
 use Rattle.eslip_rounds.specs.Schedulers.{Scheduler, IsSchedulerBy, IsScheduler}
 use Rattle.eslip_rounds.specs.Schedules.{DecidedSlot, IsScheduleBy}
 use Rattle.service_bound.specs.Windows.{IsWindowBy, InFirst, AreKept, IsClean, IsWithoutMulticast, places_after}
@@ -33,7 +33,7 @@ module _ (scheduler : Scheduler) (scheduling : IsScheduler scheduler) (n rounds 
       → MayFollow scheduler n rounds t before slot → IsGood n (after_slot scheduler n rounds t before slot)
   next_good t before slot slots good each follows = good_after scheduler scheduling n rounds t before slot good (each 0 slot (omega arith)) follows.decided
 
-  pub is_schedule : (Moves : ℕ → ℕ → List Row → List (Option Fed) → List (Option Fed) → Places → Places → Type 0)
+  pub is_schedule : (Moves : Moving)
       → IsSchedulerBy Moves scheduler → (t : ℕ) (before : Before) (slots : List FileSlot) → IsGood n before → All (IsFileSlot n) slots
       → MayFollowAll scheduler n rounds t before slots
       → IsScheduleBy Moves n rounds t before.places (decided_from scheduler n rounds t before.places slots)
@@ -106,7 +106,7 @@ module _ (scheduler : Scheduler) (scheduling : IsScheduler scheduler) (file : Jo
   abbrev middle : ℕ → ℕ → List DecidedSlot
   middle first count = take count (drop first slots)
 
-  pub file_schedule : (Moves : ℕ → ℕ → List Row → List (Option Fed) → List (Option Fed) → Places → Places → Type 0)
+  pub file_schedule : (Moves : Moving)
       → IsSchedulerBy Moves scheduler → IsScheduleBy Moves file.ports file.rounds 0 (places_at_first file.ports) (decided_slots_under scheduler file)
   unfolding IsLawfulUnder decided_slots_under at_first
   file_schedule Moves moving =
@@ -140,7 +140,7 @@ module _ (scheduler : Scheduler) (scheduling : IsScheduler scheduler) (file : Jo
       (All-head (λ (slot : DecidedSlot). AreWithin file.ports slot.rows) slot part within).levels i below level head.0 Multi head.1
 
   -- where its pointers move so, and so keep at ports and pass heads
-  module _ (Moves : ℕ → ℕ → List Row → List (Option Fed) → List (Option Fed) → Places → Places → Type 0) (moving : IsSchedulerBy Moves scheduler) where
+  module _ (Moves : Moving) (moving : IsSchedulerBy Moves scheduler) where
     window : (level first count : ℕ) → KeepPointing Moves file.ports level → level < LEVELS
         → All (λ slot. IsClean file.ports level slot.rows) (middle first count)
         → IsWindowBy Moves file.ports file.rounds (0 + first) level (places_after (places_at_first file.ports) (take first slots)) (middle first count)

@@ -1,5 +1,5 @@
 -- The run of a good plan: each post is accepted, each slot's decision is sound, and what it serves is asked for.
-use Rattle.std.proofs.Common.{◌≡◌, ◌∙◌, ℕ, zero, suc, ◌+◌, ◌<◌, ◌≤◌, List, [], ◌∷◌, ◌++◌, map, length, Option, None, Some, refl, sym, ap, subst, arith}
+use Rattle.std.proofs.Common.{◌≡◌, ◌∙◌, ℕ, zero, suc, ◌+◌, ◌<◌, ◌≤◌, [], ◌∷◌, ◌++◌, map, length, Option, None, Some, refl, sym, ap, subst, arith}
 use Rattle.std.proofs.Common.{inl, inr, slice_index_or}
 use Rattle.std.specs.List.{range_with_len}
 use Rattle.std.proofs.lemmas.Bool.{cases_lt}
@@ -8,15 +8,12 @@ use Rattle.std.proofs.lemmas.Option.{slice_get-get_or}
 use Rattle.std.proofs.lemmas.Simd.{map-map}
 use Rattle.rotating_pick.specs.declared.kinds.Kind.{Kind}
 use Rattle.rotating_pick.specs.declared.kinds.Kind.TheVariants.{Uni, Multi}
-use Rattle.slot_match.specs.declared.rows.Row.{Row}
-use Rattle.slot_match.specs.declared.matching.Fed.{Fed}
 use Rattle.slot_match.specs.declared.matching.Served.{Served}
 use Rattle.slot_match.specs.Rows.{Names, AreWithin, IsWithin, IsOfLevels}
 use Rattle.slot_match.specs.Matches.{Serves}
 use Rattle.slot_match.specs.Parts.{served_of}
 use Rattle.slot_match.proofs.ServedParts.{served_of-is}
-use Rattle.pointer_state.specs.Places.{Places}
-use Rattle.eslip_rounds.specs.Slots.{IsSlotBy}
+use Rattle.eslip_rounds.specs.Slots.{Moving, IsSlotBy}
 use Rattle.eslip_rounds.proofs.Unique.{Serves-named_by}
 use Rattle.crossbar.specs.declared.cards.Post.{Post as CardPost}
 use Rattle.eslip_rounds.specs.Schedulers.{Scheduler, IsSchedulerBy, StayAtPorts, IsScheduler}
@@ -230,7 +227,7 @@ module _ (scheduler : Scheduler) (scheduling : IsScheduler scheduler) (plan : Sw
   is-slot t = slot-below (suc t) (accepted-below (suc t)) t (omega arith)
 
   -- and a slot whose pointers are told to move in another way, where all of the scheduler's are
-  pub slot-moved : (Moves : ℕ → ℕ → List Row → List (Option Fed) → List (Option Fed) → Places → Places → Type 0) → IsSchedulerBy Moves scheduler → (t : ℕ)
+  pub slot-moved : (Moves : Moving) → IsSchedulerBy Moves scheduler → (t : ℕ)
       → IsSlotBy Moves (ports_of plan) plan.rounds t (slot_rows (ports_of plan) (posts_under scheduler plan) t)
       (places_under scheduler (setup_for plan) (posts_under scheduler plan) t) (decision_under scheduler (setup_for plan) (posts_under scheduler plan) t)
   slot-moved Moves moving t = decision_under-moved scheduler scheduling (setup_for plan) (posts_under scheduler plan) (suc t) good.size.some good.size.most

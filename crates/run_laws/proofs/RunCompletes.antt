@@ -1,14 +1,12 @@
 -- Multicast heads of a run complete within twice as many slots as there are ports.
-use Rattle.std.proofs.Common.{◌≡◌, ◌∙◌, ℕ, ◌+◌, ◌*◌, List, Option, map, take, drop, length, ap, sym, subst, arith}
+use Rattle.std.proofs.Common.{◌≡◌, ◌∙◌, ℕ, ◌+◌, ◌*◌, map, take, drop, length, ap, sym, subst, arith}
 use Rattle.std.specs.List.{range_with_len}
 use Rattle.std.proofs.lemmas.List.FromFn.{length-map-range_with_len}
 use Rattle.rotating_pick.specs.declared.kinds.Kind.TheVariants.{Multi}
-use Rattle.slot_match.specs.declared.rows.Row.{Row}
-use Rattle.slot_match.specs.declared.matching.Fed.{Fed}
 use Rattle.slot_match.specs.Rows.{Names, HasHead, row_of}
-use Rattle.pointer_state.specs.Places.{Places, places_at_first}
+use Rattle.pointer_state.specs.Places.{places_at_first}
 use Rattle.eslip_rounds.specs.Schedulers.{Scheduler, IsSchedulerBy, IsScheduler}
-use Rattle.eslip_rounds.specs.Slots.{AreMoved}
+use Rattle.eslip_rounds.specs.Slots.{Moving, AreMoved}
 use Rattle.eslip_rounds.specs.Decisions.{decision_of}
 use Rattle.eslip_rounds.proofs.Scheduling.{IsSchedulerBy-decision_of, IsScheduler-decision_of}
 use Rattle.slot_histories.proofs.PostedRows.{row_of-slot_rows}
@@ -25,7 +23,7 @@ use Rattle.run_laws.proofs.RunSchedule.{run-schedule, run-within, run-kept}
 use Rattle.run_laws.proofs.RunWindows.{begins, middle, in_first}
 
 -- under a scheduler whose pointers stay at ports, and whose shared pointer passes the heads that complete
-pub heads-complete_by : (Moves : ℕ → ℕ → List Row → List (Option Fed) → List (Option Fed) → Places → Places → Type 0) (scheduler : Scheduler)
+pub heads-complete_by : (Moves : Moving) (scheduler : Scheduler)
     (plan : SwitchPlan) → IsScheduler scheduler → IsSchedulerBy Moves scheduler → ((level : ℕ) → KeepPointing Moves (ports_of plan) level)
     → ((level : ℕ) → PassHeads Moves (ports_of plan) level) → IsGood plan → (slots : ℕ) → CompletesUnder scheduler plan slots
 heads-complete_by Moves scheduler plan scheduling moving keep pass good slots first level i j below inside few clean named =

@@ -1,13 +1,12 @@
 -- The slots of a run are a schedule of rows that are kept.
-use Rattle.std.proofs.Common.{◌≡◌, ℕ, suc, ◌+◌, ◌<◌, List, Option, All, sym, subst, arith}
+use Rattle.std.proofs.Common.{◌≡◌, ℕ, suc, ◌+◌, ◌<◌, All, sym, subst, arith}
 use Rattle.std.specs.Prelude.{slice_index_or}
 use Rattle.std.proofs.lemmas.List.FromFn.{length-map-range_with_len, get_or-map-range_with_len}
-use Rattle.slot_match.specs.declared.rows.Row.{Row}
-use Rattle.slot_match.specs.declared.matching.Fed.{Fed}
 use Rattle.slot_match.specs.Rows.{AreWithin}
 use Rattle.slot_match.specs.Keeping.{KeepsRest, Keeps, Gives}
 use Rattle.slot_match.proofs.KeepingParts.{KeepsRest-iff_keeps}
-use Rattle.pointer_state.specs.Places.{Places, places_at_first}
+use Rattle.pointer_state.specs.Places.{places_at_first}
+use Rattle.eslip_rounds.specs.Slots.{Moving}
 use Rattle.eslip_rounds.specs.Schedules.{DecidedSlot, IsScheduleBy}
 use Rattle.service_bound.specs.Windows.{AreKept}
 use Rattle.eslip_rounds.specs.Schedulers.{Scheduler, IsSchedulerBy, IsScheduler}
@@ -31,7 +30,7 @@ module _ (scheduler : Scheduler) (scheduling : IsScheduler scheduler) (plan : Sw
       (KeepsRest-iff_keeps (ports_of plan) (decision_under scheduler (setup_for plan) (posts_under scheduler plan) t).matched matches i
       (posts_under scheduler plan i t).row (posts_under scheduler plan i (suc t)).row).0 keeps
 
-  pub run-schedule : (Moves : ℕ → ℕ → List Row → List (Option Fed) → List (Option Fed) → Places → Places → Type 0) → IsSchedulerBy Moves scheduler
+  pub run-schedule : (Moves : Moving) → IsSchedulerBy Moves scheduler
       → (slots : ℕ) → IsScheduleBy Moves (ports_of plan) plan.rounds 0 (places_at_first (ports_of plan)) (schedule_under scheduler plan slots)
   run-schedule Moves moving slots =
       IsSchedule-from scheduler (setup_for plan) (posts_under scheduler plan) Moves 0 slots

@@ -1,5 +1,5 @@
 -- Slots of a run are windows of its schedule, in which a queue waits no longer than the longest service.
-use Rattle.std.proofs.Common.{◌≡◌, ◌∙◌, ℕ, zero, suc, ◌+◌, ◌-◌, ◌<◌, ◌≤◌, List, Option, All, map, take, drop, length, refl, sym, ap, subst, arith}
+use Rattle.std.proofs.Common.{◌≡◌, ◌∙◌, ℕ, zero, suc, ◌+◌, ◌-◌, ◌<◌, ◌≤◌, List, All, map, take, drop, length, refl, sym, ap, subst, arith}
 use Rattle.std.specs.Prelude.{slice_index_or, Any}
 use Rattle.std.specs.List.{range_with_len}
 use Rattle.std.proofs.lemmas.List.{drop-map}
@@ -8,12 +8,11 @@ use Rattle.rotating_pick.specs.declared.kinds.Kind.{Kind}
 use Rattle.rotating_pick.specs.declared.kinds.Kind.TheVariants.{Uni, Multi}
 use Rattle.rotating_pick.specs.declared.limits.TheConstants.{LEVELS}
 use Rattle.slot_match.specs.declared.rows.Row.{Row}
-use Rattle.slot_match.specs.declared.matching.Fed.{Fed}
 use Rattle.slot_match.specs.Rows.{Names, row_of}
 use Rattle.slot_match.specs.Matches.{Serves}
-use Rattle.pointer_state.specs.Places.{Places, ArePointing, places_at_first}
+use Rattle.pointer_state.specs.Places.{ArePointing, places_at_first}
 use Rattle.pointer_state.proofs.Moves.{AreAtPorts-at_first}
-use Rattle.eslip_rounds.specs.Slots.{AreMoved}
+use Rattle.eslip_rounds.specs.Slots.{Moving, AreMoved}
 use Rattle.eslip_rounds.specs.Schedules.{DecidedSlot}
 use Rattle.eslip_rounds.specs.Schedulers.{Scheduler, IsSchedulerBy, IsScheduler}
 use Rattle.eslip_rounds.specs.Decisions.{decision_of}
@@ -128,7 +127,7 @@ module _ (scheduler : Scheduler) (scheduling : IsScheduler scheduler) (plan : Sw
       subst (λ (slot : DecidedSlot). P slot.rows) (sym here) (each k (omega arith))
 
   -- the slots are a window, in which nothing of the level is multicast
-  pub best-window : (Moves : ℕ → ℕ → List Row → List (Option Fed) → List (Option Fed) → Places → Places → Type 0) → IsSchedulerBy Moves scheduler
+  pub best-window : (Moves : Moving) → IsSchedulerBy Moves scheduler
       → IsWindowBy Moves (ports_of plan) plan.rounds 0 level (places_at_first (ports_of plan)) (schedule_under scheduler plan slots)
   best-window Moves moving = record {
     pointing = begins plan good level best.level_in;

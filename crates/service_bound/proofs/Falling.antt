@@ -1,14 +1,14 @@
 -- A rank that falls in each slot in which a request is left: as many slots as its bound are enough, and no wait reaches the bound.
-use Rattle.std.proofs.Common.{◌≡◌, ℕ, zero, suc, ◌+◌, ◌<◌, ◌≤◌, ◌⊎◌, List, [], ◌∷◌, Option, length, map, All, Any, refl, subst, inl, inr, arith}
+use Rattle.std.proofs.Common.{◌≡◌, ℕ, zero, suc, ◌+◌, ◌<◌, ◌≤◌, ◌⊎◌, List, [], ◌∷◌, length, map, All, Any, refl, subst, inl, inr, arith}
 use Rattle.std.proofs.lemmas.List.Elements.{All-nil, All-cons, All-head, All-tail}
 use Rattle.rotating_pick.specs.declared.kinds.Kind.TheVariants.{Uni}
 use Rattle.slot_match.specs.declared.rows.Row.{Row}
-use Rattle.slot_match.specs.declared.matching.Fed.{Fed}
 use Rattle.slot_match.specs.Rows.{Names, row_of, AreWithin}
 use Rattle.slot_match.specs.Matches.{Serves}
 use Rattle.slot_match.specs.Keeping.{Keeps}
 use Rattle.slot_match.proofs.Pairs.{Serves-decides}
 use Rattle.pointer_state.specs.Places.{Places, ArePointing}
+use Rattle.eslip_rounds.specs.Slots.{Moving}
 use Rattle.eslip_rounds.specs.Schedules.{DecidedSlot}
 use Rattle.service_bound.specs.Windows.{IsWithoutMulticast, InFirst, AreFollowing, IsWindowBy}
 use Rattle.service_bound.specs.Waits.{noted_of, wait_in, waits_from, longest_wait}
@@ -19,8 +19,8 @@ use Rattle.service_bound.proofs.AllBelow.{longest_wait-below}
 -- The request of input i for output j has a rank below `bound`, where AsksWithin says of pointers and of the rows posted
 -- next that the input asks and the rank is below a number. The rank falls in each slot that leaves the request, where
 -- the next rows follow the slot's.
-pub record IsFallingWhere (Follows : List Row → List Row → Type 0) (Moves : ℕ → ℕ → List Row → List (Option Fed) → List (Option Fed) → Places → Places
-    → Type 0) (n rounds level i j bound : ℕ) (AsksWithin : Places → ℕ → List Row → Type 0) : Type 0 where
+pub record IsFallingWhere (Follows : List Row → List Row → Type 0) (Moves : Moving) (n rounds level i j bound : ℕ)
+    (AsksWithin : Places → ℕ → List Row → Type 0) : Type 0 where
   pub begins : (t : ℕ) (places : Places) (slot : DecidedSlot) → IsWindowSlotBy Moves n rounds t level places slot → Names (row_of slot.rows i) level Uni j
       → AsksWithin places bound slot.rows
   pub some : (places : Places) (most : ℕ) (rows : List Row) → ArePointing n level places → AreWithin n rows → AsksWithin places most rows → 0 < most
@@ -29,7 +29,7 @@ pub record IsFallingWhere (Follows : List Row → List Row → Type 0) (Moves : 
       → (later : List Row) → Follows slot.rows later → AskOn n level slot.decision.matched slot.rows later j → AsksWithin slot.decision.places most later
 
 module _ (Follows : List Row → List Row → Type 0) (reflexive : (rows : List Row) → Follows rows rows)
-    (Moves : ℕ → ℕ → List Row → List (Option Fed) → List (Option Fed) → Places → Places → Type 0) (n rounds level i j bound : ℕ)
+    (Moves : Moving) (n rounds level i j bound : ℕ)
     (AsksWithin : Places → ℕ → List Row → Type 0) (keep : KeepPointing Moves n level) (some : 0 < bound)
     (falling : IsFallingWhere Follows Moves n rounds level i j bound AsksWithin) where
   module _ (t : ℕ) (places : Places) (slot : DecidedSlot) (slots : List DecidedSlot) (window : IsWindowBy Moves n rounds t level places (slot ∷ slots))
@@ -146,7 +146,7 @@ module _ (Follows : List Row → List Row → Type 0) (reflexive : (rows : List 
 
 -- and where each request has such a rank, the longest of all is below the bound
 pub longest_where : (Follows : List Row → List Row → Type 0) → ((rows : List Row) → Follows rows rows)
-    → (Moves : ℕ → ℕ → List Row → List (Option Fed) → List (Option Fed) → Places → Places → Type 0) (n rounds t level bound : ℕ)
+    → (Moves : Moving) (n rounds t level bound : ℕ)
     (AsksWithin : ℕ → ℕ → Places → ℕ → List Row → Type 0) (places : Places) (slots : List DecidedSlot) → KeepPointing Moves n level → 0 < bound
     → ((i j : ℕ) → i < n → IsFallingWhere Follows Moves n rounds level i j bound (AsksWithin i j))
     → IsWindowBy Moves n rounds t level places slots → All (λ slot. IsWithoutMulticast n level slot.rows) slots → AreFollowing Follows slots
@@ -157,8 +157,7 @@ longest_where Follows reflexive Moves n rounds t level bound AsksWithin places s
     (falling i j i_in) t places slots window alone follow)
 
 -- the same where any rows may come next
-pub record IsFalling (Moves : ℕ → ℕ → List Row → List (Option Fed) → List (Option Fed) → Places → Places → Type 0) (n rounds level i j bound : ℕ)
-    (AsksWithin : Places → ℕ → List Row → Type 0) : Type 0 where
+pub record IsFalling (Moves : Moving) (n rounds level i j bound : ℕ) (AsksWithin : Places → ℕ → List Row → Type 0) : Type 0 where
   pub begins : (t : ℕ) (places : Places) (slot : DecidedSlot) → IsWindowSlotBy Moves n rounds t level places slot → Names (row_of slot.rows i) level Uni j
       → AsksWithin places bound slot.rows
   pub some : (places : Places) (most : ℕ) (rows : List Row) → ArePointing n level places → AreWithin n rows → AsksWithin places most rows → 0 < most
@@ -177,7 +176,7 @@ any_follow : (slots : List DecidedSlot) → AreFollowing AnyFollow slots
 any_follow [] = tt
 any_follow (slot ∷ slots) = (any_first slot.rows slots, any_follow slots)
 
-falling_anyhow : (Moves : ℕ → ℕ → List Row → List (Option Fed) → List (Option Fed) → Places → Places → Type 0) (n rounds level i j bound : ℕ)
+falling_anyhow : (Moves : Moving) (n rounds level i j bound : ℕ)
     (AsksWithin : Places → ℕ → List Row → Type 0) → IsFalling Moves n rounds level i j bound AsksWithin
     → IsFallingWhere AnyFollow Moves n rounds level i j bound AsksWithin
 falling_anyhow Moves n rounds level i j bound AsksWithin falling =
@@ -188,7 +187,7 @@ falling_anyhow Moves n rounds level i j bound AsksWithin falling =
     }
 
 -- as many slots as the bound are enough
-pub served_by_falling : (Moves : ℕ → ℕ → List Row → List (Option Fed) → List (Option Fed) → Places → Places → Type 0) (n rounds level i j bound : ℕ)
+pub served_by_falling : (Moves : Moving) (n rounds level i j bound : ℕ)
     (AsksWithin : Places → ℕ → List Row → Type 0) → KeepPointing Moves n level → 0 < bound → IsFalling Moves n rounds level i j bound AsksWithin
     → (t : ℕ) (places : Places) (slots : List DecidedSlot) → IsWindowBy Moves n rounds t level places slots
     → All (λ slot. IsWithoutMulticast n level slot.rows) slots → InFirst (λ rows. Names (row_of rows i) level Uni j) slots
@@ -198,7 +197,7 @@ served_by_falling Moves n rounds level i j bound AsksWithin keep some falling t 
     (falling_anyhow Moves n rounds level i j bound AsksWithin falling) t places slots window alone (any_follow slots)
 
 -- and no wait reaches it
-pub longest_by_falling : (Moves : ℕ → ℕ → List Row → List (Option Fed) → List (Option Fed) → Places → Places → Type 0) (n rounds t level bound : ℕ)
+pub longest_by_falling : (Moves : Moving) (n rounds t level bound : ℕ)
     (AsksWithin : ℕ → ℕ → Places → ℕ → List Row → Type 0) (places : Places) (slots : List DecidedSlot) → KeepPointing Moves n level → 0 < bound
     → ((i j : ℕ) → i < n → IsFalling Moves n rounds level i j bound (AsksWithin i j))
     → IsWindowBy Moves n rounds t level places slots → All (λ slot. IsWithoutMulticast n level slot.rows) slots

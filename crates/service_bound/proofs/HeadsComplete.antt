@@ -13,7 +13,7 @@ use Rattle.slot_match.specs.Matches.{unmatched, Completes}
 use Rattle.slot_match.specs.Keeping.{Keeps}
 use Rattle.pointer_state.specs.Places.{Places, ArePointing, shared_of}
 use Rattle.eslip_rounds.specs.Rounds.{preferred, Accepts}
-use Rattle.eslip_rounds.specs.Slots.{AreMoved}
+use Rattle.eslip_rounds.specs.Slots.{Moving, AreMoved}
 use Rattle.eslip_rounds.specs.Schedules.{DecidedSlot}
 use Rattle.eslip_rounds.specs.Steps.{IsPassed}
 use Rattle.eslip_rounds.proofs.Deciding.{Completes-or}
@@ -70,7 +70,7 @@ module _ (n t level : ℕ) (rows : List Row) (first matched : List (Option Fed))
         ]
 
 -- where pointers move so, the shared pointer of the level moves one beyond the first head from it on, if that completes
-abbrev pub PassHeads : (ℕ → ℕ → List Row → List (Option Fed) → List (Option Fed) → Places → Places → Type 0) → ℕ → ℕ → Type 0
+abbrev pub PassHeads : Moving → ℕ → ℕ → Type 0
 PassHeads Moves n level = (t : ℕ) (rows : List Row) (first matched : List (Option Fed)) (before after : Places) → Moves n t rows first matched before after
     → IsPassed n rows matched before after level
 
@@ -78,8 +78,7 @@ PassHeads Moves n level = (t : ℕ) (rows : List Row) (first matched : List (Opt
 pub AreMoved-pass : (n level : ℕ) → PassHeads AreMoved n level
 AreMoved-pass n level t rows first matched before after moved = record { passed = λ p. moved.passed p level; stays = moved.shared_stays level }
 
-module _ (Moves : ℕ → ℕ → List Row → List (Option Fed) → List (Option Fed) → Places → Places → Type 0) (n rounds level i : ℕ)
-    (keep : KeepPointing Moves n level) (pass : PassHeads Moves n level) (some : 0 < rounds) (i_in : i < n) where
+module _ (Moves : Moving) (n rounds level i : ℕ) (keep : KeepPointing Moves n level) (pass : PassHeads Moves n level) (some : 0 < rounds) (i_in : i < n) where
   fewer_in_slot : (t : ℕ) (places : Places) (slot : DecidedSlot) → IsWindowSlotBy Moves n rounds t level places slot → HasHead slot.rows level i
       → (Completes slot.rows slot.decision.matched level i → ⊥) → slots_to_go n level slot.decision.places (t + 1) i + 1 ≤ slots_to_go n level places t i
   fewer_in_slot t places slot now waits left =
@@ -110,7 +109,7 @@ module _ (Moves : ℕ → ℕ → List Row → List (Option Fed) → List (Optio
       ]
 
 -- 2 * n slots are enough
-pub completes_by : (Moves : ℕ → ℕ → List Row → List (Option Fed) → List (Option Fed) → Places → Places → Type 0) (n rounds t level i : ℕ) (places : Places)
+pub completes_by : (Moves : Moving) (n rounds t level i : ℕ) (places : Places)
     (slots : List DecidedSlot) → KeepPointing Moves n level → PassHeads Moves n level → 0 < rounds → i < n → IsWindowBy Moves n rounds t level places slots
     → InFirst (λ rows. HasHead rows level i) slots
     → 2 * n ≤ length slots → Any (λ slot. HasHead slot.rows level i × Completes slot.rows slot.decision.matched level i) slots

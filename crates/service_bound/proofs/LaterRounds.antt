@@ -9,7 +9,7 @@ use Rattle.slot_match.proofs.Kept.{IsMatch-unmatched}
 use Rattle.pointer_state.specs.Places.{Places, accept_of}
 use Rattle.islip_rounds.specs.Numbers.{last_of}
 use Rattle.eslip_rounds.specs.Rounds.{Grants, IsRound, AreRounds}
-use Rattle.eslip_rounds.specs.Slots.{Decision, IsSlotBy}
+use Rattle.eslip_rounds.specs.Slots.{Decision, Moving, IsSlotBy}
 use Rattle.eslip_rounds.proofs.Bests.{taken_from}
 use Rattle.eslip_rounds.proofs.Running.{AreRounds-keep}
 
@@ -69,7 +69,7 @@ module _ (n t : ℕ) (rows : List Row) (places : Places) where
       }
 
   -- every slot of one round or more begins so, however its pointers move
-  pub BeginsWith-slot : (Moves : ℕ → ℕ → List Row → List (Option Fed) → List (Option Fed) → Places → Places → Type 0) (rounds : ℕ) (decision : Decision)
+  pub BeginsWith-slot : (Moves : Moving) (rounds : ℕ) (decision : Decision)
       → 0 < rounds → (slot : IsSlotBy Moves n rounds t rows places decision) → BeginsWith n t rows places (first_of n slot.steps) decision.matched
   BeginsWith-slot Moves rounds decision some slot =
       let count = slot.count in

@@ -1,18 +1,16 @@
 -- Slots out of the middle of a schedule whose rows are kept are such a schedule, and a window where they are clean.
-use Rattle.std.proofs.Common.{◌≡◌, ℕ, zero, suc, ◌+◌, ◌<◌, List, [], ◌∷◌, Option, take, drop, All, subst, arith}
+use Rattle.std.proofs.Common.{◌≡◌, ℕ, zero, suc, ◌+◌, ◌<◌, List, [], ◌∷◌, take, drop, All, subst, arith}
 use Rattle.std.proofs.lemmas.List.Elements.{All-head, All-tail, All-take}
 use Rattle.slot_match.specs.declared.rows.Row.{Row}
-use Rattle.slot_match.specs.declared.matching.Fed.{Fed}
 use Rattle.slot_match.specs.Rows.{row_of, AreWithin}
 use Rattle.slot_match.specs.Keeping.{Keeps}
 use Rattle.pointer_state.specs.Places.{Places, ArePointing}
-use Rattle.eslip_rounds.specs.Slots.{AreMoved}
+use Rattle.eslip_rounds.specs.Slots.{Moving, AreMoved}
 use Rattle.eslip_rounds.specs.Schedules.{DecidedSlot, IsScheduleBy, IsSchedule}
 use Rattle.service_bound.specs.Windows.{IsClean, AreKept, InFirst, IsWindowBy, IsWindow, places_after}
 use Rattle.service_bound.proofs.InWindows.{KeepPointing, AreMoved-keep, pointing_by}
 
-module _ (Moves : ℕ → ℕ → List Row → List (Option Fed) → List (Option Fed) → Places → Places → Type 0) (n rounds level : ℕ)
-    (keep : KeepPointing Moves n level) where
+module _ (Moves : Moving) (n rounds level : ℕ) (keep : KeepPointing Moves n level) where
   -- a schedule of rows that are kept, from pointers at ports
   record IsKeptSchedule (t : ℕ) (places : Places) (slots : List DecidedSlot) : Type 0 where
     pointing : ArePointing n level places
@@ -70,7 +68,7 @@ module _ (Moves : ℕ → ℕ → List Row → List (Option Fed) → List (Optio
         clean = clean;
       }
 
-pub part_is_window_by : (Moves : ℕ → ℕ → List Row → List (Option Fed) → List (Option Fed) → Places → Places → Type 0) (n rounds t level first count : ℕ)
+pub part_is_window_by : (Moves : Moving) (n rounds t level first count : ℕ)
     (places : Places) (slots : List DecidedSlot) → KeepPointing Moves n level → ArePointing n level places → IsScheduleBy Moves n rounds t places slots
     → All (λ slot. AreWithin n slot.rows) slots → AreKept n slots → All (λ slot. IsClean n level slot.rows) (take count (drop first slots))
     → IsWindowBy Moves n rounds (t + first) level (places_after places (take first slots)) (take count (drop first slots))

@@ -1,15 +1,13 @@
 -- The slots of a legal history are a schedule of rows that are kept.
-use Rattle.std.proofs.Common.{◌≡◌, ℕ, zero, suc, ◌+◌, ◌<◌, ◌≤◌, ◌∙◌, List, Option, length, map, take, drop, slice_index_or, All, sym, ap, subst, arith}
+use Rattle.std.proofs.Common.{◌≡◌, ℕ, zero, suc, ◌+◌, ◌<◌, ◌≤◌, ◌∙◌, List, length, map, take, drop, slice_index_or, All, sym, ap, subst, arith}
 use Rattle.std.specs.List.{range_with_len}
 use Rattle.std.proofs.lemmas.List.FromFn.{length-map-range_with_len, get_or-map-range_with_len, take-map-range_with_len}
 use Rattle.rotating_pick.specs.declared.limits.TheConstants.{LEVELS, MAX_PORTS}
-use Rattle.slot_match.specs.declared.rows.Row.{Row}
-use Rattle.slot_match.specs.declared.matching.Fed.{Fed}
 use Rattle.slot_match.specs.Rows.{AreWithin}
 use Rattle.slot_match.specs.Keeping.{Keeps}
 use Rattle.pointer_state.specs.Places.{Places, places_at_first, ArePointing}
 use Rattle.pointer_state.proofs.Moves.{AreAtPorts-at_first}
-use Rattle.eslip_rounds.specs.Slots.{AreMoved, IsSlotBy}
+use Rattle.eslip_rounds.specs.Slots.{Moving, AreMoved, IsSlotBy}
 use Rattle.eslip_rounds.specs.Schedules.{DecidedSlot, IsScheduleBy, IsSchedule}
 use Rattle.eslip_rounds.specs.Schedulers.{Scheduler}
 use Rattle.eslip_rounds.specs.Decisions.{decision_of}
@@ -30,8 +28,7 @@ module _ (scheduler : Scheduler) (s : Setup) (posts : ℕ → ℕ → CardPost) 
   slots_from t count = map (decided_under scheduler s posts) (range_with_len t count)
 
   -- a schedule, where each of them is a slot
-  pub IsSchedule-from : (Moves : ℕ → ℕ → List Row → List (Option Fed) → List (Option Fed) → Places → Places → Type 0) (t count : ℕ)
-      → ((k : ℕ) → t ≤ k → k < t + count
+  pub IsSchedule-from : (Moves : Moving) (t count : ℕ) → ((k : ℕ) → t ≤ k → k < t + count
       → IsSlotBy Moves s.ports s.rounds k (slot_rows s.ports posts k) (places_under scheduler s posts k) (decision_under scheduler s posts k))
       → IsScheduleBy Moves s.ports s.rounds t (places_under scheduler s posts t) (slots_from t count)
   IsSchedule-from Moves t zero each = tt

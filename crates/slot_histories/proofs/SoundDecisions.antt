@@ -1,8 +1,7 @@
 -- The decided slots of a legal list: their matches are matches, their pointers at ports, and rows are kept.
-use Rattle.std.proofs.Common.{◌≡◌, ◌∙◌, ℕ, zero, suc, ◌+◌, ◌<◌, ◌≤◌, List, Option, length, refl, sym, subst, arith, add-one}
+use Rattle.std.proofs.Common.{◌≡◌, ◌∙◌, ℕ, zero, suc, ◌+◌, ◌<◌, ◌≤◌, List, length, refl, sym, subst, arith, add-one}
 use Rattle.rotating_pick.specs.declared.limits.TheConstants.{MAX_PORTS}
 use Rattle.slot_match.specs.declared.rows.Row.{Row}
-use Rattle.slot_match.specs.declared.matching.Fed.{Fed}
 use Rattle.slot_match.specs.Rows.{AreWithin}
 use Rattle.slot_match.specs.Matches.{unmatched, IsMatch}
 use Rattle.slot_match.specs.Keeping.{KeepsRest, Keeps, Gives}
@@ -10,7 +9,7 @@ use Rattle.slot_match.proofs.Kept.{IsMatch-unmatched}
 use Rattle.slot_match.proofs.KeepingParts.{KeepsRest-iff_keeps}
 use Rattle.pointer_state.specs.Places.{Places, AreAtPorts, places_at_first}
 use Rattle.pointer_state.proofs.Moves.{AreAtPorts-at_first}
-use Rattle.eslip_rounds.specs.Slots.{Decision, AreMoved, IsSlotBy, IsSlot}
+use Rattle.eslip_rounds.specs.Slots.{Decision, Moving, AreMoved, IsSlotBy, IsSlot}
 use Rattle.eslip_rounds.specs.Decisions.{decision_of}
 use Rattle.eslip_rounds.specs.Schedulers.{Scheduler, IsSchedulerBy, StayAtPorts, IsScheduler}
 use Rattle.eslip_rounds.proofs.Matching.{IsMatch-rounds}
@@ -54,8 +53,7 @@ module _ (scheduler : Scheduler) (scheduling : IsScheduler scheduler) (s : Setup
       (slot.moved.0, slot.moved.1 ∙ before.1)
 
   -- each decides a slot, also where its pointers are told to move in another way
-  pub decision_under-moved : (Moves : ℕ → ℕ → List Row → List (Option Fed) → List (Option Fed) → Places → Places → Type 0) → IsSchedulerBy Moves scheduler
-      → (t : ℕ) → t < k
+  pub decision_under-moved : (Moves : Moving) → IsSchedulerBy Moves scheduler → (t : ℕ) → t < k
       → IsSlotBy Moves s.ports s.rounds t (slot_rows s.ports posts t) (places_under scheduler s posts t) (decision_under scheduler s posts t)
   decision_under-moved Moves moving t below =
       let before = places_under-at_ports t (omega arith) in
