@@ -170,7 +170,7 @@ module _ (n rounds : ℕ) (ins ins_back outs outs_back : ℕ → ℕ) (inputs : 
       inputs = inputs;
       outputs = outputs;
       level_in = l_in;
-      level_in_too = m_in;
+      new_level_in = m_in;
       rows_to = rows_to slot.rows alone;
       rows_back = rows_back slot.rows;
       pointers = pointers;

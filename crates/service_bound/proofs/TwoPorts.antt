@@ -2,8 +2,9 @@
 --
 -- Where its input is not the one that its output grants, and that one takes the other output, the second round serves
 -- the request: its input and its output are left alone.
-use Rattle.std.proofs.Common.{◌≡◌, ℕ, ◌+◌, ◌<◌, ◌≤◌, List, Option, None, Some, length, map, All, Any, refl, ap, sym, subst, inl, inr, arith}
+use Rattle.std.proofs.Common.{◌≡◌, ℕ, ◌+◌, ◌<◌, ◌≤◌, ◌∙◌, List, Option, None, Some, length, map, All, Any, refl, ap, sym, subst, inl, inr, arith}
 use Rattle.std.proofs.lemmas.Bool.{cases_eq, cases_lt}
+use Rattle.std.proofs.lemmas.Option.{none-some}
 use Rattle.rotating_pick.specs.Rotation.{distance, IsFirstFrom}
 use Rattle.rotating_pick.specs.declared.kinds.Kind.{Kind}
 use Rattle.rotating_pick.specs.declared.kinds.Kind.TheVariants.{Uni}
@@ -35,11 +36,6 @@ use Rattle.service_bound.proofs.Falling.{IsFalling, served_by_falling, longest_b
 -- of two ports, what is not one is the other
 other_of_two : (a b c : ℕ) → a < 2 → b < 2 → c < 2 → (a ≡ b → ⊥) → (c ≡ b → ⊥) → a ≡ c
 other_of_two a b c a_in b_in c_in a_not c_not = omega arith
-
--- what is nothing is not something
-pub nothing_here : (o : Option Fed) (f : Fed) → o ≡ None → o ≡ Some f → ⊥
-nothing_here None f free is = cc
-nothing_here (Some g) f free is = cc
 
 module _ (t level : ℕ) (rows : List Row) (first : List (Option Fed)) (places : Places) (level_in : level < LEVELS)
     (opening : IsRound 2 t rows places (unmatched 2) first) (pointing : ArePointing 2 level places) (clean : IsClean 2 level rows)
@@ -77,7 +73,7 @@ module _ (t level : ℕ) (rows : List Row) (first : List (Option Fed)) (places :
     input_free : IsFreeInput first i
     input_free z l k s = elim (cases_eq z j) [
       | inl same ↦
-          absurd (nothing_here (fed_of first j) (record { input = i; level = l; kind = k }) output_free (subst (λ v. Serves first i v l k) same s))
+          absurd (none-some (record { input = i; level = l; kind = k }) (sym output_free ∙ subst (λ v. Serves first i v l k) same s))
       | inr differs ↦
           let below = fed_of-lt first z (record { input = i; level = l; kind = k }) s in
           let same : z ≡ y = other_of_two z j y (omega arith) j_in y_in differs apart in
@@ -108,7 +104,7 @@ module _ (t level : ℕ) (rows : List Row) (first : List (Option Fed)) (places :
     free_alone : (z : ℕ) → z < 2 → IsFreeOutput first z → z ≡ j
     free_alone z z_in free =
         other_of_two z y j z_in y_in j_in
-        (λ same. nothing_here (fed_of first y) (record { input = h; level = level; kind = Uni }) (subst (IsFreeOutput first) same free) served)
+        (λ same. none-some (record { input = h; level = level; kind = Uni }) (sym (subst (IsFreeOutput first) same free) ∙ served))
         (λ e. apart (sym e))
 
     granted_second : Grants 2 t rows places first i j level Uni
