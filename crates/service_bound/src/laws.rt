@@ -1,5 +1,5 @@
 //! Bounds on waiting, as the contracts of functions that do nothing. They hold of the scheduler's
-//! definitions, for every number of ports and rounds and every window of slots.
+//! definitions, in every window of slots; each law says for which numbers of ports and rounds.
 
 ghost use Rattle.std.specs.Prelude.{◌≡◌, ℕ, ◌+◌, ◌*◌, ◌/◌, ◌<◌, ◌≤◌, List, All, Any, length, map, take, drop};
 ghost use Rattle.rotating_pick.specs.declared.kinds.Kind.TheVariants.{Uni};
@@ -38,7 +38,8 @@ pub fn one_round_served_at_line_rate()
         → longest_service_in_one_round n ≤ length slots + 1 → Any (λ slot. Serves slot.decision.matched i j level Uni) slots }
 {}
 
-/// And whatever the number of rounds, one slot less than without: `n * (n * n - n + 2) / 2 - 1` are enough.
+/// And whatever the number of rounds, one slot less than without is enough for three ports or more:
+/// `n * (n * n - n + 2) / 2 - 1`.
 pub fn unicast_served_at_line_rate()
     ensures { (n rounds t level i j : ℕ) (places : Places) (slots : List DecidedSlot) → 2 < n → 0 < rounds → i < n → IsWindow n rounds t level places slots
         → All (λ slot. IsWithoutMulticast n level slot.rows) slots → AreAtLineRate n level slots → InFirst (λ rows. Names (row_of rows i) level Uni j) slots
@@ -60,28 +61,28 @@ pub fn two_ports_served()
         → 3 ≤ length slots → Any (λ slot. Serves slot.decision.matched i j level Uni) slots }
 {}
 
-/// That many are needed, for every number of ports up to 64 and every queue: in some window of as many slots of one
-/// round, the queue is posted in every slot and served in the last one alone.
+/// Where each slot has one round, `2 * n * n - 3 * n + 2` slots are needed, for 1 to 64 ports and every queue: in some
+/// window of as many, the queue is posted in every slot and served in the last one alone.
 pub fn one_round_is_reached()
     ensures { (n t i j level : ℕ) → i < n → j < n → level < LEVELS → n ≤ MAX_PORTS → (places : Places) × (slots : List DecidedSlot)
         × IsServedLast n 1 t i j level places slots × (length slots ≡ longest_service_in_one_round n) }
 {}
 
-/// For three ports or more and two rounds or more, `n * (n * n - n + 2) / 2` slots are needed: a later round
-/// serves a request and moves no pointer, so more rounds make the longest wait longer.
+/// Of two rounds or more, `n * (n * n - n + 2) / 2` slots are needed, for 3 to 64 ports and every queue: a later round
+/// serves a request and moves no pointer, so for these ports more rounds make the longest wait longer.
 pub fn more_rounds_are_reached()
     ensures { (n rounds t i j level : ℕ) → 2 < n → i < n → j < n → level < LEVELS → n ≤ MAX_PORTS → 1 < rounds → (places : Places)
         × (slots : List DecidedSlot) × IsServedLast n rounds t i j level places slots × (length slots ≡ longest_service n) }
 {}
 
-/// And of two ports, three slots.
+/// And of two ports, three slots are needed, whatever the number of rounds.
 pub fn two_ports_are_reached()
     ensures { (rounds t i j level : ℕ) → 0 < rounds → i < 2 → j < 2 → level < LEVELS → (places : Places) × (slots : List DecidedSlot)
         × IsServedLast 2 rounds t i j level places slots × (length slots ≡ 3) }
 {}
 
-/// Such windows come about from all pointers at port 0: before slot `n + 1`, each input in turn, and input 0 again,
-/// is served with output 0.
+/// Such windows come about from all pointers at port 0: some schedule from slot 0 on has one of queue (0, 0, 0) from slot
+/// `n + 1` on; with one round for 1 to 64 ports, with more for 3 to 64, and of two ports one of three slots.
 pub fn longest_waits_come()
     ensures one_round { (n : ℕ) → 0 < n → n ≤ MAX_PORTS → (slots : List DecidedSlot) × ComesLast n 1 (n + 1) 0 0 0 slots
         × (length (drop (n + 1) slots) ≡ longest_service_in_one_round n) }
@@ -120,7 +121,7 @@ pub fn one_round_waits_at_line_rate_are_bounded()
         → longest_wait n level (map noted_of slots) + 1 < longest_service_in_one_round n }
 {}
 
-/// Nor does any, whatever the number of rounds, for one slot less than without.
+/// Nor does any, whatever the number of rounds, for one slot less than without, for three ports or more.
 pub fn waits_at_line_rate_are_bounded()
     ensures { (n rounds t level : ℕ) (places : Places) (slots : List DecidedSlot) → 2 < n → 0 < rounds → IsWindow n rounds t level places slots
         → All (λ slot. IsWithoutMulticast n level slot.rows) slots → AreAtLineRate n level slots
@@ -141,8 +142,8 @@ pub fn waits_are_below_the_longest_service_at_line_rate()
         → longest_wait n level (map noted_of slots) < longest_service_at_line_rate n rounds }
 {}
 
-/// The numbers that the users of this crate rely on: how many slots a meter notes, and how long a service at line rate
-/// takes of 2, 3, 16 and 64 ports, with one round and with more.
+/// The numbers that the users of this crate rely on: how many slots a meter notes, and how many slots a service at line
+/// rate takes at most, of 2, 3, 16 and 64 ports, with one round and with more.
 pub fn limits_are()
     ensures noted { MAX_NOTED ≡ 1048576 }
     ensures two_ports { (longest_service_at_line_rate 2 1 ≡ 4) × (longest_service_at_line_rate 2 2 ≡ 3) }
@@ -151,8 +152,9 @@ pub fn limits_are()
     ensures sixty_four_ports { (longest_service_at_line_rate 64 1 ≡ 8001) × (longest_service_at_line_rate 64 2 ≡ 129087) }
 {}
 
-/// One round never needs more slots than more rounds do. Both bounds are within `n * n * (n + 1) / 2`, and so
-/// within `n * n * n`.
+/// For one port or more the bound of one round is at most the bound that holds for any number of rounds, and this one is
+/// within `n * n * (n + 1) / 2` and within `n * n * n`. (Two ports need fewer slots with more rounds: three, and four with
+/// one round.)
 pub fn bounds_are_within()
     ensures one_round { (n : ℕ) → 0 < n → longest_service_in_one_round n ≤ longest_service n }
     ensures half { (n : ℕ) → longest_service n ≤ n * n * (n + 1) / 2 }
