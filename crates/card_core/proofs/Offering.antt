@@ -1,33 +1,29 @@
 -- What a packet that is offered to a queue adds to it.
-use Rattle.std.proofs.Common.{◌≡◌, ◌∙◌, ℕ, zero, suc, ◌+◌, ◌-◌, ◌<◌, ◌≤◌, nat_le, Bool, true, false, [], ◌∷◌, ◌++◌, List, length, refl, sym, ap, subst}
+use Rattle.std.proofs.Common.{◌≡◌, ◌≢◌, ◌∙◌, ◌^◌, ℕ, zero, suc, ◌+◌, ◌-◌, ◌<◌, ◌≤◌, nat_le, Bool, true, false, [], ◌∷◌, ◌++◌, List, length, refl, sym, ap, subst}
 use Rattle.std.proofs.Common.{arith, if◌then◌else◌}
 use Rattle.std.proofs.lemmas.List.{append-nil}
+use Rattle.std.proofs.lemmas.Nat.Bits.{bit_at-pow_same}
+use Rattle.rotating_pick.specs.PortSets.{Has, HasSeveral}
+use Rattle.rotating_pick.proofs.Members.{only_member, not_several}
 use Rattle.cell_rings.specs.CellQueues.{names_of_packet, cells_with_fan}
 use Rattle.voq_banks.specs.Queues.{Queues as UniQueues, queue_at as uni_at, spare_at, OthersStay as UnisStay}
 use Rattle.multicast_queue.specs.FanQueues.{Queues as FanQueues, FanQueue, FanCell, queue_at as fan_at, queue_with, rest_with, OthersStay}
-use Rattle.card_core.specs.declared.plan.Planned.{Planned}
-use Rattle.card_core.specs.Plans.{size_of}
-use Rattle.card_core.specs.StateSteps.{rest_after, EntersUnicast, EntersMulticast}
+use Rattle.card_core.specs.StateSteps.{rest_after, EntersUnicast, EntersMulticast, Enters}
 
 less_one : (spare new : ℕ) (fits : Bool) → new ≡ (if fits then spare - 1 else spare) → spare ≤ new + 1
 less_one spare new true is = omega (arith, is)
 less_one spare new false is = omega (arith, is)
 
-pub enters-unicast : (j number cells : ℕ) (p : Planned) (fits : Bool) (banks new : UniQueues) → cells ≡ size_of p
-    → fits ≡ nat_le (length (uni_at banks j p.level) + cells) banks.depth
-    → uni_at new j p.level ≡ uni_at banks j p.level ++ (if fits then names_of_packet number cells else [])
-    → spare_at new j p.level ≡ (if fits then spare_at banks j p.level - 1 else spare_at banks j p.level)
-    → UnisStay j p.level banks new → EntersUnicast j number p fits banks new
-enters-unicast j number cells p fits banks new size test queue spare others =
-    let same : fits ≡ nat_le (length (uni_at banks j p.level) + size_of p) banks.depth = test
-    ∙ ap (λ n. nat_le (length (uni_at banks j p.level) + n) banks.depth) size in
-    record {
-      test = same;
-      queue = queue ∙ ap (λ n. uni_at banks j p.level ++ (if fits then names_of_packet number n else [])) size
-          ∙ ap (λ b. uni_at banks j p.level ++ (if b then names_of_packet number (size_of p) else [])) same;
-      spare = less_one (spare_at banks j p.level) (spare_at new j p.level) fits spare;
-      others = others;
-    }
+pub enters-unicast : (j number level cells : ℕ) (fits : Bool) (banks new : UniQueues) → fits ≡ nat_le (length (uni_at banks j level) + cells) banks.depth
+    → uni_at new j level ≡ uni_at banks j level ++ (if fits then names_of_packet number cells else [])
+    → spare_at new j level ≡ (if fits then spare_at banks j level - 1 else spare_at banks j level)
+    → UnisStay j level banks new → EntersUnicast j number level cells fits banks new
+enters-unicast j number level cells fits banks new test queue spare others = record {
+  test = test;
+  queue = queue ∙ ap (λ b. uni_at banks j level ++ (if b then names_of_packet number cells else [])) test;
+  spare = less_one (spare_at banks j level) (spare_at new j level) fits spare;
+  others = others;
+}
 
 cells-in : (q new : FanQueue) (number cells fan : ℕ) (fits : Bool) → new ≡ (if fits then queue_with q number cells fan else q)
     → new.cells ≡ q.cells ++ (if fits then cells_with_fan number cells fan else [])
@@ -52,21 +48,38 @@ spare-in : (q new : FanQueue) (number cells fan : ℕ) (fits : Bool) → new ≡
 spare-in q new number cells fan true is = omega (arith, ap (λ (x : FanQueue). x.spare) is)
 spare-in q new number cells fan false is = omega (arith, ap (λ (x : FanQueue). x.spare) is)
 
-pub enters-multicast : (number cells : ℕ) (p : Planned) (fits : Bool) (fans new : FanQueues) → cells ≡ size_of p → 0 < cells
-    → fits ≡ nat_le (length (fan_at fans p.level).cells + cells) fans.depth
-    → fan_at new p.level ≡ (if fits then queue_with (fan_at fans p.level) number cells p.fan else fan_at fans p.level)
-    → OthersStay p.level fans new → EntersMulticast number p fits fans new
-enters-multicast number cells p fits fans new size some test queue others =
-    let q = fan_at fans p.level in
-    let same : fits ≡ nat_le (length q.cells + size_of p) fans.depth = test ∙ ap (λ n. nat_le (length q.cells + n) fans.depth) size in
-    let is : fan_at new p.level ≡ (if fits then queue_with q number (size_of p) p.fan else q) = queue
-    ∙ ap (λ n. if fits then queue_with q number n p.fan else q) size in
+pub enters-multicast : (number fan level cells : ℕ) (fits : Bool) (fans new : FanQueues) → 0 < cells
+    → fits ≡ nat_le (length (fan_at fans level).cells + cells) fans.depth
+    → fan_at new level ≡ (if fits then queue_with (fan_at fans level) number cells fan else fan_at fans level)
+    → OthersStay level fans new → EntersMulticast number fan level cells fits fans new
+enters-multicast number fan level cells fits fans new some test queue others =
+    let q = fan_at fans level in
     record {
-      test = same;
-      cells = cells-in q (fan_at new p.level) number (size_of p) p.fan fits is
-          ∙ ap (λ b. q.cells ++ (if b then cells_with_fan number (size_of p) p.fan else [])) same;
-      rest = rest-in q (fan_at new p.level) number (size_of p) p.fan fits (subst (λ n. 0 < n) size some) is
-          ∙ ap (λ b. rest_after q.cells q.rest (if b then cells_with_fan number (size_of p) p.fan else [])) same;
-      spare = spare-in q (fan_at new p.level) number (size_of p) p.fan fits is;
+      test = test;
+      cells = cells-in q (fan_at new level) number cells fan fits queue ∙ ap (λ b. q.cells ++ (if b then cells_with_fan number cells fan else [])) test;
+      rest = rest-in q (fan_at new level) number cells fan fits some queue
+          ∙ ap (λ b. rest_after q.cells q.rest (if b then cells_with_fan number cells fan else [])) test;
+      spare = spare-in q (fan_at new level) number cells fan fits queue;
       others = others;
     }
+
+-- ---- the two kinds of queues
+pub enters-one : (number fan level count i : ℕ) (fits : Bool) (banks new : UniQueues) (fans : FanQueues) → fan ≢ 0 → fan ≡ 2 ^ i
+    → EntersUnicast i number level count fits banks new → Enters number fan level count fits banks fans new fans
+enters-one number fan level count i fits banks new fans some is enters = record {
+  nowhere = λ none. absurd (some none);
+  unicast = λ _ j at. (
+    subst (λ k. EntersUnicast k number level count fits banks new)
+        (only_member j i (subst (λ f. Has f i) (sym is ∙ at) (bit_at-pow_same i))) enters,
+    refl,
+  );
+  multicast = λ _ several. absurd (not_several i (subst HasSeveral is several));
+}
+
+pub enters-several : (number fan level count : ℕ) (fits : Bool) (banks : UniQueues) (fans new : FanQueues) → fan ≢ 0 → HasSeveral fan
+    → EntersMulticast number fan level count fits fans new → Enters number fan level count fits banks fans banks new
+enters-several number fan level count fits banks fans new some several enters = record {
+  nowhere = λ none. absurd (some none);
+  unicast = λ _ j is. absurd (not_several j (subst HasSeveral is several));
+  multicast = λ _ _. (enters, refl);
+}

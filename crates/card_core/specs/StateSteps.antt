@@ -7,7 +7,7 @@ use Rattle.rotating_pick.specs.declared.kinds.Kind.{Kind}
 use Rattle.rotating_pick.specs.declared.kinds.Kind.TheVariants.{Uni, Multi}
 use Rattle.rotating_pick.specs.declared.limits.TheConstants.{LEVELS, MAX_PORTS}
 use Rattle.cell_cutter.specs.declared.cell.CellName.{CellName}
-use Rattle.cell_cutter.specs.declared.sizes.TheConstants.{MAX_FORWARDED_BYTES}
+use Rattle.cell_cutter.specs.declared.sizes.TheConstants.{MAX_FORWARDED_CELLS}
 use Rattle.slot_match.specs.declared.rows.Row.{Row}
 use Rattle.slot_match.specs.declared.matching.Served.{Served}
 use Rattle.slot_match.specs.Parts.{set_of}
@@ -54,33 +54,39 @@ arriving_if slot (Some packet) = if packet.arrival == slot then Some packet else
 abbrev pub next_in : List Planned → ℕ → ℕ → Option Planned
 next_in packets next slot = arriving_if slot (slice_get packets next)
 
--- a packet of a fan-out may enter its queue
-pub record MayEnter (banks : UniQueues) (fans : FanQueues) (packet : Planned) : Type 0 where
+-- a packet of a fan-out, a level and so many cells may enter its queue
+pub record MayEnter (banks : UniQueues) (fans : FanQueues) (fan level count : ℕ) : Type 0 where
   pub size : banks.ports ≤ MAX_PORTS
   pub ports : fans.ports ≡ banks.ports
-  pub routed : packet.fan ≢ 0
-  pub level : packet.level < LEVELS
-  pub among : IsAmong banks.ports packet.fan
-  pub len : packet.len ≤ MAX_FORWARDED_BYTES
-  pub uni_room : (j : ℕ) → packet.fan ≡ 2 ^ j → 0 < spare_at banks j packet.level
-  pub fan_room : HasSeveral packet.fan → 0 < (fan_at fans packet.level).spare
+  pub routed : fan ≢ 0
+  pub level_in : level < LEVELS
+  pub among : IsAmong banks.ports fan
+  pub some : 0 < count
+  pub few : count ≤ MAX_FORWARDED_CELLS
+  pub uni_room : (j : ℕ) → fan ≡ 2 ^ j → 0 < spare_at banks j level
+  pub fan_room : HasSeveral fan → 0 < (fan_at fans level).spare
 
 -- it entered the unicast queue of output j, if it fitted
-pub record EntersUnicast (j number : ℕ) (packet : Planned) (fits : Bool) (banks new : UniQueues) : Type 0 where
-  pub test : fits ≡ nat_le (length (uni_at banks j packet.level) + size_of packet) banks.depth
-  pub queue : uni_at new j packet.level ≡ uni_at banks j packet.level ++ added banks.depth (length (uni_at banks j packet.level)) number (size_of packet)
-  pub spare : spare_at banks j packet.level ≤ spare_at new j packet.level + 1
-  pub others : UnisStay j packet.level banks new
+pub record EntersUnicast (j number level count : ℕ) (fits : Bool) (banks new : UniQueues) : Type 0 where
+  pub test : fits ≡ nat_le (length (uni_at banks j level) + count) banks.depth
+  pub queue : uni_at new j level ≡ uni_at banks j level ++ added banks.depth (length (uni_at banks j level)) number count
+  pub spare : spare_at banks j level ≤ spare_at new j level + 1
+  pub others : UnisStay j level banks new
 
 -- it entered the multicast queue of its level, if it fitted
-pub record EntersMulticast (number : ℕ) (packet : Planned) (fits : Bool) (fans new : FanQueues) : Type 0 where
-  pub test : fits ≡ nat_le (length (fan_at fans packet.level).cells + size_of packet) fans.depth
-  pub cells : (fan_at new packet.level).cells ≡ (fan_at fans packet.level).cells
-      ++ fan_added fans.depth (length (fan_at fans packet.level).cells) number (size_of packet) packet.fan
-  pub rest : (fan_at new packet.level).rest ≡ rest_after (fan_at fans packet.level).cells (fan_at fans packet.level).rest
-      (fan_added fans.depth (length (fan_at fans packet.level).cells) number (size_of packet) packet.fan)
-  pub spare : (fan_at fans packet.level).spare ≤ (fan_at new packet.level).spare + 1
-  pub others : OthersStay packet.level fans new
+pub record EntersMulticast (number fan level count : ℕ) (fits : Bool) (fans new : FanQueues) : Type 0 where
+  pub test : fits ≡ nat_le (length (fan_at fans level).cells + count) fans.depth
+  pub cells : (fan_at new level).cells ≡ (fan_at fans level).cells ++ fan_added fans.depth (length (fan_at fans level).cells) number count fan
+  pub rest : (fan_at new level).rest ≡ rest_after (fan_at fans level).cells (fan_at fans level).rest
+      (fan_added fans.depth (length (fan_at fans level).cells) number count fan)
+  pub spare : (fan_at fans level).spare ≤ (fan_at new level).spare + 1
+  pub others : OthersStay level fans new
+
+-- the packet entered its queue, if it goes anywhere and fitted
+pub record Enters (number fan level count : ℕ) (fits : Bool) (banks : UniQueues) (fans : FanQueues) (banks' : UniQueues) (fans' : FanQueues) : Type 0 where
+  pub nowhere : fan ≡ 0 → (banks' ≡ banks) × (fans' ≡ fans)
+  pub unicast : fan ≢ 0 → (j : ℕ) → fan ≡ 2 ^ j → EntersUnicast j number level count fits banks banks' × (fans' ≡ fans)
+  pub multicast : fan ≢ 0 → HasSeveral fan → EntersMulticast number fan level count fits fans fans' × (banks' ≡ banks)
 
 -- the first cell of a unicast queue left
 pub record LeavesUnicast (j level : ℕ) (name : CellName) (banks new : UniQueues) : Type 0 where
@@ -108,20 +114,14 @@ Leaves Multi part name banks fans banks' fans' = LeavesMulticast part.outputs pa
 
 abbrev pub MayArrive : UniQueues → FanQueues → Option Planned → Type 0
 MayArrive banks fans None = Unit {0}
-MayArrive banks fans (Some packet) = packet.fan ≢ 0 → MayEnter banks fans packet
-
--- the packet entered its queue, if it goes anywhere and fitted
-pub record Enters (number : ℕ) (packet : Planned) (fits : Bool) (banks : UniQueues) (fans : FanQueues) (banks' : UniQueues) (fans' : FanQueues) : Type 0 where
-  pub nowhere : packet.fan ≡ 0 → (banks' ≡ banks) × (fans' ≡ fans)
-  pub unicast : packet.fan ≢ 0 → (j : ℕ) → packet.fan ≡ 2 ^ j → EntersUnicast j number packet fits banks banks' × (fans' ≡ fans)
-  pub multicast : packet.fan ≢ 0 → HasSeveral packet.fan → EntersMulticast number packet fits fans fans' × (banks' ≡ banks)
+MayArrive banks fans (Some packet) = packet.fan ≢ 0 → MayEnter banks fans packet.fan packet.level (size_of packet)
 
 -- the count is that of the packets that arrived, were admitted and were dropped
 abbrev pub Arrives : ℕ → Option Planned → Count → UniQueues → FanQueues → UniQueues → FanQueues → Type 0
 Arrives number None count banks fans banks' fans' = (count.packets ≡ 0) × (count.admitted ≡ 0) × (count.dropped ≡ 0) × (banks' ≡ banks) × (fans' ≡ fans)
 Arrives number (Some packet) count banks fans banks' fans' =
-    (fits : Bool) × Enters number packet fits banks fans banks' fans' × (count.packets ≡ 1) × (count.admitted ≡ counted true packet fits)
-    × (count.dropped ≡ counted false packet fits)
+    (fits : Bool) × Enters number packet.fan packet.level (size_of packet) fits banks fans banks' fans' × (count.packets ≡ 1)
+    × (count.admitted ≡ counted true packet fits) × (count.dropped ≡ counted false packet fits)
 
 -- the rooms of the queues are the numbers of these packets that enter them
 pub record HasRooms (ports : ℕ) (packets : List Planned) (uni fan : List ℕ) : Type 0 where

@@ -6,20 +6,18 @@ ghost use Rattle.card_core.specs.States.{HasSent};
 
 use crate::cutting::cell_for;
 use crate::entering::{arriving, enter};
-use crate::leaving::leave;
 use crate::limits::MAX_SLOTS;
 use crate::plan::CardPlan;
-use crate::posting::{is_more, row};
+use crate::posting::is_more;
+use crate::queues::Queues;
 use crate::rooms::count_rooms;
 use crate::serving::is_servable;
 use cell_cutter::Cell;
 use crossbar::Post;
-use multicast_queue::FanQueues;
 use rotating_pick::OutOfMemory;
 use slot_match::{Row, Served};
 use std::alloc::Global;
 use std::marker::Model;
-use voq_banks::Banks;
 
 /// What a line card keeps of what it sends.
 #[derive(Drop)]
@@ -32,8 +30,7 @@ pub(crate) struct Ingress {
     row: Row,
     admitted: u32,
     dropped: u32,
-    banks: Banks,
-    fans: FanQueues,
+    queues: Queues,
 }
 
 impl Model for Ingress {
@@ -44,10 +41,10 @@ impl Model for Ingress {
 
     ghost Value = { State };
 
-    ghost view = { λ s. state_of (plan_of s.plan) s.next s.slot s.posted s.granted s.row s.admitted s.dropped s.banks s.fans };
+    ghost view = { λ s. state_of (plan_of s.plan) s.next s.slot s.posted s.granted s.row s.admitted s.dropped s.queues.unicast s.queues.multicast };
 
     ghost invariant = { λ s. (served : List (Option Served))
-        × HasSent (state_of (plan_of s.plan) s.next s.slot s.posted s.granted s.row s.admitted s.dropped s.banks s.fans) served s.posted };
+        × HasSent (state_of (plan_of s.plan) s.next s.slot s.posted s.granted s.row s.admitted s.dropped s.queues.unicast s.queues.multicast) served s.posted };
 }
 
 impl Ingress {
@@ -57,9 +54,8 @@ impl Ingress {
         ensures sent { IfOk result (λ card. HasSent card [] false) }
         ensures plan { IfOk result (λ card. card.plan ≡ plan_of plan) }
     {
-        let room = count_rooms(alloc, plan.n, &plan.packets)?;
-        let banks = Banks::make(alloc, plan.n, plan.depth, &room.unicast)?;
-        let fans = FanQueues::make(alloc, plan.n, plan.depth, &room.multicast)?;
+        let rooms = count_rooms(alloc, plan.n, &plan.packets)?;
+        let queues = Queues::make(alloc, plan.depth, &rooms)?;
         Ok(Ingress {
             plan,
             next: 0,
@@ -69,8 +65,7 @@ impl Ingress {
             row: Row::empty(),
             admitted: 0,
             dropped: 0,
-            banks,
-            fans,
+            queues,
         })
     }
 
@@ -125,11 +120,11 @@ impl Ingress {
         ensures after { (served : List (Option Served)) → HasSent self.old served false → HasSent self.new served true }
     {
         let arrived = arriving(&self.plan.packets, self.next, self.slot);
-        let count = enter(&mut self.banks, &mut self.fans, self.next, arrived);
+        let count = enter(&mut self.queues, self.next, arrived);
         self.next += count.packets;
         self.admitted += count.admitted;
         self.dropped += count.dropped;
-        let row = row(&self.banks, &self.fans);
+        let row = self.queues.row();
         self.row = row;
         self.posted = true;
         Post {
@@ -149,7 +144,7 @@ impl Ingress {
     {
         self.granted = match served {
             Some(part) => {
-                let name = leave(&mut self.banks, &mut self.fans, part);
+                let name = self.queues.leave(part);
                 Some(cell_for(&self.plan, name, part.kind))
             }
             None => None,

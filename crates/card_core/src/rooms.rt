@@ -1,18 +1,71 @@
-ghost use Rattle.std.specs.Prelude.{◌≡◌, ℕ, ◌+◌, ◌-◌, ◌*◌, ◌^◌, ◌<◌, ◌≤◌, List, ◌∷◌, [], ◌++◌, length, slice_index, slice_get, Option, Some, IfOk};
+ghost use Rattle.std.specs.Prelude.{◌≡◌, ℕ, ◌+◌, ◌-◌, ◌^◌, ◌<◌, ◌≤◌, List, ◌∷◌, [], ◌++◌, length, slice_get, Some, IfOk};
+ghost use Rattle.rotating_pick.specs.PortSets.{IsAmong};
 ghost use Rattle.card_core.specs.declared.plan.Planned.{Planned as APlanned};
-ghost use Rattle.card_core.specs.Plans.{IsPlanned};
 ghost use Rattle.card_core.specs.StateSteps.{HasRooms, AreFew};
 
 use crate::limits::MAX_ARRIVALS;
 use crate::plan::Planned;
-use rotating_pick::{LEVELS, MAX_PORTS, is_empty, only};
+use rotating_pick::{LEVEL_COUNT, LEVELS, MAX_PORTS, Ports, is_empty, only};
 use std::alloc::{AllocError, Global};
+use std::marker::Model;
 
-/// How many packets will enter each queue.
+/// How many packets will enter each queue of an input.
 #[derive(Drop)]
-pub(crate) struct Rooms {
+pub struct Rooms {
+    pub(crate) ports: u32,
     pub(crate) unicast: Vec<u32>,
-    pub(crate) multicast: [u32; LEVELS as usize],
+    pub(crate) multicast: [u32; LEVEL_COUNT],
+}
+
+impl Model for Rooms {
+    ghost use Rattle.std.specs.Prelude.{◌≡◌, ◌*◌, ◌≤◌, length};
+    ghost use Rattle.rotating_pick.specs.declared.limits.TheConstants.{LEVELS, MAX_PORTS};
+    ghost use Rattle.card_core.specs.InputQueues.{QueueRooms};
+
+    ghost Value = { QueueRooms };
+
+    ghost view = { λ r. record { ports = r.ports; unicast = r.unicast.items; multicast = r.multicast } };
+
+    ghost invariant = { λ r. (r.ports ≤ MAX_PORTS) × (length r.unicast.items ≡ LEVELS * r.ports) };
+}
+
+impl Rooms {
+    /// No packets, for an input of a switch of `n` ports, at most 64. It takes all memory that the counts need.
+    pub fn make(alloc: Global, n: u32) -> Result<Rooms, AllocError>
+        requires size { n ≤ MAX_PORTS }
+        ensures ports { IfOk result (λ rooms. rooms.ports ≡ n) }
+        ensures rooms { IfOk result (λ rooms. HasRooms n [] rooms.unicast rooms.multicast) }
+        ensures few { IfOk result (λ rooms. AreFew 0 rooms.unicast rooms.multicast) }
+    {
+        let unicast = vec![in alloc; 0; (LEVELS * n) as usize]?;
+        Ok(Rooms {
+            ports: n,
+            unicast,
+            multicast: [0; LEVEL_COUNT],
+        })
+    }
+
+    /// Counts a packet with this fan-out, of the switch's ports, and this level, 0 to 3, at the queue that it is
+    /// to enter. One that goes nowhere enters none. Fewer than 131,072 are counted at each queue.
+    pub fn count(&mut self, fan: Ports, level: u8)
+        requires few { AreFew (MAX_ARRIVALS - 1) self.old.unicast self.old.multicast }
+        requires level { level < LEVELS }
+        requires fan { IsAmong self.old.ports fan }
+        ensures ports { self.new.ports ≡ self.old.ports }
+        ensures rooms { (before : List APlanned) (packet : APlanned) → packet.fan ≡ fan → packet.level ≡ level
+            → HasRooms self.old.ports before self.old.unicast self.old.multicast
+            → HasRooms self.old.ports (before ++ packet ∷ []) self.new.unicast self.new.multicast }
+        ensures few { (k : ℕ) → AreFew k self.old.unicast self.old.multicast → AreFew (k + 1) self.new.unicast self.new.multicast }
+    {
+        if is_empty(fan) {
+            return;
+        }
+        let level = level as usize;
+        match only(fan) {
+            Some(output) => self.unicast[LEVEL_COUNT * output as usize + level] += 1,
+            None => self.multicast[level] += 1,
+        }
+    }
 }
 
 /// The rooms of all packets, of a switch of `n` ports.
@@ -20,33 +73,13 @@ pub(crate) fn count_rooms(alloc: Global, n: u32, packets: &[Planned]) -> Result<
     requires size { n ≤ MAX_PORTS }
     requires few { length packets.now ≤ MAX_ARRIVALS }
     requires packets { (k : ℕ) (packet : APlanned) → slice_get packets.now k ≡ Some packet → (packet.level < LEVELS) × (packet.fan < 2 ^ n) }
-    ensures rooms { IfOk result (λ rooms. HasRooms n packets.now rooms.unicast.items rooms.multicast) }
-    ensures few { IfOk result (λ rooms. AreFew (length packets.now) rooms.unicast.items rooms.multicast) }
+    ensures ports { IfOk result (λ rooms. rooms.ports ≡ n) }
+    ensures rooms { IfOk result (λ rooms. HasRooms n packets.now rooms.unicast rooms.multicast) }
+    ensures few { IfOk result (λ rooms. AreFew (length packets.now) rooms.unicast rooms.multicast) }
 {
-    let mut unicast = vec![in alloc; 0; (LEVELS * n) as usize]?;
-    let mut multicast = [0; LEVELS as usize];
+    let mut rooms = Rooms::make(alloc, n)?;
     for packet in packets {
-        count(n, &mut unicast, &mut multicast, *packet);
+        rooms.count(packet.fan, packet.level);
     }
-    Ok(Rooms { unicast, multicast })
-}
-
-// Counts the packet at its queue.
-fn count(n: u32, unicast: &mut [u32], multicast: &mut [u32; LEVELS as usize], packet: Planned)
-    requires size { n ≤ MAX_PORTS }
-    requires long { length unicast.old ≡ LEVELS * n }
-    requires few { AreFew (MAX_ARRIVALS - 1) unicast.old multicast.old }
-    requires level { packet.level < LEVELS }
-    requires fan { packet.fan < 2 ^ n }
-    ensures rooms { (before : List APlanned) → HasRooms n before unicast.old multicast.old → HasRooms n (before ++ packet ∷ []) unicast.new multicast.new }
-    ensures few { (k : ℕ) → AreFew k unicast.old multicast.old → AreFew (k + 1) unicast.new multicast.new }
-{
-    if is_empty(packet.fan) {
-        return;
-    }
-    let level = packet.level as usize;
-    match only(packet.fan) {
-        Some(output) => unicast[LEVELS as usize * output as usize + level] += 1,
-        None => multicast[level] += 1,
-    }
+    Ok(rooms)
 }

@@ -28,7 +28,7 @@ places c =
     let posted = ap (λ (b : State). b.posted) c.self.view_is ∙ c.requires.posted in
     let was = subst (HasSent (the_view c.self.inside) c.self.invariant.0) posted c.self.invariant.1 in
     let may = part-of _ _ c.args.served c.in-Some.part c.requires.servable (sym (ap (λ (b : State). b.row) c.self.view_is)) c.in-Some.is in
-    named (the_view c.self.inside) c.self.invariant.0 was c.in-Some.part may c.leave-name.result c.leave-name.new.banks c.leave-name.new.fans
+    named (the_view c.self.inside) c.self.invariant.0 was c.in-Some.part may c.leave-name.result c.leave-name.new.self.unicast c.leave-name.new.self.multicast
     c.leave-name.ensures
 
 pub cell_for-requires-clause-there : goal.cell_for-requires-clause-there
@@ -53,10 +53,10 @@ returns-clause-after c before was =
       | in-Some w ↦
           let may = part-of _ _ c.args.served w.in-Some.part c.requires.servable (sym (ap (λ (b : State). b.row) c.self.view_is)) w.in-Some.is in
           let name = w.leave-name.result in
-          let at = named (the_view c.self.inside) before old w.in-Some.part may name w.leave-name.new.banks w.leave-name.new.fans w.leave-name.ensures in
+          let at = named (the_view c.self.inside) before old w.in-Some.part may name w.leave-name.new.self.unicast w.leave-name.new.self.multicast w.leave-name.ensures in
           let cell = w.cell_for.ensures ∙ cell-is (the_view c.self.inside).plan w.in-Some.part name _ refl at.queue in
           rw (w.in-Some.is, w.self-is, w.self-inside-is, cell)
-          (take_some (the_view c.self.inside) before old w.in-Some.part name w.leave-name.new.banks w.leave-name.new.fans may w.leave-name.ensures)
+          (take_some (the_view c.self.inside) before old w.in-Some.part name w.leave-name.new.self.unicast w.leave-name.new.self.multicast may w.leave-name.ensures)
       | in-None w ↦ rw (w.in-None.is, w.self-is, w.self-inside-is) (take_none (the_view c.self.inside) before old)
     ]
 
