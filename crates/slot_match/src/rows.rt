@@ -9,7 +9,9 @@ use rotating_pick::{
     Kind, LEVEL_COUNT, LEVELS, MAX_PORTS, Ports, difference, is_among, is_empty, is_subset, union,
 };
 
-/// What one input posts in a slot. Levels are 0 to 3.
+/// What one input posts in a slot. Levels are 0 to 3. Its layout is that of C: first `uni`, then `multi`,
+/// each four words of 64 bits.
+#[repr(C)]
 #[derive(Clone, Copy, Debug, PartialEq, Eq)]
 pub struct Row {
     /// For each level the outputs with a unicast cell waiting.
