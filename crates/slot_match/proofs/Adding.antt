@@ -1,5 +1,5 @@
 -- A match that gains some pairs of one input.
-use Rattle.std.proofs.Common.{◌≡◌, ◌≢◌, ℕ, ◌+◌, ◌<◌, ◌↔◌, ◌⊎◌, ◌∙◌, List, Option, length, count_by, is_some, slice_index, refl, sym, ap, subst, inl, inr}
+use Rattle.std.proofs.Common.{◌≡◌, ◌≢◌, ℕ, ◌+◌, ◌<◌, ◌↔◌, ◌⊎◌, ◌∙◌, List, Option, length, count_by, is_some, refl, sym, ap, subst, inl, inr}
 use Rattle.std.proofs.lemmas.Bool.{cases_eq}
 use Rattle.std.proofs.lemmas.Option.{none-some}
 use Rattle.rotating_pick.specs.PortSets.{Has}
@@ -7,7 +7,7 @@ use Rattle.rotating_pick.specs.declared.kinds.Kind.{Kind}
 use Rattle.rotating_pick.specs.declared.kinds.Kind.TheVariants.{Uni, Multi}
 use Rattle.rotating_pick.specs.declared.limits.TheConstants.{LEVELS}
 use Rattle.slot_match.specs.declared.matching.Fed.{Fed}
-use Rattle.slot_match.specs.Matches.{fed_of, Serves, IsFreeInput, IsFreeOutput, IsMulticasting, IsMatch, MayAdd}
+use Rattle.slot_match.specs.Matches.{fed_of, Serves, IsFreeInput, IsFreeOutput, IsMatch, MayAdd}
 use Rattle.slot_match.specs.FieldSteps.{AreSets}
 use Rattle.slot_match.proofs.Sets.{Has-or}
 use Rattle.slot_match.proofs.Pairs.{kinds_decide, Serves-once, Serves-along}
@@ -107,50 +107,12 @@ module _ (n : ℕ) (old new : List (Option Fed)) (input outputs level : ℕ) (ki
     | inr lacks ↦ (λ free. (sym (added.stays j lacks) ∙ free, lacks), λ p. added.stays j lacks ∙ p.0)
   ]
 
-  -- the inputs that go on
-  going : kind ≡ Multi → IsMulticasting new input level
-  going multi =
-      record {
-        some = (may.some.0, Serves-along new input may.some.0 level level kind Multi refl multi (added.fed may.some.0 may.some.1));
-        only = λ j o k s. let a = mine_alike j o k s in (a.0, a.1 ∙ multi);
-      }
-
-  pub IsMulticasting-added : (l i : ℕ) → IsMulticasting new i l ↔ (((i ≡ input) × (l ≡ level) × (kind ≡ Multi)) ⊎ IsMulticasting old i l)
-  IsMulticasting-added l i = (
-    λ on. elim (cases_eq i input) [
-      | inl same ↦
-          let P : ℕ → Type 0 = λ x. IsMulticasting new x l in
-          let mine = (subst P same on).only may.some.0 level kind (added.fed may.some.0 may.some.1) in
-          inl (same, sym mine.0, mine.1)
-      | inr other ↦
-          let back = λ (j m : ℕ) (k : Kind) (s : Serves new i j m k). elim ((Serves-added i j m k).0 s) as
-          (λ _. Serves old i j m k) [ inl before ↦ before | inr p ↦ absurd (other p.0) ] in
-          inr (record { some = (on.some.0, back on.some.0 l Multi on.some.1); only = λ j m k s. on.only j m k (kept i j m k s) })
-    ],
-    λ s. elim s [
-      | inl p ↦ let P : ℕ → ℕ → Type 0 = λ x m. IsMulticasting new x m in subst (λ x. P x l) (sym p.0) (subst (λ m. P input m) (sym p.1) (going p.2))
-      | inr on ↦ elim (cases_eq i input) [
-        | inl same ↦
-            let P : ℕ → Type 0 = λ x. IsMulticasting old x l in
-            let mine = subst P same on in
-            let goes = goes_on mine.some.0 l Multi mine.some.1 in
-            let Q : ℕ → ℕ → Type 0 = λ x m. IsMulticasting new x m in
-            subst (λ x. Q x l) (sym same) (subst (λ m. Q input m) (sym goes.0) (going goes.2))
-        | inr other ↦ record {
-          some = (on.some.0, kept i on.some.0 l Multi on.some.1);
-          only = λ j m k r. elim ((Serves-added i j m k).0 r) [ inl before ↦ on.only j m k before | inr p ↦ absurd (other p.0) ];
-        }
-      ]
-    ],
-  )
-
   -- what is kept beside the match follows it
-  pub AreSets-added : (count more : ℕ) (free_inputs later_inputs free_outputs later_outputs : ℕ) (on later_on : List ℕ)
-      → AreSets n old count free_inputs free_outputs on → count_by is_some new ≡ count_by is_some old + more
+  pub AreSets-added : (count more : ℕ) (free_inputs later_inputs free_outputs later_outputs : ℕ)
+      → AreSets n old count free_inputs free_outputs → count_by is_some new ≡ count_by is_some old + more
       → ((i : ℕ) → Has later_inputs i ↔ ((i ≢ input) × Has free_inputs i)) → ((j : ℕ) → Has later_outputs j ↔ (Has free_outputs j × (Has outputs j → ⊥)))
-      → ((l i : ℕ) → Has (slice_index later_on l) i ↔ (((i ≡ input) × (l ≡ level) × (kind ≡ Multi)) ⊎ Has (slice_index on l) i))
-      → AreSets n new (count + more) later_inputs later_outputs later_on
-  AreSets-added count more free_inputs later_inputs free_outputs later_outputs on later_on sets counted inputs outs ons =
+      → AreSets n new (count + more) later_inputs later_outputs
+  AreSets-added count more free_inputs later_inputs free_outputs later_outputs sets counted inputs outs =
       record {
         some = sets.some;
         size = sets.size;
@@ -163,9 +125,5 @@ module _ (n : ℕ) (old new : List (Option Fed)) (input outputs level : ℕ) (ki
         outputs_left = λ j. (
           λ has. let p = (outs j).0 has in let q = (sets.outputs_left j).0 p.0 in (q.0, (IsFreeOutput-added j).1 (q.1, p.1)),
           λ p. let q = (IsFreeOutput-added j).0 p.1 in (outs j).1 ((sets.outputs_left j).1 (p.0, q.0), q.1),
-        );
-        go_on = λ l i. (
-          λ has. (IsMulticasting-added l i).1 (elim ((ons l i).0 has) [ inl p ↦ inl p | inr before ↦ inr ((sets.go_on l i).0 before) ]),
-          λ s. (ons l i).1 (elim ((IsMulticasting-added l i).0 s) [ inl p ↦ inl p | inr before ↦ inr ((sets.go_on l i).1 before) ]),
         );
       }

@@ -1,6 +1,6 @@
 -- The fields of a match: at first, and after some pairs were added.
-use Rattle.std.proofs.Common.{◌≡◌, ◌≢◌, ℕ, zero, ◌+◌, ◌^◌, ◌<◌, ◌≤◌, ◌↔◌, ◌⊎◌, ◌∙◌, List, Option, None, Some, length, replicate, take, count_by}
-use Rattle.std.proofs.Common.{is_some, slice_index, sym, ap, subst, inl, inr, arith}
+use Rattle.std.proofs.Common.{◌≡◌, ◌≢◌, ℕ, zero, ◌+◌, ◌^◌, ◌<◌, ◌≤◌, ◌↔◌, ◌∙◌, List, Option, None, Some, length, take, count_by}
+use Rattle.std.proofs.Common.{is_some, sym, ap, subst, inl, inr, arith}
 use Rattle.std.proofs.lemmas.Bool.{cases_lt}
 use Rattle.std.proofs.lemmas.Option.{none-some}
 use Rattle.std.proofs.lemmas.List.{get_or-replicate, get_or_past, length-replicate, length-take-le, take-replicate}
@@ -9,9 +9,8 @@ use Rattle.rotating_pick.specs.PortSets.{Has}
 use Rattle.rotating_pick.specs.declared.kinds.Kind.{Kind}
 use Rattle.rotating_pick.specs.declared.kinds.Kind.TheVariants.{Multi}
 use Rattle.rotating_pick.specs.declared.limits.TheConstants.{LEVELS, MAX_PORTS}
-use Rattle.rotating_pick.proofs.Tables.{no_members}
 use Rattle.slot_match.specs.declared.matching.Fed.{Fed}
-use Rattle.slot_match.specs.Matches.{unmatched, fed_of, Serves, IsServed, IsMatch, MayAdd}
+use Rattle.slot_match.specs.Matches.{unmatched, fed_of, Serves, IsServed, IsMulticasting, IsMatch, MayAdd}
 use Rattle.slot_match.specs.FieldSteps.{AreSets, AreKept}
 use Rattle.slot_match.proofs.Pairs.{Serves-from, Serves-once, Serves-alike, Serves-along, fed_of-lt}
 use Rattle.slot_match.proofs.Tables.{fed_of-take, fed_of-past, count_by-take}
@@ -40,18 +39,17 @@ IsMatch-unmatched n =
     }
 
 pub AreKept-new : (n : ℕ) (fed : List (Option Fed)) (inputs outputs : ℕ) → 0 < n → n ≤ MAX_PORTS → fed ≡ unmatched MAX_PORTS
-    → ((x : ℕ) → Has inputs x ↔ (x < n)) → ((x : ℕ) → Has outputs x ↔ (x < n)) → AreKept n fed 0 inputs outputs (replicate LEVELS 0)
+    → ((x : ℕ) → Has inputs x ↔ (x < n)) → ((x : ℕ) → Has outputs x ↔ (x < n)) → AreKept n fed 0 inputs outputs
 AreKept-new n fed inputs outputs some size e all_inputs all_outputs =
     let nothing : Option Fed = None in
     let front : take n fed ≡ unmatched n = ap (take n) e ∙ take-replicate n MAX_PORTS nothing size in
-    let sets : AreSets n (unmatched n) 0 inputs outputs (replicate LEVELS 0) = record {
+    let sets : AreSets n (unmatched n) 0 inputs outputs = record {
       some = some;
       size = size;
       whole = IsMatch-unmatched n;
       counts = count_zero n;
       inputs_left = λ i. (λ has. ((all_inputs i).0 has, nobody_at_first n i), λ p. (all_inputs i).1 p.0);
       outputs_left = λ j. (λ has. ((all_outputs j).0 has, fed_of-unmatched n j), λ p. (all_outputs j).1 p.0);
-      go_on = λ level i. (λ has. absurd (no_members LEVELS level i has), λ on. absurd (nobody_at_first n i on.some.0 level Multi on.some.1));
     } in
     record {
       long = ap length e ∙ length-replicate MAX_PORTS nothing;
@@ -61,7 +59,7 @@ AreKept-new n fed inputs outputs some size e all_inputs all_outputs =
       count_zero : (k : ℕ) → 0 ≡ count_by is_some (unmatched k)
       count_zero k = count_by-take zero (unmatched k) (λ j above. fed_of-unmatched k j)
 
-module _ (n count : ℕ) (table : List (Option Fed)) (free_inputs free_outputs : ℕ) (on : List ℕ) (kept : AreKept n table count free_inputs free_outputs on) where
+module _ (n count : ℕ) (table : List (Option Fed)) (free_inputs free_outputs : ℕ) (kept : AreKept n table count free_inputs free_outputs) where
   long : n ≤ length table
   long = let e = kept.long in let size = kept.sets.size in omega arith
 
@@ -86,6 +84,23 @@ module _ (n count : ℕ) (table : List (Option Fed)) (free_inputs free_outputs :
         );
         only = λ y l k s. Serves-alike n m whole i y j l f.level k f.kind s mine;
       }
+
+  -- an input goes on at the level where it feeds some output as multicast of it
+  pub Serves-iff_multicasting : (i level : ℕ) → ((j : ℕ) × Serves table i j level Multi) ↔ IsMulticasting (take n table) i level
+  Serves-iff_multicasting i level =
+      let f : Fed = record { input = i; level = level; kind = Multi } in (
+        λ s.
+            let below : s.0 < n = elim (cases_lt s.0 n) [ inl lt ↦ lt | inr above ↦ absurd (none-some f (sym (kept.beyond s.0 above) ∙ s.1)) ] in
+            let mine : Serves (take n table) i s.0 level Multi = fed_of-take n table s.0 below ∙ s.1 in
+            record {
+              some = (s.0, mine);
+              only = λ j other kind r. Serves-alike n (take n table) kept.sets.whole i j s.0 other level kind Multi r mine;
+            },
+        λ on.
+            let lt = fed_of-lt (take n table) on.some.0 f on.some.1 in
+            let below : on.some.0 < n = let count = kept.sets.whole.count in omega arith in
+            (on.some.0, sym (fed_of-take n table on.some.0 below) ∙ on.some.1),
+      )
 
   -- an output that an input feeds is fed
   pub fan_is_fed : (i fan j : ℕ) → ((y : ℕ) → Has fan y ↔ ((level : ℕ) × (kind : Kind) × Serves (take n table) i y level kind)) → Has fan j
@@ -143,18 +158,17 @@ module _ (n count : ℕ) (table : List (Option Fed)) (free_inputs free_outputs :
         let whole = count_by-take n table kept.beyond in
         omega arith
 
-    pub AreKept-added : (later_inputs later_outputs : ℕ) (later_on : List ℕ) → ((i : ℕ) → Has later_inputs i ↔ ((i ≢ input) × Has free_inputs i))
+    pub AreKept-added : (later_inputs later_outputs : ℕ) → ((i : ℕ) → Has later_inputs i ↔ ((i ≢ input) × Has free_inputs i))
         → ((j : ℕ) → Has later_outputs j ↔ (Has free_outputs j × (Has outputs j → ⊥)))
-        → ((l i : ℕ) → Has (slice_index later_on l) i ↔ (((i ≡ input) × (l ≡ level) × (kind ≡ Multi)) ⊎ Has (slice_index on l) i))
-        → AreKept n after (count + more) later_inputs later_outputs later_on
-    AreKept-added later_inputs later_outputs later_on inputs outs ons =
+        → AreKept n after (count + more) later_inputs later_outputs
+    AreKept-added later_inputs later_outputs inputs outs =
         let input_here : input < n = let size = ports in omega arith in
         record {
           long = after_long;
           beyond = beyond;
           sets = AreSets-added n (take n table)
               (take n after) input outputs level kind kept.sets.whole may_here input_here level_in added count more free_inputs later_inputs free_outputs
-              later_outputs on later_on kept.sets counts inputs outs ons;
+              later_outputs kept.sets counts inputs outs;
         }
 
     -- the new match, as callers see it

@@ -8,3 +8,5 @@ pub mod Maximal
 pub mod KeepingParts
 pub mod KeepingSets
 pub mod PartsBelow
+pub mod MarkBits
+pub mod FeedTables

@@ -1,11 +1,15 @@
 -- A match is maximal where no input wants an output that is free.
-use Rattle.std.proofs.Common.{ℕ, ◌<◌, ◌↔◌, List, Option, inl, inr}
+use Rattle.std.proofs.Common.{◌≡◌, ℕ, ◌<◌, ◌↔◌, ◌∙◌, List, Option, refl, sym, subst, inl, inr}
 use Rattle.rotating_pick.specs.PortSets.{Has}
+use Rattle.rotating_pick.specs.declared.kinds.Kind.TheVariants.{Multi}
+use Rattle.rotating_pick.specs.declared.limits.TheConstants.{LEVELS}
 use Rattle.slot_match.specs.declared.rows.Row.{Row}
 use Rattle.slot_match.specs.declared.matching.Fed.{Fed}
-use Rattle.slot_match.specs.Rows.{row_of}
-use Rattle.slot_match.specs.Matches.{IsFreeOutput, IsMaximal}
+use Rattle.slot_match.specs.declared.matching.Served.{Served}
+use Rattle.slot_match.specs.Rows.{row_of, Names}
+use Rattle.slot_match.specs.Matches.{IsFreeOutput, IsMulticasting, IsServed, IsMatch, IsMaximal}
 use Rattle.slot_match.specs.Steps.{Wants}
+use Rattle.slot_match.proofs.Pairs.{Serves-along}
 
 module _ (n : ℕ) (rows : List Row) (matched : List (Option Fed)) (free_outputs : ℕ)
     (outputs_left : (j : ℕ) → Has free_outputs j ↔ ((j < n) × IsFreeOutput matched j)) where
@@ -23,3 +27,25 @@ module _ (n : ℕ) (rows : List Row) (matched : List (Option Fed)) (free_outputs
         | inl p ↦ maximal.free i j p.1.0 p.1.1 i_in left.0 p.0 left.1 p.1.2
         | inr p ↦ maximal.going_on i j p.0 i_in left.0 p.1 left.1 p.2
       ]
+
+-- a part is at one of the four levels
+pub IsServed-level : (n : ℕ) (matched : List (Option Fed)) → IsMatch n matched → (i : ℕ) (part : Served) → IsServed matched i part → part.level < LEVELS
+IsServed-level n matched whole i part served =
+    whole.level_in i served.some.0 part.level part.kind ((served.outputs served.some.0).0 served.some.1)
+
+-- an input that is served wants the rest of its head where its part is of multicast, and nothing else
+pub Wants-iff_rest : (matched : List (Option Fed)) (i : ℕ) (part : Served) (row : Row) → IsServed matched i part → (j : ℕ)
+    → Wants matched i row j ↔ ((part.kind ≡ Multi) × Names row part.level Multi j)
+Wants-iff_rest matched i part row served j =
+    let there = (served.outputs served.some.0).0 served.some.1 in (
+      λ wants. elim wants [
+        | inl p ↦ absurd (p.0 served.some.0 part.level part.kind there)
+        | inr p ↦ let only = served.only p.1.some.0 p.0 Multi p.1.some.1 in (sym only.1, subst (λ level. Names row level Multi j) only.0 p.2)
+      ],
+      λ p.
+          let on : IsMulticasting matched i part.level = record {
+            some = (served.some.0, Serves-along matched i served.some.0 part.level part.level part.kind Multi refl p.0 there);
+            only = λ k level kind s. let only = served.only k level kind s in (only.0, only.1 ∙ p.0);
+          } in
+          inr (part.level, on, p.1),
+    )

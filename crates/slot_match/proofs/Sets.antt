@@ -14,17 +14,19 @@ use Rattle.slot_match.specs.Parts.{set_of}
 pub zero-has : (ports j : ℕ) → ports ≡ 0 → Has ports j → ⊥
 zero-has ports j e has = no_member-zero j (subst (λ set. Has set j) e has)
 
+-- the bit of a port that is in both sets or in neither
+pub Has-bit : (a b j : ℕ) → (Has a j ↔ Has b j) → bit_at a j ≡ bit_at b j
+Has-bit a b j same = elim (cases_eq (bit_at a j) 1) [
+  | inl has ↦ has ∙ sym (same.0 has)
+  | inr lacks ↦ elim (cases_eq (bit_at b j) 1) [
+    | inl has ↦ absurd (lacks (same.1 has))
+    | inr also ↦ let la = bit_at-lt a j in let lb = bit_at-lt b j in omega arith
+  ]
+]
+
 -- sets with the same members are one
 pub Has-same : (a b : ℕ) → ((j : ℕ) → Has a j ↔ Has b j) → a ≡ b
-Has-same a b same =
-    same_from_bits a b
-    (λ j. elim (cases_eq (bit_at a j) 1) [
-      | inl has ↦ has ∙ sym ((same j).0 has)
-      | inr lacks ↦ elim (cases_eq (bit_at b j) 1) [
-        | inl has ↦ absurd (lacks ((same j).1 has))
-        | inr also ↦ let la = bit_at-lt a j in let lb = bit_at-lt b j in omega arith
-      ]
-    ])
+Has-same a b same = same_from_bits a b (λ j. Has-bit a b j (same j))
 
 -- a set has a port or it has not
 pub Has-or : (ports j : ℕ) → Has ports j ⊎ (Has ports j → ⊥)

@@ -1,33 +1,34 @@
-ghost use Rattle.std.specs.Prelude.{◌≡◌, ◌<◌, None, Some, replicate, slice_set};
-ghost use Rattle.rotating_pick.specs.declared.limits.TheConstants.{MAX_PORTS};
-ghost use Rattle.slot_match.specs.Matches.{unmatched, fed_of};
+ghost use Rattle.std.specs.Prelude.{◌≡◌, ◌<◌, ◌↔◌, ℕ, Some, replicate, slice_set};
+ghost use Rattle.rotating_pick.specs.PortSets.{Has};
+ghost use Rattle.rotating_pick.specs.declared.kinds.Kind.TheVariants.{Multi};
+ghost use Rattle.slot_match.specs.Matches.{unmatched, fed_of, Serves};
 
+use crate::marks::Marks;
 use crate::matching::Fed;
-use rotating_pick::{Kind, PORT_COUNT};
+use rotating_pick::{LEVELS, MAX_PORTS, PORT_COUNT, Ports, lowest, with, without};
 use std::marker::Model;
 
-// What feeds an output, with the input's number as a byte: a journal keeps a match for each slot.
-#[derive(Clone, Copy, Debug)]
-struct Feed {
-    input: u8,
-    level: u8,
-    kind: Kind,
-}
+// In place of an input, where an output is free: a byte that names no port.
+const NO_INPUT: u8 = u8::MAX;
 
-/// For each output that a switch can have what feeds it.
+/// For each output that a switch can have what feeds it. A journal keeps a match for each slot, so an
+/// input is a byte, and levels and kinds are bits.
 #[derive(Debug, Drop)]
 pub(crate) struct Feeds {
-    table: [Option<Feed>; PORT_COUNT],
+    inputs: [u8; PORT_COUNT],
+    marks: Marks,
 }
 
 impl Model for Feeds {
-    ghost use Rattle.std.specs.Prelude.{List, Option, map};
+    ghost use Rattle.std.specs.Prelude.{List, Option};
     ghost use Rattle.slot_match.specs.declared.matching.Fed.{Fed};
-    ghost use Rattle.slot_match.specs.FieldSteps.{fed_from};
+    ghost use Rattle.slot_match.specs.FieldSteps.{feeds_of, AreMarked};
 
     ghost Value = { List (Option Fed) };
 
-    ghost view = { λ f. map fed_from f.table };
+    ghost view = { λ f. feeds_of f.inputs f.marks };
+
+    ghost invariant = { λ f. AreMarked f.inputs f.marks };
 }
 
 impl Feeds {
@@ -35,7 +36,10 @@ impl Feeds {
     pub(crate) fn new() -> Feeds
         ensures { result ≡ unmatched MAX_PORTS }
     {
-        Feeds { table: no_feeds() }
+        Feeds {
+            inputs: no_inputs(),
+            marks: Marks::new(),
+        }
     }
 
     /// What feeds the output.
@@ -43,33 +47,46 @@ impl Feeds {
         requires { output < MAX_PORTS }
         ensures { result ≡ fed_of self.now output }
     {
-        match self.table[output as usize] {
-            Some(feed) => Some(Fed {
-                input: u32::from(feed.input),
-                level: feed.level,
-                kind: feed.kind,
-            }),
-            None => None,
+        let input = u32::from(self.inputs[output as usize]);
+        if input >= MAX_PORTS {
+            return None;
         }
+        Some(Fed {
+            input,
+            level: self.marks.level(output),
+            kind: self.marks.kind(output),
+        })
+    }
+
+    /// The inputs that feed an output at the level as multicast.
+    pub(crate) fn multicasting(&self, level: u8) -> Ports
+        requires { level < LEVELS }
+        ensures { (i : ℕ) → Has result i ↔ ((j : ℕ) × Serves self.now i j level Multi) }
+    {
+        let mut found = 0;
+        let mut rest = self.marks.multicast(level);
+        while let Some(output) = lowest(rest) {
+            found = with(found, u32::from(self.inputs[output as usize]));
+            rest = without(rest, output);
+        }
+        found
     }
 
     /// Feeds the output by an input.
     pub(crate) fn set(&mut self, output: u32, by: Fed)
         requires output_in { output < MAX_PORTS }
         requires input_in { by.input < MAX_PORTS }
+        requires level_in { by.level < LEVELS }
         ensures { self.new ≡ slice_set self.old output (Some by) }
     {
-        self.table[output as usize] = Some(Feed {
-            input: by.input as u8,
-            level: by.level,
-            kind: by.kind,
-        });
+        self.inputs[output as usize] = by.input as u8;
+        self.marks.set(output, by.level, by.kind);
     }
 }
 
-// A table in which no output is fed.
-fn no_feeds() -> [Option<Feed>; PORT_COUNT]
-    ensures { result ≡ replicate MAX_PORTS None }
+// A table that names no input.
+fn no_inputs() -> [u8; PORT_COUNT]
+    ensures { result ≡ replicate MAX_PORTS NO_INPUT }
 {
-    [None; PORT_COUNT]
+    [NO_INPUT; PORT_COUNT]
 }

@@ -3,6 +3,7 @@
 
 mod feeds;
 pub mod laws;
+mod marks;
 mod matching;
 mod parts;
 mod rows;

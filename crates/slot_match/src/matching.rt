@@ -1,9 +1,9 @@
-ghost use Rattle.std.specs.Prelude.{◌≡◌, ℕ, Some, None, ◌+◌, ◌<◌, ◌≤◌, ◌↔◌, ◌⊎◌, List, Option, length, count_by, is_some, slice_index, IsTrue, IsNone, IfSome};
+ghost use Rattle.std.specs.Prelude.{◌≡◌, ℕ, Some, None, ◌+◌, ◌<◌, ◌≤◌, ◌↔◌, ◌⊎◌, List, Option, length, count_by, is_some, IsTrue, IsNone, IfSome};
 ghost use Rattle.rotating_pick.specs.PortSets.{Has};
 ghost use Rattle.rotating_pick.specs.declared.kinds.Kind.{Kind};
 ghost use Rattle.rotating_pick.specs.declared.kinds.Kind.TheVariants.{Multi};
 ghost use Rattle.slot_match.specs.declared.matching.Fed.{Fed};
-ghost use Rattle.slot_match.specs.Rows.{AreWithin};
+ghost use Rattle.slot_match.specs.Rows.{AreWithin, Names};
 ghost use Rattle.slot_match.specs.Matches.{unmatched, fed_of, Serves, IsFreeInput, IsFreeOutput, IsMulticasting, IsServed, IsMatch, MayAdd, IsMaximal};
 ghost use Rattle.slot_match.specs.Keeping.{Gives};
 ghost use Rattle.slot_match.specs.Parts.{is_from, served_of};
@@ -12,14 +12,14 @@ ghost use Rattle.slot_match.specs.Steps.{IsReady, Wants};
 use crate::feeds::Feeds;
 use crate::rows::Row;
 use rotating_pick::{
-    Kind, LEVEL_COUNT, LEVELS, MAX_PORTS, Ports, all, contains, difference, intersection, is_empty,
-    is_subset, lowest, union, with, without,
+    Kind, LEVELS, MAX_PORTS, Ports, all, contains, difference, intersection, is_empty, is_subset,
+    lowest, with, without,
 };
 use std::marker::Model;
 use std::mem::size_of;
 
 // A journal keeps a match for each slot, so a match must stay small.
-const _: () = prove!(size_of::<Match>() <= 320);
+const _: () = prove!(size_of::<Match>() <= 112);
 
 /// What feeds an output in a slot.
 #[derive(Clone, Copy, Debug, PartialEq, Eq)]
@@ -62,8 +62,6 @@ pub struct Match {
     fed: Feeds,
     free_inputs: Ports,
     free_outputs: Ports,
-    // For each level the inputs that are matched as multicast of it.
-    multicasting: [Ports; LEVEL_COUNT],
 }
 
 impl Model for Match {
@@ -75,7 +73,7 @@ impl Model for Match {
 
     ghost view = { λ m. take m.ports m.fed };
 
-    ghost invariant = { λ m. AreKept m.ports m.fed m.count m.free_inputs m.free_outputs m.multicasting };
+    ghost invariant = { λ m. AreKept m.ports m.fed m.count m.free_inputs m.free_outputs };
 }
 
 impl Match {
@@ -92,7 +90,6 @@ impl Match {
             fed: Feeds::new(),
             free_inputs: all(n),
             free_outputs: all(n),
-            multicasting: [0; LEVEL_COUNT],
         }
     }
 
@@ -141,7 +138,7 @@ impl Match {
         requires { level < LEVELS }
         ensures { (i : ℕ) → Has result i ↔ IsMulticasting self.now i level }
     {
-        self.multicasting[level as usize]
+        self.fed.multicasting(level)
     }
 
     /// The input's part of the match, None exactly where it is free.
@@ -205,7 +202,7 @@ impl Match {
         let free = contains(self.free_inputs, input);
         match kind {
             Kind::Uni => free && is_single(outputs),
-            Kind::Multi => free || contains(self.multicasting[level as usize], input),
+            Kind::Multi => free || contains(self.multicasting(level), input),
         }
     }
 
@@ -222,7 +219,6 @@ impl Match {
         self.count += feed(&mut self.fed, outputs, Fed { input, level, kind });
         self.free_inputs = without(self.free_inputs, input);
         self.free_outputs = difference(self.free_outputs, outputs);
-        go_on(&mut self.multicasting, input, level, kind);
     }
 
     /// Whether no free input's row names a free output, and no input that is matched as multicast has
@@ -248,13 +244,21 @@ impl Match {
         if contains(self.free_inputs, input) {
             return row.named();
         }
-        let mut wanted = 0;
-        for level in 0..LEVEL_COUNT {
-            if contains(self.multicasting[level], input) {
-                wanted = union(wanted, row.multi[level]);
-            }
+        match self.served(input) {
+            Some(part) => rest_of(part, row),
+            None => 0,
         }
-        wanted
+    }
+}
+
+// The rest of the head that the part is of, and none where it is of unicast.
+fn rest_of(part: Served, row: &Row) -> Ports
+    requires { part.level < LEVELS }
+    ensures { (j : ℕ) → Has result j ↔ ((part.kind ≡ Multi) × Names row.now part.level Multi j) }
+{
+    match part.kind {
+        Kind::Uni => 0,
+        Kind::Multi => row.outputs(part.level, Kind::Multi),
     }
 }
 
@@ -271,6 +275,7 @@ fn is_single(ports: Ports) -> bool
 // Feeds the outputs by one input, and says how many they are.
 fn feed(fed: &mut Feeds, outputs: Ports, by: Fed) -> u32
     requires input_in { by.input < MAX_PORTS }
+    requires level_in { by.level < LEVELS }
     requires long { length fed.old ≡ MAX_PORTS }
     requires free { (j : ℕ) → Has outputs j → fed_of fed.old j ≡ None }
     ensures long { length fed.new ≡ MAX_PORTS }
@@ -286,17 +291,6 @@ fn feed(fed: &mut Feeds, outputs: Ports, by: Fed) -> u32
         count += 1;
     }
     count
-}
-
-// Counts the input among those that are matched as multicast of the level, if it is.
-fn go_on(multicasting: &mut [Ports; LEVEL_COUNT], input: u32, level: u8, kind: Kind)
-    requires input_in { input < MAX_PORTS }
-    requires level_in { level < LEVELS }
-    ensures { (m i : ℕ) → Has (slice_index multicasting.new m) i ↔ (((i ≡ input) × (m ≡ level) × (kind ≡ Multi)) ⊎ Has (slice_index multicasting.old m) i) }
-{
-    if let Kind::Multi = kind {
-        multicasting[level as usize] = with(multicasting[level as usize], input);
-    }
 }
 
 // Whether what feeds an output is the input.

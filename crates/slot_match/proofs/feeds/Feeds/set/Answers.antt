@@ -1,10 +1,16 @@
-use Rattle.std.proofs.Common.{Some, refl}
-use Rattle.std.proofs.lemmas.List.{map-set}
-use Rattle.slot_match.specs.declared.feeds.Feed.{Feed}
-use Rattle.slot_match.specs.FieldSteps.{fed_from}
+use Rattle.std.proofs.Common.{◌∙◌, Some, set, ap, rules}
+use Rattle.slot_match.proofs.FeedTables.{feeds_of-set, AreMarked-set}
 use Rattle.slot_match.proofs.feeds.Feeds.set.Goals as goal
+
+pub invariant_of-self : goal.invariant_of-self
+invariant_of-self c =
+    let s = c.set.ensures in
+    AreMarked-set c.self.inside.inputs c.self.inside.marks c.set.new.self c.args.output c.args.by.input (search rules) c.requires.output_in
+    c.requires.input_in (λ j other. (s.others j other).1) c.self.invariant
 
 pub returns : goal.returns
 returns c =
-    let feed : Feed = record { input = c.args.by.input; level = c.args.by.level; kind = c.args.by.kind } in
-    rw (map-set fed_from c.self.inside.table c.args.output (Some feed), c.self.view_is) refl
+    let s = c.set.ensures in
+    feeds_of-set c.self.inside.inputs c.self.inside.marks c.set.new.self c.args.output c.args.by (search rules) c.requires.output_in
+    c.requires.input_in s.level s.kind s.others
+    ∙ ap (λ m. set m c.args.output (Some c.args.by)) c.self.view_is

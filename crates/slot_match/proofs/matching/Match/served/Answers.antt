@@ -29,7 +29,7 @@ returns-in-Some-get-clause-part c =
     let feeds : (j : ℕ) → Has fan j ↔ ((level : ℕ) × (kind : Kind) × Serves c.args.self.now i j level kind) = c.fed_by-outputs.ensures in
     let here = subst (λ m. (j : ℕ) → Has fan j ↔ ((level : ℕ) × (kind : Kind) × Serves m i j level kind)) (sym c.self.view_is) feeds in
     subst (λ m. IsServed m i part) c.self.view_is
-    (IsServed-from_fan inside.ports inside.count inside.fed inside.free_inputs inside.free_outputs inside.multicasting c.self.invariant i fan c.in-Some.output
+    (IsServed-from_fan inside.ports inside.count inside.fed inside.free_inputs inside.free_outputs c.self.invariant i fan c.in-Some.output
     c.in-Some-get.fed here c.in-Some.ensures.member (sym c.get.ensures ∙ c.in-Some-get.is))
 
 pub returns-in-Some-get-clause-value : goal.returns-in-Some-get-clause-value
