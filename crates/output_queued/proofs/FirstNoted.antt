@@ -3,7 +3,7 @@ use Rattle.std.proofs.Common.{◌≡◌, ◌∙◌, ℕ, zero, suc, ◌<◌, ◌
 use Rattle.std.proofs.lemmas.List.{length-map}
 use Rattle.output_queued.specs.declared.tally.Tally.{Tally}
 use Rattle.output_queued.specs.Switches.{card_for, IsSwitch}
-use Rattle.output_queued.specs.Lines.{ran, line_of}
+use Rattle.output_queued.specs.Lines.{line_of}
 use Rattle.output_queued.specs.NotingSteps.{Source, source_at, no_tally, tally_at, IsBefore, IsTally, IsSmall, IsUnserved, HasNoted}
 use Rattle.output_queued.specs.Steps.{IsPart, Stand, HaveEntered, cells_of_first, with_cells}
 use Rattle.output_queued.proofs.Switching.{part_of}

@@ -1,6 +1,6 @@
 -- An input that is told by the cells of its packets: its plan is one that a card can be made of, and what a packet that
 -- arrives makes of its queues.
-use Rattle.std.proofs.Common.{◌≡◌, ◌≢◌, ◌∙◌, ℕ, zero, suc, ◌+◌, ◌*◌, ◌<◌, ◌≤◌, ◌&&◌, Bool, true, false, List, [], ◌∷◌, map, length, replicate, Option}
+use Rattle.std.proofs.Common.{◌≡◌, ◌∙◌, ℕ, zero, suc, ◌+◌, ◌*◌, ◌<◌, ◌≤◌, ◌&&◌, Bool, true, false, List, [], ◌∷◌, map, length, replicate, Option}
 use Rattle.std.proofs.Common.{None, Some, slice_get, slice_index_or, refl, sym, ap, subst, arith, inl, inr, if◌then◌else◌}
 use Rattle.std.specs.List.{sum_by}
 use Rattle.std.specs.Option.{option_map}
@@ -186,9 +186,11 @@ module _ (n depth : ℕ) (source : Source) (served : List (Option Served)) (part
       → option_map planned_of found ≡ next_in plan.packets source.next (length served)
   next-is found e = e ∙ ap (λ ps. next_in ps source.next (length served)) (sym (packets-are n depth source.coming))
 
-  pub may_come : (c : Coming) → c.fan ≢ 0 → option_map planned_of (Some c) ≡ next_in (map planned_of source.coming) source.next (length served)
-      → MayEnter source.banks source.fans (planned_of c)
-  may_come c routed e = may_arrive state served was (Some (planned_of c)) (next-is (Some c) e) routed
+  pub may_come : (c : Coming) → IsComing n c → option_map planned_of (Some c) ≡ next_in (map planned_of source.coming) source.next (length served)
+      → MayEnter source.banks source.fans c.fan c.level c.cells
+  may_come c coming e =
+      subst (MayEnter source.banks source.fans c.fan c.level) (size-planned c coming.some coming.few)
+      (may_arrive state served was (Some (planned_of c)) (next-is (Some c) e) coming.routed)
 
   in_of : (packets came lost : ℕ) (banks : UniQueues) (fans : FanQueues) (next : ℕ)
       → HasSent (posted_state state (record { packets = packets; admitted = came; dropped = lost }) banks fans) served true → next ≡ source.next + packets
@@ -244,19 +246,26 @@ module _ (n depth : ℕ) (source : Source) (served : List (Option Served)) (part
     routed : is_routed (planned_of c) ≡ true
     routed = let some = coming_is.routed in rw (ne_eqb c.fan 0 some) refl
 
-    sent_of : (fits : Bool) (banks : UniQueues) (fans : FanQueues) → Enters source.next (planned_of c) fits source.banks source.fans banks fans
+    sent_of : (fits : Bool) (banks : UniQueues) (fans : FanQueues) → Enters source.next c.fan c.level c.cells fits source.banks source.fans banks fans
         → HasSent (posted_state state
         (record { packets = 1; admitted = counted true (planned_of c) fits; dropped = counted false (planned_of c) fits }) banks fans) served true
     sent_of fits banks fans enters =
         posted_is state served was (Some (planned_of c))
         (record { packets = 1; admitted = counted true (planned_of c) fits; dropped = counted false (planned_of c) fits }) banks fans (next-is (Some c) e)
-        (fits, enters, refl, refl, refl)
+        (
+          fits,
+          subst (λ size. Enters source.next c.fan c.level size fits source.banks source.fans banks fans)
+              (sym (size-planned c coming_is.some coming_is.few)) enters,
+          refl,
+          refl,
+          refl,
+        )
 
     cells-of : (j k : ℕ) (p : Planned) → p ≡ planned_of c → (if has p.fan j then size_of p else 0) ≡ cells_to (Some c) j
     cells-of j k p same = ap (λ (q : Planned). if has q.fan j then size_of q else 0) same
         ∙ ap (λ size. if has c.fan j then size else 0) (size-planned c coming_is.some coming_is.few)
 
-    one_by : (fits : Bool) (banks : UniQueues) (fans : FanQueues) → Enters source.next (planned_of c) fits source.banks source.fans banks fans
+    one_by : (fits : Bool) (banks : UniQueues) (fans : FanQueues) → Enters source.next c.fan c.level c.cells fits source.banks source.fans banks fans
         → HasEntered n depth (length served) served source (record { coming = source.coming; next = source.next + 1; banks = banks; fans = fans })
         (if fits then Some c else None)
     one_by true banks fans enters =
@@ -289,7 +298,7 @@ module _ (n depth : ℕ) (source : Source) (served : List (Option Served)) (part
 
   pub one_at : (slot : ℕ) → length served ≡ slot → (c : Coming) → slice_get source.coming source.next ≡ Some c → c.slot ≡ slot
       → option_map planned_of (Some c) ≡ next_in (map planned_of source.coming) source.next slot
-      → (fits : Bool) (banks : UniQueues) (fans : FanQueues) → Enters source.next (planned_of c) fits source.banks source.fans banks fans
+      → (fits : Bool) (banks : UniQueues) (fans : FanQueues) → Enters source.next c.fan c.level c.cells fits source.banks source.fans banks fans
       → HasEntered n depth slot served source (record { coming = source.coming; next = source.next + 1; banks = banks; fans = fans })
       (if fits then Some c else None)
   one_at slot long c there now e fits banks fans enters =
@@ -299,7 +308,7 @@ module _ (n depth : ℕ) (source : Source) (served : List (Option Served)) (part
       (subst (λ s. option_map planned_of (Some c) ≡ next_in (map planned_of source.coming) source.next s) (sym long) e) fits banks fans enters)
 
   pub may_at : (slot : ℕ) → length served ≡ slot → (c : Coming) → slice_get source.coming source.next ≡ Some c
-      → option_map planned_of (Some c) ≡ next_in (map planned_of source.coming) source.next slot → MayEnter source.banks source.fans (planned_of c)
+      → option_map planned_of (Some c) ≡ next_in (map planned_of source.coming) source.next slot → MayEnter source.banks source.fans c.fan c.level c.cells
   may_at slot long c there e =
-      may_come c (part.input.packets source.next c there).routed
+      may_come c (part.input.packets source.next c there)
       (subst (λ s. option_map planned_of (Some c) ≡ next_in (map planned_of source.coming) source.next s) (sym long) e)

@@ -6,7 +6,6 @@ use Rattle.slot_match.specs.Rows.{Names, row_of}
 use Rattle.slot_match.specs.Matches.{Serves, IsMatch}
 use Rattle.card_core.specs.declared.limits.TheConstants.{MAX_SLOTS}
 use Rattle.card_core.specs.Plans.{Plan}
-use Rattle.card_core.specs.Queues.{before}
 use Rattle.output_queued.specs.Switches.{Matched, rows_after}
 
 -- A slot of these rows and this match may follow: fewer than 262,145 slots have gone before, the rows are those of the

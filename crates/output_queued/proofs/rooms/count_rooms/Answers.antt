@@ -1,59 +1,64 @@
-use Rattle.std.proofs.Common.{◌≡◌, ◌∙◌, ◌+◌, ◌<◌, ℕ, List, [], ◌∷◌, ◌++◌, map, arith, sym, subst, take, drop, length, slice_index_or}
-use Rattle.std.proofs.lemmas.List.{take_more, take_all, take_at}
-use Rattle.card_core.specs.StateSteps.{HasRooms, AreFew}
-use Rattle.card_core.proofs.Plenty.{rooms_begin, few_up}
+use Rattle.std.proofs.Common.{◌≡◌, ◌∙◌, ◌+◌, ◌<◌, ◌^◌, ℕ, List, [], ◌∷◌, ◌++◌, map, arith, refl, sym, ap, subst, take, length, slice_index_or}
+use Rattle.std.proofs.lemmas.List.{take_more, take_all, map-append}
+use Rattle.card_core.specs.declared.plan.Planned.{Planned}
+use Rattle.card_core.specs.InputQueues.{QueueRooms}
+use Rattle.card_core.specs.StateSteps.{HasRooms}
+use Rattle.card_core.proofs.Plenty.{few_up}
 use Rattle.output_queued.specs.declared.coming.Coming.{Coming}
 use Rattle.output_queued.specs.Switches.{planned_of}
 use Rattle.output_queued.proofs.LookedAt.{no_coming, some_get}
 use Rattle.output_queued.proofs.rooms.count_rooms.Goals as goal
 
-next : (n i len : ℕ) (packets : List Coming) (d : Coming) (uni new rest fan fan' : List ℕ) → i < length packets → length new ≡ len
-    → ((before : List Coming) → HasRooms n (map planned_of before) uni fan → HasRooms n (map planned_of (before ++ slice_index_or packets i d ∷ [])) new fan')
-    → ((k : ℕ) → AreFew k uni fan → AreFew (k + 1) new fan')
-    → HasRooms n (map planned_of (take i packets)) uni fan → AreFew i uni fan
-    → HasRooms n (map planned_of (take (i + 1) packets)) (take len (new ++ rest)) fan' × AreFew (i + 1) (take len (new ++ rest)) fan'
-next n i len packets d uni new rest fan fan' inside long rooms few had had_few =
-    let back : take len (new ++ rest) ≡ new = take_at new rest len long in (
-      subst (λ ps. HasRooms n (map planned_of ps) (take len (new ++ rest)) fan') (sym (take_more packets i d inside))
-          (subst (λ xs. HasRooms n (map planned_of (take i packets ++ slice_index_or packets i d ∷ [])) xs fan') (sym back) (rooms (take i packets) had)),
-      subst (λ xs. AreFew (i + 1) xs fan') (sym back) (few i had_few),
-    )
+next : (n m i : ℕ) (packets : List Coming) (d : Coming) (old new : QueueRooms) → m ≡ n → i < length packets
+    → ((before : List Planned) (packet : Planned) → packet.fan ≡ (slice_index_or packets i d).fan → packet.level ≡ (slice_index_or packets i d).level
+    → HasRooms m before old.unicast old.multicast → HasRooms m (before ++ packet ∷ []) new.unicast new.multicast)
+    → HasRooms n (map planned_of (take i packets)) old.unicast old.multicast
+    → HasRooms n (map planned_of (take (i + 1) packets)) new.unicast new.multicast
+next n m i packets d old new is inside adds had =
+    let last = slice_index_or packets i d in
+    let one : map planned_of (take (i + 1) packets) ≡ map planned_of (take i packets) ++ planned_of last ∷ [] =
+    ap (map planned_of) (take_more packets i d inside) ∙ map-append planned_of (take i packets) (last ∷ []) in
+    subst (λ k. HasRooms k (map planned_of (take (i + 1) packets)) new.unicast new.multicast) is
+    (subst (λ ps. HasRooms m ps new.unicast new.multicast) (sym one)
+    (adds (map planned_of (take i packets)) (planned_of last) refl refl
+    (subst (λ k. HasRooms k (map planned_of (take i packets)) old.unicast old.multicast) (sym is) had)))
 
 pub count-requires-clause-few : goal.count-requires-clause-few
 count-requires-clause-few c =
-    subst (λ xs. AreFew 131071 xs c.loop-packet.multicast) (sym c.deref_mut.ensures.value)
-    (few_up c.loop-packet.packet-index 131071 c.loop-packet.unicast.items c.loop-packet.multicast (omega arith) c.loop-packet.invariant.few)
+    few_up c.loop-packet.packet-index 131071 c.loop-packet.rooms.unicast c.loop-packet.rooms.multicast (omega arith) c.loop-packet.invariant.few
 
-pub count-requires-clause-packet : goal.count-requires-clause-packet
-count-requires-clause-packet c =
-    c.requires.packets c.loop-packet.packet-index (slice_index_or c.args.coming.now c.loop-packet.packet-index no_coming)
-    (some_get c.args.coming.now c.loop-packet.packet-index no_coming c.loop-packet-test.true)
+pub count-requires-clause-level : goal.count-requires-clause-level
+count-requires-clause-level c =
+    (c.requires.packets c.loop-packet.packet-index (slice_index_or c.args.coming.now c.loop-packet.packet-index no_coming)
+    (some_get c.args.coming.now c.loop-packet.packet-index no_coming c.loop-packet-test.true)).level
+
+pub count-requires-clause-fan : goal.count-requires-clause-fan
+count-requires-clause-fan c =
+    subst (λ n. (slice_index_or c.args.coming.now c.loop-packet.packet-index no_coming).fan < 2 ^ n) (sym c.loop-packet.invariant.ports)
+    (c.requires.packets c.loop-packet.packet-index (slice_index_or c.args.coming.now c.loop-packet.packet-index no_coming)
+    (some_get c.args.coming.now c.loop-packet.packet-index no_coming c.loop-packet-test.true)).fan
 
 pub loop-packet-init : goal.loop-packet-init
-loop-packet-init c =
-    let b = rooms_begin c.args.n c.in_ok-unicast.unicast.items (c.in_ok-unicast.ensures.items_if_clones_equal (λ y same. same)) in
-    record { rooms = b.0; few = b.1 }
+loop-packet-init c = record {
+  ports = c.in_ok-rooms.ensures.ports;
+  rooms = c.in_ok-rooms.ensures.rooms;
+  few = c.in_ok-rooms.ensures.few;
+}
 
 pub loop-packet-preserved : goal.loop-packet-preserved
-loop-packet-preserved c =
-    let len : length c.count.new.unicast ≡ c.loop-packet.unicast.len = c.count.auto.unicast ∙ c.deref_mut.ensures.len in
-    let b = next c.args.n c.loop-packet.packet-index c.loop-packet.unicast.len c.args.coming.now no_coming c.loop-packet.unicast.items c.count.new.unicast
-    (drop (length c.count.new.unicast) c.loop-packet.unicast.items) c.loop-packet.multicast c.count.new.multicast
-    c.loop-packet-test.true len
-    (subst (λ xs. (before : List Coming) → HasRooms c.args.n (map planned_of before) xs c.loop-packet.multicast
-    → HasRooms c.args.n (map planned_of (before ++ slice_index_or c.args.coming.now c.loop-packet.packet-index no_coming ∷ [])) c.count.new.unicast
-    c.count.new.multicast) c.deref_mut.ensures.value c.count.ensures.rooms)
-    (subst (λ xs. (k : ℕ) → AreFew k xs c.loop-packet.multicast
-    → AreFew (k + 1) c.count.new.unicast c.count.new.multicast) c.deref_mut.ensures.value c.count.ensures.few)
-    c.loop-packet.invariant.rooms c.loop-packet.invariant.few in
-    record { rooms = b.0; few = b.1 }
+loop-packet-preserved c = record {
+  ports = c.count.ensures.ports ∙ c.loop-packet.invariant.ports;
+  rooms = next c.args.n c.loop-packet.rooms.ports c.loop-packet.packet-index c.args.coming.now no_coming c.loop-packet.rooms c.count.new.self
+      c.loop-packet.invariant.ports c.loop-packet-test.true c.count.ensures.rooms c.loop-packet.invariant.rooms;
+  few = c.count.ensures.few c.loop-packet.packet-index c.loop-packet.invariant.few;
+}
 
-pub returns : goal.returns
-returns c =
-    let all : take c.loop-packet.packet-index c.args.coming.now ≡ c.args.coming.now =
-    take_all c.loop-packet.packet-index c.args.coming.now c.loop-packet-test.false in
-    record {
-      rooms = subst (λ ps. HasRooms c.args.n (map planned_of ps) c.loop-packet.unicast.items c.loop-packet.multicast) all c.loop-packet.invariant.rooms;
-      few = few_up c.loop-packet.packet-index
-          (length c.args.coming.now) c.loop-packet.unicast.items c.loop-packet.multicast c.loop-packet.auto.packet-index-end c.loop-packet.invariant.few;
-    }
+pub returns-clause-rooms : goal.returns-clause-rooms
+returns-clause-rooms c =
+    subst (λ ps. HasRooms c.args.n (map planned_of ps) c.loop-packet.rooms.unicast c.loop-packet.rooms.multicast)
+    (take_all c.loop-packet.packet-index c.args.coming.now c.loop-packet-test.false) c.loop-packet.invariant.rooms
+
+pub returns-clause-few : goal.returns-clause-few
+returns-clause-few c =
+    few_up c.loop-packet.packet-index (length c.args.coming.now) c.loop-packet.rooms.unicast c.loop-packet.rooms.multicast
+    c.loop-packet.auto.packet-index-end c.loop-packet.invariant.few

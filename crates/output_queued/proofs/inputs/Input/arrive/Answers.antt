@@ -24,8 +24,8 @@ returns-in_err-packet-clause-entered c n depth served part long is =
     (none_at n depth s0 served (subst (λ (s : Source). IsPart n depth s.coming) (sym c.self.view_is) part)
     (subst (λ (s : Source). IsBefore (card_for n depth s.coming) s served) (sym c.self.view_is) is) c.args.slot long e))
 
-pub enter-admitted-requires-clause-may : goal.enter-admitted-requires-clause-may
-enter-admitted-requires-clause-may c =
+pub enter-admitted-requires : goal.enter-admitted-requires
+enter-admitted-requires c =
     let (n, depth, served, part, long, is) = c.requires in
     let s0 = the_view c.self.inside in
     let there : slice_get s0.coming s0.next ≡ Some c.in_ok-packet.packet =
@@ -61,11 +61,10 @@ returns-clause-entered c n depth served part long is =
     let new = the_view (record {
       coming = c.self.inside.coming;
       next = c.self.inside.next + 1;
-      banks = c.enter-admitted.new.banks;
-      fans = c.enter-admitted.new.fans;
+      queues = c.enter-admitted.new.self;
     }) in
     subst (λ (s : Source). HasEntered n depth c.args.slot served s new c.if-admitted.result) c.self.view_is
     (subst (HasEntered n depth c.args.slot served s0 new) (sym out)
     (one_at n depth s0 served (subst (λ (s : Source). IsPart n depth s.coming) (sym c.self.view_is) part)
     (subst (λ (s : Source). IsBefore (card_for n depth s.coming) s served) (sym c.self.view_is) is) c.args.slot long packet there
-    c.in_ok-packet.ensures.there.1 e c.enter-admitted.result c.enter-admitted.new.banks c.enter-admitted.new.fans c.enter-admitted.ensures))
+    c.in_ok-packet.ensures.there.1 e c.enter-admitted.result c.enter-admitted.new.self.unicast c.enter-admitted.new.self.multicast c.enter-admitted.ensures))

@@ -1,35 +1,30 @@
-use Rattle.std.proofs.Common.{◌∙◌, ◌<◌, ◌≤◌, ℕ, List, map, slice_index, slice_index_or, length, ap, sym, subst, arith}
-use Rattle.std.proofs.lemmas.List.{get_or_default}
+use Rattle.std.proofs.Common.{◌∙◌, ◌<◌, map, length, ap, sym, subst, arith}
 use Rattle.voq_banks.specs.Queues.{empty_queues as empty_unis}
+use Rattle.multicast_queue.specs.FanQueues.{empty_queues as empty_fans}
 use Rattle.card_core.specs.StateSteps.{HasRooms}
+use Rattle.card_core.proofs.Plenty.{few_up}
 use Rattle.output_queued.specs.Switches.{planned_of}
 use Rattle.output_queued.proofs.Sources.{few_coming, begins_as}
 use Rattle.output_queued.proofs.inputs.Input.make.Goals as goal
-
-few_at : (xs : List ℕ) (most : ℕ) → most ≤ 131072 → ((place : ℕ) → slice_index xs place ≤ most) → (k d : ℕ) → k < length xs → slice_index_or xs k d ≤ 131072
-few_at xs most small few k d inside = let e = get_or_default xs k d 0 inside in let f : slice_index_or xs k 0 ≤ most = few k in omega arith
 
 pub count_rooms-requires-clause-few : goal.count_rooms-requires-clause-few
 count_rooms-requires-clause-few c = let few = few_coming c.args.n c.args.depth c.args.coming.items c.requires in let e = ap length c.deref.ensures.value in
     omega arith
 
-pub make-requires-clause-room : goal.make-requires-clause-room
-make-requires-clause-room c =
-    subst (λ (xs : List ℕ). (k d : ℕ) → k < length xs → slice_index_or xs k d ≤ 131072) (sym c.deref-2.ensures.value)
-    (few_at c.in_ok-room.room.unicast.items (length c.deref.result.now)
-    (let few = few_coming c.args.n c.args.depth c.args.coming.items c.requires in let e = ap length c.deref.ensures.value in
-    omega arith) c.in_ok-room.ensures.few.unis)
+pub make-requires-clause-some : goal.make-requires-clause-some
+make-requires-clause-some c = subst (λ n. 0 < n) (sym c.in_ok-rooms.ensures.ports) c.requires.some
 
-pub make-requires-2-clause-room : goal.make-requires-2-clause-room
-make-requires-2-clause-room c =
-    few_at c.in_ok-room.room.multicast (length c.deref.result.now)
+pub make-requires-clause-few : goal.make-requires-clause-few
+make-requires-clause-few c =
+    few_up (length c.deref.result.now) 131072 c.in_ok-rooms.rooms.unicast c.in_ok-rooms.rooms.multicast
     (let few = few_coming c.args.n c.args.depth c.args.coming.items c.requires in let e = ap length c.deref.ensures.value in
-    omega arith) c.in_ok-room.ensures.few.fans
+    omega arith) c.in_ok-rooms.ensures.few
 
 pub returns-clause-before : goal.returns-clause-before
 returns-clause-before c =
-    begins_as c.args.n c.args.depth c.args.coming.items c.in_ok-room.room.unicast.items c.in_ok-room.room.multicast c.in_ok-banks.banks c.in_ok-fans.fans
+    let rooms = c.in_ok-rooms.rooms in
+    begins_as c.args.n c.args.depth c.args.coming.items rooms.unicast rooms.multicast c.in_ok-queues.queues.unicast c.in_ok-queues.queues.multicast
     c.requires
-    (subst (λ ps. HasRooms c.args.n (map planned_of ps) c.in_ok-room.room.unicast.items c.in_ok-room.room.multicast) c.deref.ensures.value
-    c.in_ok-room.ensures.rooms)
-    (c.in_ok-banks.ensures.banks ∙ ap (empty_unis c.args.n c.args.depth) c.deref-2.ensures.value) c.in_ok-fans.ensures.queues
+    (subst (λ ps. HasRooms c.args.n (map planned_of ps) rooms.unicast rooms.multicast) c.deref.ensures.value c.in_ok-rooms.ensures.rooms)
+    (c.in_ok-queues.ensures.unicast ∙ ap (λ n. empty_unis n c.args.depth rooms.unicast) c.in_ok-rooms.ensures.ports)
+    (c.in_ok-queues.ensures.multicast ∙ ap (λ n. empty_fans n c.args.depth rooms.multicast) c.in_ok-rooms.ensures.ports)
