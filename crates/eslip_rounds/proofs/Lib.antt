@@ -7,6 +7,7 @@ pub mod Rounding
 pub mod Meeting
 pub mod Running
 pub mod Deciding
+pub mod FirstRounds
 pub mod Columns
 pub mod Matching
 pub mod Enough

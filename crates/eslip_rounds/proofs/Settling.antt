@@ -13,11 +13,12 @@ use Rattle.slot_match.specs.Matches.{unmatched, fed_of, IsMatch}
 use Rattle.slot_match.proofs.Kept.{IsMatch-unmatched}
 use Rattle.pointer_state.specs.Places.{Places, AreAtPorts, ArePointing, grant_of, accept_of, shared_of}
 use Rattle.eslip_rounds.specs.Rounds.{AreRounds}
-use Rattle.eslip_rounds.specs.Slots.{Decision, AreMoved, IsSlotBy, IsSlot}
+use Rattle.eslip_rounds.specs.Slots.{Decision, Moving, AreMoved, IsSlotBy, IsSlot}
 use Rattle.eslip_rounds.specs.Decisions.{ports, is_fed, moved_by, passed, places_after, round_of, rounds_of, decision_by, decision_of}
 use Rattle.eslip_rounds.proofs.Matching.{IsMatch-round}
 use Rattle.eslip_rounds.proofs.Unique.{ArePointing-moved, IsSlot-only}
 use Rattle.eslip_rounds.proofs.Accepting.{IsRound-round_of}
+use Rattle.eslip_rounds.proofs.FirstRounds.{AreAccepted, AreAccepted-unmatched, AreAccepted-round}
 use Rattle.eslip_rounds.proofs.Placing.{IsTable-table_of, table_at, table_stays, input_of, no_input_of, fed_in, output_of, no_output_of, passed_some}
 use Rattle.eslip_rounds.proofs.Placing.{passed_none}
 
@@ -109,10 +110,16 @@ module _ (n t : ℕ) (rows : List Row) (places : Places) (within : AreWithin n r
       IsMatch-round n t rows places at_ports ports_are start (round_of n t rows places start) (IsMatch-unmatched n)
       (IsRound-round_of n t rows places start (IsMatch-unmatched n) at_ports ports_are)
 
+  first_accepted : (rounds : ℕ) → AreAccepted n t rows places (slice_index_or (rounds_of n t rows places rounds (unmatched n)) 0 (unmatched n))
+  first_accepted zero = AreAccepted-unmatched n t rows places
+  first_accepted (suc rounds) =
+      let start = unmatched n in
+      AreAccepted-round n t rows places (round_of n t rows places start) (IsRound-round_of n t rows places start (IsMatch-unmatched n) at_ports ports_are)
+
   module _ (move : ℕ → ℕ → List Row → List (Option Fed) → List (Option Fed) → Places → Places) where
     -- what is computed is what the slot decides, where the pointers that are computed are so
-    pub IsSlotBy-decision_by : (Moves : ℕ → ℕ → List Row → List (Option Fed) → List (Option Fed) → Places → Places → Type 0)
-        → ((first_match matched : List (Option Fed)) → IsMatch n first_match
+    pub IsSlotBy-decision_by : (Moves : Moving)
+        → ((first_match matched : List (Option Fed)) → IsMatch n first_match → AreAccepted n t rows places first_match
         → Moves n t rows first_match matched places (move n t rows first_match matched places)) → (rounds : ℕ)
         → IsSlotBy Moves n rounds t rows places (decision_by move n rounds t rows places)
     unfolding decision_by
@@ -124,25 +131,26 @@ module _ (n t : ℕ) (rows : List Row) (places : Places) (within : AreWithin n r
           chain = AreRounds-rounds_of rounds start (IsMatch-unmatched n);
           result = refl;
           numbered = refl;
-          moved = moved (slice_index_or (rounds_of n t rows places rounds start) 0 start) _ (first_whole rounds);
+          moved = moved (slice_index_or (rounds_of n t rows places rounds start) 0 start) _ (first_whole rounds) (first_accepted rounds);
         }
 
     -- and the pointers are at ports, where those that are computed are
-    pub AreAtPorts-decision_by : ((first_match matched : List (Option Fed)) → IsMatch n first_match → AreAtPorts (move n t rows first_match matched places))
+    pub AreAtPorts-decision_by : ((first_match matched : List (Option Fed)) → IsMatch n first_match → AreAccepted n t rows places first_match
+        → AreAtPorts (move n t rows first_match matched places))
         → (rounds : ℕ) → AreAtPorts (decision_by move n rounds t rows places).places
     unfolding decision_by
     AreAtPorts-decision_by at_ports_after rounds =
-        at_ports_after (slice_index_or (rounds_of n t rows places rounds (unmatched n)) 0 (unmatched n)) _ (first_whole rounds)
+        at_ports_after (slice_index_or (rounds_of n t rows places rounds (unmatched n)) 0 (unmatched n)) _ (first_whole rounds) (first_accepted rounds)
 
   pub IsSlot-decision_of : (rounds : ℕ) → IsSlot n rounds t rows places (decision_of n rounds t rows places)
   unfolding decision_of
   IsSlot-decision_of = IsSlotBy-decision_by (λ n t. places_after n) AreMoved
-      (λ first_match matched whole. AreMoved-places_after n t rows first_match matched places within whole at_ports ports_are)
+      (λ first_match matched whole accepted. AreMoved-places_after n t rows first_match matched places within whole at_ports ports_are)
 
   pub AreAtPorts-decision_of : (rounds : ℕ) → AreAtPorts (decision_of n rounds t rows places).places
   unfolding decision_of
   AreAtPorts-decision_of = AreAtPorts-decision_by (λ n t. places_after n)
-      (λ first_match matched whole. AreAtPorts-places_after n t rows first_match matched places within whole at_ports ports_are)
+      (λ first_match matched whole accepted. AreAtPorts-places_after n t rows first_match matched places within whole at_ports ports_are)
 
   -- every decision of the slot is the one that is computed
   pub decision_of-only : (rounds : ℕ) (a : Decision) → AreAtPorts a.places → IsSlot n rounds t rows places a → a ≡ decision_of n rounds t rows places

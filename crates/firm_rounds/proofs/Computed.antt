@@ -6,37 +6,30 @@ use Rattle.std.specs.Option.{unwrap_or}
 use Rattle.std.proofs.lemmas.Bool.Decides.{Decides-and, Decides-not}
 use Rattle.rotating_pick.specs.declared.kinds.Kind.TheVariants.{Uni}
 use Rattle.rotating_pick.specs.declared.limits.TheConstants.{LEVELS}
-use Rattle.rotating_pick.proofs.First.{IsFirstFrom-only}
 use Rattle.slot_match.specs.declared.rows.Row.{Row}
 use Rattle.slot_match.specs.declared.matching.Fed.{Fed}
 use Rattle.slot_match.specs.Rows.{AreWithin}
 use Rattle.slot_match.specs.Matches.{unmatched, fed_of, IsMatch}
 use Rattle.slot_match.proofs.Kept.{IsMatch-unmatched, nobody_at_first}
 use Rattle.pointer_state.specs.Places.{Places, AreAtPorts, ArePointing, grant_of}
-use Rattle.eslip_rounds.specs.Rounds.{Requests, Grants}
 use Rattle.eslip_rounds.specs.Slots.{Decision, AreMoved, IsRefused}
 use Rattle.eslip_rounds.specs.Decisions.{ports, is_fed, granted, round_of, places_after, is_refused}
 use Rattle.eslip_rounds.proofs.Testing.{Decides-fed}
 use Rattle.eslip_rounds.proofs.Choosing.{level_asked}
-use Rattle.eslip_rounds.proofs.Deciding.{from_in}
+use Rattle.eslip_rounds.proofs.FirstRounds.{AreAccepted, grants_once}
 use Rattle.eslip_rounds.proofs.Finding.{finds_port, finds_no_port}
 use Rattle.eslip_rounds.proofs.Granting.{Serves-granted}
 use Rattle.eslip_rounds.proofs.Accepting.{IsRound-round_of}
 use Rattle.eslip_rounds.proofs.Placing.{IsTable-table_of, table_at, table_stays}
 use Rattle.eslip_rounds.proofs.Settling.{AreMoved-places_after, AreAtPorts-places_after, IsSlotBy-decision_by, AreAtPorts-decision_by}
-use Rattle.firm_rounds.specs.Slots.{AreHeld, AreMovedByFirm, IsFirmSlot}
+use Rattle.firm_rounds.specs.Slots.{AreMovedByFirm, IsFirmSlot}
+use Rattle.firm_rounds.specs.SlotSteps.{AreHeld}
 use Rattle.firm_rounds.specs.Decisions.{firm_held, firm_places_after, firm_decision}
 use Rattle.firm_rounds.proofs.PointersKept.{firm_keep}
 use Rattle.firm_rounds.proofs.OneDecision.{IsFirmSlot-only}
+use Rattle.firm_rounds.proofs.InSteps.{AreMovedByFirm-steps}
 
 module _ (n t : ℕ) (rows : List Row) (before : Places) (within : AreWithin n rows) (at_ports : AreAtPorts before) (ports_are : before.ports ≡ n) where
-  -- an output grants one input
-  pub grants_once : (i x j level : ℕ) → Grants n t rows before (unmatched n) i j level Uni → Grants n t rows before (unmatched n) x j level Uni → i ≡ x
-  grants_once i x j level g h =
-      IsFirstFrom-only n (grant_of before j level) (λ y. Requests rows (unmatched n) y j level Uni) i x
-      (from_in n t rows before (unmatched n) (IsMatch-unmatched n) at_ports ports_are j level Uni g.output_in
-      (level_asked rows (unmatched n) i j level Uni g.first.member)) g.first h.first
-
   -- the test says whether a grant is refused
   Decides-refused : (i j level : ℕ) → Decides (is_refused n t rows before i j level) (IsRefused n t rows before i j level)
   Decides-refused i j level =
@@ -63,7 +56,7 @@ module _ (n t : ℕ) (rows : List Row) (before : Places) (within : AreWithin n r
   unfolding refused_by
   finds_refused i j level r =
       finds_port (λ x. is_refused n t rows before x j level) n i r.0.first.below ((Decides-refused i j level).1 r)
-      (λ y e. grants_once y i j level ((Decides-refused y j level).0 e).0 r.0)
+      (λ y e. grants_once n t rows before at_ports ports_are y i j level ((Decides-refused y j level).0 e).0 r.0)
 
   finds_nobody : (j level : ℕ) → ((i : ℕ) → IsRefused n t rows before i j level → ⊥) → refused_by level j ≡ None
   unfolding refused_by
@@ -103,7 +96,7 @@ module _ (n t : ℕ) (rows : List Row) (before : Places) (within : AreWithin n r
               subst P (sym moved_ports) (pointing level level_in);
         }
 
-  module _ (first_match matched : List (Option Fed)) (whole : IsMatch n first_match) where
+  module _ (first_match matched : List (Option Fed)) (whole : IsMatch n first_match) (accepted : AreAccepted n t rows before first_match) where
     abbrev moved_to : Places
     moved_to = places_after n rows first_match matched before
 
@@ -117,7 +110,9 @@ module _ (n t : ℕ) (rows : List Row) (before : Places) (within : AreWithin n r
     moved_ports_are = as_first.ports ∙ ports_are
 
     AreMovedByFirm-computed : AreMovedByFirm n t rows first_match matched before (firm_places_after n t rows first_match matched before)
-    AreMovedByFirm-computed = record { moved = moved_to; as_first = as_first; held = AreHeld-firm_held moved_to moved_at_ports moved_ports_are }
+    AreMovedByFirm-computed =
+        AreMovedByFirm-steps n t rows before at_ports ports_are first_match matched accepted (firm_places_after n t rows first_match matched before)
+        (record { moved = moved_to; as_first = as_first; held = AreHeld-firm_held moved_to moved_at_ports moved_ports_are })
 
     AreAtPorts-computed : AreAtPorts (firm_places_after n t rows first_match matched before)
     AreAtPorts-computed =

@@ -1,7 +1,7 @@
 -- Outputs held one after another.
 use Rattle.std.proofs.Common.{◌≡◌, ℕ, ◌↔◌, ◌⊎◌, ◌∙◌, refl, subst, inl, inr}
 use Rattle.pointer_state.specs.Places.{Places, grant_of, accept_of, shared_of}
-use Rattle.firm_rounds.specs.Slots.{AreHeld}
+use Rattle.firm_rounds.specs.SlotSteps.{AreHeld}
 
 -- nothing is held
 pub AreHeld-none : (P : ℕ → ℕ → ℕ → Type 0) (places : Places) → ((i j level : ℕ) → P i j level → ⊥) → AreHeld P places places

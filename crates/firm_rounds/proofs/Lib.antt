@@ -3,6 +3,7 @@ pub mod RequestRank
 pub mod InTime
 pub mod Holding
 pub mod OneDecision
+pub mod InSteps
 pub mod Computed
 pub mod PointersMoved
 pub mod OneRoundSlots

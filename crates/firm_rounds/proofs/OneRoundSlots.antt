@@ -19,7 +19,6 @@ use Rattle.service_bound.proofs.Descents.{lowers}
 use Rattle.firm_rounds.specs.Slots.{AreMovedByFirm, IsFirmSlot}
 use Rattle.firm_rounds.specs.Decisions.{firm_decision}
 use Rattle.firm_rounds.proofs.Computed.{IsFirmSlot-firm_decision, AreAtPorts-firm_decision}
-use Rattle.firm_rounds.proofs.PointersMoved.{paired}
 
 -- what the slot of a posting decides
 abbrev pub decided : ℕ → ℕ → Places → Posting → Decision
@@ -37,7 +36,7 @@ IsSwitch-after n t places p switch =
     let moved = (now n t places p switch).moved in
     record {
       at_ports = AreAtPorts-firm_decision n t (rows_of n p) places (AreWithin-rows n p) switch.at_ports switch.ports 1;
-      ports = moved.held.ports ∙ (moved.as_first.ports ∙ switch.ports);
+      ports = moved.ports ∙ switch.ports;
     }
 
 module _ (n t : ℕ) (places : Places) (x y : ℕ) (switch : IsSwitch n places) (x_in : x < n) (y_in : y < n) (suits : Suits n places (lowers x y)) where
@@ -100,21 +99,17 @@ module _ (n t : ℕ) (places : Places) (x y : ℕ) (switch : IsSwitch n places) 
 
   -- where it is refused, its pointer stays at the input, and else it goes one beyond
   pub refused : 0 < y → grant_of (decided n t places (lowers x y)).places 0 0 ≡ x
-  refused some = moves.held.held x 0 0 (
+  refused some = moves.held x 0 0 (
     granted,
     λ accepted. let pair = only x 0 0 Uni ((begins.opening.pairs x 0 0 Uni).1 (inr accepted)) in let output =
         pair.1 in omega arith,
   )
 
-  pair_moves : (grant_of (decided n t places (lowers x y)).places y 0 ≡ (x + 1) % n) × (accept_of (decided n t places (lowers x y)).places x 0 ≡ (y + 1) % n)
-  pair_moves = paired n t (rows_of n (lowers x y)) places (AreWithin-rows n (lowers x y)) switch.at_ports switch.ports First
-      (decided n t places (lowers x y)).matched (decided n t places (lowers x y)).places begins.opening moves x y 0 out.served
-
   pub passed : y ≡ 0 → grant_of (decided n t places (lowers x y)).places 0 0 ≡ (x + 1) % n
-  passed none = subst (λ v. grant_of (decided n t places (lowers x y)).places v 0 ≡ (x + 1) % n) none pair_moves.0
+  passed none = subst (λ v. grant_of (decided n t places (lowers x y)).places v 0 ≡ (x + 1) % n) none (moves.granted x y 0 out.served)
 
   pub accepts : accept_of (decided n t places (lowers x y)).places x 0 ≡ (y + 1) % n
-  accepts = pair_moves.1
+  accepts = moves.accepted x y 0 out.served
 
   pub accept_stays : (i : ℕ) → (i ≡ x → ⊥) → accept_of (decided n t places (lowers x y)).places i 0 ≡ accept_of places i 0
-  accept_stays i other = moves.held.accepts i 0 ∙ moves.as_first.accept_stays i 0 (λ j s. other (only i j 0 Uni s).0)
+  accept_stays i other = moves.accept_stays i 0 (λ j s. other (only i j 0 Uni s).0)

@@ -1,25 +1,22 @@
 -- The rank of a request: it falls in each slot of a window without multicast in which the request is not served.
-use Rattle.std.proofs.Common.{◌≡◌, ℕ, ◌+◌, ◌*◌, ◌%◌, ◌<◌, ◌≤◌, ◌∙◌, List, Option, subst, inl, inr, arith}
+use Rattle.std.proofs.Common.{◌≡◌, ℕ, ◌+◌, ◌*◌, ◌%◌, ◌<◌, ◌≤◌, List, Option, subst, inl, inr, arith}
 use Rattle.std.proofs.Math.Nat.{mul-le-mul_left}
 use Rattle.std.proofs.lemmas.Bool.{cases_eq}
 use Rattle.rotating_pick.specs.Rotation.{distance, IsFirstFrom}
 use Rattle.rotating_pick.specs.declared.kinds.Kind.TheVariants.{Uni}
 use Rattle.rotating_pick.specs.declared.limits.TheConstants.{LEVELS}
 use Rattle.rotating_pick.proofs.Circle.{distance-lt}
-use Rattle.rotating_pick.proofs.First.{IsFirstFrom-only}
 use Rattle.rotating_pick.proofs.Picking.{IsFirstFrom-some, distance-injective}
 use Rattle.slot_match.specs.declared.rows.Row.{Row}
 use Rattle.slot_match.specs.declared.matching.Fed.{Fed}
 use Rattle.slot_match.specs.Rows.{Names, row_of}
 use Rattle.slot_match.specs.Matches.{unmatched, Serves}
-use Rattle.slot_match.proofs.Kept.{nobody_at_first}
 use Rattle.pointer_state.specs.Places.{Places, ArePointing, grant_of, accept_of}
-use Rattle.eslip_rounds.specs.Rounds.{Grants, Accepts}
-use Rattle.eslip_rounds.specs.Slots.{IsRefused}
+use Rattle.eslip_rounds.specs.Rounds.{Grants}
 use Rattle.eslip_rounds.proofs.Deciding.{Names-decides}
 use Rattle.service_bound.specs.Windows.{IsClean, IsWithoutMulticast}
 use Rattle.service_bound.proofs.Distances.{distance-passed, distance-reached, distance-own}
-use Rattle.service_bound.proofs.FirstRound.{grants_first, first_granted}
+use Rattle.service_bound.proofs.FirstRound.{grants_first}
 use Rattle.service_bound.proofs.LaterRounds.{BeginsWith}
 use Rattle.service_bound.proofs.Granting.{kind_is_first, served_by_first, refused}
 use Rattle.firm_rounds.specs.Slots.{AreMovedByFirm}
@@ -70,17 +67,10 @@ module _ (n t level : ℕ) (rows : List Row) (first matched : List (Option Fed))
       (later : List Row) (named : Names (row_of later i) level Uni j) where
     -- the input h that is granted took the output: the grant pointer passes it, and comes nearer to i
     falls_where_accepted : (h : ℕ) → IsFirstFrom n (grant_of before j level) (λ x. Names (row_of rows x) level Uni j) h
-        → Grants n t rows before (unmatched n) h j level Uni → Serves first h j level Uni → RanksBelow n level i j after most later
-    falls_where_accepted h nearest granted served =
+        → Serves first h j level Uni → RanksBelow n level i j after most later
+    falls_where_accepted h nearest served =
         let from_in = pointing.grant j j_in in
-        let accepted : Accepts n t rows before (unmatched n) h j level Uni =
-        elim ((begins.opening.pairs h j level Uni).0 served) [ inl old ↦ absurd (nobody_at_first n h j level Uni old) | inr accepts ↦ accepts ] in
-        let nobody : (x : ℕ) → IsRefused n t rows before x j level → ⊥ = λ x r.
-        let same : h ≡ x = IsFirstFrom-only n (grant_of before j level) (λ z. Names (row_of rows z) level Uni j) h x from_in nearest
-        (first_granted n t rows before level level_in clean Uni
-        (kind_is_first n t level rows first before level_in begins.opening pointing clean alone) x j r.0) in
-        r.1 (subst (λ z. Accepts n t rows before (unmatched n) z j level Uni) same accepted) in
-        let place : grant_of after j level ≡ (h + 1) % n = moved.held.stays j level nobody ∙ moved.as_first.granted h j level served in
+        let place : grant_of after j level ≡ (h + 1) % n = moved.granted h j level served in
         let other : h ≡ i → ⊥ = λ same. left (subst (λ x. Serves matched x j level Uni) same (begins.stays h j level Uni served)) in
         let at_most = nearest.least i i_in ranks.named in
         let apart : distance n (grant_of before j level) h ≡ distance n (grant_of before j level) i
@@ -100,7 +90,7 @@ module _ (n t level : ℕ) (rows : List Row) (first matched : List (Option Fed))
         let accept_in = pointing.accept h h_in in
         let nobody = refused n t level rows first before level_in begins.opening pointing clean alone h j y h_in j_in granted accepted other in
         let place : grant_of after j level ≡ h =
-        moved.held.held h j level (granted, λ accepts. nobody h ((begins.opening.pairs h j level Uni).1 (inr accepts))) in
+        moved.held h j level (granted, λ accepts. nobody h ((begins.opening.pairs h j level Uni).1 (inr accepts))) in
         let at_most = nearest.least i i_in ranks.named in
         let reached = distance-reached n (grant_of before j level) h i from_in h_in i_in at_most in
         elim (cases_eq (grant_of before j level) h) [
@@ -117,7 +107,7 @@ module _ (n t level : ℕ) (rows : List Row) (first matched : List (Option Fed))
               → ⊥ = λ e. other (distance-injective n (accept_of before h level) y j accept_in accepted.below j_in e) in
               let before_j = accepted.least j j_in granted in
               let passed = distance-passed n (accept_of before h level) y j accept_in accepted.below j_in (omega arith) in
-              let turned : accept_of after h level ≡ (y + 1) % n = moved.held.accepts h level ∙ moved.as_first.accepted h y level served in
+              let turned : accept_of after h level ≡ (y + 1) % n = moved.accepted h y level served in
               let closer : distance n (accept_of after h level) j < distance n (accept_of before h level) j = rw turned (omega arith) in
               record { named = named; far = rw place (omega (arith, near, closer)); near = λ asking. rw place (omega (arith, near, closer)) }
         ]
@@ -132,6 +122,6 @@ module _ (n t level : ℕ) (rows : List Row) (first matched : List (Option Fed))
         let granted = grants_first n t rows before level level_in clean Uni first_kind h j j_in nearest.1 in
         let met = served_by_first n t level rows first before level_in begins.opening pointing clean alone h j nearest.1.below granted in
         elim (cases_eq met.0 j) [
-          | inl same ↦ falls_where_accepted h nearest.1 granted (subst (λ y. Serves first h y level Uni) same met.2)
+          | inl same ↦ falls_where_accepted h nearest.1 (subst (λ y. Serves first h y level Uni) same met.2)
           | inr other ↦ falls_where_refused h met.0 nearest.1 granted met.1 met.2 other
         ]

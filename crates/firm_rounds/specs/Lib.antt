@@ -1,3 +1,4 @@
 pub mod Slots
+pub mod SlotSteps
 pub mod Decisions
 pub mod Latest

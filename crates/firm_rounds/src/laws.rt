@@ -1,5 +1,5 @@
 //! Laws of the second scheduler, as the contracts of functions that do nothing. They hold of its
-//! definitions, for every number of ports and rounds and every window of slots.
+//! definitions, in every window of slots; each law says for which numbers of ports and rounds.
 
 ghost use Rattle.std.specs.Prelude.{◌≡◌, ℕ, ◌+◌, ◌*◌, ◌%◌, ◌<◌, ◌≤◌, List, Option, All, Any, length, map, take, drop};
 ghost use Rattle.rotating_pick.specs.declared.kinds.Kind.TheVariants.{Uni};
@@ -27,7 +27,7 @@ pub fn firm_served()
         → n * n ≤ length slots → Any (λ slot. Serves slot.decision.matched i j level Uni) slots }
 {}
 
-/// That many are needed where each slot has one round, for every number of ports: in some window of `n * n` slots, the
+/// That many are needed where each slot has one round, for 1 to 64 ports: in some window of `n * n` slots, the
 /// queue from input 0 to output 0 at level 0 is posted in every slot and served in the last one alone.
 pub fn firm_is_reached()
     ensures { (n t : ℕ) → 0 < n → n ≤ MAX_PORTS → (places : Places) × (slots : List DecidedSlot) × IsServedLastByFirm n 1 t 0 0 0 places slots
@@ -76,8 +76,8 @@ pub fn firm_decision_is_of_the_slot()
 /// first round moves its two pointers one beyond each other, an output whose unicast grant was refused points to the
 /// input that refused it, and one that granted no unicast stays; so does an input that accepted none.
 pub fn firm_pointers_move()
-    ensures paired { (n t : ℕ) (rows : List Row) (first_match matched : List (Option Fed)) (before after : Places) → AreWithin n rows → AreAtPorts before
-        → before.ports ≡ n → IsRound n t rows before (unmatched n) first_match → AreMovedByFirm n t rows first_match matched before after
+    ensures paired { (n t : ℕ) (rows : List Row) (first_match matched : List (Option Fed)) (before after : Places)
+        → AreMovedByFirm n t rows first_match matched before after
         → (i j level : ℕ) → Serves first_match i j level Uni → (grant_of after j level ≡ (i + 1) % n) × (accept_of after i level ≡ (j + 1) % n) }
     ensures refused { (n t : ℕ) (rows : List Row) (first_match matched : List (Option Fed)) (before after : Places)
         → AreMovedByFirm n t rows first_match matched before after

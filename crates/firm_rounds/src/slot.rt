@@ -4,7 +4,8 @@ ghost use Rattle.slot_match.specs.Rows.{AreWithin};
 ghost use Rattle.slot_match.specs.Matches.{IsMatch, IsMaximal};
 ghost use Rattle.pointer_state.specs.Places.{AreAtPorts};
 ghost use Rattle.eslip_rounds.specs.Refusals.{Tells};
-ghost use Rattle.firm_rounds.specs.Slots.{AreHeld, IsFirmSlot};
+ghost use Rattle.firm_rounds.specs.Slots.{IsFirmSlot};
+ghost use Rattle.firm_rounds.specs.SlotSteps.{AreHeld};
 ghost use Rattle.firm_rounds.specs.Decisions.{firm_decision};
 
 use eslip_rounds::{Refused, decide_with_refused};

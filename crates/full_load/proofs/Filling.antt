@@ -11,13 +11,14 @@ use Rattle.slot_match.specs.declared.rows.Row.{Row}
 use Rattle.slot_match.specs.declared.matching.Fed.{Fed}
 use Rattle.slot_match.specs.Rows.{Names, row_of, AreWithin}
 use Rattle.slot_match.specs.Matches.{unmatched, Serves}
-use Rattle.slot_match.proofs.Kept.{nobody_at_first, IsMatch-unmatched}
+use Rattle.slot_match.proofs.Kept.{IsMatch-unmatched}
 use Rattle.pointer_state.specs.Places.{Places, ArePointing, grant_of, accept_of}
 use Rattle.islip_rounds.specs.declared.numbers.RoundsUsed.{RoundsUsed}
 use Rattle.islip_rounds.specs.Numbers.{matched_count}
-use Rattle.eslip_rounds.specs.Rounds.{Grants, Accepts, IsRound}
+use Rattle.eslip_rounds.specs.Rounds.{Grants, IsRound}
 use Rattle.eslip_rounds.specs.Slots.{AreMoved, IsSlot}
 use Rattle.eslip_rounds.specs.Schedules.{DecidedSlot}
+use Rattle.eslip_rounds.proofs.FirstRounds.{AreAccepted-round}
 use Rattle.service_bound.proofs.Distances.{distance-own}
 use Rattle.service_bound.proofs.FirstRound.{IsFirstKind, first_granted, grants_first}
 use Rattle.service_bound.proofs.Granting.{kind_is_first, served_by_first}
@@ -66,22 +67,18 @@ module _ (n t level : ℕ) (rows : List Row) (places : Places) (first : List (Op
       let there = level_in j j_in in
       grants_first n t rows places level there load.clean Uni (unicast_first there) (grant_of places j level) j j_in (is_first j j_in)
 
-  -- what the first round serves is accepted in it
-  accepted_first : (i j : ℕ) → Serves first i j level Uni → Accepts n t rows places (unmatched n) i j level Uni
-  accepted_first i j served = elim ((opening.pairs i j level Uni).0 served) [ inl old ↦ absurd (nobody_at_first n i j level Uni old) | inr new ↦ new ]
-
   pub served_at : (i j : ℕ) → j < n → Serves first i j level Uni → grant_of places j level ≡ i
   served_at i j j_in served =
       let there = level_in j j_in in
-      let accepted = accepted_first i j served in
+      let accepted = AreAccepted-round n t rows places first opening i j level Uni served in
       IsFirstFrom-only n (grant_of places j level) (λ x. Names (row_of rows x) level Uni j) (grant_of places j level) i (pointing.grant j j_in)
       (is_first j j_in)
       (first_granted n t rows places level there load.clean Uni (unicast_first there) i j accepted.taken.member)
 
   pub served_once : (i j k : ℕ) → Serves first i j level Uni → Serves first i k level Uni → j ≡ k
   served_once i j k served also =
-      let one = accepted_first i j served in
-      let other = accepted_first i k also in
+      let one = AreAccepted-round n t rows places first opening i j level Uni served in
+      let other = AreAccepted-round n t rows places first opening i k level Uni also in
       IsFirstFrom-only n (accept_of places i level) (λ y. Grants n t rows places (unmatched n) i y level Uni) j k
       (pointing.accept i one.taken.member.first.below) one.taken other.taken
 

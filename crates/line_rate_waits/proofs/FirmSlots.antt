@@ -16,7 +16,6 @@ use Rattle.firm_rounds.specs.Slots.{AreMovedByFirm, IsFirmSlot}
 use Rattle.firm_rounds.specs.Latest.{IsServedLastByFirm}
 use Rattle.firm_rounds.specs.Decisions.{firm_decision}
 use Rattle.firm_rounds.proofs.Computed.{IsFirmSlot-firm_decision, AreAtPorts-firm_decision}
-use Rattle.firm_rounds.proofs.PointersMoved.{paired}
 use Rattle.line_rate_waits.specs.ReachedByFirm.{ComesLastByFirmAtLineRate}
 use Rattle.line_rate_waits.proofs.Plans.{In, Plan, rows_of, names, AreWithin-rows, IsClean-rows, IsWithoutMulticast-rows}
 use Rattle.line_rate_waits.proofs.PlannedSlots.{Suits, IsPlaced, AreNear, served_it, only_it, grants_nearest}
@@ -47,7 +46,7 @@ IsSwitch-after_firm n t places p switch =
     let moved = (slot_decided n t places p switch).moved in
     record {
       at_ports = AreAtPorts-firm_decision n t (rows_of n p) places (AreWithin-rows n p) switch.at_ports switch.ports 1;
-      ports = moved.held.ports ∙ (moved.as_first.ports ∙ switch.ports);
+      ports = moved.ports ∙ switch.ports;
     }
 
 module _ (n t : ℕ) (places : Places) (p : Plan) (some : 0 < n) (switch : IsSwitch n places) (suits : Suits n places p) where
@@ -82,25 +81,18 @@ module _ (n t : ℕ) (places : Places) (p : Plan) (some : 0 < n) (switch : IsSwi
   only : (i j level : ℕ) (kind : Kind) → Serves First i j level kind → In i j p.serves
   only = only_it n t p places some switch suits First begins.opening
 
-  -- a pair moves its two pointers one beyond each other
-  pair_moves : (i j : ℕ) → In i j p.serves
-      → (grant_of (firm_decided n t places p).places j 0 ≡ (i + 1) % n) × (accept_of (firm_decided n t places p).places i 0 ≡ (j + 1) % n)
-  pair_moves i j is =
-      paired n t (rows_of n p) places (AreWithin-rows n p) switch.at_ports switch.ports First (firm_decided n t places p).matched
-      (firm_decided n t places p).places begins.opening moves i j 0 (served i j is)
-
   -- where the pointers suit the plan
   pub firm_step_of : IsFirmStep n t places p
   firm_step_of = record {
     serves = λ i j is. subst (λ m. Serves m i j 0 Uni) first_is (served i j is);
     only = λ i j level kind s. only i j level kind (subst (λ m. Serves m i j level kind) (sym first_is) s);
-    granted = λ i j is. (pair_moves i j is).0;
-    accepted = λ i j is. (pair_moves i j is).1;
-    held = λ i j at near left. moves.held.held i j 0 (
+    granted = λ i j is. moves.granted i j 0 (served i j is);
+    accepted = λ i j is. moves.accepted i j 0 (served i j is);
+    held = λ i j at near left. moves.held i j 0 (
       grants_nearest n t p places some switch suits First begins.opening i j at near,
       λ accepted. left (only i j 0 Uni ((begins.opening.pairs i j 0 Uni).1 (inr accepted))),
     );
-    accept_stays = λ i nothing. moves.held.accepts i 0 ∙ moves.as_first.accept_stays i 0 (λ j s. nothing j (only i j 0 Uni s));
+    accept_stays = λ i nothing. moves.accept_stays i 0 (λ j s. nothing j (only i j 0 Uni s));
   }
 
 -- ---- runs

@@ -1,5 +1,4 @@
 -- The second scheduler is a scheduler.
-use Rattle.std.proofs.Common.{◌∙◌}
 use Rattle.eslip_rounds.specs.Schedulers.{IsSchedulerBy, StayAtPorts, IsScheduler}
 use Rattle.eslip_rounds.proofs.Scheduling.{IsSlotBy-moved}
 use Rattle.firm_rounds.specs.Slots.{AreMovedByFirm}
@@ -13,4 +12,4 @@ pub IsScheduler-firm_decision : IsScheduler firm_decision
 IsScheduler-firm_decision n rounds t rows places within at_ports ports =
     IsSlotBy-moved StayAtPorts n rounds t rows places (firm_decision n rounds t rows places)
     (IsFirmSlot-firm_decision n t rows places within at_ports ports rounds)
-    (λ first_match moved. (AreAtPorts-firm_decision n t rows places within at_ports ports rounds, moved.held.ports ∙ moved.as_first.ports))
+    (λ first_match moved. (AreAtPorts-firm_decision n t rows places within at_ports ports rounds, moved.ports))

@@ -2,19 +2,17 @@
 use Rattle.std.proofs.Common.{◌≡◌, ℕ, ◌∙◌, List, Option, None, Some, map, sym, ap, subst, arith}
 use Rattle.std.specs.Bool.{Decides}
 use Rattle.rotating_pick.specs.declared.kinds.Kind.TheVariants.{Uni}
-use Rattle.rotating_pick.proofs.First.{IsFirstFrom-only}
 use Rattle.slot_match.specs.declared.rows.Row.{Row}
 use Rattle.slot_match.specs.declared.matching.Fed.{Fed}
 use Rattle.slot_match.specs.Rows.{AreWithin}
 use Rattle.slot_match.specs.Matches.{unmatched, fed_of, IsMatch}
 use Rattle.slot_match.proofs.Kept.{IsMatch-unmatched}
 use Rattle.pointer_state.specs.Places.{Places, AreAtPorts, ArePointing, grant_of}
-use Rattle.eslip_rounds.specs.Rounds.{Requests}
 use Rattle.eslip_rounds.specs.Slots.{Decision, AreMoved}
 use Rattle.eslip_rounds.specs.Decisions.{ports, is_fed, granted, moved_by, places_after}
 use Rattle.eslip_rounds.proofs.Testing.{Decides-fed}
 use Rattle.eslip_rounds.proofs.Choosing.{level_asked}
-use Rattle.eslip_rounds.proofs.Deciding.{from_in}
+use Rattle.eslip_rounds.proofs.FirstRounds.{grants_once}
 use Rattle.eslip_rounds.proofs.Finding.{finds_port, finds_no_port}
 use Rattle.eslip_rounds.proofs.Granting.{Serves-granted}
 use Rattle.eslip_rounds.proofs.Placing.{IsTable-table_of, table_at, table_stays}
@@ -25,13 +23,6 @@ use Rattle.rrm_rounds.proofs.PointersKept.{rrm_keep}
 use Rattle.rrm_rounds.proofs.OneDecision.{IsRrmSlot-only}
 
 module _ (n t : ℕ) (rows : List Row) (before : Places) (within : AreWithin n rows) (at_ports : AreAtPorts before) (ports_are : before.ports ≡ n) where
-  -- an output grants one input
-  pub grants_once : (i x j level : ℕ) → IsGrantedFirst n t rows before i j level → IsGrantedFirst n t rows before x j level → i ≡ x
-  grants_once i x j level g h =
-      IsFirstFrom-only n (grant_of before j level) (λ y. Requests rows (unmatched n) y j level Uni) i x
-      (from_in n t rows before (unmatched n) (IsMatch-unmatched n) at_ports ports_are j level Uni g.output_in
-      (level_asked rows (unmatched n) i j level Uni g.first.member)) g.first h.first
-
   -- the test says whether an output grants an input
   Decides-granted : (i j level : ℕ)
       → Decides (is_fed i level Uni (fed_of (map (granted n t rows before (unmatched n)) (ports n)) j)) (IsGrantedFirst n t rows before i j level)
@@ -50,7 +41,7 @@ module _ (n t : ℕ) (rows : List Row) (before : Places) (within : AreWithin n r
   finds_granted i j level g =
       finds_port (λ x. is_fed x level Uni (fed_of (map (granted n t rows before (unmatched n)) (ports n)) j)) n i g.first.below
       ((Decides-granted i j level).1 g)
-      (λ y e. grants_once y i j level ((Decides-granted y j level).0 e) g)
+      (λ y e. grants_once n t rows before at_ports ports_are y i j level ((Decides-granted y j level).0 e) g)
 
   finds_nobody : (j level : ℕ) → ((i : ℕ) → IsGrantedFirst n t rows before i j level → ⊥) → granted_by level j ≡ None
   unfolding granted_by
@@ -104,11 +95,13 @@ module _ (n t : ℕ) (rows : List Row) (before : Places) (within : AreWithin n r
   -- what is computed is what the slot decides
   pub IsRrmSlot-rrm_decision : (rounds : ℕ) → IsRrmSlot n rounds t rows before (rrm_decision n rounds t rows before)
   unfolding rrm_decision
-  IsRrmSlot-rrm_decision = IsSlotBy-decision_by n t rows before within at_ports ports_are rrm_places_after AreMovedByRrm AreMovedByRrm-computed
+  IsRrmSlot-rrm_decision = IsSlotBy-decision_by n t rows before within at_ports ports_are rrm_places_after AreMovedByRrm
+      (λ first_match matched whole accepted. AreMovedByRrm-computed first_match matched whole)
 
   pub AreAtPorts-rrm_decision : (rounds : ℕ) → AreAtPorts (rrm_decision n rounds t rows before).places
   unfolding rrm_decision
-  AreAtPorts-rrm_decision = AreAtPorts-decision_by n t rows before within at_ports ports_are rrm_places_after AreAtPorts-computed
+  AreAtPorts-rrm_decision = AreAtPorts-decision_by n t rows before within at_ports ports_are rrm_places_after
+      (λ first_match matched whole accepted. AreAtPorts-computed first_match matched whole)
 
   -- every decision of the slot is the one that is computed
   pub rrm_decision-only : (rounds : ℕ) (a : Decision) → AreAtPorts a.places → IsRrmSlot n rounds t rows before a → a ≡ rrm_decision n rounds t rows before

@@ -1,44 +1,35 @@
 -- Pointers that the first scheduler has moved, of which the refused ones then pass their inputs, are moved as by
 -- round-robin matching.
-use Rattle.std.proofs.Common.{◌≡◌, ℕ, ◌∙◌, List, Option, subst, inl, inr}
+use Rattle.std.proofs.Common.{◌≡◌, ℕ, ◌∙◌, List, Option, inl, inr}
 use Rattle.rotating_pick.specs.declared.kinds.Kind.TheVariants.{Uni}
 use Rattle.slot_match.specs.declared.rows.Row.{Row}
 use Rattle.slot_match.specs.declared.matching.Fed.{Fed}
-use Rattle.slot_match.specs.Rows.{AreWithin}
-use Rattle.slot_match.specs.Matches.{unmatched, Serves}
-use Rattle.slot_match.proofs.Kept.{nobody_at_first}
+use Rattle.slot_match.specs.Matches.{unmatched}
 use Rattle.slot_match.proofs.Pairs.{Serves-decides}
 use Rattle.pointer_state.specs.Places.{Places, AreAtPorts}
-use Rattle.eslip_rounds.specs.Rounds.{Accepts, IsRound}
+use Rattle.eslip_rounds.specs.Rounds.{IsRound}
 use Rattle.eslip_rounds.specs.Slots.{AreMoved, IsRefused}
+use Rattle.eslip_rounds.proofs.FirstRounds.{AreAccepted-round, served_unrefused}
 use Rattle.rrm_rounds.specs.Slots.{AreMovedByRrm}
 use Rattle.rrm_rounds.specs.SlotSteps.{AreBeyond}
-use Rattle.rrm_rounds.proofs.Computed.{grants_once}
 
--- what the first round matched was accepted
-accepted_first : (n t : ℕ) (rows : List Row) (before : Places) (first_match : List (Option Fed)) → IsRound n t rows before (unmatched n) first_match
-    → (i j level : ℕ) → Serves first_match i j level Uni → Accepts n t rows before (unmatched n) i j level Uni
-accepted_first n t rows before first_match round i j level served = elim ((round.pairs i j level Uni).0 served)
-    [ inl old ↦ absurd (nobody_at_first n i j level Uni old) | inr accepts ↦ accepts ]
-
-pub AreMovedByRrm-beyond : (n t : ℕ) (rows : List Row) (before : Places) → AreWithin n rows → AreAtPorts before → before.ports ≡ n
+pub AreMovedByRrm-beyond : (n t : ℕ) (rows : List Row) (before : Places) → AreAtPorts before → before.ports ≡ n
     → (first_match matched : List (Option Fed)) (moved after : Places) → IsRound n t rows before (unmatched n) first_match
     → AreMoved n t rows first_match matched before moved → AreBeyond n (IsRefused n t rows before) moved after
     → AreMovedByRrm n t rows first_match matched before after
-AreMovedByRrm-beyond n t rows before within at_ports ports first_match matched moved after round as_first beyond =
-    let accepts = accepted_first n t rows before first_match round in
+AreMovedByRrm-beyond n t rows before at_ports ports first_match matched moved after round as_first beyond =
+    let accepts = AreAccepted-round n t rows before first_match round in
     record {
       ports = beyond.ports ∙ as_first.ports;
       granted = λ i j level granted. elim (Serves-decides first_match i j level Uni) [
         | inl served ↦
-            beyond.stays j level (λ x refused. refused.1 (subst (λ y. Accepts n t rows before (unmatched n) y j level Uni)
-            (grants_once n t rows before within at_ports ports i x j level granted refused.0) (accepts i j level served)))
+            beyond.stays j level (λ x. served_unrefused n t rows before at_ports ports first_match accepts i x j level served)
             ∙ as_first.granted i j level served
         | inr none ↦ beyond.passed i j level (granted, λ taken. none ((round.pairs i j level Uni).1 (inr taken)))
       ];
       grant_stays = λ j level nobody.
           beyond.stays j level (λ i refused. nobody i refused.0)
-          ∙ as_first.grant_stays j level (λ i served. let taken = accepts i j level served in nobody i taken.taken.member);
+          ∙ as_first.grant_stays j level (λ i served. let taken = accepts i j level Uni served in nobody i taken.taken.member);
       accepted = λ i j level served. beyond.accepts i level ∙ as_first.accepted i j level served;
       accept_stays = λ i level none. beyond.accepts i level ∙ as_first.accept_stays i level none;
       passed = λ i level head done. beyond.shared level ∙ as_first.passed i level head done;

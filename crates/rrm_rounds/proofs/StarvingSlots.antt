@@ -11,6 +11,7 @@ use Rattle.slot_match.specs.Keeping.{Keeps}
 use Rattle.slot_match.proofs.Kept.{IsMatch-unmatched}
 use Rattle.pointer_state.specs.Places.{Places, AreAtPorts, ArePointing, grant_of, accept_of}
 use Rattle.eslip_rounds.specs.Schedules.{DecidedSlot}
+use Rattle.eslip_rounds.proofs.FirstRounds.{grants_once}
 use Rattle.eslip_rounds.proofs.Matching.{IsMatch-round}
 use Rattle.service_bound.specs.Windows.{GainAtMostOne}
 use Rattle.service_bound.proofs.Distances.{distance-own}
@@ -20,7 +21,7 @@ use Rattle.service_bound.proofs.LaterRounds.{first_of, BeginsWith, BeginsWith-sl
 use Rattle.service_bound.proofs.Postings.{Posting, IsPosted, rows_of, posted, names, AreWithin-rows, IsClean-rows, IsWithoutMulticast-rows}
 use Rattle.rrm_rounds.specs.Slots.{IsGrantedFirst, AreMovedByRrm, IsRrmSlot}
 use Rattle.rrm_rounds.specs.Decisions.{rrm_decision}
-use Rattle.rrm_rounds.proofs.Computed.{grants_once, IsRrmSlot-rrm_decision, AreAtPorts-rrm_decision}
+use Rattle.rrm_rounds.proofs.Computed.{IsRrmSlot-rrm_decision, AreAtPorts-rrm_decision}
 
 -- input 0 asks output 0, and input 1 output 0 and output b
 abbrev pub beside : ℕ → Posting
@@ -117,7 +118,7 @@ module _ (n rounds t b : ℕ) (places : Places) (some : 0 < rounds) (more : 2 < 
 
   not_both : (grant_of places 0 0 ≡ 0) ⊎ (grant_of places 0 0 ≡ 2) → Granted 1 0 → ⊥
   not_both at granted =
-      let once : (x y : ℕ) → Granted x 0 → Granted y 0 → x ≡ y = λ x y. grants_once n t (rows_of n (beside b)) places (AreWithin-rows n (beside b))
+      let once : (x y : ℕ) → Granted x 0 → Granted y 0 → x ≡ y = λ x y. grants_once n t (rows_of n (beside b)) places
       ready.at_ports ready.ports x y 0 0 in
       let same = once 1 0 granted (zero_grants_zero at) in
       omega (arith, same)

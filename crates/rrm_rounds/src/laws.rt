@@ -1,5 +1,5 @@
-//! Laws of round-robin matching, as the contracts of functions that do nothing. They hold of its definitions, for
-//! every number of ports and rounds.
+//! Laws of round-robin matching, as the contracts of functions that do nothing. They hold of its definitions;
+//! each law says for which numbers of ports and rounds.
 
 ghost use Rattle.std.specs.Prelude.{◌≡◌, ℕ, ◌+◌, ◌*◌, ◌%◌, ◌<◌, ◌≤◌, List, Option, Any, length};
 ghost use Rattle.rotating_pick.specs.declared.kinds.Kind.TheVariants.{Uni};

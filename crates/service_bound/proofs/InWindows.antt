@@ -1,5 +1,7 @@
 -- A window's first slot, and the window of the slots after it.
-use Rattle.std.proofs.Common.{◌≡◌, ℕ, suc, ◌+◌, ◌<◌, List, [], ◌∷◌, Option, length, Any, refl, arith}
+use Rattle.std.proofs.Common.{◌≡◌, ℕ, suc, ◌+◌, ◌%◌, ◌<◌, List, [], ◌∷◌, Option, length, Any, refl, inl, inr, arith}
+use Rattle.std.proofs.lemmas.Bool.{cases_lt}
+use Rattle.std.proofs.lemmas.Nat.{mod_below}
 use Rattle.std.proofs.lemmas.List.Elements.{All-head, All-tail}
 use Rattle.rotating_pick.specs.declared.kinds.Kind.TheVariants.{Uni}
 use Rattle.slot_match.specs.declared.rows.Row.{Row}
@@ -7,7 +9,8 @@ use Rattle.slot_match.specs.declared.matching.Fed.{Fed}
 use Rattle.slot_match.specs.Rows.{Names, row_of, AreWithin}
 use Rattle.slot_match.specs.Matches.{Serves}
 use Rattle.pointer_state.specs.Places.{Places, ArePointing}
-use Rattle.eslip_rounds.specs.Slots.{AreMoved, IsSlotBy}
+use Rattle.pointer_state.proofs.Moves.{below_by}
+use Rattle.eslip_rounds.specs.Slots.{Moving, AreMoved, IsSlotBy}
 use Rattle.eslip_rounds.specs.Schedules.{DecidedSlot}
 use Rattle.service_bound.specs.Windows.{IsClean, InFirst, IsWindowBy, IsWindow}
 use Rattle.service_bound.proofs.LaterRounds.{first_of, length-first_of}
@@ -28,8 +31,21 @@ abbrev pub AskOn : ℕ → ℕ → List (Option Fed) → List Row → List Row �
 AskOn n level matched rows later j = (x : ℕ) → x < n → Names (row_of rows x) level Uni j → (Serves matched x j level Uni → ⊥)
     → Names (row_of later x) level Uni j
 
+-- a pointer that goes one beyond a port, or stays, is at a port again
+pub below_moved : (n after before : ℕ) (P : ℕ → Type 0) → ((i : ℕ) → P i → after ≡ (i + 1) % n) → (((i : ℕ) → P i → ⊥) → after ≡ before) → before < n
+    → after < n
+below_moved n after before P moves stays before_in = elim (cases_lt after n) [
+  | inl below ↦ below
+  | inr above ↦
+      let nobody : (i : ℕ) → P i → ⊥ = λ i p.
+      let there = moves i p in
+      let beyond = mod_below (i + 1) n (omega arith) in
+      absurd (omega arith) in
+      below_by n after before (stays nobody) before_in
+]
+
 -- where pointers move so, those of the level are at ports again after a slot
-abbrev pub KeepPointing : (ℕ → ℕ → List Row → List (Option Fed) → List (Option Fed) → Places → Places → Type 0) → ℕ → ℕ → Type 0
+abbrev pub KeepPointing : Moving → ℕ → ℕ → Type 0
 KeepPointing Moves n level =
     (t : ℕ) (rows : List Row) (first matched : List (Option Fed)) (before after : Places) → length first ≡ n → AreWithin n rows → ArePointing n level before
     → Moves n t rows first matched before after → ArePointing n level after
@@ -39,7 +55,7 @@ pub AreMoved-keep : (n level : ℕ) → KeepPointing AreMoved n level
 AreMoved-keep n level t rows first matched before after size within pointing moved =
     ArePointing-after n level rows before within pointing t (let here = pointing.shared in omega arith) first matched size after moved
 
-module _ (Moves : ℕ → ℕ → List Row → List (Option Fed) → List (Option Fed) → Places → Places → Type 0) where
+module _ (Moves : Moving) where
   -- one slot of a window
   pub record IsWindowSlotBy (n rounds t level : ℕ) (places : Places) (slot : DecidedSlot) : Type 0 where
     pub pointing : ArePointing n level places

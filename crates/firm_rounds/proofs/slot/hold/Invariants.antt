@@ -2,7 +2,7 @@ use Rattle.std.proofs.Common.{ℕ}
 use Rattle.rotating_pick.specs.PortSets.{Has}
 use Rattle.pointer_state.specs.Places.{AreAtPorts}
 use Rattle.eslip_rounds.specs.Refusals.{Tells}
-use Rattle.firm_rounds.specs.Slots.{AreHeld}
+use Rattle.firm_rounds.specs.SlotSteps.{AreHeld}
 use Rattle.firm_rounds.proofs.slot.hold.Given as goal
 
 abbrev pub invariant-loop-j : goal.invariant-loop-j

@@ -45,7 +45,7 @@ returns-clause-slot c =
       chain = slot.chain;
       result = slot.result;
       numbered = slot.numbered;
-      moved = AreMovedByRrm-beyond c.args.n c.args.slot c.args.rows.now c.args.p.now c.requires.rows c.ports.ensures.at_ports c.requires.pointers
+      moved = AreMovedByRrm-beyond c.args.n c.args.slot c.args.rows.now c.args.p.now c.ports.ensures.at_ports c.requires.pointers
           first c.decide_with_refused.new.out c.decide_with_refused.new.p c.pass.new.p begins.opening slot.moved beyond;
     }
 

@@ -5,6 +5,5 @@ use Rattle.scheduler_c.proofs.four_levels.tiny_tera_decide_firm.Goals as goal
 pub returns-clause-again : goal.returns-clause-again
 returns-clause-again c done =
     let decided = c.decide_firm-numbers.ensures in
-    let moved = decided.slot.moved in
-    let ports = moved.held.ports ∙ (moved.as_first.ports ∙ c.in-Some.ensures.ports) in
+    let ports = decided.slot.moved.ports ∙ c.in-Some.ensures.ports in
     AreInRange-written c.args.n c.decide_firm-numbers.new.p c.put_tables.new.tables decided.at_ports ports c.put_tables.ensures.value
