@@ -9,8 +9,6 @@ mod cell;
 mod cutting;
 mod joining;
 mod sizes;
-#[cfg(test)]
-mod tests;
 
 pub use cell::{Cell, CellName};
 pub use cutting::{Packet, cells_of, cut};

@@ -6,7 +6,5 @@
 #![tactic(auto)]
 
 mod ring;
-#[cfg(test)]
-mod tests;
 
 pub use ring::{CellRing, QueuedCell};

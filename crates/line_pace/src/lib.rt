@@ -5,8 +5,6 @@ mod arriving;
 mod fault;
 pub mod laws;
 mod pace;
-#[cfg(test)]
-mod tests;
 
 pub use arriving::{MAX_ARRIVAL_SLOTS, MAX_CAPTURE_PACKETS, arrivals};
 pub use fault::PaceFault;

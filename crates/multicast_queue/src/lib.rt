@@ -7,7 +7,5 @@
 
 mod fan_queues;
 mod queue;
-#[cfg(test)]
-mod tests;
 
 pub use fan_queues::FanQueues;

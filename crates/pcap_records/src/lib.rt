@@ -14,8 +14,6 @@ mod link;
 mod order;
 mod reading;
 mod record;
-#[cfg(test)]
-mod tests;
 mod writing;
 
 pub use capture::{Capture, Stored};

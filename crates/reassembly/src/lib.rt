@@ -9,8 +9,6 @@ mod buffer;
 mod cutting;
 mod filling;
 mod limits;
-#[cfg(test)]
-mod tests;
 
 pub use assembling::{Finished, Reassembly};
 pub use cutting::flow_is_cut;

@@ -6,8 +6,6 @@
 
 mod banks;
 mod limits;
-#[cfg(test)]
-mod tests;
 
 pub use banks::Banks;
 pub use limits::{MAX_DEPTH, MAX_QUEUE_PACKETS, limits_are};

@@ -1,4 +1,4 @@
-use crate::{CELL_BYTES, Cell, MAX_FORWARDED_BYTES, Packet, cells_of, cut};
+use cell_cutter::{CELL_BYTES, Cell, MAX_FORWARDED_BYTES, Packet, cells_of, cut};
 use rotating_pick::Kind;
 use std::test::Fail;
 

@@ -1,5 +1,5 @@
-use crate::CellRing;
 use cell_cutter::CellName;
+use cell_rings::CellRing;
 use std::test::Fail;
 
 // A packet's second and last cell.

@@ -1,7 +1,7 @@
 ghost use Rattle.std.specs.Prelude.{◌≡◌};
 
-use crate::FanQueues;
 use cell_cutter::{CellName, MAX_FORWARDED_CELLS};
+use multicast_queue::FanQueues;
 use rotating_pick::{LEVELS, MAX_PORTS, Ports, contains, is_among, is_subset, lowest, without};
 use std::alloc::Global;
 use std::process::Abort;

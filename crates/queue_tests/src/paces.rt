@@ -1,8 +1,8 @@
 ghost use Rattle.std.specs.Prelude.{◌≤◌, IsTrue, length, All};
 ghost use Rattle.line_pace.specs.Arrivals.{IsPace, CanCome};
 
-use crate::{MAX_CAPTURE_PACKETS, MAX_SLOT_MICROS, Pace, PaceFault, Stamp, arrivals};
 use cell_cutter::MAX_CAPTURED_CELLS;
+use line_pace::{MAX_CAPTURE_PACKETS, MAX_SLOT_MICROS, Pace, PaceFault, Stamp, arrivals};
 use std::alloc::{AllocError, Global};
 use std::test::Fail;
 

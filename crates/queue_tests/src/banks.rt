@@ -1,11 +1,11 @@
 ghost use Rattle.std.specs.Prelude.{◌≡◌};
 
-use crate::{Banks, MAX_DEPTH, MAX_QUEUE_PACKETS};
 use cell_cutter::{CellName, MAX_FORWARDED_CELLS};
 use rotating_pick::{LEVELS, MAX_PORTS, Ports};
 use std::alloc::{AllocError, Global};
 use std::process::Abort;
 use std::test::Fail;
+use voq_banks::{Banks, MAX_DEPTH, MAX_QUEUE_PACKETS};
 
 // A call and its answer. A queue is named by its output and level.
 #[derive(Clone, Copy, Debug)]

@@ -1,5 +1,5 @@
-use crate::Reassembly;
 use cell_cutter::{CELL_BYTES, Cell, MAX_MESSAGE_BYTES};
+use reassembly::Reassembly;
 use std::alloc::{AllocError, Global};
 use std::process::Abort;
 use std::test::Fail;

@@ -2,12 +2,12 @@ ghost use Rattle.std.specs.Prelude.{◌<◌, All, IfOk, slice_index_or, vec_len}
 ghost use Rattle.pcap_records.specs.declared.capture.Stored.{Stored};
 ghost use Rattle.pcap_records.specs.Packets.{IsWithin};
 
-use crate::{
+use byteorder::{BigEndian, ByteOrder};
+use cell_cutter::MAX_CAPTURED_BYTES;
+use pcap_records::{
     Capture, FILE_HEADER_BYTES, Link, PcapFault, RECORD_HEADER_BYTES, Stored, read_capture,
     write_header, write_record,
 };
-use byteorder::{BigEndian, ByteOrder};
-use cell_cutter::MAX_CAPTURED_BYTES;
 use rotating_pick::MAX_FILE_BYTES;
 use std::alloc::Global;
 use std::process::Abort;
