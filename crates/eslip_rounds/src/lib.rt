@@ -14,8 +14,6 @@ mod ranks;
 mod refusals;
 mod rounds;
 mod slot;
-#[cfg(test)]
-mod tests;
 
 pub use refusals::Refused;
 pub use slot::{Scratch, decide, decide_in, decide_with_refused};

@@ -6,7 +6,5 @@
 
 pub mod laws;
 mod slot;
-#[cfg(test)]
-mod tests;
 
 pub use slot::decide_firm;

@@ -3,7 +3,5 @@
 
 pub mod laws;
 mod named;
-#[cfg(test)]
-mod tests;
 
 pub use named::NamedScheduler;

@@ -6,8 +6,6 @@ pub mod laws;
 mod level_queues;
 mod limits;
 mod meter;
-#[cfg(test)]
-mod tests;
 
 pub use bounds::{longest_service, longest_service_at_line_rate};
 pub use limits::MAX_NOTED;

@@ -1,4 +1,4 @@
-use crate::NamedScheduler;
+use named_schedulers::NamedScheduler;
 use pointer_state::Pointers;
 use rotating_pick::Kind;
 use scheduler_names::SchedulerName;

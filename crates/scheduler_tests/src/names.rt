@@ -1,4 +1,4 @@
-use crate::SchedulerName;
+use scheduler_names::SchedulerName;
 use std::test::Fail;
 
 #[test]

@@ -1,4 +1,4 @@
-use crate::{Scratch, decide, decide_in, decide_with_refused};
+use eslip_rounds::{Scratch, decide, decide_in, decide_with_refused};
 use pointer_state::Pointers;
 use rotating_pick::Kind;
 use slot_match::{Fed, Match, Row, are_within};

@@ -1,4 +1,4 @@
-use crate::decide_firm;
+use firm_rounds::decide_firm;
 use pointer_state::Pointers;
 use rotating_pick::{Kind, Ports};
 use slot_match::{Fed, Match, Row, are_within};

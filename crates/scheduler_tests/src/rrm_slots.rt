@@ -1,6 +1,6 @@
-use crate::decide_rrm;
 use pointer_state::Pointers;
 use rotating_pick::{Kind, Ports};
+use rrm_rounds::decide_rrm;
 use slot_match::{Fed, Match, Row, are_within};
 
 fn row(outputs: Ports) -> Row {

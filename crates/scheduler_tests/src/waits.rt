@@ -1,5 +1,5 @@
-use crate::{MAX_NOTED, WaitMeter, longest_service_at_line_rate};
 use rotating_pick::{Kind, LEVELS, Ports};
+use service_bound::{MAX_NOTED, WaitMeter, longest_service_at_line_rate};
 use slot_match::{Match, Row, are_within};
 use std::alloc::Global;
 use std::process::Abort;
