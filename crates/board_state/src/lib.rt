@@ -11,8 +11,6 @@ mod journal;
 mod limits;
 mod posts;
 mod state;
-#[cfg(test)]
-mod tests;
 
 pub use accepting::is_accepted;
 pub use books::CardBook;

@@ -7,8 +7,6 @@
 mod cards;
 mod deposits;
 mod posted_rows;
-#[cfg(test)]
-mod tests;
 
 pub use cards::{Post, Taken};
 pub use deposits::Crossbar;

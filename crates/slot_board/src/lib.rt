@@ -15,8 +15,6 @@ mod making;
 mod order;
 mod seat;
 mod state;
-#[cfg(test)]
-mod tests;
 mod waits;
 
 pub use board::Board;

@@ -13,8 +13,6 @@ mod making;
 mod rule;
 mod seat;
 mod steps;
-#[cfg(test)]
-mod tests;
 mod turn;
 mod view;
 

@@ -1,5 +1,0 @@
-use Rattle.std.proofs.Common.{◌≡◌, length}
-use Rattle.crossbar.proofs.tests.deposited.Given as goal
-
-abbrev pub invariant-loop-deposit : goal.invariant-loop-deposit
-invariant-loop-deposit g l = length l.crossbar ≡ 4

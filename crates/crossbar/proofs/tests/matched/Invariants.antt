@@ -1,5 +1,0 @@
-use Rattle.slot_match.specs.Matches.{IsMatch}
-use Rattle.crossbar.proofs.tests.matched.Given as goal
-
-abbrev pub invariant-loop-input : goal.invariant-loop-input
-invariant-loop-input g l = IsMatch 4 l.matched

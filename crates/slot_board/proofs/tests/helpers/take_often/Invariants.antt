@@ -1,5 +1,0 @@
-use Rattle.turn_lock.specs.Seats.{AreSeats}
-use Rattle.slot_board.proofs.tests.helpers.take_often.Given as goal
-
-abbrev pub invariant-loop : goal.invariant-loop
-invariant-loop l = AreSeats l.board l.seats.items

@@ -1,8 +1,0 @@
-use Rattle.turn_lock.specs.Seats.{AreSeats}
-use Rattle.slot_board.proofs.tests.threads.drive_in_turn.Given as goal
-
-abbrev pub invariant-loop : goal.invariant-loop
-invariant-loop l = AreSeats l.board l.seats.items
-
-abbrev pub invariant-loop-card : goal.invariant-loop-card
-invariant-loop-card l = AreSeats l.board l.seats.items

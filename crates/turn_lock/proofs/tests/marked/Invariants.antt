@@ -1,8 +1,0 @@
-use Rattle.std.proofs.Common.{◌≡◌}
-use Rattle.turn_lock.proofs.tests.marked.Given as goal
-
-abbrev pub invariant-loop : goal.invariant-loop
-invariant-loop l = record {
-  seat : l.seat.turn ≡ l.turn;
-  number : l.seat.number ≡ l.number;
-}
