@@ -14,9 +14,6 @@ use slot_match::Match;
 use std::alloc::Global;
 use std::marker::Model;
 
-#[cfg(test)]
-mod tests;
-
 // The place of the number of slots, four bytes of the header.
 const SLOTS_AT: usize = 8;
 

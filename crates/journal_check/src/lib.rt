@@ -13,8 +13,6 @@ pub mod laws;
 mod limits;
 mod posts;
 mod slots;
-#[cfg(test)]
-mod tests;
 mod verdict;
 mod writing;
 

@@ -7,7 +7,5 @@ mod posting;
 mod running;
 mod switch;
 mod taking;
-#[cfg(test)]
-mod tests;
 
 pub use running::{AloneOutcome, run_alone, run_firm};

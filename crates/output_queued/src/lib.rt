@@ -11,8 +11,6 @@ mod line;
 mod reference;
 mod rooms;
 mod tally;
-#[cfg(test)]
-mod tests;
 mod text;
 
 pub use coming::Coming;

@@ -8,8 +8,6 @@ mod inputs;
 mod limits;
 mod rows;
 mod state;
-#[cfg(test)]
-mod tests;
 mod times;
 mod walk;
 

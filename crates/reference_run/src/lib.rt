@@ -3,7 +3,5 @@
 
 pub mod laws;
 mod making;
-#[cfg(test)]
-mod tests;
 
 pub use making::reference_of;

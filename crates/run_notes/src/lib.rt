@@ -7,8 +7,6 @@ mod packets;
 mod queues;
 mod reference;
 mod slot_lines;
-#[cfg(test)]
-mod tests;
 mod texts;
 mod wanted;
 

@@ -142,6 +142,3 @@ fn report_start(
     text.push_str(more)?;
     Ok(text)
 }
-
-#[cfg(test)]
-mod tests;

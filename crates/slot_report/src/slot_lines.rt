@@ -93,6 +93,3 @@ pub(crate) fn slots_bytes(slots: Option<&Journal>) -> usize {
     }
     bytes
 }
-
-#[cfg(test)]
-mod tests;

@@ -12,8 +12,6 @@ mod ready;
 mod running;
 mod sharing;
 mod summaries;
-#[cfg(test)]
-mod tests;
 
 pub use captures::output_bytes;
 pub use meters::longest_of;

@@ -19,8 +19,6 @@ mod port_rooms;
 mod reading;
 mod rooms;
 mod slots;
-#[cfg(test)]
-mod tests;
 mod totals;
 mod traffic;
 

@@ -26,8 +26,6 @@ mod limits;
 mod numbers;
 mod options;
 mod reading;
-#[cfg(test)]
-mod tests;
 
 pub use fault::WordsFault;
 pub use job::{CheckJob, FirmJob, GenJob, Job, RunJob, Settings};

@@ -1,6 +1,6 @@
-use crate::{run_alone, run_firm};
 use card_core::{CardPlan, Planned};
 use cell_cutter::MESSAGE_HEADER_BYTES;
+use one_thread::{run_alone, run_firm};
 use pcap_records::Link;
 use reassembly::FLOWS_PER_INPUT;
 use rotating_pick::{OutOfMemory, Ports};

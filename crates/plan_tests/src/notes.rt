@@ -1,8 +1,8 @@
-use crate::{RunNotes, Wanted};
 use card_core::{CardPlan, Planned};
 use card_worker::OpenGate;
 use pcap_records::Link;
 use rotating_pick::{OutOfMemory, Ports};
+use run_notes::{RunNotes, Wanted};
 use std::alloc::Global;
 use std::test::Fail;
 use switch_jobs::run_job;

@@ -3,13 +3,13 @@ ghost use Rattle.switch_words.specs.Limits.{IsUpTo};
 
 mod planning;
 
-use crate::{Made, Plan, made_input};
 use card_core::{CardPlan, Planned};
 use pcap_records::Link;
 use rotating_pick::{MAX_PORTS, OutOfMemory};
 use scheduler_names::SchedulerName;
 use std::alloc::Global;
 use std::test::Fail;
+use switch_plan::{Made, Plan, made_input};
 use switch_words::{GenJob, MAX_COUNT, Settings};
 
 const SETTINGS: Settings = Settings {

@@ -1,7 +1,7 @@
-use crate::{Job, RunJob, WordsFault, read_words};
 use scheduler_names::SchedulerName;
 use std::alloc::Global;
 use std::test::Fail;
+use switch_words::{Job, RunJob, WordsFault, read_words};
 
 // The job of the words of a line, which are parted by blanks.
 fn job(alloc: Global, line: &str) -> Result<Job, WordsFault> {

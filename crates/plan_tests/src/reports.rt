@@ -1,4 +1,4 @@
-use crate::{OutLine, Summary, report_text, report_with_lines, summary_text};
+use slot_report::{OutLine, Summary, report_text, report_with_lines, summary_text};
 use std::test::Fail;
 
 const SUMMARY: &str =

@@ -1,4 +1,3 @@
-use crate::{Outcome, jobs, output_bytes, run_job, run_ready_with};
 use card_core::{CardOut, CardPlan, Planned};
 use card_worker::Gate;
 use pcap_records::Link;
@@ -8,6 +7,7 @@ use std::alloc::Global;
 use std::process::Abort;
 use std::sync::atomic::{AtomicU64, Ordering};
 use std::test::Fail;
+use switch_jobs::{Outcome, jobs, output_bytes, run_job, run_ready_with};
 use switch_plan::Plan;
 
 // Counts the tries of all workers.

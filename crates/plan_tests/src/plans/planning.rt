@@ -1,13 +1,13 @@
 // Plans of made inputs, and what is refused.
 use super::{SETTINGS, made_from_1};
-use crate::jobs::plan;
-use crate::{Plan, PlanFault};
 use forward_table::TableFault;
 use pcap_records::PcapFault;
 use rotating_pick::MAX_FILE_BYTES;
 use std::alloc::Global;
 use std::test::Fail;
 use std::thread::Threads;
+use switch_plan::jobs::plan;
+use switch_plan::{Plan, PlanFault};
 
 // The plan of a table and captures, None where there are too many or too large ones.
 fn planned<R: Threads + Sync>(

@@ -1,4 +1,4 @@
-use crate::{Coming, Reference, reference_text};
+use output_queued::{Coming, Reference, reference_text};
 use rotating_pick::{Kind, Ports, with};
 use slot_match::{Match, Row};
 use std::alloc::Global;

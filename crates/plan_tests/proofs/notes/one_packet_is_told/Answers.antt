@@ -1,6 +1,6 @@
 use Rattle.eslip_rounds.specs.Decisions.{decision_of}
 use Rattle.switch_plan.specs.GoodPlans.{switch_plan_of}
-use Rattle.run_notes.proofs.tests.one_packet_is_told.Goals as goal
+use Rattle.plan_tests.proofs.notes.one_packet_is_told.Goals as goal
 
 pub note_journal-requires : goal.note_journal-requires
 note_journal-requires g c =

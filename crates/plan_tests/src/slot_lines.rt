@@ -1,9 +1,9 @@
 ghost use Rattle.std.specs.Prelude.{◌≡◌, length};
 
-use crate::slot_lines::put_slot_line;
 use islip_rounds::RoundsUsed;
 use rotating_pick::{Kind, Ports};
 use slot_match::Match;
+use slot_report::put_slot_line;
 use std::process::Abort;
 use std::test::Fail;
 

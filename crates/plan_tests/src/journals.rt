@@ -1,9 +1,9 @@
-use crate::laws::finished_journals_are_lawful;
-use crate::{
-    JournalFault, Reason, Verdict, check_journal, check_journal_by, journal_bytes, journal_len,
-};
 use board_state::BoardState;
 use crossbar::Post;
+use journal_check::laws::finished_journals_are_lawful;
+use journal_check::{
+    JournalFault, Reason, Verdict, check_journal, check_journal_by, journal_bytes, journal_len,
+};
 use rotating_pick::LEVEL_COUNT;
 use scheduler_names::SchedulerName;
 use slot_histories::Event;

@@ -1,5 +1,5 @@
-use super::JournalWriter;
 use crossbar::Post;
+use journal_check::JournalWriter;
 use rotating_pick::Kind;
 use slot_match::{Match, Row};
 use std::process::Abort;

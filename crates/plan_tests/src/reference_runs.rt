@@ -1,7 +1,7 @@
-use crate::reference_of;
 use card_core::{CardPlan, Planned};
 use output_queued::RefLine;
 use pcap_records::Link;
+use reference_run::reference_of;
 use rotating_pick::{Kind, OutOfMemory, Ports};
 use slot_match::{Match, Row};
 use std::alloc::Global;

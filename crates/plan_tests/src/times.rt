@@ -1,5 +1,5 @@
-use crate::PacketTimes;
 use card_core::{CardPlan, Planned};
+use packet_times::PacketTimes;
 use pcap_records::Link;
 use rotating_pick::{OutOfMemory, Ports};
 use std::alloc::Global;
