@@ -384,6 +384,3 @@ pub fn print_line<F: Files>(files: &mut F, job: &Job, ending: Ending)
         Ending::Checked(ending) => print_checked(files, job, ending),
     }
 }
-
-#[cfg(test)]
-mod tests;

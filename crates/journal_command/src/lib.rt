@@ -5,8 +5,6 @@ mod checking;
 mod ending;
 mod reading;
 mod telling;
-#[cfg(test)]
-mod tests;
 
 pub use checking::check_file;
 pub use ending::CheckEnding;

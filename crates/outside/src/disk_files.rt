@@ -168,6 +168,3 @@ impl<'r, R: rt::Files + Print + StandardError + AllocGlobal> Files for DiskFiles
         }
     }
 }
-
-#[cfg(test)]
-mod tests;

@@ -273,6 +273,3 @@ impl Files for MemFiles {
         }
     }
 }
-
-#[cfg(test)]
-mod tests;

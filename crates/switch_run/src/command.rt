@@ -172,6 +172,3 @@ pub fn switch_main<R: Threads + Sync, F: Files, G: Gate + Sync>(
     departures::departures_are_counted();
     end_of(rt, alloc, words, files, gate).status()
 }
-
-#[cfg(test)]
-mod tests;

@@ -1,9 +1,9 @@
-use crate::switch_main;
 use card_worker::OpenGate;
 use outside::{Call, Fail, MemFiles, names_differ};
 use std::alloc::{AllocError, Global};
 use std::process::Abort;
 use std::test;
+use switch_run::switch_main;
 
 const USAGE: &str =
     "usage: tiny_tera run [options] TABLE PREFIX INPUT.. or tiny_tera gen [options] SEED COUNT PORTS or tiny_tera check FILE or tiny_tera firm [options] TABLE INPUT..\n";

@@ -1,7 +1,5 @@
-use crate::ending::{Ending, Written};
-use crate::error_lines::print_line;
-use crate::inputs::InputFile;
 use forward_table::TableFault;
+use job_files::{Ending, InputFile, Written, print_line};
 use journal_check::Reason;
 use journal_command::CheckEnding;
 use outside::MemFiles;

@@ -1,4 +1,4 @@
-use crate::{DiskFiles, Failed, Files};
+use outside::{DiskFiles, Failed, Files};
 use std::path::PathBuf;
 use std::test::Fail;
 use std::{env, fs, io, process};

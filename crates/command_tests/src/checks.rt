@@ -1,5 +1,5 @@
-use crate::{CheckEnding, check_file};
 use journal_check::Reason;
+use journal_command::{CheckEnding, check_file};
 use outside::{Call, Fail, MemFiles, names_differ};
 use scheduler_names::SchedulerName;
 use std::alloc::Global;

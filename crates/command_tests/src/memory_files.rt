@@ -1,4 +1,4 @@
-use crate::{Call, Fail, Failed, Files, MemFiles, names_differ, read_buffer};
+use outside::{Call, Fail, Failed, Files, MemFiles, names_differ, read_buffer};
 use std::alloc::{AllocError, Global};
 use std::process::Abort;
 use std::test;

@@ -1,7 +1,7 @@
 use Rattle.std.specs.Prelude.{option_map}
 use Rattle.outside.specs.Contents.{begin_file}
 use Rattle.outside.proofs.Effects.{is_begun, is_begun-after_write}
-use Rattle.outside.proofs.memory_files.tests.begin_and_write.Goals as goal
+use Rattle.command_tests.proofs.memory_files.begin_and_write.Goals as goal
 
 pub write-wrote-requires : goal.write-wrote-requires
 write-wrote-requires g c = record { begun = rw c.in_ok-begin.ensures.told (is_begun c.args.name.now _) }
