@@ -1,4 +1,4 @@
-ghost use Rattle.std.specs.Prelude.{◌≡◌, ℕ, ◌+◌, ◌%◌, ◌<◌, ◌≤◌, ◌↔◌, IsSome, IfSome, replicate, slice_index};
+ghost use Rattle.std.specs.Prelude.{◌≡◌, ℕ, ◌+◌, ◌%◌, ◌<◌, ◌≤◌, ◌↔◌, IsTrue, IsFalse, IsSome, IfSome, replicate, slice_index};
 ghost use Rattle.pointer_state.specs.CallerTables.{AreInRange, places_from, tables_of};
 ghost use Rattle.pointer_state.specs.Places.{place_of, grant_of, accept_of, shared_of, with_place, AreAtPorts, places_at_first, places_met};
 ghost use Rattle.pointer_state.specs.Places.{places_passed, places_held};
@@ -78,15 +78,34 @@ impl Pointers {
         ensures accept { IfSome result (λ p. (i level : ℕ) → accept_of p i level ≡ place_of tables.now.accept level i) }
         ensures shared { IfSome result (λ p. (level : ℕ) → shared_of p level ≡ slice_index tables.now.shared level) }
     {
-        if n == 0 || n > MAX_PORTS || !are_pointing(n, tables) {
-            return None;
+        let mut pointers = Pointers::new(1);
+        if pointers.set_tables(n, tables) {
+            Some(pointers)
+        } else {
+            None
         }
-        Some(Pointers {
-            ports: n,
-            grant: tables.grant,
-            accept: tables.accept,
-            shared: tables.shared,
-        })
+    }
+
+    /// Points where the tables say, for a switch of `n` ports, and answers whether that can be. False exactly
+    /// where [`Pointers::from_tables`] gives None; nothing has changed then.
+    pub fn set_tables(&mut self, n: u32, tables: &PointerTables) -> bool
+        ensures set { IsTrue result ↔ AreInRange n tables.now }
+        ensures value { IsTrue result → self.new ≡ places_from n tables.now }
+        ensures at_ports { IsTrue result → AreAtPorts self.new }
+        ensures ports { IsTrue result → self.new.ports ≡ n }
+        ensures grant { IsTrue result → (j level : ℕ) → grant_of self.new j level ≡ place_of tables.now.grant level j }
+        ensures accept { IsTrue result → (i level : ℕ) → accept_of self.new i level ≡ place_of tables.now.accept level i }
+        ensures shared { IsTrue result → (level : ℕ) → shared_of self.new level ≡ slice_index tables.now.shared level }
+        ensures unchanged { IsFalse result → self.new ≡ self.old }
+    {
+        if n == 0 || n > MAX_PORTS || !are_pointing(n, tables) {
+            return false;
+        }
+        self.ports = n;
+        self.grant = tables.grant;
+        self.accept = tables.accept;
+        self.shared = tables.shared;
+        true
     }
 
     /// Writes into a caller's tables where the pointers are, so that [`Pointers::from_tables`] gives the same

@@ -80,3 +80,31 @@ fn tables_out_of_range_are_refused(rt: HostRuntime) {
     tables.shared[3] = 4;
     assert!(rt; Pointers::from_tables(4, &tables).is_none());
 }
+
+// Pointers of three ports are pointed anew, to four ports and to two; a table that is refused changes nothing.
+#[test]
+fn tables_are_set_in_place(rt: HostRuntime) {
+    let mut tables = AT_ZERO;
+    tables.grant[0][3] = 3;
+    tables.accept[3][1] = 1;
+    tables.shared[2] = 1;
+    let mut pointers = Pointers::new(3);
+    assert!(rt; pointers.set_tables(4, &tables));
+    assert_eq!(rt; pointers.ports(), 4);
+    assert_eq!(rt;
+        [
+            pointers.grant(3, 0),
+            pointers.accept(1, 3),
+            pointers.shared(2)
+        ],
+        [3, 1, 1]
+    );
+    let before = pointers;
+    tables.shared[2] = 4;
+    assert!(rt; !pointers.set_tables(4, &tables));
+    assert!(rt; !pointers.set_tables(0, &tables));
+    assert!(rt; !pointers.set_tables(65, &tables));
+    assert!(rt; pointers == before);
+    assert!(rt; pointers.set_tables(2, &AT_ZERO));
+    assert!(rt; pointers == Pointers::new(2));
+}

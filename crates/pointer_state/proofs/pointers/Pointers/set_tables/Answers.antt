@@ -1,8 +1,8 @@
 use Rattle.std.proofs.Common.{rules, arith}
-use Rattle.pointer_state.proofs.pointers.Pointers.from_tables.Goals as goal
+use Rattle.pointer_state.proofs.pointers.Pointers.set_tables.Goals as goal
 
-pub invariant_of-result : goal.invariant_of-result
-invariant_of-result c =
+pub invariant_of-self : goal.invariant_of-self
+invariant_of-self c =
     let whole = c.are_pointing.ensures.whole (search rules) in
     record {
       some = omega (arith, c.if-n-eq0.false);
@@ -14,4 +14,4 @@ invariant_of-result c =
     }
 
 pub returns-clause-at_ports : goal.returns-clause-at_ports
-returns-clause-at_ports c = invariant_of-result c
+returns-clause-at_ports c is_set = invariant_of-self c
