@@ -132,7 +132,7 @@ module _ (n t : ℕ) (new_input old_input new_output old_output : ℕ → ℕ) (
                   let old = carry n old_input old_output new_side.level old_side.level (Serves new_match) (Serves old_match) same.back
                   (new_input i) z level kind served in
                   free.0 (old_output z) old_side.level Uni
-                      (subst (λ v. Serves old_match v (old_output z) old_side.level Uni) (alike.inputs.back_to i i_in) old),
+                  (subst (λ v. Serves old_match v (old_output z) old_side.level Uni) (alike.inputs.back_to i i_in) old),
               record {
                 level_in = alike.new_level_in;
                 named = (alike.rows_to.carried i j (i_in, free.1.named)).1;
@@ -331,7 +331,7 @@ module _ (n t : ℕ) (new_input old_input new_output old_output : ℕ → ℕ) (
       | inr none ↦
           new_moved.grant_stays (new_output j) new_side.level
           (λ i served. none (old_input i) (subst (λ v. Serves old_match (old_input i) v old_side.level Uni) (alike.outputs.back_to j j_in)
-              (same.back.carried i (new_output j) served)))
+          (same.back.carried i (new_output j) served)))
           ∙ alike.pointers.grants j j_in ∙ ap new_input (sym (moved.grant_stays j old_side.level none))
     ];
     accepts = λ i i_in. elim (some_below (λ j. Serves old_match i j old_side.level Uni) (λ j. Serves-decides old_match i j old_side.level Uni) n) [
@@ -342,7 +342,7 @@ module _ (n t : ℕ) (new_input old_input new_output old_output : ℕ → ℕ) (
           let nobody : (j : ℕ) → Serves old_match i j old_side.level Uni → ⊥ = λ j served. none (j, (same.to.only i j old_side.level Uni served).1, served) in
           new_moved.accept_stays (new_input i) new_side.level
           (λ j served. nobody (old_output j) (subst (λ v. Serves old_match v (old_output j) old_side.level Uni) (alike.inputs.back_to i i_in)
-              (same.back.carried (new_input i) j served)))
+          (same.back.carried (new_input i) j served)))
           ∙ alike.pointers.accepts i i_in ∙ ap new_output (sym (moved.accept_stays i old_side.level nobody))
     ];
   }

@@ -49,11 +49,11 @@ returns-clause-slot c =
       numbered = slot.numbered;
       moved = AreMovedByFirm-steps c.args.n c.args.slot c.args.rows.now c.args.p.now c.ports.ensures.at_ports c.requires.pointers first
           c.decide_with_refused.new.out (AreAccepted-round c.args.n c.args.slot c.args.rows.now c.args.p.now first begins.opening) c.hold.new.p (record {
-        moved = c.decide_with_refused.new.p;
-        as_first = slot.moved;
-        held = AreHeld-along _ (IsRefused c.args.n c.args.slot c.args.rows.now c.args.p.now) c.decide_with_refused.new.p c.hold.new.p
-            c.decide_with_refused.ensures.refused c.hold.ensures.held;
-      });
+            moved = c.decide_with_refused.new.p;
+            as_first = slot.moved;
+            held = AreHeld-along _ (IsRefused c.args.n c.args.slot c.args.rows.now c.args.p.now) c.decide_with_refused.new.p c.hold.new.p
+                c.decide_with_refused.ensures.refused c.hold.ensures.held;
+          });
     }
 
 -- and the slot has one decision
