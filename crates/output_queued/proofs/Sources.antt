@@ -251,8 +251,7 @@ module _ (n depth : ℕ) (source : Source) (served : List (Option Served)) (part
         (record { packets = 1; admitted = counted true (planned_of c) fits; dropped = counted false (planned_of c) fits }) banks fans) served true
     sent_of fits banks fans enters =
         posted_is state served was (Some (planned_of c))
-        (record { packets = 1; admitted = counted true (planned_of c) fits; dropped = counted false (planned_of c) fits }) banks fans (next-is (Some c) e)
-        (
+        (record { packets = 1; admitted = counted true (planned_of c) fits; dropped = counted false (planned_of c) fits }) banks fans (next-is (Some c) e) (
           fits,
           subst (λ size. Enters source.next c.fan c.level size fits source.banks source.fans banks fans)
               (sym (size-planned c coming_is.some coming_is.few)) enters,
