@@ -7,10 +7,13 @@ ghost use Rattle.switch_words.specs.Limits.{IsUpTo};
 ghost use Rattle.switch_words.specs.Reading.{JobWords};
 ghost use Rattle.switch_plan.specs.declared.fault.PlanFault.{PlanFault};
 ghost use Rattle.switch_plan.specs.Refusals.{IsRefusal};
+ghost use Rattle.switch_plan.specs.GoodPlans.{SwitchPlan};
+ghost use Rattle.scheduler_names.specs.declared.names.SchedulerName.{SchedulerName};
 ghost use Rattle.eslip_rounds.specs.Schedulers.{Scheduler};
+ghost use Rattle.named_schedulers.specs.Named.{decision_named};
 ghost use Rattle.job_files.specs.Jobs.{pace_in, settings_with, with_alone, with_workers};
 ghost use Rattle.job_files.specs.OutputFiles.{Texts};
-ghost use Rattle.switch_run.specs.Switched.{AreTexts, IsJobOutcome, IsLongJournal, IsLongPackets};
+ghost use Rattle.switch_run.specs.Switched.{AreTexts, IsJobOutcome, IsLongJournal, IsLongPackets, IsPlanned, IsRunOf};
 
 /// A job has one outcome: no two causes for which it is refused, no cause beside texts, and one list of texts.
 pub fn one_outcome()
@@ -19,6 +22,14 @@ pub fn one_outcome()
     ensures either { (job : JobWords) (table : List ℕ) (files : List (List ℕ)) (fault : PlanFault) (texts : Texts) → IsRefusal (pace_in job) table files fault
         → AreTexts job table files texts → ⊥ }
     ensures texts { (job : JobWords) (table : List ℕ) (files : List (List ℕ)) (a b : Texts) → AreTexts job table files a → AreTexts job table files b → a ≡ b }
+{}
+
+/// The plan of a job has a run under each scheduler, and one number of slots.
+pub fn each_plan_has_one_run()
+    ensures some { (name : SchedulerName) (settings : Settings) (table : List ℕ) (files : List (List ℕ)) (plan : SwitchPlan)
+        → IsPlanned settings table files plan → (slots : ℕ) × IsRunOf (decision_named name) settings table files plan slots }
+    ensures one { (name : SchedulerName) (settings : Settings) (table : List ℕ) (files : List (List ℕ)) (plan : SwitchPlan) (a b : ℕ)
+        → IsRunOf (decision_named name) settings table files plan a → IsRunOf (decision_named name) settings table files plan b → a ≡ b }
 {}
 
 /// The number of workers makes no difference: a job with any other number of workers, from 1 to 32, has the same
