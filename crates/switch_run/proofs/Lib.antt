@@ -11,3 +11,5 @@ pub mod Checking
 pub mod OtherWorkers
 pub mod RunsMade
 pub mod Bounds
+pub mod MadeInputs
+pub mod DoneRuns

@@ -9,8 +9,10 @@ use Rattle.journal_check.specs.declared.verdict.Reason.{Reason}
 use Rattle.journal_check.specs.Verdicts.{answer_under}
 use Rattle.journal_command.specs.Checks.{HasAnswer, IsTooLong as IsTooLongToCheck}
 use Rattle.journal_command.specs.declared.ending.CheckEnding.TheVariants as check_ending
+use Rattle.switch_words.specs.declared.job.GenJob.{GenJob}
 use Rattle.switch_words.specs.Reading.{JobWords, run, gen, check, firm, RunWords, CheckWords, FirmWords}
 use Rattle.switch_plan.specs.declared.fault.PlanFault.{PlanFault}
+use Rattle.switch_plan.specs.Made.{made_table, made_captures}
 use Rattle.switch_plan.specs.Refusals.{IsRefusal}
 use Rattle.switch_plan.specs.GoodPlans.{SwitchPlan}
 use Rattle.scheduler_names.specs.declared.names.SchedulerName.{SchedulerName}
@@ -135,6 +137,15 @@ IsComplete c status = (job : JobWords) (contents : Contents) → RunsSwitch job 
     → AreInputs job (Some contents) table captures → IsLongPackets (decision_named r.scheduler) r.settings table captures size → ⊥)
     → (status ≡ 0) ⊎ (status ≡ 5)
 
+-- What a `gen` job comes to, whatever the files hold: where the bytes that it makes are refused, the answer says so, or memory
+-- ran out; and where they are not, and no call on standard output was refused, the summary is given, or memory ran out.
+pub record GenIsExact (c : Command) (status : ℕ) : Type 0 where
+  pub refusal : (g : GenJob) (fault : PlanFault) → c.job ≡ Some (gen g) → IsRefusal g.settings.pace_us (made_table g.ports) (made_captures g) fault
+      → AnswersUnlessOut c status (Refused fault)
+  pub complete : (g : GenJob) → c.job ≡ Some (gen g)
+      → ((fault : PlanFault) → IsRefusal g.settings.pace_us (made_table g.ports) (made_captures g) fault → ⊥)
+      → (Rose (c.was ToOut) (c.now ToOut) → ⊥) → (status ≡ 0) ⊎ (status ≡ 5)
+
 -- the scheduler of a job; of `firm` it is the second
 abbrev pub scheduler_in : JobWords → SchedulerName
 scheduler_in (run r) = r.scheduler
@@ -213,7 +224,20 @@ pub record IsFirmRunBy (c : Command) (plan : SwitchPlan) (slots : ℕ) : Type 0 
   pub planned : IsPlanned job.settings table captures plan
   pub ends : IsLengthUnder firm_decision plan slots
 
--- The switch theorem: what a command answers with this status, when each answer comes, and what holds of its run.
+-- a `run` or a `gen` job
+abbrev pub IsRunOrGen : JobWords → Type 0
+IsRunOrGen (run r) = Unit {0}
+IsRunOrGen (gen g) = Unit {0}
+IsRunOrGen (check c) = ⊥
+IsRunOrGen (firm f) = ⊥
+
+-- At status 0 a `run` and a `gen` job have a run, and a `firm` job has one under the second scheduler.
+pub record HasRun (c : Command) (status : ℕ) : Type 0 where
+  pub switch : (job : JobWords) → c.job ≡ Some job → IsRunOrGen job → status ≡ 0 → (plan : SwitchPlan) × (slots : ℕ) × IsRunBy c plan slots
+  pub second : (job : FirmWords) → c.job ≡ Some (firm job) → status ≡ 0 → (plan : SwitchPlan) × (slots : ℕ) × IsFirmRunBy c plan slots
+
+-- The switch theorem: what a command answers with this status, when each answer comes, that a job which was done has a run,
+-- and what holds of it.
 pub record SwitchTheorem (c : Command) (status : ℕ) : Type 0 where
   pub meaning : (ending : Ending) × Answers c status ending
   pub never_fall : NeverFall c.was c.now
@@ -224,5 +248,7 @@ pub record SwitchTheorem (c : Command) (status : ℕ) : Type 0 where
   pub packets_too_long : PacketsTooLongIsExact c status
   pub checks : CheckIsExact c status
   pub complete : IsComplete c status
+  pub made_inputs : GenIsExact c status
+  pub has_run : HasRun c status
   pub runs : (plan : SwitchPlan) (slots : ℕ) → (is : IsRunBy c plan slots) → RunPromises (scheduler_in is.job) plan slots
   pub firm_runs : (plan : SwitchPlan) (slots : ℕ) → IsFirmRunBy c plan slots → FirmPromises plan slots

@@ -8,6 +8,8 @@ use Rattle.switch_run.proofs.Refusing.{journal_exact, packets_exact, refusal_exa
 use Rattle.switch_run.proofs.Completing.{complete}
 use Rattle.switch_run.proofs.Bounds.{serves_named, waits_named}
 use Rattle.switch_run.proofs.Checking.{check_exact}
+use Rattle.switch_run.proofs.MadeInputs.{gen_exact}
+use Rattle.switch_run.proofs.DoneRuns.{has_run}
 use Rattle.switch_run.proofs.command.switch_main.Goals as goal
 
 pub returns : goal.returns
@@ -30,6 +32,8 @@ returns g c =
       packets_too_long = packets_exact command status ending answers;
       checks = check_exact command status ending answers;
       complete = complete command status ending answers;
+      made_inputs = gen_exact command status ending answers;
+      has_run = has_run command status ending answers;
       -- the laws of runs, for the run behind the command
       runs = λ plan slots is.
           let name = scheduler_in is.job in
