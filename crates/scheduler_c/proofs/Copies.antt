@@ -7,25 +7,10 @@ use Rattle.std.proofs.Math.ListN.{get_or-map}
 use Rattle.rotating_pick.specs.declared.kinds.Kind.{Kind}
 use Rattle.rotating_pick.specs.declared.kinds.Kind.TheVariants.{Uni, Multi}
 use Rattle.rotating_pick.specs.declared.limits.TheConstants.{LEVELS, MAX_PORTS}
-use Rattle.slot_match.specs.declared.rows.Row.{Row}
 use Rattle.slot_match.specs.declared.matching.Fed.{Fed}
-use Rattle.slot_match.specs.Rows.{row_of, no_row}
 use Rattle.slot_match.specs.Matches.{fed_of, IsMatch}
-use Rattle.scheduler_c.specs.declared.rows.RowWords.{RowWords}
 use Rattle.scheduler_c.specs.declared.feeds.FeedWords.{FeedWords}
-use Rattle.scheduler_c.specs.Rows.{row_from, rows_from}
 use Rattle.scheduler_c.specs.Feeds.{kind_word, no_feed, feed_words, kind_from, feed_from, matched_from, IsFeed, AreFeeds}
-
--- words of which nothing is known to be posted
-abbrev pub no_words : RowWords
-no_words = record { uni = []; multi = [] }
-
--- rows that were made of the words one by one
-pub rows_from-each : (words : List RowWords) (rows : List Row) → length rows ≡ length words
-    → ((i : ℕ) → i < length words → row_of rows i ≡ row_from (slice_index_or words i no_words)) → rows ≡ rows_from words
-rows_from-each words rows count each =
-    ext_get_or no_row rows (rows_from words) (count ∙ sym (length-map words row_from))
-    (λ i below. each i (omega (arith, count)) ∙ sym (get_or-map row_from words i no_words))
 
 -- the words of a kind are of that kind, and no other number
 kind_from-word : (kind : Kind) → kind_from (kind_word kind) ≡ kind

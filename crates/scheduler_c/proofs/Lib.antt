@@ -2,3 +2,4 @@ pub mod Copies
 pub mod Again
 pub mod Pairs
 pub mod Longest
+pub mod Levels

@@ -8,24 +8,22 @@ use Rattle.slot_match.specs.declared.matching.Fed.{Fed}
 use Rattle.slot_match.specs.Rows.{AreWithin, row_of}
 use Rattle.slot_match.specs.Matches.{Serves}
 use Rattle.service_bound.specs.Waits.{NotedSlot, is_waiting}
-use Rattle.scheduler_c.specs.declared.rows.RowWords.{RowWords}
 use Rattle.scheduler_c.specs.declared.feeds.FeedWords.{FeedWords}
-use Rattle.scheduler_c.specs.Rows.{rows_from}
 use Rattle.scheduler_c.specs.Feeds.{AreFeeds, matched_from}
 
 -- what is passed may be: a row for each of n inputs, which names none but the outputs, words for what feeds each
 -- output, 256 words for the waits of each input, and one for each level
-pub record IsNoteCall (n : ℕ) (rows : List RowWords) (feeds : List FeedWords) (waits longest : List ℕ) : Type 0 where
+pub record IsNoteCall (n : ℕ) (rows : List Row) (feeds : List FeedWords) (waits longest : List ℕ) : Type 0 where
   pub some : 0 < n
   pub size : n ≤ MAX_PORTS
-  pub within : AreWithin n (rows_from rows)
+  pub within : AreWithin n rows
   pub are_feeds : AreFeeds n feeds
   pub wait_words : length waits ≡ 256 * n
   pub longest_words : length longest ≡ LEVELS
 
 -- what is noted of the slot
-abbrev pub slot_from : List RowWords → List FeedWords → NotedSlot
-slot_from rows feeds = record { rows = rows_from rows; matched = matched_from feeds }
+abbrev pub slot_from : List Row → List FeedWords → NotedSlot
+slot_from rows feeds = record { rows = rows; matched = matched_from feeds }
 
 -- the place of an input's queues of a level
 abbrev pub place_of : ℕ → ℕ → ℕ

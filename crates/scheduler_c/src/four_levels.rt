@@ -4,20 +4,15 @@ ghost use Rattle.pointer_state.specs.CallerTables.{AreInRange, places_from};
 ghost use Rattle.eslip_rounds.specs.Slots.{IsSlot};
 ghost use Rattle.firm_rounds.specs.Slots.{IsFirmSlot};
 ghost use Rattle.rrm_rounds.specs.Slots.{IsRrmSlot};
-ghost use Rattle.scheduler_c.specs.Rows.{rows_from};
 ghost use Rattle.scheduler_c.specs.Feeds.{AreFeeds, matched_from};
 ghost use Rattle.scheduler_c.specs.FourLevels.{IsCall, decision_from};
 
-use crate::feeds::{FeedWords, put_feeds};
-use crate::rows::{RowWords, copy_rows};
-use crate::status::{DONE, REFUSED};
-use crate::words::{RoundsWords, is_size, rounds_words};
-use eslip_rounds::decide;
-use firm_rounds::decide_firm;
-use pointer_state::{PointerTables, Pointers};
-use rotating_pick::PORT_COUNT;
-use rrm_rounds::decide_rrm;
-use slot_match::{Match, Row};
+use crate::decisions::decide_by;
+use crate::feeds::FeedWords;
+use crate::words::RoundsWords;
+use pointer_state::PointerTables;
+use scheduler_names::SchedulerName;
+use slot_match::Row;
 
 /// Decides slot number `slot` of a switch of `n` ports in `rounds` rounds, each from 1 to 64, over four levels,
 /// unicast and multicast. `rows` has what each input posts, and `pointers` where the pointers are, before and
@@ -27,7 +22,7 @@ pub extern "C" fn tiny_tera_decide(
     n: u32,
     rounds: u32,
     slot: u32,
-    rows: &[RowWords],
+    rows: &[Row],
     pointers: &mut PointerTables,
     feeds: &mut [FeedWords],
     used: &mut RoundsWords,
@@ -35,32 +30,25 @@ pub extern "C" fn tiny_tera_decide(
     // It answers 0 exactly where this may be passed, and else 1.
     ensures done { (result ≡ 0) ↔ IsCall n rounds rows.now pointers.old feeds.old }
     ensures status { (result ≡ 0) ⊎ (result ≡ 1) }
-    ensures slot { result ≡ 0 → IsSlot n rounds slot (rows_from rows.now) (places_from n pointers.old) (decision_from n feeds.new used.new pointers.new) }
+    ensures slot { result ≡ 0 → IsSlot n rounds slot rows.now (places_from n pointers.old) (decision_from n feeds.new used.new pointers.new) }
     ensures feeds { result ≡ 0 → AreFeeds n feeds.new × IsMatch n (matched_from feeds.new) }
     ensures again { result ≡ 0 → AreInRange n pointers.new }
 
     // The match is maximal where the last round of all added nothing, and where there are n rounds.
-    ensures unused { result ≡ 0 → used.new.last_added ≡ 0 → IsMaximal n (rows_from rows.now) (matched_from feeds.new) }
-    ensures enough { result ≡ 0 → n ≤ rounds → IsMaximal n (rows_from rows.now) (matched_from feeds.new) }
+    ensures unused { result ≡ 0 → used.new.last_added ≡ 0 → IsMaximal n rows.now (matched_from feeds.new) }
+    ensures enough { result ≡ 0 → n ≤ rounds → IsMaximal n rows.now (matched_from feeds.new) }
     ensures refused { result ≡ 1 → (pointers.new ≡ pointers.old) × (feeds.new ≡ feeds.old) × (used.new ≡ used.old) }
 {
-    if !is_size(n, rounds) || feeds.len() != n as usize {
-        return REFUSED;
-    }
-    let Some(mut places) = Pointers::from_tables(n, pointers) else {
-        return REFUSED;
-    };
-    let mut posted = [Row::empty(); PORT_COUNT];
-    let posted = &mut posted[..n as usize];
-    if !copy_rows(n, rows, posted) {
-        return REFUSED;
-    }
-    let mut matched = Match::new(n);
-    let numbers = decide(n, rounds, slot, posted, &mut places, &mut matched);
-    places.put_tables(pointers);
-    put_feeds(&matched, feeds);
-    *used = rounds_words(numbers);
-    DONE
+    decide_by(
+        SchedulerName::Islip,
+        n,
+        rounds,
+        slot,
+        rows,
+        pointers,
+        feeds,
+        used,
+    )
 }
 
 /// The same under the second scheduler, in the manner of FIRM, whose refused outputs point to the input that
@@ -70,7 +58,7 @@ pub extern "C" fn tiny_tera_decide_firm(
     n: u32,
     rounds: u32,
     slot: u32,
-    rows: &[RowWords],
+    rows: &[Row],
     pointers: &mut PointerTables,
     feeds: &mut [FeedWords],
     used: &mut RoundsWords,
@@ -78,32 +66,25 @@ pub extern "C" fn tiny_tera_decide_firm(
     // It answers 0 exactly where this may be passed, and else 1.
     ensures done { (result ≡ 0) ↔ IsCall n rounds rows.now pointers.old feeds.old }
     ensures status { (result ≡ 0) ⊎ (result ≡ 1) }
-    ensures slot { result ≡ 0 → IsFirmSlot n rounds slot (rows_from rows.now) (places_from n pointers.old) (decision_from n feeds.new used.new pointers.new) }
+    ensures slot { result ≡ 0 → IsFirmSlot n rounds slot rows.now (places_from n pointers.old) (decision_from n feeds.new used.new pointers.new) }
     ensures feeds { result ≡ 0 → AreFeeds n feeds.new × IsMatch n (matched_from feeds.new) }
     ensures again { result ≡ 0 → AreInRange n pointers.new }
 
     // The match is maximal where the last round of all added nothing, and where there are n rounds.
-    ensures unused { result ≡ 0 → used.new.last_added ≡ 0 → IsMaximal n (rows_from rows.now) (matched_from feeds.new) }
-    ensures enough { result ≡ 0 → n ≤ rounds → IsMaximal n (rows_from rows.now) (matched_from feeds.new) }
+    ensures unused { result ≡ 0 → used.new.last_added ≡ 0 → IsMaximal n rows.now (matched_from feeds.new) }
+    ensures enough { result ≡ 0 → n ≤ rounds → IsMaximal n rows.now (matched_from feeds.new) }
     ensures refused { result ≡ 1 → (pointers.new ≡ pointers.old) × (feeds.new ≡ feeds.old) × (used.new ≡ used.old) }
 {
-    if !is_size(n, rounds) || feeds.len() != n as usize {
-        return REFUSED;
-    }
-    let Some(mut places) = Pointers::from_tables(n, pointers) else {
-        return REFUSED;
-    };
-    let mut posted = [Row::empty(); PORT_COUNT];
-    let posted = &mut posted[..n as usize];
-    if !copy_rows(n, rows, posted) {
-        return REFUSED;
-    }
-    let mut matched = Match::new(n);
-    let numbers = decide_firm(n, rounds, slot, posted, &mut places, &mut matched);
-    places.put_tables(pointers);
-    put_feeds(&matched, feeds);
-    *used = rounds_words(numbers);
-    DONE
+    decide_by(
+        SchedulerName::Firm,
+        n,
+        rounds,
+        slot,
+        rows,
+        pointers,
+        feeds,
+        used,
+    )
 }
 
 /// The same by round-robin matching, whose outputs point one beyond the input that they granted, accepted or not.
@@ -112,7 +93,7 @@ pub extern "C" fn tiny_tera_decide_rrm(
     n: u32,
     rounds: u32,
     slot: u32,
-    rows: &[RowWords],
+    rows: &[Row],
     pointers: &mut PointerTables,
     feeds: &mut [FeedWords],
     used: &mut RoundsWords,
@@ -120,30 +101,23 @@ pub extern "C" fn tiny_tera_decide_rrm(
     // It answers 0 exactly where this may be passed, and else 1.
     ensures done { (result ≡ 0) ↔ IsCall n rounds rows.now pointers.old feeds.old }
     ensures status { (result ≡ 0) ⊎ (result ≡ 1) }
-    ensures slot { result ≡ 0 → IsRrmSlot n rounds slot (rows_from rows.now) (places_from n pointers.old) (decision_from n feeds.new used.new pointers.new) }
+    ensures slot { result ≡ 0 → IsRrmSlot n rounds slot rows.now (places_from n pointers.old) (decision_from n feeds.new used.new pointers.new) }
     ensures feeds { result ≡ 0 → AreFeeds n feeds.new × IsMatch n (matched_from feeds.new) }
     ensures again { result ≡ 0 → AreInRange n pointers.new }
 
     // The match is maximal where the last round of all added nothing, and where there are n rounds.
-    ensures unused { result ≡ 0 → used.new.last_added ≡ 0 → IsMaximal n (rows_from rows.now) (matched_from feeds.new) }
-    ensures enough { result ≡ 0 → n ≤ rounds → IsMaximal n (rows_from rows.now) (matched_from feeds.new) }
+    ensures unused { result ≡ 0 → used.new.last_added ≡ 0 → IsMaximal n rows.now (matched_from feeds.new) }
+    ensures enough { result ≡ 0 → n ≤ rounds → IsMaximal n rows.now (matched_from feeds.new) }
     ensures refused { result ≡ 1 → (pointers.new ≡ pointers.old) × (feeds.new ≡ feeds.old) × (used.new ≡ used.old) }
 {
-    if !is_size(n, rounds) || feeds.len() != n as usize {
-        return REFUSED;
-    }
-    let Some(mut places) = Pointers::from_tables(n, pointers) else {
-        return REFUSED;
-    };
-    let mut posted = [Row::empty(); PORT_COUNT];
-    let posted = &mut posted[..n as usize];
-    if !copy_rows(n, rows, posted) {
-        return REFUSED;
-    }
-    let mut matched = Match::new(n);
-    let numbers = decide_rrm(n, rounds, slot, posted, &mut places, &mut matched);
-    places.put_tables(pointers);
-    put_feeds(&matched, feeds);
-    *used = rounds_words(numbers);
-    DONE
+    decide_by(
+        SchedulerName::Rrm,
+        n,
+        rounds,
+        slot,
+        rows,
+        pointers,
+        feeds,
+        used,
+    )
 }

@@ -5,6 +5,7 @@
 //! 1 and leaves everything as it was.
 #![tactic(auto)]
 
+mod decisions;
 mod feeds;
 mod four_levels;
 mod matches;
@@ -21,7 +22,6 @@ pub use feeds::FeedWords;
 pub use four_levels::{tiny_tera_decide, tiny_tera_decide_firm, tiny_tera_decide_rrm};
 pub use matches::tiny_tera_is_maximal;
 pub use one_level::tiny_tera_islip_slot;
-pub use rows::RowWords;
 pub use status::tiny_tera_version;
 pub use waits::tiny_tera_note_waits;
 pub use words::RoundsWords;

@@ -1,14 +1,13 @@
 ghost use Rattle.std.specs.Prelude.{◌≡◌, ℕ, ◌<◌, ◌≤◌, ◌↔◌, ◌⊎◌, None, Some, length, IsTrue, IsSome, IfSome};
 ghost use Rattle.rotating_pick.specs.declared.limits.TheConstants.{LEVELS};
 ghost use Rattle.slot_match.specs.Matches.{fed_of, IsMatch, IsMaximal};
-ghost use Rattle.scheduler_c.specs.Rows.{rows_from};
 ghost use Rattle.scheduler_c.specs.Feeds.{AreFeeds, matched_from, feed_from};
 ghost use Rattle.scheduler_c.specs.Matches.{IsMatchCall, IsReadyFor};
 
 use crate::feeds::{FeedWords, are_feeds, feed_from};
-use crate::rows::{RowWords, copy_rows};
+use crate::rows::are_rows;
 use crate::status::{DONE, REFUSED};
-use rotating_pick::{LEVELS, MAX_PORTS, PORT_COUNT, with};
+use rotating_pick::{LEVELS, MAX_PORTS, with};
 use slot_match::{Fed, Match, Row};
 
 /// Whether a match of `n` ports, 1 to 64, is maximal for what the inputs posted: no free input asks a free
@@ -18,29 +17,24 @@ use slot_match::{Fed, Match, Row};
 #[unsafe(no_mangle)]
 pub extern "C" fn tiny_tera_is_maximal(
     n: u32,
-    rows: &[RowWords],
+    rows: &[Row],
     feeds: &[FeedWords],
     maximal: &mut u32,
 ) -> u32
     // It answers 0 exactly where this may be passed, and else 1.
     ensures done { (result ≡ 0) ↔ IsMatchCall n rows.now feeds.now }
     ensures status { (result ≡ 0) ⊎ (result ≡ 1) }
-    ensures yes { result ≡ 0 → (maximal.new ≡ 1) ↔ IsMaximal n (rows_from rows.now) (matched_from feeds.now) }
+    ensures yes { result ≡ 0 → (maximal.new ≡ 1) ↔ IsMaximal n rows.now (matched_from feeds.now) }
     ensures answer { result ≡ 0 → (maximal.new ≡ 0) ⊎ (maximal.new ≡ 1) }
     ensures refused { result ≡ 1 → maximal.new ≡ maximal.old }
 {
-    if n == 0 || n > MAX_PORTS || !are_feeds(n, feeds) {
-        return REFUSED;
-    }
-    let mut posted = [Row::empty(); PORT_COUNT];
-    let posted = &mut posted[..n as usize];
-    if !copy_rows(n, rows, posted) {
+    if n == 0 || n > MAX_PORTS || !are_feeds(n, feeds) || !are_rows(n, rows) {
         return REFUSED;
     }
     let Some(matched) = match_of(n, feeds) else {
         return REFUSED;
     };
-    *maximal = if matched.is_maximal(posted) { 1 } else { 0 };
+    *maximal = if matched.is_maximal(rows) { 1 } else { 0 };
     DONE
 }
 

@@ -1,10 +1,10 @@
 use crate::{
-    FeedWords, RoundsWords, RowWords, tiny_tera_decide, tiny_tera_decide_firm,
-    tiny_tera_decide_rrm, tiny_tera_is_maximal, tiny_tera_islip_slot, tiny_tera_note_waits,
-    tiny_tera_version,
+    FeedWords, RoundsWords, tiny_tera_decide, tiny_tera_decide_firm, tiny_tera_decide_rrm,
+    tiny_tera_is_maximal, tiny_tera_islip_slot, tiny_tera_note_waits, tiny_tera_version,
 };
 use pointer_state::PointerTables;
 use rotating_pick::Ports;
+use slot_match::Row;
 
 const AT_ZERO: PointerTables = PointerTables {
     grant: [[0; 64]; 4],
@@ -26,15 +26,15 @@ const NO_ROUNDS: RoundsWords = RoundsWords {
     last_added: 0,
 };
 
-fn unicast(outputs: Ports) -> RowWords {
-    RowWords {
+fn unicast(outputs: Ports) -> Row {
+    Row {
         uni: [outputs, 0, 0, 0],
         multi: [0; 4],
     }
 }
 
-fn multicast(outputs: Ports) -> RowWords {
-    RowWords {
+fn multicast(outputs: Ports) -> Row {
+    Row {
         uni: [0; 4],
         multi: [outputs, 0, 0, 0],
     }

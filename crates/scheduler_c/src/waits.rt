@@ -4,7 +4,7 @@ ghost use Rattle.rotating_pick.specs.declared.limits.TheConstants.{LEVELS};
 ghost use Rattle.scheduler_c.specs.Waits.{IsNoteCall, AreNoted, AreNotedBy, AreLongest, slot_from, word_at, wait_next};
 
 use crate::feeds::{FeedWords, are_feeds};
-use crate::rows::{RowWords, copy_rows};
+use crate::rows::are_rows;
 use crate::status::{DONE, REFUSED};
 use crate::waiting::{PLACES, waiting_sets};
 use rotating_pick::{LEVEL_COUNT, MAX_PORTS, PORT_COUNT, Ports, contains};
@@ -17,7 +17,7 @@ use slot_match::Row;
 #[unsafe(no_mangle)]
 pub extern "C" fn tiny_tera_note_waits(
     n: u32,
-    rows: &[RowWords],
+    rows: &[Row],
     feeds: &[FeedWords],
     waits: &mut [u32],
     longest: &mut [u32],
@@ -29,18 +29,13 @@ pub extern "C" fn tiny_tera_note_waits(
     ensures longest { result ≡ 0 → AreLongest (LEVELS * n) waits.new longest.old longest.new }
     ensures refused { result ≡ 1 → (waits.new ≡ waits.old) × (longest.new ≡ longest.old) }
 {
-    if n == 0 || n > MAX_PORTS || !are_feeds(n, feeds) {
+    if n == 0 || n > MAX_PORTS || !are_feeds(n, feeds) || !are_rows(n, rows) {
         return REFUSED;
     }
     if waits.len() != PLACES * n as usize || longest.len() != LEVEL_COUNT {
         return REFUSED;
     }
-    let mut posted = [Row::empty(); PORT_COUNT];
-    let posted = &mut posted[..n as usize];
-    if !copy_rows(n, rows, posted) {
-        return REFUSED;
-    }
-    let sets = waiting_sets(n, posted, feeds);
+    let sets = waiting_sets(n, rows, feeds);
     note_all(&sets[..LEVEL_COUNT * n as usize], waits, longest);
     DONE
 }
