@@ -53,10 +53,12 @@ returns-clause-after c before was =
       | in-Some w ↦
           let may = part-of _ _ c.args.served w.in-Some.part c.requires.servable (sym (ap (λ (b : State). b.row) c.self.view_is)) w.in-Some.is in
           let name = w.leave-name.result in
-          let at = named (the_view c.self.inside) before old w.in-Some.part may name w.leave-name.new.self.unicast w.leave-name.new.self.multicast w.leave-name.ensures in
+          let at = named (the_view c.self.inside) before old w.in-Some.part may name
+          w.leave-name.new.self.unicast w.leave-name.new.self.multicast w.leave-name.ensures in
           let cell = w.cell_for.ensures ∙ cell-is (the_view c.self.inside).plan w.in-Some.part name _ refl at.queue in
           rw (w.in-Some.is, w.self-is, w.self-inside-is, cell)
-          (take_some (the_view c.self.inside) before old w.in-Some.part name w.leave-name.new.self.unicast w.leave-name.new.self.multicast may w.leave-name.ensures)
+          (take_some (the_view c.self.inside) before old w.in-Some.part name w.leave-name.new.self.unicast
+          w.leave-name.new.self.multicast may w.leave-name.ensures)
       | in-None w ↦ rw (w.in-None.is, w.self-is, w.self-inside-is) (take_none (the_view c.self.inside) before old)
     ]
 

@@ -21,7 +21,8 @@ at_output : (p : Planned) (fan level j value : ℕ) (old : QueueRooms) (before :
     → HasRooms old.ports (before ++ p ∷ []) (slice_set old.unicast (4 * j + level) (value + 1)) old.multicast
 at_output p fan level j value old before fan_is level_is had some is inside below at value_is =
     subst (λ v. HasRooms old.ports (before ++ p ∷ []) (slice_set old.unicast (4 * j + level) (v + 1)) old.multicast) (sym value_is)
-    (subst (λ l. HasRooms old.ports (before ++ p ∷ []) (slice_set old.unicast (4 * j + l) (slice_index_or old.unicast (4 * j + l) 0 + 1)) old.multicast) level_is
+    (subst (λ l. HasRooms old.ports (before ++ p ∷ []) (slice_set old.unicast (4 * j + l) (slice_index_or old.unicast (4 * j + l) 0 + 1)) old.multicast)
+    level_is
     (rooms-unicast p old.ports before old.unicast old.multicast had j (fan_is ∙ is) (subst (λ f. f ≢ 0) (sym fan_is) some) inside
     (subst (λ l. l < 4) (sym level_is) below) (subst (λ l. 4 * j + l < length old.unicast) (sym level_is) at)))
 
