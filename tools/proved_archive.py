@@ -26,7 +26,7 @@ class Fault(Exception):
 
 def kit_of_path():
     """The folder of the toolchain whose rt is in the path, or None."""
-    rt = shutil.which("rt")
+    rt = shutil.which(os.environ.get("RT", "rt"))
     return rt and Path(rt).resolve().parent.parent
 
 
