@@ -1,5 +1,5 @@
 -- A row that has sets for four levels names no output at another.
-use Rattle.std.proofs.Common.{◌≡◌, ℕ, ◌<◌, ◌≤◌, length, slice_index, subst, inl, inr, arith}
+use Rattle.std.proofs.Common.{◌≡◌, length, subst, inl, inr, arith}
 use Rattle.std.proofs.lemmas.Bool.{cases_lt}
 use Rattle.std.proofs.lemmas.List.{get_or_past}
 use Rattle.rotating_pick.specs.PortSets.{Has}

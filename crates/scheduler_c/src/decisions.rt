@@ -20,7 +20,7 @@ use rrm_rounds::decide_rrm;
 use scheduler_names::SchedulerName;
 use slot_match::{Match, Row};
 
-/// Decides a slot by the scheduler of this name, as its call does.
+/// Decides a slot by the scheduler of this name: what the calls for C do, each by its own.
 pub fn decide_by(
     scheduler: SchedulerName,
     n: u32,

@@ -26,6 +26,7 @@ fn join(named: &mut Row, row: &Row)
     // What the type of a row says, for a proof that has only the row's value.
     ensures levels { IsOfLevels row.now }
 {
+    // Read field by field: that tells the proof the lengths of both, which a row behind a reference does not.
     let row = Row {
         uni: row.uni,
         multi: row.multi,
