@@ -1,17 +1,11 @@
-//! Tests of the board and the line cards: the crossbar, turns, the board as its cards call it, a card, and groups of workers.
+//! Tests of the board: the crossbar, the state of a board, turns, and the board as its cards call it.
 #![tactic(auto)]
 
 #[cfg(test)]
 mod boards;
 #[cfg(test)]
-mod cards;
-#[cfg(test)]
 mod crossings;
-#[cfg(test)]
-mod lengths;
 #[cfg(test)]
 mod states;
 #[cfg(test)]
 mod turns;
-#[cfg(test)]
-mod workers;

@@ -8,6 +8,8 @@ mod driving;
 mod hands;
 pub mod laws;
 mod order;
+#[cfg(test)]
+mod tests;
 mod tries;
 
 pub use alone::finish_alone;

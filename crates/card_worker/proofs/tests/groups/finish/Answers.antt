@@ -1,6 +1,6 @@
 use Rattle.std.proofs.Common.{◌∙◌, ap, sym}
 use Rattle.std.specs.Prelude.{slice_get}
-use Rattle.board_tests.proofs.workers.groups.finish.Goals as goal
+use Rattle.card_worker.proofs.tests.groups.finish.Goals as goal
 
 pub close_with-state-requires-clause-seats : goal.close_with-state-requires-clause-seats
 close_with-state-requires-clause-seats c =

@@ -1,8 +1,8 @@
 ghost use Rattle.std.specs.Prelude.{◌<◌};
 
-use crate::workers::groups::{Job, Way, drive_groups, finish, join_all};
+use crate::Hands;
+use crate::tests::groups::{Job, Way, drive_groups, finish, join_all};
 use card_core::Planned;
-use card_worker::Hands;
 use crossbar::Post;
 use rotating_pick::{Kind, MAX_PORTS, MAX_ROUNDS, Ports};
 use slot_board::{Board, Journal};

@@ -1,5 +1,5 @@
 use Rattle.card_worker.specs.Groups.{AreGroups}
-use Rattle.board_tests.proofs.workers.runs.run.Given as goal
+use Rattle.card_worker.proofs.tests.runs.run.Given as goal
 
 abbrev pub invariant-loop : goal.invariant-loop
 invariant-loop g l = AreGroups l.board l.board.seats l.groups.items

@@ -4,7 +4,7 @@ use Rattle.turn_lock.specs.Seats.{TurnValue}
 use Rattle.card_worker.specs.declared.hands.Group.{Group}
 use Rattle.card_worker.specs.Groups.{AreGroups}
 use Rattle.card_worker.proofs.Removing.{whole_back}
-use Rattle.board_tests.proofs.workers.runs.run.Goals as goal
+use Rattle.card_worker.proofs.tests.runs.run.Goals as goal
 
 lent : (board : TurnValue Event) (slice groups : List Group) → slice ≡ groups → AreGroups board board.seats groups → AreGroups board board.seats slice
 lent board slice groups value are = subst (AreGroups board board.seats) (sym value) are

@@ -3,7 +3,7 @@ use Rattle.std.proofs.lemmas.Option.{slice_get_within, slice_get-get_or, get_or_
 use Rattle.card_worker.specs.declared.hands.Group.{Group}
 use Rattle.card_worker.specs.Groups.{IsDrivenGroup}
 use Rattle.card_worker.proofs.Grouping.{few_members}
-use Rattle.board_tests.proofs.workers.groups.drive_groups.Goals as goal
+use Rattle.card_worker.proofs.tests.groups.drive_groups.Goals as goal
 
 pub drive_each-requires-clause-groups : goal.drive_each-requires-clause-groups
 drive_each-requires-clause-groups g c κs within = λ k d inside.

@@ -5,7 +5,7 @@ use Rattle.slot_histories.specs.declared.events.Event.{Event}
 use Rattle.turn_lock.specs.Seats.{SeatValue, new_seat}
 use Rattle.card_worker.specs.Trying.{IsMember}
 use Rattle.card_worker.proofs.Grouping.{AreGroups-none, next_seats, next_length}
-use Rattle.board_tests.proofs.workers.groups.join_all.Goals as goal
+use Rattle.card_worker.proofs.tests.groups.join_all.Goals as goal
 
 pub loop-card-init : goal.loop-card-init
 loop-card-init c =

@@ -3,7 +3,7 @@ use Rattle.std.specs.Prelude.{slice_get}
 use Rattle.slot_histories.specs.declared.events.Event.{Event}
 use Rattle.turn_lock.specs.Seats.{SeatValue, new_seat}
 use Rattle.card_worker.specs.Groups.{AreGroups}
-use Rattle.board_tests.proofs.workers.groups.join_all.Given as goal
+use Rattle.card_worker.proofs.tests.groups.join_all.Given as goal
 
 abbrev pub invariant-loop-card : goal.invariant-loop-card
 invariant-loop-card l = record {

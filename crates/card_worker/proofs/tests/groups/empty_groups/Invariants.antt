@@ -1,7 +1,7 @@
 use Rattle.std.proofs.Common.{◌≡◌, ℕ, [], Some, length}
 use Rattle.std.specs.Prelude.{slice_get}
 use Rattle.card_worker.specs.declared.hands.Group.{Group}
-use Rattle.board_tests.proofs.workers.groups.empty_groups.Given as goal
+use Rattle.card_worker.proofs.tests.groups.empty_groups.Given as goal
 
 abbrev pub invariant-loop-worker : goal.invariant-loop-worker
 invariant-loop-worker l = record {

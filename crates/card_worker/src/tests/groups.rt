@@ -9,10 +9,9 @@ ghost use Rattle.card_worker.specs.Trying.{IsMember};
 ghost use Rattle.card_worker.specs.Groups.{AreGroups, IsGroup, IsDrivenGroup};
 ghost use Rattle.card_worker.specs.Alone.{AreHandsOf};
 
+use crate::tries::next_post;
+use crate::{Group, Hand, Hands, Member, OpenGate, close_with, disband, drive, finish_alone, laws};
 use card_core::{Card, CardPlan, Planned};
-use card_worker::{
-    Group, Hand, Hands, Member, OpenGate, close_with, disband, drive, finish_alone, laws,
-};
 use rotating_pick::MAX_PORTS;
 use slot_board::{Board, BoardState, Seats};
 use std::alloc::{AllocError, Global};
@@ -110,15 +109,15 @@ fn place_for(card: u32, groups: usize) -> usize
 }
 
 // Makes the next post of a member and keeps it, as a try does where the board is busy. A member that is not to
-// post, or keeps one, stays as it is.
+// post stays as it is.
 fn keep_post(board: &Board, member: &mut Member)
     requires { IsMember board.now member.old }
     ensures member { IsMember board.now member.new }
     ensures number { member.new.seat.number ≡ member.old.seat.number }
 {
     member.seat.legal();
-    if !member.seat.posted() && member.seat.is_due(board) && member.hand.kept.is_none() {
-        let post = member.hand.card.post();
+    if !member.seat.posted() && member.seat.is_due(board) {
+        let post = next_post(&mut member.hand);
         member.hand.kept = Some(post);
     }
 }
