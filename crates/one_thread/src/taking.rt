@@ -6,6 +6,7 @@ ghost use Rattle.one_thread.specs.ActingSteps.{AreAfter, plans_in, taken_now};
 
 use card_core::Card;
 use crossbar::{Crossbar, Taken};
+use rotating_pick::PORT_COUNT;
 use slot_match::Match;
 
 /// Each card takes its part of the slot's match, and the cell that crosses to it: what the input that fed it in
@@ -27,12 +28,13 @@ pub(crate) fn take_all(
     ensures after { (takings : ℕ → List ATaken) → AreAfter cards.old takings true
         → AreAfter cards.new (λ i. takings i ++ taken_now slot before.now matched.now crossbar.now done i ∷ []) false }
 {
+    let mut parts = [None; PORT_COUNT];
+    matched.put_parts(&mut parts);
     for place in 0..cards.len() {
-        let port = place as u32;
         let taken = Taken {
             slot,
-            served: matched.served(port),
-            cell: crossbar.fetch(port, before),
+            served: parts[place],
+            cell: crossbar.fetch(place as u32, before),
             done,
         };
         cards[place].take(&taken);

@@ -1,5 +1,5 @@
 use Rattle.std.proofs.Common.{◌≡◌, ◌∙◌, ◌<◌, ◌++◌, ◌∷◌, [], ℕ, false, length, get_or, sym, subst, arith}
-use Rattle.std.specs.Prelude.{Some, slice_get}
+use Rattle.std.specs.Prelude.{None, Some, slice_get, slice_index_or}
 use Rattle.std.proofs.lemmas.List.{length-set}
 use Rattle.std.proofs.lemmas.Option.{slice_get-get_or, slice_get_within}
 use Rattle.crossbar.specs.declared.cards.Taken.{Taken}
@@ -20,8 +20,11 @@ loop-place-preserved c =
     let long = at.invariant.count in
     let inside : k < length at.cards = omega arith in
     let now : ℕ → Taken = taken_now c.args.slot c.args.before.now c.args.matched.now c.args.crossbar.now c.args.done in
-    let taken : Taken = record { slot = c.args.slot; served = c.served.result; cell = c.fetch.result; done = c.args.done } in
-    let is : taken ≡ now k = λ i. record { slot = c.args.slot; served = c.served.ensures.value i; cell = c.fetch.ensures.cell i; done = c.args.done } in
+    let matches : k < length c.args.matched.now = let ports = c.requires.matched in omega arith in
+    let part = c.put_parts.ensures.parts k matches in
+    let served = slice_index_or c.put_parts.new.parts k None in
+    let taken : Taken = record { slot = c.args.slot; served = served; cell = c.fetch.result; done = c.args.done } in
+    let is : taken ≡ now k = λ i. record { slot = c.args.slot; served = part i; cell = c.fetch.ensures.cell i; done = c.args.done } in
     record {
       count = length-set at.cards k new ∙ long;
       plans = map-set (λ (x : CardState). x.sends.plan) at.cards k new d c.take.ensures.plan ∙ at.invariant.plans;
