@@ -6,7 +6,27 @@ import numpy
 
 from tiny_tera.packets import COLUMNS, STATES, read_packets
 
-__all__ = ["COLUMNS", "STATES", "delay_counts", "forwarded", "offered", "output_queued", "read_packets"]
+__all__ = ["COLUMNS", "STATES", "Misfit", "check_run", "delay_counts", "forwarded", "offered", "output_queued", "read_packets"]
+
+
+class Misfit(ValueError):
+    """A packets file is not that of a run; the message says where they differ."""
+
+
+def check_run(packets, report):
+    """Misfit where the counts of a report, its outputs or its number of slots are not those of the packets."""
+    left = forwarded(packets)
+    states = packets.drop_duplicates(["input", "packet"])["state"].value_counts()
+    found = {state: int(states.get(state, 0)) for state in STATES}
+    # The run ends with the slot in which the last packet comes or departs.
+    found["slots"] = max([0, *packets["arrival"], *left["departure"]]) + 1
+    for name, count in found.items():
+        if count != report.summary[name]:
+            raise Misfit(f"{name} {count}, and the report has {report.summary[name]}")
+    for output, told in enumerate(report.outputs):
+        here = left[left["output"] == output]
+        if (len(here), int(here["cells"].sum())) != tuple(told):
+            raise Misfit(f"output {output} packets {len(here)} cells {here['cells'].sum()}, and the report has {told[0]} and {told[1]}")
 
 
 def offered(packets):

@@ -4,7 +4,7 @@ from math import ceil
 from statistics import fmean
 from typing import NamedTuple
 
-from .packets import forwarded, offered
+from .packets import Misfit, check_run, forwarded, offered
 from .packets import output_queued as ideal_departures
 
 # Of the arrival slots, the parts at the begin and at the end whose packets are not measured: the queues
@@ -73,16 +73,18 @@ def measure(report, packets):
     summary = report.summary
     if report.slots is None:
         raise ValueError("the report has no slot lines")
+    try:
+        check_run(packets, report)
+    except Misfit as fault:
+        raise ValueError(f"the packets file is of another run: {fault}") from None
     came, left = offered(packets), forwarded(packets)
-    if (len(came), len(left)) != (summary["forwarded"] + summary["dropped"], summary["copies"]):
-        raise ValueError("the packets file is of another run")
     arrival_slots = int(came["arrival"].max()) + 1 if len(came) else 0
     span = measured_span(arrival_slots)
-    early = left["delay"][left["arrival"].between(span.first, span.middle, inclusive="left")].tolist()
-    late = left["delay"][left["arrival"].between(span.middle, span.last, inclusive="left")].tolist()
-    if not (early and late):
+    early = left["delay"][left["arrival"].between(span.first, span.middle, inclusive="left")]
+    late = left["delay"][left["arrival"].between(span.middle, span.last, inclusive="left")]
+    if early.empty or late.empty:
         raise ValueError("no packet came in the measured slots")
-    measured = sorted(early + late)
+    measured = left["delay"][left["arrival"].between(span.first, span.last, inclusive="left")]
     ideal_delay, ideal_throughput = output_queued(report, left, span)
     return Result(
         arrival_slots=arrival_slots,
@@ -91,11 +93,11 @@ def measure(report, packets):
         dropped=summary["dropped"],
         came_load=round(int(came["cells"].sum()) / (summary["ports"] * arrival_slots), PLACES),
         measured=len(measured),
-        mean_delay=round(fmean(measured), PLACES),
-        mean_first_half=round(fmean(early), PLACES),
-        mean_second_half=round(fmean(late), PLACES),
-        delay_99=measured[len(measured) * 99 // 100],
-        longest_delay=measured[-1],
+        mean_delay=round(float(measured.mean()), PLACES),
+        mean_first_half=round(float(early.mean()), PLACES),
+        mean_second_half=round(float(late.mean()), PLACES),
+        delay_99=int(measured.quantile(0.99, interpolation="higher")),
+        longest_delay=int(measured.max()),
         longest_wait=max(report.longest),
         output_queued=ideal_delay,
         throughput=throughput(report, span),

@@ -3,11 +3,7 @@
 from collections import defaultdict, deque
 from typing import NamedTuple
 
-from .packets import forwarded
-
-
-class Misfit(ValueError):
-    """A packets file is not that of a run; the message says where they differ."""
+from .packets import Misfit, forwarded
 
 
 class _Cell(NamedTuple):

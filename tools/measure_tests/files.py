@@ -124,6 +124,28 @@ class Packets(unittest.TestCase):
                 self.assertRaises(Misfit, cells_waiting, packets_of(PACKETS.replace(two, rows)), told)
         self.assertRaises(Misfit, cells_waiting, packets_of(PACKETS.replace(one, one.replace("60,2", "60,1"))), told)
 
+    def test_counts_of_another_run(self):
+        """Packets are of a run where its report has as many of each state, at each output, and as many slots."""
+        from measure.packets import Misfit, check_run
+
+        told = report.read_report(REPORT)
+        check_run(packets_of(PACKETS), told)
+        last = "1,1,20,1,forwarded,0,u,0,2,3,1\n"
+        wrong = {
+            "forwarded 2": "",
+            "dropped 1": last + "1,2,20,1,dropped,0,u,0,2,,\n",
+            "unrouted 1": last + "1,2,20,1,unrouted,,,,2,,\n",
+            "slots 8": last.replace("2,3,1", "2,7,5"),
+            "output 0 packets 0 cells 0": last.replace("u,0", "u,1"),
+            "output 0 packets 1 cells 2": last.replace("20,1", "60,2"),
+        }
+        for fault, rows in wrong.items():
+            with self.subTest(fault), self.assertRaisesRegex(Misfit, f"^{fault}, and the report has "):
+                check_run(packets_of(PACKETS.replace(last, rows)), told)
+        for name in sorted(path.parents[1].name for path in Path(JOBS).glob("*/expected/out.packets.csv")):
+            with self.subTest(name):
+                check_run(*packets_of_job(name))
+
     def test_output_queued(self):
         """Three packets for output 0 in one slot depart in three; the one that comes then waits for the last of them."""
         from measure import packets, results

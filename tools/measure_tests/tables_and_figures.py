@@ -130,14 +130,17 @@ class Figures(unittest.TestCase):
             self.assertEqual((status, Path(name, "none").exists()), (0, False))
 
     def test_packets_of_another_run_are_refused(self):
-        """The packets file of a run at one pace is not drawn with the report of a run at another."""
-        with tempfile.TemporaryDirectory() as name:
-            report_file = Path(name, "one.report")
-            report_file.write_text(REPORT)
-            Path(name, "one.packets.csv").write_text(PACKETS.replace(",2,3,1\n", ",1,2,1\n"))
-            status, told = run(TOOLS / "plot", report_file)
-            self.assertEqual((status, told.count("\n"), list(Path(name).glob("*.png"))), (1, 1, []))
-            self.assertIn("one.packets.csv: not the packets of", told)
+        """The packets file of a run at one pace is not drawn with the report of a run at another, with or without slots."""
+        later = PACKETS.replace(",2,5,3\n", ",3,7,4\n").replace(",2,6,4\n", ",3,8,5\n")
+        bare = REPORT[:REPORT.index("slot 0")]
+        for text, packets in ((REPORT, PACKETS.replace(",2,3,1\n", ",1,2,1\n")), (REPORT, later), (bare, later)):
+            with self.subTest(text + packets), tempfile.TemporaryDirectory() as name:
+                report_file = Path(name, "one.report")
+                report_file.write_text(text)
+                Path(name, "one.packets.csv").write_text(packets)
+                status, told = run(TOOLS / "plot", report_file)
+                self.assertEqual((status, told.count("\n"), list(Path(name).glob("*.png"))), (1, 1, []), told)
+                self.assertIn("one.packets.csv: not the packets of", told)
 
     def test_faults_are_told(self):
         with tempfile.TemporaryDirectory() as name:
