@@ -31,6 +31,8 @@ def test_keys(viewer):
     viewer.wait("SlotViewer.page.slot === 10 && !SlotViewer.page.player.isPlaying", "playing to the end")
     viewer.run("location.hash = '#slot=3'")
     viewer.wait("SlotViewer.page.slot === 3", "a changed address")
+    viewer.run("location.hash = '#slot=5'; SlotViewer.putIntoAddress(SlotViewer.page)")
+    viewer.wait("SlotViewer.page.slot === 5", "a changed address that the page writes over before it is told", seconds=60)
     viewer.click("timeline", viewer.run("return SlotViewer.page.timeline.scale(8.5)"))
     expect(viewer.slot() == 8, f"a click on the time line leads to slot {viewer.slot()}")
 

@@ -11,8 +11,8 @@
      * What the address names: a slot, a step and the level of the pointers that are shown, or null each; for the runs,
      * in order, a scheduler or null; and the paths of files by their names.
      */
-    function readAddress() {
-        const words = new URLSearchParams(window.location.hash.slice(1));
+    function readAddress(hash = window.location.hash) {
+        const words = new URLSearchParams(hash.slice(1));
         const slot = words.get("slot");
         const step = words.get("step");
         const pointers = words.get("pointers");

@@ -84,7 +84,7 @@
         const frames = page.panes.map((pane) => pane.element("crossbar-frame"));
         viewer.watchRoom(element("columns"), parts, frames, () => page.ask("layout"));
         viewer.watchTheme(element("theme"), () => page.onTheme());
-        window.addEventListener("hashchange", () => page.onAddress());
+        window.addEventListener("hashchange", (event) => page.onAddress(new URL(event.newURL).hash));
     }
 
     function watchPage(page) {

@@ -88,18 +88,18 @@
         },
 
         /** Opens the files of the address, if it names any. */
-        openAddress() {
-            const address = viewer.readAddress();
+        openAddress(hash) {
+            const address = viewer.readAddress(hash);
             if (address.files.file !== undefined) {
                 this.openPaths(address);
             }
         },
 
-        /** Follows an address that has changed. */
-        onAddress() {
-            const { slot, step, files } = viewer.readAddress();
+        /** Follows an address that has changed, to this; the page may have put its own there since. */
+        onAddress(hash) {
+            const { slot, step, files } = viewer.readAddress(hash);
             if (files.file !== undefined && JSON.stringify(files) !== JSON.stringify(this.files)) {
-                this.openAddress();
+                this.openAddress(hash);
             } else if (slot !== null && this.hasSlots) {
                 this.step = this.panes.some((pane) => pane.isJournal) ? step : null;
                 this.goToTyped(String(slot));
