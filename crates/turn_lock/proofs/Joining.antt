@@ -1,5 +1,5 @@
 -- A join keeps the rule: one view keeps what another had seen, and has its numbers, and the other is spent.
-use Rattle.std.proofs.Common.{◌≡◌, ◌≢◌, ◌<◌, ◌⊎◌, inl, inr, ⊎_elim, ℕ, false, List, [], ◌∷◌, ◌++◌, length, set, Option, refl, sym, ◌∙◌, subst, arith}
+use Rattle.std.proofs.Common.{◌≡◌, ◌≢◌, ◌<◌, inl, inr, ⊎_elim, ℕ, false, List, [], ◌∷◌, ◌++◌, length, set, Option, refl, sym, ◌∙◌, subst}
 use mathlib.Core.Option.{some}
 use lib.ListN.{get_elem?}
 use Rattle.atomic_table.specs.Table.{State, Joins}
@@ -10,158 +10,134 @@ use Rattle.turn_lock.specs.declared.view.View.{View}
 use Rattle.turn_lock.specs.declared.view.JoinedSeat.{JoinedSeat}
 use Rattle.turn_lock.specs.declared.rule.Stamped.{Stamped}
 use Rattle.turn_lock.specs.declared.view.Phase.TheVariants.{Idle, Begun}
-use Rattle.turn_lock.specs.Histories.{IsBelow}
-use Rattle.turn_lock.specs.Views.{joined_with, spent_view, numbers_of, joined_numbers}
-use Rattle.turn_lock.specs.Rule.{IsIn, Live, HasSeen, IsOvertaken, JoinedHaveSeen, Numbered, Fits, Keeps, IsFree, IsTaken, IsAt}
-use Rattle.turn_lock.proofs.Changed.{after_one}
+use Rattle.turn_lock.specs.Views.{joined_with, spent_view}
+use Rattle.turn_lock.specs.Rule.{Live, HasSeen, IsOvertaken, JoinedHaveSeen, Fits, Keeps, IsFree, IsTaken, IsAt}
+use Rattle.turn_lock.proofs.JoinedNumbers.{each_after_join, numbered_after_join}
 use Rattle.turn_lock.proofs.Splitting.{not_who}
 
-module _ {E : Type 0} where
-  in_append : (n : ℕ) (ms : List (JoinedSeat E)) (m : JoinedSeat E) (rest : List (JoinedSeat E)) → IsIn n (joined_numbers (ms ++ m ∷ rest))
-      → IsIn n (joined_numbers ms) ⊎ ((n ≡ m.number) ⊎ IsIn n (joined_numbers rest))
-  in_append n [] m rest i = inr i
-  in_append n (x ∷ ms) m rest (inl e) = inl (inl e)
-  in_append n (x ∷ ms) m rest (inr i) =
-      ⊎_elim (λ (a : IsIn n (joined_numbers ms)). inl (inr a)) (λ (b : (n ≡ m.number) ⊎ IsIn n (joined_numbers rest)). inr b) (in_append n ms m rest i)
+-- What holds of the seats `early`, of `seat` and of the seats `late` holds of all of them in one list.
+have_seen_three : {E : Type 0} (history : List (TurnOf E)) (may_grow : Type 0) (early : List (JoinedSeat E)) (seat : JoinedSeat E)
+    (late : List (JoinedSeat E)) → JoinedHaveSeen history may_grow early → HasSeen history seat.number seat.seen
+    → IsOvertaken history may_grow seat.seen seat.since → JoinedHaveSeen history may_grow late → JoinedHaveSeen history may_grow (early ++ seat ∷ late)
+have_seen_three history may_grow [] seat late of_early seen overtaken of_late = (seen, overtaken, of_late)
+have_seen_three history may_grow (next ∷ early) seat late of_early seen overtaken of_late =
+    (of_early.0, of_early.1, have_seen_three history may_grow early seat late of_early.2 seen overtaken of_late)
 
-  in_joined : (n : ℕ) (v w : View E) → IsIn n (numbers_of (joined_with v w)) → IsIn n (numbers_of v) ⊎ IsIn n (numbers_of w)
-  in_joined n v w (inl e) = inl (inl e)
-  in_joined n v w (inr i) = ⊎_elim (λ (a : IsIn n (joined_numbers v.joined)). inl (inr a)) (λ (b : (n ≡ w.number) ⊎ IsIn n (joined_numbers w.joined)). inr b)
-      (in_append n v.joined (record { number = w.number; seen = w.seen; since = w.since }) w.joined i)
+module _ {V E : Type 0} (entries : V → List E) (numbers : V → List ℕ) (may : ℕ → List E → Type 0) (opening : Opening E) where
+  -- Where two views fit a history, the view of both does.
+  both_fit : (history : List (TurnOf E)) (first second : View E) (beside_first beside_second not_raised : Type 0)
+      → Fits opening history beside_first not_raised first → Fits opening history beside_second not_raised second
+      → IsOvertaken history not_raised second.seen second.since → Fits opening history beside_first not_raised (joined_with first second)
+  both_fit history first second beside_first beside_second not_raised fits also overtaken = record {
+    opening = fits.opening;
+    seen = fits.seen;
+    joined = have_seen_three history not_raised first.joined (record { number = second.number; seen = second.seen; since = second.since })
+        second.joined fits.joined also.seen overtaken also.joined;
+    overtaken = fits.overtaken;
+  }
 
-  seen_append : (h : List (TurnOf E)) (P : Type 0) (ms : List (JoinedSeat E)) (m : JoinedSeat E) (rest : List (JoinedSeat E)) → JoinedHaveSeen h P ms
-      → HasSeen h m.number m.seen → IsOvertaken h P m.seen m.since → JoinedHaveSeen h P rest → JoinedHaveSeen h P (ms ++ m ∷ rest)
-  seen_append h P [] m rest a b c d = (b, c, d)
-  seen_append h P (x ∷ ms) m rest a b c d = (a.0, a.1, seen_append h P ms m rest a.2 b c d)
+  -- Beside a view in a turn another has seen less than the whole, once that turn is raised.
+  overtaken_beside : (state : State (Option (Stamped V)) (View E)) (history : List (TurnOf E)) (taken : IsTaken entries numbers may opening history state)
+      (j : ℕ) (view : View E) → Live state.views j view → j ≢ taken.who → IsOvertaken history (taken.there.0.phase ≡ Begun) view.seen view.since
+  overtaken_beside state history taken j view live not_who finds =
+      ⊎_elim (λ begun. inr (inl begun.0)) (λ raised. inl (raised.2 j view live not_who)) (taken.stage taken.there.0 taken.there.1.0)
 
-  -- what holds of each view after one was joined into another
-  join_each : (P : ℕ → View E → Type 0) (views : List (View E)) (id other : ℕ) (both gone : View E) → P id both → P other gone
-      → ((j : ℕ) (u : View E) → j ≢ id → j ≢ other → get_elem? views j ≡ some u → P j u) → (j : ℕ) (u : View E)
-      → get_elem? (set (set views id both) other gone) j ≡ some u → P j u
-  join_each P views id other both gone mine spent_one others j u e =
-      after_one P (set views id both) other gone spent_one
-      (λ i y ne g. after_one (λ n q. n ≢ other → P n q) views id both (λ _. mine) (λ n q a b c. others n q a c b) i y g ne) j u e
+  -- The view `first` at `id` and the view `second` at `other`, both live and in no turn, are joined.
+  module _ (state : State (Option (Stamped V)) (View E)) (history : List (TurnOf E)) (id other : ℕ) (first second : View E)
+      (first_at : Live state.views id first) (second_at : Live state.views other second) (first_idle : first.phase ≡ Idle)
+      (second_idle : second.phase ≡ Idle) where
+    abbrev both : View E
+    both = joined_with first second
 
-  module _ (h : List (TurnOf E)) (views : List (View E)) (id other : ℕ) (v w : View E) (apart : other ≢ id) (at : Live views id v)
-      (there : Live views other w) (k : Numbered h views) where
-    abbrev Sorted : ℕ → View E → Type 0
-    Sorted j u = ((j ≡ id) × (numbers_of u ≡ numbers_of (joined_with v w)) × (u.given ≡ v.given)) ⊎ ((j ≢ id) × (j ≢ other) × Live views j u)
+    abbrev state_after : State (Option (Stamped V)) (View E)
+    state_after = record { words = state.words; homes = state.homes; views = set (set state.views id both) other spent_view }
 
-    sorted : (j : ℕ) (u : View E) → Live (set (set views id (joined_with v w)) other spent_view) j u → Sorted j u
-    sorted j u l = join_each (λ i y. y.spent ≡ false → Sorted i y) views id other (joined_with v w) spent_view (λ _. inl (refl, refl, refl))
-        (λ g. absurd (cc)) (λ i y a b e g. inr (a, b, (e, g))) j u l.0 l.1
+    -- What holds of the view of both and of all live views before the join holds of each live view after it.
+    each_live : (P : ℕ → View E → Type 0) → P id both → ((j : ℕ) (view : View E) → Live state.views j view → P j view)
+        → (j : ℕ) (view : View E) → Live state_after.views j view → P j view
+    each_live P of_both of_live j view live =
+        each_after_join (λ i next. next.spent ≡ false → P i next) state.views id other both spent_view (λ _. of_both) (λ is_live. absurd (cc))
+        (λ i next not_id not_other at is_live. of_live i next (at, is_live)) j view live.0 live.1
 
-    of_either : (i : ℕ) (u : View E) → i ≢ id → i ≢ other → Live views i u → (n : ℕ) → IsIn n (numbers_of u) → IsIn n (numbers_of (joined_with v w)) → ⊥
-    of_either i u a b l n x y =
-        ⊎_elim (λ (z : IsIn n (numbers_of v)). a (k.apart i id u v l at n x z)) (λ (z : IsIn n (numbers_of w)). b (k.apart i other u w l there n x z))
-        (in_joined n v w y)
-
-    apart_joined : (i j : ℕ) (u x : View E) → Sorted i u → Sorted j x → (n : ℕ) → IsIn n (numbers_of u) → IsIn n (numbers_of x) → i ≡ j
-    apart_joined i j u x (inl p) (inl q) n a b = p.0 ∙ sym q.0
-    apart_joined i j u x (inl p) (inr q) n a b = absurd (of_either j x q.0 q.1 q.2 n b (subst (IsIn n) p.1 a))
-    apart_joined i j u x (inr p) (inl q) n a b = absurd (of_either i u p.0 p.1 p.2 n a (subst (IsIn n) q.1 b))
-    apart_joined i j u x (inr p) (inr q) n a b = k.apart i j u x p.2 q.2 n a b
-
-    below_of : (g : ℕ) → ((j : ℕ) (x : View E) → Live views j x → (n : ℕ) → IsIn n (numbers_of x) → n < g) → (j : ℕ) (x : View E) → Sorted j x → (n : ℕ)
-        → IsIn n (numbers_of x) → n < g
-    below_of g all j x (inl q) n b = ⊎_elim (λ (z : IsIn n (numbers_of v)). all id v at n z) (λ (z : IsIn n (numbers_of w)). all other w there n z)
-        (in_joined n v w (subst (IsIn n) q.1 b))
-    below_of g all j x (inr q) n b = all j x q.2 n b
-
-    given_of : (i : ℕ) (u : View E) → Sorted i u → (z : View E) × Live views i z × (z.given ≡ u.given)
-    given_of i u (inl p) = (v, subst (λ n. Live views n v) (sym p.0) at, sym p.2)
-    given_of i u (inr p) = (u, p.2, refl)
-
-    numbered_joined : Numbered h (set (set views id (joined_with v w)) other spent_view)
-    numbered_joined = record {
-      apart = λ i j u x lu lx. apart_joined i j u x (sorted i u lu) (sorted j x lx);
-      below = λ i u lu m.
-          let z = given_of i u (sorted i u lu) in
-          let e : z.0.given ≡ u.given = z.2 in
-          let all = k.below i z.0 z.1 (omega arith) in
-          (subst (λ g. IsBelow g h) e all.0, λ j x lx n b. subst (λ g. n < g) e (below_of z.0.given all.1 j x (sorted j x lx) n b));
-      one_dealer = λ i j u x lu lx mu mx.
-          let y = given_of i u (sorted i u lu) in
-          let z = given_of j x (sorted j x lx) in
-          let e : y.0.given ≡ u.given = y.2 in
-          let f : z.0.given ≡ x.given = z.2 in
-          k.one_dealer i j y.0 z.0 y.1 z.1 (omega arith) (omega arith);
+    -- A state where no view is in a turn stays one.
+    free_after : IsFree entries numbers may opening history state → IsFree entries numbers may opening history state_after
+    free_after free = record {
+      words = free.words;
+      fits =
+          let also = free.fits other second second_at in
+          each_live (λ _ next. Fits opening history ⊥ ⊥ next)
+          (both_fit history first second ⊥ ⊥ ⊥ (free.fits id first first_at) also also.overtaken) free.fits;
+      idle = each_after_join (λ _ next. next.phase ≡ Idle) state.views id other both spent_view first_idle refl
+          (λ i next not_id not_other at. free.idle i next at);
+      value = free.value;
+      home = free.home;
+      stands = free.stands;
     }
 
-module _ {V E : Type 0} (entries : V → List E) (numbers : V → List ℕ) (may : ℕ → List E → Type 0) (o : Opening E) where
-  fits_both : (h : List (TurnOf E)) (v w : View E) (Q R P : Type 0) → Fits o h Q P v → Fits o h R P w → IsOvertaken h P w.seen w.since
-      → Fits o h Q P (joined_with v w)
-  fits_both h v w Q R P a b c =
-      record {
-        opening = a.opening;
-        seen = a.seen;
-        joined = seen_append h P v.joined (record { number = w.number; seen = w.seen; since = w.since }) w.joined a.joined b.seen c b.joined;
-        overtaken = a.overtaken;
+    -- A state where some view is in a turn stays one, and that view is neither of the two.
+    module _ (taken : IsTaken entries numbers may opening history state) where
+      first_is_not : id ≢ taken.who
+      first_is_not = not_who entries numbers may opening state history taken id first first_at.0 first_idle
+
+      second_is_not : other ≢ taken.who
+      second_is_not = not_who entries numbers may opening state history taken other second second_at.0 second_idle
+
+      abbrev not_raised : Type 0
+      not_raised = taken.there.0.phase ≡ Begun
+
+      -- What is known of the view in its turn stays so: beside a raised turn the view of both too has seen less than the whole.
+      stage_after : (view : View E) → IsAt entries numbers may opening history state taken.who view
+          → IsAt entries numbers may opening history state_after taken.who view
+      stage_after view stage =
+          ⊎_elim (λ begun. inl begun)
+          (λ raised. inr (
+            raised.0,
+            raised.1,
+            each_live (λ j next. j ≢ taken.who → length next.seen < length history) (raised.2 id first first_at) raised.2,
+            raised.3,
+            raised.4,
+          )) stage
+
+      taken_after : IsTaken entries numbers may opening history state_after
+      taken_after = record {
+        who = taken.who;
+        words = taken.words;
+        there = (
+          taken.there.0,
+          (
+            set_else (set state.views id both) other taken.who spent_view (λ same. second_is_not (sym same))
+                ∙ (set_else state.views id taken.who both (λ same. first_is_not (sym same)) ∙ taken.there.1.0),
+            taken.there.1.1,
+          ),
+        );
+        fits = each_live (λ i next. Fits opening history (i ≢ taken.who) not_raised next)
+            (both_fit history first second (id ≢ taken.who) (other ≢ taken.who) not_raised (taken.fits id first first_at)
+            (taken.fits other second second_at) (overtaken_beside state history taken other second second_at second_is_not)) taken.fits;
+        idle = each_after_join (λ i next. i ≢ taken.who → next.phase ≡ Idle) state.views id other both spent_view (λ _. first_idle) (λ _. refl)
+            (λ i next not_id not_other at. taken.idle i next at);
+        stage = λ view at.
+            each_after_join (λ i next. i ≡ taken.who → IsAt entries numbers may opening history state_after taken.who next) state.views id other
+            both spent_view (λ same. absurd (first_is_not same)) (λ same. absurd (second_is_not same))
+            (λ i next not_id not_other found same.
+            stage_after next (taken.stage next (subst (λ j. get_elem? state.views j ≡ some next) same found))) taken.who view at refl;
+        home = taken.home;
       }
 
-  -- beside a view in a turn another has seen less than the whole, once that turn is raised
-  overtaken_beside : (s : State (Option (Stamped V)) (View E)) (h : List (TurnOf E)) (t : IsTaken entries numbers may o h s) (j : ℕ) (u : View E)
-      → Live s.views j u → j ≢ t.who → IsOvertaken h (t.there.0.phase ≡ Begun) u.seen u.since
-  overtaken_beside s h t j u l ne n = ⊎_elim (λ x. inr (inl x.0)) (λ x. inl (x.2 j u l ne)) (t.stage t.there.0 t.there.1.0)
-
-  pub joins : (id other : ℕ) (v w : View E) → v.spent ≡ false → v.phase ≡ Idle → w.spent ≡ false → w.phase ≡ Idle
-      → Joins (Keeps entries numbers may o) id v other w (joined_with v w) spent_view
-  joins id other v w live idle live_w idle_w s k at apart at_other =
-      let h = k.history in
-      let there : get_elem? s.views other ≡ some w = sym (set_else s.views id other (joined_with v w) apart) ∙ at_other in
+  -- A join of two live views, both in no turn, keeps the rule.
+  pub joins : (id other : ℕ) (first second : View E) → first.spent ≡ false → first.phase ≡ Idle → second.spent ≡ false → second.phase ≡ Idle
+      → Joins (Keeps entries numbers may opening) id first other second (joined_with first second) spent_view
+  joins id other first second first_live first_idle second_live second_idle state keeps at apart at_other =
+      let history = keeps.history in
+      let before : get_elem? state.views other ≡ some second = sym (set_else state.views id other (joined_with first second) apart) ∙ at_other in
       record {
-        history = h;
-        numbered = numbered_joined h s.views id other v w apart (at, live) (there, live_w) k.numbered;
-        in_range = k.in_range;
-        allowed = k.allowed;
+        history = history;
+        numbered = numbered_after_join history state.views id other first second (at, first_live) (before, second_live) keeps.numbered;
+        in_range = keeps.in_range;
+        allowed = keeps.allowed;
         turn = ⊎_elim
-            (λ (f : IsFree entries numbers may o h s). inl (record {
-              words = f.words;
-              fits = λ j u l. join_each (λ i y. y.spent ≡ false → Fits o h ⊥ ⊥ y) s.views id other (joined_with v w) spent_view
-                  (λ _. fits_both h v w ⊥ ⊥ ⊥ (f.fits id v (at, live)) (f.fits other w (there, live_w)) (f.fits other w (there, live_w)).overtaken)
-                  (λ g. absurd (cc)) (λ i y a b e g. f.fits i y (e, g)) j u l.0 l.1;
-              idle = join_each (λ i y. y.phase ≡ Idle) s.views id other (joined_with v w) spent_view idle refl (λ i y a b e. f.idle i y e);
-              value = f.value;
-              home = f.home;
-              stands = f.stands;
-            }))
-            (λ (t : IsTaken entries numbers may o h s).
-            let n1 : id ≢ t.who = not_who entries numbers may o s h t id v at idle in
-            let n2 : other ≢ t.who = not_who entries numbers may o s h t other w there idle_w in
-            inr (record {
-              who = t.who;
-              words = t.words;
-              fits = λ j u l. join_each (λ i y. y.spent ≡ false → Fits o h (i ≢ t.who) (t.there.0.phase ≡ Begun) y) s.views id other
-                  (joined_with v w) spent_view
-                  (λ _. fits_both h v w (id ≢ t.who) (other ≢ t.who) (t.there.0.phase ≡ Begun) (t.fits id v (at, live)) (t.fits other w (there, live_w))
-                  (overtaken_beside s h t other w (there, live_w) n2)) (λ g. absurd (cc)) (λ i y a b e g. t.fits i y (e, g)) j u l.0 l.1;
-              idle = join_each (λ i y. i ≢ t.who → y.phase ≡ Idle) s.views id other (joined_with v w) spent_view (λ _. idle) (λ _. refl)
-                  (λ i y a b e. t.idle i y e);
-              stage = λ u e. join_each (λ i y. i ≡ t.who
-                  → IsAt entries numbers may o h
-                  (record { words = s.words; homes = s.homes; views = set (set s.views id (joined_with v w)) other spent_view }) t.who y) s.views id other
-                  (joined_with v w) spent_view
-                  (λ same. absurd (n1 same)) (λ same. absurd (n2 same))
-                  (λ i y a b g same. ⊎_elim (λ x. inl x)
-                  (λ x. inr (
-                    x.0,
-                    x.1,
-                    (λ j z l. join_each (λ n q. q.spent ≡ false → n ≢ t.who → length q.seen < length h) s.views id other
-                        (joined_with v w) spent_view (λ _ _. x.2 id v (at, live) n1) (λ g1. absurd (cc)) (λ n q _ _ c d. x.2 n q (c, d)) j z l.0 l.1),
-                    x.3,
-                    x.4,
-                  ))
-                  (t.stage y (subst (λ n. get_elem? s.views n ≡ some y) same g)))
-                  t.who u e refl;
-              there = (
-                t.there.0,
-                (
-                  set_else (set s.views id (joined_with v w)) other t.who spent_view (λ x. n2 (sym x))
-                      ∙ (set_else s.views id t.who (joined_with v w) (λ x. n1 (sym x)) ∙ t.there.1.0),
-                  t.there.1.1,
-                ),
-              );
-              home = t.home;
-            }))
-            k.turn;
+            (λ (free : IsFree entries numbers may opening history state).
+            inl (free_after state history id other first second (at, first_live) (before, second_live) first_idle second_idle free))
+            (λ (taken : IsTaken entries numbers may opening history state).
+            inr (taken_after state history id other first second (at, first_live) (before, second_live) first_idle second_idle taken))
+            keeps.turn;
       }

@@ -8,5 +8,6 @@ mod Freeing
 mod OneTurn
 mod Splitting
 mod Ends
+mod JoinedNumbers
 mod Joining
 mod Collecting
