@@ -19,6 +19,8 @@ pub mod Written
 pub mod SlotsAdded
 pub mod Flags
 pub mod NumbersSpelled
+mod RowsSpelled
+mod OutputsSpelled
 pub mod FilesSpelled
 mod FirstFailures
 mod Exact
