@@ -44,22 +44,21 @@ fn is_level_pointing(n: u32, tables: &PointerTables, level: usize) -> bool
     ensures whole { IsTrue result → (length (slice_index_or tables.now.grant level []) ≡ MAX_PORTS)
         × (length (slice_index_or tables.now.accept level []) ≡ MAX_PORTS) }
 {
-    are_below(n, &tables.grant[level])
-        && are_below(n, &tables.accept[level])
-        && tables.shared[level] < n
+    greatest_place(n, &tables.grant[level], &tables.accept[level]) < n && tables.shared[level] < n
 }
 
-// Whether the places of the n ports are below n. It looks at all of them, which takes less time than to stop
-// at the first that is not.
-fn are_below(n: u32, places: &[u32; PORT_COUNT]) -> bool
+// The greatest of the places of the n ports in both tables. It looks at all of them, in one pass, which takes
+// less time than to stop at the first that is too great.
+fn greatest_place(n: u32, grant: &[u32; PORT_COUNT], accept: &[u32; PORT_COUNT]) -> u32
     requires some { 0 < n }
     requires size { n ≤ MAX_PORTS }
-    ensures below { IsTrue result ↔ ((port : ℕ) → port < n → slice_index places.now port < n) }
-    ensures whole { length places.now ≡ MAX_PORTS }
+    ensures below { (bound : ℕ) → 0 < bound
+        → (result < bound) ↔ ((port : ℕ) → port < n → (slice_index grant.now port < bound) × (slice_index accept.now port < bound)) }
+    ensures whole { (length grant.now ≡ MAX_PORTS) × (length accept.now ≡ MAX_PORTS) }
 {
-    let mut greatest = 0;
+    let mut greatest: u32 = 0;
     for port in 0..n as usize {
-        greatest = greatest.max(places[port]);
+        greatest = greatest.max(grant[port].max(accept[port]));
     }
-    greatest < n
+    greatest
 }
