@@ -7,7 +7,7 @@ use crate::feeds::{FeedWords, are_feeds};
 use crate::rows::are_rows;
 use crate::status::{DONE, REFUSED};
 use crate::waiting::{PLACES, waiting_sets};
-use rotating_pick::{LEVEL_COUNT, MAX_PORTS, PORT_COUNT, Ports, contains};
+use rotating_pick::{LEVEL_COUNT, MAX_PORTS, PORT_COUNT, Ports, contains, is_empty};
 use slot_match::Row;
 
 /// Notes one slot more in the waits of the unicast queues of `n` ports, 1 to 64: for how many slots, one after
@@ -57,6 +57,35 @@ fn note_all(sets: &[Ports], waits: &mut [u32], longest: &mut [u32])
 
 // Notes the slot in the queues at the place, of which those to these outputs wait, and answers their longest wait.
 fn note_place(outputs: Ports, place: usize, waits: &mut [u32]) -> u32
+    requires few { place < 256 }
+    requires room { 64 * place + 64 ≤ length waits.old }
+    ensures noted { (j : ℕ) → j < MAX_PORTS → word_at waits.new place j ≡ wait_next (bit_at outputs j == 1) (word_at waits.old place j) }
+    ensures others { (k : ℕ) → (k < 64 * place) ⊎ (64 * place + 64 ≤ k) → slice_index waits.new k ≡ slice_index waits.old k }
+    ensures bound { (j : ℕ) → j < MAX_PORTS → word_at waits.new place j ≤ result }
+    ensures reached { (result ≡ 0) ⊎ ((j : ℕ) × (j < MAX_PORTS) × (result ≡ word_at waits.new place j)) }
+{
+    if is_empty(outputs) {
+        clear_place(place, waits);
+        return 0;
+    }
+    note_queues(outputs, place, waits)
+}
+
+// The queues at the place wait no longer.
+fn clear_place(place: usize, waits: &mut [u32])
+    requires few { place < 256 }
+    requires room { 64 * place + 64 ≤ length waits.old }
+    ensures cleared { (j : ℕ) → j < MAX_PORTS → word_at waits.new place j ≡ 0 }
+    ensures others { (k : ℕ) → (k < 64 * place) ⊎ (64 * place + 64 ≤ k) → slice_index waits.new k ≡ slice_index waits.old k }
+{
+    let first = PORT_COUNT * place;
+    for output in 0..PORT_COUNT {
+        waits[first + output] = 0;
+    }
+}
+
+// The same as of a place where some wait, queue by queue.
+fn note_queues(outputs: Ports, place: usize, waits: &mut [u32]) -> u32
     requires few { place < 256 }
     requires room { 64 * place + 64 ≤ length waits.old }
     ensures noted { (j : ℕ) → j < MAX_PORTS → word_at waits.new place j ≡ wait_next (bit_at outputs j == 1) (word_at waits.old place j) }

@@ -1,4 +1,4 @@
-use Rattle.std.proofs.Common.{arith, rules}
+use Rattle.std.proofs.Common.{rules}
 use Rattle.pointer_state.proofs.caller_tables.is_level_pointing.Goals as goal
 
 pub returns-then-greatest_place-n-clause-below : goal.returns-then-greatest_place-n-clause-below

@@ -1,7 +1,7 @@
 use Rattle.std.proofs.Common.{◌≡◌, ℕ, ◌+◌, ◌*◌, ◌<◌, ◌≤◌, ◌⊎◌, ◌==◌, slice_index}
 use Rattle.std.specs.Int.{bit_at}
 use Rattle.scheduler_c.specs.Waits.{word_at, wait_next}
-use Rattle.scheduler_c.proofs.waits.note_place.Given as goal
+use Rattle.scheduler_c.proofs.waits.note_queues.Given as goal
 
 abbrev pub invariant-loop-output : goal.invariant-loop-output
 invariant-loop-output l = record {

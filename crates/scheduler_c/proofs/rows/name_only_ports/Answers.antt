@@ -1,10 +1,10 @@
 use Rattle.std.proofs.Common.{arith}
-use Rattle.scheduler_c.proofs.rows.are_rows.Goals as goal
+use Rattle.scheduler_c.proofs.rows.name_only_ports.Goals as goal
 
 pub returns : goal.returns
 returns c =
     let kept = c.loop-row.invariant in
-    let count = c.if-rows-n.false in (
+    let count = c.requires in (
       λ e. record {
         count = count;
         ports = λ i i_in level j kind names. c.within.ensures.within.0 e level j kind ((kept.named level j kind).1 (i, omega arith, names));

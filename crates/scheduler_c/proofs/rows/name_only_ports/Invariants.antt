@@ -1,7 +1,7 @@
 use Rattle.std.proofs.Common.{ℕ, ◌<◌, ◌↔◌}
 use Rattle.rotating_pick.specs.declared.kinds.Kind.{Kind}
 use Rattle.slot_match.specs.Rows.{IsOfLevels, Names, row_of}
-use Rattle.scheduler_c.proofs.rows.are_rows.Given as goal
+use Rattle.scheduler_c.proofs.rows.name_only_ports.Given as goal
 
 abbrev pub invariant-loop-row : goal.invariant-loop-row
 invariant-loop-row l = record {
