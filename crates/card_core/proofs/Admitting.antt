@@ -29,7 +29,7 @@ same_before a t differ = elim (cases_lt a t) [
   | inr le ↦ le-ltb a (suc t) (omega (arith, differ)) ∙ sym (le-ltb a t le)
 ]
 
-same_test : (r s a b : Bool) → (s ≡ true → a ≡ b) → (r && s && a) ≡ (r && s && b)
+pub same_test : (r s a b : Bool) → (s ≡ true → a ≡ b) → (r && s && a) ≡ (r && s && b)
 same_test true true a b same = same refl
 same_test true false a b same = refl
 same_test false s a b same = refl
