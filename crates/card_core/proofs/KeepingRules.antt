@@ -1,8 +1,8 @@
--- A queue that goes slot by slot keeps the rules of queues, and what keeps them is this queue.
+-- A queue that goes slot by slot keeps the rules of queues.
 use Rattle.std.proofs.Common.{◌≡◌, ◌≢◌, ◌∙◌, ◌↔◌, ℕ, zero, suc, ◌+◌, ◌^◌, ◌<◌, ◌≤◌, ◌==◌, ◌&&◌, nat_lt, Bool, true, false, List, [], ◌∷◌, ◌++◌, drop, length, Option, None}
 use Rattle.std.proofs.Common.{slice_index_or, count_by, refl, sym, ap, arith, inl, inr, if◌then◌else◌, length-append, length-drop}
 use Rattle.std.specs.List.{range_with_len}
-use Rattle.std.proofs.lemmas.Bool.{cases_eq, cases_lt, eq-eqb, ne_eqb, lt-ltb, le-ltb}
+use Rattle.std.proofs.lemmas.Bool.{cases_eq, eq-eqb, ne_eqb, lt-ltb, le-ltb}
 use Rattle.std.proofs.lemmas.List.Sums.{sum_by-cons}
 use Rattle.rotating_pick.specs.PortSets.{Has}
 use Rattle.rotating_pick.proofs.Bits.{Has-lt}
@@ -32,7 +32,7 @@ count_from test a (suc n) =
     let some = sum_by-cons (λ k. if test k then 1 else 0) a (range_with_len (a + 1) n) in
     omega (arith, rest, all, some)
 
-count_more : (test : ℕ → Bool) (t : ℕ) → count_by test (range_with_len 0 (suc t)) ≡ count_by test (range_with_len 0 t) + (if test t then 1 else 0)
+pub count_more : (test : ℕ → Bool) (t : ℕ) → count_by test (range_with_len 0 (suc t)) ≡ count_by test (range_with_len 0 t) + (if test t then 1 else 0)
 count_more test t = let here : 0 + t ≡ t = omega arith in count_from test 0 t ∙ ap (λ k. count_by test (range_with_len 0 t) + (if test k then 1 else 0)) here
 
 -- a cell that waits has entered, and where none waits all that entered have left
@@ -239,77 +239,3 @@ module _ (plan : Plan) (good : IsGoodPlan plan) (q : Queue) (served : List (Opti
             remaining-from q fan s.since output (Has-lt 64 fan output small both.0) both.0
             (ap (λ w. any_gives q w output) parts ∙ unserved_from (before plan q served) s.left t both.1),
       )
-
--- ---- what keeps the rules is one history
-passed_by : (entered entered' : List FanCell) (left left' : ℕ) (since since' : List (Option Served)) → entered ≡ entered' → left ≡ left' → since ≡ since'
-    → ◌≡◌ {A = Passed} (record { entered = entered; left = left; since = since }) (record { entered = entered'; left = left'; since = since' })
-passed_by entered entered' left left' since since' a b c = rw (a, b, c) refl
-
-module _ (plan : Plan) (q : Queue) (served : List (Option Served)) (one other : ℕ → Passed)
-    (keeps : KeepsRules plan q served one) (keeps' : KeepsRules plan q served other) where
-  -- two histories that agree before slot t agree in what they tell of it
-  module _ (t : ℕ) (agree : (u : ℕ) → u < t → one u ≡ other u) where
-    same_cells : (u k : ℕ) (ps : List Planned) → u ≤ t → cells_entering plan q one u k ps ≡ cells_entering plan q other u k ps
-    same_cells u k [] few = refl
-    same_cells u k (p ∷ ps) few =
-        let rest = same_cells u (k + 1) ps few in
-        elim (cases_lt p.arrival u) [
-          | inl less ↦
-              let same = agree p.arrival (omega arith) in
-              ap (λ s. (if nat_lt p.arrival u && (is_routed p && is_queue q (queue_of p) && fits plan s p)
-              then cells_with_fan k (size_of p) p.fan else []) ++ cells_entering plan q one u (k + 1) ps) same
-              ∙ ap (λ w. (if nat_lt p.arrival u && comes_in plan q other p then cells_with_fan k (size_of p) p.fan else []) ++ w) rest
-          | inr late ↦ rw (le-ltb p.arrival u late) rest
-        ]
-
-    same_entered : (u : ℕ) → u ≤ t → (one u).entered ≡ (other u).entered
-    same_entered u few = keeps.entered u ∙ same_cells u 0 plan.packets few ∙ sym (keeps'.entered u)
-
-    same_first : (n u : ℕ) → u < t → is_first one n u ≡ is_first other n u
-    same_first n u less =
-        ap (λ s. (s.left == n) && nat_lt n (length (one (suc u)).entered)) (agree u less)
-        ∙ ap (λ w. ((other u).left == n) && nat_lt n (length w)) (same_entered (suc u) (omega arith))
-
-    same_parts : (n u : ℕ) → u ≤ t → parts_for served one n u ≡ parts_for served other n u
-    same_parts n zero few = refl
-    same_parts n (suc u) few =
-        ap (λ b. if b then slice_index_or served u None ∷ parts_for served one n u else parts_for served one n u) (same_first n u (omega arith))
-        ∙ ap (λ w. if is_first other n u then slice_index_or served u None ∷ w else w) (same_parts n u (omega arith))
-
-    same_left_of : (n u : ℕ) → u ≤ t → left_of q served one n u ≡ left_of q served other n u
-    same_left_of n u few =
-        ap (λ w. remaining q (first_fan (drop n w)) (parts_for served one n u)) (same_entered u few)
-        ∙ ap (λ w. remaining q (first_fan (drop n (other u).entered)) w) (same_parts n u few)
-
-    same_completes : (u : ℕ) → u < t → completes q served one u ≡ completes q served other u
-    same_completes u less =
-        ap (λ s. is_first one s.left u && (left_of q served one s.left (suc u) == 0)) (agree u less)
-        ∙ ap (λ b. b && (left_of q served one (other u).left (suc u) == 0)) (same_first (other u).left u less)
-        ∙ ap (λ n. is_first other (other u).left u && (n == 0)) (same_left_of (other u).left (suc u) (omega arith))
-
-    same_count : (u : ℕ) → u ≤ t
-        → count_by (completes q served one) (range_with_len 0 u) ≡ count_by (completes q served other) (range_with_len 0 u)
-    same_count zero few = refl
-    same_count (suc u) few =
-        count_more (completes q served one) u
-        ∙ ap (λ b. count_by (completes q served one) (range_with_len 0 u) + (if b then 1 else 0)) (same_completes u (omega arith))
-        ∙ ap (λ n. n + (if completes q served other u then 1 else 0)) (same_count u (omega arith))
-        ∙ sym (count_more (completes q served other) u)
-
-    same_left : (one t).left ≡ (other t).left
-    same_left = keeps.left t ∙ same_count t (omega arith) ∙ sym (keeps'.left t)
-
-    same_next : one t ≡ other t
-    same_next = passed_by (one t).entered (other t).entered (one t).left (other t).left (one t).since (other t).since
-        (same_entered t (omega arith)) same_left
-        (keeps.since t ∙ same_parts (one t).left t (omega arith) ∙ ap (λ n. parts_for served other n t) same_left ∙ sym (keeps'.since t))
-
-  agree_before : (t u : ℕ) → u < t → one u ≡ other u
-  agree_before zero u less = absurd (omega arith)
-  agree_before (suc t) u less = elim (cases_eq u t) [
-    | inl same ↦ rw same (same_next t (agree_before t))
-    | inr early ↦ agree_before t u (omega (arith, early))
-  ]
-
-  pub one_history : (t : ℕ) → one t ≡ other t
-  one_history t = same_next t (agree_before t)

@@ -1,7 +1,7 @@
 -- How many packets there are, and how many enter each queue.
 use Rattle.std.proofs.Common.{◌≡◌, ◌≢◌, ◌∙◌, ℕ, zero, suc, ◌+◌, ◌*◌, ◌^◌, ◌<◌, ◌≤◌, ◌==◌, ◌&&◌, Bool, true, false, List, [], ◌∷◌, ◌++◌, length, Some}
 use Rattle.std.proofs.Common.{slice_get, slice_index, slice_index_or, slice_set, refl, sym, ap, subst, arith, inl, inr, count_by, replicate}
-use Rattle.std.proofs.lemmas.Bool.{cases_eq, eq-eqb, ne_eqb}
+use Rattle.std.proofs.lemmas.Bool.{cases_eq, ne_eqb}
 use Rattle.std.proofs.lemmas.List.{get_or-set_same, get_or-set_other, length-set, length-replicate}
 use Rattle.std.proofs.lemmas.Nat.Bits.{bit_at-pow_same}
 use Rattle.rotating_pick.specs.PortSets.{Has, HasSeveral}
@@ -62,19 +62,7 @@ module _ (p : Planned) where
   skips : (q : Queue) → is_queue q (queue_of p) ≡ false → packets_for q (p ∷ []) ≡ 0
   skips q no' = one_false (λ r. is_routed r && is_queue q (queue_of r)) p (and_false (is_routed p) (is_queue q (queue_of p)) no')
 
-  nowhere : (q : Queue) → p.fan ≡ 0 → packets_for q (p ∷ []) ≡ 0
-  nowhere q none =
-      let e : p.fan == 0 ≡ true = eq-eqb p.fan 0 none in
-      one_false (λ r. is_routed r && is_queue q (queue_of r)) p (rw e refl)
-
   module _ (ports : ℕ) (before : List Planned) (uni fan : List ℕ) (rooms : HasRooms ports before uni fan) where
-    pub rooms-nowhere : p.fan ≡ 0 → HasRooms ports (before ++ p ∷ []) uni fan
-    rooms-nowhere none = record {
-      long = rooms.long;
-      unis = λ j l inside below. rooms.unis j l inside below ∙ (let n = nowhere (OfOutput j l) none in omega (arith, n, for_push (OfOutput j l) before p));
-      fans = λ l below. rooms.fans l below ∙ (let n = nowhere (OfLevel l) none in omega (arith, n, for_push (OfLevel l) before p));
-    }
-
     uni_case : (j : ℕ) → queue_of p ≡ OfOutput j p.level → p.fan ≢ 0 → p.level < 4 → 4 * j + p.level < length uni → (k m : ℕ) → k < ports → m < 4
         → slice_index (slice_set uni (4 * j + p.level) (slice_index_or uni (4 * j + p.level) 0 + 1)) (4 * k + m) ≡ packets_for (OfOutput k m) (before ++ p ∷ [])
     uni_case j queue some below at k m k_in m_below = elim (cases_eq (4 * k + m) (4 * j + p.level)) [
@@ -133,28 +121,6 @@ module _ (p : Planned) where
               rooms.unis j l inside below ∙ omega (arith, n, for_push (OfOutput j l) before p);
           fans = λ l below. fan_case queue some at l below;
         }
-
--- ---- a number more at one place
-one_more : (xs : List ℕ) (i most place : ℕ) → i < length xs → ((k : ℕ) → slice_index xs k ≤ most)
-    → slice_index (slice_set xs i (slice_index_or xs i 0 + 1)) place ≤ most + 1
-one_more xs i most place inside few = elim (cases_eq place i) [
-  | inl same ↦
-      let e : slice_index (slice_set xs i (slice_index_or xs i 0 + 1)) place ≡ slice_index_or xs i 0 + 1 =
-      ap (slice_index (slice_set xs i (slice_index_or xs i 0 + 1))) same ∙ get_or-set_same xs i (slice_index_or xs i 0 + 1) 0 inside in
-      let f : slice_index_or xs i 0 ≤ most = few i in
-      omega (arith, e, f)
-  | inr other ↦
-      let e : slice_index (slice_set xs i (slice_index_or xs i 0 + 1)) place ≡ slice_index xs place =
-      get_or-set_other xs i place (slice_index_or xs i 0 + 1) 0 other in
-      omega (arith, e, few place)
-]
-
-pub few-unicast : (most i : ℕ) (uni fan : List ℕ) → i < length uni → AreFew most uni fan → AreFew (most + 1) (slice_set uni i (slice_index_or uni i 0 + 1)) fan
-few-unicast most i uni fan inside few = record { unis = λ place. one_more uni i most place inside few.unis; fans = λ place. omega (arith, few.fans place) }
-
-pub few-multicast : (most i : ℕ) (uni fan : List ℕ) → i < length fan → AreFew most uni fan
-    → AreFew (most + 1) uni (slice_set fan i (slice_index_or fan i 0 + 1))
-few-multicast most i uni fan inside few = record { unis = λ place. omega (arith, few.unis place); fans = λ place. one_more fan i most place inside few.fans }
 
 -- ---- lists of rooms
 -- where no packet came there are none

@@ -17,8 +17,8 @@ use Rattle.multicast_queue.specs.FanQueues.{Queues as FanQueues, FanCell, queue_
 use Rattle.card_core.specs.declared.plan.Planned.{Planned}
 use Rattle.card_core.specs.declared.entering.Count.{Count}
 use Rattle.card_core.specs.Plans.{OfOutput, OfLevel, size_of}
-use Rattle.card_core.specs.Queues.{admitted, dropped, counted}
-use Rattle.card_core.specs.States.{names, packets_for}
+use Rattle.card_core.specs.Queues.{counted}
+use Rattle.card_core.specs.States.{packets_for}
 
 -- whether a cell waits, by names
 abbrev pub has_names : List CellName → Bool

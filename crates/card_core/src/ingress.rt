@@ -5,7 +5,7 @@ ghost use Rattle.card_core.specs.Posts.{post_at, IsServable};
 ghost use Rattle.card_core.specs.States.{HasSent};
 
 use crate::cutting::cell_for;
-use crate::entering::{arriving, enter};
+use crate::entering::{enter, next_arrival};
 use crate::limits::MAX_SLOTS;
 use crate::plan::CardPlan;
 use crate::posting::is_more;
@@ -119,7 +119,7 @@ impl Ingress {
         ensures post { (served : List (Option Served)) → HasSent self.old served false → result ≡ post_at self.old.plan served (length served) }
         ensures after { (served : List (Option Served)) → HasSent self.old served false → HasSent self.new served true }
     {
-        let arrived = arriving(&self.plan.packets, self.next, self.slot);
+        let arrived = next_arrival(&self.plan.packets, self.next, self.slot);
         let count = enter(&mut self.queues, self.next, arrived);
         self.next += count.packets;
         self.admitted += count.admitted;

@@ -15,7 +15,7 @@ use Rattle.queue_lengths.specs.Steps.{MayEnter, place_for, enters_at, lengths_wi
 use Rattle.queue_lengths.specs.declared.counting.Arrival.{Arrival}
 use Rattle.queue_lengths.proofs.Places.{place-inside, place-same, IsQueue-packet, set-here, set-other}
 use Rattle.queue_lengths.proofs.Lengths.{gain, in_count, before_few}
-use Rattle.queue_lengths.proofs.NextPackets.{next-none, next-there, next-one}
+use Rattle.card_core.proofs.NextPackets.{next-none, next-there, next-one}
 
 -- the lengths with a packet, queue by queue
 module _ (ports : ℕ) (lengths : List ℕ) (p : Planned) (q : Queue) (mine : IsQueue ports (queue_of p)) (is : IsQueue ports q)

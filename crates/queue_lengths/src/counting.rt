@@ -6,13 +6,12 @@ ghost use Rattle.slot_match.specs.declared.matching.Served.{Served as AServed};
 ghost use Rattle.slot_histories.specs.Parts.{IsPartOf};
 ghost use Rattle.card_core.specs.Plans.{Plan, IsGoodPlan, plan_of, queue_for};
 ghost use Rattle.card_core.specs.Posts.{row_at, IsServable};
-ghost use Rattle.card_core.specs.StateSteps.{next_in};
 ghost use Rattle.queue_lengths.specs.Lengths.{place_of, count_of};
 ghost use Rattle.queue_lengths.specs.Counters.{CountBefore, CountIn, arrival_in};
 ghost use Rattle.queue_lengths.specs.Steps.{MayEnter, enters_at, lengths_with, place_left};
 
 use crate::queue_count;
-use card_core::{CardPlan, Planned};
+use card_core::{CardPlan, Planned, next_arrival};
 use cell_cutter::cells_of;
 use rotating_pick::{Kind, LEVELS, OutOfMemory, Ports, is_empty, only};
 use slot_match::{Row, Served};
@@ -76,7 +75,7 @@ impl QueueLengths {
         ensures arrival { (plan : Plan) (served : List (Option AServed)) → CountBefore plan self.old served → length served ≡ slot
             → result ≡ arrival_in plan served slot }
     {
-        let packet = arriving(&self.packets, self.next, slot)?;
+        let packet = next_arrival(&self.packets, self.next, slot)?;
         let number = self.next;
         self.next += 1;
         let admitted = enter(self.ports, self.depth, &mut self.lengths, packet);
@@ -132,18 +131,6 @@ pub fn queue_place(ports: u32, fan: Ports, level: u8) -> u32
     match only(fan) {
         Some(output) => LEVELS * output + u32::from(level),
         None => LEVELS * ports + u32::from(level),
-    }
-}
-
-// The packet that is next, where it arrives in the slot.
-fn arriving(packets: &[Planned], next: u32, slot: u32) -> Option<Planned>
-    ensures { result ≡ next_in packets.now next slot }
-{
-    let packet = packets.get(next as usize)?;
-    if packet.arrival == slot {
-        Some(*packet)
-    } else {
-        None
     }
 }
 

@@ -1,5 +1,6 @@
 use Rattle.card_core.specs.Queues.{before}
-use Rattle.card_core.proofs.KeepingRules.{queue_keeps, one_history}
+use Rattle.card_core.proofs.KeepingRules.{queue_keeps}
+use Rattle.card_core.proofs.OneHistory.{one_history}
 use Rattle.card_core.proofs.laws.rules_tell_the_queue.Goals as goal
 
 pub returns : goal.returns

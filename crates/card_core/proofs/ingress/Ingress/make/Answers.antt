@@ -1,4 +1,4 @@
-use Rattle.std.proofs.Common.{◌≡◌, ◌∙◌, ◌<◌, ◌≤◌, ℕ, List, [], false, None, slice_get, slice_index, slice_index_or, length, refl, sym, ap, subst, arith}
+use Rattle.std.proofs.Common.{◌≡◌, ◌∙◌, ◌<◌, List, [], false, None, slice_get, length, refl, sym, ap, subst, arith}
 use Rattle.card_core.specs.declared.plan.Planned.{Planned}
 use Rattle.card_core.specs.InputQueues.{InputQueues, QueueRooms}
 use Rattle.card_core.specs.Plans.{Plan, IsGoodPlan, plan_of}

@@ -12,16 +12,16 @@ pub enter-count-requires : goal.enter-count-requires
 enter-count-requires c =
     let posted = ap (λ (b : State). b.posted) c.self.view_is ∙ c.requires.posted in
     let was = subst (HasSent (the_view c.self.inside) c.self.invariant.0) posted c.self.invariant.1 in
-    may_arrive (the_view c.self.inside) c.self.invariant.0 was c.arriving-arrived.result
-    (c.arriving-arrived.ensures ∙ ap (λ (ps : List Planned). next_in ps c.self.inside.next c.self.inside.slot) c.deref.ensures.value)
+    may_arrive (the_view c.self.inside) c.self.invariant.0 was c.next_arrival-arrived.result
+    (c.next_arrival-arrived.ensures ∙ ap (λ (ps : List Planned). next_in ps c.self.inside.next c.self.inside.slot) c.deref.ensures.value)
 
 pub overflow_add-self-2 : goal.overflow_add-self-2
 overflow_add-self-2 c =
     let posted = ap (λ (b : State). b.posted) c.self.view_is ∙ c.requires.posted in
     let was = subst (HasSent (the_view c.self.inside) c.self.invariant.0) posted c.self.invariant.1 in
-    let f = few (the_view c.self.inside) c.self.invariant.0 was c.arriving-arrived.result c.enter-count.result
+    let f = few (the_view c.self.inside) c.self.invariant.0 was c.next_arrival-arrived.result c.enter-count.result
     c.enter-count.new.queues.unicast c.enter-count.new.queues.multicast
-    (c.arriving-arrived.ensures
+    (c.next_arrival-arrived.ensures
     ∙ ap (λ (ps : List Planned). next_in ps c.self.inside.next c.self.inside.slot) c.deref.ensures.value) c.enter-count.ensures in
     omega (arith, f.0, ap (λ (b : State). b.slot) c.self.view_is, c.requires.room)
 
@@ -29,9 +29,9 @@ pub overflow_add-self-3 : goal.overflow_add-self-3
 overflow_add-self-3 c =
     let posted = ap (λ (b : State). b.posted) c.self.view_is ∙ c.requires.posted in
     let was = subst (HasSent (the_view c.self.inside) c.self.invariant.0) posted c.self.invariant.1 in
-    let f = few (the_view c.self.inside) c.self.invariant.0 was c.arriving-arrived.result c.enter-count.result
+    let f = few (the_view c.self.inside) c.self.invariant.0 was c.next_arrival-arrived.result c.enter-count.result
     c.enter-count.new.queues.unicast c.enter-count.new.queues.multicast
-    (c.arriving-arrived.ensures
+    (c.next_arrival-arrived.ensures
     ∙ ap (λ (ps : List Planned). next_in ps c.self.inside.next c.self.inside.slot) c.deref.ensures.value) c.enter-count.ensures in
     omega (arith, f.1, ap (λ (b : State). b.slot) c.self.view_is, c.requires.room)
 
@@ -39,16 +39,16 @@ pub returns-clause-after : goal.returns-clause-after
 returns-clause-after c served was =
     let old = subst (λ b. HasSent b served false) (sym c.self.view_is) was in
     rw c.row-row.ensures (posted_is
-    (the_view c.self.inside) served old c.arriving-arrived.result c.enter-count.result
+    (the_view c.self.inside) served old c.next_arrival-arrived.result c.enter-count.result
     c.enter-count.new.queues.unicast c.enter-count.new.queues.multicast
-    (c.arriving-arrived.ensures ∙ ap (λ (ps : List Planned). next_in ps c.self.inside.next c.self.inside.slot) c.deref.ensures.value) c.enter-count.ensures)
+    (c.next_arrival-arrived.ensures ∙ ap (λ (ps : List Planned). next_in ps c.self.inside.next c.self.inside.slot) c.deref.ensures.value) c.enter-count.ensures)
 
 pub returns-clause-post : goal.returns-clause-post
 returns-clause-post c served was =
     let old = subst (λ b. HasSent b served false) (sym c.self.view_is) was in
-    post_is (the_view c.self.inside) served old c.arriving-arrived.result c.enter-count.result
+    post_is (the_view c.self.inside) served old c.next_arrival-arrived.result c.enter-count.result
     c.enter-count.new.queues.unicast c.enter-count.new.queues.multicast
-    (c.arriving-arrived.ensures ∙ ap (λ (ps : List Planned). next_in ps c.self.inside.next c.self.inside.slot) c.deref.ensures.value) c.enter-count.ensures
+    (c.next_arrival-arrived.ensures ∙ ap (λ (ps : List Planned). next_in ps c.self.inside.next c.self.inside.slot) c.deref.ensures.value) c.enter-count.ensures
     c.row-row.result c.len.result c.is_more.result c.row-row.ensures (c.len.ensures ∙ c.self.inside.plan.packets.ok.0) c.is_more.ensures
     ∙ ap (λ (b : State). post_at b.plan served (length served)) c.self.view_is
 
@@ -62,8 +62,8 @@ pub overflow_add-self : goal.overflow_add-self
 overflow_add-self c =
     let posted = ap (λ (b : State). b.posted) c.self.view_is ∙ c.requires.posted in
     let was = subst (HasSent (the_view c.self.inside) c.self.invariant.0) posted c.self.invariant.1 in
-    let f = next_few (the_view c.self.inside) c.self.invariant.0 was c.arriving-arrived.result c.enter-count.result c.enter-count.new.queues.unicast
-    c.enter-count.new.queues.multicast (c.arriving-arrived.ensures
+    let f = next_few (the_view c.self.inside) c.self.invariant.0 was c.next_arrival-arrived.result c.enter-count.result c.enter-count.new.queues.unicast
+    c.enter-count.new.queues.multicast (c.next_arrival-arrived.ensures
     ∙ ap (λ (ps : List Planned). next_in ps c.self.inside.next c.self.inside.slot) c.deref.ensures.value) c.enter-count.ensures in
     let all = few_packets (the_view c.self.inside).plan was.plan in
     omega (arith, f, all)

@@ -1,5 +1,5 @@
 use Rattle.std.proofs.Common.{◌≡◌, ◌≢◌, ◌∙◌, ◌+◌, ◌*◌, ◌^◌, ◌<◌, ◌≤◌, ◌++◌, ◌∷◌, [], ℕ, List, Bool, true, false, length, slice_index_or, slice_set}
-use Rattle.std.proofs.Common.{ap, refl, sym, subst, arith}
+use Rattle.std.proofs.Common.{refl, sym, subst, arith}
 use Rattle.std.proofs.lemmas.List.{get_or_default}
 use Rattle.std.specs.Vec.{vec_len}
 use Rattle.rotating_pick.specs.PortSets.{HasSeveral}
@@ -7,7 +7,7 @@ use Rattle.card_core.specs.declared.plan.Planned.{Planned}
 use Rattle.card_core.specs.InputQueues.{QueueRooms}
 use Rattle.card_core.specs.StateSteps.{HasRooms, AreFew}
 use Rattle.card_core.specs.contracts.rooms.Rooms.{the_view}
-use Rattle.card_core.proofs.Plenty.{place_inside, rooms-nowhere, rooms-unicast, rooms-multicast}
+use Rattle.card_core.proofs.Plenty.{place_inside, rooms-unicast, rooms-multicast}
 use Rattle.card_core.proofs.Sets.{several-of}
 use Rattle.card_core.proofs.rooms.Rooms.count.Goals as goal
 

@@ -27,7 +27,7 @@ returns-in_err-packet-clause-counts c plan served was long =
     let s0 = the_view c.self.inside in
     let was0 : CountBefore plan s0 served = behind plan served c.self.view_is was in
     let next : next_in s0.packets s0.next (length served) ≡ None =
-    looked_at s0.packets c.deref.result.now s0.next long c.arriving.ensures c.deref.ensures.value c.in_err-packet.was in
+    looked_at s0.packets c.deref.result.now s0.next long c.next_arrival.ensures c.deref.ensures.value c.in_err-packet.was in
     subst (λ (s : Counters). CountIn plan s served) c.self.view_is (stays_is plan s0 served was0 next)
 
 pub returns-in_err-packet-clause-arrival : goal.returns-in_err-packet-clause-arrival
@@ -35,7 +35,7 @@ returns-in_err-packet-clause-arrival c plan served was long =
     let s0 = the_view c.self.inside in
     let was0 : CountBefore plan s0 served = behind plan served c.self.view_is was in
     let next : next_in s0.packets s0.next (length served) ≡ None =
-    looked_at s0.packets c.deref.result.now s0.next long c.arriving.ensures c.deref.ensures.value c.in_err-packet.was in
+    looked_at s0.packets c.deref.result.now s0.next long c.next_arrival.ensures c.deref.ensures.value c.in_err-packet.was in
     let out : c.from_residual.result ≡ None = search rules in
     out ∙ no_arrival plan s0 served was0 next ∙ ap (arrival_in plan served) long
 
@@ -45,7 +45,7 @@ overflow_add-self c =
     let s0 = the_view c.self.inside in
     let was0 : CountBefore plan s0 served = behind plan served c.self.view_is was in
     let next : next_in s0.packets s0.next (length served) ≡ Some c.in_ok-packet.packet =
-    looked_at s0.packets c.deref.result.now s0.next long c.arriving.ensures c.deref.ensures.value c.in_ok-packet.was in
+    looked_at s0.packets c.deref.result.now s0.next long c.next_arrival.ensures c.deref.ensures.value c.in_ok-packet.was in
     let inside : s0.next < length plan.packets =
     some_in plan.packets s0.next c.in_ok-packet.packet (packet-there plan s0 served was0 c.in_ok-packet.packet next) in
     let few = few_packets plan was0.good in
@@ -57,7 +57,7 @@ enter-admitted-requires c =
     let s0 = the_view c.self.inside in
     let was0 : CountBefore plan s0 served = behind plan served c.self.view_is was in
     let next : next_in s0.packets s0.next (length served) ≡ Some c.in_ok-packet.packet =
-    looked_at s0.packets c.deref.result.now s0.next long c.arriving.ensures c.deref.ensures.value c.in_ok-packet.was in
+    looked_at s0.packets c.deref.result.now s0.next long c.next_arrival.ensures c.deref.ensures.value c.in_ok-packet.was in
     subst (λ lengths. MayEnter s0.ports lengths c.in_ok-packet.packet) (sym c.deref_mut.ensures.value)
     (may_enter plan s0 served was0 c.in_ok-packet.packet next)
 
@@ -68,7 +68,7 @@ returns-clause-counts c plan served was long =
     let entered = c.enter-admitted.result in
     let was0 : CountBefore plan s0 served = behind plan served c.self.view_is was in
     let next : next_in s0.packets s0.next (length served) ≡ Some c.in_ok-packet.packet =
-    looked_at s0.packets c.deref.result.now s0.next long c.arriving.ensures c.deref.ensures.value c.in_ok-packet.was in
+    looked_at s0.packets c.deref.result.now s0.next long c.next_arrival.ensures c.deref.ensures.value c.in_ok-packet.was in
     let test : entered ≡ enters_at s0.ports s0.depth s0.lengths p =
     c.enter-admitted.ensures.test ∙ ap (λ ls. enters_at s0.ports s0.depth ls p) c.deref_mut.ensures.value in
     let lengths : (with_items c.self.inside.lengths c.enter-admitted.new.lengths).items ≡ lengths_with s0.ports s0.lengths p entered =
@@ -83,7 +83,7 @@ returns-clause-arrival c plan served was long =
     let entered = c.enter-admitted.result in
     let was0 : CountBefore plan s0 served = behind plan served c.self.view_is was in
     let next : next_in s0.packets s0.next (length served) ≡ Some c.in_ok-packet.packet =
-    looked_at s0.packets c.deref.result.now s0.next long c.arriving.ensures c.deref.ensures.value c.in_ok-packet.was in
+    looked_at s0.packets c.deref.result.now s0.next long c.next_arrival.ensures c.deref.ensures.value c.in_ok-packet.was in
     let test : entered ≡ enters_at s0.ports s0.depth s0.lengths p =
     c.enter-admitted.ensures.test ∙ ap (λ ls. enters_at s0.ports s0.depth ls p) c.deref_mut.ensures.value in
     arrival_is plan s0 served was0 p next entered test ∙ ap (arrival_in plan served) long
