@@ -1,5 +1,4 @@
 ghost use Rattle.std.specs.Prelude.{◌≡◌, ◌<◌, length, map, None, Some, IfOk, IfErr, OnOk};
-ghost use Rattle.pcap_records.specs.Format.{link_type};
 ghost use Rattle.switch_plan.specs.Traffic.{file_of};
 ghost use Rattle.switch_plan.specs.Refusals.{first_link, mixed_links};
 
@@ -14,22 +13,12 @@ pub(crate) fn common_link(captures: &[Capture]) -> Result<Link, PlanFault>
     ensures mixed { IfErr result (λ fault. mixed_links (map file_of captures.now) ≡ Some fault) }
 {
     let link = captures[0].link;
-    let first = link_type(link);
+    let first = link.number();
     for capture in captures {
-        let other = link_type(capture.link);
+        let other = capture.link.number();
         if other != first {
             return Err(PlanFault::MixedLink { first, other });
         }
     }
     Ok(link)
-}
-
-// The number of a link type, as a file's header has it.
-fn link_type(link: Link) -> u32
-    ensures { result ≡ link_type link }
-{
-    match link {
-        Link::Ethernet => 1,
-        Link::RawIp => 101,
-    }
 }
