@@ -3,6 +3,7 @@ use Rattle.std.proofs.Common.{◌≡◌, ◌≢◌, ◌+◌, ◌<◌, ◌≤◌,
 use Rattle.std.proofs.Common.{Some, refl, sym, ap, ◌∙◌, subst, arith, length-append}
 use Rattle.std.specs.Prelude.{slice_get}
 use Rattle.std.proofs.lemmas.List.{append_assoc, take-append-drop}
+use Rattle.std.proofs.lemmas.Option.{slice_get_within}
 use Rattle.atomic_table.specs.Seated.{TableId}
 use Rattle.turn_lock.specs.declared.history.TurnOf.{TurnOf}
 use Rattle.turn_lock.specs.declared.history.Opening.{Opening}
@@ -88,11 +89,6 @@ module _ {X : Type 0} where
   take_whole [] = refl
   take_whole (x ∷ xs) = ap (λ zs. x ∷ zs) (take_whole xs)
 
-  get_within : (xs : List X) (i : ℕ) (x : X) → slice_get xs i ≡ Some x → i < length xs
-  get_within [] i x e = absurd (cc)
-  get_within (y ∷ xs) zero x e = omega arith
-  get_within (y ∷ xs) (suc i) x e = let l = get_within xs i x e in omega arith
-
 module _ {E : Type 0} (turn : TurnValue E) (all : List (SeatValue E)) where
   -- The view is of the first seat, and knows what each seat after those that are left had seen.
   pub record IsCollected (rest : List (SeatValue E)) (table : TableId) (v : View E) : Type 0 where
@@ -121,7 +117,9 @@ module _ {E : Type 0} (turn : TurnValue E) (all : List (SeatValue E)) where
           seen = λ s e. let is : first ≡ s = same_there first s (slice_get all 0) at e in
               (ap (λ y. y.seen) view ∙ ap (λ y. y.seen) is, ap (λ y. y.since) view ∙ ap (λ y. y.since) is);
           left = sym (take_whole rest) ∙ ap (λ xs. take (length rest) xs) rest_is;
-          done = λ i s e l. let w = get_within (drop 1 all) i s (after_first all i ∙ e) in let n : length rest ≡ length (drop 1 all) = ap length rest_is in
+          done = λ i s e l.
+              let w = slice_get_within (drop 1 all) i s (after_first all i ∙ e) in
+              let n : length rest ≡ length (drop 1 all) = ap length rest_is in
               absurd (omega arith);
         }
 

@@ -17,9 +17,6 @@ only_one : {E : Type 0} (v : View E) (j : ℕ) (u : View E) → get_elem? (v ∷
 only_one v zero u e = (refl, sym (some-injective v u e))
 only_one v (suc j) u e = absurd (some-ne-none u (sym e))
 
-pub same_some : {V : Type 0} (a b : Stamped V) → Some a ≡ Some b → a ≡ b
-same_some a b e = cc
-
 module _ {V E : Type 0} (entries : V → List E) (numbers : V → List ℕ) (may : ℕ → List E → Type 0) where
   opens : (x : Stamped V) (seats : ℕ) → x.turns ≡ 0
       → Keeps entries numbers may (opening entries numbers x.value seats)

@@ -1,8 +1,9 @@
 use Rattle.std.proofs.Common.{◌≡◌, Some, None, subst, sym}
+use Rattle.std.proofs.lemmas.Option.{same_Some}
 use Rattle.turn_lock.specs.declared.rule.Stamped.{Stamped}
 use Rattle.turn_lock.specs.Openings.{opening}
 use Rattle.turn_lock.specs.Rule.{Ended}
-use Rattle.turn_lock.proofs.Ends.{final_value, same_some}
+use Rattle.turn_lock.proofs.Ends.{final_value}
 use Rattle.turn_lock.proofs.closing.end.Goals as goal
 
 pub unreachable-requires : goal.unreachable-requires
@@ -18,4 +19,4 @@ returns g c =
     let r = final_value g.K.Kept.entries g.K.Kept.numbers g.K.Kept.may_add o c.args.seat.id c.args.seat.me.0 c.requires.idle.0 c.requires.idle.1
     c.requires.idle.2 c.requires.all _ _ c.close_with-closed.ensures.values.2 _ c.in-Some.ensures.value in
     subst (λ (x : Stamped g.row.K.Denot). Ended g.K.Kept.entries g.K.Kept.numbers g.K.Kept.may_add o c.args.seat.me.0 x.value)
-    (sym (same_some c.in-Some.stamped r.0 r.1)) r.2
+    (sym (same_Some c.in-Some.stamped r.0 r.1)) r.2
