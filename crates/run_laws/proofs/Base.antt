@@ -25,12 +25,12 @@ use Rattle.slot_histories.proofs.PostedRows.{length-slot_rows, row_of-slot_rows}
 use Rattle.slot_histories.proofs.SoundDecisions.{IsSoundDecision, decision_under-moved, decision_under-slot, decision_under-sound}
 use Rattle.card_core.specs.Plans.{Queue}
 use Rattle.card_core.specs.Queues.{before as queue_before, queue_in}
-use Rattle.card_core.specs.Posts.{row_at, granted_at, post_at, IsServable}
+use Rattle.card_core.specs.Posts.{row_at, IsServable}
 use Rattle.card_core.specs.Grants.{granted_to}
 use Rattle.card_core.proofs.Accepting.{first_accepted, next_accepted}
 use Rattle.switch_plan.specs.GoodPlans.{SwitchPlan, IsGood, IsCardOf}
 use Rattle.run_laws.specs.Runs.{ports_of, setup_for, card_at, no_plan, rows_in, decision_in, before_under, parts_under, posts_under}
-use Rattle.run_laws.proofs.SameParts.{before-alike, queue_in-alike, row_at-alike, granted_at-alike, granted_to-alike, post_at-alike}
+use Rattle.run_laws.proofs.SameParts.{before-alike, queue_in-alike, row_at-alike, granted_to-alike}
 
 -- ---- what a slot serves of rows within the ports
 not_both : {A : Type 0} (kind : Kind) → kind ≡ Uni → kind ≡ Multi → A
@@ -127,12 +127,6 @@ module _ (scheduler : Scheduler) (plan : SwitchPlan) where
 
     pub row_at-same : row_at (card_at plan i) (parts_under scheduler plan i t) u ≡ row_at (card_at plan i) (parts_under scheduler plan i u) u
     row_at-same = row_at-alike (card_at plan i) (parts_under scheduler plan i t) (parts_under scheduler plan i u) u parts-same u (omega arith)
-
-    pub granted_at-same : granted_at (card_at plan i) (parts_under scheduler plan i t) u ≡ granted_at (card_at plan i) (parts_under scheduler plan i u) u
-    granted_at-same = granted_at-alike (card_at plan i) (parts_under scheduler plan i t) (parts_under scheduler plan i u) u parts-same u (omega arith)
-
-    pub post_at-same : post_at (card_at plan i) (parts_under scheduler plan i t) u ≡ posts_under scheduler plan i u
-    post_at-same = post_at-alike (card_at plan i) (parts_under scheduler plan i t) (parts_under scheduler plan i u) u parts-same u (omega arith)
 
     pub granted_to-same : (q : Queue) (j : ℕ)
         → granted_to (card_at plan i) q j (parts_under scheduler plan i t) u ≡ granted_to (card_at plan i) q j (parts_under scheduler plan i u) u

@@ -31,7 +31,8 @@ use Rattle.run_laws.proofs.Base.{good-card}
 use Rattle.run_laws.proofs.Rooms.{packets-at}
 use Rattle.run_laws.proofs.OfFlows.{all_of_flows}
 use Rattle.run_laws.proofs.FlowCells.{flow-messages}
-use Rattle.run_laws.proofs.FlowSums.{sum_same, sum_most, sum_range-le, level_sum, level_add, delivered-sum}
+use Rattle.run_laws.proofs.RangeSums.{sum_by-same, range_sum-le, range_sum-most}
+use Rattle.run_laws.proofs.FlowSums.{level_sum, level_add, delivered-sum}
 
 -- ---- sums over what a test lets through, and over what a function makes
 filter_sum : {X : Type 0} (v : X → ℕ) (f g : X → Bool) → ((x : X) → f x ≡ true → g x ≡ true) → (xs : List X)
@@ -67,7 +68,7 @@ module _ (j : ℕ) (h : Bool) (x : ℕ) where
   one_queue (OfOutput a b) =
       let other : (l : ℕ) → l ≢ b → part_in (OfOutput a b) l Uni + part_in (OfOutput a b) l Multi ≡ 0 =
       λ l differ. unis (j == a) (l == b) (ne_eqb l b differ) in
-      let most = sum_most (λ l. part_in (OfOutput a b) l Uni + part_in (OfOutput a b) l Multi) b other 0 LEVELS in
+      let most = range_sum-most (λ l. part_in (OfOutput a b) l Uni + part_in (OfOutput a b) l Multi) b other 0 LEVELS in
       let own = if_more ((j == a) && (b == b)) h x in
       omega (arith, most, own) where
         unis : (c e : Bool) → e ≡ false → (if (c && e) && h then x else 0) + (if false && h then x else 0) ≡ 0
@@ -75,7 +76,7 @@ module _ (j : ℕ) (h : Bool) (x : ℕ) where
         unis false e is = refl
   one_queue (OfLevel b) =
       let other : (l : ℕ) → l ≢ b → part_in (OfLevel b) l Uni + part_in (OfLevel b) l Multi ≡ 0 = λ l differ. rw (ne_eqb l b differ) refl in
-      let most = sum_most (λ l. part_in (OfLevel b) l Uni + part_in (OfLevel b) l Multi) b other 0 LEVELS in
+      let most = range_sum-most (λ l. part_in (OfLevel b) l Uni + part_in (OfLevel b) l Multi) b other 0 LEVELS in
       let own = if_more (b == b) h x in
       omega (arith, most, own)
 
@@ -110,9 +111,9 @@ module _ (j : ℕ) (v : Planned → ℕ) where
       let parts : ℕ → Kind → ℕ = λ l k. queue_part (queue_to j l k) p in
       let more : ℕ → Kind → ℕ = λ l k. sum_by (queue_part (queue_to j l k)) ps in
       let split : level_sum (λ l k. sum_by (queue_part (queue_to j l k)) (p ∷ ps)) ≡ level_sum (λ l k. parts l k + more l k) =
-      sum_same (λ l. sum_by (queue_part (queue_to j l Uni)) (p ∷ ps) + sum_by (queue_part (queue_to j l Multi)) (p ∷ ps))
-      (λ l. parts l Uni + more l Uni + (parts l Multi + more l Multi))
-      (λ l. omega (arith, sum_by-cons (queue_part (queue_to j l Uni)) p ps, sum_by-cons (queue_part (queue_to j l Multi)) p ps)) (range_with_len 0 LEVELS) in
+      sum_by-same (λ l. sum_by (queue_part (queue_to j l Uni)) (p ∷ ps) + sum_by (queue_part (queue_to j l Multi)) (p ∷ ps))
+      (λ l. parts l Uni + more l Uni + (parts l Multi + more l Multi)) (range_with_len 0 LEVELS)
+      (λ l. omega (arith, sum_by-cons (queue_part (queue_to j l Uni)) p ps, sum_by-cons (queue_part (queue_to j l Multi)) p ps)) in
       omega (arith, split, level_add parts more, sum_by-cons output_part p ps, here, rest)
 
 -- ---- what is delivered
@@ -157,18 +158,17 @@ module _ (scheduler : Scheduler) (scheduling : IsScheduler scheduler) (plan : Sw
       input_weight : (i : ℕ) → i < ports_of plan
           → level_sum (λ l k. sum_by w (messages_from i l k [] (cells_under scheduler plan j t))) ≤ sum_by (output_part j v) (card_at plan i).packets
       input_weight i inside =
-          let flows = sum_range-le (λ l. sum_by w (messages_from i l Uni [] (cells_under scheduler plan j t)) + sum_by w
-          (messages_from i l Multi [] (cells_under scheduler plan j t)))
-          (λ l. sum_by (queue_part j v (queue_to j l Uni)) (card_at plan i).packets + sum_by (queue_part j v (queue_to j l Multi)) (card_at plan i).packets) 0
-          LEVELS
+          let flows = range_sum-le 0 LEVELS
+          (λ l. sum_by w (messages_from i l Uni [] (cells_under scheduler plan j t)) + sum_by w (messages_from i l Multi [] (cells_under scheduler plan j t)))
+          (λ l. sum_by (queue_part j v (queue_to j l Uni)) (card_at plan i).packets + sum_by (queue_part j v (queue_to j l Multi)) (card_at plan i).packets)
           (λ l from below. omega (arith, flow_weight i l Uni inside (omega arith), flow_weight i l Multi inside (omega arith))) in
           omega (arith, flows, queues_sum j v (card_at plan i).packets)
 
       delivered_weight : sum_by w (delivered (cells_under scheduler plan j t)) ≤ sum_by (sum_by (output_part j v)) (packets_in plan)
       delivered_weight =
           let all = delivered-sum w (ports_of plan) (cells_under scheduler plan j t) within in
-          let inputs = sum_range-le (λ i. level_sum (λ l k. sum_by w (messages_from i l k [] (cells_under scheduler plan j t))))
-          (λ i. sum_by (output_part j v) (card_at plan i).packets) 0 (ports_of plan) (λ i from below. input_weight i (omega arith)) in
+          let inputs = range_sum-le 0 (ports_of plan) (λ i. level_sum (λ l k. sum_by w (messages_from i l k [] (cells_under scheduler plan j t))))
+          (λ i. sum_by (output_part j v) (card_at plan i).packets) (λ i from below. input_weight i (omega arith)) in
           omega (arith, all, inputs, inputs_sum (sum_by (output_part j v)))
 
     delivered_fits : j < ports_of plan → (sum_by length (delivered (cells_under scheduler plan j t)) ≤ (card_at plan j).body_room)

@@ -2,7 +2,7 @@
 use Rattle.std.proofs.Common.{◌≡◌, ◌∙◌, ℕ, suc, ◌<◌, not, nat_lt, Bool, true, false, List, [], ◌∷◌, ◌++◌, map, Option, None, slice_index_or, refl, sym}
 use Rattle.std.proofs.Common.{ap, subst, arith, if◌then◌else◌}
 use Rattle.std.specs.List.{list_any, list_all}
-use Rattle.std.proofs.lemmas.Bool.{or_parts}
+use Rattle.std.proofs.lemmas.Bool.{not-false, or_parts}
 use Rattle.std.proofs.lemmas.List.{append-nil}
 use Rattle.std.proofs.lemmas.List.Folds.{list_all_at}
 use Rattle.std.proofs.lemmas.List.FromFn.{get_or-map-range_with_len}
@@ -81,10 +81,6 @@ module _ (card : Plan) (q : Queue) (j : ℕ) (served : List (Option Served)) (t 
       ∙ nothing_more (serves q j part) (granted_to card q j served t)
 
 -- ---- the last slot
-empty_is : (b : Bool) → not b ≡ false → b ≡ true
-empty_is true is = refl
-empty_is false is = absurd (cc)
-
 -- in the last slot no port says that more is to come
 module _ (scheduler : Scheduler) (plan : SwitchPlan) where
   no_more : (i t : ℕ) → i < ports_of plan → is_done_at (ports_of plan) (posts_under scheduler plan) t ≡ true → (posts_under scheduler plan i t).more ≡ true → ⊥
@@ -110,7 +106,7 @@ module _ (scheduler : Scheduler) (scheduling : IsScheduler scheduler) (plan : Sw
       let card = card_at plan i in
       let row = row_at card (parts_under scheduler plan i t) t in
       let more = or_parts (list_any (λ packet. nat_lt t packet.arrival) card.packets) (not (is_empty row)) (last_more scheduler plan i t inside done) in
-      subst IsEmptyRow (sym (row_at-same scheduler plan i t (suc t) (omega arith))) ((Decides-is_empty row).0 (empty_is (is_empty row) more.1))
+      subst IsEmptyRow (sym (row_at-same scheduler plan i t (suc t) (omega arith))) ((Decides-is_empty row).0 (not-false (is_empty row) more.1))
 
   pub all_delivered : (i j level : ℕ) (kind : Kind) (t : ℕ) → i < ports_of plan → j < ports_of plan → level < LEVELS
       → is_done_at (ports_of plan) (posts_under scheduler plan) t ≡ true

@@ -1,73 +1,17 @@
 -- Each message that is delivered is of one flow.
-use Rattle.std.proofs.Common.{◌≡◌, ◌≢◌, ◌∙◌, ℕ, zero, suc, ◌+◌, ◌<◌, ◌≤◌, ◌==◌, ◌&&◌, Bool, true, false, List, [], ◌∷◌, ◌++◌, All, sum_by, refl, sym}
-use Rattle.std.proofs.Common.{ap, arith, inl, inr, if◌then◌else◌}
+use Rattle.std.proofs.Common.{◌≡◌, ◌≢◌, ◌∙◌, ℕ, ◌+◌, ◌<◌, ◌==◌, ◌&&◌, Bool, true, false, List, [], ◌∷◌, ◌++◌, All, sum_by, refl, sym}
+use Rattle.std.proofs.Common.{arith, if◌then◌else◌}
 use Rattle.std.specs.List.{range_with_len}
-use Rattle.std.proofs.lemmas.Bool.{cases_eq, eq-eqb, ne_eqb}
+use Rattle.std.proofs.lemmas.Bool.{eq-eqb, ne_eqb}
 use Rattle.std.proofs.lemmas.List.Elements.{All-head, All-tail}
-use Rattle.std.proofs.lemmas.List.Sums.{sum_by-cons, sum_by-append}
+use Rattle.std.proofs.lemmas.List.Sums.{sum_by-append}
 use Rattle.rotating_pick.specs.declared.kinds.Kind.{Kind}
 use Rattle.rotating_pick.specs.declared.kinds.Kind.TheVariants.{Uni, Multi}
 use Rattle.rotating_pick.specs.declared.limits.TheConstants.{LEVELS}
 use Rattle.eslip_rounds.specs.Decisions.{is_kind}
 use Rattle.cell_cutter.specs.declared.cell.Cell.{Cell}
 use Rattle.card_core.specs.Deliveries.{is_of_flow, ended_by, messages_after, messages_from}
-
--- ---- sums
-module _ {X : Type 0} where
-  pub sum_same : (f g : X → ℕ) → ((x : X) → f x ≡ g x) → (xs : List X) → sum_by f xs ≡ sum_by g xs
-  sum_same f g same [] = refl
-  sum_same f g same (x ∷ xs) = let rest = sum_same f g same xs in omega (arith, sum_by-cons f x xs, sum_by-cons g x xs, same x, rest)
-
-  pub sum_add : (f g : X → ℕ) (xs : List X) → sum_by (λ x. f x + g x) xs ≡ sum_by f xs + sum_by g xs
-  sum_add f g [] = refl
-  sum_add f g (x ∷ xs) = let rest = sum_add f g xs in omega (arith, sum_by-cons (λ x. f x + g x) x xs, sum_by-cons f x xs, sum_by-cons g x xs, rest)
-
-  pub sum_none : (f : X → ℕ) → ((x : X) → f x ≡ 0) → (xs : List X) → sum_by f xs ≡ 0
-  sum_none f none [] = refl
-  sum_none f none (x ∷ xs) = let rest = sum_none f none xs in omega (arith, sum_by-cons f x xs, none x, rest)
-
--- of numbers that are 0 but at one place
-module _ (f : ℕ → ℕ) (c : ℕ) (others : (i : ℕ) → i ≢ c → f i ≡ 0) where
-  sum_past : (a n : ℕ) → c < a → sum_by f (range_with_len a n) ≡ 0
-  sum_past a zero past = refl
-  sum_past a (suc n) past =
-      let here : f a ≡ 0 = others a (λ e. omega arith) in
-      let rest = sum_past (a + 1) n (omega arith) in
-      omega (arith, sum_by-cons f a (range_with_len (a + 1) n), here, rest)
-
-  pub sum_at : (a n : ℕ) → a ≤ c → c < a + n → sum_by f (range_with_len a n) ≡ f c
-  sum_at a zero from below = absurd (omega arith)
-  sum_at a (suc n) from below = elim (cases_eq a c) [
-    | inl now ↦
-        let rest = sum_past (a + 1) n (omega arith) in
-        let here : f a ≡ f c = ap f now in
-        omega (arith, sum_by-cons f a (range_with_len (a + 1) n), here, rest)
-    | inr differ ↦
-        let here = others a differ in
-        let rest = sum_at (a + 1) n (omega (arith, differ)) (omega arith) in
-        omega (arith, sum_by-cons f a (range_with_len (a + 1) n), here, rest)
-  ]
-
-  pub sum_most : (a n : ℕ) → sum_by f (range_with_len a n) ≤ f c
-  sum_most a zero = omega arith
-  sum_most a (suc n) = elim (cases_eq a c) [
-    | inl now ↦
-        let rest = sum_past (a + 1) n (omega arith) in
-        let here : f a ≡ f c = ap f now in
-        omega (arith, sum_by-cons f a (range_with_len (a + 1) n), here, rest)
-    | inr differ ↦
-        let here = others a differ in
-        let rest = sum_most (a + 1) n in
-        omega (arith, sum_by-cons f a (range_with_len (a + 1) n), here, rest)
-  ]
-
--- of numbers of which each is at most another
-pub sum_range-le : (f g : ℕ → ℕ) (a n : ℕ) → ((i : ℕ) → a ≤ i → i < a + n → f i ≤ g i) → sum_by f (range_with_len a n) ≤ sum_by g (range_with_len a n)
-sum_range-le f g a zero le = omega arith
-sum_range-le f g a (suc n) le =
-    let here = le a (omega arith) (omega arith) in
-    let rest = sum_range-le f g (a + 1) n (λ i from below. le i (omega arith) (omega arith)) in
-    omega (arith, sum_by-cons f a (range_with_len (a + 1) n), sum_by-cons g a (range_with_len (a + 1) n), here, rest)
+use Rattle.run_laws.proofs.RangeSums.{sum_by-same, sum_by-plus, sum_by-none, range_sum-at}
 
 -- ---- sums over the flows
 -- over those of an input
@@ -79,23 +23,25 @@ abbrev pub flow_sum : ℕ → (ℕ → ℕ → Kind → ℕ) → ℕ
 flow_sum n f = sum_by (λ i. level_sum (f i)) (range_with_len 0 n)
 
 level_same : (f g : ℕ → Kind → ℕ) → ((l : ℕ) (k : Kind) → f l k ≡ g l k) → level_sum f ≡ level_sum g
-level_same f g same = sum_same (λ l. f l Uni + f l Multi) (λ l. g l Uni + g l Multi) (λ l. omega (arith, same l Uni, same l Multi)) (range_with_len 0 LEVELS)
+level_same f g same = sum_by-same (λ l. f l Uni + f l Multi) (λ l. g l Uni + g l Multi) (range_with_len 0 LEVELS)
+    (λ l. omega (arith, same l Uni, same l Multi))
 
 flow_same : (n : ℕ) (f g : ℕ → ℕ → Kind → ℕ) → ((i l : ℕ) (k : Kind) → f i l k ≡ g i l k) → flow_sum n f ≡ flow_sum n g
-flow_same n f g same = sum_same (λ i. level_sum (f i)) (λ i. level_sum (g i)) (λ i. level_same (f i) (g i) (same i)) (range_with_len 0 n)
+flow_same n f g same = sum_by-same (λ i. level_sum (f i)) (λ i. level_sum (g i)) (range_with_len 0 n) (λ i. level_same (f i) (g i) (same i))
 
 pub level_add : (f g : ℕ → Kind → ℕ) → level_sum (λ l k. f l k + g l k) ≡ level_sum f + level_sum g
 level_add f g =
-    sum_same (λ l. f l Uni + g l Uni + (f l Multi + g l Multi)) (λ l. f l Uni + f l Multi + (g l Uni + g l Multi)) (λ l. omega arith) (range_with_len 0 LEVELS)
-    ∙ sum_add (λ l. f l Uni + f l Multi) (λ l. g l Uni + g l Multi) (range_with_len 0 LEVELS)
+    sum_by-same (λ l. f l Uni + g l Uni + (f l Multi + g l Multi)) (λ l. f l Uni + f l Multi + (g l Uni + g l Multi)) (range_with_len 0 LEVELS)
+    (λ l. omega arith)
+    ∙ sum_by-plus (λ l. f l Uni + f l Multi) (λ l. g l Uni + g l Multi) (range_with_len 0 LEVELS)
 
 flow_add : (n : ℕ) (f g : ℕ → ℕ → Kind → ℕ) → flow_sum n (λ i l k. f i l k + g i l k) ≡ flow_sum n f + flow_sum n g
 flow_add n f g =
-    sum_same (λ i. level_sum (λ l k. f i l k + g i l k)) (λ i. level_sum (f i) + level_sum (g i)) (λ i. level_add (f i) (g i)) (range_with_len 0 n)
-    ∙ sum_add (λ i. level_sum (f i)) (λ i. level_sum (g i)) (range_with_len 0 n)
+    sum_by-same (λ i. level_sum (λ l k. f i l k + g i l k)) (λ i. level_sum (f i) + level_sum (g i)) (range_with_len 0 n) (λ i. level_add (f i) (g i))
+    ∙ sum_by-plus (λ i. level_sum (f i)) (λ i. level_sum (g i)) (range_with_len 0 n)
 
 flow_none : (n : ℕ) → flow_sum n (λ i l k. 0) ≡ 0
-flow_none n = sum_none (λ i. level_sum (λ l k. 0)) (λ i. refl) (range_with_len 0 n)
+flow_none n = sum_by-none (λ i. level_sum (λ l k. 0)) (range_with_len 0 n) (λ i. refl)
 
 -- ---- a cell is of one flow
 module _ (cell : Cell) (x : ℕ) where
@@ -113,19 +59,20 @@ module _ (cell : Cell) (x : ℕ) where
   other_input : (i : ℕ) → i ≢ cell.input → level_sum (own i) ≡ 0
   other_input i differ =
       let apart : (cell.input == i) ≡ false = ne_eqb cell.input i (λ e. differ (sym e)) in
-      sum_none (λ l. own i l Uni + own i l Multi) (λ l. both_kinds (cell.input == i) (cell.level == l) cell.kind ∙ rw apart) (range_with_len 0 LEVELS)
+      sum_by-none (λ l. own i l Uni + own i l Multi) (range_with_len 0 LEVELS)
+      (λ l. both_kinds (cell.input == i) (cell.level == l) cell.kind ∙ rw apart)
 
   own_input : cell.level < LEVELS → level_sum (own cell.input) ≡ x
   own_input small =
       let mine : (cell.input == cell.input) ≡ true = eq-eqb cell.input cell.input refl in
-      sum_at (λ l. own cell.input l Uni + own cell.input l Multi) cell.level
+      range_sum-at (λ l. own cell.input l Uni + own cell.input l Multi) cell.level
       (λ l differ. let apart : (cell.level == l) ≡ false = ne_eqb cell.level l (λ e. differ (sym e)) in
       both_kinds (cell.input == cell.input) (cell.level == l) cell.kind ∙ rw (mine, apart)) 0 LEVELS (omega arith) small
       ∙ both_kinds (cell.input == cell.input) (cell.level == cell.level) cell.kind
       ∙ (let here : (cell.level == cell.level) ≡ true = eq-eqb cell.level cell.level refl in rw (mine, here))
 
   one_flow : (n : ℕ) → cell.input < n → cell.level < LEVELS → flow_sum n own ≡ x
-  one_flow n inside small = sum_at (λ i. level_sum (own i)) cell.input other_input 0 n (omega arith) (omega arith) ∙ own_input small
+  one_flow n inside small = range_sum-at (λ i. level_sum (own i)) cell.input other_input 0 n (omega arith) (omega arith) ∙ own_input small
 
 -- ---- the messages of all flows are those that are delivered
 module _ (w : List ℕ → ℕ) (n : ℕ) where

@@ -1,5 +1,5 @@
 -- Sums of sums: their order, terms that grow, and the terms of one place alone.
-use Rattle.std.proofs.Common.{◌≡◌, ◌∙◌, ℕ, zero, suc, ◌+◌, ◌*◌, ◌/◌, ◌<◌, ◌≤◌, ◌==◌, List, [], ◌∷◌, refl, sym, ap, add-one, arith, inl, inr, if◌then◌else◌}
+use Rattle.std.proofs.Common.{◌≡◌, ◌≢◌, ◌∙◌, ℕ, zero, suc, ◌+◌, ◌*◌, ◌/◌, ◌<◌, ◌≤◌, ◌==◌, List, [], ◌∷◌, refl, sym, ap, add-one, arith, inl, inr, if◌then◌else◌}
 use Rattle.std.specs.Prelude.{count_ones}
 use Rattle.std.specs.List.{range_with_len, sum_by}
 use Rattle.std.specs.Int.{bit_at}
@@ -22,6 +22,9 @@ sum_by-plus f g (x ∷ xs) =
 
 pub sum_by-same : {X : Type 0} (f g : X → ℕ) (xs : List X) → ((x : X) → f x ≡ g x) → sum_by f xs ≡ sum_by g xs
 sum_by-same f g xs same = ap (λ h. sum_by h xs) (λ i x. same x i)
+
+pub sum_by-none : {X : Type 0} (f : X → ℕ) (xs : List X) → ((x : X) → f x ≡ 0) → sum_by f xs ≡ 0
+sum_by-none f xs none = sum_by-same f (λ x. 0) xs none ∙ sum_by-zero xs
 
 pub sum_by-times : {X : Type 0} (x : ℕ) (f : X → ℕ) (xs : List X) → sum_by (λ y. x * f y) xs ≡ x * sum_by f xs
 sum_by-times x f [] = omega arith
@@ -67,28 +70,46 @@ range_sum-less a (suc n) f g h from below less le =
           omega arith
     ]
 
--- of the terms that are some only at one place
-pub range_sum-past : (a n m x : ℕ) → m < a → sum_by (λ l. if l == m then x else 0) (range_with_len a n) ≡ 0
-range_sum-past a zero m x past = refl
-range_sum-past a (suc n) m x past =
-    let here : (if a == m then x else 0) ≡ 0 = rw (ne_eqb a m (λ e. omega arith)) refl in
-    let rest = range_sum-past (a + 1) n m x (omega arith) in
-    omega (arith, sum_by-cons (λ l. if l == m then x else 0) a (range_with_len (a + 1) n))
+-- of terms that are some only at one place
+module _ (f : ℕ → ℕ) (c : ℕ) (others : (i : ℕ) → i ≢ c → f i ≡ 0) where
+  range_sum-past : (a n : ℕ) → c < a → sum_by f (range_with_len a n) ≡ 0
+  range_sum-past a zero past = refl
+  range_sum-past a (suc n) past =
+      let here : f a ≡ 0 = others a (λ e. omega arith) in
+      let rest = range_sum-past (a + 1) n (omega arith) in
+      omega (arith, sum_by-cons f a (range_with_len (a + 1) n), here, rest)
+
+  pub range_sum-at : (a n : ℕ) → a ≤ c → c < a + n → sum_by f (range_with_len a n) ≡ f c
+  range_sum-at a zero from below = absurd (omega arith)
+  range_sum-at a (suc n) from below = elim (cases_eq a c) [
+    | inl now ↦
+        let rest = range_sum-past (a + 1) n (omega arith) in
+        let here : f a ≡ f c = ap f now in
+        omega (arith, sum_by-cons f a (range_with_len (a + 1) n), here, rest)
+    | inr differ ↦
+        let here = others a differ in
+        let rest = range_sum-at (a + 1) n (omega (arith, differ)) (omega arith) in
+        omega (arith, sum_by-cons f a (range_with_len (a + 1) n), here, rest)
+  ]
+
+  pub range_sum-most : (a n : ℕ) → sum_by f (range_with_len a n) ≤ f c
+  range_sum-most a zero = omega arith
+  range_sum-most a (suc n) = elim (cases_eq a c) [
+    | inl now ↦
+        let rest = range_sum-past (a + 1) n (omega arith) in
+        let here : f a ≡ f c = ap f now in
+        omega (arith, sum_by-cons f a (range_with_len (a + 1) n), here, rest)
+    | inr differ ↦
+        let here = others a differ in
+        let rest = range_sum-most (a + 1) n in
+        omega (arith, sum_by-cons f a (range_with_len (a + 1) n), here, rest)
+  ]
 
 pub range_sum-one : (a n m x : ℕ) → sum_by (λ l. if l == m then x else 0) (range_with_len a n) ≤ x
-range_sum-one a zero m x = omega arith
-range_sum-one a (suc n) m x =
-    let step = sum_by-cons (λ l. if l == m then x else 0) a (range_with_len (a + 1) n) in
-    elim (cases_eq a m) [
-      | inl is ↦
-          let here : (if a == m then x else 0) ≡ x = rw (eq-eqb a m is) refl in
-          let rest = range_sum-past (a + 1) n m x (omega arith) in
-          omega arith
-      | inr other ↦
-          let here : (if a == m then x else 0) ≡ 0 = rw (ne_eqb a m other) refl in
-          let rest = range_sum-one (a + 1) n m x in
-          omega arith
-    ]
+range_sum-one a n m x =
+    let here : (if m == m then x else 0) ≡ x = rw (eq-eqb m m refl) refl in
+    let most = range_sum-most (λ l. if l == m then x else 0) m (λ l other. rw (ne_eqb l m other) refl) a n in
+    omega (arith, here, most)
 
 -- one place on
 pub range_sum-shift : (a n : ℕ) (f : ℕ → ℕ) → sum_by f (range_with_len (a + 1) n) ≡ sum_by (λ i. f (i + 1)) (range_with_len a n)

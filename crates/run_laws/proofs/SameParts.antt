@@ -7,9 +7,8 @@ use Rattle.slot_match.specs.declared.rows.Row.{Row}
 use Rattle.slot_match.specs.declared.matching.Served.{Served}
 use Rattle.slot_match.specs.Parts.{set_of}
 use Rattle.multicast_queue.specs.FanQueues.{first_name}
-use Rattle.card_core.specs.declared.plan.Planned.{Planned}
-use Rattle.card_core.specs.Plans.{Plan as CardPlan, Queue, OfOutput, OfLevel, arriving, queue_of, cell_named}
-use Rattle.card_core.specs.Queues.{Passed, waiting, rest_of, with_arrival, after_part, before, queue_in, is_admitted, fits}
+use Rattle.card_core.specs.Plans.{Plan as CardPlan, Queue, OfOutput, OfLevel, arriving, cell_named}
+use Rattle.card_core.specs.Queues.{Passed, waiting, rest_of, with_arrival, after_part, before, queue_in}
 use Rattle.card_core.specs.Posts.{has_cells, queue_served, row_at, granted_by, granted_at, post_at}
 use Rattle.card_core.specs.Grants.{serves, first_of, granted_to}
 
@@ -62,6 +61,3 @@ module _ (plan : CardPlan) (these those : List (Option Served)) (k : ℕ)
       ap (λ cells. cells ++ (if serves q j (slice_index_or these t None) then first_of (waiting (queue_in plan q these t)) else [])) earlier
       ∙ (ap (λ s. granted_to plan q j those t ++ (if serves q j (slice_index_or these t None) then first_of (waiting s) else [])) queue
       ∙ ap (λ one. granted_to plan q j those t ++ (if serves q j one then first_of (waiting (queue_in plan q those t)) else [])) part)
-
-  pub is_admitted-alike : (packet : Planned) (t : ℕ) → t ≤ k → is_admitted plan these t packet ≡ is_admitted plan those t packet
-  is_admitted-alike packet t few = ap (λ s. fits plan s packet) (before-alike (queue_of packet) t few)
