@@ -7,6 +7,7 @@ use Rattle.std.proofs.lemmas.List.{length-append, length-map, get_or-map}
 use Rattle.std.proofs.lemmas.List.FromFn.{fill_by_all, length-range_with_len}
 use Rattle.std.proofs.lemmas.List.Sums.{sum_by-le, sum-map}
 use Rattle.std.proofs.lemmas.Option.{slice_get-get_or, get_or_from_slice_get}
+use Rattle.std.proofs.lemmas.Simd.{map-map}
 use Rattle.cell_cutter.specs.declared.cell.Cell.{Cell}
 use Rattle.slot_match.specs.declared.matching.Served.{Served}
 use Rattle.slot_board.specs.Boards.{least_of}
@@ -26,10 +27,6 @@ sum_of {X} f g xs n long each =
     get_or-map f xs k x 0 inside ∙ ap f (get_or_from_slice_get xs k x x at) ∙ each k x at in
     let terms = fill_by_all g (map f xs) n 0 (length-map xs f ∙ long) term in
     sym (sum-map f xs) ∙ ap (λ ys. sum_by (λ y. y) ys) terms ∙ sum-map g (range_with_len 0 n)
-
-pub map-map : {A B C : Type 0} (g : B → C) (f : A → B) (xs : List A) → map g (map f xs) ≡ map (λ x. g (f x)) xs
-map-map g f [] = refl
-map-map g f (x ∷ xs) = ap (λ ys. g (f x) ∷ ys) (map-map g f xs)
 
 -- a sum over a list that was made element by element
 pub sum_by-map : {A B : Type 0} (f : B → ℕ) (g : A → B) (xs : List A) → sum_by f (map g xs) ≡ sum_by (λ x. f (g x)) xs

@@ -18,7 +18,7 @@ use Rattle.run_laws.specs.Ends.{IsLengthUnder}
 use Rattle.run_laws.proofs.Base.{good-card}
 use Rattle.run_laws.proofs.Rooms.{packets-at}
 use Rattle.run_laws.proofs.Arrivals.{arrivals_first}
-use Rattle.run_laws.proofs.FlowSums.{sum_add, sum_range-le}
+use Rattle.run_laws.proofs.RangeSums.{sum_by-plus, range_sum-le}
 use Rattle.switch_jobs.specs.Outcomes.{admitted_count, dropped_count, over_ports, summary_under, CountsPacketsOnce}
 use Rattle.switch_jobs.proofs.Adding.{sum_by-map}
 
@@ -73,12 +73,12 @@ module _ (scheduler : Scheduler) (plan : SwitchPlan) (slots : ℕ) (good : IsGoo
   unfolding summary_under
   counted-once =
       let ports = range_with_len 0 (ports_of plan) in
-      let most = sum_range-le (λ i. counted_at i + aside_at i) all_at 0 (ports_of plan)
+      let most = range_sum-le 0 (ports_of plan) (λ i. counted_at i + aside_at i) all_at
       (λ i from below. let is = port_is i (omega arith) in omega (arith, is)) in
-      let least = sum_range-le all_at (λ i. counted_at i + aside_at i) 0 (ports_of plan)
+      let least = range_sum-le 0 (ports_of plan) all_at (λ i. counted_at i + aside_at i)
       (λ i from below. let is = port_is i (omega arith) in omega (arith, is)) in
-      let split = sum_add counted_at aside_at ports in
-      let parts = sum_add (admitted_count scheduler plan slots) (dropped_count scheduler plan slots) ports in
+      let split = sum_by-plus counted_at aside_at ports in
+      let parts = sum_by-plus (admitted_count scheduler plan slots) (dropped_count scheduler plan slots) ports in
       let packets = sum_of_ports plan good length in
       let asides = sum_of_ports plan good (count_by is_aside) in
       let none = good.aside in

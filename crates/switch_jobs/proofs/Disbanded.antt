@@ -1,5 +1,5 @@
 -- Hands and seats of groups that were disbanded, and what the hands' cards leave.
-use Rattle.std.proofs.Common.{◌≡◌, ◌∙◌, ℕ, ◌^◌, ◌<◌, ◌≤◌, List, [], ◌∷◌, ◌++◌, refl, sym, ap, subst, arith, inl, inr}
+use Rattle.std.proofs.Common.{◌≡◌, ◌∙◌, ℕ, ◌^◌, ◌<◌, ◌≤◌, List, [], ◌∷◌, ◌++◌, sym, ap, subst, arith, inl, inr}
 use Rattle.std.specs.Prelude.{Some, slice_get}
 use Rattle.std.specs.Option.{option_map}
 use Rattle.std.proofs.lemmas.List.{length-map, length_push}
@@ -71,6 +71,3 @@ AreLeft-more hands outputs hand out left own =
                 ]
           ];
     }
-
-pub AreLeft-none : AreLeft [] []
-AreLeft-none = record { count = refl; each = λ i h o at too. let inside : i < 0 = slice_get_within [] i h at in absurd (omega arith) }

@@ -4,6 +4,7 @@ use Rattle.std.specs.Prelude.{Some, slice_get}
 use Rattle.std.specs.List.{sum_by, range_with_len}
 use Rattle.std.proofs.lemmas.List.FromFn.{length-map-range_with_len}
 use Rattle.std.proofs.lemmas.Option.{slice_get_within}
+use Rattle.std.proofs.lemmas.Simd.{map-map}
 use Rattle.rotating_pick.specs.declared.limits.TheConstants.{LEVELS}
 use Rattle.eslip_rounds.specs.Schedulers.{Scheduler}
 use Rattle.eslip_rounds.specs.Decisions.{decision_of}
@@ -27,7 +28,7 @@ use Rattle.switch_jobs.specs.Outcomes.{IsOutputUnder, IsOutput}
 use Rattle.switch_jobs.specs.ReadinessSteps.{plan_with}
 use Rattle.switch_jobs.specs.JournalSteps.{noted_in, longest_in, HaveSums, summary_with, summary_in}
 use Rattle.switch_jobs.specs.EndingSteps.{AreLeft, IsRunOf}
-use Rattle.switch_jobs.proofs.Adding.{map-map, sum_of, sum_fits}
+use Rattle.switch_jobs.proofs.Adding.{sum_of, sum_fits}
 use Rattle.switch_jobs.proofs.Leaving.{IsFew, few_of}
 use Rattle.switch_jobs.proofs.Limits.{slots_few}
 
