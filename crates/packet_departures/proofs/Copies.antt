@@ -1,5 +1,5 @@
 -- As many packets leave by an output as its capture has messages.
-use Rattle.std.proofs.Common.{◌≡◌, ◌∙◌, ℕ, zero, suc, ◌+◌, ◌<◌, ◌≤◌, ◌==◌, ◌&&◌, Bool, true, false, All, List, [], ◌∷◌, map, filter, length, count_by}
+use Rattle.std.proofs.Common.{◌≡◌, ◌∙◌, ℕ, ◌+◌, ◌<◌, ◌==◌, ◌&&◌, Bool, true, false, All, List, [], ◌∷◌, map, filter, length, count_by}
 use Rattle.std.proofs.Common.{sum_by, slice_index_or, refl, sym, ap, arith, inl, inr, if◌then◌else◌}
 use Rattle.std.specs.List.{range_with_len}
 use Rattle.std.proofs.lemmas.Bool.{and_from, and_right, cases_Bool, eq-eqb, ne_eqb}
@@ -13,6 +13,7 @@ use Rattle.rotating_pick.specs.declared.limits.TheConstants.{LEVELS}
 use Rattle.eslip_rounds.specs.Schedulers.{Scheduler, IsScheduler}
 use Rattle.slot_histories.specs.Tests.{has}
 use Rattle.slot_histories.proofs.SetTests.{Decides-has}
+use Rattle.slot_histories.proofs.CardSums.{sum_by-range_same}
 use Rattle.card_core.specs.declared.plan.Planned.{Planned}
 use Rattle.card_core.specs.Plans.{Queue, OfOutput, OfLevel, level_of, is_queue, queue_of, message_of}
 use Rattle.card_core.specs.Queues.{is_routed, is_admitted}
@@ -25,20 +26,13 @@ use Rattle.run_laws.specs.Ends.{IsLengthUnder}
 use Rattle.run_laws.specs.Crossings.{cells_under, queue_to}
 use Rattle.run_laws.proofs.Base.{good-card}
 use Rattle.run_laws.proofs.Emptied.{packets_delivered}
-use Rattle.run_laws.proofs.FlowSums.{sum_same, sum_at, level_sum, level_add, delivered-sum}
+use Rattle.run_laws.proofs.RangeSums.{sum_by-same, range_sum-at}
+use Rattle.run_laws.proofs.FlowSums.{level_sum, level_add, delivered-sum}
 use Rattle.run_laws.proofs.OfFlows.{all_of_flows}
 use Rattle.packet_departures.specs.Departures.{goes_by}
 use Rattle.packet_departures.specs.Promises.{leaves_by, leaving_by, CountsDepartures}
 use Rattle.packet_departures.proofs.Filtered.{count-cons}
 use Rattle.packet_departures.proofs.FlowEnds.{flow_to, only_output, admitted_go}
-
--- ---- sums of equal numbers over a range
-sum_range : (f g : ℕ → ℕ) (a n : ℕ) → ((i : ℕ) → a ≤ i → i < a + n → f i ≡ g i) → sum_by f (range_with_len a n) ≡ sum_by g (range_with_len a n)
-sum_range f g a zero same = refl
-sum_range f g a (suc n) same =
-    let here = same a (omega arith) (omega arith) in
-    let rest = sum_range f g (a + 1) n (λ i from below. same i (omega arith) (omega arith)) in
-    omega (arith, sum_by-cons f a (range_with_len (a + 1) n), sum_by-cons g a (range_with_len (a + 1) n), here, rest)
 
 ones : (ms : List (List ℕ)) → sum_by (λ m. 1) ms ≡ length ms
 ones [] = refl
@@ -70,7 +64,7 @@ module _ (r a h : Bool) where
 
     one_flow : (q : Queue) → level_of q < LEVELS → ((o l : ℕ) → q ≡ OfOutput o l → h ≡ true → j ≡ o) → level_sum (part q) ≡ (if r && a && h then 1 else 0)
     one_flow (OfOutput o b) below only =
-        sum_at (λ l. part (OfOutput o b) l Uni + part (OfOutput o b) l Multi) b
+        range_sum-at (λ l. part (OfOutput o b) l Uni + part (OfOutput o b) l Multi) b
         (λ l differ. omega (arith, of_none ((j == o) && (l == b)) (and_right (j == o) (l == b) (ne_eqb l b differ)), of_none false refl))
         0 LEVELS (omega arith) (omega (arith, below))
         ∙ elim (cases_Bool h) [
@@ -80,7 +74,7 @@ module _ (r a h : Bool) where
           | inr none ↦ omega (arith, stays (r && ((j == o) && (b == b)) && a) none, stays (r && a) none, of_none false refl)
         ]
     one_flow (OfLevel b) below only =
-        sum_at (λ l. part (OfLevel b) l Uni + part (OfLevel b) l Multi) b
+        range_sum-at (λ l. part (OfLevel b) l Uni + part (OfLevel b) l Multi) b
         (λ l differ. omega (arith, of_none (l == b) (ne_eqb l b differ), of_none false refl)) 0 LEVELS (omega arith) (omega (arith, below))
         ∙ omega (arith, of_one (b == b) (eq-eqb b b refl), of_none false refl)
 
@@ -106,8 +100,8 @@ module _ (scheduler : Scheduler) (plan : SwitchPlan) (slots i j : ℕ) where
       let one : ℕ → Kind → ℕ = λ l k. if goes l k p then 1 else 0 in
       let more : ℕ → Kind → ℕ = λ l k. count_by (goes l k) ps in
       let split : level_sum (λ l k. count_by (goes l k) (p ∷ ps)) ≡ level_sum (λ l k. one l k + more l k) =
-      sum_same (λ l. count_by (goes l Uni) (p ∷ ps) + count_by (goes l Multi) (p ∷ ps)) (λ l. one l Uni + more l Uni + (one l Multi + more l Multi))
-      (λ l. omega (arith, count-cons (goes l Uni) p ps, count-cons (goes l Multi) p ps)) (range_with_len 0 LEVELS) in
+      sum_by-same (λ l. count_by (goes l Uni) (p ∷ ps) + count_by (goes l Multi) (p ∷ ps)) (λ l. one l Uni + more l Uni + (one l Multi + more l Multi))
+      (range_with_len 0 LEVELS) (λ l. omega (arith, count-cons (goes l Uni) p ps, count-cons (goes l Multi) p ps)) in
       omega (arith, split, level_add one more, count-cons leaves p ps, here, rest)
 
 -- ---- the messages of an output
@@ -135,15 +129,15 @@ module _ (scheduler : Scheduler) (scheduling : IsScheduler scheduler) (plan : Sw
     input_messages : (i : ℕ) → i < ports_of plan → level_sum (messages i) ≡ count_by (leaves_by scheduler plan slots i j) (card_at plan i).packets
     input_messages i inside =
         let ps = (card_at plan i).packets in
-        sum_range (λ l. messages i l Uni + messages i l Multi)
-        (λ l. count_by (goes scheduler plan slots i j l Uni) ps + count_by (goes scheduler plan slots i j l Multi) ps) 0 LEVELS
+        sum_by-range_same 0 LEVELS (λ l. count_by (goes scheduler plan slots i j l Uni) ps + count_by (goes scheduler plan slots i j l Multi) ps)
+        (λ l. messages i l Uni + messages i l Multi)
         (λ l from below. omega (arith, flow_messages i l Uni inside (omega arith), flow_messages i l Multi inside (omega arith)))
         ∙ packets_flows scheduler plan slots i j ps (levels_below i inside)
 
     each_counted : leaving_by scheduler plan slots j ≡ length (messages_under scheduler plan j slots)
     each_counted =
         let cells = cells_under scheduler plan j slots in
-        sym (sum_range (λ i. level_sum (messages i)) (λ i. count_by (leaves_by scheduler plan slots i j) (card_at plan i).packets) 0 (ports_of plan)
+        sym (sum_by-range_same 0 (ports_of plan) (λ i. count_by (leaves_by scheduler plan slots i j) (card_at plan i).packets) (λ i. level_sum (messages i))
         (λ i from below. input_messages i (omega (arith, below))))
         ∙ delivered-sum (λ m. 1) (ports_of plan) cells (all_of_flows scheduler scheduling plan good j slots)
         ∙ ones (messages_under scheduler plan j slots)
@@ -151,7 +145,7 @@ module _ (scheduler : Scheduler) (scheduling : IsScheduler scheduler) (plan : Sw
   all_counted : over_ports plan (leaving_by scheduler plan slots) ≡ (summary_under scheduler plan slots).copies
   unfolding summary_under
   all_counted =
-      sum_range (leaving_by scheduler plan slots) (λ j. length (messages_under scheduler plan j slots)) 0 (ports_of plan)
+      sum_by-range_same 0 (ports_of plan) (λ j. length (messages_under scheduler plan j slots)) (leaving_by scheduler plan slots)
       (λ j from below. each_counted j (omega (arith, below)))
 
   pub counted : CountsDepartures scheduler plan slots

@@ -10,6 +10,7 @@ use Rattle.std.proofs.lemmas.List.Elements.{filter-append, filter_agree}
 use Rattle.std.proofs.lemmas.List.Sums.{length-filter, sum_by_more}
 use Rattle.std.proofs.lemmas.Option.{get_or_from_slice_get, slice_get_within}
 use Rattle.std.proofs.Math.Seq.{take-append_seam}
+use Rattle.std.proofs.Math.Bool.{and_assoc}
 use Rattle.rotating_pick.specs.declared.kinds.Kind.{Kind}
 use Rattle.cell_cutter.specs.declared.cell.Cell.{Cell}
 use Rattle.cell_cutter.specs.Messages.{cells_in}
@@ -120,10 +121,6 @@ module _ (scheduler : Scheduler) (plan : SwitchPlan) (slots i j level : ℕ) (ki
       (o.0, omega (arith, less, upto, o.2, end_count (range_with_len 0 (suc t))))
 
 -- ---- the messages of a flow
-and_assoc : (a b c : Bool) → (a && b && c) ≡ (a && (b && c))
-and_assoc true b c = refl
-and_assoc false b c = refl
-
 module _ (scheduler : Scheduler) (scheduling : IsScheduler scheduler) (plan : SwitchPlan) (good : IsGood plan) (slots : ℕ)
     (ends : IsLengthUnder scheduler plan slots) (i j level : ℕ) (kind : Kind) (inside : i < ports_of plan) where
   abbrev card : Plan

@@ -6,6 +6,7 @@ use Rattle.std.proofs.lemmas.Bool.{cases_lt, lt-leb}
 use Rattle.std.proofs.lemmas.List.{take-append-le}
 use Rattle.std.proofs.lemmas.List.FromFn.{length-map-range_with_len, take-map-range_with_len}
 use Rattle.std.proofs.lemmas.List.Sums.{sum_by-append, sum_by-cons}
+use Rattle.std.proofs.Math.Seq.{take-append-add}
 use Rattle.rotating_pick.specs.declared.kinds.Kind.{Kind}
 use Rattle.cell_cutter.specs.declared.cell.Cell.{Cell}
 use Rattle.cell_cutter.specs.Messages.{cells_in}
@@ -28,11 +29,6 @@ lasts-append xs ys = sum_by-append (λ (c : Cell). if c.last then 1 else 0) xs y
 at_most : (b : Bool) → (if b then 1 else 0) ≤ 1
 at_most true = omega arith
 at_most false = omega arith
-
-take_beyond : (n : ℕ) (xs ys : List Cell) → take (length xs + n) (xs ++ ys) ≡ xs ++ take n ys
-take_beyond n [] ys = ap (λ k. take k ys) (let e : 0 + n ≡ n = omega arith in e)
-take_beyond n (x ∷ xs) ys =
-    ap (λ k. take k (x ∷ xs ++ ys)) (let e : length (x ∷ xs) + n ≡ suc (length xs + n) = omega arith in e) ∙ ap (λ zs. x ∷ zs) (take_beyond n xs ys)
 
 module _ (input level : ℕ) (kind : Kind) where
   abbrev cells_of : List ℕ → List Cell
@@ -74,7 +70,7 @@ module _ (input level : ℕ) (kind : Kind) where
   whole_lasts m rest n =
       let own = cells_of m in
       let split : lasts (take (weight m + n) (own ++ rest)) ≡ lasts (own ++ take n rest) =
-      ap (λ k. lasts (take (k + n) (own ++ rest))) (sym (cells_count m)) ∙ ap lasts (take_beyond n own rest) in
+      ap (λ k. lasts (take (k + n) (own ++ rest))) (sym (cells_count m)) ∙ ap lasts (take-append-add own rest n) in
       omega (arith, split, lasts-append own (take n rest), lasts_one m 0 (weight m) (omega arith))
 
   -- Of n first cells with more than r last ones there are r + 1 messages at least.
