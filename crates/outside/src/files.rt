@@ -1,6 +1,6 @@
-ghost use Rattle.std.specs.Prelude.{◌≡◌, ◌≤◌, ◌<◌, ℕ, Option, true, length, IfOk, IfSome, OnErr};
+ghost use Rattle.std.specs.Prelude.{◌≡◌, ◌≤◌, ◌<◌, ℕ, Option, true, length, IfOk, IfSome, OnErr, OnOk};
 ghost use Rattle.outside.specs.Contents.{Contents, GivesPiece, after_begin, after_err, after_out, after_write};
-ghost use Rattle.outside.specs.Faults.{Place, ReadOf, BeginOf, WriteOf, ToOut, ToErr, NeverFall, Rose};
+ghost use Rattle.outside.specs.Faults.{Place, ReadOf, BeginOf, WriteOf, ToOut, ToErr, NeverFall, NoneRose, Rose};
 
 use std::error::Error;
 use std::fmt;
@@ -20,7 +20,8 @@ impl Error for Failed {}
 /// Files, standard output and standard error.
 ///
 /// Each call may fail at any time, and a failure is counted: for each kind of call and each name there
-/// is a count of faults, which never falls. What the files hold is told, or it is not.
+/// is a count of faults, which never falls. A call that goes well raises no count. What the files hold
+/// is told, or it is not.
 pub trait Files {
     /// What the files hold, which names were begun, and what standard output and standard error
     /// were given; None where it is not told.
@@ -37,12 +38,14 @@ pub trait Files {
         ensures piece { IfOk result (λ k. IfSome (told self.old) (λ c. GivesPiece (c.file name.now) at (length buf.old) buf.new k)) }
         ensures room { IfOk result (λ k. k ≤ length buf.old) }
         ensures cause { OnErr result (Rose (faults self.old (ReadOf name.now)) (faults self.new (ReadOf name.now))) }
+        ensures no_fault { OnOk result (NoneRose (faults self.old) (faults self.new)) }
         ensures never_fall { NeverFall (faults self.old) (faults self.new) };
 
     /// Makes the named file empty and begun, also where it was there.
     fn begin(&mut self, name: &str) -> Result<(), Failed>
         ensures told { told self.new ≡ after_begin result name.now (told self.old) }
         ensures cause { OnErr result (Rose (faults self.old (BeginOf name.now)) (faults self.new (BeginOf name.now))) }
+        ensures no_fault { OnOk result (NoneRose (faults self.old) (faults self.new)) }
         ensures never_fall { NeverFall (faults self.old) (faults self.new) };
 
     /// Appends a first part of `bytes` to a file, which must have been begun, and answers its length in
@@ -53,6 +56,7 @@ pub trait Files {
         ensures room { IfOk result (λ k. k ≤ length bytes.now) }
         ensures some { IfOk result (λ k. 0 < length bytes.now → 0 < k) }
         ensures cause { OnErr result (Rose (faults self.old (WriteOf name.now)) (faults self.new (WriteOf name.now))) }
+        ensures no_fault { OnOk result (NoneRose (faults self.old) (faults self.new)) }
         ensures never_fall { NeverFall (faults self.old) (faults self.new) };
 
     /// Gives a first part of `bytes` to standard output, and answers its length in bytes: at least 1
@@ -62,6 +66,7 @@ pub trait Files {
         ensures room { IfOk result (λ k. k ≤ length bytes.now) }
         ensures some { IfOk result (λ k. 0 < length bytes.now → 0 < k) }
         ensures cause { OnErr result (Rose (faults self.old ToOut) (faults self.new ToOut)) }
+        ensures no_fault { OnOk result (NoneRose (faults self.old) (faults self.new)) }
         ensures never_fall { NeverFall (faults self.old) (faults self.new) };
 
     /// Gives a first part of `bytes` to standard error, and answers its length in bytes: at least 1
@@ -71,5 +76,6 @@ pub trait Files {
         ensures room { IfOk result (λ k. k ≤ length bytes.now) }
         ensures some { IfOk result (λ k. 0 < length bytes.now → 0 < k) }
         ensures cause { OnErr result (Rose (faults self.old ToErr) (faults self.new ToErr)) }
+        ensures no_fault { OnOk result (NoneRose (faults self.old) (faults self.new)) }
         ensures never_fall { NeverFall (faults self.old) (faults self.new) };
 }

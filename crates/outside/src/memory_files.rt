@@ -1,9 +1,9 @@
 ghost use Rattle.std.specs.Prelude.{◌≡◌, ◌≢◌, ◌≤◌, ◌<◌, ◌↔◌, ◌⊎◌, ◌+◌, ℕ, ◌++◌, true, Some, vec_capacity, length, take, drop, min, string_bytes};
-ghost use Rattle.std.specs.Prelude.{AllPairs, IfOk, IsErr, IsNone, IsTrue, OnErr};
+ghost use Rattle.std.specs.Prelude.{AllPairs, IfOk, IsErr, IsNone, IsTrue, OnErr, OnOk};
 ghost use Rattle.std.specs.Option.{option_copied};
 ghost use Rattle.outside.specs.Calls.{no_calls, one_more};
 ghost use Rattle.outside.specs.Contents.{GivesPiece, after_begin, after_err, after_out, after_write};
-ghost use Rattle.outside.specs.Faults.{Place, ReadOf, BeginOf, WriteOf, ToOut, ToErr, NeverFall, Rose};
+ghost use Rattle.outside.specs.Faults.{Place, ReadOf, BeginOf, WriteOf, ToOut, ToErr, NeverFall, NoneRose, Rose};
 ghost use Rattle.outside.specs.MemoryFiles.{contents_of, contents_given, faults_of, faults_after, piece_length, HasNoRoom, IsToFail, MakesCall};
 
 use crate::files::{Failed, Files};
@@ -168,6 +168,7 @@ impl Files for MemFiles {
         ensures piece { IfOk result (λ k. GivesPiece ((contents_of self.old).file name.now) at (length buf.old) buf.new k) }
         ensures room { IfOk result (λ k. k ≤ length buf.old) }
         ensures cause { OnErr result (Rose (faults_of self.old (ReadOf name.now)) (faults_of self.new (ReadOf name.now))) }
+        ensures no_fault { OnOk result (NoneRose (faults_of self.old) (faults_of self.new)) }
         ensures never_fall { NeverFall (faults_of self.old) (faults_of self.new) }
 
         ensures count { IfOk result (λ k. k ≡ piece_length self.old.piece at (length buf.old) ((contents_of self.old).file name.now)) }
@@ -187,6 +188,7 @@ impl Files for MemFiles {
     fn begin(&mut self, name: &str) -> Result<(), Failed>
         ensures told { Some (contents_of self.new) ≡ after_begin result name.now (Some (contents_of self.old)) }
         ensures cause { OnErr result (Rose (faults_of self.old (BeginOf name.now)) (faults_of self.new (BeginOf name.now))) }
+        ensures no_fault { OnOk result (NoneRose (faults_of self.old) (faults_of self.new)) }
         ensures never_fall { NeverFall (faults_of self.old) (faults_of self.new) }
 
         ensures planned { IsToFail Call.Begin self.old → IsErr result }
@@ -209,6 +211,7 @@ impl Files for MemFiles {
         ensures room { IfOk result (λ k. k ≤ length bytes.now) }
         ensures some { IfOk result (λ k. 0 < length bytes.now → 0 < k) }
         ensures cause { OnErr result (Rose (faults_of self.old (WriteOf name.now)) (faults_of self.new (WriteOf name.now))) }
+        ensures no_fault { OnOk result (NoneRose (faults_of self.old) (faults_of self.new)) }
         ensures never_fall { NeverFall (faults_of self.old) (faults_of self.new) }
 
         ensures count { IfOk result (λ k. k ≡ min self.old.piece (length bytes.now)) }
@@ -232,6 +235,7 @@ impl Files for MemFiles {
         ensures room { IfOk result (λ k. k ≤ length bytes.now) }
         ensures some { IfOk result (λ k. 0 < length bytes.now → 0 < k) }
         ensures cause { OnErr result (Rose (faults_of self.old ToOut) (faults_of self.new ToOut)) }
+        ensures no_fault { OnOk result (NoneRose (faults_of self.old) (faults_of self.new)) }
         ensures never_fall { NeverFall (faults_of self.old) (faults_of self.new) }
 
         ensures count { IfOk result (λ k. k ≡ min self.old.piece (length bytes.now)) }
@@ -255,6 +259,7 @@ impl Files for MemFiles {
         ensures room { IfOk result (λ k. k ≤ length bytes.now) }
         ensures some { IfOk result (λ k. 0 < length bytes.now → 0 < k) }
         ensures cause { OnErr result (Rose (faults_of self.old ToErr) (faults_of self.new ToErr)) }
+        ensures no_fault { OnOk result (NoneRose (faults_of self.old) (faults_of self.new)) }
         ensures never_fall { NeverFall (faults_of self.old) (faults_of self.new) }
 
         ensures count { IfOk result (λ k. k ≡ min self.old.piece (length bytes.now)) }

@@ -1,5 +1,5 @@
 ghost use Rattle.std.specs.Prelude.{◌≡◌, ◌≤◌, ◌<◌, [], Some, true, length, All, IfOk, OnOk, OnErr, IfSome, IsErrOf};
-ghost use Rattle.outside.specs.Faults.{ReadOf, ToOut, NeverFall, Rose};
+ghost use Rattle.outside.specs.Faults.{ReadOf, ToOut, NeverFall, NoneRose, Rose};
 ghost use Rattle.outside.specs.WholeFiles.{Appends, GivesOut, IsLongerThan, Puts};
 
 use crate::files::{Failed, Files};
@@ -46,6 +46,7 @@ fn read_into<F: Files>(
     requires room { 0 < length buf.old }
     requires empty { bytes.old.items ≡ [] }
     ensures told { F.told files.new ≡ F.told files.old }
+    ensures no_fault { OnOk result (NoneRose (F.faults files.old) (F.faults files.new)) }
     ensures never_fall { NeverFall (F.faults files.old) (F.faults files.new) }
     ensures bytes { OnOk result (IfSome (F.told files.old) (λ c. c.file name.now ≡ Some bytes.new.items)) }
     ensures fits { OnOk result (length bytes.new.items ≤ limit) }
@@ -80,6 +81,7 @@ pub fn read_whole<F: Files>(
 ) -> Result<Vec<u8>, ReadFailure>
     requires { 0 < length buf.old }
     ensures told { F.told files.new ≡ F.told files.old }
+    ensures no_fault { OnOk result (NoneRose (F.faults files.old) (F.faults files.new)) }
     ensures never_fall { NeverFall (F.faults files.old) (F.faults files.new) }
     ensures bytes { IfOk result (λ v. IfSome (F.told files.old) (λ c. c.file name.now ≡ Some v.items)) }
     ensures fits { IfOk result (λ v. length v.items ≤ limit) }
@@ -98,6 +100,7 @@ fn append_all<F: Files>(files: &mut F, name: &str, bytes: &[u8]) -> Result<(), F
     requires begun { IfSome (F.told files.old) (λ c. c.begun name.now ≡ true) }
     ensures told { Appends result (record { name = name.now; bytes = bytes.now }) (F.faults files.old) (F.faults files.new) (F.told files.old)
         (F.told files.new) }
+    ensures no_fault { OnOk result (NoneRose (F.faults files.old) (F.faults files.new)) }
     ensures never_fall { NeverFall (F.faults files.old) (F.faults files.new) }
 {
     let mut at = 0;
@@ -114,6 +117,7 @@ fn append_all<F: Files>(files: &mut F, name: &str, bytes: &[u8]) -> Result<(), F
 /// or holds a first part of the bytes.
 pub fn put_whole<F: Files>(files: &mut F, name: &str, bytes: &[u8]) -> Result<(), Failed>
     ensures told { Puts result (record { name = name.now; bytes = bytes.now }) (F.faults files.old) (F.faults files.new) (F.told files.old) (F.told files.new) }
+    ensures no_fault { OnOk result (NoneRose (F.faults files.old) (F.faults files.new)) }
     ensures never_fall { NeverFall (F.faults files.old) (F.faults files.new) }
 {
     match files.begin(name) {
@@ -127,6 +131,7 @@ pub fn put_whole<F: Files>(files: &mut F, name: &str, bytes: &[u8]) -> Result<()
 pub fn put_out<F: Files>(files: &mut F, bytes: &[u8]) -> Result<(), Failed>
     ensures told { GivesOut result bytes.now (F.told files.old) (F.told files.new) }
     ensures cause { OnErr result (Rose (F.faults files.old ToOut) (F.faults files.new ToOut)) }
+    ensures no_fault { OnOk result (NoneRose (F.faults files.old) (F.faults files.new)) }
     ensures never_fall { NeverFall (F.faults files.old) (F.faults files.new) }
 {
     let mut at = 0;

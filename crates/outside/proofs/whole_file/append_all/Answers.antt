@@ -19,6 +19,7 @@ loop-at-preserved g c = record {
   told = (rw take_rest at c.in-Ok.ensures.told)
       ∙ ap (option_map (append_file c.args.name.now (take c.in-Ok.count (drop c.loop-at.at c.args.bytes.now)))) c.loop-at.invariant.told
       ∙ write_more c.args.name.now c.args.bytes.now c.loop-at.at c.in-Ok.count _;
+  no_fault = λ p. c.in-Ok.ensures.no_fault p ∙ c.loop-at.invariant.no_fault p;
   never_fall = λ p. omega (arith, c.loop-at.invariant.never_fall p, c.in-Ok.ensures.never_fall p);
   within = omega (arith, rw take_rest at c.in-Ok.ensures.room, length-drop c.loop-at.at c.args.bytes.now, c.loop-at.invariant.within);
   begun = rw c.in-Ok.ensures.told (is_begun-append_file c.args.name.now _ c.args.name.now (g.F.Files.told c.loop-at.files) c.loop-at.invariant.begun);

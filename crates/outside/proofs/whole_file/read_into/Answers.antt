@@ -25,6 +25,7 @@ loop-count-preserved g c =
     (take c.in-Ok.count c.read.new.buf) = length-append c.loop-count.bytes.items (take c.in-Ok.count c.read.new.buf) in
     record {
       told = c.in-Ok.ensures.told ∙ c.loop-count.invariant.told;
+      no_fault = λ p. c.in-Ok.ensures.no_fault p ∙ c.loop-count.invariant.no_fault p;
       never_fall = λ p. omega (arith, c.loop-count.invariant.never_fall p, c.in-Ok.ensures.never_fall p);
       most = rw e (omega arith);
       front = rw e (longers _ _ c.loop-count.bytes.items c.read.new.buf (length c.loop-count.buf) c.in-Ok.count c.loop-count.invariant.front

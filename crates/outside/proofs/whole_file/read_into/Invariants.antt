@@ -1,6 +1,6 @@
 use Rattle.std.proofs.Common.{◌≡◌, ◌≤◌, length, ◌-◌}
 use Rattle.std.specs.Prelude.{IfSome}
-use Rattle.outside.specs.Faults.{NeverFall}
+use Rattle.outside.specs.Faults.{NeverFall, NoneRose}
 use Rattle.outside.proofs.Fronts.{IsFrontOf}
 use Rattle.outside.proofs.whole_file.read_into.Given as goal
 
@@ -10,6 +10,7 @@ invariant-loop-count g l =
     let counts = g.F.Files.faults in
     record {
       told : contents l.files ≡ contents l.fn.files;
+      no_fault : NoneRose (counts l.fn.files) (counts l.files);
       never_fall : NeverFall (counts l.fn.files) (counts l.files);
       most : length l.bytes.items ≤ l.limit;
       front : IfSome (contents l.fn.files) (λ c. IsFrontOf (c.file l.name) l.bytes.items);
