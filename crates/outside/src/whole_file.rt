@@ -19,6 +19,17 @@ pub enum ReadFailure {
     OutOfMemory,
 }
 
+impl From<Failed> for ReadFailure {
+    ghost use Rattle.std.specs.Prelude.{◌≡◌};
+    ghost use Rattle.outside.specs.declared.whole_file.ReadFailure.TheVariants.{Fault};
+
+    ghost from_gives = { λ _ failure. failure ≡ Fault };
+
+    fn from(_failed: Failed) -> ReadFailure {
+        ReadFailure::Fault
+    }
+}
+
 // `len` zeros. A function of its own, so that the prover does not unfold a list of 65,536 of them.
 fn zeros(alloc: Global, len: usize) -> Result<Vec<u8>, AllocError>
     ensures length { IfOk result (λ v. length v.items ≡ len) }
@@ -54,10 +65,7 @@ fn read_into<F: Files>(
     ensures too_long { IsErrOf result ReadFailure.TooLong → IfSome (F.told files.old) (λ c. IsLongerThan limit c name.now) }
 {
     loop {
-        let count = match files.read(name, bytes.len() as u64, buf) {
-            Ok(count) => count,
-            Err(_) => return Err(ReadFailure::Fault),
-        };
+        let count = files.read(name, bytes.len() as u64, buf)?;
         if count == 0 {
             return Ok(());
         }
@@ -89,10 +97,8 @@ pub fn read_whole<F: Files>(
     ensures too_long { IsErrOf result ReadFailure.TooLong → IfSome (F.told files.old) (λ c. IsLongerThan limit c name.now) }
 {
     let mut bytes = Vec::new(alloc);
-    match read_into(files, name, limit, &mut bytes, buf) {
-        Ok(()) => Ok(bytes),
-        Err(failure) => Err(failure),
-    }
+    read_into(files, name, limit, &mut bytes, buf)?;
+    Ok(bytes)
 }
 
 // Appends all of the bytes to a file that was begun, in as many calls as it takes.
@@ -105,10 +111,7 @@ fn append_all<F: Files>(files: &mut F, name: &str, bytes: &[u8]) -> Result<(), F
 {
     let mut at = 0;
     while at < bytes.len() {
-        match files.write(name, &bytes[at..]) {
-            Ok(count) => at += count,
-            Err(failed) => return Err(failed),
-        }
+        at += files.write(name, &bytes[at..])?;
     }
     Ok(())
 }
@@ -120,10 +123,8 @@ pub fn put_whole<F: Files>(files: &mut F, name: &str, bytes: &[u8]) -> Result<()
     ensures no_fault { OnOk result (NoneRose (F.faults files.old) (F.faults files.new)) }
     ensures never_fall { NeverFall (F.faults files.old) (F.faults files.new) }
 {
-    match files.begin(name) {
-        Ok(()) => append_all(files, name, bytes),
-        Err(failed) => Err(failed),
-    }
+    files.begin(name)?;
+    append_all(files, name, bytes)
 }
 
 /// Gives all of the bytes to standard output, in as many calls as it takes. Where a call fails, standard
@@ -136,10 +137,7 @@ pub fn put_out<F: Files>(files: &mut F, bytes: &[u8]) -> Result<(), Failed>
 {
     let mut at = 0;
     while at < bytes.len() {
-        match files.out(&bytes[at..]) {
-            Ok(count) => at += count,
-            Err(failed) => return Err(failed),
-        }
+        at += files.out(&bytes[at..])?;
     }
     Ok(())
 }

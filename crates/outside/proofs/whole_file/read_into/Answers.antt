@@ -7,7 +7,7 @@ pub returns-then-count-eq0-clause-bytes : goal.returns-then-count-eq0-clause-byt
 returns-then-count-eq0-clause-bytes g c =
     let n : c.len.result ≡ length c.loop-count.bytes.items = search rules in
     wholes _ _ c.loop-count.bytes.items c.read.new.buf (length c.loop-count.buf) c.loop-count.invariant.front
-    (piece_here _ _ _ _ _ _ _ _ _ c.loop-count.invariant.told n c.if-count-eq0.true c.in-Ok.ensures.piece)
+    (piece_here _ _ _ _ _ _ _ _ _ c.loop-count.invariant.told n c.if-count-eq0.true c.in_ok-count.ensures.piece)
     (omega (arith, c.loop-count.auto.buf, c.requires.room))
 
 pub loop-count-preserved : goal.loop-count-preserved
@@ -15,19 +15,19 @@ loop-count-preserved g c =
     let n : c.len.result ≡ length c.loop-count.bytes.items = search rules in
     let m : c.len-in-loop-count.result ≡ length c.loop-count.bytes.items = search rules in
     let e = appended c.extend_from_slice.result c.extend_from_slice.new.self.items c.loop-count.bytes.items
-    (take c.in-Ok.count c.read.new.buf) c.extend_from_slice.ensures.items c.if-is_err.ensures.negation in
-    let room : c.in-Ok.count ≤ length c.loop-count.buf = c.in-Ok.ensures.room in
-    let fit : c.in-Ok.count ≤ c.args.limit - c.len-in-loop-count.result = c.if-count-limit.false in
+    (take c.in_ok-count.count c.read.new.buf) c.extend_from_slice.ensures.items c.if-is_err.ensures.negation in
+    let room : c.in_ok-count.count ≤ length c.loop-count.buf = c.in_ok-count.ensures.room in
+    let fit : c.in_ok-count.count ≤ c.args.limit - c.len-in-loop-count.result = c.if-count-limit.false in
     let most : length c.loop-count.bytes.items ≤ c.args.limit = c.loop-count.invariant.most in
     let same : length c.read.new.buf ≡ length c.loop-count.buf = c.read.auto.buf in
-    let k : length (take c.in-Ok.count c.read.new.buf) ≡ c.in-Ok.count = length-take-le c.in-Ok.count c.read.new.buf (omega arith) in
-    let sum : length (c.loop-count.bytes.items ++ take c.in-Ok.count c.read.new.buf) ≡ length c.loop-count.bytes.items + length
-    (take c.in-Ok.count c.read.new.buf) = length-append c.loop-count.bytes.items (take c.in-Ok.count c.read.new.buf) in
+    let k : length (take c.in_ok-count.count c.read.new.buf) ≡ c.in_ok-count.count = length-take-le c.in_ok-count.count c.read.new.buf (omega arith) in
+    let sum : length (c.loop-count.bytes.items ++ take c.in_ok-count.count c.read.new.buf) ≡ length c.loop-count.bytes.items + length
+    (take c.in_ok-count.count c.read.new.buf) = length-append c.loop-count.bytes.items (take c.in_ok-count.count c.read.new.buf) in
     record {
-      told = c.in-Ok.ensures.told ∙ c.loop-count.invariant.told;
-      no_fault = λ p. c.in-Ok.ensures.no_fault p ∙ c.loop-count.invariant.no_fault p;
-      never_fall = λ p. omega (arith, c.loop-count.invariant.never_fall p, c.in-Ok.ensures.never_fall p);
+      told = c.in_ok-count.ensures.told ∙ c.loop-count.invariant.told;
+      no_fault = λ p. c.in_ok-count.ensures.no_fault p ∙ c.loop-count.invariant.no_fault p;
+      never_fall = λ p. omega (arith, c.loop-count.invariant.never_fall p, c.in_ok-count.ensures.never_fall p);
       most = rw e (omega arith);
-      front = rw e (longers _ _ c.loop-count.bytes.items c.read.new.buf (length c.loop-count.buf) c.in-Ok.count c.loop-count.invariant.front
-          (piece_here _ _ _ _ _ _ _ _ _ c.loop-count.invariant.told n refl c.in-Ok.ensures.piece));
+      front = rw e (longers _ _ c.loop-count.bytes.items c.read.new.buf (length c.loop-count.buf) c.in_ok-count.count c.loop-count.invariant.front
+          (piece_here _ _ _ _ _ _ _ _ _ c.loop-count.invariant.told n refl c.in_ok-count.ensures.piece));
     }
