@@ -1,8 +1,9 @@
 ghost use Rattle.std.specs.Prelude.{◌≡◌, ℕ, List, Ok, IfSome};
 ghost use Rattle.eslip_rounds.specs.Schedulers.{Scheduler};
 ghost use Rattle.named_schedulers.specs.Named.{decision_named};
-ghost use Rattle.outside.specs.Faults.{NeverFall};
+ghost use Rattle.outside.specs.Faults.{NeverFall, NoneRose};
 ghost use Rattle.journal_check.specs.declared.verdict.Verdict.TheVariants as verdict;
+ghost use Rattle.journal_command.specs.declared.ending.CheckEnding.TheVariants.{Yes};
 ghost use Rattle.journal_command.specs.Checks.{HasAnswer, MeansCheck};
 
 use crate::ending::CheckEnding;
@@ -24,6 +25,7 @@ pub fn check_file<F: Files>(
     files: &mut F,
 ) -> CheckEnding
     ensures meaning { MeansCheck (decision_named scheduler) name.now (F.told files.old) (F.told files.new) (F.faults files.old) (F.faults files.new) result }
+    ensures no_fault { result ≡ Yes → NoneRose (F.faults files.old) (F.faults files.new) }
     ensures never_fall { NeverFall (F.faults files.old) (F.faults files.new) }
 {
     let bytes = match read_journal(alloc, name, files) {
@@ -48,6 +50,7 @@ fn tell_yes<F: Files>(
 ) -> CheckEnding
     ensures meaning { (scheduler : Scheduler) → IfSome (F.told files.old) (HasAnswer scheduler name.now (Ok (verdict.Yes slots longest.now)))
         → MeansCheck scheduler name.now (F.told files.old) (F.told files.new) (F.faults files.old) (F.faults files.new) result }
+    ensures no_fault { result ≡ Yes → NoneRose (F.faults files.old) (F.faults files.new) }
     ensures never_fall { NeverFall (F.faults files.old) (F.faults files.new) }
 {
     let Ok(text) = yes_lines(alloc, slots, longest) else {

@@ -1,6 +1,7 @@
-ghost use Rattle.std.specs.Prelude.{◌≡◌, ◌≤◌, Some, length, IfErr, IfOk, IfSome};
+ghost use Rattle.std.specs.Prelude.{◌≡◌, ◌≢◌, ◌≤◌, Some, length, IfErr, IfOk, IfSome, OnOk};
 ghost use Rattle.eslip_rounds.specs.Schedulers.{Scheduler};
-ghost use Rattle.outside.specs.Faults.{NeverFall};
+ghost use Rattle.outside.specs.Faults.{NeverFall, NoneRose};
+ghost use Rattle.journal_command.specs.declared.ending.CheckEnding.TheVariants.{Yes};
 ghost use Rattle.journal_command.specs.Checks.{MeansCheck};
 
 use crate::ending::CheckEnding;
@@ -15,9 +16,11 @@ pub(crate) fn read_journal<F: Files>(
     files: &mut F,
 ) -> Result<Vec<u8>, CheckEnding>
     ensures told { F.told files.new ≡ F.told files.old }
+    ensures no_fault { OnOk result (NoneRose (F.faults files.old) (F.faults files.new)) }
     ensures never_fall { NeverFall (F.faults files.old) (F.faults files.new) }
     ensures bytes { IfOk result (λ v. IfSome (F.told files.old) (λ c. c.file name.now ≡ Some v.items)) }
     ensures fits { IfOk result (λ v. length v.items ≤ MAX_JOURNAL_BYTES) }
+    ensures no_yes { IfErr result (λ ending. ending ≢ Yes) }
     ensures stops { (scheduler : Scheduler)
         → IfErr result (MeansCheck scheduler name.now (F.told files.old) (F.told files.new) (F.faults files.old) (F.faults files.new)) }
 {

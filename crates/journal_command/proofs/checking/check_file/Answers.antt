@@ -30,3 +30,6 @@ returns-in-Ok-Yes-clause-meaning g c =
     (g.F.Files.faults c.tell_yes.new.files) c.in-Ok.ensures.never_fall c.tell_yes.result (told c.tell_yes.new.files)
     (subst (λ (o : Option Contents). MeansCheck s name o (told c.tell_yes.new.files) (g.F.Files.faults c.read_journal.new.files)
     (g.F.Files.faults c.tell_yes.new.files) c.tell_yes.result) same (c.tell_yes.ensures.meaning s lawful))
+
+pub returns-in-Err-clause-no_fault : goal.returns-in-Err-clause-no_fault
+returns-in-Err-clause-no_fault g c is = absurd (c.in-Err.ensures.no_yes is)
