@@ -1,7 +1,7 @@
 -- The files that a run writes, one after the other.
 use Rattle.std.proofs.Common.{◌≡◌, ◌<◌, ◌≤◌, ◌+◌, ℕ, suc, List, [], ◌∷◌, ◌++◌, map, take, length, get_or, Option, Some, None, inl, inr, refl, sym, ◌∙◌}
 use Rattle.std.proofs.Common.{ap, subst, arith}
-use Rattle.std.specs.Prelude.{Result, Ok, Err, is_err, is_ok, Bool, true, false, ◌&&◌, ◌==◌, if◌then◌else◌, option_map, string_bytes}
+use Rattle.std.specs.Prelude.{Result, Ok, Err, OnOk, is_err, is_ok, Bool, true, false, ◌&&◌, ◌==◌, if◌then◌else◌, option_map, string_bytes}
 use Rattle.std.proofs.lemmas.List.{get_or-map, length-map, map_push}
 use Rattle.std.proofs.lemmas.Bool.{cases_lt, le-ltb, lt-ltb}
 use Rattle.std.proofs.lemmas.Bool.Decides.{eqb_tells}
@@ -32,6 +32,11 @@ one_more_put : (files : List NamedBytes) (i : ℕ) (o : Option Contents) → i <
     → option_map (λ c. put_file (put_files (take i files) c) (get_or files i nameless)) o ≡ option_map (put_files (take (i + 1) files)) o
 one_more_put files i None within = refl
 one_more_put files i (Some c) within = ap Some (sym (fold_more put_file c files i nameless within))
+
+-- what a call that went well says
+pub went_well : {T E P : Type 0} (r : Result T E) → is_err r ≡ false → OnOk r P → P
+went_well (Ok x) is holds = holds
+went_well (Err e) is holds = absurd (cc)
 
 -- one file more is put
 pub put_more : {X T E : Type 0} (text : X → NamedBytes) (files : List X) (i : ℕ) (x : X) (r : Result T E) (b d : Place → ℕ) (o now new : Option Contents)

@@ -1,11 +1,12 @@
-ghost use Rattle.std.specs.Prelude.{◌≡◌, [], ◌∷◌, ◌++◌, codes, decimal, map, OnErr};
+ghost use Rattle.std.specs.Prelude.{◌≡◌, [], ◌∷◌, ◌++◌, codes, decimal, map, OnErr, OnOk};
 ghost use Rattle.std.specs.List.{concat};
-ghost use Rattle.outside.specs.Faults.{ToErr, NeverFall, Rose};
+ghost use Rattle.outside.specs.Faults.{ToErr, NeverFall, NoneRose, Rose};
 ghost use Rattle.pcap_records.specs.Texts.{hex_text};
 ghost use Rattle.switch_words.specs.Reading.{job_words};
 ghost use Rattle.job_files.specs.ErrorLines.{check_line, checked_line, line_of, name_read, name_written, named_line, reason_parts, usage_line};
 ghost use Rattle.job_files.specs.LineParts.{Gives, GivesLine, part_text};
 ghost use Rattle.job_files.specs.RefusalLines.{capture_line, memory_line, refusal_line, table_line};
+ghost use Rattle.job_files.specs.Statuses.{check_status, status_of};
 
 use crate::ending::{Ending, Written};
 use crate::inputs::{InputFile, input_name, reads_of_firm, reads_of_run};
@@ -39,6 +40,7 @@ use Part::{Magic, Number, Text};
 fn give_bytes<F: Files>(files: &mut F, bytes: &[u8]) -> Result<(), Failed>
     ensures told { Gives result bytes.now (F.told files.old) (F.told files.new) }
     ensures cause { OnErr result (Rose (F.faults files.old ToErr) (F.faults files.new ToErr)) }
+    ensures no_fault { OnOk result (NoneRose (F.faults files.old) (F.faults files.new)) }
     ensures never_fall { NeverFall (F.faults files.old) (F.faults files.new) }
 {
     let mut at = 0;
@@ -65,6 +67,7 @@ fn hex_text(number: u32) -> [u8; 8]
 fn give_part<F: Files>(files: &mut F, part: &Part) -> Result<(), Failed>
     ensures told { Gives result (part_text part.now) (F.told files.old) (F.told files.new) }
     ensures cause { OnErr result (Rose (F.faults files.old ToErr) (F.faults files.new ToErr)) }
+    ensures no_fault { OnOk result (NoneRose (F.faults files.old) (F.faults files.new)) }
     ensures never_fall { NeverFall (F.faults files.old) (F.faults files.new) }
 {
     match *part {
@@ -320,6 +323,7 @@ fn print_no<F: Files>(files: &mut F, slot: u32, reason: Reason)
 // Prints the line of the end of a check of this file. Yes has none.
 fn print_check<F: Files>(files: &mut F, file: &str, ending: CheckEnding)
     ensures line { GivesLine (check_line file.now ending) (F.told files.old) (F.told files.new) (F.faults files.old ToErr) (F.faults files.new ToErr) }
+    ensures no_fault { check_status ending ≡ 0 → NoneRose (F.faults files.old) (F.faults files.new) }
     ensures never_fall { NeverFall (F.faults files.old) (F.faults files.new) }
 {
     let end = Text("\n");
@@ -346,6 +350,7 @@ fn print_check<F: Files>(files: &mut F, file: &str, ending: CheckEnding)
 fn print_checked<F: Files>(files: &mut F, job: &Job, ending: CheckEnding)
     ensures line { GivesLine (checked_line (job_words job.now) ending) (F.told files.old) (F.told files.new) (F.faults files.old ToErr)
         (F.faults files.new ToErr) }
+    ensures no_fault { check_status ending ≡ 0 → NoneRose (F.faults files.old) (F.faults files.new) }
     ensures never_fall { NeverFall (F.faults files.old) (F.faults files.new) }
 {
     if let Job::Check(job) = job {
@@ -353,10 +358,11 @@ fn print_checked<F: Files>(files: &mut F, job: &Job, ending: CheckEnding)
     }
 }
 
-/// Gives standard error the line of an ending, none where all is written. Where a call fails, the rest of the line is
+/// Gives standard error the line of an ending, none where the status is 0. Where a call fails, the rest of the line is
 /// left out.
 pub fn print_line<F: Files>(files: &mut F, job: &Job, ending: Ending)
     ensures line { GivesLine (line_of (job_words job.now) ending) (F.told files.old) (F.told files.new) (F.faults files.old ToErr) (F.faults files.new ToErr) }
+    ensures no_fault { status_of ending ≡ 0 → NoneRose (F.faults files.old) (F.faults files.new) }
     ensures never_fall { NeverFall (F.faults files.old) (F.faults files.new) }
 {
     match ending {

@@ -1,5 +1,5 @@
-ghost use Rattle.std.specs.Prelude.{◌≡◌, ◌≤◌, ◌<◌, Some, length, vec_len, IfErr, IfOk, IfSome};
-ghost use Rattle.outside.specs.Faults.{NeverFall};
+ghost use Rattle.std.specs.Prelude.{◌≡◌, ◌≤◌, ◌<◌, Some, length, vec_len, IfErr, IfOk, IfSome, OnOk};
+ghost use Rattle.outside.specs.Faults.{NeverFall, NoneRose};
 ghost use Rattle.outside.specs.WholeFiles.{Fits};
 ghost use Rattle.switch_words.specs.Limits.{IsGenWithinLimits};
 ghost use Rattle.switch_words.specs.Reading.{run_words, firm_words};
@@ -86,6 +86,7 @@ fn read_input<F: Files>(
     requires known { IsInput (reads_words reads.now) input }
     requires earlier { IfSome (F.told files.old) (EarlierFit (reads_words reads.now) input) }
     ensures told { F.told files.new ≡ F.told files.old }
+    ensures no_fault { OnOk result (NoneRose (F.faults files.old) (F.faults files.new)) }
     ensures never_fall { NeverFall (F.faults files.old) (F.faults files.new) }
     ensures bytes { IfOk result (λ v. IfSome (F.told files.old) (λ c. c.file (input_name (reads_words reads.now) input) ≡ Some v.items)) }
     ensures fits { IfOk result (λ v. length v.items ≤ MAX_FILE_BYTES) }
@@ -110,6 +111,7 @@ fn read_captures<F: Files>(
     requires ports { length reads.now.inputs.now ≤ MAX_PORTS }
     requires table { IfSome (F.told files.old) (λ c. Fits c (reads_words reads.now).table) }
     ensures told { F.told files.new ≡ F.told files.old }
+    ensures no_fault { OnOk result (NoneRose (F.faults files.old) (F.faults files.new)) }
     ensures never_fall { NeverFall (F.faults files.old) (F.faults files.new) }
     ensures read { IfOk result (λ v. CapturesRead (reads_words reads.now).inputs (F.told files.old) (bytes_of_files v)) }
     ensures stops { IfErr result (StopsReading (reads_words reads.now) (F.told files.old) (F.faults files.old) (F.faults files.new)) }
@@ -136,6 +138,7 @@ pub fn read_inputs<F: Files>(
 ) -> Result<Inputs, Ending>
     requires { length reads.now.inputs.now ≤ MAX_PORTS }
     ensures told { F.told files.new ≡ F.told files.old }
+    ensures no_fault { OnOk result (NoneRose (F.faults files.old) (F.faults files.new)) }
     ensures never_fall { NeverFall (F.faults files.old) (F.faults files.new) }
     ensures read { IfOk result (λ i. AreFilesRead (reads_words reads.now) (F.told files.old) i.table.items (bytes_of_files i.captures)) }
     ensures stops { IfErr result (StopsReading (reads_words reads.now) (F.told files.old) (F.faults files.old) (F.faults files.new)) }

@@ -19,6 +19,7 @@ loop-at-preserved g c = record {
   told = (rw take_rest at c.in-Ok.ensures.told)
       ∙ ap (option_map (append_err (take c.in-Ok.count (drop c.loop-at.at c.args.bytes.now)))) c.loop-at.invariant.told
       ∙ err_more c.args.bytes.now c.loop-at.at c.in-Ok.count _;
+  no_fault = λ p. c.in-Ok.ensures.no_fault p ∙ c.loop-at.invariant.no_fault p;
   never_fall = λ p. omega (arith, c.loop-at.invariant.never_fall p, c.in-Ok.ensures.never_fall p);
   within = omega (arith, rw take_rest at c.in-Ok.ensures.room, length-drop c.loop-at.at c.args.bytes.now, c.loop-at.invariant.within);
 }

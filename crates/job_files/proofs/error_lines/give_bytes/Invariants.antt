@@ -1,7 +1,7 @@
 use Rattle.std.proofs.Common.{◌≡◌, ◌≤◌, length, ◌-◌, take}
 use Rattle.std.specs.Prelude.{option_map}
 use Rattle.outside.specs.Contents.{append_err}
-use Rattle.outside.specs.Faults.{NeverFall}
+use Rattle.outside.specs.Faults.{NeverFall, NoneRose}
 use Rattle.job_files.proofs.error_lines.give_bytes.Given as goal
 
 abbrev pub invariant-loop-at : goal.invariant-loop-at
@@ -10,6 +10,7 @@ invariant-loop-at g l =
     let counts = g.F.Files.faults in
     record {
       told : contents l.files ≡ option_map (append_err (take l.at l.bytes)) (contents l.fn.files);
+      no_fault : NoneRose (counts l.fn.files) (counts l.files);
       never_fall : NeverFall (counts l.fn.files) (counts l.files);
       within : l.at ≤ length l.bytes;
     }

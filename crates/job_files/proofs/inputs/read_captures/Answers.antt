@@ -21,6 +21,7 @@ loop-port-preserved g c =
     let pushed = bytes_pushed c.push.result c.push.new.self c.loop-port.captures c.in-Ok.capture c.push.ensures.items c.if-is_err.ensures.negation in
     record {
       told = c.in-Ok.ensures.told ∙ c.loop-port.invariant.told;
+      no_fault = λ p. c.in-Ok.ensures.no_fault p ∙ c.loop-port.invariant.no_fault p;
       never_fall = λ p. omega (arith, c.loop-port.invariant.never_fall p, c.in-Ok.ensures.never_fall p);
       room = omega (arith, c.read_input.auto.buf, c.loop-port.invariant.room);
       earlier = earlier_more words _ c.loop-port.port c.in-Ok.capture.items within c.loop-port.invariant.earlier here c.in-Ok.ensures.fits;

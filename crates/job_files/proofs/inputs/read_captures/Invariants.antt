@@ -1,6 +1,6 @@
 use Rattle.std.proofs.Common.{◌≡◌, ◌<◌, length, take}
 use Rattle.std.specs.Prelude.{IfSome}
-use Rattle.outside.specs.Faults.{NeverFall}
+use Rattle.outside.specs.Faults.{NeverFall, NoneRose}
 use Rattle.job_files.specs.Inputs.{CapturesRead, EarlierFit}
 use Rattle.job_files.specs.FileSteps.{reads_words}
 use Rattle.switch_plan.specs.ReadingSteps.{bytes_of_files}
@@ -13,6 +13,7 @@ invariant-loop-port g l =
     let counts = g.F.Files.faults in
     record {
       told : contents l.files ≡ contents l.fn.files;
+      no_fault : NoneRose (counts l.fn.files) (counts l.files);
       never_fall : NeverFall (counts l.fn.files) (counts l.files);
       room : 0 < length l.buf;
       earlier : IfSome (contents l.fn.files) (EarlierFit (reads_words l.reads) (Capture l.port));

@@ -1,6 +1,6 @@
 use Rattle.std.proofs.Common.{◌≡◌, map, take}
 use Rattle.std.specs.Prelude.{option_map}
-use Rattle.outside.specs.Faults.{NeverFall}
+use Rattle.outside.specs.Faults.{NeverFall, NoneRose}
 use Rattle.job_files.specs.OutputFiles.{put_files, shown}
 use Rattle.job_files.proofs.output_files.put_all.Given as goal
 
@@ -10,5 +10,6 @@ invariant-loop-place g l =
     let counts = g.F.Files.faults in
     record {
       told : contents l.files ≡ option_map (put_files (take l.place (map shown l.output_files))) (contents l.fn.files);
+      no_fault : NoneRose (counts l.fn.files) (counts l.files);
       never_fall : NeverFall (counts l.fn.files) (counts l.files);
     }
