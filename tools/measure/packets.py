@@ -19,7 +19,8 @@ def check_run(packets, report):
     states = packets.drop_duplicates(["input", "packet"])["state"].value_counts()
     found = {state: int(states.get(state, 0)) for state in STATES}
     # The run ends with the slot in which the last packet comes or departs.
-    found["slots"] = max([0, *packets["arrival"], *left["departure"]]) + 1
+    ends = [column.max() for column in (packets["arrival"], left["departure"]) if len(column)]
+    found["slots"] = int(max(ends, default=0)) + 1
     for name, count in found.items():
         if count != report.summary[name]:
             raise Misfit(f"{name} {count}, and the report has {report.summary[name]}")
