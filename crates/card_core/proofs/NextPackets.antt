@@ -125,7 +125,8 @@ any_none test [] never = refl
 any_none test (head ∷ packets) never = rw (never 0 head refl) (any_none test packets (λ place packet there. never (suc place) packet there))
 
 -- a packet arrives after slot t exactly where one is next after it
-pub more_is : (packets : List Planned) (t next : ℕ) → IsNext packets (t + 1) next → nat_lt next (length packets) ≡ list_any (λ packet. nat_lt t packet.arrival) packets
+pub more_is : (packets : List Planned) (t next : ℕ) → IsNext packets (t + 1) next
+    → nat_lt next (length packets) ≡ list_any (λ packet. nat_lt t packet.arrival) packets
 more_is packets t next is = elim (cases_lt next (length packets)) [
   | inl less ↦
       let packet = get_or packets next no_packet in

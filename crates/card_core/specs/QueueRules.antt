@@ -42,6 +42,7 @@ completes q served history t = is_first history (history t).left t && (left_of q
 
 -- The rules. Before slot t the cells of all packets that arrived before it and enter have entered, and as many cells have left as slots
 -- before it completed the first cell; what was served since a cell is the first is what the slots served in which it was the first.
+-- (The law `entered_are_the_admitted` says the first in the words of `Queues`.)
 pub record KeepsRules (plan : Plan) (q : Queue) (served : List (Option Served)) (history : ℕ → Passed) : Type 0 where
   pub entered : (t : ℕ) → (history t).entered ≡ cells_entering plan q history t 0 plan.packets
   pub left : (t : ℕ) → (history t).left ≡ count_by (completes q served history) (range_with_len 0 t)
