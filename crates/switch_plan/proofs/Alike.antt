@@ -3,6 +3,7 @@ use Rattle.std.proofs.Common.{◌≡◌, ◌∙◌, ◌||◌, ℕ, zero, suc, �
 use Rattle.std.proofs.Common.{Some, if◌then◌else◌, refl, ap, sym, subst, arith}
 use Rattle.std.specs.Prelude.{map, find, not, ◌==◌, option_map, All}
 use Rattle.std.proofs.lemmas.Bool.Decides.{nat_tests}
+use Rattle.std.proofs.lemmas.Simd.{map-map}
 use Rattle.line_pace.specs.declared.pace.Pace.{Pace}
 use Rattle.line_pace.specs.Arrivals.{base_of}
 use Rattle.pcap_records.specs.declared.capture.Capture.{Capture}
@@ -17,7 +18,6 @@ use Rattle.switch_plan.specs.Traffic.{CaptureFile, file_of, is_nano, port_traffi
 use Rattle.switch_plan.specs.Refusals.{first_link, mixed_links}
 use Rattle.switch_plan.specs.ReadingSteps.{IsCaptureOf}
 use Rattle.switch_plan.specs.CardSteps.{CanBePlanned, traffic_at}
-use Rattle.switch_plan.proofs.Folding.{map_map}
 use Rattle.switch_plan.proofs.Leasts.{all_come}
 
 link_same : (a b : Link) → link_type a ≡ link_type b → a ≡ b
@@ -76,7 +76,7 @@ traffic_same table pace_us pace captures pace_is unmixed =
     let link = first_link (map file_of captures) in
     traffic_alike table pace link captures (one_link captures unmixed)
     ∙ ap (λ p. map (λ (capture : Capture). port_traffic table link p (packets_of capture)) captures) pace_is
-    ∙ sym (map_map (λ (file : CaptureFile). port_traffic table link (pace_of pace_us (map file_of captures)) file.packets) file_of captures)
+    ∙ sym (map-map (λ (file : CaptureFile). port_traffic table link (pace_of pace_us (map file_of captures)) file.packets) file_of captures)
 
 or_left : (a b : Bool) → (a || b) ≡ false → a ≡ false
 or_left true b none = none

@@ -2,7 +2,7 @@
 use Rattle.std.proofs.Common.{◌≡◌, ◌∙◌, ◌⊎◌, ℕ, zero, suc, ◌+◌, ◌<◌, ◌≤◌, List, [], ◌∷◌, ◌++◌, length, take, slice_index_or, Some, ap, sym, arith, inl}
 use Rattle.std.proofs.Common.{inr, length-append}
 use Rattle.std.specs.Prelude.{slice_get}
-use Rattle.std.proofs.lemmas.List.{length-take-le}
+use Rattle.std.proofs.lemmas.List.{length-take-le, length-map}
 use Rattle.std.proofs.lemmas.Option.{same_Some}
 use Rattle.card_core.specs.declared.plan.CardPlan.{CardPlan}
 use Rattle.switch_plan.specs.declared.port_rooms.PortRoom.{PortRoom}
@@ -10,7 +10,6 @@ use Rattle.switch_plan.specs.declared.output_rooms.OutputRoom.{OutputRoom}
 use Rattle.switch_plan.specs.Totals.{sizes_for, body_room_for, packet_room_for}
 use Rattle.switch_plan.specs.CountingSteps.{AreCountable, packets_of_cards}
 use Rattle.switch_plan.specs.OutputSteps.{room_for, IsRoomOf, AreRoomsOf}
-use Rattle.switch_plan.proofs.Folding.{length_map}
 use Rattle.switch_plan.proofs.Summing.{bytes_next, messages_next}
 use Rattle.switch_plan.proofs.Flows.{sizes_next}
 use Rattle.switch_plan.proofs.OnePass.{room_sizes, room_bytes_are, room_messages_are, room_all_few}
@@ -24,7 +23,7 @@ pub room_next : (output : ℕ) (cards : List CardPlan) (k : ℕ) (card : CardPla
 room_next output cards k card old new more inside at countable is before sizes bytes messages =
     let ps = packets_of_cards cards in
     let items = card.packets.items in
-    let long = length_map (λ (c : CardPlan). c.packets.items) cards in
+    let long = length-map cards (λ (c : CardPlan). c.packets.items) in
     let this : length (take k ps) ≡ k = length-take-le k ps (omega arith) in
     let next : length (take (k + 1) ps) ≡ k + 1 = length-take-le (k + 1) ps (omega arith) in
     let few = room_all_few output items countable in
@@ -55,7 +54,7 @@ pub sums_fit : (output : ℕ) (cards : List CardPlan) (k : ℕ) (card : CardPlan
 sums_fit output cards k card old more few inside countable is before =
     let ps = packets_of_cards cards in
     let items = card.packets.items in
-    let long = length_map (λ (c : CardPlan). c.packets.items) cards in
+    let long = length-map cards (λ (c : CardPlan). c.packets.items) in
     let this : length (take k ps) ≡ k = length-take-le k ps (omega arith) in
     let most = room_all_few output items countable in
     let most_bytes = most.bytes in

@@ -1,6 +1,7 @@
 -- Answers of reading files, the captures among them, and the first fault.
 use Rattle.std.proofs.Common.{◌≡◌, ◌∙◌, ◌⊎◌, ◌≢◌, ℕ, ◌+◌, ◌<◌, ◌≤◌, List, [], ◌∷◌, ◌++◌, length, slice_index_or, ap, sym, subst, arith, inl, inr, length-append}
 use Rattle.std.specs.Prelude.{map, Result, Ok, Err, IfOk, IfErr, All}
+use Rattle.std.proofs.lemmas.List.{get_or_append_left, get_or_default, length-map}
 use Rattle.pcap_records.specs.declared.fault.PcapFault.{PcapFault}
 use Rattle.pcap_records.specs.declared.fault.PcapFault.TheVariants.{OutOfMemory}
 use Rattle.pcap_records.specs.declared.capture.Capture.{Capture}
@@ -11,7 +12,7 @@ use Rattle.switch_plan.specs.Traffic.{CaptureFile, file_of, IsFile}
 use Rattle.switch_plan.specs.Refusals.{IsFirstFault}
 use Rattle.switch_plan.specs.ReadingSteps.{IsCaptureOf, IsReadAs, AreReadAs, AreCapturesOf}
 use Rattle.switch_plan.proofs.Sizes.{capture_short, capture_few}
-use Rattle.switch_plan.proofs.Folding.{length_map, at_map, at_end, at_front, at_any}
+use Rattle.switch_plan.proofs.Mapping.{at_map, at_end}
 
 abbrev pub read_as : Capture → Result Capture PcapFault
 read_as capture = Ok capture
@@ -21,15 +22,16 @@ capture_at : (files : List (List ℕ)) (answers rest : List (Result Capture Pcap
     → map read_as captures ++ rest ≡ answers
     → (k : ℕ) (bytes : List ℕ) (d : Capture) → k < length captures → k < length files → IsCaptureOf (slice_index_or files k bytes) (slice_index_or captures k d)
 capture_at files answers rest captures read whole k bytes d inside within =
-    let inside' : k < length (map read_as captures) = omega (arith, length_map read_as captures) in
+    let inside' : k < length (map read_as captures) = omega (arith, length-map captures read_as) in
     subst (IsReadAs (slice_index_or files k bytes))
-    (ap (λ xs. slice_index_or xs k (read_as d)) (sym whole) ∙ at_front (map read_as captures) rest k (read_as d) inside' ∙ at_map read_as captures k d)
+    (ap (λ xs. slice_index_or xs k (read_as d)) (sym whole) ∙ get_or_append_left (map read_as captures) rest (read_as d) k inside'
+    ∙ at_map read_as captures k d)
     (read.each k bytes (read_as d) within)
 
 pub all_read : (files : List (List ℕ)) (answers : List (Result Capture PcapFault)) (captures : List Capture) → AreReadAs files answers
     → map read_as captures ++ [] ≡ answers → AreCapturesOf files captures
 all_read files answers captures read whole =
-    let long : length answers ≡ length captures = sym (ap length whole) ∙ omega (arith, length-append (map read_as captures) [], length_map read_as captures) in
+    let long : length answers ≡ length captures = sym (ap length whole) ∙ omega (arith, length-append (map read_as captures) [], length-map captures read_as) in
     record {
       count = sym long ∙ read.count;
       each = λ k bytes capture within. capture_at files answers [] captures read whole k bytes capture (let n = read.count in omega arith) within;
@@ -47,12 +49,12 @@ pub first_fault : (files : List (List ℕ)) (answers rest : List (Result Capture
     → (fault ≡ OutOfMemory) ⊎ IsFirstFault files (length captures) fault
 first_fault files answers rest captures fault read whole =
     let long : length answers ≡ length captures + (1 + length rest) =
-    sym (ap length whole) ∙ omega (arith, length-append (map read_as captures) (Err fault ∷ rest), length_map read_as captures) in
+    sym (ap length whole) ∙ omega (arith, length-append (map read_as captures) (Err fault ∷ rest), length-map captures read_as) in
     let within : length captures < length files = let n = read.count in omega arith in
     let here = λ (bytes : List ℕ).
     subst (IsReadAs (slice_index_or files (length captures) bytes))
     (ap (λ xs. slice_index_or xs (length captures) (Err fault)) (sym whole)
-    ∙ ap (λ k. slice_index_or (map read_as captures ++ Err fault ∷ rest) k (Err fault)) (sym (length_map read_as captures))
+    ∙ ap (λ k. slice_index_or (map read_as captures ++ Err fault ∷ rest) k (Err fault)) (sym (length-map captures read_as))
     ∙ at_end (map read_as captures) rest (Err fault) (Err fault))
     (read.each (length captures) bytes (Err fault) within) in
     elim (here []) [
@@ -63,7 +65,7 @@ first_fault files answers rest captures fault read whole =
             before = λ k bytes less.
                 some_file (slice_index_or files k bytes) captures k less
                 (λ d. capture_at files answers (Err fault ∷ rest) captures read whole k bytes d less (omega arith));
-            faulty = λ bytes. subst (λ file. IsFault file fault) (at_any files (length captures) [] bytes within) found;
+            faulty = λ bytes. subst (λ file. IsFault file fault) (get_or_default files (length captures) [] bytes within) found;
           })
     ]
 

@@ -6,6 +6,7 @@ use Rattle.std.proofs.lemmas.Bool.Decides.{nat_tests}
 use Rattle.std.proofs.lemmas.List.Elements.{All-head, All-tail, All-map}
 use Rattle.std.proofs.lemmas.Option.{none-some, same_Some, slice_get-get_or}
 use Rattle.std.proofs.lemmas.List.Sums.{sum_by-cons, sum-map}
+use Rattle.std.proofs.lemmas.List.Folds.{fold-map}
 use Rattle.line_pace.specs.declared.pace.Pace.{Pace}
 use Rattle.line_pace.specs.Arrivals.{slots_taken}
 use Rattle.pcap_records.specs.declared.capture.Capture.{Capture}
@@ -19,7 +20,6 @@ use Rattle.switch_plan.specs.Totals.{most_for, slots_of}
 use Rattle.switch_plan.specs.Refusals.{first_over}
 use Rattle.switch_plan.specs.CountingSteps.{packets_of_cards}
 use Rattle.switch_plan.specs.CardSteps.{slots_at, traffic_at, IsCardFor, AreCardsFor}
-use Rattle.switch_plan.proofs.Folding.{fold_map}
 use Rattle.switch_plan.proofs.Placed.{traffic_slots_at}
 
 -- a limit that is kept is passed over, and one that is not is named
@@ -143,11 +143,11 @@ pub sums_same : (F : List Planned → ℕ) (H : CaptureFile → ℕ) (cards : Li
     → map (λ (card : CardPlan). F card.packets.items) cards ≡ map (λ (capture : Capture). H (file_of capture)) captures
     → sum_by F (packets_of_cards cards) ≡ sum_by H (map file_of captures)
 sums_same F H cards captures same =
-    fold_map (λ a x. a + F x) 0 (λ (card : CardPlan). card.packets.items) cards
+    fold-map (λ a x. a + F x) (λ (card : CardPlan). card.packets.items) 0 cards
     ∙ sym (sum-map (λ (card : CardPlan). F card.packets.items) cards)
     ∙ ap sum same
     ∙ sum-map (λ (capture : Capture). H (file_of capture)) captures
-    ∙ sym (fold_map (λ a x. a + H x) 0 file_of captures)
+    ∙ sym (fold-map (λ a x. a + H x) file_of 0 captures)
 
 pub sum_both : {A : Type 0} (f g : A → ℕ) (xs : List A) → sum_by (λ x. f x + g x) xs ≡ sum_by f xs + sum_by g xs
 sum_both f g [] = refl

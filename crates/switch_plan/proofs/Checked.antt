@@ -3,6 +3,8 @@ use Rattle.std.proofs.Common.{◌≡◌, ◌∙◌, ℕ, zero, suc, ◌<◌, ◌
 use Rattle.std.specs.Prelude.{map, slice_get, slice_index_or, All}
 use Rattle.std.specs.Option.{option_map}
 use Rattle.std.proofs.lemmas.Option.{same_Some, slice_get-map, slice_get-get_or, get_or_from_slice_get}
+use Rattle.std.proofs.lemmas.Simd.{map-map}
+use Rattle.std.proofs.lemmas.List.{get_or_default, length-map}
 use Rattle.rotating_pick.specs.declared.limits.TheConstants.{MAX_PORTS, MAX_ROUNDS}
 use Rattle.card_core.specs.declared.plan.Planned.{Planned}
 use Rattle.card_core.specs.declared.plan.CardPlan.{CardPlan}
@@ -15,7 +17,6 @@ use Rattle.switch_plan.specs.Totals.{most_for, slots_of, total_work, total_aside
 use Rattle.switch_plan.specs.CountingSteps.{AreCountable, packets_of_cards}
 use Rattle.switch_plan.specs.CheckingSteps.{IsOwnCard, AreOwnCards, IsSizedFor, AreWhole, IsConsistent}
 use Rattle.switch_plan.specs.GoodPlans.{IsGood, IsCardOf, switch_plan_of, packets_in}
-use Rattle.switch_plan.proofs.Folding.{map_map, length_map, at_any}
 use Rattle.switch_plan.proofs.Summing.{packets_at}
 
 -- ---- the packets of good cards can be counted
@@ -34,9 +35,9 @@ got_at (x ∷ xs) (suc k) inside = got_at xs k (omega arith)
 -- the packets of cards that are all well formed
 pub countable_cards : (cards : List CardPlan) (depth : ℕ) → AreOwnCards depth cards → All AreCountable (packets_of_cards cards)
 countable_cards cards depth own k d inside =
-    let card = got_at cards k (let l = length_map (λ (c : CardPlan). c.packets.items) cards in omega arith) in
+    let card = got_at cards k (let l = length-map cards (λ (c : CardPlan). c.packets.items) in omega arith) in
     let is : card.0 ≡ slice_index_or cards k card.0 = sym (get_or_from_slice_get cards k card.0 card.0 card.1) in
-    let same = at_any (packets_of_cards cards) k d card.0.packets.items inside ∙ packets_at cards k card.0 is in
+    let same = get_or_default (packets_of_cards cards) k d card.0.packets.items inside ∙ packets_at cards k card.0 is in
     subst AreCountable (sym same) (countable card.0 (own k card.0 card.1).good)
 
 -- ---- a plan and its cards
@@ -51,10 +52,10 @@ map_got : (cards : List CardPlan) (port : ℕ) (card : CardPlan) → slice_get c
 map_got cards port card there = slice_get-map card_plan_of cards port ∙ ap (option_map card_plan_of) there
 
 pub same_packets : (plan : Plan) → packets_in (switch_plan_of plan) ≡ packets_of_cards plan.cards.items
-same_packets plan = map_map (λ (card : CardView). card.packets) card_plan_of plan.cards.items
+same_packets plan = map-map (λ (card : CardView). card.packets) card_plan_of plan.cards.items
 
 same_count : (plan : Plan) → length (switch_plan_of plan).cards ≡ length plan.cards.items
-same_count plan = length_map card_plan_of plan.cards.items
+same_count plan = length-map plan.cards.items card_plan_of
 
 pub record IsChecked (plan : Plan) : Type 0 where
   pub size : IsUpTo MAX_PORTS (length plan.cards.items)

@@ -3,7 +3,7 @@ use Rattle.std.proofs.Common.{◌≡◌, ◌∙◌, ◌⊎◌, ℕ, ◌+◌, ◌
 use Rattle.std.proofs.Common.{if◌then◌else◌, sym, subst, arith, inl, inr}
 use Rattle.std.specs.Prelude.{map, All, option_map, nat_lt, Vec, IfOk, IfErr, IsErrAnd}
 use Rattle.std.specs.Option.{option_or}
-use Rattle.std.proofs.lemmas.List.{same_lists}
+use Rattle.std.proofs.lemmas.List.{same_lists, get_or_default, length-map}
 use Rattle.std.proofs.lemmas.Option.{none-some, same_Some}
 use Rattle.pcap_records.specs.declared.capture.Capture.{Capture as ACapture}
 use Rattle.pcap_records.specs.declared.fault.PcapFault.{PcapFault}
@@ -21,7 +21,7 @@ use Rattle.switch_plan.specs.Refusals.{IsFirstFault, first_link, mixed_links, fi
 use Rattle.switch_plan.specs.Refusals.{refusal_of}
 use Rattle.switch_plan.specs.ReadingSteps.{bytes_of_files, IsCaptureOf, AreCapturesOf}
 use Rattle.switch_plan.specs.GoodPlans.{switch_plan_of, IsPlanOf}
-use Rattle.switch_plan.proofs.Folding.{at_any, at_map, length_map}
+use Rattle.switch_plan.proofs.Mapping.{at_map}
 use Rattle.switch_plan.proofs.Checked.{got_at}
 use Rattle.switch_plan.proofs.Refused.{refusal_once, no_refusal}
 
@@ -36,27 +36,27 @@ kept_bytes : (files : List (List ℕ)) (captures : List ACapture) → AreCapture
     → map (λ (capture : ACapture). capture.bytes.items) captures ≡ files
 kept_bytes files captures are =
     let bytes : ACapture → List ℕ = λ capture. capture.bytes.items in
-    same_lists (map bytes captures) files (length_map bytes captures ∙ are.count)
+    same_lists (map bytes captures) files (length-map captures bytes ∙ are.count)
     (λ k d inside.
-    let within : k < length captures = omega (arith, length_map bytes captures) in
+    let within : k < length captures = omega (arith, length-map captures bytes) in
     let got = got_at captures k within in
-    at_any (map bytes captures) k d (bytes got.0) inside
+    get_or_default (map bytes captures) k d (bytes got.0) inside
     ∙ at_map bytes captures k got.0
     ∙ (are.each k d got.0 (let n = are.count in omega arith)).kept)
 
 files_are : (files : List (List ℕ)) (captures : List ACapture) → AreCapturesOf files captures → AreFiles files (map file_of captures)
 files_are files captures are = record {
-  count = length_map file_of captures ∙ are.count;
+  count = length-map captures file_of ∙ are.count;
   each = λ k bytes capture within.
       let inside : k < length captures = let n = are.count in omega arith in
       let got = got_at captures k inside in
       let same : file_of (slice_index_or captures k got.0) ≡ slice_index_or (map file_of captures) k capture =
-      sym (at_any (map file_of captures) k capture (file_of got.0) (omega (arith, length_map file_of captures)) ∙ at_map file_of captures k got.0) in
+      sym (get_or_default (map file_of captures) k capture (file_of got.0) (omega (arith, length-map captures file_of)) ∙ at_map file_of captures k got.0) in
       subst (IsFile (slice_index_or files k bytes)) same (are.each k bytes got.0 within).file;
 }
 
 pub files_long : {A B : Type 0} (files : Vec (Vec ℕ A) B) → length (bytes_of_files files) ≡ length files.items
-files_long {A = A} files = length_map (λ (file : Vec ℕ A). file.items) files.items
+files_long {A = A} files = length-map files.items (λ (file : Vec ℕ A). file.items)
 
 -- ---- what is refused after the reading
 abbrev IsLate : PlanFault → Type 0

@@ -3,8 +3,9 @@ use Rattle.std.proofs.Common.{◌≡◌, ◌≢◌, ◌∙◌, ◌⊎◌, ℕ, �
 use Rattle.std.proofs.Common.{slice_index_or, refl, ap, sym, arith, append_assoc}
 use Rattle.std.specs.Prelude.{if◌then◌else◌, map}
 use Rattle.std.specs.List.{range_with_len}
-use Rattle.std.proofs.lemmas.List.{flat_map_more, append_cancel_left, take-append-drop}
+use Rattle.std.proofs.lemmas.List.{flat_map_more, append_cancel_left, take-append-drop, take_more, length-map}
 use Rattle.std.proofs.lemmas.Grind.{flat_map-append}
+use Rattle.std.proofs.lemmas.List.Sums.{fold_more}
 use Rattle.rotating_pick.specs.PortSets.{HasSeveral}
 use Rattle.cell_cutter.specs.Kinds.{kind_byte}
 use Rattle.card_core.specs.declared.plan.Planned.{Planned}
@@ -14,7 +15,6 @@ use Rattle.card_core.proofs.Arriving.{queue-unicast, queue-multicast}
 use Rattle.card_core.proofs.Sets.{several-of}
 use Rattle.switch_plan.specs.Totals.{flow_of, goes_to, message_length, greatest_message, sizes_for}
 use Rattle.switch_plan.specs.CountingSteps.{packets_of_cards}
-use Rattle.switch_plan.proofs.Folding.{fold_next, take_next, length_map}
 use Rattle.switch_plan.proofs.Summing.{packets_at}
 
 -- the flow of a packet with one output
@@ -31,7 +31,7 @@ pub greatest_next : (output flow : ℕ) (packets : List Planned) (k : ℕ) (p : 
     (if goes_to output p && (flow_of p == flow) then max (greatest_message output flow (take k packets))
     (message_length p) else greatest_message output flow (take k packets))
 greatest_next output flow packets k p inside is =
-    fold_next (λ most (packet : Planned). if goes_to output packet && (flow_of packet == flow) then max most (message_length packet) else most) 0 packets k p
+    fold_more (λ most (packet : Planned). if goes_to output packet && (flow_of packet == flow) then max most (message_length packet) else most) 0 packets k p
     inside
     ∙ ap (λ (packet : Planned). if goes_to output packet
     && (flow_of packet == flow) then max (greatest_message output flow (take k packets)) (message_length packet) else greatest_message output flow
@@ -56,8 +56,8 @@ greatest_of output packets = map (λ flow. greatest_message output flow packets)
 pub sizes_next : (output : ℕ) (cards : List CardPlan) (k : ℕ) (card : CardPlan) → k < length cards → card ≡ slice_index_or cards k card
     → sizes_for output (take (k + 1) (packets_of_cards cards)) ≡ sizes_for output (take k (packets_of_cards cards)) ++ greatest_of output card.packets.items
 sizes_next output cards k card inside is =
-    ap (sizes_for output) (take_next (packets_of_cards cards) k card.packets.items
-    (let l = length_map (λ (c : CardPlan). c.packets.items) cards in omega arith))
+    ap (sizes_for output) (take_more (packets_of_cards cards) k card.packets.items
+    (let l = length-map cards (λ (c : CardPlan). c.packets.items) in omega arith))
     ∙ sym (flat_map_more (greatest_of output) [] (take k (packets_of_cards cards)) (slice_index_or (packets_of_cards cards) k card.packets.items))
     ∙ ap (λ ps. sizes_for output (take k (packets_of_cards cards)) ++ greatest_of output ps) (packets_at cards k card is)
 

@@ -1,5 +1,5 @@
 pub mod Making
-pub mod Folding
+pub mod Mapping
 pub mod Answered
 pub mod Times
 pub mod Sizes
@@ -21,5 +21,7 @@ pub mod Leasts
 pub mod Carded
 pub mod Refused
 pub mod Alike
+pub mod MadeCards
+pub mod WhyRefused
 pub mod Goods
 pub mod Endings

@@ -3,12 +3,13 @@ use Rattle.std.proofs.Common.{◌≡◌, ◌≢◌, ◌∙◌, ℕ, zero, suc, �
 use Rattle.std.proofs.Common.{if◌then◌else◌, refl, ap, sym, subst, arith}
 use Rattle.std.specs.Prelude.{map, find, not, ◌==◌, option_map}
 use Rattle.std.proofs.lemmas.Bool.Decides.{nat_tests}
+use Rattle.std.proofs.lemmas.List.{length-map}
 use Rattle.pcap_records.specs.declared.capture.Capture.{Capture}
 use Rattle.pcap_records.specs.Format.{link_type}
 use Rattle.switch_plan.specs.declared.fault.PlanFault.TheVariants.{MixedLink}
 use Rattle.switch_plan.specs.Traffic.{CaptureFile, file_of}
 use Rattle.switch_plan.specs.Refusals.{first_link, mixed_links}
-use Rattle.switch_plan.proofs.Folding.{at_map, length_map}
+use Rattle.switch_plan.proofs.Mapping.{at_map}
 
 -- an element that does not pass is passed over
 passed_over : {A : Type 0} (b : Bool) (x : A) (rest more : Option A) → (if b then Some x else rest) ≡ None → (rest ≡ None → more ≡ None)
@@ -55,7 +56,7 @@ link_at captures k capture is =
     ∙ ap (λ (c : Capture). link_type c.link) (sym is)
 
 links_long : (captures : List Capture) → length (links_of captures) ≡ length captures
-links_long captures = length_map (λ (file : CaptureFile). link_type file.link) (map file_of captures) ∙ length_map file_of captures
+links_long captures = length-map (map file_of captures) (λ (file : CaptureFile). link_type file.link) ∙ length-map captures file_of
 
 -- a capture of the first one's link type is passed over, and one of another is found
 pub link_passed : (captures : List Capture) (k : ℕ) (capture : Capture) (first : ℕ) → k < length captures → capture ≡ slice_index_or captures k capture

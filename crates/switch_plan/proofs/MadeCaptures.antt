@@ -1,7 +1,8 @@
 -- The captures that are made are captures.
-use Rattle.std.proofs.Common.{◌≡◌, ℕ, zero, suc, ◌+◌, ◌<◌, ◌≤◌, false, List, [], ◌∷◌, ◌++◌, length, refl, ap, arith}
-use Rattle.std.specs.Prelude.{map, flat_map}
+use Rattle.std.proofs.Common.{◌≡◌, ℕ, zero, suc, ◌+◌, ◌<◌, ◌≤◌, false, List, ◌++◌, length, refl, ap, sym, arith}
+use Rattle.std.specs.Prelude.{map}
 use Rattle.std.specs.List.{range_with_len, AllByRecursion}
+use Rattle.std.proofs.lemmas.List.Folds.{flat_map-map}
 use Rattle.pcap_records.specs.declared.link.Link.TheVariants.{Ethernet}
 use Rattle.pcap_records.specs.declared.order.Order.TheVariants.{Little}
 use Rattle.pcap_records.specs.Format.{IsRecord, number_bytes, record_bytes, packet_of}
@@ -10,10 +11,6 @@ use Rattle.pcap_records.specs.Output.{header_text}
 use Rattle.switch_words.specs.declared.job.GenJob.{GenJob}
 use Rattle.switch_plan.specs.Made.{below, made_number, made_record, made_capture}
 use Rattle.switch_plan.proofs.Making.{frame_length}
-
-flat_map_map : {A B C : Type 0} (f : B → List C) (g : A → B) (xs : List A) → flat_map (λ x. f (g x)) xs ≡ flat_map f (map g xs)
-flat_map_map f g [] = refl
-flat_map_map f g (x ∷ xs) = ap (λ ys. f (g x) ++ ys) (flat_map_map f g xs)
 
 made_is_record : (job : GenJob) (port k : ℕ) → k < 4000 → port < 64 → IsRecord (made_record job port k)
 made_is_record job port k few ports =
@@ -46,7 +43,7 @@ made_is_capture job port count ports = record {
     link = omega arith;
     free = free;
     twelve = free_long;
-    spelled = ap (λ rest. header_text false Ethernet ++ rest) (flat_map_map (record_bytes Little) (made_record job port) (below job.count));
+    spelled = ap (λ rest. header_text false Ethernet ++ rest) (sym (flat_map-map (record_bytes Little) (made_record job port) (below job.count)));
   };
   packets_are = refl;
 }

@@ -1,8 +1,8 @@
 -- Lists that grow by one step after the other, and the sizes of made frames.
-use Rattle.std.proofs.Common.{◌≡◌, ◌∙◌, ℕ, zero, suc, ◌+◌, ◌-◌, List, [], ◌∷◌, ◌++◌, length, refl, ap, sym, arith, append_assoc}
-use Rattle.std.specs.Prelude.{map, flat_map, replicate, Result, Ok, Err, OnOk}
+use Rattle.std.proofs.Common.{◌≡◌, ◌∙◌, ℕ, zero, suc, ◌+◌, ◌-◌, List, [], ◌∷◌, ◌++◌, length, ap, sym, arith, append_assoc}
+use Rattle.std.specs.Prelude.{map, flat_map, Result, Ok, Err, OnOk}
 use Rattle.std.specs.List.{range_with_len}
-use Rattle.std.proofs.lemmas.List.{flat_map_more}
+use Rattle.std.proofs.lemmas.List.{flat_map_more, length-replicate, map_push}
 use Rattle.std.proofs.lemmas.List.FromFn.{map-range_with_len_more}
 use Rattle.pcap_records.specs.declared.order.Order.TheVariants.{Little}
 use Rattle.pcap_records.specs.Format.{record_header, record_bytes}
@@ -23,24 +23,16 @@ flat_map_next f bytes k =
     let here : 0 + k ≡ k = omega arith in
     flat_map_more f bytes (range_with_len 0 k) k ∙ ap (λ xs. bytes ++ flat_map f xs) (sym (range_next 0 k ∙ ap (λ x. range_with_len 0 k ++ x ∷ []) here))
 
-map-append : {A B : Type 0} (g : A → B) (xs : List A) (x : A) → map g (xs ++ x ∷ []) ≡ map g xs ++ g x ∷ []
-map-append g [] x = refl
-map-append g (y ∷ xs) x = ap (λ ys. g y ∷ ys) (map-append g xs x)
-
 -- a list of what was made for 0 to k - 1, followed by that for k
 pub map_next : {A B : Type 0} (g : A → B) (f : ℕ → B) (xs : List A) (x : A) (k : ℕ)
     → map g xs ≡ map f (range_with_len 0 k) → g x ≡ f k → map g (xs ++ x ∷ []) ≡ map f (range_with_len 0 (k + 1))
 map_next g f xs x k before here =
-    map-append g xs x ∙ ap (λ ys. ys ++ g x ∷ []) before ∙ ap (λ y. map f (range_with_len 0 k) ++ y ∷ []) here
+    map_push g xs x ∙ ap (λ ys. ys ++ g x ∷ []) before ∙ ap (λ y. map f (range_with_len 0 k) ++ y ∷ []) here
     ∙ sym (map-range_with_len_more f 0 k k (omega arith))
-
-replicate_length : (n b : ℕ) → length (replicate n b) ≡ n
-replicate_length zero b = refl
-replicate_length (suc n) b = omega (arith, replicate_length n b)
 
 pub frame_length : (ports h : ℕ) → length (made_frame ports h) ≡ made_length h
 unfolding made_frame frame_begin
-frame_length ports h = omega (arith, replicate_length (made_length h - 34) 0)
+frame_length ports h = omega (arith, length-replicate {A = ℕ} (made_length h - 34) 0)
 
 pub on_ok : {T E P Q : Type 0} (r : Result T E) → OnOk r P → (P → Q) → OnOk r Q
 on_ok (Ok x) holds f = f holds

@@ -6,6 +6,8 @@ use Rattle.std.specs.List.{zip}
 use Rattle.std.proofs.lemmas.Bool.Decides.{nat_tests}
 use Rattle.std.proofs.lemmas.List.Sums.{sum_by-cons}
 use Rattle.std.proofs.lemmas.Option.{none-some, same_Some}
+use Rattle.std.proofs.lemmas.List.Folds.{fold-map}
+use Rattle.std.proofs.lemmas.List.{length-map}
 use Rattle.pcap_records.specs.declared.link.Link.{Link}
 use Rattle.pcap_records.specs.Packets.{Packet}
 use Rattle.forward_table.specs.declared.route_lines.Route.{Route}
@@ -15,10 +17,10 @@ use Rattle.forward_table.specs.Routing.{serving_line, route_of}
 use Rattle.forward_table.proofs.Serving.{Contains-serving}
 use Rattle.frame_fields.specs.Destination.{destination_of}
 use Rattle.switch_plan.specs.Traffic.{is_oversize, is_unrouted, route_for, fan_of}
-use Rattle.switch_plan.proofs.Folding.{fold_map, at_map, length_map}
+use Rattle.switch_plan.proofs.Mapping.{at_map}
 
 pub count_map : {A B : Type 0} (p : B → Bool) (f : A → B) (xs : List A) → count_by p (map f xs) ≡ count_by (λ x. p (f x)) xs
-count_map p f xs = fold_map (λ a x. a + cond (p x) 1 0) 0 f xs
+count_map p f xs = fold-map (λ a x. a + cond (p x) 1 0) f 0 xs
 
 pub count_left : {A B : Type 0} (p : A → Bool) (xs : List A) (ys : List B) → length xs ≡ length ys → count_by (λ pair. p pair.0) (zip xs ys) ≡ count_by p xs
 count_left p [] ys same = refl
@@ -36,7 +38,7 @@ routed_by n table address route None routes is e = absurd (none-some route e)
 routed_by n table address route (Some line) routes is e =
     let there = Contains-serving table address line is in
     let k = there.0 in
-    let inside : k < length table = let h = there.1 in omega (arith, length_map (λ (l : RouteLine). l.route) table) in
+    let inside : k < length table = let h = there.1 in omega (arith, length-map table (λ (l : RouteLine). l.route)) in
     subst (IsRouteOf n) (sym (at_map (λ (l : RouteLine). l.route) table k line) ∙ there.2 ∙ same_Some line.route route e) (routes k line inside)
 
 pub routed : (n : ℕ) (table : List RouteLine) (address : Option ℕ) (route : Route) → AreRoutesOf n table → route_of table address ≡ Some route

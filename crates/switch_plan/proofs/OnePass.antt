@@ -7,6 +7,7 @@ use Rattle.std.proofs.lemmas.Bool.{cases_Bool, cases_eq, eq-eqb, ne_eqb}
 use Rattle.std.proofs.lemmas.List.{get_or-replicate, length-take}
 use Rattle.std.proofs.lemmas.List.FromFn.{fill_by_all}
 use Rattle.std.proofs.lemmas.List.Elements.{All-head, All-tail, All-take}
+use Rattle.std.proofs.lemmas.List.Sums.{fold_more}
 use Rattle.rotating_pick.specs.PortSets.{Has}
 use Rattle.card_core.specs.declared.plan.Planned.{Planned}
 use Rattle.card_core.specs.Plans.{no_packet}
@@ -14,7 +15,6 @@ use Rattle.switch_plan.specs.declared.port_rooms.PortRoom.{PortRoom}
 use Rattle.switch_plan.specs.Totals.{goes_to, flow_of, message_length, greatest_message, bytes_to}
 use Rattle.switch_plan.specs.CountingSteps.{IsForwardable, AreCountable}
 use Rattle.switch_plan.specs.OutputSteps.{no_room, beyond, room_at, with_message, with_packet, room_for, AreFew}
-use Rattle.switch_plan.proofs.Folding.{fold_next}
 use Rattle.switch_plan.proofs.Flows.{greatest_of}
 use Rattle.switch_plan.proofs.RoomBounds.{goes_some}
 
@@ -157,7 +157,7 @@ room_all_few output ps all =
 pub rooms_next : (output k : ℕ) (rooms more : List PortRoom) (ps : List Planned) → k < length ps → room_at rooms output ≡ room_for output (take k ps)
     → room_at more output ≡ with_packet output (room_at rooms output) (slice_index_or ps k no_packet) → room_at more output ≡ room_for output (take (k + 1) ps)
 rooms_next output k rooms more ps inside before step =
-    step ∙ ap (λ room. with_packet output room (slice_index_or ps k no_packet)) before ∙ sym (fold_next (with_packet output) no_room ps k no_packet inside)
+    step ∙ ap (λ room. with_packet output room (slice_index_or ps k no_packet)) before ∙ sym (fold_more (with_packet output) no_room ps k no_packet inside)
 
 -- ---- one packet at each of its outputs
 pub goes_where : (output : ℕ) (p : Planned) → Has p.fan output → goes_to output p ≡ true

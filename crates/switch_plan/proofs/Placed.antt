@@ -5,9 +5,10 @@ use Rattle.std.specs.Prelude.{map, count_by, All, nat_lt, slice_get}
 use Rattle.std.specs.List.{zip}
 use Rattle.std.proofs.lemmas.Bool.Decides.{nat_tests}
 use Rattle.std.proofs.lemmas.Option.{none-some, slice_get_within, get_or_from_slice_get}
-use Rattle.std.proofs.lemmas.List.{same_lists}
+use Rattle.std.proofs.lemmas.List.{same_lists, get_or_default, length-map}
 use Rattle.std.proofs.lemmas.List.Sums.{sum_by-cons}
 use Rattle.std.proofs.lemmas.Nat.{pow_pos}
+use Rattle.std.proofs.lemmas.Simd.{map-map}
 use Rattle.line_pace.specs.declared.pace.Pace.{Pace}
 use Rattle.line_pace.specs.Arrivals.{slots_taken}
 use Rattle.pcap_records.specs.declared.link.Link.{Link}
@@ -28,7 +29,7 @@ use Rattle.switch_plan.specs.Totals.{most_for, slots_of}
 use Rattle.switch_plan.specs.ReadingSteps.{IsCaptureOf}
 use Rattle.switch_plan.specs.CountingSteps.{IsForwardable, AreCountable}
 use Rattle.switch_plan.specs.CardSteps.{slots_at, traffic_at, is_long, IsCardFor}
-use Rattle.switch_plan.proofs.Folding.{at_any, at_map, at_zip, length_map, length_zip, map_map}
+use Rattle.switch_plan.proofs.Mapping.{at_map, at_zip, length_zip}
 use Rattle.switch_plan.proofs.Times.{no_stored, length-captured_in}
 use Rattle.switch_plan.proofs.Rising.{arrivals_rise, slots_long, rising_apart, rising_below, rising_few, zip_right}
 use Rattle.switch_plan.proofs.Numbers.{count_map, count_left, routed, aside_split}
@@ -60,7 +61,7 @@ pub traffic_slots_at : (table : List RouteLine) (pace : Pace) (capture : Capture
 traffic_slots_at table pace capture =
     let pairs = zip (packets_of capture) (slots_at pace capture) in
     ap slots_taken
-    (map_map (λ (p : Planned). p.arrival) (λ pair. planned table capture.link pair.0 pair.1) pairs
+    (map-map (λ (p : Planned). p.arrival) (λ pair. planned table capture.link pair.0 pair.1) pairs
     ∙ zip_right (packets_of capture) (slots_at pace capture) (sym (slots_long pace (packets_of capture))))
 
 -- packets that stand in a file each after the record before, the first of them at this place
@@ -80,16 +81,16 @@ starts_from bytes at (s ∷ stored) within order =
 module _ (ports depth : ℕ) (table : List RouteLine) (pace : Pace) (port : ℕ) (capture : Capture) (card : CardPlan)
     (routes : AreRoutesOf ports table) (read : IsCaptureOf capture.bytes.items capture) (is : IsCardFor ports depth table pace port capture card) where
   stored_long : length (packets_of capture) ≡ length capture.packets.items
-  stored_long = length_map (packet_in capture.bytes.items) capture.packets.items
+  stored_long = length-map capture.packets.items (packet_in capture.bytes.items)
 
   taken_long : length (slots_at pace capture) ≡ length capture.packets.items
   taken_long = slots_long pace (packets_of capture) ∙ stored_long
 
   card_long : length card.packets.items ≡ length capture.packets.items
   card_long =
-      sym (length_map (λ (p : Planned). p.start) card.packets.items)
+      sym (length-map card.packets.items (λ (p : Planned). p.start))
       ∙ ap length is.packets.places
-      ∙ length_map (λ (s : Stored). s.start) capture.packets.items
+      ∙ length-map capture.packets.items (λ (s : Stored). s.start)
 
   packet_from : (k : ℕ) (d : Planned) → k < length card.packets.items
       → IsFrom table capture.link capture.bytes.items (slice_index_or capture.packets.items k no_stored) (slice_index_or (slots_at pace capture) k 0)
@@ -102,19 +103,19 @@ module _ (ports depth : ℕ) (table : List RouteLine) (pace : Pace) (port : ℕ)
       let slot = slice_index_or (slots_at pace capture) k 0 in
       let in_stored : k < length capture.packets.items = omega (arith, card_long) in
       let in_pairs : k < length (map f pairs) =
-      omega (arith, length_map f pairs, length_zip (packets_of capture) (slots_at pace capture) (stored_long ∙ sym taken_long), stored_long) in
+      omega (arith, length-map pairs f, length_zip (packets_of capture) (slots_at pace capture) (stored_long ∙ sym taken_long), stored_long) in
       let same : unplaced (slice_index_or card.packets.items k d) ≡ planned table capture.link (packet_in capture.bytes.items s) slot =
       sym (at_map unplaced card.packets.items k d)
       ∙ ap (λ xs. slice_index_or xs k (unplaced d)) is.packets.packets_are
-      ∙ at_any (map f pairs) k (unplaced d) (f (own, 0)) in_pairs
+      ∙ get_or_default (map f pairs) k (unplaced d) (f (own, 0)) in_pairs
       ∙ at_map f pairs k (own, 0)
       ∙ ap f (at_zip (packets_of capture) (slots_at pace capture) k own 0 (omega (arith, stored_long)) (omega (arith, taken_long)))
       ∙ ap (λ p. planned table capture.link p slot) (at_map (packet_in capture.bytes.items) capture.packets.items k no_stored) in
       let place : (slice_index_or card.packets.items k d).start ≡ s.start =
       sym (at_map (λ (p : Planned). p.start) card.packets.items k d)
       ∙ ap (λ xs. slice_index_or xs k d.start) is.packets.places
-      ∙ at_any (map (λ (s : Stored). s.start) capture.packets.items) k d.start no_stored.start
-      (omega (arith, length_map (λ (s : Stored). s.start) capture.packets.items))
+      ∙ get_or_default (map (λ (s : Stored). s.start) capture.packets.items) k d.start no_stored.start
+      (omega (arith, length-map capture.packets.items (λ (s : Stored). s.start)))
       ∙ at_map (λ (s : Stored). s.start) capture.packets.items k no_stored in
       record {
         nanos = ap (λ (p : Planned). p.nanos) same;
@@ -193,7 +194,7 @@ module _ (ports depth : ℕ) (table : List RouteLine) (pace : Pace) (port : ℕ)
   pub card_slots : slots_of card.packets.items ≤ most_for ports
   card_slots =
       let same : slots_of card.packets.items ≡ slots_taken (slots_at pace capture) =
-      ap slots_taken (sym (map_map (λ (p : Planned). p.arrival) unplaced card.packets.items))
+      ap slots_taken (sym (map-map (λ (p : Planned). p.arrival) unplaced card.packets.items))
       ∙ ap slots_of traffic_is
       ∙ traffic_slots_at table pace capture in
       subst (λ n. n ≤ most_for ports) (sym same) is.within
@@ -202,9 +203,9 @@ module _ (ports depth : ℕ) (table : List RouteLine) (pace : Pace) (port : ℕ)
   pub bodies_are : map (bytes_of (plan_of card)) card.packets.items ≡ map (λ (p : Packet). p.bytes) (packets_of capture)
   bodies_are =
       same_lists (map (bytes_of (plan_of card)) card.packets.items) (map (λ (p : Packet). p.bytes) (packets_of capture))
-      (length_map (bytes_of (plan_of card)) card.packets.items ∙ card_long ∙ sym stored_long ∙ sym (length_map (λ (p : Packet). p.bytes) (packets_of capture)))
+      (length-map card.packets.items (bytes_of (plan_of card)) ∙ card_long ∙ sym stored_long ∙ sym (length-map (packets_of capture) (λ (p : Packet). p.bytes)))
       (λ k d inside.
-      let in_card : k < length card.packets.items = omega (arith, length_map (bytes_of (plan_of card)) card.packets.items) in
+      let in_card : k < length card.packets.items = omega (arith, length-map card.packets.items (bytes_of (plan_of card))) in
       let from = packet_from k no_packet in_card in
       let s = slice_index_or capture.packets.items k no_stored in
       let p = slice_index_or card.packets.items k no_packet in
@@ -213,13 +214,13 @@ module _ (ports depth : ℕ) (table : List RouteLine) (pace : Pace) (port : ℕ)
       ap (λ n. take n (drop p.start card.bytes.items)) from.len
       ∙ ap (λ n. take s.len (drop n card.bytes.items)) from.start
       ∙ ap (λ (b : List ℕ). take s.len (drop s.start b)) is.kept in
-      at_any (map (bytes_of (plan_of card)) card.packets.items) k d (bytes_of (plan_of card) no_packet) inside
+      get_or_default (map (bytes_of (plan_of card)) card.packets.items) k d (bytes_of (plan_of card) no_packet) inside
       ∙ at_map (bytes_of (plan_of card)) card.packets.items k no_packet
       ∙ body
       ∙ sym (ap (λ (x : Packet). x.bytes) (at_map (packet_in capture.bytes.items) capture.packets.items k no_stored))
       ∙ sym (at_map (λ (x : Packet). x.bytes) (packets_of capture) k own)
-      ∙ sym (at_any (map (λ (x : Packet). x.bytes) (packets_of capture)) k d own.bytes
-      (omega (arith, length_map (λ (x : Packet). x.bytes) (packets_of capture), stored_long, card_long))))
+      ∙ sym (get_or_default (map (λ (x : Packet). x.bytes) (packets_of capture)) k d own.bytes
+      (omega (arith, length-map (packets_of capture) (λ (x : Packet). x.bytes), stored_long, card_long))))
 
   -- and stand where the capture has them
   pub starts_are : map (λ (p : Planned). p.start) card.packets.items ≡ places_from 40 (packets_of capture)
@@ -255,7 +256,7 @@ module _ (ports depth : ℕ) (table : List RouteLine) (pace : Pace) (port : ℕ)
       let records = read.file.records in
       let own = packet_in capture.bytes.items no_stored in
       let here : k < length records = let e = ap length read.file.packets_are in
-      omega (arith, e, length_map (packet_of capture.nano) records, stored_long, card_long) in
+      omega (arith, e, length-map records (packet_of capture.nano), stored_long, card_long) in
       let same : packet_in capture.bytes.items s ≡ slice_index_or (map (packet_of capture.nano) records) k own =
       sym (at_map (packet_in capture.bytes.items) capture.packets.items k no_stored) ∙ ap (λ xs. slice_index_or xs k own) read.file.packets_are in
       let stored : s.nanos % 1000 ≡ 0 =

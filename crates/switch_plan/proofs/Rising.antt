@@ -2,12 +2,12 @@
 use Rattle.std.proofs.Common.{◌≡◌, ◌∙◌, ℕ, zero, suc, ◌+◌, ◌<◌, ◌≤◌, List, [], ◌∷◌, length, slice_index_or, refl, ap, arith}
 use Rattle.std.specs.Prelude.{map}
 use Rattle.std.specs.List.{zip}
+use Rattle.std.proofs.lemmas.List.{length-map}
 use Rattle.line_pace.specs.declared.pace.Pace.{Pace}
 use Rattle.line_pace.specs.declared.pace.Stamp.{Stamp}
 use Rattle.line_pace.specs.Arrivals.{arrival, arrivals_from, arrival_slots, slots_taken}
 use Rattle.pcap_records.specs.Packets.{Packet}
 use Rattle.switch_plan.specs.Traffic.{stamp_of}
-use Rattle.switch_plan.proofs.Folding.{length_map}
 use Rattle.switch_plan.proofs.Arriving.{cells_some}
 
 -- slots that rise, from this one on
@@ -28,7 +28,7 @@ arrivals_long pace free (stamp ∷ stamps) = omega (arith, arrivals_long pace (a
 
 -- there is a slot for each packet
 pub slots_long : (pace : Pace) (packets : List Packet) → length (arrival_slots pace (map stamp_of packets)) ≡ length packets
-slots_long pace packets = arrivals_long pace 0 (map stamp_of packets) ∙ length_map stamp_of packets
+slots_long pace packets = arrivals_long pace 0 (map stamp_of packets) ∙ length-map packets stamp_of
 
 rising_from : (free : ℕ) (slots : List ℕ) (k d : ℕ) → AreRisingFrom free slots → k < length slots → free ≤ slice_index_or slots k d
 rising_from free [] k d rise inside = absurd (omega arith)

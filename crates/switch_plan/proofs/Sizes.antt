@@ -1,13 +1,14 @@
 -- How many packets a capture has, and of how many bytes.
-use Rattle.std.proofs.Common.{◌≡◌, ◌∙◌, ℕ, zero, suc, ◌+◌, ◌*◌, ◌<◌, ◌≤◌, Bool, List, [], ◌∷◌, length, take, slice_index_or, refl, ap, sym, subst, arith}
+use Rattle.std.proofs.Common.{◌≡◌, ◌∙◌, ℕ, zero, suc, ◌+◌, ◌*◌, ◌<◌, ◌≤◌, Bool, List, [], ◌∷◌, length, take, slice_index_or, ap, sym, subst, arith}
 use Rattle.std.specs.Prelude.{map, fold, All}
 use Rattle.std.specs.List.{AllByRecursion}
+use Rattle.std.proofs.lemmas.List.{length-map, length-take-le}
 use Rattle.pcap_records.specs.declared.capture.Capture.{Capture}
 use Rattle.pcap_records.specs.declared.capture.Stored.{Stored}
 use Rattle.pcap_records.specs.Packets.{Packet, captured_in, packet_in, packets_of, AreInOrder, IsWithin}
 use Rattle.pcap_records.specs.Format.{Record, IsRecord, packet_of}
 use Rattle.switch_plan.specs.Traffic.{IsFile, file_of}
-use Rattle.switch_plan.proofs.Folding.{length_map, at_map}
+use Rattle.switch_plan.proofs.Mapping.{at_map}
 use Rattle.switch_plan.proofs.Times.{no_stored, length-captured_in}
 
 records_short : (nano : Bool) (records : List Record) → AllByRecursion IsRecord records → (k : ℕ) (d : Packet) → k < length records
@@ -22,9 +23,9 @@ pub capture_short : (bytes : List ℕ) (capture : Capture) → IsFile bytes (fil
 capture_short bytes capture file within k d inside =
     let stored = slice_index_or capture.packets.items k d in
     let own = packet_in capture.bytes.items d in
-    let long : length (packets_of capture) ≡ length file.records = ap length file.packets_are ∙ length_map (packet_of capture.nano) file.records in
+    let long : length (packets_of capture) ≡ length file.records = ap length file.packets_are ∙ length-map file.records (packet_of capture.nano) in
     let short = records_short capture.nano file.records file.each k own
-    (omega (arith, long, length_map (packet_in capture.bytes.items) capture.packets.items)) in
+    (omega (arith, long, length-map capture.packets.items (packet_in capture.bytes.items))) in
     let same : slice_index_or (map (packet_of capture.nano) file.records) k own ≡ packet_in capture.bytes.items stored =
     ap (λ xs. slice_index_or xs k own) (sym file.packets_are) ∙ at_map (packet_in capture.bytes.items) capture.packets.items k d in
     let here : length (captured_in capture.bytes.items stored) ≤ 262144 = subst (λ (p : Packet). length p.bytes ≤ 262144) same short in
@@ -35,12 +36,6 @@ records_long : (a : ℕ) (packets : List Stored) → a + 16 * length packets ≤
 records_long a [] = omega arith
 records_long a (s ∷ packets) = let more = records_long (a + (16 + s.len)) packets in omega (arith, more)
 
-front_length : (xs : List Stored) (k : ℕ) → k ≤ length xs → length (take k xs) ≡ k
-front_length [] zero inside = refl
-front_length [] (suc k) inside = absurd (omega arith)
-front_length (x ∷ xs) zero inside = refl
-front_length (x ∷ xs) (suc k) inside = omega (arith, front_length xs k (omega arith))
-
 -- and a file of at most 16,777,216 bytes at most 1,048,576 of them
 pub capture_few : (bytes : List ℕ) (packets : List Stored) → AreInOrder packets → All (IsWithin bytes) packets → length bytes ≤ 16777216
     → length packets ≤ 1048576
@@ -50,5 +45,5 @@ capture_few bytes (s ∷ packets) order within size =
     let start = order (length packets) no_stored inside in
     let place = within (length packets) no_stored inside in
     let before = records_long 0 (take (length packets) (s ∷ packets)) in
-    let long = front_length (s ∷ packets) (length packets) (omega arith) in
+    let long = length-take-le (length packets) (s ∷ packets) (omega arith) in
     omega (arith, start, place, before, long)

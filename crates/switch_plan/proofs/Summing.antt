@@ -2,6 +2,8 @@
 use Rattle.std.proofs.Common.{◌≡◌, ◌∙◌, ℕ, zero, suc, ◌+◌, ◌/◌, ◌^◌, ◌<◌, ◌≤◌, List, length, take, slice_index_or, ap, sym, subst, arith}
 use Rattle.std.specs.Prelude.{map, max, sum_by, count_by, ◌==◌, count_ones, All}
 use Rattle.std.proofs.lemmas.Nat.{ones_le_self}
+use Rattle.std.proofs.lemmas.List.Sums.{fold_more}
+use Rattle.std.proofs.lemmas.List.{length-map}
 use lib.Count.{ones_step}
 use Rattle.cell_cutter.specs.Messages.{cells_of_packet}
 use Rattle.card_core.specs.declared.plan.Planned.{Planned}
@@ -10,7 +12,7 @@ use Rattle.card_core.specs.Plans.{no_packet}
 use Rattle.switch_plan.specs.Totals.{work_of, total_work, total_aside, bytes_to, goes_to, body_room_for, packet_room_for, slots_of, greatest_slots}
 use Rattle.switch_plan.specs.CountingSteps.{AreCountable, packets_of_cards}
 use Rattle.switch_plan.specs.CardSteps.{is_long}
-use Rattle.switch_plan.proofs.Folding.{at_map, length_map, fold_next}
+use Rattle.switch_plan.proofs.Mapping.{at_map}
 use Rattle.switch_plan.proofs.Arriving.{taken_last}
 
 -- a number of `bits` bits has at most as many that are set
@@ -32,7 +34,7 @@ packets_at cards k card is =
     at_map (λ (c : CardPlan). c.packets.items) cards k card ∙ ap (λ (c : CardPlan). c.packets.items) (sym is)
 
 cards_long : (cards : List CardPlan) → length (packets_of_cards cards) ≡ length cards
-cards_long cards = length_map (λ (c : CardPlan). c.packets.items) cards
+cards_long cards = length-map cards (λ (c : CardPlan). c.packets.items)
 
 pub countable_at : (cards : List CardPlan) (k : ℕ) (card : CardPlan) → All AreCountable (packets_of_cards cards) → k < length cards
     → card ≡ slice_index_or cards k card → AreCountable card.packets.items
@@ -42,14 +44,14 @@ countable_at cards k card all inside is =
 pub work_next : (cards : List CardPlan) (k : ℕ) (card : CardPlan) → k < length cards → card ≡ slice_index_or cards k card
     → total_work (take (k + 1) (packets_of_cards cards)) ≡ total_work (take k (packets_of_cards cards)) + sum_by work_of card.packets.items
 work_next cards k card inside is =
-    fold_next (λ a (packets : List Planned). a + sum_by work_of packets) 0 (packets_of_cards cards) k card.packets.items (omega (arith, cards_long cards))
+    fold_more (λ a (packets : List Planned). a + sum_by work_of packets) 0 (packets_of_cards cards) k card.packets.items (omega (arith, cards_long cards))
     ∙ ap (λ packets. total_work (take k (packets_of_cards cards)) + sum_by work_of packets) (packets_at cards k card is)
 
 pub aside_next : (cards : List CardPlan) (k : ℕ) (card : CardPlan) → k < length cards → card ≡ slice_index_or cards k card
     → total_aside (take (k + 1) (packets_of_cards cards)) ≡ total_aside (take k (packets_of_cards cards)) + count_by
     (λ packet. packet.fan == 0) card.packets.items
 aside_next cards k card inside is =
-    fold_next (λ a (packets : List Planned). a + count_by (λ (packet : Planned). packet.fan == 0) packets) 0 (packets_of_cards cards) k card.packets.items
+    fold_more (λ a (packets : List Planned). a + count_by (λ (packet : Planned). packet.fan == 0) packets) 0 (packets_of_cards cards) k card.packets.items
     (omega (arith, cards_long cards))
     ∙ ap (λ packets. total_aside (take k (packets_of_cards cards)) + count_by (λ (packet : Planned). packet.fan == 0) packets) (packets_at cards k card is)
 
@@ -57,7 +59,7 @@ pub bytes_next : (output : ℕ) (cards : List CardPlan) (k : ℕ) (card : CardPl
     → body_room_for output (take (k + 1) (packets_of_cards cards)) ≡ body_room_for output (take k (packets_of_cards cards)) + sum_by
     (bytes_to output) card.packets.items
 bytes_next output cards k card inside is =
-    fold_next (λ a (packets : List Planned). a + sum_by (bytes_to output) packets) 0 (packets_of_cards cards) k card.packets.items
+    fold_more (λ a (packets : List Planned). a + sum_by (bytes_to output) packets) 0 (packets_of_cards cards) k card.packets.items
     (omega (arith, cards_long cards))
     ∙ ap (λ packets. body_room_for output (take k (packets_of_cards cards)) + sum_by (bytes_to output) packets) (packets_at cards k card is)
 
@@ -65,25 +67,25 @@ pub messages_next : (output : ℕ) (cards : List CardPlan) (k : ℕ) (card : Car
     → packet_room_for output (take (k + 1) (packets_of_cards cards)) ≡ packet_room_for output (take k (packets_of_cards cards)) + count_by
     (goes_to output) card.packets.items
 messages_next output cards k card inside is =
-    fold_next (λ a (packets : List Planned). a + count_by (goes_to output) packets) 0 (packets_of_cards cards) k card.packets.items
+    fold_more (λ a (packets : List Planned). a + count_by (goes_to output) packets) 0 (packets_of_cards cards) k card.packets.items
     (omega (arith, cards_long cards))
     ∙ ap (λ packets. packet_room_for output (take k (packets_of_cards cards)) + count_by (goes_to output) packets) (packets_at cards k card is)
 
 pub slots_next : (cards : List CardPlan) (k : ℕ) (card : CardPlan) → k < length cards → card ≡ slice_index_or cards k card
     → greatest_slots (take (k + 1) (packets_of_cards cards)) ≡ max (greatest_slots (take k (packets_of_cards cards))) (slots_of card.packets.items)
 slots_next cards k card inside is =
-    fold_next (λ most (packets : List Planned). max most (slots_of packets)) 0 (packets_of_cards cards) k card.packets.items (omega (arith, cards_long cards))
+    fold_more (λ most (packets : List Planned). max most (slots_of packets)) 0 (packets_of_cards cards) k card.packets.items (omega (arith, cards_long cards))
     ∙ ap (λ packets. max (greatest_slots (take k (packets_of_cards cards))) (slots_of packets)) (packets_at cards k card is)
 
 -- the last packet's arrival slot and one
 pub slots_last : (packets : List Planned) (k : ℕ) → length packets ≡ k + 1 → slots_of packets ≡ (slice_index_or packets k no_packet).arrival + 1
 slots_last packets k long =
-    taken_last (map (λ packet. packet.arrival) packets) k (length_map (λ packet. packet.arrival) packets ∙ long)
+    taken_last (map (λ packet. packet.arrival) packets) k (length-map packets (λ packet. packet.arrival) ∙ long)
     ∙ ap (λ n. n + 1) (at_map (λ packet. packet.arrival) packets k no_packet)
 
 pub oversize_next : (cards : List CardPlan) (k : ℕ) (card : CardPlan) → k < length cards → card ≡ slice_index_or cards k card
     → sum_by (count_by is_long) (take (k + 1) (packets_of_cards cards)) ≡ sum_by (count_by is_long)
     (take k (packets_of_cards cards)) + count_by is_long card.packets.items
 oversize_next cards k card inside is =
-    fold_next (λ a (packets : List Planned). a + count_by is_long packets) 0 (packets_of_cards cards) k card.packets.items (omega (arith, cards_long cards))
+    fold_more (λ a (packets : List Planned). a + count_by is_long packets) 0 (packets_of_cards cards) k card.packets.items (omega (arith, cards_long cards))
     ∙ ap (λ packets. sum_by (count_by is_long) (take k (packets_of_cards cards)) + count_by is_long packets) (packets_at cards k card is)

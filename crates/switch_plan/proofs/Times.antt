@@ -3,6 +3,10 @@ use Rattle.std.proofs.Common.{◌≡◌, ◌∙◌, ℕ, ◌+◌, ◌<◌, ◌�
 use Rattle.std.proofs.Common.{length-take, length-drop}
 use Rattle.std.specs.Prelude.{map, fold}
 use Rattle.std.specs.List.{zip}
+use Rattle.std.proofs.lemmas.List.Sums.{fold_more}
+use Rattle.std.proofs.lemmas.List.{map_more, take_all, length-map}
+use Rattle.std.proofs.lemmas.List.Folds.{fold-map}
+use Rattle.std.proofs.lemmas.Simd.{map-map}
 use Rattle.cell_cutter.specs.Messages.{cells_of_packet}
 use Rattle.line_pace.specs.declared.pace.Stamp.{Stamp}
 use Rattle.pcap_records.specs.declared.capture.Stored.{Stored}
@@ -12,7 +16,7 @@ use Rattle.pcap_records.specs.declared.link.Link.{Link}
 use Rattle.forward_table.specs.declared.route_lines.RouteLine.{RouteLine}
 use Rattle.card_core.specs.declared.plan.Planned.{Planned}
 use Rattle.switch_plan.specs.Traffic.{planned, unplaced, CaptureFile, file_of, earlier, time_of, stamp_of, least_in, least_time}
-use Rattle.switch_plan.proofs.Folding.{length_map, at_map, at_zip, length_zip, made_next, fold_next, map_next, fold_map, map_map, take_all}
+use Rattle.switch_plan.proofs.Mapping.{at_map, at_zip, length_zip, made_next}
 
 -- a packet of no bytes, which no place of a capture has
 abbrev pub no_stored : Stored
@@ -22,14 +26,14 @@ no_stored = record { seconds = 0; nanos = 0; original = 0; start = 0; len = 0 }
 least_walk : (least : Option ℕ) (bytes : List ℕ) (packets : List Stored)
     → least_in least (map (packet_in bytes) packets) ≡ fold (λ l s. earlier l (time_of (packet_in bytes s))) least packets
 least_walk least bytes packets =
-    fold_map earlier least time_of (map (packet_in bytes) packets) ∙ fold_map (λ l p. earlier l (time_of p)) least (packet_in bytes) packets
+    fold-map earlier time_of least (map (packet_in bytes) packets) ∙ fold-map (λ l p. earlier l (time_of p)) (packet_in bytes) least packets
 
 pub least_next : (least : Option ℕ) (bytes : List ℕ) (packets : List Stored) (k : ℕ) (d : Stored) → k < length packets
     → least_in least (map (packet_in bytes) (take (k + 1) packets)) ≡ earlier (least_in least (map (packet_in bytes) (take k packets)))
     (time_of (packet_in bytes (slice_index_or packets k d)))
 least_next least bytes packets k d inside =
     least_walk least bytes (take (k + 1) packets)
-    ∙ fold_next (λ l s. earlier l (time_of (packet_in bytes s))) least packets k d inside
+    ∙ fold_more (λ l s. earlier l (time_of (packet_in bytes s))) least packets k d inside
     ∙ ap (λ l. earlier l (time_of (packet_in bytes (slice_index_or packets k d)))) (sym (least_walk least bytes (take k packets)))
 
 -- a packet that lies within its file has as many bytes as its record says
@@ -50,22 +54,22 @@ stamps_next bytes packets k d stamps pushed stamp inside is push so_far =
     push
     ∙ ap (λ (front : List Stamp). front ++ stamp ∷ []) so_far
     ∙ ap (λ (s : Stamp). map (λ (p : Stored). stamp_of (packet_in bytes p)) (take k packets) ++ s ∷ []) is
-    ∙ sym (map_next (λ (s : Stored). stamp_of (packet_in bytes s)) packets k d inside)
+    ∙ sym (map_more (λ (s : Stored). stamp_of (packet_in bytes s)) packets k d inside)
 
 pub stamps_all : (bytes : List ℕ) (packets : List Stored) (k : ℕ) (stamps : List Stamp) → length packets ≤ k
     → stamps ≡ map (λ (s : Stored). stamp_of (packet_in bytes s)) (take k packets) → stamps ≡ map stamp_of (map (packet_in bytes) packets)
 stamps_all bytes packets k stamps all so_far =
-    so_far ∙ ap (map (λ (s : Stored). stamp_of (packet_in bytes s))) (take_all packets k all) ∙ sym (map_map stamp_of (packet_in bytes) packets)
+    so_far ∙ ap (map (λ (s : Stored). stamp_of (packet_in bytes s))) (take_all k packets all) ∙ sym (map-map stamp_of (packet_in bytes) packets)
 
 -- the least time of all captures, with one more
 pub least_time_next : (captures : List Capture) (k : ℕ) (capture : Capture) → k < length captures → capture ≡ slice_index_or captures k capture
     → least_time (map file_of (take (k + 1) captures)) ≡ least_in (least_time (map file_of (take k captures))) (packets_of capture)
 least_time_next captures k capture inside is =
     let step : Option ℕ → Capture → Option ℕ = λ l x. least_in l (packets_of x) in
-    fold_map (λ l (file : CaptureFile). least_in l file.packets) None file_of (take (k + 1) captures)
-    ∙ fold_next step None captures k capture inside
+    fold-map (λ l (file : CaptureFile). least_in l file.packets) file_of None (take (k + 1) captures)
+    ∙ fold_more step None captures k capture inside
     ∙ ap (λ x. step (fold step None (take k captures)) x) (sym is)
-    ∙ ap (λ l. step l capture) (sym (fold_map (λ l (file : CaptureFile). least_in l file.packets) None file_of (take k captures)))
+    ∙ ap (λ l. step l capture) (sym (fold-map (λ l (file : CaptureFile). least_in l file.packets) file_of None (take k captures)))
 
 -- the packets of a port so far, with one more
 pub planned_next : (table : List RouteLine) (link : Link) (bytes : List ℕ) (stored : List Stored) (slots : List ℕ) (k : ℕ) (made pushed : List Planned)
@@ -78,11 +82,11 @@ planned_next table link bytes stored slots k made pushed packet push inside same
     let f : Packet × ℕ → Planned = λ pair. planned table link pair.0 pair.1 in
     let packets = map (packet_in bytes) stored in
     let d : Packet × ℕ = (packet_in bytes no_stored, 0) in
-    let long = length_map (packet_in bytes) stored in
+    let long = length-map stored (packet_in bytes) in
     let there : slice_index_or (map f (zip packets slots)) k (f d) ≡ planned table link (packet_in bytes (slice_index_or stored k no_stored))
     (slice_index_or slots k 0) =
     at_map f (zip packets slots) k d
     ∙ ap f (at_zip packets slots k (packet_in bytes no_stored) 0 (omega arith) (omega arith))
     ∙ ap (λ p. planned table link p (slice_index_or slots k 0)) (at_map (packet_in bytes) stored k no_stored) in
-    let all : length (map f (zip packets slots)) ≡ length stored = length_map f (zip packets slots) ∙ length_zip packets slots (omega arith) ∙ long in
+    let all : length (map f (zip packets slots)) ≡ length stored = length-map (zip packets slots) f ∙ length_zip packets slots (omega arith) ∙ long in
     made_next unplaced made pushed (map f (zip packets slots)) packet k (f d) push (is ∙ sym there) (omega arith) so_far

@@ -4,12 +4,12 @@ use Rattle.std.specs.Prelude.{fold, slice_get, All}
 use Rattle.std.proofs.lemmas.Bool.{cases_eq}
 use Rattle.std.proofs.lemmas.Option.{get_or_from_slice_get}
 use Rattle.std.proofs.lemmas.List.Elements.{All-nil, All-cons, All-head, All-tail, All-more}
+use Rattle.std.proofs.lemmas.List.{take_all, length-map}
 use Rattle.card_core.specs.declared.plan.Planned.{Planned}
 use Rattle.card_core.specs.declared.plan.CardPlan.{CardPlan}
 use Rattle.switch_plan.specs.Totals.{most_for, slots_of, greatest_slots, total_work}
 use Rattle.switch_plan.specs.CountingSteps.{packets_of_cards}
 use Rattle.switch_plan.specs.CheckingSteps.{AreTotals}
-use Rattle.switch_plan.proofs.Folding.{length_map, take_all}
 use Rattle.switch_plan.proofs.Summing.{packets_at}
 
 -- ---- the greatest number of slots
@@ -49,18 +49,18 @@ totals_to ports max_slots slots cells packets slots_is cells_is totals = (
 pub all_at : (P : List Planned → Type 0) (cards : List CardPlan) (k : ℕ) (card : CardPlan) → All P (packets_of_cards cards) → k < length cards
     → card ≡ slice_index_or cards k card → P card.packets.items
 all_at P cards k card all inside is =
-    subst P (packets_at cards k card is) (all k card.packets.items (let l = length_map (λ (c : CardPlan). c.packets.items) cards in omega arith))
+    subst P (packets_at cards k card is) (all k card.packets.items (let l = length-map cards (λ (c : CardPlan). c.packets.items) in omega arith))
 
 pub all_next : (P : List Planned → Type 0) (cards : List CardPlan) (k : ℕ) (card : CardPlan) → k < length cards → card ≡ slice_index_or cards k card
     → All P (take k (packets_of_cards cards)) → P card.packets.items → All P (take (k + 1) (packets_of_cards cards))
 all_next P cards k card inside is before here =
-    All-more P (packets_of_cards cards) k card.packets.items (let l = length_map (λ (c : CardPlan). c.packets.items) cards in omega arith) before
+    All-more P (packets_of_cards cards) k card.packets.items (let l = length-map cards (λ (c : CardPlan). c.packets.items) in omega arith) before
     (subst P (sym (packets_at cards k card is)) here)
 
 pub all_end : (P : List Planned → Type 0) (cards : List CardPlan) (k : ℕ) → length cards ≤ k → All P (take k (packets_of_cards cards))
     → All P (packets_of_cards cards)
 all_end P cards k past before =
-    subst (All P) (take_all (packets_of_cards cards) k (let l = length_map (λ (c : CardPlan). c.packets.items) cards in omega arith)) before
+    subst (All P) (take_all k (packets_of_cards cards) (let l = length-map cards (λ (c : CardPlan). c.packets.items) in omega arith)) before
 
 -- by the number of each card
 pub each_next : (P : ℕ → CardPlan → Type 0) (cards : List CardPlan) (k : ℕ) (card : CardPlan) → card ≡ slice_index_or cards k card

@@ -1,4 +1,5 @@
 use Rattle.std.proofs.Common.{◌≡◌, ◌∙◌, ℕ, ◌≤◌, List, ◌++◌, length, take, drop, ap, sym, subst, arith}
+use Rattle.std.proofs.lemmas.List.{length-map}
 use Rattle.slot_histories.specs.Events.{decides}
 use Rattle.slot_board.specs.States.{StateValue, JournalValue}
 use Rattle.card_worker.specs.declared.hands.Hand.{Hand}
@@ -7,7 +8,6 @@ use Rattle.card_worker.specs.declared.hands.Member.{Member}
 use Rattle.card_worker.specs.Groups.{AreGroups}
 use Rattle.card_worker.proofs.Removing.{whole_back}
 use Rattle.switch_plan.specs.GoodPlans.{SwitchPlan, IsGood}
-use Rattle.switch_plan.proofs.Folding.{length_map}
 use Rattle.run_laws.specs.Runs.{setup_for}
 use Rattle.run_laws.specs.Promises.{CompletesMulticast, ServesWaiting, WaitsAreShort}
 use Rattle.run_laws.proofs.RunWindows.{served-in-window, waits-short}
@@ -36,7 +36,7 @@ run_of plan state hands slice same law good setup planned =
 pub share-groups-requires-clause-room : goal.share-groups-requires-clause-room
 share-groups-requires-clause-room g c = λ place group at.
     let room = c.for_processors.ensures.room _ c.ready.invariant.rooms_are.groups_room place group at in
-    omega (arith, room, length_map (λ (member : Member). member.hand.card.sends.plan) c.ready.inside.members.items)
+    omega (arith, room, length-map c.ready.inside.members.items (λ (member : Member). member.hand.card.sends.plan))
 
 pub end_run-state-requires-clause-groups : goal.end_run-state-requires-clause-groups
 end_run-state-requires-clause-groups g c =

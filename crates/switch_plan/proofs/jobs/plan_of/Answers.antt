@@ -10,9 +10,12 @@ use Rattle.switch_plan.specs.CountingSteps.{packets_of_cards}
 use Rattle.switch_plan.specs.GoodPlans.{switch_plan_of, IsGood, IsPlanOf}
 use Rattle.switch_plan.specs.CardSteps.{IsPlanWith}
 use Rattle.switch_plan.proofs.Alike.{can_be_planned}
-use Rattle.switch_plan.proofs.Goods.{count_is, countable_all, slots_few, long_within, refused_over, refused_work, unrefused, plan_good, plan_is}
+use Rattle.switch_plan.proofs.MadeCards.{AreOfJob, count_is, countable_all, slots_few, long_within}
+use Rattle.switch_plan.proofs.WhyRefused.{refused_over, refused_work, unrefused}
+use Rattle.switch_plan.proofs.Goods.{plan_good, plan_is}
 use Rattle.switch_plan.proofs.jobs.plan_of.Goals as goal
 
+-- what a step says of its error, with more of its second case
 either_way : {A B C : Type 0} → (B → C) → A ⊎ B → A ⊎ C
 either_way f (inl a) = inl a
 either_way f (inr b) = inr (f b)
@@ -22,7 +25,7 @@ cards_of-requires-clause-captures c =
     let pace_us = c.args.settings.now.pace_us in
     let captures = c.args.captures.items in
     let pace_is : c.pace_of-pace.result ≡ pace_of pace_us (map file_of captures) = c.pace_of-pace.ensures
-    ∙ ap (λ (xs : List Capture). pace_of pace_us (map file_of xs)) c.deref-3.ensures.value in
+    ∙ ap (λ (all : List Capture). pace_of pace_us (map file_of all)) c.deref-3.ensures.value in
     can_be_planned pace_us c.pace_of-pace.result captures pace_is c.requires.read
 
 pub returns-in_err-cards-clause-refused : goal.returns-in_err-cards-clause-refused
@@ -30,11 +33,11 @@ returns-in_err-cards-clause-refused c =
     let pace_us = c.args.settings.now.pace_us in
     let captures = c.args.captures.items in
     let pace_is : c.pace_of-pace.result ≡ pace_of pace_us (map file_of captures) = c.pace_of-pace.ensures
-    ∙ ap (λ (xs : List Capture). pace_of pace_us (map file_of xs)) c.deref-3.ensures.value in
-    let unmixed : mixed_links (map file_of captures) ≡ None = ap (λ (xs : List Capture). mixed_links (map file_of xs)) (sym c.deref.ensures.value)
+    ∙ ap (λ (all : List Capture). pace_of pace_us (map file_of all)) c.deref-3.ensures.value in
+    let unmixed : mixed_links (map file_of captures) ≡ None = ap (λ (all : List Capture). mixed_links (map file_of all)) (sym c.deref.ensures.value)
     ∙ c.in_ok-link.ensures.same in
-    let p = err_from_is_err_and c.from_residual-in_err-cards.result c.from_residual-in_err-cards.ensures.1 in
-    rw (p.1, p.2)
+    let fault = err_from_is_err_and c.from_residual-in_err-cards.result c.from_residual-in_err-cards.ensures.1 in
+    rw (fault.1, fault.2)
     (either_way (refused_over c.args.table.now pace_us c.pace_of-pace.result
     (vec_len c.args.captures) captures c.args.captures.ok.0 pace_is unmixed c.in_err-cards.field-0.0) c.in_err-cards.ensures.over)
 
@@ -43,106 +46,112 @@ plan_with-requires-clause-few c =
     let settings = c.args.settings.now in
     let table = c.args.table.now in
     let captures = c.args.captures.items in
-    let n = vec_len c.args.captures in
-    let pace = c.pace_of-pace.result in
     let cards = c.in_ok-cards.cards.items in
-    let pace_is : pace ≡ pace_of settings.pace_us (map file_of captures) = c.pace_of-pace.ensures
-    ∙ ap (λ (xs : List Capture). pace_of settings.pace_us (map file_of xs)) c.deref-3.ensures.value in
-    let unmixed : mixed_links (map file_of captures) ≡ None = ap (λ (xs : List Capture). mixed_links (map file_of xs)) (sym c.deref.ensures.value)
-    ∙ c.in_ok-link.ensures.same in
-    let count = count_is table settings pace n captures cards c.args.captures.ok.0 pace_is unmixed c.requires.routes c.requires.read
-    c.in_ok-cards.ensures.cards in
-    omega (arith, count)
+    let job : AreOfJob table settings c.pace_of-pace.result (vec_len c.args.captures) captures cards = record {
+      count = c.args.captures.ok.0;
+      pace_is = c.pace_of-pace.ensures ∙ ap (λ (all : List Capture). pace_of settings.pace_us (map file_of all)) c.deref-3.ensures.value;
+      unmixed = ap (λ (all : List Capture). mixed_links (map file_of all)) (sym c.deref.ensures.value) ∙ c.in_ok-link.ensures.same;
+      routes = c.requires.routes;
+      read = c.requires.read;
+      cards_are = c.in_ok-cards.ensures.cards;
+    } in
+    omega (arith, count_is job)
 
 pub plan_with-requires-clause-packets : goal.plan_with-requires-clause-packets
 plan_with-requires-clause-packets c =
     let settings = c.args.settings.now in
     let table = c.args.table.now in
     let captures = c.args.captures.items in
-    let n = vec_len c.args.captures in
-    let pace = c.pace_of-pace.result in
     let cards = c.in_ok-cards.cards.items in
-    let pace_is : pace ≡ pace_of settings.pace_us (map file_of captures) = c.pace_of-pace.ensures
-    ∙ ap (λ (xs : List Capture). pace_of settings.pace_us (map file_of xs)) c.deref-3.ensures.value in
-    let unmixed : mixed_links (map file_of captures) ≡ None = ap (λ (xs : List Capture). mixed_links (map file_of xs)) (sym c.deref.ensures.value)
-    ∙ c.in_ok-link.ensures.same in
-    countable_all table settings pace n captures cards c.args.captures.ok.0 pace_is unmixed c.requires.routes c.requires.read c.in_ok-cards.ensures.cards
+    let job : AreOfJob table settings c.pace_of-pace.result (vec_len c.args.captures) captures cards = record {
+      count = c.args.captures.ok.0;
+      pace_is = c.pace_of-pace.ensures ∙ ap (λ (all : List Capture). pace_of settings.pace_us (map file_of all)) c.deref-3.ensures.value;
+      unmixed = ap (λ (all : List Capture). mixed_links (map file_of all)) (sym c.deref.ensures.value) ∙ c.in_ok-link.ensures.same;
+      routes = c.requires.routes;
+      read = c.requires.read;
+      cards_are = c.in_ok-cards.ensures.cards;
+    } in
+    countable_all job
 
 pub plan_with-requires-clause-slots : goal.plan_with-requires-clause-slots
 plan_with-requires-clause-slots c =
     let settings = c.args.settings.now in
     let table = c.args.table.now in
     let captures = c.args.captures.items in
-    let n = vec_len c.args.captures in
-    let pace = c.pace_of-pace.result in
     let cards = c.in_ok-cards.cards.items in
-    let pace_is : pace ≡ pace_of settings.pace_us (map file_of captures) = c.pace_of-pace.ensures
-    ∙ ap (λ (xs : List Capture). pace_of settings.pace_us (map file_of xs)) c.deref-3.ensures.value in
-    let unmixed : mixed_links (map file_of captures) ≡ None = ap (λ (xs : List Capture). mixed_links (map file_of xs)) (sym c.deref.ensures.value)
-    ∙ c.in_ok-link.ensures.same in
-    slots_few table settings pace n captures cards c.args.captures.ok.0 pace_is unmixed c.requires.routes c.requires.read c.in_ok-cards.ensures.cards
+    let job : AreOfJob table settings c.pace_of-pace.result (vec_len c.args.captures) captures cards = record {
+      count = c.args.captures.ok.0;
+      pace_is = c.pace_of-pace.ensures ∙ ap (λ (all : List Capture). pace_of settings.pace_us (map file_of all)) c.deref-3.ensures.value;
+      unmixed = ap (λ (all : List Capture). mixed_links (map file_of all)) (sym c.deref.ensures.value) ∙ c.in_ok-link.ensures.same;
+      routes = c.requires.routes;
+      read = c.requires.read;
+      cards_are = c.in_ok-cards.ensures.cards;
+    } in
+    slots_few job
 
 pub plan_with-requires-clause-long : goal.plan_with-requires-clause-long
 plan_with-requires-clause-long c =
     let settings = c.args.settings.now in
     let table = c.args.table.now in
     let captures = c.args.captures.items in
-    let n = vec_len c.args.captures in
-    let pace = c.pace_of-pace.result in
     let cards = c.in_ok-cards.cards.items in
-    let pace_is : pace ≡ pace_of settings.pace_us (map file_of captures) = c.pace_of-pace.ensures
-    ∙ ap (λ (xs : List Capture). pace_of settings.pace_us (map file_of xs)) c.deref-3.ensures.value in
-    let unmixed : mixed_links (map file_of captures) ≡ None = ap (λ (xs : List Capture). mixed_links (map file_of xs)) (sym c.deref.ensures.value)
-    ∙ c.in_ok-link.ensures.same in
-    long_within table settings pace n captures cards c.args.captures.ok.0 pace_is unmixed c.requires.routes c.requires.read c.in_ok-cards.ensures.cards
+    let job : AreOfJob table settings c.pace_of-pace.result (vec_len c.args.captures) captures cards = record {
+      count = c.args.captures.ok.0;
+      pace_is = c.pace_of-pace.ensures ∙ ap (λ (all : List Capture). pace_of settings.pace_us (map file_of all)) c.deref-3.ensures.value;
+      unmixed = ap (λ (all : List Capture). mixed_links (map file_of all)) (sym c.deref.ensures.value) ∙ c.in_ok-link.ensures.same;
+      routes = c.requires.routes;
+      read = c.requires.read;
+      cards_are = c.in_ok-cards.ensures.cards;
+    } in
+    long_within job
 
 pub returns-clause-good : goal.returns-clause-good
 returns-clause-good c =
     let settings = c.args.settings.now in
     let table = c.args.table.now in
     let captures = c.args.captures.items in
-    let n = vec_len c.args.captures in
-    let pace = c.pace_of-pace.result in
     let cards = c.in_ok-cards.cards.items in
-    let pace_is : pace ≡ pace_of settings.pace_us (map file_of captures) = c.pace_of-pace.ensures
-    ∙ ap (λ (xs : List Capture). pace_of settings.pace_us (map file_of xs)) c.deref-3.ensures.value in
-    let unmixed : mixed_links (map file_of captures) ≡ None = ap (λ (xs : List Capture). mixed_links (map file_of xs)) (sym c.deref.ensures.value)
-    ∙ c.in_ok-link.ensures.same in
+    let job : AreOfJob table settings c.pace_of-pace.result (vec_len c.args.captures) captures cards = record {
+      count = c.args.captures.ok.0;
+      pace_is = c.pace_of-pace.ensures ∙ ap (λ (all : List Capture). pace_of settings.pace_us (map file_of all)) c.deref-3.ensures.value;
+      unmixed = ap (λ (all : List Capture). mixed_links (map file_of all)) (sym c.deref.ensures.value) ∙ c.in_ok-link.ensures.same;
+      routes = c.requires.routes;
+      read = c.requires.read;
+      cards_are = c.in_ok-cards.ensures.cards;
+    } in
     let nano = c.is_nano-nano.result in
     let link = c.in_ok-link.link in
     let nano_is : nano ≡ is_nano (map file_of captures) = c.is_nano-nano.ensures
-    ∙ ap (λ (xs : List Capture). is_nano (map file_of xs)) c.deref-2.ensures.value in
+    ∙ ap (λ (all : List Capture). is_nano (map file_of all)) c.deref-2.ensures.value in
     IfOk-weaker c.plan_with.result (IsPlanWith settings nano link cards) (λ plan. IsGood (switch_plan_of plan))
-    (λ plan with. plan_good table settings pace n captures cards c.args.captures.ok.0 pace_is unmixed c.requires.routes c.requires.read
-    c.in_ok-cards.ensures.cards c.requires.settings c.requires.some c.requires.few nano link plan with nano_is)
-    c.plan_with.ensures.plan
+    (λ plan with. plan_good job c.requires.settings c.requires.some c.requires.few nano link plan with nano_is) c.plan_with.ensures.plan
 
 pub returns-clause-planned : goal.returns-clause-planned
 returns-clause-planned c =
     let settings = c.args.settings.now in
     let table = c.args.table.now in
     let captures = c.args.captures.items in
-    let n = vec_len c.args.captures in
-    let pace = c.pace_of-pace.result in
     let cards = c.in_ok-cards.cards.items in
-    let pace_is : pace ≡ pace_of settings.pace_us (map file_of captures) = c.pace_of-pace.ensures
-    ∙ ap (λ (xs : List Capture). pace_of settings.pace_us (map file_of xs)) c.deref-3.ensures.value in
-    let unmixed : mixed_links (map file_of captures) ≡ None = ap (λ (xs : List Capture). mixed_links (map file_of xs)) (sym c.deref.ensures.value)
-    ∙ c.in_ok-link.ensures.same in
+    let job : AreOfJob table settings c.pace_of-pace.result (vec_len c.args.captures) captures cards = record {
+      count = c.args.captures.ok.0;
+      pace_is = c.pace_of-pace.ensures ∙ ap (λ (all : List Capture). pace_of settings.pace_us (map file_of all)) c.deref-3.ensures.value;
+      unmixed = ap (λ (all : List Capture). mixed_links (map file_of all)) (sym c.deref.ensures.value) ∙ c.in_ok-link.ensures.same;
+      routes = c.requires.routes;
+      read = c.requires.read;
+      cards_are = c.in_ok-cards.ensures.cards;
+    } in
     let nano = c.is_nano-nano.result in
     let link = c.in_ok-link.link in
     let nano_is : nano ≡ is_nano (map file_of captures) = c.is_nano-nano.ensures
-    ∙ ap (λ (xs : List Capture). is_nano (map file_of xs)) c.deref-2.ensures.value in
+    ∙ ap (λ (all : List Capture). is_nano (map file_of all)) c.deref-2.ensures.value in
     let link_is : link ≡ first_link (map file_of captures) = c.in_ok-link.ensures.link
-    ∙ ap (λ (xs : List Capture). first_link (map file_of xs)) c.deref.ensures.value in
+    ∙ ap (λ (all : List Capture). first_link (map file_of all)) c.deref.ensures.value in
     IfOk-weaker c.plan_with.result (IsPlanWith settings nano link cards)
     (λ plan. (refusal_of settings.pace_us table (map file_of captures) ≡ None)
     × IsPlanOf settings (map (λ (capture : Capture). capture.bytes.items) captures) table (map file_of captures) (switch_plan_of plan))
     (λ plan with. (
-      unrefused table settings pace n captures cards c.args.captures.ok.0 pace_is unmixed c.requires.routes c.requires.read
-          c.in_ok-cards.ensures.cards with.cells,
-      plan_is table settings pace n captures cards c.args.captures.ok.0 pace_is unmixed c.requires.routes c.requires.read c.in_ok-cards.ensures.cards
-          c.requires.settings c.requires.some c.requires.few nano link plan with nano_is link_is,
+      unrefused job with.cells,
+      plan_is job c.requires.settings c.requires.some c.requires.few nano link plan with nano_is link_is,
     ))
     c.plan_with.ensures.plan
 
@@ -151,15 +160,16 @@ returns-clause-refused c =
     let settings = c.args.settings.now in
     let table = c.args.table.now in
     let captures = c.args.captures.items in
-    let n = vec_len c.args.captures in
-    let pace = c.pace_of-pace.result in
     let cards = c.in_ok-cards.cards.items in
-    let pace_is : pace ≡ pace_of settings.pace_us (map file_of captures) = c.pace_of-pace.ensures
-    ∙ ap (λ (xs : List Capture). pace_of settings.pace_us (map file_of xs)) c.deref-3.ensures.value in
-    let unmixed : mixed_links (map file_of captures) ≡ None = ap (λ (xs : List Capture). mixed_links (map file_of xs)) (sym c.deref.ensures.value)
-    ∙ c.in_ok-link.ensures.same in
+    let job : AreOfJob table settings c.pace_of-pace.result (vec_len c.args.captures) captures cards = record {
+      count = c.args.captures.ok.0;
+      pace_is = c.pace_of-pace.ensures ∙ ap (λ (all : List Capture). pace_of settings.pace_us (map file_of all)) c.deref-3.ensures.value;
+      unmixed = ap (λ (all : List Capture). mixed_links (map file_of all)) (sym c.deref.ensures.value) ∙ c.in_ok-link.ensures.same;
+      routes = c.requires.routes;
+      read = c.requires.read;
+      cards_are = c.in_ok-cards.ensures.cards;
+    } in
     IfErr-weaker c.plan_with.result (λ fault. (fault ≡ OutOfMemory) ⊎ (over_work (most_for (length cards)) (packets_of_cards cards) ≡ Some fault))
     (λ fault. (fault ≡ OutOfMemory) ⊎ (refusal_of settings.pace_us table (map file_of captures) ≡ Some fault))
-    (λ fault. either_way (refused_work table settings pace n captures cards c.args.captures.ok.0 pace_is unmixed c.requires.routes c.requires.read
-    c.in_ok-cards.ensures.cards fault))
+    (λ fault. either_way (refused_work job fault))
     c.plan_with.ensures.over

@@ -1,8 +1,8 @@
 use Rattle.std.proofs.Common.{◌≡◌, ◌∙◌, [], ◌∷◌, ◌++◌, length, sym, ap, subst, arith, inl, inr}
 use Rattle.std.specs.Prelude.{Err}
 use Rattle.std.specs.Vec.Iter.{into_iter_items}
+use Rattle.std.proofs.lemmas.List.{nil_from_length}
 use Rattle.switch_plan.specs.Refusals.{IsFirstFault}
-use Rattle.switch_plan.proofs.Folding.{empty_list}
 use Rattle.switch_plan.proofs.Answered.{all_read, first_fault, no_memory_fault}
 use Rattle.switch_plan.proofs.reading.in_order.Goals as goal
 
@@ -10,7 +10,7 @@ pub returns-clause-read : goal.returns-clause-read
 returns-clause-read c files read =
     let at = c.loop-answer in
     let none : into_iter_items at.answer-iterator ≡ [] =
-    empty_list (into_iter_items at.answer-iterator) (let left = at.invariant.left in let n = c.in-None.ensures.steps.0 in omega arith) in
+    nil_from_length (into_iter_items at.answer-iterator) (let left = at.invariant.left in let n = c.in-None.ensures.steps.0 in omega arith) in
     all_read files c.args.answers.items at.captures.items read
     (ap (λ ys. ys ++ []) at.invariant.read ∙ ap (λ xs. at.yielded ++ xs) (sym none) ∙ at.invariant.rest ∙ c.into_iter-answer-iterator.ensures.into_iter_gives.0)
 

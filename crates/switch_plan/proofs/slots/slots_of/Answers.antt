@@ -1,5 +1,6 @@
 use Rattle.std.proofs.Common.{◌≡◌, ◌∙◌, ℕ, List, length, ap, sym, subst, arith, inr}
 use Rattle.std.specs.Prelude.{map, All, Err}
+use Rattle.std.proofs.lemmas.List.{length-map}
 use Rattle.line_pace.specs.declared.pace.Stamp.{Stamp}
 use Rattle.line_pace.specs.Arrivals.{CanCome, arrival_slots, slots_taken}
 use Rattle.pcap_records.specs.declared.capture.Stored.{Stored}
@@ -7,7 +8,6 @@ use Rattle.pcap_records.specs.declared.capture.Capture.{Capture}
 use Rattle.pcap_records.specs.Packets.{packet_in, packets_of, IsWithin}
 use Rattle.switch_plan.specs.Traffic.{stamp_of}
 use Rattle.switch_plan.specs.declared.fault.PlanFault.TheVariants.{TooManySlots}
-use Rattle.switch_plan.proofs.Folding.{length_map}
 use Rattle.switch_plan.proofs.Arriving.{all_can_come}
 use Rattle.switch_plan.proofs.slots.slots_of.Goals as goal
 
@@ -33,8 +33,8 @@ pub arrivals-requires-clause-few : goal.arrivals-requires-clause-few
 arrivals-requires-clause-few c =
     let capture = c.args.capture.now in
     let long = ap length (stamps_are c.args.capture.now c.deref.result.now c.deref-2.result.now c.in_ok-stamps.stamps.items c.requires.within
-    c.deref.ensures.value c.deref-2.ensures.value c.in_ok-stamps.ensures) ∙ length_map stamp_of (packets_of capture)
-    ∙ length_map (packet_in capture.bytes.items) capture.packets.items in
+    c.deref.ensures.value c.deref-2.ensures.value c.in_ok-stamps.ensures) ∙ length-map (packets_of capture) stamp_of
+    ∙ length-map capture.packets.items (packet_in capture.bytes.items) in
     let few = c.requires.few in
     omega (arith, long, few)
 
