@@ -1,7 +1,7 @@
 -- All slots of a file, read and judged one after another, and the answer to the file.
 use Rattle.std.proofs.Common.{◌≡◌, ℕ, ◌+◌, ◌<◌, ◌≤◌, ◌∙◌, List, [], ◌∷◌, ◌++◌, length, drop, Result, Ok, Err, refl, sym, ap, subst, arith}
 use Rattle.std.specs.List.{range_with_len}
-use Rattle.std.proofs.lemmas.List.{length_push, length-drop}
+use Rattle.std.proofs.lemmas.List.{length_push, length-drop, nil_from_length}
 use Rattle.eslip_rounds.specs.Schedulers.{Scheduler}
 use Rattle.scheduler_names.specs.declared.names.SchedulerName.{SchedulerName}
 use Rattle.named_schedulers.specs.Named.{decision_named}
@@ -114,10 +114,6 @@ module _ (scheduler : Scheduler) (bytes : List ℕ) where
       some_left [] some = absurd (omega arith)
       some_left (x ∷ xs) some = refl
 
-      none_left : (xs : List ℕ) → length xs ≡ 0 → xs ≡ []
-      none_left [] none = refl
-      none_left (x ∷ xs) none = absurd (omega arith)
-
       end_fails : end < length bytes → file_in bytes ≡ Err (drop end bytes)
       unfolding file_in
       end_fails below = rw read.reads (rw all.reads (rw (some_left (drop end bytes) (omega (arith, length-drop end bytes))) refl))
@@ -130,7 +126,7 @@ module _ (scheduler : Scheduler) (bytes : List ℕ) where
 
       file_read : length bytes ≤ end → file_in bytes ≡ Ok (whole_file, [])
       unfolding file_in
-      file_read over = let none : drop end bytes ≡ [] = none_left (drop end bytes) (omega (arith, length-drop end bytes)) in
+      file_read over = let none : drop end bytes ≡ [] = nil_from_length (drop end bytes) (omega (arith, length-drop end bytes)) in
           rw read.reads (rw all.reads (rw none refl))
 
       pub whole_answer : length bytes ≤ end → answer_under scheduler bytes ≡ Ok (verdict_under scheduler whole_file)

@@ -1,8 +1,8 @@
 -- What is spelled of outputs, slots and whole files is read again.
-use Rattle.std.proofs.Common.{◌≡◌, ℕ, ◌+◌, ◌*◌, ◌/◌, ◌%◌, ◌<◌, ◌≤◌, ◌==◌, ◌||◌, ◌∙◌, Bool, true, false, nat_le, nat_lt, List, [], ◌∷◌, ◌++◌, length}
+use Rattle.std.proofs.Common.{◌≡◌, ℕ, ◌+◌, ◌*◌, ◌/◌, ◌%◌, ◌<◌, ◌≤◌, ◌==◌, ◌∙◌, true, false, nat_le, nat_lt, List, [], ◌∷◌, ◌++◌, length}
 use Rattle.std.proofs.Common.{Option, None, Some, Ok, refl, sym, ap, arith, inl, inr, append_assoc, le-leb, lt-ltb, if◌then◌else◌}
 use Rattle.std.specs.List.{flat_map, range_with_len}
-use Rattle.std.proofs.lemmas.Bool.{cond-true, cond-false, and_from, cases_Bool, eq-eqb}
+use Rattle.std.proofs.lemmas.Bool.{cond-true, cond-false, and_from, cases_Bool, eq-eqb, or_left, or_right}
 use Rattle.std.proofs.lemmas.Bool.Decides.{Decides-eqb}
 use Rattle.std.proofs.lemmas.List.{append-nil}
 use Rattle.byteorder.specs.Endian.{big_bytes}
@@ -16,10 +16,6 @@ use Rattle.journal_check.specs.Files.{FileSlot, JournalFile, post_in, fed_by, ou
 use Rattle.journal_check.specs.Texts.{post_text, rank_of, output_text, slot_text, header_text, file_text, IsFileRow, IsFileOutput, IsFileSlot, IsFile}
 use Rattle.journal_check.proofs.Spelled.{number_again, each_again}
 use Rattle.journal_check.proofs.RowsAgain.{byte_again, post_again}
-
-left_or : (x y : Bool) → x ≡ true → (x || y) ≡ true
-left_or true y e = refl
-left_or false y e = absurd (cc)
 
 kind_again : (input level : ℕ) (kind : Kind) → (input == no_input) ≡ false
     → fed_by input (rank_of level kind) ≡ Some (record { input = input; level = level; kind = kind })
@@ -49,11 +45,8 @@ module _ (n : ℕ) (few : n ≤ 64) where
   pub output_again : (fed : Option Fed) (rest : List ℕ) → IsFileOutput n fed → output_in n (output_text fed ++ rest) ≡ Ok (fed, rest)
   unfolding output_in
   output_again None rest good =
-      rw (byte_again (Input n) refl 255 (0 ∷ rest) (omega arith) (right_or (nat_lt 255 n) true refl))
-      (rw (byte_again (Rank 255) refl 0 rest (omega arith) refl) refl) where
-        right_or : (x y : Bool) → y ≡ true → (x || y) ≡ true
-        right_or true y e = refl
-        right_or false y e = e
+      rw (byte_again (Input n) refl 255 (0 ∷ rest) (omega arith) (or_right (nat_lt 255 n) true refl))
+      (rw (byte_again (Rank 255) refl 0 rest (omega arith) refl) refl)
   output_again (Some fed) rest good =
       let input = fed.input in
       let rank = rank_of fed.level fed.kind in
@@ -61,7 +54,7 @@ module _ (n : ℕ) (few : n ≤ 64) where
       let seven : rank ≤ 7 = rank_small fed.level fed.kind good.1 in
       let some : (input == no_input) ≡ false =
       elim (cases_Bool (input == no_input)) [ inl e ↦ absurd (let is : input ≡ 255 = (Decides-eqb input 255).0 e in omega arith) | inr e ↦ e ] in
-      let in_ports : allows (Input n) input ≡ true = left_or (nat_lt input n) (input == no_input) (lt-ltb input n below) in
+      let in_ports : allows (Input n) input ≡ true = or_left (nat_lt input n) (input == no_input) (lt-ltb input n below) in
       let in_ranks : allows (Rank input) rank ≡ true = cond-false (input == no_input) (rank == 0) (is_from 0 7 rank) some
       ∙ and_from (nat_le 0 rank) (nat_le rank 7) (le-leb 0 rank (omega arith)) (le-leb rank 7 seven) in
       rw (byte_again (Input n) refl input (rank ∷ rest) (omega arith) in_ports)

@@ -3,7 +3,7 @@ use Rattle.std.proofs.Common.{◌≡◌, ◌↔◌, ℕ, zero, suc, ◌+◌, ◌
 use Rattle.std.proofs.Common.{sym, ap, subst, inl, inr, arith, if◌then◌else◌}
 use Rattle.std.specs.List.{find, range_with_len}
 use Rattle.std.specs.Option.{option_map, option_or}
-use Rattle.std.proofs.lemmas.Bool.{cases_Bool, cases_eq, cond-true, cond-false}
+use Rattle.std.proofs.lemmas.Bool.{cases_Bool, cases_eq, cond-true, cond-false, not-false, not_from_true}
 use Rattle.slot_match.specs.declared.matching.Fed.{Fed}
 use Rattle.slot_match.specs.Rows.{row_of}
 use Rattle.slot_match.specs.Matches.{fed_of}
@@ -20,7 +20,7 @@ use Rattle.journal_check.specs.Lawful.{Before, at_first, decided_in, after_slot,
 use Rattle.journal_check.specs.Lawful.{output_failure, failure_in, failure_or, failure_from, MayFollow, first_failure_under}
 use Rattle.journal_check.specs.Failures.{HasMore, KeepsRow, IsFedAsDecided, HoldsBelow, IsFirstWithout, FailsBy, FailsFirst, IsFirstFailureUnder}
 use Rattle.journal_check.proofs.Goods.{AreRows, IsGood, sound_slot, good_after, good_at_first}
-use Rattle.journal_check.proofs.LawfulFiles.{none_of, none_map, going_on, lacks_none, from_not, not_from, Decides-alike, no_failure}
+use Rattle.journal_check.proofs.LawfulFiles.{none_of, none_map, going_on, lacks_none, Decides-alike, no_failure}
 
 -- ---- the first number with a test
 record IsFound (test : ℕ → Bool) (a n k : ℕ) : Type 0 where
@@ -123,13 +123,13 @@ module _ (scheduler : Scheduler) (n rounds t : ℕ) (before : Before) (slot : Fi
       let kept = keeps_rest n (served_of before.matched i) (row_of before.rows i) (row_of (rows_of slot) i) in
       let tells = Decides-keeps_rest n (served_of before.matched i) (row_of before.rows i) (rows.within i below) (rows.levels i below)
       (row_of (rows_of slot) i) in
-      (λ e. tells.0 (from_not kept e), λ h. not_from kept (tells.1 h))
+      (λ e. tells.0 (not-false kept e), λ h. not_from_true kept (tells.1 h))
 
   tells_fed : (j : ℕ) → j < n → (differs slot.matched decided j ≡ false) ↔ IsFedAsDecided scheduler n rounds t before slot j
   tells_fed j below =
       let alike = is_alike (fed_of slot.matched j) (fed_of decided j) in
       let tells = Decides-alike (fed_of slot.matched j) (fed_of decided j) in
-      (λ e. tells.0 (from_not alike e), λ h. not_from alike (tells.1 h))
+      (λ e. tells.0 (not-false alike e), λ h. not_from_true alike (tells.1 h))
 
   all_below : (test : ℕ → Bool) (Holds : ℕ → Type 0) (f : ℕ → Reason) → ((i : ℕ) → i < n → (test i ≡ false) ↔ Holds i)
       → (option_map f (first_of n test) ≡ None) ↔ HoldsBelow n Holds

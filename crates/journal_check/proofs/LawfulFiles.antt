@@ -4,7 +4,7 @@ use Rattle.std.proofs.Common.{None, Some, Ok, Result, All, refl, sym, ap, inl, i
 use Rattle.std.specs.Bool.{Decides}
 use Rattle.std.specs.List.{find, range_with_len}
 use Rattle.std.specs.Option.{option_map, option_or}
-use Rattle.std.proofs.lemmas.Bool.{cases_Bool, cases_eq, cond-true, cond-false, and_from, and_parts}
+use Rattle.std.proofs.lemmas.Bool.{cases_Bool, cases_eq, cond-true, cond-false, and_from, and_parts, not-false, not_from_true}
 use Rattle.std.proofs.lemmas.Bool.Decides.{Decides-eqb}
 use Rattle.slot_match.specs.declared.rows.Row.{Row}
 use Rattle.slot_match.specs.declared.matching.Fed.{Fed}
@@ -65,16 +65,6 @@ pub none_map : {X Y : Type 0} (f : X → Y) (o : Option X) → (option_map f o �
 none_map f None = (λ e. refl, λ e. refl)
 none_map f (Some x) = (λ e. absurd (cc), λ e. absurd (cc))
 
-not_true : (b : Bool) → b ≡ false → not b ≡ true
-not_true b e = ap not e
-
-pub from_not : (b : Bool) → not b ≡ false → b ≡ true
-from_not true e = refl
-from_not false e = absurd (cc)
-
-pub not_from : (b : Bool) → b ≡ true → not b ≡ false
-not_from b e = ap not e
-
 -- ---- alike
 
 pub Decides-alike : (a b : Option Fed) → Decides (is_alike a b) (a ≡ b)
@@ -117,8 +107,8 @@ module _ (n : ℕ) where
       let mapped = none_map Output (first_of n (differs matched decided)) in (
         λ e. same_lists matched decided (omega arith)
             (λ j below. (Decides-alike (fed_of matched j) (fed_of decided j)).0
-            (from_not (is_alike (fed_of matched j) (fed_of decided j)) (none.0 (mapped.0 e) j (omega arith)))),
-        λ same. mapped.1 (none.1 (λ j below. not_from (is_alike (fed_of matched j) (fed_of decided j))
+            (not-false (is_alike (fed_of matched j) (fed_of decided j)) (none.0 (mapped.0 e) j (omega arith)))),
+        λ same. mapped.1 (none.1 (λ j below. not_from_true (is_alike (fed_of matched j) (fed_of decided j))
             ((Decides-alike (fed_of matched j) (fed_of decided j)).1 (ap (λ (xs : List (Option Fed)). fed_of xs j) same)))),
       )
 
@@ -176,7 +166,7 @@ module _ (n : ℕ) where
               goes_on = (going_on before.going).0 q.0;
               more = λ i below. (lacks_none new more i).0 (card_lacks.0 ((none_map More (first_of n (lacks_more new more))).0 r.0) i below);
               keeps = λ i below. (tells i below).0
-                  (from_not (keeps_rest n (served_of before.matched i) (row_of before.rows i) (row_of new i))
+                  (not-false (keeps_rest n (served_of before.matched i) (row_of before.rows i) (row_of new i))
                   (card_breaks.0 ((none_map Keeps (first_of n (breaks n before.matched before.rows new))).0 s.0) i below));
               decided = outputs.0 p.1;
             },
@@ -187,7 +177,7 @@ module _ (n : ℕ) where
               (none_map More (first_of n (lacks_more new more))).1 (card_lacks.1 (λ i below. (lacks_none new more i).1 (h.more i below))),
               keeps.1 (
                 (none_map Keeps (first_of n (breaks n before.matched before.rows new))).1
-                    (card_breaks.1 (λ i below. not_from (keeps_rest n (served_of before.matched i) (row_of before.rows i) (row_of new i))
+                    (card_breaks.1 (λ i below. not_from_true (keeps_rest n (served_of before.matched i) (row_of before.rows i) (row_of new i))
                     ((tells i below).1 (h.keeps i below)))),
                 refl,
               ),

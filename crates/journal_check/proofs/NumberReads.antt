@@ -1,7 +1,7 @@
 -- A number that stands at a place: whether it is read there.
-use Rattle.std.proofs.Common.{◌≡◌, ℕ, ◌+◌, ◌-◌, ◌<◌, ◌≤◌, ◌&&◌, ◌∙◌, ◌⊎◌, inl, inr, Bool, true, false, nat_le, nat_lt, ltb-true, ◌==◌, ◌||◌, List}
+use Rattle.std.proofs.Common.{◌≡◌, ℕ, ◌+◌, ◌-◌, ◌<◌, ◌≤◌, ◌&&◌, ◌∙◌, inl, inr, Bool, true, false, nat_le, nat_lt, ltb-true, ◌==◌, List}
 use Rattle.std.proofs.Common.{length, take, drop, Ok, Err, refl, sym, ap, arith, leb-true, le-leb}
-use Rattle.std.proofs.lemmas.Bool.{cond-true, cond-false, and_from, cases_Bool, and_parts}
+use Rattle.std.proofs.lemmas.Bool.{cond-true, cond-false, and_from, cases_Bool, and_parts, or_cases}
 use Rattle.std.proofs.lemmas.Bool.Decides.{Decides-eqb}
 use Rattle.std.proofs.lemmas.List.{drop-drop, length-drop, take_rest}
 use Rattle.byteorder.specs.Endian.{big_number}
@@ -93,10 +93,6 @@ number_allowed field bytes at number next read =
       | inr e ↦ absurd (let same : Err rest ≡ Ok (number, drop next bytes) = sym (not_good field rest e) ∙ read.reads in cc)
     ]
 
-either : (x y : Bool) → (x || y) ≡ true → (x ≡ true) ⊎ (y ≡ true)
-either true y e = inl refl
-either false y e = inr e
-
 most_few : (ports : ℕ) → most_slots ports ≤ 262145
 most_few ports = elim (cases_Bool (nat_lt 32 ports)) [
   | inl e ↦ let same : most_slots ports ≡ 131073 = cond-true (nat_lt 32 ports) 131073 262145 e in omega arith
@@ -120,7 +116,7 @@ slots_within ports bytes at x next read =
 -- so are the two numbers of an output
 pub input_within : (ports : ℕ) (bytes : List ℕ) (at x next : ℕ) → ports ≤ 64 → IsRead (number_in (Input ports)) bytes at x next → x < 256
 input_within ports bytes at x next few read =
-    elim (either (nat_lt x ports) (x == no_input) (number_allowed (Input ports) bytes at x next read)) [
+    elim (or_cases (nat_lt x ports) (x == no_input) (number_allowed (Input ports) bytes at x next read)) [
       | inl e ↦ let below = ltb-true x ports e in omega arith
       | inr e ↦ let is : x ≡ 255 = (Decides-eqb x 255).0 e in omega arith
     ]

@@ -24,7 +24,9 @@ rank_spelled rank = elim (cases_Bool (rank % 2 == 0)) [
 ] where
   odd : (rank % 2 == 0) ≡ false → rank % 2 ≡ 1
   odd is_odd = elim (cases_lt (rank % 2) 1) [
-    | inl below ↦ absurd (let is_even : (rank % 2 == 0) ≡ true = (Decides-eqb (rank % 2) 0).1 (omega arith) in let both : true ≡ false = sym is_even ∙ is_odd in cc)
+    | inl below ↦ absurd
+        (let is_even : (rank % 2 == 0) ≡ true = (Decides-eqb (rank % 2) 0).1 (omega arith) in
+        let both : true ≡ false = sym is_even ∙ is_odd in cc)
     | inr above ↦ omega arith
   ]
 

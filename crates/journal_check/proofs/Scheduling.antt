@@ -1,7 +1,7 @@
 -- The slots of lawful files are schedules of rows that are kept.
-use Rattle.std.proofs.Common.{◌≡◌, ℕ, suc, ◌+◌, ◌*◌, ◌<◌, ◌≤◌, ◌∙◌, List, [], ◌∷◌, length, map, take, drop, All, Any}
+use Rattle.std.proofs.Common.{◌≡◌, ℕ, ◌+◌, ◌*◌, ◌<◌, ◌≤◌, ◌∙◌, List, [], ◌∷◌, length, map, take, drop, All, Any}
 use Rattle.std.proofs.Common.{Option, refl, sym, ap, subst, arith}
-use Rattle.std.proofs.lemmas.List.Elements.{All-cons, All-head, All-take, All-drop}
+use Rattle.std.proofs.lemmas.List.Elements.{All-cons, All-head, All-take, All-drop, All-tail}
 use Rattle.rotating_pick.specs.declared.kinds.Kind.{Kind}
 use Rattle.rotating_pick.specs.declared.kinds.Kind.TheVariants.{Uni, Multi}
 use Rattle.rotating_pick.specs.declared.limits.TheConstants.{LEVELS}
@@ -25,9 +25,6 @@ use Rattle.journal_check.specs.Texts.{IsFileSlot, IsFile}
 use Rattle.journal_check.specs.Lawful.{Before, at_first, decided_in, after_slot, MayFollow, MayFollowAll, decided_from, decided_slots_under, IsLawfulUnder}
 use Rattle.journal_check.proofs.Goods.{IsGood, file_within, sound_slot, good_after, good_at_first}
 
-tail : {X : Type 0} (P : X → Type 0) (x : X) (xs : List X) → All P (x ∷ xs) → All P xs
-tail P x xs each k d below = each (suc k) d (omega arith)
-
 module _ (scheduler : Scheduler) (scheduling : IsScheduler scheduler) (n rounds : ℕ) where
   next_good : (t : ℕ) (before : Before) (slot : FileSlot) (slots : List FileSlot) → IsGood n before → All (IsFileSlot n) (slot ∷ slots)
       → MayFollow scheduler n rounds t before slot → IsGood n (after_slot scheduler n rounds t before slot)
@@ -42,7 +39,7 @@ module _ (scheduler : Scheduler) (scheduling : IsScheduler scheduler) (n rounds 
   is_schedule Moves moving t before (slot ∷ slots) good each lawful = (
     moving n rounds t (rows_of slot) before.places (file_within n slot (each 0 slot (omega arith))) good.at_ports good.ports,
     is_schedule Moves moving (t + 1) (after_slot scheduler n rounds t before slot) slots (next_good t before slot slots good each lawful.0)
-        (tail (IsFileSlot n) slot slots each) lawful.1,
+        (All-tail (IsFileSlot n) slot slots each) lawful.1,
   )
 
   pub are_kept : (t : ℕ) (before : Before) (slots : List FileSlot) → IsGood n before → All (IsFileSlot n) slots → MayFollowAll scheduler n rounds t before slots
@@ -60,7 +57,7 @@ module _ (scheduler : Scheduler) (scheduling : IsScheduler scheduler) (n rounds 
             (subst (λ (m : List (Option Fed)). KeepsRest (Gives (served_of m i)) (row_of (rows_of slot) i) (row_of (rows_of next) i)) lawful.0.decided
             (keeps i below)),
         are_kept (t + 1) (after_slot scheduler n rounds t before slot) (next ∷ slots) (next_good t before slot (next ∷ slots) good each lawful.0)
-            (tail (IsFileSlot n) slot (next ∷ slots) each) lawful.1,
+            (All-tail (IsFileSlot n) slot (next ∷ slots) each) lawful.1,
       )
 
 module _ (scheduler : Scheduler) (n rounds : ℕ) where
@@ -69,7 +66,7 @@ module _ (scheduler : Scheduler) (n rounds : ℕ) where
   are_within t places [] each = λ k d below. absurd (omega arith)
   are_within t places (slot ∷ slots) each =
       All-cons (λ (slot : DecidedSlot). AreWithin n slot.rows) _ _ (file_within n slot (each 0 slot (omega arith)))
-      (are_within (t + 1) _ slots (tail (IsFileSlot n) slot slots each))
+      (are_within (t + 1) _ slots (All-tail (IsFileSlot n) slot slots each))
 
   pub same_matches : (t : ℕ) (before : Before) (slots : List FileSlot) → MayFollowAll scheduler n rounds t before slots
       → map (λ (slot : DecidedSlot). slot.decision.matched) (decided_from scheduler n rounds t before.places slots)

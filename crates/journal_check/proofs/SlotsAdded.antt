@@ -3,13 +3,13 @@ use Rattle.std.proofs.Common.{◌≡◌, ℕ, ◌+◌, ◌≤◌, ◌∙◌, Lis
 use Rattle.std.specs.List.{flat_map}
 use Rattle.std.proofs.lemmas.Grind.{flat_map-append}
 use Rattle.std.proofs.lemmas.List.{length-append, append-nil}
+use Rattle.std.proofs.lemmas.List.Folds.{flat_map-map}
 use Rattle.crossbar.specs.declared.cards.Post.{Post as CardPost}
 use Rattle.slot_match.specs.declared.matching.Fed.{Fed}
 use Rattle.journal_check.specs.declared.limits.TheConstants.{MAX_JOURNAL_BYTES}
 use Rattle.journal_check.specs.Files.{FileSlot, JournalFile}
 use Rattle.journal_check.specs.Texts.{file_post, post_text, output_text, header_text, slot_text, file_text}
 use Rattle.journal_check.specs.WritingSteps.{WriterValue, IsWriting}
-use Rattle.journal_check.proofs.Written.{flat_map-made}
 
 -- the file with one slot more
 abbrev pub with_slot : JournalFile → FileSlot → JournalFile
@@ -38,7 +38,7 @@ file_longer file slot =
 slot_is : (posts : List CardPost) (matched : List (Option Fed))
     → slot_text (slot_by posts matched) ≡ flat_map (λ (post : CardPost). post_text (file_post post)) posts ++ flat_map output_text matched
 unfolding slot_text
-slot_is posts matched = ap (λ (t : List ℕ). t ++ flat_map output_text matched) (flat_map-made post_text file_post posts)
+slot_is posts matched = ap (λ (t : List ℕ). t ++ flat_map output_text matched) (flat_map-map post_text file_post posts)
 
 -- before the first slot
 pub at_header : (ports rounds : ℕ) (bytes : List ℕ) → bytes ≡ header_text ports rounds 0

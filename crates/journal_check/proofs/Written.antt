@@ -6,6 +6,7 @@ use Rattle.std.proofs.lemmas.Grind.{flat_map-append}
 use Rattle.std.proofs.lemmas.List.{length-append, append-nil, take_more, take_all, length-map, get_or_default, get_or-map}
 use Rattle.std.proofs.lemmas.Bool.{cases_eq, cases_Bool, cond-true, cond-false, eq-eqb}
 use Rattle.std.proofs.lemmas.Bool.Decides.{Decides-eqb}
+use Rattle.std.proofs.lemmas.List.Folds.{flat_map-map}
 use Rattle.byteorder.specs.Endian.{big_bytes}
 use Rattle.slot_match.specs.declared.rows.Row.{Row}
 use Rattle.slot_match.specs.declared.matching.Fed.{Fed}
@@ -40,11 +41,6 @@ module _ {X : Type 0} (f : X → List ℕ) where
       ∙ ap (λ (y : X). length (flat_map f (take i xs)) + length (f y)) (sym is) in
       omega arith
 
--- a text of things that were made of others
-pub flat_map-made : {X Y : Type 0} (f : Y → List ℕ) (g : X → Y) (xs : List X) → flat_map f (map g xs) ≡ flat_map (λ x. f (g x)) xs
-flat_map-made f g [] = refl
-flat_map-made f g (x ∷ xs) = ap (λ (t : List ℕ). f (g x) ++ t) (flat_map-made f g xs)
-
 pub outputs_long : (matched : List (Option Fed)) → length (flat_map output_text matched) ≡ 2 * length matched
 outputs_long [] = refl
 outputs_long (None ∷ rest) = let more = outputs_long rest in omega arith
@@ -68,7 +64,7 @@ set_some set some = cond-false (set == 0) [] (big_bytes 8 set) (elim (cases_Bool
 slot_spelled : (slot : JournalSlot) → slot_text (file_slot slot) ≡ flat_map (λ (post : CardPost). post_text (file_post post)) slot.posts
     ++ flat_map output_text slot.matched
 unfolding slot_text
-slot_spelled slot = ap (λ (t : List ℕ). t ++ flat_map output_text slot.matched) (flat_map-made post_text file_post slot.posts)
+slot_spelled slot = ap (λ (t : List ℕ). t ++ flat_map output_text slot.matched) (flat_map-map post_text file_post slot.posts)
 
 -- one slot more is appended: its posts, and then its outputs
 pub slots_grown : (slots : List JournalSlot) (i : ℕ) (posts : List CardPost) (matched : List (Option Fed)) (old now mid new : List ℕ) → i < length slots
@@ -97,7 +93,7 @@ file_spelled journal t text all so_far =
     ∙ ap (λ (s : List JournalSlot). header (length slots) ++ flat_map (λ (slot : JournalSlot). slot_text (file_slot slot)) s)
     (take_all (length slots) slots (omega arith))
     ∙ ap (λ (k : ℕ). header k ++ flat_map (λ (slot : JournalSlot). slot_text (file_slot slot)) slots) (sym (length-map slots file_slot))
-    ∙ ap (λ (t : List ℕ). header (length (map file_slot slots)) ++ t) (sym (flat_map-made slot_text file_slot slots))
+    ∙ ap (λ (t : List ℕ). header (length (map file_slot slots)) ++ t) (sym (flat_map-map slot_text file_slot slots))
 
 -- the length of one slot more is added
 pub slots_longer : (slots : List JournalSlot) (i len posts_len outputs_len : ℕ) (posts : List CardPost) (matched : List (Option Fed)) → i < length slots
