@@ -63,13 +63,17 @@ module _ (n depth : ℕ) (sources : List Source) (switch : IsSwitch n depth (com
 
     pub first-noted : HasNoted (record { ports = n; depth = depth; slots = 0; sources = after; tallies = counted; unserved = unserved }) []
     first-noted = record {
-      switch = subst (IsSwitch n depth) (sym first-same) switch;
-      slots = refl;
-      within = omega arith;
-      served = record { whole = λ t below. absurd (omega arith); named = λ t i j level kind below pair. absurd (omega arith) };
-      sources = λ i inside. rw (entered.coming i) (entered.entered i inside);
-      count = many;
-      tallies = λ j inside. subst (λ cards. IsTally cards [] 1 j (tally_at counted j)) (sym first-cards) (first-is j);
-      small = λ j inside. first-small j;
-      unserved = unserved-is;
+      noted = record {
+        switch = subst (IsSwitch n depth) (sym first-same) switch;
+        few = omega arith;
+        served = record { whole = λ t below. absurd (omega arith); named = λ t i j level kind below pair. absurd (omega arith) };
+      };
+      stands = record {
+        slots = refl;
+        sources = λ i inside. rw (entered.coming i) (entered.entered i inside);
+        count = many;
+        tallies = λ j inside. subst (λ cards. IsTally cards [] 1 j (tally_at counted j)) (sym first-cards) (first-is j);
+        small = λ j inside. first-small j;
+        unserved = unserved-is;
+      };
     }

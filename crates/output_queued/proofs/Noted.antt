@@ -72,18 +72,23 @@ coming-same old new count same =
 
 module _ (s : State) (matches : List Matched) (noted : HasNoted s matches) where
   pub sources-long : length s.sources ≡ s.ports
-  sources-long = sym (length-map s.sources (λ (source : Source). source.coming)) ∙ noted.switch.count
+  sources-long = sym (length-map s.sources (λ (source : Source). source.coming)) ∙ noted.noted.switch.count
 
   pub cards-long : length (cards_in s) ≡ s.ports
   cards-long = length-map s.sources (λ (source : Source). card_for s.ports s.depth source.coming) ∙ sources-long
 
   pub cards-in-good : AreCards (cards_in s)
-  cards-in-good = subst AreCards (sym (cards-are s.ports s.depth s.sources)) (cards-good s.ports s.depth (coming_of s.sources) noted.switch)
+  cards-in-good = subst AreCards (sym (cards-are s.ports s.depth s.sources)) (cards-good s.ports s.depth (coming_of s.sources) noted.noted.switch)
 
   pub source-part : (i : ℕ) → i < s.ports → IsPart s.ports s.depth (source_at s.sources i).coming
   source-part i inside =
       let long = sources-long in
-      subst (IsPart s.ports s.depth) (coming-at s.ports s.depth s.sources i (omega arith)) (part_of s.ports s.depth (coming_of s.sources) noted.switch i inside)
+      subst (IsPart s.ports s.depth) (coming-at s.ports s.depth s.sources i (omega arith))
+      (part_of s.ports s.depth (coming_of s.sources) noted.noted.switch i inside)
+
+  -- the slots serve only what their rows name
+  pub served-in : AreServed (cards_in s) matches
+  served-in = subst (λ cards. AreServed cards matches) (sym (cards-are s.ports s.depth s.sources)) noted.noted.served
 
   -- the row of an input
   pub row-is-at : (i : ℕ) → i < s.ports
@@ -96,7 +101,7 @@ module _ (s : State) (matches : List Matched) (noted : HasNoted s matches) where
 
   row-of-source : (i : ℕ) → i < s.ports
       → row_of (source_at s.sources i).banks (source_at s.sources i).fans ≡ row_at (card_of (cards_in s) i) (served_in matches i) (length matches)
-  row-of-source i inside = row_now s.ports s.depth (source_at s.sources i) (served_in matches i) (source-part i inside) (noted.sources i inside)
+  row-of-source i inside = row_now s.ports s.depth (source_at s.sources i) (served_in matches i) (source-part i inside) (noted.stands.sources i inside)
       ∙ sym (row-is-at i inside)
 
   pub rows-are : map (λ (source : Source). row_of source.banks source.fans) s.sources ≡ rows_after (cards_in s) matches
@@ -114,8 +119,8 @@ module _ (s : State) (matches : List Matched) (noted : HasNoted s matches) where
   pub follows : (rows : List Row) (matched : Matched) (earlier : List Matched) → HasNoted s earlier → MayFollow (cards_in s) earlier rows matched
       → map (λ (source : Source). row_of source.banks source.fans) s.sources ≡ rows_after (cards_in s) earlier → MayFollow (cards_in s) matches rows matched
   follows rows matched earlier noted' may same =
-      let a = noted.slots in
-      let b = noted'.slots in
+      let a = noted.stands.slots in
+      let b = noted'.stands.slots in
       let c = may.few in
       record {
         few = omega arith;
@@ -141,7 +146,7 @@ module _ (s : State) (matches : List Matched) (noted : HasNoted s matches) where
         (may_serve (length (cards_in s)) matched may.whole i (row_in rows i) (λ j level kind. may.named i j level kind))
 
     pub may-take : (i : ℕ) → i < s.ports → MayTake (served_of matched i) (source_at s.sources i)
-    may-take i inside = may_take s.ports s.depth (source_at s.sources i) (served_in matches i) (source-part i inside) (noted.sources i inside)
+    may-take i inside = may_take s.ports s.depth (source_at s.sources i) (served_in matches i) (source-part i inside) (noted.stands.sources i inside)
         (served_of matched i) (servable i inside)
 
     -- the slots so far and this one serve what their rows name
@@ -152,7 +157,7 @@ module _ (s : State) (matches : List Matched) (noted : HasNoted s matches) where
         record {
           whole = λ t below. elim (cases_eq t (length matches)) [
             | inl last ↦ subst (IsMatch (length (cards_in s))) (sym (ap (match_at (matches ++ matched ∷ [])) last ∙ match-last matches matched)) may.whole
-            | inr other ↦ subst (IsMatch (length (cards_in s))) (sym (match-before matches matched t (omega arith))) (noted.served.whole t (omega arith))
+            | inr other ↦ subst (IsMatch (length (cards_in s))) (sym (match-before matches matched t (omega arith))) (served-in.whole t (omega arith))
           ];
           named = λ t i j level kind below pair. elim (cases_eq t (length matches)) [
             | inl last ↦
@@ -167,7 +172,7 @@ module _ (s : State) (matches : List Matched) (noted : HasNoted s matches) where
                 let then' : Serves (match_at matches t) i j level kind =
                 subst (λ m. Serves m i j level kind) (match-before matches matched t (omega arith)) pair in
                 subst (λ r. Names r level kind j) (sym (row-before matches matched (card_of (cards_in s) i) i t (omega arith)))
-                (noted.served.named t i j level kind (omega arith) then')
+                (served-in.named t i j level kind (omega arith) then')
           ];
         }
 
@@ -177,7 +182,7 @@ module _ (s : State) (matches : List Matched) (noted : HasNoted s matches) where
       taken-coming : (i : ℕ) → i < s.ports → (source_at sources i).coming ≡ (source_at s.sources i).coming
       taken-coming i inside =
           let long = sources-long in
-          coming_same s.ports s.depth (source_at s.sources i) (served_in matches i) (source-part i inside) (noted.sources i inside) (served_of matched i)
+          coming_same s.ports s.depth (source_at s.sources i) (served_in matches i) (source-part i inside) (noted.stands.sources i inside) (served_of matched i)
           (source_at sources i) (taken i (omega arith))
 
       taken-before : (i : ℕ) → i < s.ports
@@ -185,7 +190,7 @@ module _ (s : State) (matches : List Matched) (noted : HasNoted s matches) where
       taken-before i inside =
           let long = sources-long in
           subst (IsBefore (card_for s.ports s.depth (source_at s.sources i).coming) (source_at sources i)) (sym (served-more matches matched i))
-          (taken_off s.ports s.depth (source_at s.sources i) (served_in matches i) (source-part i inside) (noted.sources i inside) (served_of matched i)
+          (taken_off s.ports s.depth (source_at s.sources i) (served_in matches i) (source-part i inside) (noted.stands.sources i inside) (served_of matched i)
           (source_at sources i) (servable i inside) (taken i (omega arith)))
 
       pub stand : Stand s.ports s.depth (s.slots + 1) sources (served_in (matches ++ matched ∷ []))
@@ -194,7 +199,11 @@ module _ (s : State) (matches : List Matched) (noted : HasNoted s matches) where
           record {
             count = omega arith;
             parts = λ i inside. subst (IsPart s.ports s.depth) (sym (taken-coming i inside)) (source-part i inside);
-            long = λ i inside. let a = served-long (matches ++ matched ∷ []) [] i in let b = slots-more matches matched in let c = noted.slots in omega arith;
+            long = λ i inside.
+                let a = served-long (matches ++ matched ∷ []) [] i in
+                let b = slots-more matches matched in
+                let c = noted.stands.slots in
+                omega arith;
             before = λ i inside. subst (λ coming. IsBefore (card_for s.ports s.depth coming) (source_at sources i) (served_in (matches ++ matched ∷ []) i))
                 (sym (taken-coming i inside)) (taken-before i inside);
           }
@@ -211,7 +220,7 @@ module _ (s : State) (matches : List Matched) (noted : HasNoted s matches) where
         fed-waits j inside =
             let all = ran-few (cards_in s) (matches ++ matched ∷ []) cards-in-good all-served j (length (matches ++ matched ∷ [])) (omega arith) in
             let long = slots-more matches matched in
-            let was = noted.tallies j inside in
+            let was = noted.stands.tallies j inside in
             let ran-now : ran (matches ++ matched ∷ []) j (length (matches ++ matched ∷ [])) ≡ ran (matches ++ matched ∷ []) j (length matches) + feeds
             (matches ++ matched ∷ []) j (length matches) = ap (ran (matches ++ matched ∷ []) j) long in
             let ran-then = ran-before' in
@@ -228,21 +237,21 @@ module _ (s : State) (matches : List Matched) (noted : HasNoted s matches) where
 
         ticks-all : (j : ℕ) → j < s.ports → Ticks (length matches) (if is_some (fed_of matched j) then 1 else 0) (tally_at s.tallies j) (tally_at tallies j)
         ticks-all j inside =
-            let slots = noted.slots in
+            let slots = noted.stands.slots in
             elim (Has-or s.unserved j) [
               | inl member ↦ subst (λ t. Ticks t (if is_some (fed_of matched j) then 1 else 0) (tally_at s.tallies j) (tally_at tallies j)) slots
                   (ticks j member)
               | inr lacks ↦
-                  let count' = noted.count in
+                  let count' = noted.stands.count in
                   let all : (tally_at s.tallies j).came ≤ (tally_at s.tallies j).ran = elim (cases_lt (tally_at s.tallies j).ran (tally_at s.tallies j).came) [
-                    | inl less ↦ absurd (lacks ((noted.unserved.members j).1 (omega arith, less)))
+                    | inl less ↦ absurd (lacks ((noted.stands.unserved.members j).1 (omega arith, less)))
                     | inr le ↦ le
                   ] in
                   let waits = fed-waits j inside in
                   let none : (if is_some (fed_of matched j) then 1 else 0) ≡ 0 = omega arith in
                   subst (λ fed. Ticks (length matches) fed (tally_at s.tallies j) (tally_at tallies j)) (sym none)
                   (subst (Ticks (length matches) 0 (tally_at s.tallies j)) (sym (others j lacks))
-                  (idle (length matches) (tally_at s.tallies j) (subst (λ t. IsSmall t (tally_at s.tallies j)) slots (noted.small j inside)) all))
+                  (idle (length matches) (tally_at s.tallies j) (subst (λ t. IsSmall t (tally_at s.tallies j)) slots (noted.stands.small j inside)) all))
             ]
 
         module _ (after : List Source) (counted : List Tally) (unserved : ℕ) (same : length counted ≡ length tallies)
@@ -269,10 +278,11 @@ module _ (s : State) (matches : List Matched) (noted : HasNoted s matches) where
 
           tally-now : (j : ℕ) → j < s.ports → IsTally (cards_in s) (matches ++ matched ∷ []) (length (matches ++ matched ∷ []) + 1) j (tally_at counted j)
           tally-now j inside =
-              let t = tally-next matches matched (cards_in s) j (tally_at s.tallies j) (tally_at tallies j) (noted.tallies j inside) (ticks-all j inside) in
+              let t = tally-next matches matched (cards_in s) j (tally_at s.tallies j) (tally_at tallies j) (noted.stands.tallies j inside)
+              (ticks-all j inside) in
               let f = comes (cards_in s) (matches ++ matched ∷ []) j in
               let long = slots-more matches matched in
-              let slots = noted.slots in
+              let slots = noted.stands.slots in
               let at : s.slots + 1 ≡ length (matches ++ matched ∷ []) = omega arith in
               let cells = cells-now j ∙ refl in
               let more = total-more f (length (matches ++ matched ∷ [])) (length (matches ++ matched ∷ []) + 1) refl in
@@ -287,11 +297,12 @@ module _ (s : State) (matches : List Matched) (noted : HasNoted s matches) where
               let within = small j in
               let cells : (tally_at counted j).came ≡ (tally_at tallies j).came + cells_of_first s.ports s.depth sources
               (served_in (matches ++ matched ∷ [])) j (s.slots + 1) s.ports = ap (λ (x : Tally). x.came) is in
-              let slots = noted.slots in
+              let slots = noted.stands.slots in
               let few = may.few in
               let waits = fed-waits j inside in
               subst (IsSmall (s.slots + 1)) (sym is)
-              (small-next s.slots (if is_some (fed_of matched j) then 1 else 0) (tally_at s.tallies j) (tally_at tallies j) (omega arith) (noted.small j inside)
+              (small-next s.slots (if is_some (fed_of matched j) then 1 else 0) (tally_at s.tallies j) (tally_at tallies j) (omega arith)
+              (noted.stands.small j inside)
               (subst (λ t. Ticks t (if is_some (fed_of matched j) then 1 else 0) (tally_at s.tallies j) (tally_at tallies j)) (sym slots)
               (ticks-all j inside)) (fed-few (fed_of matched j)) (λ one. omega arith)
               (cells_of_first s.ports s.depth sources (served_in (matches ++ matched ∷ [])) j (s.slots + 1) s.ports) (omega arith))
@@ -302,21 +313,26 @@ module _ (s : State) (matches : List Matched) (noted : HasNoted s matches) where
               (matches ++ matched ∷ [])
           noted-next =
               let long = slots-more matches matched in
-              let slots = noted.slots in
+              let slots = noted.stands.slots in
               let few = may.few in
               let sources' = sources-long in
               let stay = sym cards-stay in
               record {
-                switch = subst (IsSwitch s.ports s.depth) (sym coming-stays) noted.switch;
-                slots = omega arith;
-                within = omega arith;
-                served = subst (λ cards. AreServed cards (matches ++ matched ∷ [])) stay all-served;
-                sources = λ i inside. rw (after-coming i (omega arith) ∙ sym (taken-coming i inside)) (entered.entered i inside);
-                count = same ∙ many ∙ noted.count;
-                tallies = λ j inside. subst
-                    (λ cards. IsTally cards (matches ++ matched ∷ []) (length (matches ++ matched ∷ []) + 1) j (tally_at counted j)) stay (tally-now j inside);
-                small = small-now;
-                unserved = unserved-is;
+                noted = record {
+                  switch = subst (IsSwitch s.ports s.depth) (sym coming-stays) noted.noted.switch;
+                  few = omega arith;
+                  served = subst (λ cards. AreServed cards (matches ++ matched ∷ [])) (stay ∙ cards-are s.ports s.depth after) all-served;
+                };
+                stands = record {
+                  slots = omega arith;
+                  sources = λ i inside. rw (after-coming i (omega arith) ∙ sym (taken-coming i inside)) (entered.entered i inside);
+                  count = same ∙ many ∙ noted.stands.count;
+                  tallies = λ j inside. subst
+                      (λ cards. IsTally cards (matches ++ matched ∷ []) (length (matches ++ matched ∷ []) + 1) j (tally_at counted j)) stay
+                      (tally-now j inside);
+                  small = small-now;
+                  unserved = unserved-is;
+                };
               }
 
 -- ---- the test of a slot
@@ -324,7 +340,7 @@ pub note_from : (s : State) (matches : List Matched) → HasNoted s matches → 
     → IsMatch n matched → rows ≡ map (λ (source : Source). row_of source.banks source.fans) s.sources
     → ((i j level : ℕ) (kind : Kind) → Serves matched i j level kind → Names (row_in rows i) level kind j) → MayNote s rows matched
 note_from s matches noted rows matched few n ports whole same named =
-    let slots = noted.slots in (
+    let slots = noted.stands.slots in (
       matches,
       noted,
       record {

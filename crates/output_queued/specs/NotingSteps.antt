@@ -1,4 +1,4 @@
--- What a reference keeps of the slots that it has noted.
+-- What a reference has noted, as a reader sees it, and how its fields stand to it.
 use Rattle.std.specs.Prelude.{◌≡◌, ℕ, ◌+◌, ◌*◌, ◌<◌, ◌≤◌, ◌↔◌, List, [], map, length, Option, slice_index_or}
 use Rattle.rotating_pick.specs.PortSets.{Has}
 use Rattle.slot_match.specs.declared.rows.Row.{Row}
@@ -16,6 +16,25 @@ use Rattle.output_queued.specs.Switches.{Matched, card_for, comes, served_in, Ar
 use Rattle.output_queued.specs.Lines.{ideal, ran, line_of}
 use Rattle.output_queued.specs.Following.{MayFollow}
 
+-- What a reader sees of a reference: the ports, the most cells of a queue, the packets that come to each input, and the
+-- matches of the slots that were noted.
+pub record Noted : Type 0 where
+  pub ports : ℕ
+  pub depth : ℕ
+  pub coming : List (List Coming)
+  pub matches : List Matched
+
+-- what each input is to send
+abbrev pub cards_of : Noted → List Plan
+cards_of noted = map (card_for noted.ports noted.depth) noted.coming
+
+-- The ports, the depth and the packets are a switch, the slots are at most 262,145, and each serves only what its rows name.
+pub record IsNoted (noted : Noted) : Type 0 where
+  pub switch : IsSwitch noted.ports noted.depth noted.coming
+  pub few : length noted.matches ≤ MAX_SLOTS
+  pub served : AreServed (cards_of noted) noted.matches
+
+-- ---- the fields
 -- an input: its packets, how many of them have come, and its queues
 pub record Source : Type 0 where
   pub coming : List Coming
@@ -33,11 +52,15 @@ pub record State : Type 0 where
   pub tallies : List Tally
   pub unserved : ℕ
 
--- the switch: what each input is to send
+-- what a reader sees of it, where these slots were noted
+abbrev pub seen_with : State → List Matched → Noted
+seen_with s matches = record { ports = s.ports; depth = s.depth; coming = map (λ source. source.coming) s.sources; matches = matches }
+
+-- what each input is to send
 abbrev pub cards_in : State → List Plan
 cards_in s = map (λ source. card_for s.ports s.depth source.coming) s.sources
 
--- ---- how the state stands
+-- ---- how they stand
 -- the input at a place; one without packets where there is none
 abbrev pub no_source : Source
 no_source = record {
@@ -90,17 +113,19 @@ pub record IsUnserved (unserved : ℕ) (tallies : List Tally) : Type 0 where
   pub members : (j : ℕ) → Has unserved j ↔ ((j < length tallies) × ((tally_at tallies j).ran < (tally_at tallies j).came))
   pub behind : (j : ℕ) → (tally_at tallies j).ran ≤ (tally_at tallies j).came
 
--- The reference has noted these slots, and the packets of the next one have come.
-pub record HasNoted (s : State) (matches : List Matched) : Type 0 where
-  pub switch : IsSwitch s.ports s.depth (map (λ source. source.coming) s.sources)
+-- The fields are as these slots make them, with the packets of the next slot: its queues, and what is counted at each output.
+pub record Stands (s : State) (matches : List Matched) : Type 0 where
   pub slots : s.slots ≡ length matches
-  pub within : s.slots ≤ MAX_SLOTS
-  pub served : AreServed (cards_in s) matches
   pub sources : (i : ℕ) → i < s.ports → IsIn (card_for s.ports s.depth (source_at s.sources i).coming) (source_at s.sources i) (served_in matches i)
   pub count : length s.tallies ≡ s.ports
   pub tallies : (j : ℕ) → j < s.ports → IsTally (cards_in s) matches (length matches + 1) j (tally_at s.tallies j)
   pub small : (j : ℕ) → j < s.ports → IsSmall s.slots (tally_at s.tallies j)
   pub unserved : IsUnserved s.unserved s.tallies
+
+-- The reference has noted these slots: what a reader sees of it is a switch with its slots, and its fields stand so.
+pub record HasNoted (s : State) (matches : List Matched) : Type 0 where
+  pub noted : IsNoted (seen_with s matches)
+  pub stands : Stands s matches
 
 -- there are slots that the reference has noted and that this slot may follow
 abbrev pub MayNote : State → List Row → Matched → Type 0

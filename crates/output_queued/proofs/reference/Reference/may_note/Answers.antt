@@ -55,7 +55,7 @@ returns-else-are_rows c =
                   let test = eq-eqb v.ports.result c.self.inside.ports ports in
                   absurd (clash c.if-self-lt-MAX_SLOTS.value (v.value-is ∙ test) w.if-ports-self.false)
               | else-self-lt-MAX_SLOTS v ↦
-                  let slots = may.1.slots in
+                  let slots = may.1.stands.slots in
                   let few = may.2.few in
                   let past = v.if-self-lt-MAX_SLOTS.false in
                   absurd (omega arith)

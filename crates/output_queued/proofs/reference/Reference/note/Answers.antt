@@ -19,7 +19,7 @@ let_in-self-inside-requires-clause-stand c =
       s0.depth,
       served_in (m ++ c.args.matched.now ∷ []),
       stand s0 m noted c.args.rows.now c.args.matched.now may c.take_served.new.inputs.items c.take_served.ensures.count c.take_served.ensures.taken,
-      c.count_slot-unserved.ensures.count ∙ noted.count,
+      c.count_slot-unserved.ensures.count ∙ noted.stands.count,
     )
 
 pub invariant_of-self : goal.invariant_of-self
