@@ -1,36 +1,25 @@
 -- The destination of a frame as a function is the one that the frame has.
 use Rattle.std.proofs.Common.{◌≡◌, ℕ, ◌+◌, ◌/◌, ◌≤◌, ◌==◌, ◌↔◌, Bool, true, false, cond, List, [], ◌∷◌, length, slice_index, Option, None, Some, refl}
 use Rattle.std.proofs.Common.{sym, ap, ◌∙◌, inl, inr}
-use Rattle.std.specs.Prelude.{◌&&◌, option_and_then}
+use Rattle.std.specs.Prelude.{option_and_then}
 use Rattle.std.specs.Int.{w32, from_be_bytes}
-use Rattle.std.proofs.lemmas.Bool.{leb-true, le-leb, eqb-true, eq-eqb}
+use Rattle.std.proofs.lemmas.Bool.{leb-true, le-leb, eqb-true, eq-eqb, and_parts, and_from}
+use Rattle.std.proofs.lemmas.Option.{cond_some}
 use Rattle.pcap_records.specs.declared.link.Link.{Link}
 use Rattle.pcap_records.specs.declared.link.Link.TheVariants.{Ethernet, RawIp}
 use Rattle.frame_fields.specs.Destination.{type_at, packet_place, destination_at, destination_of, ipv4_type, tag_type, HasType, BeginsAt, HasDestination}
 
 -- ---- a value that is there where a test holds
 
-tested : {X : Type 0} (b : Bool) (x y : X) → cond b (Some x) None ≡ Some y → (b ≡ true) × (x ≡ y)
-tested true x y e = (refl, cc)
-tested false x y e = absurd (cc)
-
 there : {X : Type 0} (b : Bool) (x : X) → b ≡ true → cond b (Some x) None ≡ Some x
 there true x is = refl
 there false x is = absurd (cc)
-
-both : (a b : Bool) → (a && b) ≡ true → (a ≡ true) × (b ≡ true)
-both true b e = (refl, e)
-both false b e = absurd (cc)
-
-and_both : (a b : Bool) → a ≡ true → b ≡ true → (a && b) ≡ true
-and_both true b is too = too
-and_both false b is too = absurd (cc)
 
 -- ---- type fields
 
 type_read : (frame : List ℕ) (place number : ℕ) → type_at frame place ≡ Some number → HasType frame place number
 type_read frame place number e =
-    let t = tested _ _ number e in
+    let t = cond_some _ _ number e in
     record { within = leb-true (place + 2) (length frame) t.0; number_is = t.1 }
 
 type_there : (frame : List ℕ) (place number : ℕ) → HasType frame place number → type_at frame place ≡ Some number
@@ -49,7 +38,7 @@ inner_read : (frame : List ℕ) (place : ℕ) → HasType frame 12 0x8100 → (o
     → BeginsAt Ethernet frame place
 inner_read frame place first None at e = absurd (cc)
 inner_read frame place first (Some inner) at e =
-    let t = tested (inner == ipv4_type) 18 place e in
+    let t = cond_some (inner == ipv4_type) 18 place e in
     inr (sym t.1, first, type_read frame 16 0x0800 (at ∙ ap Some (eqb-true inner ipv4_type t.0)))
 
 first_read : (frame : List ℕ) (place type : ℕ) → type_at frame 12 ≡ Some type → (tag : Bool) → (type == tag_type) ≡ tag
@@ -57,7 +46,7 @@ first_read : (frame : List ℕ) (place type : ℕ) → type_at frame 12 ≡ Some
 first_read frame place type at true is e =
     inner_read frame place (type_read frame 12 0x8100 (at ∙ ap Some (eqb-true type tag_type is))) (type_at frame 16) refl e
 first_read frame place type at false is e =
-    let t = tested (type == ipv4_type) 14 place e in
+    let t = cond_some (type == ipv4_type) 14 place e in
     inl (sym t.1, type_read frame 12 0x0800 (at ∙ ap Some (eqb-true type ipv4_type t.0)))
 
 place_from : (frame : List ℕ) (place : ℕ) (o : Option ℕ) → type_at frame 12 ≡ o → option_and_then (first_step frame) o ≡ Some place
@@ -90,13 +79,13 @@ record HasHeader (frame : List ℕ) (place address : ℕ) : Type 0 where
 
 header_read : (frame : List ℕ) (place address : ℕ) → destination_at frame place ≡ Some address → HasHeader frame place address
 header_read frame place address e =
-    let t = tested _ (address_at frame place) address e in
-    let tests = both _ (slice_index frame place / 16 == 4) t.0 in
+    let t = cond_some _ (address_at frame place) address e in
+    let tests = and_parts _ (slice_index frame place / 16 == 4) t.0 in
     record { header = leb-true (place + 20) (length frame) tests.0; version = eqb-true (slice_index frame place / 16) 4 tests.1; address_is = t.1 }
 
 header_there : (frame : List ℕ) (place address : ℕ) → HasHeader frame place address → destination_at frame place ≡ Some address
 header_there frame place address h =
-    there _ _ (and_both _ _ (le-leb (place + 20) (length frame) h.header) (eq-eqb (slice_index frame place / 16) 4 h.version)) ∙ ap Some h.address_is
+    there _ _ (and_from _ _ (le-leb (place + 20) (length frame) h.header) (eq-eqb (slice_index frame place / 16) 4 h.version)) ∙ ap Some h.address_is
 
 -- ---- the destination
 
