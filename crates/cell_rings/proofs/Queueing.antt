@@ -1,16 +1,17 @@
 -- A ring of packets, where there is one.
 use Rattle.std.proofs.Common.{◌≡◌, ◌∙◌, ℕ, ◌+◌, ◌-◌, ◌<◌, ◌≤◌, Option, Some, ◌++◌, ◌∷◌, [], length, length-drop, drop, slice_get, ap, sym, subst, arith}
-use Rattle.std.proofs.Common.{true, false}
+use Rattle.std.proofs.Common.{true}
 use Rattle.std.specs.List.{range_with_len}
-use Rattle.std.proofs.lemmas.Bool.{eqb-true, eqb-false}
+use Rattle.std.proofs.lemmas.Bool.{eqb-true}
 use Rattle.std.proofs.lemmas.Simd.{map-map}
+use Rattle.std.proofs.lemmas.List.{length_push}
 use Rattle.circular_buffer.specs.Buffer.{Buffer, buffer, keep_last}
 use Rattle.cell_rings.specs.declared.ring.QueuedCell.{QueuedCell}
 use Rattle.cell_rings.specs.declared.ring.Waiting.{Waiting}
 use Rattle.cell_rings.specs.CellQueues.{CellQueue, cells_with_fan, queue_with}
 use Rattle.cell_rings.specs.RunSteps.{cell_of, run_of, cells_left}
 use Rattle.cell_rings.specs.FieldSteps.{IsRing, queue_of}
-use Rattle.cell_rings.proofs.Running.{keeps_all, cells_left-more, first_cell, last_cell, packed, length-more, IsQueue-more, IsQueue-on, IsQueue-next}
+use Rattle.cell_rings.proofs.Running.{keeps_all, cells_left-more, first_cell, last_cell, packed, IsQueue-more, IsQueue-next}
 
 module _ {F : Type 0} where
   -- the cells of a packet are those of its entry in the ring
@@ -46,7 +47,7 @@ module _ {F : Type 0} where
   IsRing-more depth gone count spare ring w q some few more fits = record {
     queue = IsQueue-more gone count ring.items w some few q.queue;
     within = fits;
-    taken = omega (arith, q.taken, length-more ring.items w);
+    taken = omega (arith, q.taken, length_push ring.items w);
   }
 
   pub queue_of-more : (depth gone count spare : ℕ) (ring : Buffer (Waiting F)) (w : Waiting F) → IsRing depth gone count spare (Some ring)
@@ -58,15 +59,6 @@ module _ {F : Type 0} where
       ap (λ c. record { depth = depth; cells = c; spare = spare - 1 }) cells
 
   -- ---- the first cell leaves
-  -- and its packet has more
-  pub IsRing-on : (depth gone count spare : ℕ) (ring : Buffer (Waiting F)) (w : Waiting F) → Some w ≡ slice_get ring.items 0 → (gone + 1 ≡ w.cells → ⊥)
-      → IsRing depth gone count spare (Some ring) → IsRing depth (gone + 1) (count - 1) spare (Some ring)
-  IsRing-on depth gone count spare ring w is ne q = record {
-    queue = IsQueue-on gone count ring.items w is ne q.queue;
-    within = omega (arith, q.within);
-    taken = q.taken;
-  }
-
   -- and it was the last of its packet
   pub IsRing-next : (depth gone count spare : ℕ) (ring : Buffer (Waiting F)) (w : Waiting F) → Some w ≡ slice_get ring.items 0 → gone + 1 ≡ w.cells
       → IsRing depth gone count spare (Some ring) → IsRing depth 0 (count - 1) spare (Some (buffer (drop 1 ring.items) ring.capacity))
@@ -88,6 +80,3 @@ module _ {F : Type 0} where
   -- whether it was the last, by what is told of the cell
   pub last-true : (gone : ℕ) (w : Waiting F) (cell : QueuedCell F) → cell ≡ cell_of w gone → cell.name.last ≡ true → gone + 1 ≡ w.cells
   last-true gone w cell is last = eqb-true (gone + 1) w.cells (sym (ap (λ c. c.name.last) is) ∙ last)
-
-  pub last-false : (gone : ℕ) (w : Waiting F) (cell : QueuedCell F) → cell ≡ cell_of w gone → cell.name.last ≡ false → gone + 1 ≡ w.cells → ⊥
-  last-false gone w cell is last = eqb-false (gone + 1) w.cells (sym (ap (λ c. c.name.last) is) ∙ last)

@@ -1,5 +1,5 @@
 -- Packets that stand for their cells: a packet more at the end, and the first cell gone.
-use Rattle.std.proofs.Common.{◌≡◌, ◌∙◌, ◌≢◌, ℕ, suc, ◌+◌, ◌-◌, ◌<◌, ◌≤◌, List, [], ◌∷◌, ◌++◌, drop, length, refl, ap, sym, arith, Some, slice_get}
+use Rattle.std.proofs.Common.{◌≡◌, ◌∙◌, ℕ, suc, ◌+◌, ◌-◌, ◌<◌, ◌≤◌, List, [], ◌∷◌, ◌++◌, drop, length, refl, ap, sym, arith, Some, slice_get}
 use Rattle.std.proofs.Common.{get_or, length-append, length-drop, add-one}
 use Rattle.std.specs.List.{flat_map}
 use Rattle.std.proofs.lemmas.List.{drop-append-le, append-nil}
@@ -17,9 +17,6 @@ use Rattle.cell_rings.specs.RunSteps.{cell_of, run_of, cells_left, IsBegun, IsSi
 -- what is pushed into a ring that has room stands at its end
 pub keeps_all : {P : Type 0} (n : ℕ) (ps : List P) (p : P) → length ps < n → keep_last n (ps ++ p ∷ []) ≡ ps ++ p ∷ []
 keeps_all n ps p room = let none : length (ps ++ p ∷ []) - n ≡ 0 = omega (arith, length-append ps (p ∷ [])) in rw none refl
-
-pub length-more : {P : Type 0} (ps : List P) (p : P) → length (ps ++ p ∷ []) ≡ length ps + 1
-length-more ps p = omega (arith, length-append ps (p ∷ []))
 
 module _ {F : Type 0} where
   pub length-run_of : (p : Waiting F) → length (run_of p) ≡ p.cells
@@ -76,10 +73,6 @@ module _ {F : Type 0} where
       let long : gone ≡ length (run_of x) = end ∙ ap (λ (w : Waiting F). w.cells) same ∙ sym (length-run_of x) in
       rw long (drop-append_seam (run_of x) (flat_map run_of ps))
 
-  IsBegun-on : (gone : ℕ) (ps : List (Waiting F)) (p : Waiting F) → Some p ≡ slice_get ps 0 → IsBegun gone ps → gone + 1 ≢ p.cells → IsBegun (gone + 1) ps
-  IsBegun-on gone [] p is begun ne = absurd cc
-  IsBegun-on gone (x ∷ ps) p is begun ne = let same = ap (λ (w : Waiting F). w.cells) (same_Some p x is) in omega arith
-
   IsBegun-next : (ps : List (Waiting F)) → AreSized ps → IsBegun 0 ps
   IsBegun-next [] all = refl
   IsBegun-next (p ∷ ps) all = all.0.0
@@ -87,20 +80,6 @@ module _ {F : Type 0} where
   AreSized-rest : (ps : List (Waiting F)) → AreSized ps → AreSized (drop 1 ps)
   AreSized-rest [] all = tt
   AreSized-rest (p ∷ ps) all = all.1
-
-  -- the number of the next cell of the first packet fits
-  pub few_on : (gone : ℕ) (ps : List (Waiting F)) (p : Waiting F) → Some p ≡ slice_get ps 0 → IsBegun gone ps → AreSized ps → gone < MAX_FORWARDED_CELLS
-  few_on gone [] p is begun all = absurd cc
-  few_on gone (x ∷ ps) p is begun all = omega (arith, all.0.1)
-
-  -- the queue where its first cell has gone, not the last of its packet
-  pub IsQueue-on : (gone count : ℕ) (ps : List (Waiting F)) (p : Waiting F) → Some p ≡ slice_get ps 0 → gone + 1 ≢ p.cells → IsQueue gone count ps
-      → IsQueue (gone + 1) (count - 1) ps
-  IsQueue-on gone count ps p is ne q = record {
-    begun = IsBegun-on gone ps p is q.begun ne;
-    sized = q.sized;
-    counted = omega (arith, q.counted, ap length (first_cell gone ps p is q.begun));
-  }
 
   -- the queue where the last cell of its first packet has gone
   pub IsQueue-next : (gone count : ℕ) (ps : List (Waiting F)) (p : Waiting F) → Some p ≡ slice_get ps 0 → gone + 1 ≡ p.cells → IsQueue gone count ps

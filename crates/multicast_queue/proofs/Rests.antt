@@ -1,36 +1,10 @@
 -- The rest of the head's fan-out: cells more at the end, and the head gone.
-use Rattle.std.proofs.Common.{◌≡◌, ◌≢◌, ℕ, ◌<◌, ◌↔◌, List, [], ◌∷◌, ◌++◌, Some, None, drop, length, map, slice_get, ap, subst, refl, arith}
-use Rattle.std.proofs.lemmas.Option.{same_Some}
+use Rattle.std.proofs.Common.{◌≡◌, ◌≢◌, ℕ, ◌<◌, ◌↔◌, List, [], ◌∷◌, ◌++◌, drop, length, map, subst, refl, arith}
 use Rattle.cell_cutter.specs.declared.cell.CellName.{CellName}
 use Rattle.rotating_pick.specs.PortSets.{Has, IsAmong}
 use Rattle.rotating_pick.proofs.Bits.{Has-lt, no_member-zero, zero-no_members}
-use Rattle.multicast_queue.specs.FanQueues.{FanCell, first_fan, first_name, rest_with}
+use Rattle.multicast_queue.specs.FanQueues.{FanCell, first_fan, rest_with}
 use Rattle.multicast_queue.specs.FieldSteps.{HaveFans, IsRest}
-
--- ---- the first cell
-pub first_fan-some : (cells : List FanCell) (cell : FanCell) → Some cell ≡ slice_get cells 0 → cell.fan ≡ first_fan cells
-first_fan-some [] cell is = absurd cc
-first_fan-some (x ∷ cells) cell is = ap (λ c. c.fan) (same_Some cell x is)
-
-pub first_fan-none : (cells : List FanCell) → None ≡ slice_get cells 0 → 0 ≡ first_fan cells
-first_fan-none [] is = refl
-first_fan-none (x ∷ cells) is = absurd cc
-
-pub first_name-some : (cells : List FanCell) (cell : FanCell) → Some cell ≡ slice_get cells 0 → Some cell.name ≡ first_name cells
-first_name-some [] cell is = absurd cc
-first_name-some (x ∷ cells) cell is = ap (λ c. Some c.name) (same_Some cell x is)
-
-pub first_name-none : (cells : List FanCell) → None ≡ slice_get cells 0 → None ≡ first_name cells
-first_name-none [] is = refl
-first_name-none (x ∷ cells) is = absurd cc
-
-pub rest_with-none : (cells : List FanCell) (rest fan : ℕ) → length cells ≡ 0 → fan ≡ rest_with cells rest fan
-rest_with-none [] rest fan none = refl
-rest_with-none (cell ∷ cells) rest fan none = absurd (omega arith)
-
-pub rest_with-some : (cells : List FanCell) (rest fan : ℕ) → length cells ≢ 0 → rest ≡ rest_with cells rest fan
-rest_with-some [] rest fan some = absurd (some refl)
-rest_with-some (cell ∷ cells) rest fan some = refl
 
 -- ---- cells more
 pub HaveFans-append : (ports : ℕ) (a b : List FanCell) → HaveFans ports a → HaveFans ports b → HaveFans ports (a ++ b)

@@ -5,8 +5,7 @@ use Rattle.std.proofs.lemmas.Bool.{cases_eq}
 use Rattle.std.proofs.lemmas.List.{length-replicate}
 use Rattle.std.proofs.lemmas.Nat.{mod_below}
 use Rattle.rotating_pick.specs.declared.limits.TheConstants.{LEVELS, MAX_PORTS}
-use Rattle.pointer_state.specs.Places.{Places, place_of, grant_of, accept_of, shared_of, with_place, AreAtPorts, places_at_first, places_met}
-use Rattle.pointer_state.specs.Places.{places_passed, places_held}
+use Rattle.pointer_state.specs.Places.{Places, place_of, with_place, AreAtPorts, places_at_first, places_met, places_passed}
 use Rattle.pointer_state.proofs.Tables.{IsTable-with, place_of-with_same, place_of-with_other, IsTable-at_first, place_of-at_first, shared-at_first}
 
 -- what is equal to a number below n is below n
@@ -84,53 +83,6 @@ module _ (p : Places) (at_ports : AreAtPorts p) (level : ℕ) (level_in : level 
               };
         }
 
-    pub grant_of-met_same : grant_of (places_met p input output level) output level ≡ (input + 1) % p.ports
-    unfolding places_met
-    grant_of-met_same = place_of-with_same p.grant at_ports.grant_table level output _ level_in (fits output output_in)
-
-    pub accept_of-met_same : accept_of (places_met p input output level) input level ≡ (output + 1) % p.ports
-    unfolding places_met
-    accept_of-met_same = place_of-with_same p.accept at_ports.accept_table level input _ level_in (fits input input_in)
-
-    pub grant_of-met_other : (j other : ℕ) → (j ≡ output → other ≡ level → ⊥) → grant_of (places_met p input output level) j other ≡ grant_of p j other
-    unfolding places_met
-    grant_of-met_other j other apart =
-        place_of-with_other p.grant at_ports.grant_table level output _ level_in (fits output output_in) other j (λ e f. apart f e)
-
-    pub accept_of-met_other : (i other : ℕ) → (i ≡ input → other ≡ level → ⊥) → accept_of (places_met p input output level) i other ≡ accept_of p i other
-    unfolding places_met
-    accept_of-met_other i other apart =
-        place_of-with_other p.accept at_ports.accept_table level input _ level_in (fits input input_in) other i (λ e f. apart f e)
-
-    pub AreAtPorts-held : AreAtPorts (places_held p input output level)
-    unfolding places_held
-    AreAtPorts-held =
-        let g = at_ports.grant_table in
-        record {
-          some = at_ports.some;
-          size = at_ports.size;
-          grant_table = IsTable-with p.grant g level output input level_in (fits output output_in);
-          accept_table = at_ports.accept_table;
-          shared_levels = at_ports.shared_levels;
-          pointing = λ other other_in.
-              let before = at_ports.pointing other other_in in record {
-                grant = λ j j_in. below-with p.grant level output input p.ports other j
-                    (place_of-with_same p.grant g level output input level_in (fits output output_in))
-                    (place_of-with_other p.grant g level output input level_in (fits output output_in)) input_in (before.grant j j_in);
-                accept = before.accept;
-                shared = before.shared;
-              };
-        }
-
-    pub grant_of-held_same : grant_of (places_held p input output level) output level ≡ input
-    unfolding places_held
-    grant_of-held_same = place_of-with_same p.grant at_ports.grant_table level output input level_in (fits output output_in)
-
-    pub grant_of-held_other : (j other : ℕ) → (j ≡ output → other ≡ level → ⊥) → grant_of (places_held p input output level) j other ≡ grant_of p j other
-    unfolding places_held
-    grant_of-held_other j other apart = place_of-with_other p.grant at_ports.grant_table level output input level_in (fits output output_in) other j
-        (λ e f. apart f e)
-
   pub AreAtPorts-passed : (input : ℕ) → AreAtPorts (places_passed p level input)
   unfolding places_passed
   AreAtPorts-passed input =
@@ -147,11 +99,3 @@ module _ (p : Places) (at_ports : AreAtPorts p) (level : ℕ) (level_in : level 
               shared = below-set p.shared level _ p.ports other level_shared (next_in input) before.shared;
             };
       }
-
-  pub shared_of-passed_same : (input : ℕ) → shared_of (places_passed p level input) level ≡ (input + 1) % p.ports
-  unfolding places_passed
-  shared_of-passed_same input = get_or-set_same p.shared level _ 0 level_shared
-
-  pub shared_of-passed_other : (input other : ℕ) → (other ≡ level → ⊥) → shared_of (places_passed p level input) other ≡ shared_of p other
-  unfolding places_passed
-  shared_of-passed_other input other apart = get_or-set_other p.shared level other _ 0 apart
