@@ -14,6 +14,7 @@ loop-place-preserved g c = record {
   told = put_more shown c.args.output_files.now c.loop-place.place c.index-output_files-place.result c.put_file.result _ _ _ _ _ c.loop-place-test.true
       c.index-output_files-place.is
       (sym c.is_err.ensures.value ∙ c.if-is_err.false) c.loop-place.invariant.told c.put_file.ensures.told;
-  no_fault = λ p. went_well c.put_file.result (sym c.is_err.ensures.value ∙ c.if-is_err.false) c.put_file.ensures.no_fault p ∙ c.loop-place.invariant.no_fault p;
+  no_fault = λ p. went_well c.put_file.result (sym c.is_err.ensures.value ∙ c.if-is_err.false) c.put_file.ensures.no_fault p
+      ∙ c.loop-place.invariant.no_fault p;
   never_fall = λ p. omega (arith, c.loop-place.invariant.never_fall p, c.put_file.ensures.never_fall p);
 }
