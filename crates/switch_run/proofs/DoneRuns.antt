@@ -1,12 +1,11 @@
 -- At status 0 a job that runs a switch has a run: that of its texts.
-use Rattle.std.proofs.Common.{◌≡◌, ℕ, List, Option, Some, subst, arith}
-use Rattle.outside.specs.Contents.{Contents}
+use Rattle.std.proofs.Common.{◌≡◌, ℕ, Some, subst, arith}
 use Rattle.switch_words.specs.Reading.{JobWords, run, gen, check, firm, CheckWords, FirmWords}
 use Rattle.switch_plan.specs.GoodPlans.{SwitchPlan}
 use Rattle.job_files.specs.declared.ending.Ending.{Ending}
 use Rattle.job_files.specs.declared.ending.Ending.TheVariants.{Done, Usage, ReadFault, TooLong, Refused, JournalTooLong, PacketsTooLong, OutOfMemory}
 use Rattle.job_files.specs.declared.ending.Ending.TheVariants.{WriteFault, Checked}
-use Rattle.switch_run.specs.Endings.{Command, IsDone, IsStopped}
+use Rattle.switch_run.specs.Endings.{Command, IsDone}
 use Rattle.switch_run.specs.Causes.{Answers, HasRun, IsFirmRunBy, IsRunBy, IsRunOrGen}
 use Rattle.switch_run.proofs.Answering.{same_job}
 

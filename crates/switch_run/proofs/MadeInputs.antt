@@ -1,5 +1,5 @@
 -- What a `gen` job comes to: its inputs are made, so nothing of it rests on what files hold.
-use Rattle.std.proofs.Common.{◌≡◌, ℕ, List, Option, Some, None, inl, inr, subst, arith}
+use Rattle.std.proofs.Common.{◌≡◌, ℕ, List, Option, Some, inl, inr, subst, arith}
 use Rattle.std.specs.Prelude.{◌⊎◌}
 use Rattle.outside.specs.Contents.{Contents}
 use Rattle.outside.specs.Faults.{ToOut, Rose}

@@ -1,5 +1,5 @@
 -- What the ways of a run leave, and why the texts of a run are not made.
-use Rattle.std.proofs.Common.{◌≡◌, ◌<◌, ◌≤◌, ℕ, true, List, length, arith}
+use Rattle.std.proofs.Common.{ℕ, List, arith}
 use Rattle.std.specs.Prelude.{Result, Ok, Err, IfErr, IfOk}
 use Rattle.eslip_rounds.specs.Schedulers.{Scheduler}
 use Rattle.eslip_rounds.specs.Decisions.{decision_of}

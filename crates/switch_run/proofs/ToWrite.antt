@@ -1,17 +1,11 @@
 -- What a job is to write, and why it is not made, from the calls that made its texts.
-use Rattle.std.proofs.Common.{◌≡◌, ◌≤◌, ℕ, List, length, Option}
-use Rattle.std.specs.Prelude.{Result, Ok, Err, IfErr, IfOk}
+use Rattle.std.proofs.Common.{ℕ, Option}
+use Rattle.std.specs.Prelude.{Result, Ok, Err, IfErr}
 use Rattle.outside.specs.Contents.{Contents}
 use Rattle.outside.specs.Faults.{Place}
-use Rattle.switch_words.specs.Reading.{JobWords, run, RunWords}
-use Rattle.job_files.specs.Inputs.{AreInputs}
-use Rattle.named_schedulers.specs.Named.{decision_named}
+use Rattle.switch_words.specs.Reading.{JobWords}
 use Rattle.switch_run.specs.Endings.{Stops}
-use Rattle.switch_run.specs.Switched.{wanted_by}
-use Rattle.switch_run.specs.MakingSteps.{AreMade, AreToWrite, StopsTexts, to_write}
-use Rattle.job_files.specs.declared.output_files.JobTexts.{JobTexts}
 use Rattle.job_files.specs.declared.ending.Ending.{Ending}
-use Rattle.switch_run.proofs.Stopping.{texts_stop}
 
 -- a job that stops whatever the contents are
 pub stops_anywhere : {T : Type 0} (job : JobWords) (old : Option Contents) (was now : Place → ℕ) (result : Result T Ending)

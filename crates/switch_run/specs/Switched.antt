@@ -1,5 +1,5 @@
 -- What a job makes of the bytes of its table and its captures.
-use Rattle.std.specs.Prelude.{◌≡◌, ◌<◌, ◌≤◌, ℕ, true, false, if◌then◌else◌, List, [], ◌++◌, map, length, None, Some, Result, Ok, Err, IfSome}
+use Rattle.std.specs.Prelude.{◌≡◌, ◌<◌, ◌≤◌, ℕ, true, false, if◌then◌else◌, List, [], ◌++◌, map, length, None, Result, Ok, Err, IfSome}
 use Rattle.std.specs.List.{range_with_len}
 use Rattle.pcap_records.specs.Output.{capture_text}
 use Rattle.forward_table.specs.declared.route_lines.RouteLine.{RouteLine}
