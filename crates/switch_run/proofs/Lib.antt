@@ -13,3 +13,4 @@ pub mod RunsMade
 pub mod Bounds
 pub mod MadeInputs
 pub mod DoneRuns
+pub mod AtZero

@@ -1,7 +1,7 @@
 -- When each answer comes, that one comes where nothing stands against it, and what holds of the run of a command.
 use Rattle.std.specs.Prelude.{◌≡◌, ◌<◌, ◌≤◌, ◌*◌, ◌⊎◌, ℕ, true, List, length, Option, Some, None, Ok, Err}
 use Rattle.outside.specs.Contents.{Contents}
-use Rattle.outside.specs.Faults.{ReadOf, BeginOf, WriteOf, ToOut, NeverFall, Rose}
+use Rattle.outside.specs.Faults.{ReadOf, BeginOf, WriteOf, ToOut, NeverFall, NoneRose, Rose}
 use Rattle.outside.specs.WholeFiles.{IsTooLong}
 use Rattle.journal_check.specs.declared.verdict.Verdict.TheVariants as verdict
 use Rattle.journal_check.specs.declared.verdict.JournalFault.TheVariants as journal_fault
@@ -236,11 +236,12 @@ pub record HasRun (c : Command) (status : ℕ) : Type 0 where
   pub switch : (job : JobWords) → c.job ≡ Some job → IsRunOrGen job → status ≡ 0 → (plan : SwitchPlan) × (slots : ℕ) × IsRunBy c plan slots
   pub second : (job : FirmWords) → c.job ≡ Some (firm job) → status ≡ 0 → (plan : SwitchPlan) × (slots : ℕ) × IsFirmRunBy c plan slots
 
--- The switch theorem: what a command answers with this status, when each answer comes, that a job which was done has a run,
--- and what holds of it.
+-- The switch theorem: what a command answers with this status, that at status 0 no count of refused calls rose, of any kind
+-- or name, when each answer comes, that a job which was done has a run, and what holds of it.
 pub record SwitchTheorem (c : Command) (status : ℕ) : Type 0 where
   pub meaning : (ending : Ending) × Answers c status ending
   pub never_fall : NeverFall c.was c.now
+  pub no_fault : status ≡ 0 → NoneRose c.was c.now
   pub usage : UsageIsExact c status
   pub too_long : TooLongIsExact c status
   pub refusal : RefusalIsExact c status

@@ -1,5 +1,6 @@
 ghost use Rattle.std.specs.Prelude.{◌≡◌, ℕ, Some, map, string_bytes, IfErr, OnOk};
-ghost use Rattle.outside.specs.Faults.{NeverFall};
+ghost use Rattle.outside.specs.Faults.{NeverFall, NoneRose};
+ghost use Rattle.job_files.specs.Statuses.{status_of};
 ghost use Rattle.switch_words.specs.Limits.{IsWithinLimits};
 ghost use Rattle.switch_words.specs.Reading.{job_words};
 ghost use Rattle.switch_run.specs.Causes.{SwitchTheorem};
@@ -34,6 +35,8 @@ fn attempt<R: Threads + Sync, F: Files, G: Gate + Sync>(
     requires { IsWithinLimits job.now }
     ensures done { OnOk result (IsDone (job_words job.now) (F.told files.old) (F.told files.new)) }
     ensures stops { IfErr result (Stops (job_words job.now) (F.told files.old) (F.faults files.old) (F.faults files.new) (F.told files.new)) }
+    ensures no_fault { OnOk result (NoneRose (F.faults files.old) (F.faults files.new)) }
+    ensures at_zero { IfErr result (λ ending. status_of ending ≡ 0 → NoneRose (F.faults files.old) (F.faults files.new)) }
     ensures never_fall { NeverFall (F.faults files.old) (F.faults files.new) }
 {
     let texts = match job_texts(rt, alloc, job, files, gate) {
@@ -62,6 +65,7 @@ fn run<R: Threads + Sync, F: Files, G: Gate + Sync>(
       was = F.faults files.old;
       now = F.faults files.new;
     }) result }
+    ensures no_fault { status_of result ≡ 0 → NoneRose (F.faults files.old) (F.faults files.new) }
     ensures never_fall { NeverFall (F.faults files.old) (F.faults files.new) }
 {
     match attempt(rt, alloc, job, files, gate) {
@@ -82,6 +86,7 @@ fn end_of<R: Threads + Sync, F: Files, G: Gate + Sync>(
     gate: &G,
 ) -> Ending
     ensures meaning { Means (command_of (map string_bytes words.now) (F.told files.old) (F.told files.new) (F.faults files.old) (F.faults files.new)) result }
+    ensures no_fault { status_of result ≡ 0 → NoneRose (F.faults files.old) (F.faults files.new) }
     ensures never_fall { NeverFall (F.faults files.old) (F.faults files.new) }
 {
     match read_words(alloc, words) {
@@ -111,7 +116,7 @@ fn end_of<R: Threads + Sync, F: Files, G: Gate + Sync>(
 /// tells whether it is lawful: whether its matches are those of the scheduler that `--scheduler` names, `islip` where
 /// it names none.
 ///
-/// - 0: all is written, and nothing else changed; or the journal file is lawful.
+/// - 0: all is written, and nothing else changed; or the journal file is lawful. No count of refused calls rose.
 /// - 2: the words are not those of a job.
 /// - 3: a read of the table, of a capture or of the journal file was refused.
 /// - 4: the table or a capture has more than 16,777,216 bytes, or what they hold is refused; or a journal that is to be

@@ -1,6 +1,7 @@
 ghost use Rattle.std.specs.Prelude.{◌≡◌, ℕ, Option, IfErr, IfOk, OnOk};
 ghost use Rattle.outside.specs.Contents.{Contents};
-ghost use Rattle.outside.specs.Faults.{NeverFall, Place};
+ghost use Rattle.outside.specs.Faults.{NeverFall, NoneRose, Place};
+ghost use Rattle.job_files.specs.Statuses.{status_of};
 ghost use Rattle.switch_words.specs.Limits.{IsFirmWithinLimits, IsGenWithinLimits, IsRunWithinLimits, IsWithinLimits};
 ghost use Rattle.switch_words.specs.Reading.{run, gen, check, firm, run_words, check_words, firm_words, job_words};
 ghost use Rattle.switch_run.specs.Endings.{Stops};
@@ -41,6 +42,7 @@ fn texts_of_run<R: Threads + Sync, F: Files, G: Gate + Sync>(
 ) -> Result<JobTexts, Ending>
     requires { IsRunWithinLimits job.now }
     ensures told { F.told files.new ≡ F.told files.old }
+    ensures no_fault { OnOk result (NoneRose (F.faults files.old) (F.faults files.new)) }
     ensures never_fall { NeverFall (F.faults files.old) (F.faults files.new) }
     ensures made { IfOk result (λ texts. AreToWrite (run (run_words job.now)) (F.told files.old) (to_write texts)) }
     ensures stops { IfErr result (Stops (run (run_words job.now)) (F.told files.old) (F.faults files.old) (F.faults files.new) (F.told files.new)) }
@@ -102,6 +104,7 @@ fn texts_of_firm<R: Threads + Sync, F: Files>(
 ) -> Result<JobTexts, Ending>
     requires { IsFirmWithinLimits job.now }
     ensures told { F.told files.new ≡ F.told files.old }
+    ensures no_fault { OnOk result (NoneRose (F.faults files.old) (F.faults files.new)) }
     ensures never_fall { NeverFall (F.faults files.old) (F.faults files.new) }
     ensures made { IfOk result (λ texts. AreToWrite (firm (firm_words job.now)) (F.told files.old) (to_write texts)) }
     ensures stops { IfErr result (Stops (firm (firm_words job.now)) (F.told files.old) (F.faults files.old) (F.faults files.new) (F.told files.new)) }
@@ -123,6 +126,7 @@ fn texts_of_firm<R: Threads + Sync, F: Files>(
 // How a check ends.
 fn end_of_check<F: Files>(alloc: Global, job: &CheckJob, files: &mut F) -> Ending
     ensures stops { Stops (check (check_words job.now)) (F.told files.old) (F.faults files.old) (F.faults files.new) (F.told files.new) result }
+    ensures no_fault { status_of result ≡ 0 → NoneRose (F.faults files.old) (F.faults files.new) }
     ensures never_fall { NeverFall (F.faults files.old) (F.faults files.new) }
 {
     match check_file(alloc, job.file.as_str(), job.scheduler, files) {
@@ -141,6 +145,8 @@ pub(crate) fn job_texts<R: Threads + Sync, F: Files, G: Gate + Sync>(
 ) -> Result<JobTexts, Ending>
     requires { IsWithinLimits job.now }
     ensures told { OnOk result (F.told files.new ≡ F.told files.old) }
+    ensures no_fault { OnOk result (NoneRose (F.faults files.old) (F.faults files.new)) }
+    ensures at_zero { IfErr result (λ ending. status_of ending ≡ 0 → NoneRose (F.faults files.old) (F.faults files.new)) }
     ensures never_fall { NeverFall (F.faults files.old) (F.faults files.new) }
     ensures made { IfOk result (λ texts. AreToWrite (job_words job.now) (F.told files.old) (to_write texts)) }
     ensures stops { IfErr result (Stops (job_words job.now) (F.told files.old) (F.faults files.old) (F.faults files.new) (F.told files.new)) }

@@ -1,4 +1,4 @@
-use Rattle.std.proofs.Common.{arith}
+use Rattle.std.proofs.Common.{arith, ◌∙◌}
 use Rattle.std.proofs.lemmas.List.{length-map}
 use Rattle.switch_words.specs.Reading.{job_words}
 use Rattle.job_files.specs.OutputFiles.{shown}
@@ -24,3 +24,6 @@ returns-clause-stops g c =
     (to_write c.in-Ok.texts) c.in-Ok.ensures.made
     (counts c.args.files.now) (counts c.job_texts.new.files)
     (counts c.put_texts.new.files) c.in-Err-put_texts.written c.in-Ok.ensures.told c.job_texts.ensures.never_fall c.in-Err-put_texts.ensures.err
+
+pub returns-in-Ok-put_texts-clause-no_fault : goal.returns-in-Ok-put_texts-clause-no_fault
+returns-in-Ok-put_texts-clause-no_fault g c p = c.in-Ok-put_texts.ensures.no_fault p ∙ c.in-Ok.ensures.no_fault p

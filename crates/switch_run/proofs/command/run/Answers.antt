@@ -1,4 +1,4 @@
-use Rattle.std.proofs.Common.{refl}
+use Rattle.std.proofs.Common.{refl, ◌∙◌}
 use Rattle.outside.specs.Faults.{ToErr}
 use Rattle.outside.proofs.Counting.{NeverFall-refl}
 use Rattle.switch_words.specs.Reading.{job_words}
@@ -19,3 +19,6 @@ returns-in-Err-clause-meaning g c =
           (NeverFall-refl (counts c.args.files.now)) c.print_line.ensures.never_fall c.in-Err.ensures.stops;
       line = GivesLine-since _ _ _ _ _ _ (c.in-Err.ensures.never_fall ToErr) c.print_line.ensures.line;
     })
+
+pub returns-in-Err-clause-no_fault : goal.returns-in-Err-clause-no_fault
+returns-in-Err-clause-no_fault g c same p = c.print_line.ensures.no_fault same p ∙ c.in-Err.ensures.at_zero same p

@@ -1,4 +1,4 @@
-use Rattle.std.proofs.Common.{ap, map, string_bytes, ◌∙◌}
+use Rattle.std.proofs.Common.{ap, map, string_bytes, sym, ◌∙◌}
 use Rattle.std.specs.Prelude.{Ok}
 use Rattle.named_schedulers.specs.Named.{decision_named}
 use Rattle.switch_run.specs.Causes.{Answers, scheduler_in}
@@ -25,6 +25,7 @@ returns g c =
     record {
       meaning = (ending, answers);
       never_fall = c.end_of.ensures.never_fall;
+      no_fault = λ same. c.end_of.ensures.no_fault (sym c.status.ensures ∙ same);
       usage = usage_exact command status ending answers;
       too_long = too_long_exact command status ending answers;
       refusal = refusal_exact command status ending answers;

@@ -1,5 +1,6 @@
 use Rattle.std.proofs.Common.{refl}
 use Rattle.switch_words.specs.Reading.{check_words}
+use Rattle.switch_run.proofs.AtZero.{check_is_yes}
 use Rattle.switch_run.proofs.job_texts.end_of_check.Goals as goal
 
 pub returns-in_default-clause-stops : goal.returns-in_default-clause-stops
@@ -8,3 +9,6 @@ returns-in_default-clause-stops g c = record {
   is_check = refl;
   means = rw c.as_str.ensures.value at c.check_file.ensures.meaning;
 }
+
+pub returns-in_default-clause-no_fault : goal.returns-in_default-clause-no_fault
+returns-in_default-clause-no_fault g c same = c.check_file.ensures.no_fault (check_is_yes c.check_file.result same)
