@@ -2,6 +2,7 @@
 use Rattle.std.proofs.Common.{◌≡◌, ◌∙◌, ◌↔◌, ◌⊎◌, ℕ, ◌+◌, ◌<◌, ◌≤◌, Bool, true, false, if◌then◌else◌, List, length, Option, Some, slice_set, length-set}
 use Rattle.std.proofs.Common.{refl, sym, ap, subst, arith, inl, inr}
 use Rattle.std.proofs.lemmas.Bool.{cases_eq}
+use Rattle.std.proofs.lemmas.List.{get_or-set_same, get_or-set_other}
 use Rattle.rotating_pick.specs.PortSets.{Has}
 use Rattle.slot_histories.specs.Tests.{has}
 use Rattle.slot_histories.proofs.SetTests.{Decides-has}
@@ -12,7 +13,7 @@ use Rattle.output_queued.specs.Switches.{card_for, cells_from}
 use Rattle.output_queued.specs.NotingSteps.{Source, no_source, source_at, tally_at, IsBefore, IsIn, IsUnserved}
 use Rattle.output_queued.specs.Steps.{IsPart, HasEntered, Stand, HaveEntered, cells_to, cells_of_first, with_cells}
 use Rattle.output_queued.proofs.Totals.{total-more}
-use Rattle.output_queued.proofs.Places.{set-here, set-other, set-case}
+use Rattle.output_queued.proofs.Places.{set-case}
 
 tally-by : (a a' b c : ℕ) (l : _) → a ≡ a'
     → ◌≡◌ {A = Tally} (record { came = a; given = b; ran = c; line = l }) (record { came = a'; given = b; ran = c; line = l })
@@ -55,11 +56,11 @@ module _ (ports depth slot : ℕ) (served : ℕ → List (Option Served)) (old :
       coming = λ i. set-case no_source (λ m s. s.coming ≡ (source_at old m).coming) now k new below (enters.coming ∙ so_far.coming k) i
           (λ other. so_far.coming i);
       entered = λ i less. elim (cases_eq i k) [
-        | inl same ↦ rw (same, set-here no_source now k new below)
+        | inl same ↦ rw (same, get_or-set_same now k new no_source below)
             (subst (λ (s : Source). IsIn (card_for ports depth s.coming) new (served k)) here enters.queues)
-        | inr other ↦ rw (set-other no_source now k new i other) (so_far.entered i (omega arith))
+        | inr other ↦ rw (get_or-set_other now k i new no_source other) (so_far.entered i (omega arith))
       ];
-      left = λ i above. set-other no_source now k new i (λ e. omega arith) ∙ so_far.left i (omega arith);
+      left = λ i above. get_or-set_other now k i new no_source (λ e. omega arith) ∙ so_far.left i (omega arith);
       tallies = λ j.
           let more = total-more (λ i. cells_from (card_for ports depth (source_at old i).coming) (served i) j slot) k (k + 1) refl in
           let mine : cells_from (card_for ports depth (source_at old k).coming) (served k) j slot ≡ cells_to admitted j =

@@ -1,9 +1,9 @@
 -- Packets of an input, as far as they were looked at.
-use Rattle.std.proofs.Common.{◌≡◌, ◌∙◌, ℕ, zero, suc, ◌+◌, ◌<◌, ◌≤◌, List, [], ◌∷◌, map, length, Some, slice_get, slice_index_or, refl, sym, ap, subst}
+use Rattle.std.proofs.Common.{◌≡◌, ◌∙◌, ℕ, ◌+◌, ◌<◌, ◌≤◌, List, map, length, Some, slice_get, slice_index_or, sym, ap, subst}
 use Rattle.std.proofs.Common.{arith, inl, inr}
 use Rattle.std.proofs.lemmas.Bool.{cases_eq}
 use Rattle.std.proofs.lemmas.List.{get_or-map}
-use Rattle.std.proofs.lemmas.Option.{same_Some}
+use Rattle.std.proofs.lemmas.Option.{get_or_from_slice_get}
 use Rattle.card_core.specs.Plans.{AreRising}
 use Rattle.card_core.proofs.Ascending.{RisesTo, rises_more, rises_not}
 use Rattle.output_queued.specs.declared.coming.Coming.{Coming}
@@ -14,26 +14,11 @@ abbrev pub no_coming : Coming
 no_coming = record { slot = 0; cells = 0; fan = 0; level = 0 }
 
 module _ {X : Type 0} where
-  pub get_some : (xs : List X) (k : ℕ) (x d : X) → slice_get xs k ≡ Some x → slice_index_or xs k d ≡ x
-  get_some [] k x d is = absurd (cc)
-  get_some (y ∷ xs) zero x d is = same_Some y x is
-  get_some (y ∷ xs) (suc k) x d is = get_some xs k x d is
-
-  pub some_get : (xs : List X) (k : ℕ) (d : X) → k < length xs → slice_get xs k ≡ Some (slice_index_or xs k d)
-  some_get [] k d inside = absurd (omega arith)
-  some_get (y ∷ xs) zero d inside = refl
-  some_get (y ∷ xs) (suc k) d inside = some_get xs k d (omega arith)
-
-  pub some_lt : (xs : List X) (k : ℕ) (x : X) → slice_get xs k ≡ Some x → k < length xs
-  some_lt [] k x is = absurd (cc)
-  some_lt (y ∷ xs) zero x is = omega arith
-  some_lt (y ∷ xs) (suc k) x is = omega (arith, some_lt xs k x is)
-
   -- what holds of those before a place, and of the one there
   pub each_more : (P : X → Type 0) (xs : List X) (i : ℕ) (d : X) → ((k : ℕ) (x : X) → k < i → slice_get xs k ≡ Some x → P x) → P (slice_index_or xs i d)
       → (k : ℕ) (x : X) → k < i + 1 → slice_get xs k ≡ Some x → P x
   each_more P xs i d before here k x below is = elim (cases_eq k i) [
-    | inl same ↦ subst P (get_some xs i x d (ap (slice_get xs) (sym same) ∙ is)) here
+    | inl same ↦ subst P (get_or_from_slice_get xs i x d (ap (slice_get xs) (sym same) ∙ is)) here
     | inr other ↦ before k x (omega arith) is
   ]
 

@@ -8,16 +8,10 @@ module _ {X : Type 0} where
   pub found-at : (d : X) (xs : List X) (i : ℕ) (x : X) → i < length xs → x ≡ slice_index_or xs i x → x ≡ slice_index_or xs i d
   found-at d xs i x inside is = is ∙ get_or_default xs i x d inside
 
-  pub set-here : (d : X) (xs : List X) (i : ℕ) (x : X) → i < length xs → slice_index_or (slice_set xs i x) i d ≡ x
-  set-here d xs i x inside = get_or-set_same xs i x d inside
-
-  pub set-other : (d : X) (xs : List X) (i : ℕ) (x : X) (k : ℕ) → (k ≡ i → ⊥) → slice_index_or (slice_set xs i x) k d ≡ slice_index_or xs k d
-  set-other d xs i x k other = get_or-set_other xs i k x d other
-
   -- what holds of the new one at its place, and of the others, holds of all
   pub set-case : (d : X) (P : ℕ → X → Type 0) (xs : List X) (i : ℕ) (x : X) → i < length xs → P i x → (k : ℕ) → ((k ≡ i → ⊥) → P k (slice_index_or xs k d))
       → P k (slice_index_or (slice_set xs i x) k d)
   set-case d P xs i x inside here k others = elim (cases_eq k i) [
-    | inl same ↦ rw (same, set-here d xs i x inside) here
-    | inr other ↦ rw (set-other d xs i x k other) (others other)
+    | inl same ↦ rw (same, get_or-set_same xs i x d inside) here
+    | inr other ↦ rw (get_or-set_other xs i k x d other) (others other)
   ]

@@ -1,11 +1,11 @@
 -- The switch of a reference: what each input is to send.
 use Rattle.std.proofs.Common.{◌≡◌, ◌∙◌, ℕ, ◌<◌, List, [], map, length, slice_index_or, sym, ap, arith}
 use Rattle.std.proofs.lemmas.List.{get_or-map, length-map}
+use Rattle.std.proofs.lemmas.Option.{slice_get-get_or}
 use Rattle.card_core.specs.Plans.{Plan}
 use Rattle.output_queued.specs.declared.coming.Coming.{Coming}
 use Rattle.output_queued.specs.Switches.{card_of, no_card, card_for, IsSwitch, AreCards}
 use Rattle.output_queued.specs.Steps.{IsPart}
-use Rattle.output_queued.proofs.LookedAt.{some_get}
 use Rattle.output_queued.proofs.Sources.{good-card, ports-are}
 
 pub part_of : (ports depth : ℕ) (inputs : List (List Coming)) → IsSwitch ports depth inputs → (i : ℕ) → i < ports
@@ -17,7 +17,7 @@ part_of ports depth inputs is i inside =
       size = is.size;
       deep = is.deep;
       depth_in = is.depth_in;
-      input = is.each i (slice_index_or inputs i []) (some_get inputs i [] (omega arith));
+      input = is.each i (slice_index_or inputs i []) (slice_get-get_or inputs i [] (omega arith));
     }
 
 pub card_at : (ports depth : ℕ) (inputs : List (List Coming)) (i : ℕ) → i < length inputs

@@ -1,7 +1,8 @@
 use Rattle.std.proofs.Common.{◌≡◌, ◌∙◌, [], map, slice_index_or, refl, ap, sym, subst, arith}
 use Rattle.std.proofs.lemmas.List.{get_or-map, length-map}
+use Rattle.std.proofs.lemmas.Option.{slice_get-get_or, slice_get_within}
 use Rattle.output_queued.specs.Switches.{IsInput}
-use Rattle.output_queued.proofs.LookedAt.{some_get, some_lt, each_more}
+use Rattle.output_queued.proofs.LookedAt.{each_more}
 use Rattle.output_queued.proofs.checking.are_inputs.Goals as goal
 
 pub returns-then-not-is_input : goal.returns-then-not-is_input
@@ -15,7 +16,7 @@ returns-then-not-is_input c = (
       let here : slice_index_or (map (λ list. list.items) items) i [] ≡ c.deref.result.now =
       get_or-map (λ list. list.items) items i c.coming-item.result [] inside ∙ ap (λ list. list.items) (sym c.coming-item.is) ∙ sym c.deref.ensures.value in
       let is = subst (IsInput c.args.n) here
-      (all i (slice_index_or (map (λ list. list.items) items) i []) (some_get (map (λ list. list.items) items) i [] (omega arith))) in
+      (all i (slice_index_or (map (λ list. list.items) items) i []) (slice_get-get_or (map (λ list. list.items) items) i [] (omega arith))) in
       let yes_ = c.is_input.ensures.1 is in
       let f = c.if-not-is_input.true in
       absurd (cc),
@@ -34,7 +35,7 @@ loop-coming-preserved c =
 pub returns : goal.returns
 returns c = (
   λ yes_ k coming there. c.loop-coming.invariant k coming
-      (let l = some_lt (map (λ list. list.items) c.args.inputs.now) k coming there in let long = length-map c.args.inputs.now (λ list. list.items) in
+      (let l = slice_get_within (map (λ list. list.items) c.args.inputs.now) k coming there in let long = length-map c.args.inputs.now (λ list. list.items) in
       omega arith) there,
   λ all. refl,
 )

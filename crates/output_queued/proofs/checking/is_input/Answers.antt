@@ -1,8 +1,9 @@
 use Rattle.std.proofs.Common.{◌+◌, ◌<◌, map, arith, refl, sym, subst, slice_index_or}
 use Rattle.std.proofs.lemmas.List.{length-map}
+use Rattle.std.proofs.lemmas.Option.{slice_get-get_or, slice_get_within}
 use Rattle.card_core.proofs.Ascending.{RisesTo, rises_none, rises_all}
 use Rattle.output_queued.specs.Switches.{planned_of, IsComing}
-use Rattle.output_queued.proofs.LookedAt.{no_coming, some_get, some_lt, each_more, rising_of, rises_on, rises_no_more}
+use Rattle.output_queued.proofs.LookedAt.{no_coming, each_more, rising_of, rises_on, rises_no_more}
 use Rattle.output_queued.proofs.checking.is_input.Goals as goal
 
 pub returns : goal.returns
@@ -10,7 +11,7 @@ returns c =
     let coming = c.args.coming.now in
     let long = length-map coming planned_of in (
       λ yes_. record {
-        packets = λ k d there. c.loop-packet.invariant.each k d (let l = some_lt coming k d there in omega arith) there;
+        packets = λ k d there. c.loop-packet.invariant.each k d (let l = slice_get_within coming k d there in omega arith) there;
         rising = rising_of coming
             (rises_all (map planned_of coming) c.loop-packet.packet-index c.loop-packet.least (omega arith) c.loop-packet.invariant.rises);
       },
@@ -35,7 +36,7 @@ returns-then-not-is_coming c = (
   λ no_. absurd (cc),
   λ all.
       let yes_ = c.is_coming.ensures.1
-      (all.packets c.loop-packet.packet-index _ (some_get c.args.coming.now c.loop-packet.packet-index _ c.loop-packet-test.true)) in
+      (all.packets c.loop-packet.packet-index _ (slice_get-get_or c.args.coming.now c.loop-packet.packet-index _ c.loop-packet-test.true)) in
       let f = c.if-not-is_coming.true in
       absurd (cc),
 )

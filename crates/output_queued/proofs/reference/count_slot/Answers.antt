@@ -2,12 +2,13 @@ use Rattle.std.proofs.Common.{◌≡◌, ◌∙◌, ◌↔◌, ℕ, ◌<◌, ◌
 use Rattle.std.proofs.Common.{if◌then◌else◌}
 use Rattle.std.specs.Prelude.{is_some}
 use Rattle.std.proofs.lemmas.Bool.{cases_eq}
+use Rattle.std.proofs.lemmas.List.{get_or-set_same, get_or-set_other}
 use Rattle.rotating_pick.specs.PortSets.{Has}
 use Rattle.slot_match.specs.Matches.{fed_of}
 use Rattle.output_queued.specs.declared.tally.Tally.{Tally}
 use Rattle.output_queued.specs.NotingSteps.{no_tally, tally_at, IsUnserved}
 use Rattle.output_queued.specs.Steps.{Ticks}
-use Rattle.output_queued.proofs.Places.{found-at, set-here, set-other, set-case}
+use Rattle.output_queued.proofs.Places.{found-at, set-case}
 use Rattle.output_queued.proofs.reference.count_slot.Goals as goal
 use Rattle.output_queued.proofs.reference.count_slot.Goals.{then-not-is_behind, else-not-is_behind}
 
@@ -26,8 +27,8 @@ unserved-set : (old new : ℕ) (now : List Tally) (out : ℕ) (tally : Tally) �
     → ((j : ℕ) → (j ≡ out → ⊥) → Has new j ↔ Has old j) → (Has new out ↔ (tally.ran < tally.came)) → IsUnserved new (slice_set now out tally)
 unserved-set old new now out tally below is low others mine = record {
   members = λ j. elim (cases_eq j out) [
-    | inl same ↦ rw (same, set-here no_tally now out tally below, length-set now out tally) (λ m. (below, mine.0 m), λ both. mine.1 both.1)
-    | inr other ↦ rw (set-other no_tally now out tally j other, length-set now out tally)
+    | inl same ↦ rw (same, get_or-set_same now out tally no_tally below, length-set now out tally) (λ m. (below, mine.0 m), λ both. mine.1 both.1)
+    | inr other ↦ rw (get_or-set_other now out j tally no_tally other, length-set now out tally)
         (λ m. (is.members j).0 ((others j other).0 m), λ both. (others j other).1 ((is.members j).1 both))
   ];
   behind = λ j. set-case no_tally (λ k t. t.ran ≤ t.came) now out tally below low j (λ other. is.behind j);
@@ -65,11 +66,12 @@ loop-output-preserved c =
     record {
       long = length-set now out new ∙ inv.long;
       inside = λ j has. inv.inside j ((rest j).0 has).1;
-      left = λ j has. set-other no_tally now out new j ((rest j).0 has).0 ∙ inv.left j ((rest j).0 has).1;
+      left = λ j has. get_or-set_other now out j new no_tally ((rest j).0 has).0 ∙ inv.left j ((rest j).0 has).1;
       done = λ j has lacks. set-case no_tally
           (λ k t. Ticks c.args.slot (if is_some (fed_of c.args.matched.now k) then 1 else 0) (tally_at old k) t) now out new below made j
           (λ other. inv.done j has (λ on. lacks ((rest j).1 (other, on))));
-      others = λ j lacks. set-other no_tally now out new j (λ e. lacks (subst (Has c.args.unserved) (sym e) (inv.inside out member))) ∙ inv.others j lacks;
+      others = λ j lacks.
+          get_or-set_other now out j new no_tally (λ e. lacks (subst (Has c.args.unserved) (sym e) (inv.inside out member))) ∙ inv.others j lacks;
       unserved = elim c.if-not-is_behind.branch [
         | then-not-is_behind w ↦
             let gone = w.without-unserved.ensures.members in

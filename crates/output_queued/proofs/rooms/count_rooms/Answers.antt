@@ -1,12 +1,13 @@
 use Rattle.std.proofs.Common.{◌≡◌, ◌∙◌, ◌+◌, ◌<◌, ◌^◌, ℕ, List, [], ◌∷◌, ◌++◌, map, arith, refl, sym, ap, subst, take, length, slice_index_or}
 use Rattle.std.proofs.lemmas.List.{take_more, take_all, map-append}
+use Rattle.std.proofs.lemmas.Option.{slice_get-get_or}
 use Rattle.card_core.specs.declared.plan.Planned.{Planned}
 use Rattle.card_core.specs.InputQueues.{QueueRooms}
 use Rattle.card_core.specs.StateSteps.{HasRooms}
 use Rattle.card_core.proofs.Plenty.{few_up}
 use Rattle.output_queued.specs.declared.coming.Coming.{Coming}
 use Rattle.output_queued.specs.Switches.{planned_of}
-use Rattle.output_queued.proofs.LookedAt.{no_coming, some_get}
+use Rattle.output_queued.proofs.LookedAt.{no_coming}
 use Rattle.output_queued.proofs.rooms.count_rooms.Goals as goal
 
 next : (n m i : ℕ) (packets : List Coming) (d : Coming) (old new : QueueRooms) → m ≡ n → i < length packets
@@ -30,13 +31,13 @@ count-requires-clause-few c =
 pub count-requires-clause-level : goal.count-requires-clause-level
 count-requires-clause-level c =
     (c.requires.packets c.loop-packet.packet-index (slice_index_or c.args.coming.now c.loop-packet.packet-index no_coming)
-    (some_get c.args.coming.now c.loop-packet.packet-index no_coming c.loop-packet-test.true)).level
+    (slice_get-get_or c.args.coming.now c.loop-packet.packet-index no_coming c.loop-packet-test.true)).level
 
 pub count-requires-clause-fan : goal.count-requires-clause-fan
 count-requires-clause-fan c =
     subst (λ n. (slice_index_or c.args.coming.now c.loop-packet.packet-index no_coming).fan < 2 ^ n) (sym c.loop-packet.invariant.ports)
     (c.requires.packets c.loop-packet.packet-index (slice_index_or c.args.coming.now c.loop-packet.packet-index no_coming)
-    (some_get c.args.coming.now c.loop-packet.packet-index no_coming c.loop-packet-test.true)).fan
+    (slice_get-get_or c.args.coming.now c.loop-packet.packet-index no_coming c.loop-packet-test.true)).fan
 
 pub loop-packet-init : goal.loop-packet-init
 loop-packet-init c = record {

@@ -1,9 +1,9 @@
 use Rattle.std.proofs.Common.{◌≡◌, ◌≢◌, ◌∙◌, ◌<◌, ◌++◌, ◌∷◌, [], Some, true, false, map, length, slice_get, slice_index_or, refl, ap, sym, arith}
 use Rattle.std.proofs.lemmas.Bool.{eq-eqb, ne_eqb}
 use Rattle.std.proofs.lemmas.List.{append-nil}
+use Rattle.std.proofs.lemmas.Option.{slice_get-get_or}
 use Rattle.card_core.specs.Plans.{no_packet}
 use Rattle.card_core.specs.Queues.{is_routed}
-use Rattle.output_queued.proofs.LookedAt.{some_get}
 use Rattle.reference_run.specs.Meeting.{coming_of}
 use Rattle.reference_run.proofs.ToldInputs.{told-more}
 use Rattle.reference_run.proofs.making.coming_in.Goals as goal
@@ -14,7 +14,7 @@ coming_of-requires c =
     let ps = c.deref-packet-items.result.now in
     let i = c.loop-packet.packet-index in
     let there : slice_get c.args.card.now.packets.items i ≡ Some (slice_index_or ps i no_packet) =
-    ap (λ xs. slice_get xs i) (sym c.deref-packet-items.ensures.value) ∙ some_get ps i no_packet c.loop-packet-test.true in
+    ap (λ xs. slice_get xs i) (sym c.deref-packet-items.ensures.value) ∙ slice_get-get_or ps i no_packet c.loop-packet-test.true in
     let planned = c.requires.packets i (slice_index_or ps i no_packet) there in
     let len = planned.forwarded (λ none. let e = c.is_empty.ensures.zero.1 none in let f = c.if-not-is_empty.true in absurd (cc)) in
     omega arith

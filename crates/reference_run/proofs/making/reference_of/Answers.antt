@@ -1,7 +1,7 @@
 use Rattle.std.proofs.Common.{◌≡◌, ◌∙◌, ◌+◌, ◌<◌, ℕ, zero, suc, List, [], ◌∷◌, ◌++◌, map, take, length, slice_get, slice_index_or, Some, refl, ap, sym}
 use Rattle.std.proofs.Common.{subst, arith}
 use Rattle.std.specs.Prelude.{Result, Ok, Err, IfOk}
-use Rattle.std.proofs.lemmas.List.{map-append, length-map, take_more, take_all}
+use Rattle.std.proofs.lemmas.List.{map-append, length-map, take_all, map_more}
 use Rattle.std.proofs.lemmas.Simd.{map-map}
 use Rattle.card_core.specs.Plans.{plan_of}
 use Rattle.switch_plan.specs.GoodPlans.{SwitchPlan, switch_plan_of}
@@ -18,10 +18,6 @@ get-mapped : {X Y : Type 0} (f : X → Y) (xs : List X) (i : ℕ) (d : X) → i 
 get-mapped f [] i d inside = absurd (omega arith)
 get-mapped f (x ∷ xs) zero d inside = refl
 get-mapped f (x ∷ xs) (suc i) d inside = get-mapped f xs i d (omega arith)
-
-mapped-more : {X Y : Type 0} (f : X → Y) (xs : List X) (i : ℕ) (d : X) → i < length xs → map f (take (i + 1) xs) ≡ map f (take i xs)
-    ++ f (slice_index_or xs i d) ∷ []
-mapped-more f xs i d inside = ap (map f) (take_more xs i d inside) ∙ map-append f (take i xs) (slice_index_or xs i d ∷ [])
 
 made-of : {E : Type 0} (result : Result State E) (plan : SwitchPlan) (n : ℕ) (lists : List (List Coming)) → n ≡ ports_of plan
     → lists ≡ map coming_in plan.cards → IfOk result (λ r. r.ports ≡ n) → IfOk result (λ r. r.depth ≡ plan.depth)
@@ -55,7 +51,7 @@ loop-card-preserved c =
     ∙ map-append (λ list. list.items) c.loop-card.coming.items (new ∷ [])
     ∙ ap (λ xs. xs ++ new.items ∷ []) c.loop-card.invariant
     ∙ ap (λ y. map (λ x. coming_in (plan_of x)) (take i items) ++ y ∷ []) (c.in_ok-coming_in.ensures ∙ ap (λ x. coming_in (plan_of x)) here)
-    ∙ sym (mapped-more (λ x. coming_in (plan_of x)) items i card inside)
+    ∙ sym (map_more (λ x. coming_in (plan_of x)) items i card inside)
 
 pub make-requires : goal.make-requires
 make-requires c =

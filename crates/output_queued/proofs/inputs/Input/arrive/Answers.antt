@@ -1,12 +1,12 @@
 use Rattle.std.proofs.Common.{rules, ◌≡◌, ◌∙◌, ◌+◌, ◌<◌, List, map, length, Some, None, slice_get, ap, sym, subst, arith, if◌then◌else◌}
 use Rattle.std.specs.Option.{option_map}
+use Rattle.std.proofs.lemmas.Option.{slice_get_within}
 use Rattle.card_core.specs.StateSteps.{next_in}
 use Rattle.output_queued.specs.declared.coming.Coming.{Coming}
 use Rattle.output_queued.specs.Switches.{planned_of, card_for}
 use Rattle.output_queued.specs.NotingSteps.{Source, IsBefore}
 use Rattle.output_queued.specs.Steps.{IsPart, HasEntered}
 use Rattle.output_queued.specs.contracts.inputs.Input.{the_view}
-use Rattle.output_queued.proofs.LookedAt.{some_lt}
 use Rattle.output_queued.proofs.Sources.{few_coming, none_at, one_at, may_at}
 use Rattle.output_queued.proofs.inputs.Input.arrive.Goals as goal
 use Rattle.output_queued.proofs.inputs.Input.arrive.Goals.{then-admitted, else-admitted}
@@ -41,7 +41,7 @@ overflow_add-self c =
     let s0 = the_view c.self.inside in
     let there : slice_get s0.coming s0.next ≡ Some c.in_ok-packet.packet =
     ap (λ (cs : List Coming). slice_get cs c.self.inside.next) (sym c.deref.ensures.value) ∙ c.in_ok-packet.ensures.there.0 in
-    let inside : s0.next < length s0.coming = some_lt s0.coming s0.next c.in_ok-packet.packet there in
+    let inside : s0.next < length s0.coming = slice_get_within s0.coming s0.next c.in_ok-packet.packet there in
     let few = few_coming n depth s0.coming (subst (λ (s : Source). IsPart n depth s.coming) (sym c.self.view_is) part) in
     omega arith
 
