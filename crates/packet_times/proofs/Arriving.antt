@@ -4,7 +4,7 @@ use Rattle.std.proofs.Common.{Some, None, refl, sym, ap, subst, arith, inl, inr,
 use Rattle.std.specs.Option.{option_map}
 use Rattle.std.proofs.lemmas.Bool.{cases_eq, cases_lt, eqb-true, eq-eqb}
 use Rattle.std.proofs.lemmas.List.{map-append, take_more}
-use Rattle.std.proofs.lemmas.Option.{same_Some, slice_get-get_or, none-some}
+use Rattle.std.proofs.lemmas.Option.{same_Some, slice_get-get_or, none-some, slice_get_within}
 use Rattle.std.proofs.Math.ListN.{get_or-append}
 use Rattle.std.specs.Prelude.{Result, IsErr, OnOk}
 use Rattle.std.proofs.lemmas.Result.{IfOk-from_err}
@@ -43,11 +43,6 @@ none_in k (q ∷ ps) t e m p there now = go (λ is n at. none_in (k + 1) ps t is
   go later false test is zero at = let same = ap (λ (y : Planned). y.arrival) (same_Some q p at) in let yes' = eq-eqb q.arrival t (same ∙ now) in absurd (cc)
   go later false test is (suc n) at = later is n at
 
-some_in : (ps : List Planned) (m : ℕ) (p : Planned) → slice_get ps m ≡ Some p → m < length ps
-some_in [] m p there = absurd (none-some p there)
-some_in (q ∷ ps) zero p there = omega arith
-some_in (q ∷ ps) (suc m) p there = let low = some_in ps m p there in omega arith
-
 module _ (ps : List Planned) (t a : ℕ) (is : IsNext ps t a) where
   -- as many come before one slot
   pub next-unique : (b : ℕ) → IsNext ps t b → a ≡ b
@@ -79,7 +74,7 @@ module _ (ps : List Planned) (t a : ℕ) (is : IsNext ps t a) where
   -- where one arrives, one more comes: it
   pub next-one : AreRising ps → (b m : ℕ) (p : Planned) → IsNext ps (t + 1) b → slice_get ps m ≡ Some p → p.arrival ≡ t → (b ≡ a + 1) × (m ≡ a)
   next-one rising b m p soon there now =
-      let inside = some_in ps m p there in
+      let inside = slice_get_within ps m p there in
       let from : a ≤ m = elim (cases_lt m a) [ inl less ↦ let low = is.before m p there less in absurd (omega arith) | inr le ↦ le ] in
       let below : m < b = elim (cases_lt m b) [ inl less ↦ less | inr le ↦ let high = soon.after m p there le in absurd (omega arith) ] in
       let first : m ≡ a = elim (cases_eq m a) [
@@ -139,7 +134,7 @@ module _ (plan : Plan) (old new : Input) (served : List (Option Served)) (was : 
       let next = next-one plan.packets
       (length served) old.counters.next was.counts.next was.counts.good.rising new.counters.next at.place here.packet counts.next at.there at.now in
       let place : slice_get plan.packets old.counters.next ≡ Some here.packet = ap (slice_get plan.packets) (sym next.1) ∙ at.there in
-      let inside = some_in plan.packets old.counters.next here.packet place in
+      let inside = slice_get_within plan.packets old.counters.next here.packet place in
       let own : slice_index_or plan.packets old.counters.next no_packet ≡ here.packet =
       same_Some _ _ (sym (slice_get-get_or plan.packets old.counters.next no_packet inside) ∙ place) in
       let f = was_admitted plan served in

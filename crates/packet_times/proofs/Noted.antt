@@ -3,7 +3,7 @@ use Rattle.std.proofs.Common.{◌≡◌, ◌∙◌, ℕ, zero, suc, ◌+◌, ◌
 use Rattle.std.proofs.Common.{arith, inl, inr, slice_set, slice_index_or, replicate, get_or-set_same, get_or-set_other, length-set}
 use Rattle.std.specs.List.{range_with_len}
 use Rattle.std.proofs.lemmas.Bool.{cases_eq}
-use Rattle.std.proofs.lemmas.List.{length-replicate, get_or-map, length-map}
+use Rattle.std.proofs.lemmas.List.{length-replicate, get_or-map, length-map, map-id}
 use Rattle.std.proofs.lemmas.List.Elements.{filter-append}
 use Rattle.std.proofs.lemmas.List.FromFn.{get_or-map-range_with_len, length-map-range_with_len, map-range_with_len_more}
 use Rattle.std.proofs.Math.ListN.{get_or-append}
@@ -24,6 +24,7 @@ use Rattle.run_laws.proofs.Base.{decision-same, good-card}
 use Rattle.packet_departures.specs.Departures.{Flow, is_end_of, ends_of}
 use Rattle.packet_times.specs.NotingSteps.{Input, Times, no_input, flow_place, IsNoted, IsLastMatch, HasNoted}
 use Rattle.packet_times.specs.Steps.{end_in, HasEnds, AreNoted}
+use Rattle.rotating_pick.proofs.Tables.{get_or-same}
 
 pub parts-first : (scheduler : Scheduler) (plan : SwitchPlan) (i : ℕ) → parts_under scheduler plan i 0 ≡ []
 unfolding before_under
@@ -33,10 +34,6 @@ parts-suc : (scheduler : Scheduler) (plan : SwitchPlan) (i t : ℕ) → parts_un
     ++ served_of (decision_under scheduler (setup_for plan) (posts_under scheduler plan) t).matched i ∷ []
 unfolding before_under
 parts-suc scheduler plan i t = ap (λ decision. parts_under scheduler plan i t ++ served_of decision.matched i ∷ []) (decision-same scheduler plan t)
-
-map-id : (xs : List ℕ) → map (λ x. x) xs ≡ xs
-map-id [] = refl
-map-id (x ∷ xs) = ap (λ ys. x ∷ ys) (map-id xs)
 
 pub range_more : (n : ℕ) → range_with_len 0 (n + 1) ≡ range_with_len 0 n ++ n ∷ []
 range_more n = sym (map-id (range_with_len 0 (n + 1))) ∙ map-range_with_len_more (λ x. x) 0 n n (omega arith)
@@ -132,11 +129,6 @@ are-noted scheduler plan slot times was = record {
 }
 
 -- ---- before slot 0
-pub get_or-replicate : {A : Type 0} (n i : ℕ) (x : A) → slice_index_or (replicate n x) i x ≡ x
-get_or-replicate zero i x = refl
-get_or-replicate (suc n) zero x = refl
-get_or-replicate (suc n) (suc i) x = get_or-replicate n i x
-
 pub first-noted : (scheduler : Scheduler) (plan : SwitchPlan) (times : Times) → IsGood plan → AreNoted scheduler plan 0 0 times.inputs
     → times.ends ≡ replicate (FLOWS_PER_INPUT * (ports_of plan * ports_of plan)) [] → times.matched ≡ []
     → HasNoted scheduler plan times 0
@@ -146,17 +138,11 @@ first-noted scheduler plan times good inputs ends none = record {
   each = λ i inside. inputs.left i inside (omega arith);
   flows = ap length ends ∙ length-replicate (FLOWS_PER_INPUT * (ports_of plan * ports_of plan)) [];
   ends = λ flow flows. ap (λ lists. slice_index_or lists (flow_place (ports_of plan) flow) []) ends
-      ∙ get_or-replicate (FLOWS_PER_INPUT * (ports_of plan * ports_of plan)) (flow_place (ports_of plan) flow) [];
+      ∙ get_or-same [] (FLOWS_PER_INPUT * (ports_of plan * ports_of plan)) (flow_place (ports_of plan) flow);
   last = none;
 }
 
 -- ---- the inputs of a plan
-pub replicate-more : {A : Type 0} (n : ℕ) (x : A) → replicate (n + 1) x ≡ replicate n x ++ x ∷ []
-replicate-more n x = let next : n + 1 ≡ suc n = omega arith in ap (λ k. replicate k x) next ∙ go n where
-  go : (n : ℕ) → replicate (suc n) x ≡ replicate n x ++ x ∷ []
-  go zero = refl
-  go (suc n) = ap (λ xs. x ∷ xs) (go n)
-
 module _ (plan : SwitchPlan) (cards : List CardPlan) (are : plan.cards ≡ map plan_of cards) where
   pub card-of : (i : ℕ) (default : CardPlan) → i < length cards → card_at plan i ≡ plan_of (slice_index_or cards i default)
   card-of i default inside = ap (λ cs. slice_index_or cs i no_plan) are ∙ get_or-map plan_of cards i default no_plan inside

@@ -1,10 +1,10 @@
 -- The places of flows, and what a slot adds to the ends of each.
-use Rattle.std.proofs.Common.{◌≡◌, ◌≢◌, ◌∙◌, ℕ, ◌+◌, ◌*◌, ◌/◌, ◌%◌, ◌<◌, ◌==◌, ◌&&◌, Bool, true, false, List, [], ◌∷◌, ◌++◌, length, Option, Some, None}
-use Rattle.std.proofs.Common.{refl, sym, ap, arith, inl, inr, slice_set, slice_index_or, get_or-set_same, get_or-set_other, length-set, if◌then◌else◌}
-use Rattle.std.proofs.lemmas.Bool.{cases_eq, eqb-true, eq-eqb}
+use Rattle.std.proofs.Common.{◌≡◌, ◌≢◌, ◌∙◌, ℕ, ◌+◌, ◌*◌, ◌<◌, ◌==◌, ◌&&◌, Bool, true, false, List, [], ◌∷◌, ◌++◌, length, Option, Some, None}
+use Rattle.std.proofs.Common.{refl, sym, ap, arith, slice_set, slice_index_or, get_or-set_same, get_or-set_other, length-set, if◌then◌else◌}
+use Rattle.std.proofs.lemmas.Bool.{eqb-true, eq-eqb}
 use Rattle.rotating_pick.specs.declared.limits.TheConstants.{LEVELS}
 use Rattle.std.proofs.lemmas.List.{append-nil}
-use Rattle.std.proofs.lemmas.Nat.{div-mul-add, mod-mul-add, mul-add-lt}
+use Rattle.std.proofs.lemmas.Nat.{mul-add-lt, same_from_place}
 use Rattle.rotating_pick.specs.declared.kinds.Kind.{Kind}
 use Rattle.rotating_pick.specs.declared.kinds.Kind.TheVariants.{Uni, Multi}
 use Rattle.reassembly.specs.declared.limits.TheConstants.{FLOWS_PER_INPUT}
@@ -12,7 +12,7 @@ use Rattle.cell_cutter.specs.declared.cell.Cell.{Cell}
 use Rattle.eslip_rounds.specs.Decisions.{is_kind}
 use Rattle.packet_departures.specs.Departures.{Flow, is_end_of}
 use Rattle.packet_times.specs.NotingSteps.{IsFlow, kind_place, flow_place}
-use Rattle.packet_times.specs.Steps.{end_in, ends_at, EndsAt, EndsNone, AddsEnd, AddsEnds, HasEnds}
+use Rattle.packet_times.specs.Steps.{ends_at, EndsAt, AddsEnd}
 
 pub kind_few : (k : Kind) → kind_place k < 2
 kind_few Uni = omega arith
@@ -24,12 +24,6 @@ kind_same Uni Multi e = absurd (omega arith)
 kind_same Multi Uni e = absurd (omega arith)
 kind_same Multi Multi e = refl
 
-pair_same : (n a b c d : ℕ) → b < n → d < n → a * n + b ≡ c * n + d → (a ≡ c) × (b ≡ d)
-pair_same n a b c d low less e = (
-  sym (div-mul-add a n b low) ∙ ap (λ x. x / n) e ∙ div-mul-add c n d less,
-  sym (mod-mul-add a n b low) ∙ ap (λ x. x % n) e ∙ mod-mul-add c n d less,
-)
-
 -- two flows at one place are one
 pub place-same : (ports : ℕ) (f g : Flow) → IsFlow ports f → IsFlow ports g → flow_place ports f ≡ flow_place ports g → f ≡ g
 place-same ports f g is are e =
@@ -38,7 +32,7 @@ place-same ports f g is are e =
     let low = is.level in
     let high = are.level in
     let pairs : ports * f.output + f.input ≡ ports * g.output + g.input = omega arith in
-    let pair = pair_same ports f.output f.input g.output g.input is.input are.input (omega (arith, pairs)) in
+    let pair = same_from_place f.output f.input g.output g.input ports is.input are.input (omega (arith, pairs)) in
     let level : f.level ≡ g.level = omega arith in
     let kind = kind_same f.kind g.kind (omega arith) in
     λ t. record { input = pair.1 t; output = pair.0 t; level = level t; kind = kind t }
@@ -79,17 +73,6 @@ end-same f g (Some cell) x y e =
     λ t. record { input = input t; output = e t; level = level t; kind = kind t }
 
 module _ (ports slot output : ℕ) (cell : Option Cell) (old new : List (List ℕ)) where
-  still : new ≡ old → (flow : Flow) → (b : Bool) → b ≡ false → ends_at ports new flow ≡ ends_at ports old flow ++ (if b then slot ∷ [] else [])
-  still same flow true not' = absurd (cc)
-  still same flow false not' = ap (λ ends. ends_at ports ends flow) same ∙ sym (append-nil (ends_at ports old flow))
-
-  pub adds-none : EndsNone ports output cell → new ≡ old → AddsEnd ports slot output cell old new
-  adds-none none same = record {
-    count = ap length same;
-    own = λ flow is goes. still same flow (is_end_of flow cell) (none flow is goes);
-    others = λ flow is other. ap (λ ends. ends_at ports ends flow) same;
-  }
-
   module _ (place : ℕ) (ends : EndsAt ports output cell place) (inside : place < length old)
       (set : new ≡ slice_set old place (slice_index_or old place [] ++ slot ∷ [])) where
     elsewhere : (flow : Flow) → flow_place ports flow ≢ place → ends_at ports new flow ≡ ends_at ports old flow
@@ -124,26 +107,6 @@ module _ (ports slot output : ℕ) (cell : Option Cell) (old new : List (List �
       others = λ flow is other. elsewhere flow
           (λ at. let same = place-same ports flow ends.flow is ends.is_flow (at ∙ ends.is) in other (ap (λ f. f.output) same ∙ ends.goes));
     }
-
--- ---- what crosses to all outputs
-module _ (ports slot : ℕ) (crosses : ℕ → Option Cell) (old : List (List ℕ)) where
-  pub adds-first : AddsEnds ports slot crosses 0 old old
-  adds-first = record { count = refl; done = λ flow is none. absurd (omega arith); left = λ flow is all. refl }
-
-  pub adds-more : (k : ℕ) (mid new : List (List ℕ)) → AddsEnds ports slot crosses k old mid → AddsEnd ports slot k (crosses k) mid new
-      → AddsEnds ports slot crosses (k + 1) old new
-  adds-more k mid new were adds = record {
-    count = adds.count ∙ were.count;
-    done = λ flow is less. elim (cases_eq flow.output k) [
-      | inl e ↦ adds.own flow is e ∙ ap (λ ends. ends ++ end_in slot flow (crosses k)) (were.left flow is (omega arith))
-          ∙ ap (λ j. ends_at ports old flow ++ end_in slot flow (crosses j)) (sym e)
-      | inr ne ↦ adds.others flow is ne ∙ were.done flow is (omega arith)
-    ];
-    left = λ flow is less. adds.others flow is (λ e. absurd (omega arith)) ∙ were.left flow is (omega arith);
-  }
-
-  pub adds-all : (new : List (List ℕ)) → AddsEnds ports slot crosses ports old new → HasEnds ports slot crosses old new
-  adds-all new were = record { count = were.count; each = λ flow is. were.done flow is is.output }
 
 all_true : (a b c d : Bool) → a ≡ true → b ≡ true → c ≡ true → d ≡ true → a && (b && c && d) ≡ true
 all_true a b c d p q r s = cc

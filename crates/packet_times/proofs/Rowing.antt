@@ -1,8 +1,8 @@
 -- The rows of a packet, output by output, and those of the packets of an input.
-use Rattle.std.proofs.Common.{◌≡◌, ◌≢◌, ◌∙◌, ℕ, ◌+◌, ◌<◌, ◌==◌, ◌&&◌, not, nat_lt, Bool, true, false, List, [], ◌∷◌, ◌++◌, map, filter, take, length}
+use Rattle.std.proofs.Common.{◌≡◌, ◌≢◌, ◌∙◌, ℕ, ◌+◌, ◌<◌, ◌&&◌, not, Bool, true, false, List, [], ◌∷◌, ◌++◌, map, filter, take, length}
 use Rattle.std.proofs.Common.{Option, Some, None, slice_get, slice_index_or, refl, sym, ap, subst, arith, append_assoc, zero-add, if◌then◌else◌}
 use Rattle.std.specs.List.{flat_map, range_with_len, enumerate_from}
-use Rattle.std.proofs.lemmas.Bool.{eq-eqb, ne_eqb}
+use Rattle.std.proofs.lemmas.Bool.{eq-eqb, ne_eqb, cond-true}
 use Rattle.std.proofs.lemmas.List.{append-nil, map-append, take_more, take_all}
 use Rattle.std.proofs.lemmas.List.Concat.{flat_map-append}
 use Rattle.std.proofs.lemmas.List.Elements.{filter-append}
@@ -21,7 +21,7 @@ use Rattle.packet_departures.specs.Departures.{departure_under}
 use Rattle.packet_times.specs.declared.state.PacketState.{PacketState}
 use Rattle.packet_times.specs.declared.state.PacketState.TheVariants.{Forwarded, Dropped, Unrouted, Oversize}
 use Rattle.packet_times.specs.NotingSteps.{was_admitted}
-use Rattle.packet_times.specs.Rows.{row_text, routed_row, state_of, departure_if, outputs_in, packet_rows}
+use Rattle.packet_times.specs.Rows.{row_text, routed_row, state_of, departure_if, packet_rows}
 use Rattle.packet_times.specs.WalkingSteps.{row_to, rows_to}
 use Rattle.packet_times.proofs.Noted.{range_more}
 
@@ -36,10 +36,6 @@ departed false a false d = refl
 filter-one : (fan n : ℕ) (b : Bool) → has fan n ≡ b → filter (has fan) (n ∷ []) ≡ (if b then n ∷ [] else [])
 filter-one fan n true e = rw e refl
 filter-one fan n false e = rw e refl
-
-routed-rows : {A : Type 0} (b : Bool) (x y : A) → b ≡ true → (if b then x else y) ≡ x
-routed-rows true x y e = refl
-routed-rows false x y e = absurd (cc)
 
 module _ (scheduler : Scheduler) (plan : SwitchPlan) (slots i k : ℕ) (p : Planned) where
   -- a row of what is known of the packet
@@ -83,7 +79,7 @@ module _ (scheduler : Scheduler) (plan : SwitchPlan) (slots i k : ℕ) (p : Plan
       (sym (rows-more n false (ne_eqb _ 1 none) ∙ append-nil (rows_to scheduler plan slots i k p n)))
 
   pub rows-all : p.fan ≢ 0 → rows_to scheduler plan slots i k p (ports_of plan) ≡ packet_rows scheduler plan slots i k p
-  rows-all some = sym (routed-rows (is_routed p) (rows_to scheduler plan slots i k p (ports_of plan)) _ (ap not (ne_eqb p.fan 0 some)))
+  rows-all some = sym (cond-true (is_routed p) (rows_to scheduler plan slots i k p (ports_of plan)) _ (ap not (ne_eqb p.fan 0 some)))
 
 -- ---- a packet more
 module _ (g : ℕ → Planned → List (List (List ℕ))) (ps : List Planned) (old now : List ℕ) where

@@ -1,8 +1,7 @@
 -- The packets of an input, one after the other: what of each is counted, and its departures.
-use Rattle.std.proofs.Common.{◌≡◌, ◌≢◌, ◌∙◌, ℕ, ◌+◌, ◌*◌, ◌^◌, ◌<◌, ◌≤◌, ◌==◌, ◌&&◌, nat_lt, Bool, true, false, List, [], length, take, Some, slice_get}
+use Rattle.std.proofs.Common.{◌≡◌, ◌∙◌, ℕ, ◌+◌, ◌^◌, ◌<◌, ◌≤◌, ◌==◌, ◌&&◌, Bool, true, false, List, [], length, take, Some, slice_get}
 use Rattle.std.proofs.Common.{slice_index, slice_index_or, refl, sym, ap, subst, arith, inl, inr, replicate, length-take, if◌then◌else◌}
-use Rattle.std.specs.Prelude.{count_by}
-use Rattle.std.proofs.lemmas.Bool.{cases_eq, eqb-true, eq-eqb, lt-ltb}
+use Rattle.std.proofs.lemmas.Bool.{cases_eq, eqb-true, eq-eqb, lt-ltb, both_ways}
 use Rattle.std.proofs.lemmas.List.{get_or_default, length-replicate}
 use Rattle.std.proofs.lemmas.List.Sums.{count_by-le-length, count_by_more_yes, count_by_more_no}
 use Rattle.std.proofs.lemmas.Nat.Bits.{bit_at-pow_other}
@@ -11,10 +10,11 @@ use Rattle.rotating_pick.specs.PortSets.{Has}
 use Rattle.rotating_pick.specs.declared.kinds.Kind.{Kind}
 use Rattle.rotating_pick.specs.declared.kinds.Kind.TheVariants.{Uni, Multi}
 use Rattle.rotating_pick.specs.declared.limits.TheConstants.{LEVELS, MAX_PORTS}
+use Rattle.rotating_pick.proofs.Tables.{get_or-same}
 use Rattle.eslip_rounds.specs.Schedulers.{Scheduler}
 use Rattle.slot_histories.specs.Tests.{has}
 use Rattle.card_core.specs.declared.plan.Planned.{Planned}
-use Rattle.card_core.specs.Plans.{Queue, OfOutput, OfLevel, IsPlanned, is_queue, queue_of, level_of, kind_of, last_port, no_packet}
+use Rattle.card_core.specs.Plans.{OfOutput, OfLevel, IsPlanned, is_queue, queue_of, level_of, kind_of, last_port, no_packet}
 use Rattle.card_core.proofs.Arriving.{is_queue-refl}
 use Rattle.card_core.proofs.Ascending.{some_lt}
 use Rattle.card_core.proofs.Passing.{is_queue-same}
@@ -27,10 +27,9 @@ use Rattle.run_laws.proofs.Base.{good-card, served-length}
 use Rattle.packet_departures.specs.Departures.{Flow, flow_of, ends_of, goes_by, earlier_by, departure_under}
 use Rattle.packet_times.specs.declared.going.TheConstants.{MOST_FLOWS}
 use Rattle.packet_times.specs.declared.walk.Outcome.{Outcome}
-use Rattle.packet_times.specs.NotingSteps.{Input, Times, no_input, IsFlow, IsNoted, flow_place, kind_place, was_admitted, HasNoted}
+use Rattle.packet_times.specs.NotingSteps.{Input, Times, no_input, IsFlow, IsNoted, flow_place, was_admitted, HasNoted}
 use Rattle.packet_times.specs.WalkingSteps.{own_place, one_more, IsCounted, HasGone, IsOutcome}
 use Rattle.packet_times.proofs.Places.{kind_few, kind_same}
-use Rattle.packet_times.proofs.Noted.{get_or-replicate}
 use Rattle.packet_times.proofs.Told.{admitted-at}
 
 -- ---- the queue of a packet
@@ -86,18 +85,11 @@ goes-none true true false d e = refl
 goes-none true false c d e = refl
 goes-none false b c d e = refl
 
-not-both : (b : Bool) → b ≡ true → b ≡ false → ⊥
-not-both true e f = absurd (cc)
-not-both false e f = absurd (cc)
-
 -- ---- one packet more
 module _ (scheduler : Scheduler) (plan : SwitchPlan) (slots k : ℕ) (p : Planned) (good : IsGood plan) where
   module _ (flow : Flow) (is : IsFlow (ports_of plan) flow) (at : slice_get (card_at plan flow.input).packets k ≡ Some p) where
     packets : List Planned
     packets = (card_at plan flow.input).packets
-
-    test : Planned → Bool
-    test = goes_by scheduler plan slots flow
 
     inside : k < length (card_at plan flow.input).packets
     inside = some_lt (card_at plan flow.input).packets k p at
@@ -163,7 +155,7 @@ module _ (scheduler : Scheduler) (plan : SwitchPlan) (slots k : ℕ) (p : Planne
           let there : has p.fan flow.output ≡ true = ap (has p.fan) output ∙ eq-eqb _ 1 member in
           let goes' = goes-all _ (is_queue (queue_to flow.output flow.level flow.kind) (queue_of p)) _ (has p.fan flow.output) admitted
           (ap (λ q. is_queue q (queue_of p)) queue ∙ is_queue-refl (queue_of p)) there in
-          not-both (goes_by scheduler plan slots flow p) goes' goes)
+          both_ways (goes_by scheduler plan slots flow p) goes goes')
           ∙ was
           ∙ sym (more-no goes) where
             at' : slice_get (card_at plan flow.input).packets k ≡ Some p
@@ -199,7 +191,7 @@ module _ (scheduler : Scheduler) (plan : SwitchPlan) (slots k : ℕ) (p : Planne
 pub gone-first : (scheduler : Scheduler) (plan : SwitchPlan) (slots input : ℕ) → HasGone scheduler plan slots input 0 (replicate MOST_FLOWS 0)
 gone-first scheduler plan slots input = record {
   long = length-replicate {A = ℕ} MOST_FLOWS 0;
-  each = λ flow is e. get_or-replicate {A = ℕ} MOST_FLOWS (own_place flow.output flow.level flow.kind) 0;
+  each = λ flow is e. get_or-same 0 MOST_FLOWS (own_place flow.output flow.level flow.kind);
 }
 
 -- ---- the departures of a packet
