@@ -6,10 +6,6 @@ pub last_of-append : {X : Type 0} (x y : X) (ys : List X) → last_of x (ys ++ y
 last_of-append x y [] = refl
 last_of-append x y (z ∷ zs) = last_of-append z y zs
 
-pub last_of-map : {X Y : Type 0} (f : X → Y) (x : X) (xs : List X) → last_of (f x) (map f xs) ≡ f (last_of x xs)
-last_of-map f x [] = refl
-last_of-map f x (y ∷ ys) = last_of-map f y ys
-
 pub added_from-append : {X : Type 0} (f : X → ℕ) (x y : X) (xs : List X) → added_from (f x) (map f (xs ++ y ∷ [])) ≡ added_from (f x) (map f xs)
     ++ (f y - f (last_of x xs)) ∷ []
 added_from-append f x y [] = refl

@@ -1,5 +1,5 @@
 -- A round in which something is asked matches a pair.
-use Rattle.std.proofs.Common.{◌≡◌, ℕ, ◌<◌, ◌⊎◌, List, [], ◌∷◌, Option, None, length, slice_index, sym, subst, arith, inl, inr}
+use Rattle.std.proofs.Common.{◌≡◌, ℕ, ◌<◌, List, [], ◌∷◌, Option, None, length, slice_index, sym, subst, arith, inr}
 use Rattle.rotating_pick.specs.PortSets.{Has}
 use Rattle.islip_rounds.specs.declared.numbers.RoundsUsed.{RoundsUsed}
 use Rattle.islip_rounds.specs.declared.unicast.UniPointers.{UniPointers}
@@ -35,24 +35,3 @@ some_pair_in_slot n i j asks before after matched numbers grant_in accept_in slo
         let pair = some_pair n asks before grant_in accept_in i j step chain.0 i_in j_in has in
         (pair.0, pair.1, pair.2, pair.3, pair.4, subst (λ m. Feeds m pair.0 pair.1) (sym result) pair.5)
     from_steps (step ∷ other ∷ steps) count chain result = absurd (omega (arith, count))
-
--- a pair of a match after rounds was in the match before them, or was asked
-asked_in_rounds : (n : ℕ) (asks : List ℕ) (pointers : UniPointers) (before : List (Option ℕ)) (steps : List (List (Option ℕ))) (i j : ℕ)
-    → AreRounds n asks pointers before steps → Feeds (last_of before steps) i j → Feeds before i j ⊎ ((i < n) × (j < n) × Has (slice_index asks i) j)
-asked_in_rounds n asks pointers before [] i j chain feeds = inl feeds
-asked_in_rounds n asks pointers before (step ∷ steps) i j chain feeds = elim (asked_in_rounds n asks pointers step steps i j chain.1 feeds) [
-  | inl here ↦ elim ((chain.0 i j).0 here) [
-    | inl was ↦ inl was
-    | inr now ↦ inr (now.member.first.below, now.below, now.member.first.member.1)
-  ]
-  | inr asked ↦ inr asked
-]
-
--- a slot matches only pairs that are asked
-pub asked_in_slot : (n rounds i j : ℕ) (asks : List ℕ) (before after : UniPointers) (matched : List (Option ℕ)) (numbers : RoundsUsed)
-    → IsSlot n rounds asks before matched numbers after → Feeds matched i j → (i < n) × (j < n) × Has (slice_index asks i) j
-asked_in_slot n rounds i j asks before after matched numbers slot feeds =
-    elim (asked_in_rounds n asks before unmatched slot.steps i j slot.chain (subst (λ m. Feeds m i j) slot.result feeds)) [
-      | inl none ↦ absurd (nothing_fed i j none)
-      | inr asked ↦ asked
-    ]
