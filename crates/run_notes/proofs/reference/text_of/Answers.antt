@@ -15,7 +15,7 @@ reference_text-requires c =
     let reference = c.args.reference.now in
     let count = ap length (c.deref.ensures.value ∙ c.in_ok-lines.ensures matches noted)
     ∙ length-map-range_with_len (line_of (cards_in reference) matches) 0 reference.ports in
-    omega (arith, noted.switch.size)
+    omega (arith, noted.noted.switch.size)
 
 pub returns : goal.returns
 unfolding run_lines_under
