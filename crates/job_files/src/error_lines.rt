@@ -45,10 +45,7 @@ fn give_bytes<F: Files>(files: &mut F, bytes: &[u8]) -> Result<(), Failed>
 {
     let mut at = 0;
     while at < bytes.len() {
-        match files.err(&bytes[at..]) {
-            Ok(count) => at += count,
-            Err(failed) => return Err(failed),
-        }
+        at += files.err(&bytes[at..])?;
     }
     Ok(())
 }

@@ -118,10 +118,7 @@ fn read_captures<F: Files>(
 {
     let mut captures = Vec::new(alloc);
     for port in 0..reads.inputs.len() as u32 {
-        let capture = match read_input(alloc, reads, files, InputFile::Capture(port), buf) {
-            Ok(capture) => capture,
-            Err(ending) => return Err(ending),
-        };
+        let capture = read_input(alloc, reads, files, InputFile::Capture(port), buf)?;
         if captures.push(capture).is_err() {
             return Err(Ending::OutOfMemory);
         }
@@ -147,14 +144,9 @@ pub fn read_inputs<F: Files>(
         return Err(Ending::OutOfMemory);
     };
     let buf = piece.as_mut_slice();
-    let table = match read_input(alloc, reads, files, InputFile::Table, buf) {
-        Ok(table) => table,
-        Err(ending) => return Err(ending),
-    };
-    match read_captures(alloc, reads, files, buf) {
-        Ok(captures) => Ok(Inputs { table, captures }),
-        Err(ending) => Err(ending),
-    }
+    let table = read_input(alloc, reads, files, InputFile::Table, buf)?;
+    let captures = read_captures(alloc, reads, files, buf)?;
+    Ok(Inputs { table, captures })
 }
 
 /// The input that a `gen` job makes. The only error is want of memory.

@@ -1,12 +1,20 @@
+use Rattle.std.proofs.lemmas.Result.{err_from_is_err_and}
 use Rattle.job_files.specs.FileSteps.{reads_words}
 use Rattle.job_files.proofs.StoppingReads.{StopsReading-since}
 use Rattle.job_files.proofs.inputs.read_inputs.Goals as goal
 
-pub returns-clause-stops : goal.returns-clause-stops
-returns-clause-stops g c =
+pub returns-in_err-captures-clause-stops : goal.returns-in_err-captures-clause-stops
+returns-in_err-captures-clause-stops g c =
     let contents = g.F.Files.told in
     let counts = g.F.Files.faults in
-    StopsReading-since (reads_words c.args.reads.now) (contents c.args.files.now) (contents c.read_input.new.files) (counts c.args.files.now)
+    let failed = err_from_is_err_and c.from_residual-in_err-captures.result c.from_residual-in_err-captures.ensures.1 in
+    rw (failed.1, failed.2)
+    (StopsReading-since (reads_words c.args.reads.now) (contents c.args.files.now) (contents c.read_input.new.files) (counts c.args.files.now)
     (counts c.read_input.new.files)
-    (counts c.read_captures.new.files) c.in-Err-read_captures.ending c.in-Ok-read_input.ensures.told c.in-Ok-read_input.ensures.never_fall
-    c.in-Err-read_captures.ensures.stops
+    (counts c.read_captures.new.files) c.in_err-captures.field-0.0 c.in_ok-table.ensures.told c.in_ok-table.ensures.never_fall
+    c.in_err-captures.ensures.stops)
+
+pub returns-in_err-table-clause-stops : goal.returns-in_err-table-clause-stops
+returns-in_err-table-clause-stops g c =
+    let failed = err_from_is_err_and c.from_residual.result c.from_residual.ensures.1 in
+    rw (failed.1, failed.2) c.in_err-table.ensures.stops
