@@ -39,10 +39,7 @@ fn attempt<R: Threads + Sync, F: Files, G: Gate + Sync>(
     ensures at_zero { IfErr result (λ ending. status_of ending ≡ 0 → NoneRose (F.faults files.old) (F.faults files.new)) }
     ensures never_fall { NeverFall (F.faults files.old) (F.faults files.new) }
 {
-    let texts = match job_texts(rt, alloc, job, files, gate) {
-        Ok(texts) => texts,
-        Err(ending) => return Err(ending),
-    };
+    let texts = job_texts(rt, alloc, job, files, gate)?;
     match put_texts(files, &texts) {
         Ok(()) => Ok(()),
         Err(written) => Err(Ending::WriteFault(written)),

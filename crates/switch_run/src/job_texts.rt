@@ -47,19 +47,13 @@ fn texts_of_run<R: Threads + Sync, F: Files, G: Gate + Sync>(
     ensures made { IfOk result (λ texts. AreToWrite (run (run_words job.now)) (F.told files.old) (to_write texts)) }
     ensures stops { IfErr result (Stops (run (run_words job.now)) (F.told files.old) (F.faults files.old) (F.faults files.new) (F.told files.new)) }
 {
-    let inputs = match read_inputs(alloc, &reads_of_run(job), files) {
-        Ok(inputs) => inputs,
-        Err(ending) => return Err(ending),
-    };
+    let inputs = read_inputs(alloc, &reads_of_run(job), files)?;
     let way = RunWay {
         scheduler: job.scheduler,
         alone: job.alone,
         wanted: wanted_by(job),
     };
-    let ran = match plan_and_run(rt, alloc, &job.settings, way, inputs, gate) {
-        Ok(ran) => ran,
-        Err(ending) => return Err(ending),
-    };
+    let ran = plan_and_run(rt, alloc, &job.settings, way, inputs, gate)?;
     match run_texts(alloc, job, ran) {
         Ok(texts) => Ok(texts),
         Err(_) => Err(Ending::OutOfMemory),
@@ -85,10 +79,7 @@ fn texts_of_gen<R: Threads + Sync, G: Gate + Sync>(
         alone: false,
         wanted: Wanted::NOTHING,
     };
-    let ran = match plan_and_run(rt, alloc, &job.settings, way, inputs, gate) {
-        Ok(ran) => ran,
-        Err(ending) => return Err(ending),
-    };
+    let ran = plan_and_run(rt, alloc, &job.settings, way, inputs, gate)?;
     match summary_alone(alloc, &ran.summary) {
         Ok(texts) => Ok(texts),
         Err(_) => Err(Ending::OutOfMemory),
@@ -109,14 +100,8 @@ fn texts_of_firm<R: Threads + Sync, F: Files>(
     ensures made { IfOk result (λ texts. AreToWrite (firm (firm_words job.now)) (F.told files.old) (to_write texts)) }
     ensures stops { IfErr result (Stops (firm (firm_words job.now)) (F.told files.old) (F.faults files.old) (F.faults files.new) (F.told files.new)) }
 {
-    let inputs = match read_inputs(alloc, &reads_of_firm(job), files) {
-        Ok(inputs) => inputs,
-        Err(ending) => return Err(ending),
-    };
-    let summary = match plan_and_run_firm(rt, alloc, &job.settings, inputs) {
-        Ok(summary) => summary,
-        Err(ending) => return Err(ending),
-    };
+    let inputs = read_inputs(alloc, &reads_of_firm(job), files)?;
+    let summary = plan_and_run_firm(rt, alloc, &job.settings, inputs)?;
     match summary_alone(alloc, &summary) {
         Ok(texts) => Ok(texts),
         Err(_) => Err(Ending::OutOfMemory),

@@ -198,10 +198,7 @@ pub(crate) fn plan_and_run<R: Threads + Sync, G: Gate + Sync>(
     ensures ran { IfOk result (IsRan (decision_named way.scheduler) settings.now way.wanted inputs.table.items (bytes_of_files inputs.captures)) }
     ensures stops { IfErr result (StopsTexts (decision_named way.scheduler) settings.now way.wanted inputs.table.items (bytes_of_files inputs.captures)) }
 {
-    let plan = match planned(rt, alloc, settings, inputs) {
-        Ok(plan) => plan,
-        Err(ending) => return Err(ending),
-    };
+    let plan = planned(rt, alloc, settings, inputs)?;
     run_plan(rt, alloc, plan, way, gate)
 }
 
@@ -217,10 +214,7 @@ pub(crate) fn plan_and_run_firm<R: Threads + Sync>(
     ensures ran { IfOk result (IsFirmRan settings.now inputs.table.items (bytes_of_files inputs.captures)) }
     ensures stops { IfErr result (StopsPlan settings.now.pace_us inputs.table.items (bytes_of_files inputs.captures)) }
 {
-    let plan = match planned(rt, alloc, settings, inputs) {
-        Ok(plan) => plan,
-        Err(ending) => return Err(ending),
-    };
+    let plan = planned(rt, alloc, settings, inputs)?;
     match run_firm(alloc, plan) {
         Ok(summary) => Ok(summary),
         Err(_) => Err(Ending::OutOfMemory),

@@ -4,12 +4,13 @@ use Rattle.switch_plan.specs.ReadingSteps.{bytes_of_files}
 use Rattle.switch_words.specs.Reading.{run, run_words}
 use Rattle.job_files.specs.Jobs.{run_reads}
 use Rattle.job_files.proofs.InputFiles.{read_of_size}
+use Rattle.std.proofs.lemmas.Result.{err_from_is_err_and}
 use Rattle.switch_run.proofs.Stopping.{reading_stops, texts_stop}
 use Rattle.switch_run.proofs.job_texts.texts_of_run.Goals as goal
 
 pub plan_and_run-requires-clause-size : goal.plan_and_run-requires-clause-size
 plan_and_run-requires-clause-size g c κs alive =
-    let read = rw c.reads_of_run.ensures.names at c.in-Ok.ensures.read in
+    let read = rw c.reads_of_run.ensures.names at c.in_ok-inputs.ensures.read in
     let names = c.args.job.now.inputs.items in
     read_of_size (run_reads (run_words c.args.job.now)) (g.F.Files.told c.args.files.now) _ _ read
     (record {
@@ -17,35 +18,39 @@ plan_and_run-requires-clause-size g c κs alive =
       most = omega (arith, length-map names string_bytes, c.requires.inputs.most);
     })
 
-pub returns-in-Err-clause-stops : goal.returns-in-Err-clause-stops
-returns-in-Err-clause-stops g c =
+pub returns-in_err-inputs-clause-stops : goal.returns-in_err-inputs-clause-stops
+returns-in_err-inputs-clause-stops g c =
     let contents = g.F.Files.told in
     let counts = g.F.Files.faults in
     let words = run_words c.args.job.now in
-    let stops = rw c.reads_of_run.ensures.names at c.in-Err.ensures.stops in
-    reading_stops (run words) (run_reads words) (contents c.args.files.now) (contents c.read_inputs.new.files) (counts c.args.files.now)
-    (counts c.read_inputs.new.files) c.in-Err.ending refl c.in-Err.ensures.told stops
+    let stops = rw c.reads_of_run.ensures.names at c.in_err-inputs.ensures.stops in
+    let failed = err_from_is_err_and c.from_residual.result c.from_residual.ensures.1 in
+    rw (failed.1, failed.2)
+    (reading_stops (run words) (run_reads words) (contents c.args.files.now) (contents c.read_inputs.new.files) (counts c.args.files.now)
+    (counts c.read_inputs.new.files) c.in_err-inputs.field-0.0 refl c.in_err-inputs.ensures.told stops)
 
-pub returns-in-Err-plan_and_run-clause-stops : goal.returns-in-Err-plan_and_run-clause-stops
-returns-in-Err-plan_and_run-clause-stops g c =
+pub returns-in_err-ran-clause-stops : goal.returns-in_err-ran-clause-stops
+returns-in_err-ran-clause-stops g c =
     let contents = g.F.Files.told in
     let counts = g.F.Files.faults in
-    let read = rw c.reads_of_run.ensures.names at c.in-Ok.ensures.read in
-    let stops = rw c.wanted_by.ensures at c.in-Err-plan_and_run.ensures.stops in
-    texts_stop (run_words c.args.job.now) (contents c.args.files.now) (contents c.read_inputs.new.files) (counts c.args.files.now)
-    (counts c.read_inputs.new.files) _ _ c.in-Err-plan_and_run.ending c.in-Ok.ensures.told read stops
+    let read = rw c.reads_of_run.ensures.names at c.in_ok-inputs.ensures.read in
+    let stops = rw c.wanted_by.ensures at c.in_err-ran.ensures.stops in
+    let failed = err_from_is_err_and c.from_residual-in_err-ran.result c.from_residual-in_err-ran.ensures.1 in
+    rw (failed.1, failed.2)
+    (texts_stop (run_words c.args.job.now) (contents c.args.files.now) (contents c.read_inputs.new.files) (counts c.args.files.now)
+    (counts c.read_inputs.new.files) _ _ c.in_err-ran.field-0.0 c.in_ok-inputs.ensures.told read stops)
 
-pub returns-in-Ok-run_texts-clause-made : goal.returns-in-Ok-run_texts-clause-made
-returns-in-Ok-run_texts-clause-made g c =
-    let inputs = c.in-Ok.inputs in
+pub returns-in-Ok-clause-made : goal.returns-in-Ok-clause-made
+returns-in-Ok-clause-made g c =
+    let inputs = c.in_ok-inputs.inputs in
     let files = bytes_of_files inputs.captures in
-    let read = rw c.reads_of_run.ensures.names at c.in-Ok.ensures.read in
+    let read = rw c.reads_of_run.ensures.names at c.in_ok-inputs.ensures.read in
     let names = c.args.job.now.inputs.items in
-    let ran = rw c.wanted_by.ensures at c.in-Ok-plan_and_run.ensures.ran in
+    let ran = rw c.wanted_by.ensures at c.in_ok-ran.ensures.ran in
     record {
       table = inputs.table.items;
       captures = files;
       inputs = read;
       few = omega (arith, read.captures_read.count, length-map names string_bytes, c.requires.inputs.most);
-      made = c.in-Ok-run_texts.ensures inputs.table.items files ran;
+      made = c.in-Ok.ensures inputs.table.items files ran;
     }
