@@ -26,10 +26,6 @@ power-of ports j member only =
 pub not_several : (j : ℕ) → HasSeveral (2 ^ j) → ⊥
 not_several j several = several.differ (only_member j several.one several.has_one ∙ sym (only_member j several.other several.has_other))
 
--- and is not the empty set
-pub power-some : (j : ℕ) → 2 ^ j ≡ 0 → ⊥
-power-some j none = no_member-zero j (subst (λ set. Has set j) none (bit_at-pow_same j))
-
 -- powers of two differ where their exponents do
 pub power-same : (i j : ℕ) → 2 ^ i ≡ 2 ^ j → i ≡ j
 power-same i j same = only_member j i (subst (λ set. Has set i) same (bit_at-pow_same i))
