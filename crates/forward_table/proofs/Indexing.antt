@@ -4,7 +4,6 @@ use Rattle.std.proofs.Common.{None, Some, refl, sym, ap, inl, inr, arith, ◌==�
 use Rattle.std.specs.List.{insert}
 use Rattle.std.specs.Option.{option_or}
 use Rattle.std.specs.Ordering.{is_eq, is_lt, ordering_reverse, nat_cmp, then_cmp, on}
-use Rattle.std.specs.declared.cmp.Ordering.{Ordering}
 use Rattle.std.specs.declared.cmp.Ordering.TheVariants.{Less, Equal, Greater}
 use Rattle.std.specs.Cmp.{IsTotalOrder, nat_cmp_total}
 use Rattle.std.proofs.lemmas.Cmp.{on_total, then_total, tied_itself}
@@ -13,7 +12,6 @@ use Rattle.std.proofs.lemmas.Bool.Decides.{nat_tests}
 use Rattle.std.proofs.lemmas.List.Edits.{length-insert, get_or-insert_below, get_or-insert_at, get_or-insert_above}
 use Rattle.std.proofs.lemmas.List.Elements.{All-push}
 use Rattle.std.proofs.lemmas.List.Folds.{find-append}
-use Rattle.std.proofs.lemmas.Nat.Bits.{bit_at-zero}
 use Rattle.rotating_pick.specs.PortSets.{Has}
 use Rattle.forward_table.specs.declared.route_lines.Target.{Target}
 use Rattle.forward_table.specs.declared.route_lines.Target.TheVariants.{Prefix, Fallback}
@@ -211,12 +209,6 @@ IsIndexed-push table ordered line at was prefix gap = record {
 }
 
 -- ---- the prefix lengths that occur
--- of no line
-pub AreLengths-first : AreLengths [] 0
-AreLengths-first = record {
-  within = λ k has. absurd (let none = bit_at-zero k in omega arith);
-  absent = λ k address few lacks. refl;
-}
 
 -- a line more, whose length is noted
 pub AreLengths-push : (table : List RouteLine) (old new : ℕ) (line : RouteLine) → AreLengths table old → IsPrefix line.target

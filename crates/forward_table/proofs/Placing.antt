@@ -1,5 +1,5 @@
 -- What a search by halves finds among lines in order.
-use Rattle.std.proofs.Common.{◌≡◌, ◌∙◌, ℕ, ◌+◌, ◌<◌, ◌≤◌, List, length, false, Result, Ok, Err, IfOk, IfErr, slice_index_or, ap, sym, arith}
+use Rattle.std.proofs.Common.{◌≡◌, ◌∙◌, ℕ, ◌+◌, List, length, Result, Ok, Err, IfOk, IfErr, slice_index_or, ap, arith}
 use Rattle.std.specs.List.Sorted.{IsSearchInRange, IsBinarySearchResult, IsNonDecreasingBy, IsSortedBy}
 use Rattle.std.specs.Ordering.{is_lt, ordering_index}
 use Rattle.std.proofs.lemmas.List.{get_or_default}

@@ -1,5 +1,5 @@
 -- The line of greatest length, by a search for each prefix length that occurs.
-use Rattle.std.proofs.Common.{◌≡◌, ◌∙◌, ℕ, ◌-◌, ◌^◌, ◌%◌, ◌<◌, ◌≤◌, ◌==◌, true, false, List, Option, None, Some, refl, sym, ap, subst, inl, inr, arith, eq-eqb}
+use Rattle.std.proofs.Common.{◌≡◌, ◌∙◌, ℕ, ◌-◌, ◌^◌, ◌%◌, ◌≤◌, true, false, List, Option, None, Some, refl, sym, ap, subst, inl, inr, arith}
 use Rattle.std.specs.Option.{is_some}
 use Rattle.std.specs.Int.{bit_at}
 use Rattle.std.proofs.lemmas.Bool.{cases_eq}
@@ -9,7 +9,7 @@ use Rattle.forward_table.specs.declared.route_lines.RouteLine.{RouteLine}
 use Rattle.forward_table.specs.Reading.{line_with}
 use Rattle.forward_table.specs.Routing.{covering, longest}
 use Rattle.forward_table.specs.IndexSteps.{IsIndexed, AreLengths}
-use Rattle.forward_table.proofs.Covering.{prefix_at, NoneBefore, ArePrefixes, longest_at, longest_none}
+use Rattle.forward_table.proofs.Covering.{prefix_at, NoneBefore, ArePrefixes, longest_at}
 
 -- of the lengths that occur, those that are not left were searched for, and none before k is left
 pub none_before : (table ordered : List RouteLine) (lengths rest address k : ℕ) → IsIndexed table ordered → AreLengths table lengths
