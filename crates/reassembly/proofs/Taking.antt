@@ -1,16 +1,16 @@
 -- A flow takes the cells of a message, one after the other.
-use Rattle.std.proofs.Common.{◌≡◌, ◌∙◌, ℕ, zero, suc, ◌+◌, ◌-◌, ◌*◌, ◌<◌, ◌≤◌, Bool, true, false, cond, leb, List, [], ◌++◌, length, length-append}
-use Rattle.std.proofs.Common.{take, drop, refl, ap, sym, subst, arith}
+use Rattle.std.proofs.Common.{◌≡◌, ◌∙◌, ℕ, ◌+◌, ◌-◌, ◌*◌, ◌<◌, ◌≤◌, true, false, cond, leb, List, [], ◌++◌, length, length-append}
+use Rattle.std.proofs.Common.{take, ap, sym, arith}
 use Rattle.std.proofs.lemmas.Bool.{le-leb, lt-leb}
 use Rattle.std.proofs.lemmas.List.{take_all, length-take}
 use Rattle.std.proofs.Math.Seq.{take-add}
 use Rattle.rotating_pick.specs.declared.kinds.Kind.{Kind}
 use Rattle.cell_cutter.specs.declared.cell.Cell.{Cell}
 use Rattle.cell_cutter.specs.Messages.{cells_in}
-use Rattle.cell_cutter.specs.Cells.{cell_of, part, used_bytes}
+use Rattle.cell_cutter.specs.Cells.{cell_of, part}
 use Rattle.cell_cutter.proofs.Forms.{IsCellForm-cell_of}
 use Rattle.cell_cutter.proofs.Payloads.{take-padded}
-use Rattle.reassembly.specs.Flows.{Flow, Flows, Fits, fresh, flow_of, bytes_with, with_cell}
+use Rattle.reassembly.specs.Flows.{Flows, Fits, fresh, flow_of, bytes_with, with_cell}
 use Rattle.reassembly.specs.Filling.{begun_with}
 
 -- what stands of a message with cell k: its bytes up to the end of the cell
@@ -18,9 +18,6 @@ bytes-more : (size input level k : ℕ) (kind : Kind) (message : List ℕ)
     → bytes_with (begun_with size message k) (cell_of input level kind message k) ≡ take (56 * k + 56) message
 bytes-more size input level k kind message =
     ap (λ bytes. take (56 * k) message ++ bytes) (take-padded (part k message)) ∙ sym (take-add (56 * k) 56 message)
-
-pub begun_with-none : (size : ℕ) (message : List ℕ) → begun_with size message 0 ≡ fresh size
-begun_with-none size message = refl
 
 -- the next cell of a message fits where the message does
 pub Fits-next : (all : Flows) (size input level k : ℕ) (kind : Kind) (message : List ℕ) → all.ports ≤ 64 → input < all.ports → level < 4
