@@ -20,9 +20,6 @@ pub record IsAdded (old new : List (Option Fed)) (input outputs level : ℕ) (ki
 
 module _ (n : ℕ) (old new : List (Option Fed)) (input outputs level : ℕ) (kind : Kind) (whole : IsMatch n old) (may : MayAdd n old input outputs level kind)
     (input_in : input < n) (level_in : level < LEVELS) (added : IsAdded old new input outputs level kind) where
-  Mine : ℕ → ℕ → ℕ → Kind → Type 0
-  Mine i j l k = (i ≡ input) × Has outputs j × (l ≡ level) × (k ≡ kind)
-
   -- a pair of the new match is an old one or one of these
   pub Serves-added : (i j l : ℕ) (k : Kind) → Serves new i j l k ↔ (Serves old i j l k ⊎ ((i ≡ input) × Has outputs j × (l ≡ level) × (k ≡ kind)))
   Serves-added i j l k = elim (Has-or outputs j) [

@@ -102,27 +102,12 @@ module _ (n count : ℕ) (table : List (Option Fed)) (free_inputs free_outputs :
             (on.some.0, sym (fed_of-take n table on.some.0 below) ∙ on.some.1),
       )
 
-  -- an output that an input feeds is fed
-  pub fan_is_fed : (i fan j : ℕ) → ((y : ℕ) → Has fan y ↔ ((level : ℕ) × (kind : Kind) × Serves (take n table) i y level kind)) → Has fan j
-      → fed_of table j ≡ None → ⊥
-  fan_is_fed i fan j feeds has e =
-      let there = (feeds j).0 has in
-      let f : Fed = record { input = i; level = there.0; kind = there.1 } in
-      let lt = fed_of-lt (take n table) j f there.2 in
-      let below : j < n = let count = kept.sets.whole.count in omega arith in
-      none-some f (sym (fed_of-take n table j below ∙ e) ∙ there.2)
-
   module _ (now : List (Option Fed)) (view : take n table ≡ now) (input outputs level : ℕ) (kind : Kind) (input_in : input < length now)
       (level_in : level < LEVELS) (may : MayAdd (length now) now input outputs level kind) (after : List (Option Fed)) (more : ℕ)
       (after_long : length after ≡ MAX_PORTS) (fed : (j : ℕ) → Has outputs j → fed_of after j ≡ Some (record { input = input; level = level; kind = kind }))
       (stays : (j : ℕ) → (Has outputs j → ⊥) → fed_of after j ≡ fed_of table j) (counted : count_by is_some after ≡ count_by is_some table + more) where
     ports : length now ≡ n
     ports = sym (ap length view) ∙ kept.sets.whole.count
-
-    -- none of the outputs that are added is fed
-    pub waiting : (j : ℕ) → Has outputs j → fed_of table j ≡ None
-    waiting j has = let free = may.free j has in let below : j < n = let lt = free.0 in let size = ports in omega arith in sym (fed_of-take n table j below)
-        ∙ (ap (λ m. fed_of m j) view ∙ free.1)
 
     may_here : MayAdd n (take n table) input outputs level kind
     may_here = let P : ℕ → Type 0 = λ k. MayAdd k now input outputs level kind in

@@ -20,14 +20,6 @@ module _ (n : ℕ) (rows : List Row) (matched : List (Option Fed)) (free_outputs
         going_on = λ i j level i_in j_in on vacant named. none i j i_in (inr (level, on, named)) ((outputs_left j).1 (j_in, vacant));
       }
 
-  pub IsMaximal-wants : IsMaximal n rows matched → (i j : ℕ) → i < n → Wants matched i (row_of rows i) j → Has free_outputs j → ⊥
-  IsMaximal-wants maximal i j i_in wants has =
-      let left = (outputs_left j).0 has in
-      elim wants [
-        | inl p ↦ maximal.free i j p.1.0 p.1.1 i_in left.0 p.0 left.1 p.1.2
-        | inr p ↦ maximal.going_on i j p.0 i_in left.0 p.1 left.1 p.2
-      ]
-
 -- a part is at one of the four levels
 pub IsServed-level : (n : ℕ) (matched : List (Option Fed)) → IsMatch n matched → (i : ℕ) (part : Served) → IsServed matched i part → part.level < LEVELS
 IsServed-level n matched whole i part served =
