@@ -37,12 +37,6 @@ module _ (k q b s : ℕ) (bit : b < 2) (below : s < 2 ^ k) where
       let none : k - k ≡ 0 = omega arith in
       bit_at_cat_low q (k + 1) (b * 2 ^ k + s) k (omega arith) ∙ (bit_at_cat_high b k s k below (omega arith) ∙ (rw (none, bit_at_lowest b) (mod-eq_of_lt bit)))
 
-  pub made_low : (q * 2 ^ (k + 1) + (b * 2 ^ k + s)) % 2 ^ k ≡ s
-  made_low =
-      let turn : 1 + k ≡ k + 1 = omega arith in
-      let parts = low_split k (q * 2 ^ (k + 1) + (b * 2 ^ k + s)) in
-      omega (arith, parts, made_rest, ap (λ v. v * 2 ^ k) made_bit)
-
 pub take_bit_same : (k r c : ℕ) → bit_at c k ≡ bit_at r k → take_bit k r c ≡ r
 take_bit_same k r c e = rw e (sym (split k r))
 
