@@ -2,6 +2,7 @@
 use Rattle.std.proofs.Common.{◌≡◌, ℕ, zero, ◌+◌, ◌-◌, ◌%◌, ◌<◌, ◌≤◌, ◌↔◌, ◌∙◌, eqb, cond, true, List, [], ◌∷◌, ◌++◌, Option, length, map}
 use Rattle.std.proofs.Common.{slice_index_or, refl, sym, ap, subst, inl, inr, arith}
 use Rattle.std.proofs.lemmas.Bool.{cases_lt, eq-eqb}
+use Rattle.std.proofs.lemmas.List.{length-map}
 use Rattle.rotating_pick.specs.PortSets.{Has}
 use Rattle.rotating_pick.specs.declared.kinds.Kind.{Kind}
 use Rattle.rotating_pick.specs.declared.kinds.Kind.TheVariants.{Uni, Multi}
@@ -15,7 +16,7 @@ use Rattle.slot_match.proofs.Tables.{count_by-take}
 use Rattle.pointer_state.specs.Places.{Places, AreAtPorts, grant_of, accept_of, shared_of}
 use Rattle.islip_rounds.specs.declared.numbers.RoundsUsed.{RoundsUsed}
 use Rattle.islip_rounds.specs.Numbers.{last_of, matched_count, added_from, rounds_used, numbers_of}
-use Rattle.islip_rounds.proofs.Lasts.{length-added_from, length-map_counts}
+use Rattle.islip_rounds.proofs.Lasts.{length-added_from}
 use Rattle.eslip_rounds.specs.declared.asks.Asks.{Asks}
 use Rattle.eslip_rounds.specs.Rounds.{preferred, IsRound}
 use Rattle.eslip_rounds.specs.Slots.{AreMoved, IsSlot}
@@ -152,7 +153,7 @@ module _ (n rounds t : ℕ) (rows : List Row) (places : Places) (now : List (Opt
               let used : rounds_used added ≡ length steps = subst (λ b. rounds_used (added_from b (map matched_count steps)) ≡ length steps) start all.used in
               let last : (d : ℕ) → 0 < d
               → 0 < last_of d added = subst (λ b. (d : ℕ) → 0 < d → 0 < last_of d (added_from b (map matched_count steps))) start all.last in
-              let long : length added ≡ length steps = length-added_from 0 (map matched_count steps) ∙ length-map_counts matched_count steps in
+              let long : length added ≡ length steps = length-added_from 0 (map matched_count steps) ∙ length-map steps matched_count in
               let whole : eqb (rounds_used added) (length added) ≡ true = eq-eqb (rounds_used added) (length added) (used ∙ sym long) in
               let is_last : made.numbers.last_added ≡ last_of 0 added = ap (λ (m : RoundsUsed). m.last_added) are.numbered
               ∙ ap (λ b. cond b (last_of 0 added) 0) whole in

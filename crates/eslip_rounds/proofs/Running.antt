@@ -2,6 +2,7 @@
 use Rattle.std.proofs.Common.{◌≡◌, ℕ, ◌+◌, ◌-◌, ◌<◌, ◌≤◌, ◌↔◌, ◌∙◌, List, [], ◌∷◌, ◌++◌, Option, None, Some, length, map, slice_index_or, refl, sym, ap}
 use Rattle.std.proofs.Common.{subst, inl, inr, arith, length-append}
 use Rattle.std.proofs.lemmas.Option.{none-some}
+use Rattle.std.proofs.lemmas.List.{length-map, get_or_append_left}
 use Rattle.rotating_pick.specs.PortSets.{Has}
 use Rattle.rotating_pick.specs.declared.kinds.Kind.{Kind}
 use Rattle.rotating_pick.specs.declared.kinds.Kind.TheVariants.{Uni}
@@ -12,7 +13,7 @@ use Rattle.slot_match.proofs.Pairs.{Serves-from, Serves-once, Serves-along, fed_
 use Rattle.pointer_state.specs.Places.{Places}
 use Rattle.islip_rounds.specs.declared.numbers.RoundsUsed.{RoundsUsed}
 use Rattle.islip_rounds.specs.Numbers.{last_of, matched_count, added_from, numbers_of, slot_numbers}
-use Rattle.islip_rounds.proofs.Lasts.{last_of-append, added_from-append, length-added_from, length-map_counts, first-append}
+use Rattle.islip_rounds.proofs.Lasts.{last_of-append, added_from-append, length-added_from}
 use Rattle.eslip_rounds.specs.Rounds.{IsRound, AreRounds}
 
 -- one more round at the end
@@ -63,14 +64,14 @@ module _ (n t : ℕ) (rows : List Row) (places : Places) where
       → IsRun n (k + 1) t rows places first_match after later more
   IsRun-next k first_match now after matched later numbers more run round counted numbered =
       let each = added_from 0 (map matched_count run.steps) in
-      let long : length each ≡ k = length-added_from 0 (map matched_count run.steps) ∙ (length-map_counts matched_count run.steps ∙ run.count) in
+      let long : length each ≡ k = length-added_from 0 (map matched_count run.steps) ∙ (length-map run.steps matched_count ∙ run.count) in
       record {
         steps = run.steps ++ after ∷ [];
         count = length-append run.steps (after ∷ []) ∙ ap (λ m. m + 1) run.count;
         some = omega (arith, length-append run.steps (after ∷ []));
         chain = AreRounds-append n t rows places (unmatched n) after run.steps run.chain (subst (λ m. IsRound n t rows places m after) run.result round);
         result = sym (last_of-append (unmatched n) after run.steps);
-        opening = run.opening ∙ sym (first-append (unmatched n) after run.steps run.some);
+        opening = run.opening ∙ sym (get_or_append_left run.steps (after ∷ []) (unmatched n) 0 run.some);
         kept = λ i j level kind s. (round.pairs i j level kind).1 (inl (run.kept i j level kind s));
         counted = counted;
         numbered = numbered each long run.numbered ∙ ap numbers_of (sym (grown run.steps run.some run.result run.counted));

@@ -1,12 +1,13 @@
 -- Rounds one after another, with their numbers.
 use Rattle.std.proofs.Common.{◌≡◌, ◌+◌, ◌-◌, ℕ, ◌<◌, ◌∙◌, List, [], ◌∷◌, ◌++◌, Option, None, length, map, slice_index_or, refl, sym, ap, subst, arith}
 use Rattle.std.proofs.Common.{length-append}
+use Rattle.std.proofs.lemmas.List.{length-map, get_or_append_left}
 use Rattle.islip_rounds.specs.declared.numbers.RoundsUsed.{RoundsUsed}
 use Rattle.islip_rounds.specs.declared.unicast.UniPointers.{UniPointers}
 use Rattle.islip_rounds.specs.Numbers.{last_of, matched_count, added_from, numbers_of, slot_numbers}
 use Rattle.islip_rounds.specs.Rounds.{Feeds, IsRound, AreRounds}
 use Rattle.islip_rounds.specs.Slots.{unmatched}
-use Rattle.islip_rounds.proofs.Lasts.{last_of-append, added_from-append, length-added_from, length-map_counts, first-append}
+use Rattle.islip_rounds.proofs.Lasts.{last_of-append, added_from-append, length-added_from}
 use Rattle.rotating_pick.proofs.Tables.{get_or-same}
 
 -- one more round at the end
@@ -52,7 +53,7 @@ pub IsRun-next : (n k : ℕ) (asks : List ℕ) (pointers : UniPointers) (first f
     → IsRun n (k + 1) asks pointers first after now more
 IsRun-next n k asks pointers first fed after matched now numbers more run round counted numbered =
     let each = added_from 0 (map matched_count run.steps) in
-    let long : length each ≡ k = length-added_from 0 (map matched_count run.steps) ∙ (length-map_counts matched_count run.steps ∙ run.count) in
+    let long : length each ≡ k = length-added_from 0 (map matched_count run.steps) ∙ (length-map run.steps matched_count ∙ run.count) in
     let last_count : matched_count (last_of unmatched run.steps) ≡ matched = sym (run.counted ∙ ap matched_count run.result) in
     let grown : added_from 0 (map matched_count (run.steps ++ after ∷ [])) ≡ each ++ (now - matched) ∷ [] =
     added_from-append matched_count unmatched after run.steps
@@ -63,7 +64,7 @@ IsRun-next n k asks pointers first fed after matched now numbers more run round 
       some = omega (arith, length-append run.steps (after ∷ []));
       chain = AreRounds-append n asks pointers unmatched after run.steps run.chain (subst (λ m. IsRound n asks pointers m after) run.result round);
       result = sym (last_of-append unmatched after run.steps);
-      opening = run.opening ∙ sym (first-append unmatched after run.steps run.some);
+      opening = run.opening ∙ sym (get_or_append_left run.steps (after ∷ []) unmatched 0 run.some);
       counted = counted;
       numbered = numbered each long run.numbered ∙ ap numbers_of (sym grown);
     }

@@ -1,9 +1,6 @@
 -- Tables that are filled one place after another.
-use Rattle.std.proofs.Common.{◌≡◌, ◌+◌, ℕ, zero, suc, ◌<◌, List, length, replicate, slice_index, slice_index_or, slice_set, refl, sym, ◌∙◌, ap, subst}
+use Rattle.std.proofs.Common.{◌+◌, ℕ, ◌<◌, List, length, slice_index_or, slice_set, sym, subst}
 use Rattle.std.proofs.Common.{arith, inl, inr, get_or-set_same, get_or-set_other}
-use Rattle.std.specs.Int.{bit_at}
-use Rattle.rotating_pick.specs.PortSets.{Has}
-use Rattle.rotating_pick.proofs.Bits.{no_member-zero}
 use Rattle.std.proofs.lemmas.Bool.{cases_eq}
 
 -- place m is next
