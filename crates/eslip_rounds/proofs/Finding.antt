@@ -69,16 +69,6 @@ module _ (test : ℕ → Bool) where
             ]
       ]
 
-  -- the first port with the test has it
-  pub found_port : (n x : ℕ) → find test (ports n) ≡ Some x → (x < n) × (test x ≡ true)
-  found_port n x e = elim (find_range 0 n) [
-    | inl f ↦
-        let same : f.0 ≡ x = same_Some f.0 x (sym f.1.is ∙ e) in
-        let high = f.1.high in
-        (omega arith, ap test (sym same) ∙ f.1.passes)
-    | inr none ↦ absurd (none-some x (sym none.is ∙ e))
-  ]
-
   -- where one port alone has the test, it is found
   pub finds_port : (n x : ℕ) → x < n → test x ≡ true → ((y : ℕ) → test y ≡ true → y ≡ x) → find test (ports n) ≡ Some x
   finds_port n x x_in h only = elim (find_range 0 n) [
@@ -146,7 +136,3 @@ module _ (n from : ℕ) (test : ℕ → Bool) (P : ℕ → Type 0) (each : (k : 
     | inl f ↦ f.1 ∙ ap Some (IsFirstFrom-only n from P f.0 x from_in f.2 first)
     | inr none ↦ absurd (none.1 x first.below first.member)
   ]
-
-  -- where no port has P none is found
-  pub finds_no_first : ((x : ℕ) → IsFirstFrom n from P x → ⊥) → find test (ports_from n from) ≡ None
-  finds_no_first nobody = elim first_or [ inl f ↦ absurd (nobody f.0 f.2) | inr none ↦ none.0 ]

@@ -12,18 +12,6 @@ use Rattle.slot_match.specs.Matches.{fed_of, Serves, Completes}
 use Rattle.pointer_state.specs.Places.{Places, grant_of, accept_of, shared_of}
 use Rattle.eslip_rounds.specs.Steps.{AreMet, IsPassed}
 
--- no pair, no move
-pub AreMet-none : (Pairs : ℕ → ℕ → ℕ → Type 0) (places : Places) → ((i j level : ℕ) → Pairs i j level → ⊥) → AreMet Pairs places places
-AreMet-none Pairs places none =
-    record {
-      ports = refl;
-      granted = λ i j level p. absurd (none i j level p);
-      accepted = λ i j level p. absurd (none i j level p);
-      grant_stays = λ j level h. refl;
-      accept_stays = λ i level h. refl;
-      shared = λ level. refl;
-    }
-
 -- the same pairs
 pub AreMet-along : (P Q : ℕ → ℕ → ℕ → Type 0) (before after : Places) → ((i j level : ℕ) → P i j level ↔ Q i j level) → AreMet P before after
     → AreMet Q before after

@@ -5,7 +5,7 @@ use Rattle.rotating_pick.specs.PortSets.{Has}
 use Rattle.rotating_pick.specs.declared.kinds.Kind.{Kind}
 use Rattle.slot_match.specs.declared.matching.Fed.{Fed}
 use Rattle.slot_match.specs.Matches.{IsFreeOutput}
-use Rattle.slot_match.proofs.Sets.{Has-or, zero-has}
+use Rattle.slot_match.proofs.Sets.{Has-or}
 use Rattle.pointer_state.specs.Places.{Places, AreAtPorts}
 use Rattle.eslip_rounds.specs.declared.asks.Asks.{Asks}
 use Rattle.eslip_rounds.specs.declared.grants.Choice.{Choice}
@@ -15,14 +15,6 @@ use Rattle.eslip_rounds.specs.declared.ranks.TheConstants.{RANKS}
 use Rattle.eslip_rounds.specs.Steps.{column_of, AreReady, IsChosen, AreOffers, IsOffered, AreOpen}
 use Rattle.eslip_rounds.proofs.RankLemmas.{level_at-lt}
 use Rattle.eslip_rounds.proofs.Choosing.{IsChosen-only, from_of-lt}
-
-pub AreOffers-none : (P : ℕ → ℕ → ℕ → Type 0) (offers : Offers) → offers.granted ≡ 0 → ((i j rank : ℕ) → P i j rank → ⊥) → AreOffers P offers
-AreOffers-none P offers e none =
-    record {
-      some = λ i has. absurd (zero-has offers.granted i e has);
-      listed = λ i j has. absurd (zero-has offers.granted i e has);
-      least = λ i j rank p. absurd (none i j rank p);
-    }
 
 pub AreOffers-along : (P Q : ℕ → ℕ → ℕ → Type 0) (offers : Offers) → ((i j rank : ℕ) → P i j rank ↔ Q i j rank) → AreOffers P offers → AreOffers Q offers
 AreOffers-along P Q offers same o =

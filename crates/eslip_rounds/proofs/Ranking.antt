@@ -19,10 +19,6 @@ kind_or Uni Multi = inr refl
 kind_or Multi Uni = inr refl
 kind_or Multi Multi = inl refl
 
-other_differs : (first_kind : Kind) → first_kind ≡ other_kind first_kind → ⊥
-other_differs Uni e = cc
-other_differs Multi e = cc
-
 -- the rank is the first with the test among those of the levels from a below b
 pub record IsRankFound (t : ℕ) (test : ℕ → Kind → Bool) (a b : ℕ) (found : Option Rank) (level : ℕ) (kind : Kind) : Type 0 where
   pub low : a ≤ level
