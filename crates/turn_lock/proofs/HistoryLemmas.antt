@@ -11,15 +11,6 @@ append_same-nil [] ys e = e
 append_same-nil (x ∷ xs) ys e = append_same-nil xs ys (cc)
 
 module _ {X : Type 0} where
-  pub IsPrefixOf-refl : (xs : List X) → IsPrefixOf xs xs
-  IsPrefixOf-refl xs = ([], sym (append-nil xs))
-
-  pub IsPrefixOf-append : (xs ys : List X) → IsPrefixOf xs (xs ++ ys)
-  IsPrefixOf-append xs ys = (ys, refl)
-
-  pub IsPrefixOf-trans : (xs ys zs : List X) → IsPrefixOf xs ys → IsPrefixOf ys zs → IsPrefixOf xs zs
-  IsPrefixOf-trans xs ys zs p q = (p.0 ++ q.0, q.1 ∙ ap (λ ts. ts ++ q.0) p.1 ∙ append_assoc xs p.0 q.0)
-
   pub IsPrefixOf-length : (xs ys : List X) → IsPrefixOf xs ys → length xs ≤ length ys
   IsPrefixOf-length xs ys p = omega (arith, ap length p.1, length-append xs p.0)
 
@@ -30,9 +21,6 @@ module _ {E : Type 0} where
 
   pub entries_of-snoc : (h : List (TurnOf E)) (t : TurnOf E) → entries_of (h ++ t ∷ []) ≡ entries_of h ++ t.entries
   entries_of-snoc h t = entries_of-append h (t ∷ []) ∙ ap (λ es. entries_of h ++ es) (append-nil t.entries)
-
-  pub IsPrefixOf-entries_of : (xs ys : List (TurnOf E)) → IsPrefixOf xs ys → IsPrefixOf (entries_of xs) (entries_of ys)
-  IsPrefixOf-entries_of xs ys p = (entries_of p.0, ap entries_of p.1 ∙ entries_of-append xs p.0)
 
   turns_of-cons : (n : ℕ) (t : TurnOf E) (b : Bool) (xs ys : List (TurnOf E)) → (if b then t ∷ (xs ++ ys) else xs ++ ys) ≡ (if b then t ∷ xs else xs) ++ ys
   turns_of-cons n t true xs ys = refl
