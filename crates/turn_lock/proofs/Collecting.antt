@@ -4,6 +4,8 @@ use Rattle.std.proofs.Common.{Some, refl, sym, ap, ◌∙◌, subst, arith, leng
 use Rattle.std.specs.Prelude.{slice_get}
 use Rattle.std.proofs.lemmas.List.{append_assoc, take-append-drop}
 use Rattle.std.proofs.lemmas.Option.{slice_get_within}
+use Rattle.std.proofs.lemmas.Bool.{cases_eq}
+use Rattle.std.proofs.Math.Seq.{take-append_seam, take-length}
 use Rattle.atomic_table.specs.Seated.{TableId}
 use Rattle.turn_lock.specs.declared.history.TurnOf.{TurnOf}
 use Rattle.turn_lock.specs.declared.history.Opening.{Opening}
@@ -14,7 +16,6 @@ use Rattle.turn_lock.specs.Histories.{IsBelow, entries_of}
 use Rattle.turn_lock.specs.Seats.{TurnValue, SeatValue, turn_value, AreSeats, IsWhole}
 use Rattle.turn_lock.specs.Views.{seat_value, joined_seat, with_joined, joined_numbers, numbers_of}
 use Rattle.turn_lock.specs.Rule.{IsIn, HasSeen, IsOvertaken, JoinedHaveSeen, Ended}
-use Rattle.turn_lock.proofs.Seen.{same_or_not}
 
 no_third : {A C : Type 0} → A ⊎ (⊥ ⊎ C) → A ⊎ C
 no_third (inl a) = inl a
@@ -59,10 +60,6 @@ module _ {X : Type 0} where
   at_seam [] ys x = refl
   at_seam (y ∷ xs) ys x = at_seam xs ys x
 
-  take_seam : (xs ys : List X) → take (length xs) (xs ++ ys) ≡ xs
-  take_seam [] ys = refl
-  take_seam (x ∷ xs) ys = ap (λ zs. x ∷ zs) (take_seam xs ys)
-
   -- what was popped stood after what is left
   popped : (all old new : List X) (x : X) → old ≡ take (length old) all → old ≡ new ++ x ∷ [] → (slice_get all (length new) ≡ Some x)
       × (new ≡ take (length new) all)
@@ -70,7 +67,7 @@ module _ {X : Type 0} where
       let whole : all ≡ new ++ x ∷ drop (length old) all = sym (take-append-drop (length old) all) ∙ ap (λ zs. zs ++ drop (length old) all) (sym front ∙ e)
       ∙ append_assoc new (x ∷ []) (drop (length old) all) in (
         ap (λ zs. slice_get zs (length new)) whole ∙ at_seam new (drop (length old) all) x,
-        sym (ap (λ zs. take (length new) zs) whole ∙ take_seam new (x ∷ drop (length old) all)),
+        sym (ap (λ zs. take (length new) zs) whole ∙ take-append_seam new (x ∷ drop (length old) all)),
       )
 
   after_first : (all : List X) (i : ℕ) → slice_get (drop 1 all) i ≡ slice_get all (suc i)
@@ -84,10 +81,6 @@ module _ {X : Type 0} where
 
   same_there : (x y : X) (o : Option X) → o ≡ Some x → o ≡ Some y → x ≡ y
   same_there x y o a b = cc
-
-  take_whole : (xs : List X) → take (length xs) xs ≡ xs
-  take_whole [] = refl
-  take_whole (x ∷ xs) = ap (λ zs. x ∷ zs) (take_whole xs)
 
 module _ {E : Type 0} (turn : TurnValue E) (all : List (SeatValue E)) where
   -- The view is of the first seat, and knows what each seat after those that are left had seen.
@@ -116,7 +109,7 @@ module _ {E : Type 0} (turn : TurnValue E) (all : List (SeatValue E)) where
           phase = idle;
           seen = λ s e. let is : first ≡ s = same_there first s (slice_get all 0) at e in
               (ap (λ y. y.seen) view ∙ ap (λ y. y.seen) is, ap (λ y. y.since) view ∙ ap (λ y. y.since) is);
-          left = sym (take_whole rest) ∙ ap (λ xs. take (length rest) xs) rest_is;
+          left = sym (take-length rest) ∙ ap (λ xs. take (length rest) xs) rest_is;
           done = λ i s e l.
               let w = slice_get_within (drop 1 all) i s (after_first all i ∙ e) in
               let n : length rest ≡ length (drop 1 all) = ap length rest_is in
@@ -149,7 +142,7 @@ module _ {E : Type 0} (turn : TurnValue E) (all : List (SeatValue E)) where
               (ap (λ k. slice_get all (suc k)) (sym same) ∙ at) in
               subst (λ m. IsJoined m (with_joined v (joined_seat s)).joined) (ap joined_seat is) (IsJoined-here (joined_seat s) v.joined []))
               (λ (d : i ≢ length new). IsJoined-left (joined_seat y) v.joined (joined_seat s ∷ []) (c.done i y at (omega arith)))
-              (same_or_not i (length new)) in
+              (cases_eq i (length new)) in
               subst (λ z. IsJoined (joined_seat y) z.joined) (sym j) joined;
         }
 

@@ -3,6 +3,7 @@ use Rattle.std.proofs.Common.{◌≡◌, ◌≢◌, ◌+◌, ◌<◌, inl, inr, 
 use Rattle.std.proofs.Common.{arith, length-append}
 use Rattle.std.specs.Prelude.{drop, slice_set}
 use Rattle.std.proofs.lemmas.List.{append-nil}
+use Rattle.std.proofs.lemmas.Bool.{cases_eq}
 use mathlib.Core.Option.{some, some-injective}
 use lib.ListN.{get_elem?}
 use Rattle.atomic_table.specs.Table.{State, Me, Act, keeps, Allows, Valid, stepped, carried_after}
@@ -15,7 +16,7 @@ use Rattle.turn_lock.specs.Histories.{entries_of, turns_of}
 use Rattle.turn_lock.specs.Views.{raised}
 use Rattle.turn_lock.specs.Rule.{Live, JoinedHaveSeen, Keeps, IsFree, IsTaken, IsAt, Fits, IsRaised}
 use Rattle.turn_lock.proofs.HistoryLemmas.{IsBelow-snoc, IsAllowed-snoc}
-use Rattle.turn_lock.proofs.Seen.{same_or_not, HasSeen-more, HasSeen-shorter, JoinedHaveSeen-more}
+use Rattle.turn_lock.proofs.Seen.{HasSeen-more, HasSeen-shorter, JoinedHaveSeen-more}
 use Rattle.turn_lock.proofs.Changed.{idle_begun, begun_raised, after_one, set_at, live_after, numbered_after, numbered_more}
 
 module _ {V E : Type 0} (entries : V → List E) (numbers : V → List ℕ) (may : ℕ → List E → Type 0) (o : Opening E) (id : ℕ) (v : View E) where
@@ -27,7 +28,7 @@ module _ {V E : Type 0} (entries : V → List E) (numbers : V → List ℕ) (may
 
   -- a view that is in a turn is the one
   pub is_who : (s : State (Option (Stamped V)) (View E)) (h : List (TurnOf E)) (t : InTurn h s) → get_elem? s.views id ≡ some v → v.phase ≢ Idle → id ≡ t.who
-  is_who s h t at busy = ⊎_elim (λ (e : id ≡ t.who). e) (λ (n : id ≢ t.who). absurd (busy (t.idle id v at n))) (same_or_not id t.who)
+  is_who s h t at busy = ⊎_elim (λ (e : id ≡ t.who). e) (λ (n : id ≢ t.who). absurd (busy (t.idle id v at n))) (cases_eq id t.who)
 
   pub in_turn_of : (s : State (Option (Stamped V)) (View E)) (k : Kept s) → get_elem? s.views id ≡ some v → v.phase ≢ Idle → InTurn k.history s
   in_turn_of s k at busy = ⊎_elim (λ (f : IsFree entries numbers may o k.history s). absurd (busy (f.idle id v at))) (λ (t : InTurn k.history s). t) k.turn

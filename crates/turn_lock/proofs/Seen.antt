@@ -1,6 +1,6 @@
 -- What the views have seen of a history that grows.
-use Rattle.std.proofs.Common.{◌≡◌, ◌≢◌, ◌+◌, ◌^◌, ◌<◌, ◌≤◌, ◌⊎◌, inl, inr, ⊎_elim, ℕ, List, [], ◌∷◌, ◌++◌, length, refl, sym, ap, ◌∙◌, subst, arith}
-use Rattle.std.proofs.Common.{zero, suc, length-append}
+use Rattle.std.proofs.Common.{◌≡◌, ◌≢◌, ◌+◌, ◌^◌, ◌<◌, ◌≤◌, ◌⊎◌, inl, inr, ℕ, List, [], ◌∷◌, ◌++◌, length, sym, ap, ◌∙◌, subst, arith}
+use Rattle.std.proofs.Common.{length-append}
 use Rattle.std.proofs.lemmas.List.{append_assoc}
 use Rattle.turn_lock.specs.declared.history.TurnOf.{TurnOf}
 use Rattle.turn_lock.specs.declared.history.Opening.{Opening}
@@ -10,12 +10,6 @@ use Rattle.turn_lock.specs.Histories.{turns_of, IsBelow}
 use Rattle.turn_lock.specs.Views.{joined_numbers}
 use Rattle.turn_lock.specs.Rule.{IsIn, HasSeen, IsOvertaken, JoinedHaveSeen, Fits}
 use Rattle.turn_lock.proofs.HistoryLemmas.{IsPrefixOf-length, append_same-nil, turns_of-append, turns_of-other, turns_of-all, IsBelow-append}
-
-pub same_or_not : (a b : ℕ) → (a ≡ b) ⊎ (a ≢ b)
-same_or_not zero zero = inl refl
-same_or_not zero (suc b) = inr (λ e. omega arith)
-same_or_not (suc a) zero = inr (λ e. omega arith)
-same_or_not (suc a) (suc b) = ⊎_elim (λ (e : a ≡ b). inl (ap suc e)) (λ (n : a ≢ b). inr (λ e. n (omega arith))) (same_or_not a b)
 
 change : {A P Q C : Type 0} → (P → Q ⊎ C) → A ⊎ (P ⊎ C) → A ⊎ (Q ⊎ C)
 change f (inl a) = inl a
