@@ -25,7 +25,7 @@ use Rattle.line_rate_waits.proofs.ManySlots.{decided_in, IsSwitch-after_in, many
 use Rattle.line_rate_waits.proofs.Shapes.{takes, ends, passes, suits_passes, at_first}
 use Rattle.line_rate_waits.proofs.MoreShapes.{shares, closes, joins, joins_first, resets, readies, readies_too, suits_shares, suits_closes, suits_joins}
 use Rattle.line_rate_waits.proofs.MoreShapes.{second_joins, suits_resets}
-use Rattle.line_rate_waits.proofs.MoreFollowings.{shares_shares, shares_closes, joins_shares, joins_closes, closes_joins, closes_passes, resets_resets}
+use Rattle.line_rate_waits.proofs.MoreFollowings.{shares_shares, shares_closes, joins_shares, joins_closes, closes_joins, closes_passes}
 use Rattle.line_rate_waits.proofs.OneRoundFamily.{downs}
 
 -- ---- the plans
@@ -94,11 +94,6 @@ starts_climbs l p f (suc k) x rest e = closes_joins l x f (p + k) (omega arith)
 pub starts_levels : (P : Plan → Type 0) (l p k : ℕ) → P (shares l l 2) → Starts P (levels l p k)
 starts_levels P l p zero here = here
 starts_levels P l p (suc k) here = here
-
--- the way back goes on
-starts_backs : (y w p k : ℕ) (rest : List Plan) → 0 < p → Starts (Follows (resets y w)) rest → Starts (Follows (resets y w)) (backs p (y + 1) k rest)
-starts_backs y w p zero rest some starts = starts
-starts_backs y w p (suc k) rest some starts = resets_resets y w (y + 1) (p + k) (omega arith)
 
 -- input 0 goes down, or the rest follows
 pub starts_lowers : (P : Plan → Type 0) (a k : ℕ) (rest : List Plan) → P (takes 0 a) → Starts P rest → Starts P (downs 0 a k rest)

@@ -23,9 +23,6 @@ from_three n rounds more = rw (lt-ltb 2 n more) refl
 of_two : (rounds : ℕ) → (rounds ≡ 1 → ⊥) → longest_service_at_line_rate 2 rounds ≡ 3
 of_two rounds more = rw (ne_eqb rounds 1 more) refl
 
-of_two_in_one : longest_service_at_line_rate 2 1 ≡ longest_service_by 2 1
-of_two_in_one = refl
-
 below_two : (n rounds : ℕ) → n ≤ 2 → (n ≡ 2 → ⊥) → longest_service_at_line_rate n rounds ≡ longest_service_by n rounds
 below_two n rounds few other = rw (le-ltb 2 n few, ne_eqb n 2 other) refl
 
