@@ -20,10 +20,11 @@ use Rattle.eslip_rounds.specs.Schedules.{DecidedSlot, IsScheduleBy}
 use Rattle.service_bound.specs.Windows.{AreKept, IsClean, IsWithoutMulticast}
 use Rattle.service_bound.specs.Latest.{ServeLast}
 use Rattle.service_bound.proofs.Postings.{Posting, IsPosted, zero_posted, rows_of, names, AreWithin-rows, IsClean-rows, IsWithoutMulticast-rows}
-use Rattle.service_bound.proofs.PostedSlots.{Suits, distance-own}
+use Rattle.service_bound.proofs.PostedSlots.{Suits}
 use Rattle.service_bound.proofs.PostedRuns.{Starts, IsSwitch, IsServing, keeps_on}
 use Rattle.service_bound.proofs.Descents.{lowers, downs, length-downs, starts_downs, starts_either, Suits-plain, places_at_one, grant_of-places_at}
 use Rattle.service_bound.proofs.Descents.{accept_of-places_at, IsSwitch-places_at}
+use Rattle.service_bound.proofs.Distances.{distance-own}
 use Rattle.firm_rounds.specs.Slots.{AreMovedByFirm}
 use Rattle.firm_rounds.specs.Latest.{IsServedLastByFirm}
 use Rattle.firm_rounds.proofs.OneRoundSlots.{decided, slot_decided, IsSwitch-after, serving, left, refused, passed, accepts, accept_stays}

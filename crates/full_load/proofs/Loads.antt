@@ -9,13 +9,13 @@ use Rattle.rotating_pick.specs.PortSets.{Has}
 use Rattle.rotating_pick.specs.declared.kinds.Kind.{Kind}
 use Rattle.rotating_pick.specs.declared.kinds.Kind.TheVariants.{Uni, Multi}
 use Rattle.rotating_pick.specs.declared.limits.TheConstants.{LEVELS}
+use Rattle.rotating_pick.proofs.Tables.{no_members}
 use Rattle.slot_match.specs.declared.rows.Row.{Row}
 use Rattle.slot_match.specs.Rows.{Names, row_of, no_row, AreWithin}
 use Rattle.pointer_state.specs.Places.{Places, AreAtPorts, ArePointing}
 use Rattle.eslip_rounds.specs.Slots.{Moving}
 use Rattle.eslip_rounds.specs.Schedules.{DecidedSlot}
 use Rattle.eslip_rounds.specs.Schedulers.{Scheduler, IsSchedulerBy, IsScheduler}
-use Rattle.service_bound.proofs.Postings.{nothing_in}
 use Rattle.full_load.specs.FullLoad.{IsFullLoad, IsFullyLoadedBy}
 
 -- a row with all of n outputs at one level
@@ -33,9 +33,9 @@ module _ (n level : ℕ) (level_in : level < LEVELS) where
   set_is = get_or-set_same (replicate LEVELS 0) level (2 ^ n - 1) 0 level_in
 
   named_only : (other j : ℕ) (kind : Kind) → Names (row_at n level) other kind j → (other ≡ level) × (kind ≡ Uni) × (j < n)
-  named_only other j Multi named = absurd (nothing_in LEVELS other j named)
+  named_only other j Multi named = absurd (no_members LEVELS other j named)
   named_only other j Uni named = elim (cases_eq other level) [
-    | inr apart ↦ absurd (nothing_in LEVELS other j (subst (λ set. Has set j) (get_or-set_other (replicate LEVELS 0) level other (2 ^ n - 1) 0 apart) named))
+    | inr apart ↦ absurd (no_members LEVELS other j (subst (λ set. Has set j) (get_or-set_other (replicate LEVELS 0) level other (2 ^ n - 1) 0 apart) named))
     | inl same ↦
         let here : Has (2 ^ n - 1) j = subst (λ set. Has set j) (ap (slice_index (slice_set (replicate LEVELS 0) level (2 ^ n - 1))) same ∙ set_is) named in
         (same, refl, elim (cases_lt j n) [ inl below ↦ below | inr above ↦ absurd (omega (arith, here, bit_at_ones_above n j above)) ])

@@ -3,6 +3,7 @@
 use Rattle.std.proofs.Common.{◌≡◌, ℕ, ◌+◌, ◌-◌, ◌%◌, ◌<◌, ◌∙◌, List, [], ◌∷◌, Option, All, drop, length, refl, sym, ap, subst, inl, inr, arith}
 use Rattle.std.proofs.lemmas.Bool.{cases_lt}
 use Rattle.std.proofs.lemmas.List.Elements.{All-nil, All-cons, All-head, All-tail}
+use Rattle.service_bound.proofs.Distances.{next-injective}
 use Rattle.rotating_pick.specs.declared.kinds.Kind.{Kind}
 use Rattle.rotating_pick.specs.declared.kinds.Kind.TheVariants.{Uni}
 use Rattle.slot_match.specs.declared.matching.Fed.{Fed}
@@ -27,7 +28,6 @@ use Rattle.rrm_rounds.proofs.PointersKept.{rrm_keep}
 use Rattle.full_load.specs.FullLoad.{IsFullLoad, IsFullyLoaded, IsFullyLoadedByRrm, AreTogether, IsFullSlot}
 use Rattle.full_load.proofs.Counts.{count_one, first_added}
 use Rattle.full_load.proofs.Filling.{level_in, grants_there, served_at, served_once, filled_at_last}
-use Rattle.full_load.proofs.Parking.{one_beyond_same}
 
 -- the first of slots of full load, and those after it
 module _ (n rounds t level : ℕ) (some : 0 < rounds) (places : Places) (slot : DecidedSlot) (slots : List DecidedSlot)
@@ -72,7 +72,7 @@ module _ (n rounds t level : ℕ) (some : 0 < rounds) (places : Places) (slot : 
       → grant_of slot.decision.places j level ≡ grant_of slot.decision.places k level → ⊥
   differ_after j k j_in k_in differ same =
       let turns : (grant_of places j level + 1) % n ≡ (grant_of places k level + 1) % n = sym (turned j j_in) ∙ (same ∙ turned k k_in) in
-      differ (one_beyond_same n (grant_of places j level) (grant_of places k level) (loaded.pointing.grant j j_in) (loaded.pointing.grant k k_in) turns)
+      differ (next-injective n (grant_of places j level) (grant_of places k level) (loaded.pointing.grant j j_in) (loaded.pointing.grant k k_in) turns)
 
   -- what the first round matches is unicast of the level
   as_level : (i j other : ℕ) (kind : Kind) → Serves first i j other kind → (j < n) × Serves first i j level Uni

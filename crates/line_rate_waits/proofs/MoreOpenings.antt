@@ -14,8 +14,7 @@ use Rattle.eslip_rounds.specs.Schedules.{DecidedSlot, IsSchedule}
 use Rattle.service_bound.specs.Windows.{IsClean, IsWithoutMulticast}
 use Rattle.service_bound.specs.Latest.{IsServedLast}
 use Rattle.service_bound.specs.Waits.{longest_service}
-use Rattle.service_bound.proofs.Distances.{distance-below}
-use Rattle.service_bound.proofs.PostedSlots.{distance-own}
+use Rattle.service_bound.proofs.Distances.{distance-below, distance-own}
 use Rattle.service_bound.proofs.PostedRuns.{IsSwitch}
 use Rattle.line_rate_waits.specs.Reached.{ComesLastAtLineRate}
 use Rattle.line_rate_waits.proofs.Plans.{Plan, names, AreWithin-rows, IsClean-rows, IsWithoutMulticast-rows}

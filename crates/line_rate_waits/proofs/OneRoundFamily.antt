@@ -12,8 +12,7 @@ use Rattle.rotating_pick.specs.Rotation.{distance}
 use Rattle.rotating_pick.proofs.Circle.{mod_once}
 use Rattle.pointer_state.specs.Places.{Places, grant_of, accept_of}
 use Rattle.service_bound.specs.Waits.{longest_service_in_one_round}
-use Rattle.service_bound.proofs.Distances.{distance-below}
-use Rattle.service_bound.proofs.PostedSlots.{distance-own}
+use Rattle.service_bound.proofs.Distances.{distance-below, distance-own}
 use Rattle.service_bound.proofs.PostedRuns.{IsSwitch}
 use Rattle.line_rate_waits.proofs.Plans.{Plan}
 use Rattle.line_rate_waits.proofs.PlannedSlots.{decided, step_of, IsSwitch-after}

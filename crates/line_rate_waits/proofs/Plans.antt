@@ -7,12 +7,12 @@ use Rattle.std.proofs.lemmas.List.FromFn.{length-map-range_with_len, get_or-map-
 use Rattle.rotating_pick.specs.declared.kinds.Kind.{Kind}
 use Rattle.rotating_pick.specs.declared.kinds.Kind.TheVariants.{Uni, Multi}
 use Rattle.rotating_pick.specs.declared.limits.TheConstants.{LEVELS}
+use Rattle.rotating_pick.proofs.Tables.{no_members}
 use Rattle.slot_match.specs.declared.rows.Row.{Row}
 use Rattle.slot_match.specs.Rows.{Names, row_of, no_row, AreWithin}
 use Rattle.slot_match.specs.Parts.{set_of}
 use Rattle.slot_match.proofs.Sets.{Has-set_of}
 use Rattle.service_bound.specs.Windows.{IsClean, IsWithoutMulticast}
-use Rattle.service_bound.proofs.Postings.{nothing_in}
 
 -- an input and an output
 pub record Pair : Type 0 where
@@ -82,8 +82,8 @@ AskedAt n p i j level kind = (level ≡ 0) × (kind ≡ Uni) × (j < n) × In i 
 asked_at : (n : ℕ) (p : Plan) (i j level : ℕ) (kind : Kind) → Names (row_at n (asked p) i) level kind j → AskedAt n p i j level kind
 unfolding row_at
 asked_at n p i j zero Uni named = let has = (Has-set_of n (λ y. is_in i y (asked p)) j).0 named in (refl, refl, has.0, (Decides-in i j (asked p)).0 has.1)
-asked_at n p i j (suc level) Uni named = absurd (nothing_in 3 level j named)
-asked_at n p i j level Multi named = absurd (nothing_in LEVELS level j named)
+asked_at n p i j (suc level) Uni named = absurd (no_members 3 level j named)
+asked_at n p i j level Multi named = absurd (no_members LEVELS level j named)
 
 -- what is asked a row names
 named_at : (n : ℕ) (p : Plan) (i j : ℕ) → j < n → In i j (asked p) → Names (row_at n (asked p) i) 0 Uni j

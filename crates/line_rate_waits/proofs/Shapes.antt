@@ -2,8 +2,7 @@
 use Rattle.std.proofs.Common.{◌≡◌, ℕ, ◌+◌, ◌<◌, ◌≤◌, ◌⊎◌, ◌∙◌, [], ◌∷◌, refl, ap, sym, inl, inr, arith}
 use Rattle.rotating_pick.specs.Rotation.{distance}
 use Rattle.pointer_state.specs.Places.{Places, grant_of, accept_of}
-use Rattle.service_bound.proofs.Distances.{distance-below}
-use Rattle.service_bound.proofs.PostedSlots.{distance-own}
+use Rattle.service_bound.proofs.Distances.{distance-below, distance-own}
 use Rattle.line_rate_waits.proofs.Plans.{pair, In, Plan, asked}
 use Rattle.line_rate_waits.proofs.PlannedSlots.{Suits, IsPassed}
 

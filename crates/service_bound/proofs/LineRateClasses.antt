@@ -16,7 +16,7 @@ use Rattle.slot_match.proofs.Pairs.{Serves-decides, fed_of-lt}
 use Rattle.pointer_state.specs.Places.{Places, ArePointing, grant_of, accept_of}
 use Rattle.eslip_rounds.specs.Rounds.{IsRound}
 use Rattle.eslip_rounds.specs.Slots.{AreMoved}
-use Rattle.eslip_rounds.proofs.Deciding.{some_below, Names-decides}
+use Rattle.eslip_rounds.proofs.Deciding.{some_below, Names-decides, both}
 use Rattle.service_bound.specs.Windows.{IsClean, IsWithoutMulticast, GainAtMostOne}
 use Rattle.service_bound.proofs.Sums.{sum_below-le, sum_below-less, sum_below-two}
 use Rattle.service_bound.proofs.Distances.{distance-passed, distance-beyond, distance-next, distance-last, distance-own, next-injective}
@@ -53,12 +53,6 @@ pub record IsBeside (n level i j : ℕ) (places : Places) (rows : List Row) (x :
 abbrev pub IsLower : ℕ → ℕ → ℕ → ℕ → Places → List Row → Type 0
 IsLower n level i j places rows = IsAlone n level i j places rows ⊎ ((x : ℕ) × IsBeside n level i j places rows x)
 
-decides_both : (A B : Type 0) → Decides A → Decides B → Decides (A × B)
-decides_both A B a b = elim a [
-  | inr none ↦ inr (λ p. none p.0)
-  | inl here ↦ elim b [ inl also ↦ inl (here, also) | inr none ↦ inr (λ p. none p.1) ]
-]
-
 decides_other : (x i : ℕ) → Decides (x ≡ i → ⊥)
 decides_other x i = elim (cases_eq x i) [ inl same ↦ inr (λ other. other same) | inr other ↦ inl other ]
 
@@ -67,7 +61,7 @@ pub other_asks : (n level : ℕ) (rows : List Row) (j i x : ℕ) → Decides ((y
 other_asks n level rows j i x =
     let Apart : ℕ → Type 0 = λ y. (y ≡ i → ⊥) × (y ≡ x → ⊥) in
     elim (some_below (λ y. Apart y × Names (row_of rows y) level Uni j)
-    (λ y. decides_both (Apart y) (Names (row_of rows y) level Uni j) (decides_both (y ≡ i → ⊥) (y ≡ x → ⊥) (decides_other y i) (decides_other y x))
+    (λ y. both (Apart y) (Names (row_of rows y) level Uni j) (both (y ≡ i → ⊥) (y ≡ x → ⊥) (decides_other y i) (decides_other y x))
     (Names-decides (row_of rows y) level Uni j)) n) [
       | inl found ↦ inl (found.0, found.1, found.2.0, found.2.1)
       | inr none ↦ inr (λ p. none (p.0, p.1, (p.2, p.3)))

@@ -5,6 +5,7 @@
 use Rattle.std.proofs.Common.{◌≡◌, ℕ, zero, suc, ◌+◌, ◌%◌, ◌<◌, ◌≤◌, ◌∙◌, List, ◌∷◌, length, take, drop, refl, ap, sym, subst, inl, inr, arith}
 use Rattle.std.proofs.Math.Nat.{mod-eq_of_lt}
 use Rattle.std.proofs.lemmas.Bool.{cases_lt}
+use Rattle.service_bound.proofs.Distances.{distance-own}
 use Rattle.rotating_pick.specs.Rotation.{distance}
 use Rattle.rotating_pick.specs.declared.limits.TheConstants.{MAX_PORTS}
 use Rattle.rotating_pick.proofs.Circle.{mod_once}
@@ -17,7 +18,6 @@ use Rattle.service_bound.specs.Windows.{AreKept, places_after}
 use Rattle.service_bound.specs.Waits.{longest_service, longest_service_in_one_round}
 use Rattle.service_bound.specs.Latest.{IsServedLast, ComesLast}
 use Rattle.service_bound.proofs.Postings.{Posting, AreWithin-rows}
-use Rattle.service_bound.proofs.PostedSlots.{distance-own}
 use Rattle.service_bound.proofs.PostedRuns.{decided, run, length-run, All-run, IsSwitch, IsSwitch-after, IsSchedule-run, IsLate, IsStep, step_alone}
 use Rattle.service_bound.proofs.PostedRuns.{AreKept-before}
 use Rattle.service_bound.proofs.Descents.{lowers, Suits-plain, IsBeginning, IsServedLast-run}

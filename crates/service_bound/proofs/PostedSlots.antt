@@ -1,11 +1,11 @@
 -- What a slot of a posting decides: in its first round, and where output 0 serves another input in its second.
-use Rattle.std.proofs.Common.{◌≡◌, ℕ, ◌+◌, ◌-◌, ◌<◌, ◌≤◌, ◌⊎◌, ◌∙◌, List, Option, None, Some, refl, ap, sym, subst, inl, inr, arith}
+use Rattle.std.proofs.Common.{◌≡◌, ℕ, ◌-◌, ◌<◌, ◌≤◌, ◌⊎◌, ◌∙◌, List, Option, None, Some, refl, ap, sym, subst, inl, inr, arith}
 use Rattle.std.proofs.lemmas.Bool.{cases_eq, cases_lt}
 use Rattle.rotating_pick.specs.Rotation.{distance, IsFirstFrom}
 use Rattle.rotating_pick.specs.declared.kinds.Kind.{Kind}
+use Rattle.service_bound.proofs.Distances.{distance-own}
 use Rattle.rotating_pick.specs.declared.kinds.Kind.TheVariants.{Uni, Multi}
 use Rattle.rotating_pick.specs.declared.limits.TheConstants.{LEVELS}
-use Rattle.rotating_pick.proofs.Circle.{mod_once}
 use Rattle.rotating_pick.proofs.First.{IsFirstFrom-only}
 use Rattle.slot_match.specs.declared.matching.Fed.{Fed}
 use Rattle.slot_match.specs.Rows.{Names, row_of}
@@ -24,9 +24,6 @@ use Rattle.service_bound.proofs.Postings.{Posting, IsPosted, rows_of, posted, na
 first_alone : (n from x : ℕ) (P : ℕ → Type 0) → x < n → P x → ((y : ℕ) → y < n → P y → y ≡ x) → IsFirstFrom n from P x
 first_alone n from x P x_in there alone =
     record { below = x_in; member = there; least = λ y y_in also. let e = ap (distance n from) (alone y y_in also) in omega arith }
-
-pub distance-own : (n x : ℕ) → x < n → distance n x x ≡ 0
-distance-own n x x_in = mod_once n (x + (n - x)) (omega arith) (omega arith) ∙ omega arith
 
 -- where the pointer stands
 first_at : (n from x : ℕ) (P : ℕ → Type 0) → x < n → P x → from ≡ x → IsFirstFrom n from P x

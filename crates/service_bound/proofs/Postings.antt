@@ -1,14 +1,13 @@
 -- Postings: slots in which one input and input 0 ask output 0, and each one output beside it.
-use Rattle.std.proofs.Common.{◌≡◌, ℕ, zero, suc, ◌<◌, ◌⊎◌, ◌==◌, ◌&&◌, ◌||◌, Bool, List, ◌∷◌, map, replicate, slice_index, refl, subst, sym, inl, inr, arith}
+use Rattle.std.proofs.Common.{◌≡◌, ℕ, zero, suc, ◌<◌, ◌⊎◌, ◌==◌, ◌&&◌, ◌||◌, Bool, List, ◌∷◌, map, replicate, refl, subst, sym, inl, inr, arith}
 use Rattle.std.specs.Bool.{Decides}
 use Rattle.std.specs.List.{range_with_len}
 use Rattle.std.proofs.lemmas.Bool.Decides.{Decides-eqb, Decides-and, Decides-or}
 use Rattle.std.proofs.lemmas.List.FromFn.{length-map-range_with_len, get_or-map-range_with_len}
-use Rattle.rotating_pick.specs.PortSets.{Has}
+use Rattle.rotating_pick.proofs.Tables.{no_members}
 use Rattle.rotating_pick.specs.declared.kinds.Kind.{Kind}
 use Rattle.rotating_pick.specs.declared.kinds.Kind.TheVariants.{Uni, Multi}
 use Rattle.rotating_pick.specs.declared.limits.TheConstants.{LEVELS}
-use Rattle.rotating_pick.proofs.Bits.{no_member-zero}
 use Rattle.slot_match.specs.declared.rows.Row.{Row}
 use Rattle.slot_match.specs.Rows.{Names, row_of, no_row, AreWithin}
 use Rattle.slot_match.specs.Parts.{set_of}
@@ -52,19 +51,14 @@ row_at n p i = record { uni = set_of n (is_posted p i) ∷ replicate 3 0; multi 
 pub rows_of : ℕ → Posting → List Row
 rows_of n p = map (row_at n p) (range_with_len 0 n)
 
-pub nothing_in : (k level j : ℕ) → Has (slice_index (replicate k 0) level) j → ⊥
-nothing_in zero level j has = no_member-zero j has
-nothing_in (suc k) zero j has = no_member-zero j has
-nothing_in (suc k) (suc level) j has = nothing_in k level j has
-
 abbrev PostedAt : ℕ → Posting → ℕ → ℕ → ℕ → Kind → Type 0
 PostedAt n p i j level kind = (level ≡ 0) × (kind ≡ Uni) × (j < n) × IsPosted p i j
 
 posted_at : (n : ℕ) (p : Posting) (i j level : ℕ) (kind : Kind) → Names (row_at n p i) level kind j → PostedAt n p i j level kind
 unfolding row_at
 posted_at n p i j zero Uni named = let has = (Has-set_of n (is_posted p i) j).0 named in (refl, refl, has.0, (Decides-posted p i j).0 has.1)
-posted_at n p i j (suc level) Uni named = absurd (nothing_in 3 level j named)
-posted_at n p i j level Multi named = absurd (nothing_in LEVELS level j named)
+posted_at n p i j (suc level) Uni named = absurd (no_members 3 level j named)
+posted_at n p i j level Multi named = absurd (no_members LEVELS level j named)
 
 named_at : (n : ℕ) (p : Posting) (i j : ℕ) → j < n → IsPosted p i j → Names (row_at n p i) 0 Uni j
 unfolding row_at

@@ -7,6 +7,7 @@ use Rattle.std.proofs.lemmas.Bool.{cases_eq}
 use Rattle.std.proofs.lemmas.List.{length-replicate, get_or-set_same, get_or-set_other}
 use Rattle.std.proofs.lemmas.List.Elements.{All-nil, All-cons, All-head, All-tail}
 use Rattle.std.proofs.lemmas.List.FromFn.{length-map-range_with_len, get_or-map-range_with_len}
+use Rattle.rotating_pick.proofs.Tables.{no_members}
 use Rattle.rotating_pick.specs.PortSets.{Has}
 use Rattle.rotating_pick.specs.declared.kinds.Kind.{Kind}
 use Rattle.rotating_pick.specs.declared.kinds.Kind.TheVariants.{Uni, Multi}
@@ -28,7 +29,6 @@ use Rattle.service_bound.specs.Windows.{IsClean, IsWithoutMulticast, InFirst, Ar
 use Rattle.service_bound.specs.Latest.{ServeLast}
 use Rattle.service_bound.proofs.LaterRounds.{first_of, length-first_of}
 use Rattle.service_bound.proofs.InWindows.{IsWindowSlot, first_slot, later_slots}
-use Rattle.service_bound.proofs.Postings.{nothing_in}
 use Rattle.service_bound.proofs.PostedRuns.{IsSwitch}
 use Rattle.service_bound.proofs.Renumbering.{Renumbers}
 use Rattle.service_bound.proofs.RenumberedSlots.{Carries, Posts, Side, PointAlike, AreAlike, MatchAlike, slots_alike, firsts_alike, pointers_alike}
@@ -65,7 +65,7 @@ module _ (n : ℕ) (ins_back outs_back : ℕ → ℕ) (l m : ℕ) where
     named_in : (rows : List Row) (x y level : ℕ) (kind : Kind) → Names (row_for rows x) level kind y → (level ≡ m) × (kind ≡ Uni) × (y < n)
         × Names (row_of rows (ins_back x)) l Uni (outs_back y)
     unfolding row_for set_for
-    named_in rows x y level Multi named = absurd (nothing_in LEVELS level y named)
+    named_in rows x y level Multi named = absurd (no_members LEVELS level y named)
     named_in rows x y level Uni named = elim (cases_eq level m) [
       | inl same ↦
           let there : m < length (replicate {A = ℕ} LEVELS 0) = let long = length-replicate {A = ℕ} LEVELS 0 in omega arith in
@@ -74,7 +74,7 @@ module _ (n : ℕ) (ins_back outs_back : ℕ → ℕ) (l m : ℕ) where
           let has = (Has-set_of n (λ v. is_named (row_of rows (ins_back x)) l Uni (outs_back v)) y).0
           (subst (λ s. Has s y) (get_or-set_same (replicate LEVELS 0) m (set_for rows x) 0 there) here) in
           (same, refl, has.0, (Decides-named (row_of rows (ins_back x)) l Uni (outs_back y)).0 has.1)
-      | inr other ↦ absurd (nothing_in LEVELS level y (subst (λ s. Has s y) (get_or-set_other (replicate LEVELS 0) m level (set_for rows x) 0 other) named))
+      | inr other ↦ absurd (no_members LEVELS level y (subst (λ s. Has s y) (get_or-set_other (replicate LEVELS 0) m level (set_for rows x) 0 other) named))
     ]
 
     -- what the renumbered rows name
