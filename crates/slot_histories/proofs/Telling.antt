@@ -16,7 +16,7 @@ use Rattle.eslip_rounds.specs.Decisions.{decision_of}
 use Rattle.slot_histories.specs.declared.events.Event.{Event}
 use Rattle.slot_histories.specs.declared.events.Event.TheVariants.{Post, Decide, Take}
 use Rattle.slot_histories.specs.Events.{Setup, posts_of, takes_of, posted, no_post}
-use Rattle.slot_histories.specs.Slots.{is_done_at, is_done_before, taken_under, taken_at, row_before, served_before_under, served_before}
+use Rattle.slot_histories.specs.Slots.{is_done_at, is_done_before, taken_under, taken_at, row_before, served_before_under}
 use Rattle.slot_histories.specs.Legal.{Allows, IsLegalAfter, IsLegal}
 use Rattle.slot_histories.specs.Answers.{takings_of}
 use Rattle.slot_histories.proofs.Appending.{posts_of-other, posts_of-decide, posts_of-take, takes_of-same, takes_of-other, takes_of-post}
