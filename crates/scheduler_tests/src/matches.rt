@@ -49,4 +49,7 @@ fn head_goes_on(rt: HostRuntime) {
     assert_eq!(rt; matched.free_inputs(), 0b100);
     assert_eq!(rt; matched.free_outputs(), 0);
     assert_eq!(rt; matched.multicasting(0), 0b001);
+    assert_eq!(rt; matched.outputs_at(0, Kind::Multi), 0b110);
+    assert_eq!(rt; matched.outputs_at(0, Kind::Uni), 0b001);
+    assert_eq!(rt; matched.outputs_at(1, Kind::Uni), 0);
 }

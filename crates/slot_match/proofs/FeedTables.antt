@@ -88,6 +88,16 @@ AreMarked-set inputs before after output input long inside port others marked j 
   | inr other ↦ rw (get_or-set_other inputs output j input 0 other) (marked j (sym (others j other) ∙ multi))
 ]
 
+-- what the marks say of an output that is fed
+pub marks-fed : (inputs : List ℕ) (marks : Marks) (j : ℕ) (f : Fed) → fed_of (feeds_of inputs marks) j ≡ Some f
+    → (j < MAX_PORTS) × (level_at marks j ≡ f.level) × (kind_at marks j ≡ f.kind)
+marks-fed inputs marks j f e = elim (cases_lt j MAX_PORTS) [
+  | inl below ↦
+      let p = fed_as-is (slice_index inputs j) (level_at marks j) (kind_at marks j) f (sym (fed_of-feeds_of inputs marks j below) ∙ e) in
+      (below, p.2, p.3)
+  | inr above ↦ absurd (none-some f (sym (get_or_past (feeds_of inputs marks) j None (let long = length-feeds_of inputs marks in omega arith)) ∙ e))
+]
+
 -- what the table and the marks say of an output that is served as multicast
 pub Serves-marked : (inputs : List ℕ) (marks : Marks) (i j level : ℕ) → Serves (feeds_of inputs marks) i j level Multi
     → (j < MAX_PORTS) × (slice_index inputs j ≡ i) × (level_at marks j ≡ level) × (kind_at marks j ≡ Multi)

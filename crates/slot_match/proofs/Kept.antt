@@ -1,6 +1,6 @@
 -- The fields of a match: at first, and after some pairs were added.
 use Rattle.std.proofs.Common.{◌≡◌, ◌≢◌, ℕ, zero, ◌+◌, ◌^◌, ◌<◌, ◌≤◌, ◌↔◌, ◌∙◌, List, Option, None, Some, length, take, count_by}
-use Rattle.std.proofs.Common.{is_some, sym, ap, subst, inl, inr, arith}
+use Rattle.std.proofs.Common.{is_some, refl, sym, ap, subst, inl, inr, arith}
 use Rattle.std.proofs.lemmas.Bool.{cases_lt}
 use Rattle.std.proofs.lemmas.Option.{none-some}
 use Rattle.std.proofs.lemmas.List.{get_or-replicate, get_or_past, length-replicate, length-take-le, take-replicate}
@@ -101,6 +101,30 @@ module _ (n count : ℕ) (table : List (Option Fed)) (free_inputs free_outputs :
             let below : on.some.0 < n = let count = kept.sets.whole.count in omega arith in
             (on.some.0, sym (fed_of-take n table on.some.0 below) ∙ on.some.1),
       )
+
+  -- the outputs that are fed at the level with the kind, found by what is free and by marks of the outputs that are fed
+  pub Has-fed_alike : (marked fan level : ℕ) (kind : Kind)
+      → ((j : ℕ) (f : Fed) → fed_of table j ≡ Some f → Has marked j ↔ ((f.level ≡ level) × (f.kind ≡ kind)))
+      → ((j : ℕ) → Has fan j ↔ (((j < n) × (Has free_outputs j → ⊥)) × Has marked j))
+      → (j : ℕ) → Has fan j ↔ ((i : ℕ) × Serves (take n table) i j level kind)
+  Has-fed_alike marked fan level kind marks fans j = (
+    λ has.
+        let p = (fans j).0 has in
+        let m = take n table in
+        let fed = is_fed (fed_of m j) (λ none. p.0.1 ((kept.sets.outputs_left j).1 (p.0.0, none))) in
+        let e : fed_of table j ≡ Some fed.0 = sym (fed_of-take n table j p.0.0) ∙ fed.1 in
+        let alike = (marks j fed.0 e).0 p.1 in
+        (fed.0.input, Serves-along m fed.0.input j fed.0.level level fed.0.kind kind alike.0 alike.1 (Serves-from m j fed.0 fed.1)),
+    λ s.
+        let f : Fed = record { input = s.0; level = level; kind = kind } in
+        let lt = fed_of-lt (take n table) j f s.1 in
+        let below : j < n = let count = kept.sets.whole.count in omega arith in
+        let e : fed_of table j ≡ Some f = sym (fed_of-take n table j below) ∙ s.1 in
+        (fans j).1 ((below, λ free. none-some f (sym ((kept.sets.outputs_left j).0 free).1 ∙ s.1)), (marks j f e).1 (refl, refl)),
+  ) where
+    is_fed : (o : Option Fed) → (o ≡ None → ⊥) → (f : Fed) × (o ≡ Some f)
+    is_fed None some = absurd (some refl)
+    is_fed (Some f) some = (f, refl)
 
   module _ (now : List (Option Fed)) (view : take n table ≡ now) (input outputs level : ℕ) (kind : Kind) (input_in : input < length now)
       (level_in : level < LEVELS) (may : MayAdd (length now) now input outputs level kind) (after : List (Option Fed)) (more : ℕ)

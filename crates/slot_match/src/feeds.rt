@@ -1,11 +1,12 @@
 ghost use Rattle.std.specs.Prelude.{◌≡◌, ◌<◌, ◌↔◌, ℕ, Some, replicate, slice_set};
 ghost use Rattle.rotating_pick.specs.PortSets.{Has};
 ghost use Rattle.rotating_pick.specs.declared.kinds.Kind.TheVariants.{Multi};
+ghost use Rattle.slot_match.specs.declared.matching.Fed.{Fed};
 ghost use Rattle.slot_match.specs.Matches.{unmatched, fed_of, Serves};
 
 use crate::marks::Marks;
 use crate::matching::Fed;
-use rotating_pick::{LEVELS, MAX_PORTS, PORT_COUNT, Ports, lowest, with, without};
+use rotating_pick::{Kind, LEVELS, MAX_PORTS, PORT_COUNT, Ports, lowest, with, without};
 use std::marker::Model;
 
 // In place of an input, where an output is free: a byte that names no port.
@@ -64,12 +65,20 @@ impl Feeds {
         ensures { (i : ℕ) → Has result i ↔ ((j : ℕ) × Serves self.now i j level Multi) }
     {
         let mut found = 0;
-        let mut rest = self.marks.multicast(level);
+        let mut rest = self.marks.alike(level, Kind::Multi);
         while let Some(output) = lowest(rest) {
             found = with(found, u32::from(self.inputs[output as usize]));
             rest = without(rest, output);
         }
         found
+    }
+
+    /// A set that has, of the outputs that are fed, those at the level of the kind.
+    pub(crate) fn alike(&self, level: u8, kind: Kind) -> Ports
+        requires { level < LEVELS }
+        ensures { (j : ℕ) (fed : Fed) → fed_of self.now j ≡ Some fed → Has result j ↔ ((fed.level ≡ level) × (fed.kind ≡ kind)) }
+    {
+        self.marks.alike(level, kind)
     }
 
     /// Feeds the output by an input.

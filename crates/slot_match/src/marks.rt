@@ -5,7 +5,7 @@ ghost use Rattle.rotating_pick.specs.declared.kinds.Kind.TheVariants.{Multi};
 ghost use Rattle.slot_match.specs.FieldSteps.{level_at, kind_at};
 
 use rotating_pick::{
-    Kind, LEVELS, MAX_PORTS, Ports, contains, difference, intersection, with, without,
+    Kind, LEVELS, MAX_PORTS, Ports, all, contains, difference, intersection, with, without,
 };
 
 /// A level and a kind for each output, as three sets of outputs.
@@ -51,13 +51,13 @@ impl Marks {
         }
     }
 
-    /// The outputs of multicast at the level.
-    pub(crate) fn multicast(&self, level: u8) -> Ports
+    /// The outputs that have the level and the kind.
+    pub(crate) fn alike(&self, level: u8, kind: Kind) -> Ports
         requires { level < LEVELS }
-        ensures members { (j : ℕ) → Has result j ↔ ((level_at self.now j ≡ level) × (kind_at self.now j ≡ Multi)) }
-        ensures inside { (j : ℕ) → Has result j → j < MAX_PORTS }
+        ensures { (j : ℕ) → Has result j ↔ ((j < MAX_PORTS) × (level_at self.now j ≡ level) × (kind_at self.now j ≡ kind)) }
     {
-        let alike = part(self.multi, self.low, is_odd(level));
+        let of_kind = part(all(MAX_PORTS), self.multi, is_multi(kind));
+        let alike = part(of_kind, self.low, is_odd(level));
         part(alike, self.high, is_high(level))
     }
 

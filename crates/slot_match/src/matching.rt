@@ -141,6 +141,15 @@ impl Match {
         self.fed.multicasting(level)
     }
 
+    /// The outputs that are fed at the level, as unicast or as multicast.
+    pub fn outputs_at(&self, level: u8, kind: Kind) -> Ports
+        requires { level < LEVELS }
+        ensures { (j : ℕ) → Has result j ↔ ((i : ℕ) × Serves self.now i j level kind) }
+    {
+        let fed = difference(all(self.ports), self.free_outputs);
+        intersection(fed, self.fed.alike(level, kind))
+    }
+
     /// The input's part of the match, None exactly where it is free.
     pub fn served(&self, input: u32) -> Option<Served>
         requires { input < length self.now }

@@ -9,10 +9,10 @@ use Rattle.slot_match.proofs.feeds.Feeds.multicasting.Goals as goal
 
 pub loop-output-init : goal.loop-output-init
 loop-output-init c =
-    let all = c.multicast-rest.ensures in
+    let all = c.alike-rest.ensures in
     record {
-      left = λ j has. let p = (all.members j).0 has in (all.inside j has, p.0, p.1);
-      done = λ i. (λ has. absurd (no_member-zero i has), λ p. absurd (p.4 ((all.members p.0).1 (p.2, p.3))));
+      left = λ j has. (all j).0 has;
+      done = λ i. (λ has. absurd (no_member-zero i has), λ p. absurd (p.4 ((all p.0).1 (p.1, p.2, p.3))));
     }
 
 pub with-found-requires : goal.with-found-requires
