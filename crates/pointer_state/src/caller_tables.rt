@@ -1,6 +1,6 @@
-ghost use Rattle.std.specs.Prelude.{◌≡◌, ℕ, ◌<◌, ◌≤◌, ◌↔◌, [], IsTrue, length, slice_index, slice_index_or};
-ghost use Rattle.pointer_state.specs.Places.{IsTable, ArePointing};
-ghost use Rattle.pointer_state.specs.CallerTables.{ArePlacedBelow, places_from};
+ghost use Rattle.std.specs.Prelude.{ℕ, ◌<◌, ◌≤◌, ◌↔◌, IsTrue, slice_index};
+ghost use Rattle.pointer_state.specs.Places.{ArePointing};
+ghost use Rattle.pointer_state.specs.CallerTables.{AreInRange, ArePlacedBelow, places_from};
 
 use rotating_pick::{LEVEL_COUNT, LEVELS, MAX_PORTS, PORT_COUNT};
 
@@ -18,14 +18,21 @@ pub struct PointerTables {
     pub shared: [u32; LEVEL_COUNT],
 }
 
+impl PointerTables {
+    /// Whether the tables are those of a switch of `n` ports: `n` is 1 to 64, and the shared pointers and those of
+    /// the `n` ports are at one of them.
+    pub fn is_in_range(&self, n: u32) -> bool
+        ensures { IsTrue result ↔ AreInRange n self.now }
+    {
+        0 < n && n <= MAX_PORTS && are_pointing(n, self)
+    }
+}
+
 // Whether each pointer of the n ports is at one of them.
-pub(crate) fn are_pointing(n: u32, tables: &PointerTables) -> bool
+fn are_pointing(n: u32, tables: &PointerTables) -> bool
     requires some { 0 < n }
     requires size { n ≤ MAX_PORTS }
-    ensures below { IsTrue result ↔ ArePlacedBelow n tables.now }
-
-    // What the types of the tables say, for a proof that has only the tables' values.
-    ensures whole { IsTrue result → IsTable tables.now.grant × IsTable tables.now.accept × (length tables.now.shared ≡ LEVELS) }
+    ensures { IsTrue result ↔ ArePlacedBelow n tables.now }
 {
     for level in 0..LEVEL_COUNT {
         if !is_level_pointing(n, tables, level) {
@@ -40,9 +47,7 @@ fn is_level_pointing(n: u32, tables: &PointerTables, level: usize) -> bool
     requires some { 0 < n }
     requires size { n ≤ MAX_PORTS }
     requires level_in { level < LEVELS }
-    ensures below { IsTrue result ↔ ArePointing n level (places_from n tables.now) }
-    ensures whole { IsTrue result → (length (slice_index_or tables.now.grant level []) ≡ MAX_PORTS)
-        × (length (slice_index_or tables.now.accept level []) ≡ MAX_PORTS) }
+    ensures { IsTrue result ↔ ArePointing n level (places_from n tables.now) }
 {
     greatest_place(n, &tables.grant[level], &tables.accept[level]) < n && tables.shared[level] < n
 }
@@ -52,9 +57,8 @@ fn is_level_pointing(n: u32, tables: &PointerTables, level: usize) -> bool
 fn greatest_place(n: u32, grant: &[u32; PORT_COUNT], accept: &[u32; PORT_COUNT]) -> u32
     requires some { 0 < n }
     requires size { n ≤ MAX_PORTS }
-    ensures below { (bound : ℕ) → 0 < bound
+    ensures { (bound : ℕ) → 0 < bound
         → (result < bound) ↔ ((port : ℕ) → port < n → (slice_index grant.now port < bound) × (slice_index accept.now port < bound)) }
-    ensures whole { (length grant.now ≡ MAX_PORTS) × (length accept.now ≡ MAX_PORTS) }
 {
     let mut greatest: u32 = 0;
     for port in 0..n as usize {

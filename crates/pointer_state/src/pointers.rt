@@ -1,9 +1,9 @@
-ghost use Rattle.std.specs.Prelude.{◌≡◌, ℕ, ◌+◌, ◌%◌, ◌<◌, ◌≤◌, ◌↔◌, IsTrue, IsFalse, IsSome, IfSome, replicate, slice_index};
+ghost use Rattle.std.specs.Prelude.{◌≡◌, ℕ, ◌+◌, ◌%◌, ◌<◌, ◌≤◌, ◌↔◌, IsSome, IfSome, length, replicate, slice_index};
 ghost use Rattle.pointer_state.specs.CallerTables.{AreInRange, places_from, tables_of};
-ghost use Rattle.pointer_state.specs.Places.{place_of, grant_of, accept_of, shared_of, with_place, AreAtPorts, places_at_first, places_met};
+ghost use Rattle.pointer_state.specs.Places.{place_of, grant_of, accept_of, shared_of, with_place, IsTable, AreAtPorts, places_at_first, places_met};
 ghost use Rattle.pointer_state.specs.Places.{places_passed, places_held};
 
-use crate::caller_tables::{PointerTables, are_pointing};
+use crate::caller_tables::PointerTables;
 use rotating_pick::{LEVEL_COUNT, LEVELS, MAX_PORTS, PORT_COUNT, next};
 use std::marker::Model;
 
@@ -38,6 +38,23 @@ fn table_at_first() -> [[u32; PORT_COUNT]; LEVEL_COUNT]
     [[0; PORT_COUNT]; LEVEL_COUNT]
 }
 
+// The table, of which its type says how long it is, for a proof that has only the value.
+fn table_of(table: &[[u32; PORT_COUNT]; LEVEL_COUNT]) -> [[u32; PORT_COUNT]; LEVEL_COUNT]
+    ensures value { result ≡ table.now }
+    ensures whole { IsTable result }
+{
+    let [best, second, third, worst] = table;
+    [row_of(best), row_of(second), row_of(third), row_of(worst)]
+}
+
+// The same of a level's row.
+fn row_of(row: &[u32; PORT_COUNT]) -> [u32; PORT_COUNT]
+    ensures value { result ≡ row.now }
+    ensures whole { length result ≡ MAX_PORTS }
+{
+    *row
+}
+
 // Sets the place of the level and port.
 fn point(table: &mut [[u32; PORT_COUNT]; LEVEL_COUNT], level: u8, port: u32, place: u32)
     requires level_in { level < LEVELS }
@@ -67,8 +84,8 @@ impl Pointers {
         }
     }
 
-    /// The pointers of `n` ports that are where the tables say. None exactly where `n` is not 1 to 64, or a
-    /// pointer of one of the `n` ports, or a shared one, is at none of them.
+    /// The pointers of `n` ports that are where the tables say. None exactly where [`PointerTables::is_in_range`]
+    /// says no: where `n` is not 1 to 64, or a pointer of one of the `n` ports, or a shared one, is at none of them.
     pub fn from_tables(n: u32, tables: &PointerTables) -> Option<Pointers>
         ensures some { IsSome result ↔ AreInRange n tables.now }
         ensures value { IfSome result (λ p. p ≡ places_from n tables.now) }
@@ -78,34 +95,29 @@ impl Pointers {
         ensures accept { IfSome result (λ p. (i level : ℕ) → accept_of p i level ≡ place_of tables.now.accept level i) }
         ensures shared { IfSome result (λ p. (level : ℕ) → shared_of p level ≡ slice_index tables.now.shared level) }
     {
-        let mut pointers = Pointers::new(1);
-        if pointers.set_tables(n, tables) {
-            Some(pointers)
+        if tables.is_in_range(n) {
+            Some(Pointers::at_tables(n, tables))
         } else {
             None
         }
     }
 
-    /// Points where the tables say, for a switch of `n` ports, and answers whether that can be. False exactly
-    /// where [`Pointers::from_tables`] gives None; nothing has changed then.
-    pub fn set_tables(&mut self, n: u32, tables: &PointerTables) -> bool
-        ensures set { IsTrue result ↔ AreInRange n tables.now }
-        ensures value { IsTrue result → self.new ≡ places_from n tables.now }
-        ensures at_ports { IsTrue result → AreAtPorts self.new }
-        ensures ports { IsTrue result → self.new.ports ≡ n }
-        ensures grant { IsTrue result → (j level : ℕ) → grant_of self.new j level ≡ place_of tables.now.grant level j }
-        ensures accept { IsTrue result → (i level : ℕ) → accept_of self.new i level ≡ place_of tables.now.accept level i }
-        ensures shared { IsTrue result → (level : ℕ) → shared_of self.new level ≡ slice_index tables.now.shared level }
-        ensures unchanged { IsFalse result → self.new ≡ self.old }
+    /// The pointers of `n` ports that are where the tables say, which [`PointerTables::is_in_range`] has tested.
+    pub fn at_tables(n: u32, tables: &PointerTables) -> Pointers
+        requires { AreInRange n tables.now }
+        ensures value { result ≡ places_from n tables.now }
+        ensures at_ports { AreAtPorts result }
+        ensures ports { result.ports ≡ n }
+        ensures grant { (j level : ℕ) → grant_of result j level ≡ place_of tables.now.grant level j }
+        ensures accept { (i level : ℕ) → accept_of result i level ≡ place_of tables.now.accept level i }
+        ensures shared { (level : ℕ) → shared_of result level ≡ slice_index tables.now.shared level }
     {
-        if n == 0 || n > MAX_PORTS || !are_pointing(n, tables) {
-            return false;
+        Pointers {
+            ports: n,
+            grant: table_of(&tables.grant),
+            accept: table_of(&tables.accept),
+            shared: tables.shared,
         }
-        self.ports = n;
-        self.grant = tables.grant;
-        self.accept = tables.accept;
-        self.shared = tables.shared;
-        true
     }
 
     /// Writes into a caller's tables where the pointers are, so that [`Pointers::from_tables`] gives the same

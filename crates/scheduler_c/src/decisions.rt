@@ -46,10 +46,10 @@ pub fn decide_by(
     if !is_size(n, rounds) || feeds.len() != n as usize || !are_rows(n, rows) {
         return REFUSED;
     }
-    let mut places = Pointers::new(n);
-    if !places.set_tables(n, pointers) {
+    if !pointers.is_in_range(n) {
         return REFUSED;
     }
+    let mut places = Pointers::at_tables(n, pointers);
     let mut matched = Match::new(n);
     let numbers = decide_slot(scheduler, n, rounds, slot, rows, &mut places, &mut matched);
     places.put_tables(pointers);

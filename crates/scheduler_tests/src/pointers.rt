@@ -81,15 +81,20 @@ fn tables_out_of_range_are_refused(rt: HostRuntime) {
     assert!(rt; Pointers::from_tables(4, &tables).is_none());
 }
 
-// Pointers of three ports are pointed anew, to four ports and to two; a table that is refused changes nothing.
+// Tables of 1 to 64 ports give the pointers where the places of these ports are in range.
 #[test]
-fn tables_are_set_in_place(rt: HostRuntime) {
+fn tables_in_range_give_pointers(rt: HostRuntime) {
     let mut tables = AT_ZERO;
+    assert!(rt; tables.is_in_range(1) && tables.is_in_range(64));
+    assert!(rt; !tables.is_in_range(0) && !tables.is_in_range(65));
     tables.grant[0][3] = 3;
     tables.accept[3][1] = 1;
     tables.shared[2] = 1;
-    let mut pointers = Pointers::new(3);
-    assert!(rt; pointers.set_tables(4, &tables));
+    assert!(rt; !tables.is_in_range(1));
+    if !tables.is_in_range(4) {
+        return assert!(rt; false, "four ports");
+    }
+    let pointers = Pointers::at_tables(4, &tables);
     assert_eq!(rt; pointers.ports(), 4);
     assert_eq!(rt;
         [
@@ -99,12 +104,4 @@ fn tables_are_set_in_place(rt: HostRuntime) {
         ],
         [3, 1, 1]
     );
-    let before = pointers;
-    tables.shared[2] = 4;
-    assert!(rt; !pointers.set_tables(4, &tables));
-    assert!(rt; !pointers.set_tables(0, &tables));
-    assert!(rt; !pointers.set_tables(65, &tables));
-    assert!(rt; pointers == before);
-    assert!(rt; pointers.set_tables(2, &AT_ZERO));
-    assert!(rt; pointers == Pointers::new(2));
 }

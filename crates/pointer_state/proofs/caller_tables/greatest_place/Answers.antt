@@ -20,8 +20,8 @@ loop-port-preserved c bound some =
           omega (arith, both, greater),
     )
 
-pub returns-clause-below : goal.returns-clause-below
-returns-clause-below c bound some =
+pub returns : goal.returns
+returns c bound some =
     let all = c.loop-port.invariant bound some in (
       λ less port port_in. all.0 less port (omega arith),
       λ places. all.1 (λ port port_in. places port (omega arith)),
