@@ -10,6 +10,7 @@ use Rattle.rotating_pick.specs.declared.limits.TheConstants.{LEVELS, MAX_PORTS}
 use Rattle.slot_match.specs.declared.matching.Fed.{Fed}
 use Rattle.slot_match.specs.Matches.{fed_of, IsMatch}
 use Rattle.scheduler_c.specs.declared.feeds.FeedWords.{FeedWords}
+use Rattle.scheduler_c.specs.FeedSteps.{AreWritten}
 use Rattle.scheduler_c.specs.Feeds.{kind_word, no_feed, feed_words, kind_from, feed_from, matched_from, IsFeed, AreFeeds}
 
 -- the words of a kind are of that kind, and no other number
@@ -53,3 +54,11 @@ module _ (n : ℕ) (size : n ≤ MAX_PORTS) (matched : List (Option Fed)) (whole
         λ some is. (whole.input_in some.input j some.level some.kind is, whole.level_in some.input j some.level some.kind is) in
         subst (IsFeed n) (sym (each j (omega (arith, count)))) (IsFeed-words n (fed_of matched j) within));
   }
+
+-- the same of the words of a match that were written
+pub matched_from-written : (matched : List (Option Fed)) (feeds : List FeedWords) → length matched ≤ MAX_PORTS → IsMatch (length matched) matched
+    → AreWritten matched feeds → (matched_from feeds ≡ matched) × AreFeeds (length matched) feeds
+matched_from-written matched feeds size whole written = (
+  matched_from-each (length matched) size matched whole feeds written.count written.each,
+  AreFeeds-each (length matched) size matched whole feeds written.count written.each,
+)

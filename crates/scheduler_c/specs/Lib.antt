@@ -6,3 +6,4 @@ pub mod FourLevels
 pub mod SchedulerSteps
 pub mod Matches
 pub mod Waits
+pub mod FeedSteps

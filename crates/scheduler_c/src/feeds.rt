@@ -1,8 +1,10 @@
-ghost use Rattle.std.specs.Prelude.{◌≡◌, ◌<◌, ◌≤◌, ◌↔◌, length, IsTrue, IfSome};
+ghost use Rattle.std.specs.Prelude.{◌≡◌, ℕ, ◌<◌, ◌≤◌, ◌↔◌, length, IsTrue, IfSome};
+ghost use Rattle.slot_match.specs.Matches.{fed_of};
 ghost use Rattle.scheduler_c.specs.Feeds.{IsFeed, AreFeeds, feed_words, feed_from, kind_word, matched_from};
+ghost use Rattle.scheduler_c.specs.FeedSteps.{IsBest, AreWritten};
 
 use crate::words::NO_PORT;
-use rotating_pick::{Kind, LEVELS, MAX_PORTS};
+use rotating_pick::{Kind, LEVELS, MAX_PORTS, all, is_subset, union};
 use slot_match::{Fed, Match};
 
 /// What feeds an output: the input, the level, and the kind, 0 for unicast and 1 for multicast. All three are
@@ -21,8 +23,32 @@ pub fn put_feeds(matched: &Match, feeds: &mut [FeedWords])
     ensures matched { matched_from feeds.new ≡ matched.now }
     ensures feeds { AreFeeds (length matched.now) feeds.new }
 {
+    let best = union(matched.free_outputs(), matched.outputs_at(0, Kind::Uni));
+    if is_subset(all(matched.ports()), best) {
+        put_best(matched, feeds);
+    } else {
+        put_each(matched, feeds);
+    }
+}
+
+// Writes what feeds each output, whatever its level and kind.
+fn put_each(matched: &Match, feeds: &mut [FeedWords])
+    requires { length feeds.old ≡ length matched.now }
+    ensures { AreWritten matched.now feeds.new }
+{
     for output in 0..matched.ports() {
         feeds[output as usize] = feed_words(matched.fed(output));
+    }
+}
+
+// The same of a match of level 0 and unicast alone, with no look at each output's level and kind.
+fn put_best(matched: &Match, feeds: &mut [FeedWords])
+    requires count { length feeds.old ≡ length matched.now }
+    requires best { (j : ℕ) → IfSome (fed_of matched.now j) IsBest }
+    ensures { AreWritten matched.now feeds.new }
+{
+    for output in 0..matched.ports() {
+        feeds[output as usize] = best_words(matched.fed(output));
     }
 }
 
@@ -35,6 +61,25 @@ fn feed_words(fed: Option<Fed>) -> FeedWords
             input: fed.input,
             level: u32::from(fed.level),
             kind: kind_word(fed.kind),
+        },
+        None => FeedWords {
+            input: NO_PORT,
+            level: NO_PORT,
+            kind: NO_PORT,
+        },
+    }
+}
+
+// The same of an output that is free or fed as unicast of level 0.
+fn best_words(fed: Option<Fed>) -> FeedWords
+    requires { IfSome fed IsBest }
+    ensures { result ≡ feed_words fed }
+{
+    match fed {
+        Some(fed) => FeedWords {
+            input: fed.input,
+            level: 0,
+            kind: 0,
         },
         None => FeedWords {
             input: NO_PORT,

@@ -1,24 +1,36 @@
-use Rattle.std.proofs.Common.{◌∙◌, arith, subst, length}
+use Rattle.std.proofs.Common.{subst, arith}
 use Rattle.slot_match.specs.Matches.{IsMatch}
-use Rattle.scheduler_c.proofs.Copies.{matched_from-each, AreFeeds-each}
+use Rattle.scheduler_c.proofs.Copies.{matched_from-written}
 use Rattle.scheduler_c.proofs.feeds.put_feeds.Goals as goal
 
-pub returns-clause-matched : goal.returns-clause-matched
-returns-clause-matched c =
-    let ports = c.ports-output-end.ensures in
-    let n = length c.args.matched.now in
-    let size = ports.size in
+pub returns-then-is_subset-clause-matched : goal.returns-then-is_subset-clause-matched
+returns-then-is_subset-clause-matched c =
+    let matched = c.args.matched.now in
+    let ports = c.ports.ensures in
     let value = ports.value in
-    let whole : IsMatch n c.args.matched.now = subst (λ m. IsMatch m c.args.matched.now) ports.value ports.whole in
-    matched_from-each n (omega arith) c.args.matched.now whole c.loop-output.feeds (c.loop-output.auto.feeds ∙ c.requires)
-    (λ j below. c.loop-output.invariant j (omega (arith, c.loop-output-test.false)))
+    let below = ports.size in
+    (matched_from-written matched c.put_best.new.feeds (omega arith) (subst (λ n. IsMatch n matched) ports.value ports.whole) c.put_best.ensures).0
 
-pub returns-clause-feeds : goal.returns-clause-feeds
-returns-clause-feeds c =
-    let ports = c.ports-output-end.ensures in
-    let n = length c.args.matched.now in
-    let size = ports.size in
+pub returns-then-is_subset-clause-feeds : goal.returns-then-is_subset-clause-feeds
+returns-then-is_subset-clause-feeds c =
+    let matched = c.args.matched.now in
+    let ports = c.ports.ensures in
     let value = ports.value in
-    let whole : IsMatch n c.args.matched.now = subst (λ m. IsMatch m c.args.matched.now) ports.value ports.whole in
-    AreFeeds-each n (omega arith) c.args.matched.now whole c.loop-output.feeds (c.loop-output.auto.feeds ∙ c.requires)
-    (λ j below. c.loop-output.invariant j (omega (arith, c.loop-output-test.false)))
+    let below = ports.size in
+    (matched_from-written matched c.put_best.new.feeds (omega arith) (subst (λ n. IsMatch n matched) ports.value ports.whole) c.put_best.ensures).1
+
+pub returns-else-is_subset-clause-matched : goal.returns-else-is_subset-clause-matched
+returns-else-is_subset-clause-matched c =
+    let matched = c.args.matched.now in
+    let ports = c.ports.ensures in
+    let value = ports.value in
+    let below = ports.size in
+    (matched_from-written matched c.put_each.new.feeds (omega arith) (subst (λ n. IsMatch n matched) ports.value ports.whole) c.put_each.ensures).0
+
+pub returns-else-is_subset-clause-feeds : goal.returns-else-is_subset-clause-feeds
+returns-else-is_subset-clause-feeds c =
+    let matched = c.args.matched.now in
+    let ports = c.ports.ensures in
+    let value = ports.value in
+    let below = ports.size in
+    (matched_from-written matched c.put_each.new.feeds (omega arith) (subst (λ n. IsMatch n matched) ports.value ports.whole) c.put_each.ensures).1
