@@ -35,9 +35,12 @@ from_of-lt places at_ports j level Multi j_in level_in = (at_ports.pointing leve
 
 module _ (n : ℕ) (first_kind : Kind) (asks : Asks) (ready : List ℕ) (places : Places) (j : ℕ) where
   asks-decides : (rank i : ℕ) → Decides (AsksAt asks ready j rank i)
-  asks-decides rank i = elim (Has-or _ i) [
-    | inr lacks ↦ inr (λ p. lacks p.0)
-    | inl named ↦ elim (Has-or (slice_index ready rank) i) [ inr lacks ↦ inr (λ p. lacks p.1) | inl has ↦ inl (named, has) ]
+  asks-decides rank i = elim (Has-or asks.ranks rank) [
+    | inr lacks ↦ inr (λ p. lacks p.0.0)
+    | inl occurs ↦ elim (Has-or _ i) [
+      | inr lacks ↦ inr (λ p. lacks p.0.1)
+      | inl named ↦ elim (Has-or (slice_index ready rank) i) [ inr lacks ↦ inr (λ p. lacks p.1) | inl has ↦ inl ((occurs, named), has) ]
+    ]
   ]
 
   -- an output chooses once
@@ -58,7 +61,7 @@ module _ (n : ℕ) (first_kind : Kind) (asks : Asks) (ready : List ℕ) (places 
   Some-iff_chosen f g from_in a = (λ e. subst (IsChosen n first_kind asks ready places j) (same_Some f g e) a, λ b. ap Some (IsChosen-only f g from_in a b))
 
 module _ (n t : ℕ) (rows : List Row) (asks : Asks) (ready : List ℕ) (before : List (Option Fed)) (are : AreAsks n (preferred t) rows asks)
-    (readies : AreReady n (preferred t) before ready) (j : ℕ) where
+    (readies : AreReady n (preferred t) before ready) (j : ℕ) (j_in : j < n) where
   -- an input that may ask and names the output stands in the column
   AsksAt-named : (x m : ℕ) (k : Kind) → x < n → m < LEVELS → MayAsk before m k x → Names (row_of rows x) m k j
       → AsksAt asks ready j (rank_of (preferred t) m k) x
@@ -71,7 +74,8 @@ module _ (n t : ℕ) (rows : List Row) (asks : Asks) (ready : List ℕ) (before 
       let P : ℕ → Type 0 = λ l. Names (row_of rows x) l k j × MayAsk before l k x in
       let Q : Kind → Type 0 = λ q. Names (row_of rows x) (level_at rank) q j × MayAsk before (level_at rank) q x in
       let here = subst Q (sym kind_is) (subst P (sym level_is) (named, may)) in
-      ((are.columns rank x j rank_in).1 (x_in, here.0), (readies rank x rank_in).1 (x_in, here.1))
+      let occurs = are.ranks rank x j rank_in x_in here.0 in
+      ((occurs, (are.columns rank x j occurs j_in).1 (x_in, here.0)), (readies rank x rank_in).1 (x_in, here.1))
 
   -- what is asked stands in the columns
   pub AsksAt-asked : (x m : ℕ) (k : Kind) → x < n → Requests rows before x j m k → AsksAt asks ready j (rank_of (preferred t) m k) x
@@ -87,7 +91,7 @@ module _ (n t : ℕ) (rows : List Row) (asks : Asks) (ready : List ℕ) (before 
       → Requests rows before x j (level_at rank) (kind_at (preferred t) rank)
   asked_at_least rank x rank_in p none =
       let first_kind = preferred t in
-      let named = (are.columns rank x j rank_in).0 p.0 in
+      let named = (are.columns rank x j p.0.0 j_in).0 p.0.1 in
       let may = (readies rank x rank_in).0 p.1 in
       let level_in = level_at-lt rank rank_in in
       elim may.1 [
@@ -108,10 +112,10 @@ module _ (n t : ℕ) (rows : List Row) (asks : Asks) (ready : List ℕ) (before 
             inr (record { level_in = level_in; going_on = on.1; multicast = on.0; named = subst S on.0 named.1 })
       ]
 
-  column_in : (rank x : ℕ) → rank < RANKS → AsksAt asks ready j rank x → x < n
-  column_in rank x rank_in p = ((are.columns rank x j rank_in).0 p.0).0
+  column_in : (rank x : ℕ) → AsksAt asks ready j rank x → x < n
+  column_in rank x p = ((are.columns rank x j p.0.0 j_in).0 p.0.1).0
 
-  module _ (places : Places) (j_in : j < n) (vacant : IsFreeOutput before j) where
+  module _ (places : Places) (vacant : IsFreeOutput before j) where
     pub Grants-from_chosen : (rank i : ℕ) → IsChosen n (preferred t) asks ready places j (record { rank = rank; input = i })
         → Grants n t rows places before i j (level_at rank) (kind_at (preferred t) rank)
     Grants-from_chosen rank i c =
@@ -148,11 +152,11 @@ module _ (n t : ℕ) (rows : List Row) (asks : Asks) (ready : List ℕ) (before 
           | inr none ↦ inr (λ p. none p.0 p.1 p.2)
         ] in
         let none_lower : (r x : ℕ) → r < rank → AsksAt asks ready j r x → ⊥ = λ r x lower p. elim (least Some_asks decides rank) [
-          | inr none ↦ none r lower (x, column_in r x (omega arith) p, p)
+          | inr none ↦ none r lower (x, column_in r x p, p)
           | inl found ↦
               let low = found.0 in
               let low_in : low < RANKS = let below = found.1 in omega arith in
-              let none_below : (q y : ℕ) → q < low → AsksAt asks ready j q y → ⊥ = λ q y less h. found.3 q less (y, column_in q y (omega arith) h, h) in
+              let none_below : (q y : ℕ) → q < low → AsksAt asks ready j q y → ⊥ = λ q y less h. found.3 q less (y, column_in q y h, h) in
               let asked = asked_at_least low found.2.0 low_in found.2.2 none_below in
               let above = IsBest-to_rank t P m k g.best (level_at low) (kind_at first_kind low) (found.2.0, found.2.1, asked) in
               let at = rank_of-at first_kind low in

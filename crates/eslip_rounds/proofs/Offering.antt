@@ -11,7 +11,6 @@ use Rattle.eslip_rounds.specs.declared.asks.Asks.{Asks}
 use Rattle.eslip_rounds.specs.declared.grants.Choice.{Choice}
 use Rattle.eslip_rounds.specs.declared.grants.Offers.{Offers}
 use Rattle.eslip_rounds.specs.RankSteps.{level_at, kind_at}
-use Rattle.eslip_rounds.specs.declared.ranks.TheConstants.{RANKS}
 use Rattle.eslip_rounds.specs.Steps.{column_of, AreReady, IsChosen, AreOffers, IsOffered, AreOpen}
 use Rattle.eslip_rounds.proofs.RankLemmas.{level_at-lt}
 use Rattle.eslip_rounds.proofs.Choosing.{IsChosen-only, from_of-lt}
@@ -144,7 +143,7 @@ module _ (P Q : ℕ → ℕ → ℕ → Type 0) (old new : Offers) (input output
 -- the free outputs that any row names offer all that the free outputs offer
 pub AreOffers-asked : (n : ℕ) (first_kind : Kind) (asks : Asks) (ready : List ℕ) (places : Places) (before : List (Option Fed)) (free asked : ℕ)
     (offers : Offers) → ((j : ℕ) → Has free j ↔ ((j < n) × IsFreeOutput before j)) → ((j : ℕ) → Has asked j ↔ (Has free j × Has asks.outputs j))
-    → ((rank i j : ℕ) → rank < RANKS → Has (column_of asks.columns rank j) i → Has asks.outputs j)
+    → ((rank i j : ℕ) → Has asks.ranks rank → j < n → Has (column_of asks.columns rank j) i → Has asks.outputs j)
     → AreOffers (λ i j rank. Has asked j × IsChosen n first_kind asks ready places j (record { rank = rank; input = i })) offers
     → AreOffers (λ i j rank. ((j < n) × IsFreeOutput before j) × IsChosen n first_kind asks ready places j (record { rank = rank; input = i })) offers
 AreOffers-asked n first_kind asks ready places before free asked offers frees both named =
@@ -152,7 +151,7 @@ AreOffers-asked n first_kind asks ready places before free asked offers frees bo
     (λ i j rank. ((j < n) × IsFreeOutput before j) × IsChosen n first_kind asks ready places j (record { rank = rank; input = i })) offers
     (λ i j rank. (
       λ p. ((frees j).0 ((both j).0 p.0).0, p.1),
-      λ q. ((both j).1 ((frees j).1 q.0, named rank i j q.1.rank_in q.1.picked.member.0), q.1),
+      λ q. ((both j).1 ((frees j).1 q.0, named rank i j q.1.picked.member.0.0 q.0.0 q.1.picked.member.0.1), q.1),
     ))
 
 -- what the free outputs offer may be taken

@@ -29,7 +29,7 @@ module _ (n t : ℕ) (rows : List Row) (places : Places) (asks : Asks) (at_ports
     (are_told : AreToldOf n (preferred t) asks places (λ j. ((j < n) × (Has first_outputs j → ⊥)) × Has asks.outputs j) refused) where
   granted : (i j level : ℕ) → j < n → GrantsUnicast n (preferred t) asks are_told.ready places i j level → Grants n t rows places (unmatched n) i j level Uni
   granted i j level j_in chosen =
-      let g = Grants-from_chosen n t rows asks are_told.ready (unmatched n) are are_told.readies j places j_in (fed_of-unmatched n j) chosen.0 i chosen.1 in
+      let g = Grants-from_chosen n t rows asks are_told.ready (unmatched n) are are_told.readies j j_in places (fed_of-unmatched n j) chosen.0 i chosen.1 in
       let P : ℕ → Type 0 = λ m. Grants n t rows places (unmatched n) i j m (kind_at (preferred t) chosen.0) in
       let Q : Kind → Type 0 = λ k. Grants n t rows places (unmatched n) i j level k in
       subst Q chosen.2 (subst P (sym chosen.3) g)
@@ -39,8 +39,8 @@ module _ (n t : ℕ) (rows : List Row) (places : Places) (asks : Asks) (at_ports
       × (k ≡ q)
   grants_once i j m x l k q g h =
       let first_kind = preferred t in
-      let a = chosen_from_grants n t rows asks are_told.ready (unmatched n) are are_told.readies j places g.output_in (fed_of-unmatched n j) i m k g in
-      let b = chosen_from_grants n t rows asks are_told.ready (unmatched n) are are_told.readies j places h.output_in (fed_of-unmatched n j) x l q h in
+      let a = chosen_from_grants n t rows asks are_told.ready (unmatched n) are are_told.readies j g.output_in places (fed_of-unmatched n j) i m k g in
+      let b = chosen_from_grants n t rows asks are_told.ready (unmatched n) are are_told.readies j h.output_in places (fed_of-unmatched n j) x l q h in
       let level_is = level_at-rank_of first_kind m k in
       let kind_is = kind_at-rank_of first_kind m k in
       let j_in : j < places.ports = let below = g.output_in in omega arith in
@@ -95,7 +95,7 @@ module _ (n t : ℕ) (rows : List Row) (places : Places) (asks : Asks) (at_ports
         let g = r.0 in
         let chosen : GrantsUnicast n (preferred t) asks are_told.ready places i j level = (
           rank_of first_kind level Uni,
-          chosen_from_grants n t rows asks are_told.ready (unmatched n) are are_told.readies j places g.output_in (fed_of-unmatched n j) i level Uni g,
+          chosen_from_grants n t rows asks are_told.ready (unmatched n) are are_told.readies j g.output_in places (fed_of-unmatched n j) i level Uni g,
           kind_at-rank_of first_kind level Uni,
           sym (level_at-rank_of first_kind level Uni),
         ) in

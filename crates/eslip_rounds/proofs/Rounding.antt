@@ -21,12 +21,12 @@ module _ (n t : ℕ) (rows : List Row) (places : Places) (asks : Asks) (before a
   Given i j rank = ((j < n) × IsFreeOutput before j) × IsChosen n (preferred t) asks step.ready places j (record { rank = rank; input = i })
 
   granted : (i j rank : ℕ) → Given i j rank → Grants n t rows places before i j (level_at rank) (kind_at (preferred t) rank)
-  granted i j rank g = Grants-from_chosen n t rows asks step.ready before are step.readies j places g.0.0 g.0.1 rank i g.1
+  granted i j rank g = Grants-from_chosen n t rows asks step.ready before are step.readies j g.0.0 places g.0.1 rank i g.1
 
   given : (i j m : ℕ) (k : Kind) → Grants n t rows places before i j m k → Given i j (rank_of (preferred t) m k)
   given i j m k g = (
     (g.output_in, g.output_free),
-    chosen_from_grants n t rows asks step.ready before are step.readies j places g.output_in g.output_free i m k g,
+    chosen_from_grants n t rows asks step.ready before are step.readies j g.output_in places g.output_free i m k g,
   )
 
   granted_at : (i j rank : ℕ) → Grants n t rows places before i j (level_at rank) (kind_at (preferred t) rank) → Given i j rank

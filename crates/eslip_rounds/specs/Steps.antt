@@ -24,19 +24,15 @@ use Rattle.eslip_rounds.specs.Refusals.{Tells}
 abbrev pub column_of : List (List ℕ) → ℕ → ℕ → ℕ
 column_of columns rank j = slice_index (slice_index_or columns rank []) j
 
--- for each rank and output the inputs whose rows name it there, the ranks at which any does, the outputs
--- that any names, and what all rows name as one row
+-- at each rank that occurs, for each output the inputs whose rows name it there; the ranks at which any does, the
+-- outputs that any names, and what all rows name as one row
 pub record AreAsks (n : ℕ) (first_kind : Kind) (rows : List Row) (asks : Asks) : Type 0 where
-  pub columns : (rank i j : ℕ) → rank < RANKS → Has (column_of asks.columns rank j) i
+  pub columns : (rank i j : ℕ) → Has asks.ranks rank → j < n → Has (column_of asks.columns rank j) i
       ↔ ((i < n) × Names (row_of rows i) (level_at rank) (kind_at first_kind rank) j)
   pub ranks : (rank i j : ℕ) → rank < RANKS → i < n → Names (row_of rows i) (level_at rank) (kind_at first_kind rank) j → Has asks.ranks rank
   pub ranks_in : (rank : ℕ) → Has asks.ranks rank → rank < RANKS
   pub outputs : (i j level : ℕ) (kind : Kind) → i < n → Names (row_of rows i) level kind j → Has asks.outputs j
   pub named : (i j level : ℕ) (kind : Kind) → i < n → Names (row_of rows i) level kind j → Names asks.named level kind j
-
--- only the columns of the ranks have members
-abbrev pub AreOfRanks : Asks → Type 0
-AreOfRanks asks = (rank i j : ℕ) → rank < RANKS → Has (column_of asks.columns rank j) i → Has asks.ranks rank
 
 -- the input may ask at the level with the kind: it is free, or goes on there
 abbrev pub MayAsk : List (Option Fed) → ℕ → Kind → ℕ → Type 0
@@ -47,9 +43,9 @@ abbrev pub AreReady : ℕ → Kind → List (Option Fed) → List ℕ → Type 0
 AreReady n first_kind before ready = (rank i : ℕ) → rank < RANKS → Has (slice_index ready rank) i
     ↔ ((i < n) × MayAsk before (level_at rank) (kind_at first_kind rank) i)
 
--- input i asks output j at the rank, by the columns
+-- input i asks output j at the rank, by the columns: those of the ranks that occur
 abbrev pub AsksAt : Asks → List ℕ → ℕ → ℕ → ℕ → Type 0
-AsksAt asks ready j rank i = Has (column_of asks.columns rank j) i × Has (slice_index ready rank) i
+AsksAt asks ready j rank i = (Has asks.ranks rank × Has (column_of asks.columns rank j) i) × Has (slice_index ready rank) i
 
 -- output j's choice: the lowest rank at which it is asked, and there the first input from its pointer on
 pub record IsChosen (n : ℕ) (first_kind : Kind) (asks : Asks) (ready : List ℕ) (places : Places) (j : ℕ) (choice : Choice) : Type 0 where

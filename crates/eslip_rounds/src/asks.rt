@@ -1,19 +1,20 @@
-ghost use Rattle.std.specs.Prelude.{◌≡◌, ℕ, ◌<◌, ◌≤◌, ◌↔◌, length, replicate, slice_index, slice_set, if◌then◌else◌};
+ghost use Rattle.std.specs.Prelude.{◌≡◌, ℕ, ◌<◌, ◌≤◌, ◌↔◌, length, replicate, slice_index};
 ghost use Rattle.rotating_pick.specs.PortSets.{Has};
 ghost use Rattle.rotating_pick.specs.declared.kinds.Kind.{Kind};
 ghost use Rattle.slot_match.specs.Rows.{Names, row_of, sets_of, AreWithin};
 ghost use Rattle.eslip_rounds.specs.RankSteps.{level_at, kind_at};
-ghost use Rattle.eslip_rounds.specs.Steps.{column_of, AreAsks, AreOfRanks};
+ghost use Rattle.eslip_rounds.specs.Steps.{column_of, AreAsks};
 
 use crate::ranks::{RANKS, kind_of, level_of};
 use islip_rounds::transpose;
-use rotating_pick::{Kind, LEVELS, MAX_PORTS, PORT_COUNT, Ports, contains, is_empty, with};
+use rotating_pick::{Kind, LEVELS, MAX_PORTS, PORT_COUNT, Ports, is_empty, with};
 use slot_match::Row;
 
 /// What the rows of a slot ask, by columns.
 #[derive(Drop)]
 pub(crate) struct Asks {
-    /// For each rank and output the inputs whose rows name it there.
+    /// For each rank of `ranks` and each of the outputs the inputs whose rows name it there. What other columns
+    /// hold is not read.
     pub columns: [[Ports; PORT_COUNT]; RANKS],
     /// The ranks at which some row names an output.
     pub ranks: Ports,
@@ -27,9 +28,7 @@ pub(crate) struct Asks {
 
 impl Asks {
     /// What no row asks.
-    pub(crate) fn new() -> Asks
-        ensures { AreOfRanks result }
-    {
+    pub(crate) fn new() -> Asks {
         Asks {
             columns: no_columns(),
             ranks: 0,
@@ -39,22 +38,19 @@ impl Asks {
         }
     }
 
-    /// Turns the rows into columns, once a slot: those of the ranks that occur. Of an earlier slot only the
-    /// columns of its ranks are emptied.
+    /// Turns the rows into columns, once a slot: those of the ranks that occur. What an earlier slot left in
+    /// the others stays.
     pub(crate) fn read(&mut self, n: u32, first_kind: Kind, rows: &[Row])
         requires size { n ≤ MAX_PORTS }
         requires rows { AreWithin n rows.now }
-        requires kept { AreOfRanks self.old }
         ensures { AreAsks n first_kind rows.now self.new }
     {
         let named = joined(rows);
-        let before = self.ranks;
         self.ranks = fill(
             n,
             first_kind,
             rows,
             &named,
-            before,
             &mut self.sets,
             &mut self.columns,
         );
@@ -64,21 +60,19 @@ impl Asks {
 }
 
 // Fills the columns of the ranks at which `named`, the joined rows, names an output, and answers these
-// ranks. The columns were empty but at the ranks `before`.
+// ranks.
 fn fill(
     n: u32,
     first_kind: Kind,
     rows: &[Row],
     named: &Row,
-    before: Ports,
     sets: &mut [Ports; PORT_COUNT],
     columns: &mut [[Ports; PORT_COUNT]; RANKS],
 ) -> Ports
     requires size { n ≤ MAX_PORTS }
     requires rows { AreWithin n rows.now }
     requires named { (i j level : ℕ) (kind : Kind) → i < n → Names (row_of rows.now i) level kind j → Names named.now level kind j }
-    requires kept { (rank i j : ℕ) → rank < RANKS → Has (column_of columns.old rank j) i → Has before rank }
-    ensures columns { (rank i j : ℕ) → rank < RANKS → Has (column_of columns.new rank j) i
+    ensures columns { (rank i j : ℕ) → Has result rank → j < n → Has (column_of columns.new rank j) i
         ↔ ((i < n) × Names (row_of rows.now i) (level_at rank) (kind_at first_kind rank) j) }
     ensures ranks { (rank i j : ℕ) → rank < RANKS → i < n → Names (row_of rows.now i) (level_at rank) (kind_at first_kind rank) j → Has result rank }
     ensures ranks_in { (rank : ℕ) → Has result rank → rank < RANKS }
@@ -90,21 +84,9 @@ fn fill(
         if !is_empty(named.outputs(level, kind)) {
             gather(n, rows, level, kind, sets, &mut columns[rank as usize]);
             ranks = with(ranks, rank);
-        } else {
-            empty_if(contains(before, rank), rank, columns);
         }
     }
     ranks
-}
-
-// Empties the columns of the rank, if they are used.
-fn empty_if(used: bool, rank: u32, columns: &mut [[Ports; PORT_COUNT]; RANKS])
-    requires { rank < RANKS }
-    ensures { columns.new ≡ (if used then slice_set columns.old rank (replicate MAX_PORTS 0) else columns.old) }
-{
-    if used {
-        columns[rank as usize] = no_sets();
-    }
 }
 
 // All that the rows name, as one row.
@@ -130,7 +112,7 @@ fn no_sets() -> [Ports; PORT_COUNT]
     [0; PORT_COUNT]
 }
 
-// Turns the rows' sets of the level and kind into columns.
+// Turns the rows' sets of the level and kind into columns, one for each of the ports.
 fn gather(
     n: u32,
     rows: &[Row],
@@ -142,10 +124,10 @@ fn gather(
     requires size { n ≤ MAX_PORTS }
     requires rows { AreWithin n rows.now }
     requires level_in { level < LEVELS }
-    ensures { (i j : ℕ) → Has (slice_index columns.new j) i ↔ ((i < n) × Names (row_of rows.now i) level kind j) }
+    ensures { (i j : ℕ) → j < n → Has (slice_index columns.new j) i ↔ ((i < n) × Names (row_of rows.now i) level kind j) }
 {
     collect(n, rows, level, kind, sets);
-    transpose(n, &sets[..n as usize], columns);
+    transpose(n, &sets[..n as usize], &mut columns[..n as usize]);
 }
 
 // Copies the rows' sets of the level and kind.

@@ -5,7 +5,7 @@ ghost use Rattle.slot_match.specs.Matches.{IsMatch};
 ghost use Rattle.eslip_rounds.specs.declared.grants.Choice.{Choice};
 ghost use Rattle.eslip_rounds.specs.Rounds.{from_of};
 ghost use Rattle.eslip_rounds.specs.RankSteps.{level_at, kind_at};
-ghost use Rattle.eslip_rounds.specs.Steps.{column_of, MayAsk, AreReady, IsChosen, AreOffers, IsOffered};
+ghost use Rattle.eslip_rounds.specs.Steps.{MayAsk, AreReady, IsChosen, AreOffers, IsOffered};
 
 use crate::asks::Asks;
 use crate::ranks::{RANKS, kind_of, level_of};
@@ -72,7 +72,6 @@ pub(crate) fn offer_all(
     requires ports { p.now.ports ≡ n }
     requires ready { (rank i : ℕ) → rank < RANKS → Has (slice_index ready.now rank) i → i < n }
     requires ranks { (rank : ℕ) → Has asks.now.ranks rank → rank < RANKS }
-    requires named { (rank i j : ℕ) → rank < RANKS → Has (column_of asks.now.columns rank j) i → Has asks.now.ranks rank }
     requires free { (j : ℕ) → Has free_outputs j → j < n }
     requires nothing { offers.old.granted ≡ 0 }
     ensures { AreOffers (λ i j rank. Has free_outputs j × IsChosen n first_kind asks.now ready.now p.now j (record { rank = rank; input = i })) offers.new }
@@ -111,7 +110,6 @@ pub(crate) fn chosen(
     requires j_in { j < n }
     requires ready { (rank i : ℕ) → rank < RANKS → Has (slice_index ready.now rank) i → i < n }
     requires ranks { (rank : ℕ) → Has asks.now.ranks rank → rank < RANKS }
-    requires named { (rank i j : ℕ) → rank < RANKS → Has (column_of asks.now.columns rank j) i → Has asks.now.ranks rank }
     ensures { (f : Choice) → (result ≡ Some f) ↔ IsChosen n first_kind asks.now ready.now p.now j f }
 {
     let mut rest = asks.ranks;

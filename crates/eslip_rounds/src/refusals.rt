@@ -3,7 +3,7 @@ ghost use Rattle.rotating_pick.specs.PortSets.{Has};
 ghost use Rattle.rotating_pick.specs.declared.kinds.Kind.{Kind};
 ghost use Rattle.slot_match.specs.Matches.{unmatched};
 ghost use Rattle.eslip_rounds.specs.declared.grants.Choice.{Choice};
-ghost use Rattle.eslip_rounds.specs.Steps.{column_of, AreReady, IsUnicastChoice, AreToldOf};
+ghost use Rattle.eslip_rounds.specs.Steps.{AreReady, IsUnicastChoice, AreToldOf};
 ghost use Rattle.eslip_rounds.specs.Refusals.{Tells};
 
 use crate::asks::Asks;
@@ -38,7 +38,6 @@ pub(crate) fn refused_grants(
     requires size { n ≤ MAX_PORTS }
     requires ports { p.now.ports ≡ n }
     requires ranks { (rank : ℕ) → Has asks.now.ranks rank → rank < RANKS }
-    requires named { (rank i j : ℕ) → rank < RANKS → Has (column_of asks.now.columns rank j) i → Has asks.now.ranks rank }
     ensures { AreToldOf n first_kind asks.now p.now (λ j. ((j < n) × (Has first_outputs j → ⊥)) × Has asks.now.outputs j) result }
 {
     let ready = all_ready(n);

@@ -42,8 +42,7 @@ pub(crate) fn make_rounds(
     requires ports { p.now.ports ≡ n }
     requires at_ports { AreAtPorts p.now }
     requires ranks { (rank : ℕ) → Has asks.now.ranks rank → rank < RANKS }
-    requires named { (rank i j : ℕ) → rank < RANKS → Has (column_of asks.now.columns rank j) i → Has asks.now.ranks rank }
-    requires asked { (rank i j : ℕ) → rank < RANKS → Has (column_of asks.now.columns rank j) i → Has asks.now.outputs j }
+    requires asked { (rank i j : ℕ) → Has asks.now.ranks rank → j < n → Has (column_of asks.now.columns rank j) i → Has asks.now.outputs j }
     ensures made { (t : ℕ) (rows : List Row) → first_kind ≡ preferred t → AreAsks n first_kind rows asks.now → AreMade n rounds t rows p.now out.new result }
     ensures whole { IsMatch n out.new }
 {
@@ -77,8 +76,7 @@ fn round(n: u32, first_kind: Kind, asks: &Asks, offers: &mut Offers, p: &Pointer
     requires at_ports { AreAtPorts p.now }
     requires whole { IsMatch n out.old }
     requires ranks { (rank : ℕ) → Has asks.now.ranks rank → rank < RANKS }
-    requires named { (rank i j : ℕ) → rank < RANKS → Has (column_of asks.now.columns rank j) i → Has asks.now.ranks rank }
-    requires asked { (rank i j : ℕ) → rank < RANKS → Has (column_of asks.now.columns rank j) i → Has asks.now.outputs j }
+    requires asked { (rank i j : ℕ) → Has asks.now.ranks rank → j < n → Has (column_of asks.now.columns rank j) i → Has asks.now.outputs j }
     ensures step { IsStep n first_kind asks.now p.now out.old out.new }
     ensures whole { IsMatch n out.new }
 {

@@ -60,13 +60,9 @@ pub struct Scratch {
 }
 
 impl Model for Scratch {
-    ghost use Rattle.eslip_rounds.specs.Steps.{AreOfRanks};
-
     ghost Value = { Unit {0} };
 
     ghost view = { λ _. tt };
-
-    ghost invariant = { λ s. AreOfRanks s.asks };
 }
 
 impl Scratch {

@@ -6,7 +6,7 @@ use Rattle.eslip_rounds.proofs.asks.fill.Goals as goal
 use Rattle.eslip_rounds.proofs.asks.fill.Goals.{then-not-is_empty, else-not-is_empty}
 
 pub loop-rank-init : goal.loop-rank-init
-loop-rank-init c = AreDone-first c.args.n c.args.first_kind c.args.rows.now c.args.before c.args.columns.now (omega arith) c.requires.kept
+loop-rank-init c = AreDone-first c.args.n c.args.first_kind c.args.rows.now c.args.columns.now (omega arith)
 
 pub loop-rank-preserved : goal.loop-rank-preserved
 loop-rank-preserved c =
@@ -14,20 +14,19 @@ loop-rank-preserved c =
     let kind = c.kind_of-kind.result in
     elim c.if-not-is_empty.branch [
       | then-not-is_empty w ↦ rw (w.columns-is, w.ranks-is)
-          (AreDone-put c.args.n c.loop-rank.rank c.args.first_kind c.args.rows.now c.args.before c.loop-rank.columns c.loop-rank.ranks c.loop-rank.invariant
+          (AreDone-put c.args.n c.loop-rank.rank c.args.first_kind c.args.rows.now c.loop-rank.columns c.loop-rank.ranks c.loop-rank.invariant
           level kind c.level_of-level.ensures.value c.kind_of-kind.ensures w.gather.new.columns w.with-ranks.result
           (omega arith) w.gather.ensures w.with-ranks.ensures)
       | else-not-is_empty w ↦
           let none : c.outputs.result ≡ 0 = c.is_empty.ensures.zero.0 w.if-not-is_empty.false in
           rw (w.columns-is, w.ranks-is)
-          (AreDone-skip c.args.n c.loop-rank.rank c.args.first_kind c.args.rows.now c.args.before c.loop-rank.columns c.loop-rank.ranks c.loop-rank.invariant
+          (AreDone-skip c.args.n c.loop-rank.rank c.args.first_kind c.args.rows.now c.loop-rank.columns c.loop-rank.ranks c.loop-rank.invariant
           level kind c.level_of-level.ensures.value c.kind_of-kind.ensures
-          w.contains.result w.empty_if.new.columns (omega arith) w.contains.ensures w.empty_if.ensures
           (λ i j i_in named. zero-has c.outputs.result j none (subst (λ set. Has set j) (sym c.outputs.ensures) (c.requires.named i j level kind i_in named))))
     ]
 
 pub returns-clause-columns : goal.returns-clause-columns
-returns-clause-columns c rank i j below = c.loop-rank.invariant.done rank i j (omega arith)
+returns-clause-columns c rank i j has j_in = c.loop-rank.invariant.done rank i j has j_in
 
 pub returns-clause-ranks : goal.returns-clause-ranks
 returns-clause-ranks c rank i j below = c.loop-rank.invariant.uses rank i j (omega arith)

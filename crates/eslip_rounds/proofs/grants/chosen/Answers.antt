@@ -20,7 +20,8 @@ pub returns-in-Some-pick : goal.returns-in-Some-pick
 returns-in-Some-pick c f =
     let n = c.args.n in
     let rank = c.in-Some.rank in
-    let rank_in = c.requires.ranks rank (c.loop-rank.invariant.within rank c.in-Some.ensures.member) in
+    let occurs = c.loop-rank.invariant.within rank c.in-Some.ensures.member in
+    let rank_in = c.requires.ranks rank occurs in
     let made : Choice = record { rank = rank; input = c.in-Some-pick.input } in
     let places = c.args.p.now in
     let from = from_of places c.args.j (level_at rank) (kind_at c.args.first_kind rank) in
@@ -28,7 +29,8 @@ returns-in-Some-pick c f =
     let picked : IsFirstFrom n from (AsksAt c.args.asks.now c.args.ready.now c.args.j rank) c.in-Some-pick.input =
     subst (λ a. IsFirstFrom n a (AsksAt c.args.asks.now c.args.ready.now c.args.j rank) c.in-Some-pick.input) c.pointer_at.ensures.value
     (IsFirstFrom-along n c.pointer_at.result (Has c.intersection-asking.result) (AsksAt c.args.asks.now c.args.ready.now c.args.j rank) c.in-Some-pick.input
-    (λ y y_in. c.intersection-asking.ensures y) c.in-Some-pick.ensures.first) in
+    (λ y y_in. let both = c.intersection-asking.ensures y in (λ has. let p = both.0 has in ((occurs, p.0), p.1), λ p. both.1 (p.0.1, p.1)))
+    c.in-Some-pick.ensures.first) in
     Some-iff_chosen n c.args.first_kind c.args.asks.now c.args.ready.now places c.args.j made f from_in
     (record {
       rank_in = rank_in;

@@ -39,9 +39,3 @@ returns-clause-enough c =
     enough_rounds c.args.n c.args.rounds c.args.slot c.args.rows.now c.args.p.now c.make_rounds-made.new.out c.make_rounds-made.result c.requires.rounds_some
     (c.make_rounds-made.ensures.made c.args.slot c.args.rows.now c.preferred_kind-first_kind.ensures c.read.ensures) c.ports.ensures.at_ports
     c.requires.pointers c.requires.rows
-
--- only the columns of this slot's ranks have members
-pub invariant_of-scratch : goal.invariant_of-scratch
-invariant_of-scratch c rank i j rank_in has =
-    let named = (c.read.ensures.columns rank i j rank_in).0 has in
-    c.read.ensures.ranks rank i j rank_in named.0 named.1
