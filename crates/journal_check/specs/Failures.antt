@@ -1,6 +1,6 @@
 -- What the answer to a file says, in the words of lawful files: the waits of the schedule of a lawful file, and the first
 -- failure of another, with what holds before it.
--- What ends in `under` or `Under` is of any scheduler; the plain names are of the scheduler of the board.
+-- What ends in `under` or `Under` is of any scheduler.
 use Rattle.std.specs.Prelude.{◌≡◌, ℕ, ◌+◌, ◌-◌, ◌<◌, ◌⊎◌, true, false, List, [], ◌∷◌, length, map, slice_index_or}
 use Rattle.std.specs.List.{range_with_len}
 use Rattle.rotating_pick.specs.declared.limits.TheConstants.{LEVELS}
@@ -9,7 +9,6 @@ use Rattle.slot_match.specs.Matches.{fed_of}
 use Rattle.slot_match.specs.Keeping.{KeepsRest, Gives}
 use Rattle.slot_match.specs.Parts.{served_of}
 use Rattle.eslip_rounds.specs.Schedulers.{Scheduler}
-use Rattle.eslip_rounds.specs.Decisions.{decision_of}
 use Rattle.service_bound.specs.Waits.{noted_of, longest_wait}
 use Rattle.journal_check.specs.declared.verdict.Reason.{Reason}
 use Rattle.journal_check.specs.declared.verdict.Reason.TheVariants.{AfterEnd, More, Keeps, Output, NoEnd}
@@ -21,9 +20,6 @@ use Rattle.journal_check.specs.Lawful.{Before, at_first, decided_in, after_slot,
 abbrev pub schedule_waits_under : Scheduler → JournalFile → List ℕ
 schedule_waits_under scheduler file =
     map (λ level. longest_wait file.ports level (map noted_of (decided_slots_under scheduler file))) (range_with_len 0 LEVELS)
-
-abbrev pub schedule_waits : JournalFile → List ℕ
-schedule_waits = schedule_waits_under decision_of
 
 -- card i's row is empty, or its post says that more is to come
 abbrev pub HasMore : FileSlot → ℕ → Type 0
@@ -70,9 +66,6 @@ FailsFirst scheduler n rounds t before (slot ∷ slots) at reason =
 unfoldable pub IsFirstFailureUnder : Scheduler → JournalFile → ℕ → Reason → Type 0
 IsFirstFailureUnder scheduler file at reason = FailsFirst scheduler file.ports file.rounds 0 (at_first file.ports) file.slots at reason
 
-abbrev pub IsFirstFailure : JournalFile → ℕ → Reason → Type 0
-IsFirstFailure = IsFirstFailureUnder decision_of
-
 -- The bytes are those of a lawful file of so many slots, and these are the longest waits in its schedule.
 pub record AreLawfulUnder (scheduler : Scheduler) (bytes : List ℕ) (slots : ℕ) (longest : List ℕ) : Type 0 where
   pub file : JournalFile
@@ -82,15 +75,9 @@ pub record AreLawfulUnder (scheduler : Scheduler) (bytes : List ℕ) (slots : �
   pub count : slots ≡ length file.slots
   pub waits : longest ≡ schedule_waits_under scheduler file
 
-abbrev pub AreLawful : List ℕ → ℕ → List ℕ → Type 0
-AreLawful = AreLawfulUnder decision_of
-
 -- The bytes are those of a file of which this slot is the first that fails, for this reason.
 pub record AreNotLawfulUnder (scheduler : Scheduler) (bytes : List ℕ) (at : ℕ) (reason : Reason) : Type 0 where
   pub file : JournalFile
   pub good : IsFile file
   pub spelled : bytes ≡ file_text file
   pub first : IsFirstFailureUnder scheduler file at reason
-
-abbrev pub AreNotLawful : List ℕ → ℕ → Reason → Type 0
-AreNotLawful = AreNotLawfulUnder decision_of

@@ -108,9 +108,6 @@ failure_from scheduler n rounds t before (slot ∷ slots) =
 unfoldable pub first_failure_under : Scheduler → JournalFile → Option Failure
 first_failure_under scheduler file = failure_from scheduler file.ports file.rounds 0 (at_first file.ports) file.slots
 
-abbrev pub first_failure : JournalFile → Option Failure
-first_failure = first_failure_under decision_of
-
 -- what the slots of a file decide, from slot t on
 abbrev pub decided_from : Scheduler → ℕ → ℕ → ℕ → Places → List FileSlot → List DecidedSlot
 decided_from scheduler n rounds t places [] = []

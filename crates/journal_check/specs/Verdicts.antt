@@ -35,9 +35,6 @@ verdict_by file (Some failure) = No failure.slot failure.reason
 abbrev pub verdict_under : Scheduler → JournalFile → Verdict
 verdict_under scheduler file = verdict_by file (first_failure_under scheduler file)
 
-abbrev pub verdict_on : JournalFile → Verdict
-verdict_on = verdict_under decision_of
-
 -- the answer to what the bytes tell
 abbrev pub answer_by : Scheduler → Result JournalFile ℕ → Result Verdict JournalFault
 answer_by scheduler (Ok file) = Ok (verdict_under scheduler file)

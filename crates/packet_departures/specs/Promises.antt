@@ -2,7 +2,6 @@
 use Rattle.std.specs.Prelude.{◌≡◌, ℕ, ◌+◌, ◌<◌, ◌≤◌, ◌&&◌, Bool, true, All, List, length, count_by, Some, slice_get}
 use Rattle.rotating_pick.specs.PortSets.{Has}
 use Rattle.eslip_rounds.specs.Schedulers.{Scheduler}
-use Rattle.eslip_rounds.specs.Decisions.{decision_of}
 use Rattle.slot_histories.specs.Tests.{has}
 use Rattle.card_core.specs.declared.plan.Planned.{Planned}
 use Rattle.card_core.specs.Plans.{size_of, message_of}
@@ -59,9 +58,6 @@ pub record HasDeparturesUnder (scheduler : Scheduler) (plan : SwitchPlan) (slots
   pub rise : DeparturesRise scheduler plan slots
   pub differ : DeparturesDiffer scheduler plan slots
   pub in_order : RecordsAreInOrder scheduler plan slots
-
-abbrev pub HasDepartures : SwitchPlan → ℕ → Type 0
-HasDepartures = HasDeparturesUnder decision_of
 
 -- whether a packet of input i leaves by output j
 abbrev pub leaves_by : Scheduler → SwitchPlan → ℕ → ℕ → ℕ → Planned → Bool

@@ -3,7 +3,6 @@ use Rattle.std.specs.Prelude.{◌≡◌, ℕ, ◌+◌, ◌<◌, List, Option}
 use Rattle.std.specs.List.{sum_by}
 use Rattle.slot_match.specs.declared.matching.Served.{Served}
 use Rattle.eslip_rounds.specs.Schedulers.{Scheduler}
-use Rattle.eslip_rounds.specs.Decisions.{decision_of}
 use Rattle.card_core.specs.Plans.{Plan}
 use Rattle.card_core.specs.Queues.{admitted, dropped}
 use Rattle.queue_lengths.specs.Lengths.{queues_of, packets_of, dropped_of}
@@ -21,6 +20,3 @@ pub record AddUp (plan : Plan) (served : List (Option Served)) (slots : ℕ) : T
 -- the queues of each input of a run add up so
 abbrev pub QueuesAddUpUnder : Scheduler → SwitchPlan → ℕ → Type 0
 QueuesAddUpUnder scheduler plan slots = (i : ℕ) → i < ports_of plan → AddUp (card_at plan i) (parts_under scheduler plan i slots) slots
-
-abbrev pub QueuesAddUp : SwitchPlan → ℕ → Type 0
-QueuesAddUp = QueuesAddUpUnder decision_of

@@ -1,8 +1,6 @@
--- The journal file of a run of so many slots. What ends in `under` is of any scheduler; the other names are of the
--- scheduler of the board.
+-- The journal file of a run of so many slots. What ends in `under` is of any scheduler.
 use Rattle.std.specs.Prelude.{ℕ, List, map}
 use Rattle.eslip_rounds.specs.Schedulers.{Scheduler}
-use Rattle.eslip_rounds.specs.Decisions.{decision_of}
 use Rattle.switch_plan.specs.GoodPlans.{SwitchPlan}
 use Rattle.run_laws.specs.Runs.{ports_of, journal_under}
 use Rattle.journal_check.specs.Files.{JournalFile}
@@ -12,12 +10,6 @@ use Rattle.journal_check.specs.Texts.{file_slot, file_text}
 abbrev pub run_file_under : Scheduler → SwitchPlan → ℕ → JournalFile
 run_file_under scheduler plan slots = record { ports = ports_of plan; rounds = plan.rounds; slots = map file_slot (journal_under scheduler plan slots) }
 
-abbrev pub run_file : SwitchPlan → ℕ → JournalFile
-run_file = run_file_under decision_of
-
 -- its bytes
 abbrev pub journal_text_under : Scheduler → SwitchPlan → ℕ → List ℕ
 journal_text_under scheduler plan slots = file_text (run_file_under scheduler plan slots)
-
-abbrev pub journal_text : SwitchPlan → ℕ → List ℕ
-journal_text = journal_text_under decision_of

@@ -31,6 +31,3 @@ queue_to j level Multi = OfLevel level
 -- in order of arrival
 abbrev pub admitted_under : Scheduler → SwitchPlan → ℕ → ℕ → ℕ → Kind → ℕ → List Planned
 admitted_under scheduler plan j i level kind slots = packets_to (card_at plan i) (queue_to j level kind) j (parts_under scheduler plan i slots) slots
-
-abbrev pub admitted_to : SwitchPlan → ℕ → ℕ → ℕ → Kind → ℕ → List Planned
-admitted_to = admitted_under decision_of

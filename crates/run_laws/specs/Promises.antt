@@ -31,15 +31,9 @@ DeliversUnder scheduler plan slots = (i j level : ℕ) (kind : Kind) → i < por
     → messages_from i level kind [] (cells_under scheduler plan j slots) ≡ map (message_of (card_at plan i))
     (admitted_under scheduler plan j i level kind slots)
 
-abbrev pub DeliversAdmitted : SwitchPlan → ℕ → Type 0
-DeliversAdmitted = DeliversUnder decision_of
-
 -- And there are no others: each cell that crosses is of an input and a level of the switch.
 abbrev pub DeliversNoOthersUnder : Scheduler → SwitchPlan → ℕ → Type 0
 DeliversNoOthersUnder scheduler plan slots = (j : ℕ) → All (λ cell. (cell.input < ports_of plan) × (cell.level < LEVELS)) (cells_under scheduler plan j slots)
-
-abbrev pub DeliversNoOthers : SwitchPlan → ℕ → Type 0
-DeliversNoOthers = DeliversNoOthersUnder decision_of
 
 -- In how many slots a unicast request is served at the latest, where nothing better is posted: the rows of a run are at
 -- line rate, so from three ports on one slot less than for rows at large.
@@ -84,14 +78,8 @@ WaitsAreShort plan slots = WaitsUnder decision_of plan slots (bound_of plan)
 abbrev pub HasFewSlotsUnder : Scheduler → SwitchPlan → ℕ → Type 0
 HasFewSlotsUnder scheduler plan slots = slots ≤ greatest_slots (packets_in plan) + total_under scheduler plan slots + 1
 
-abbrev pub HasFewSlots : SwitchPlan → ℕ → Type 0
-HasFewSlots = HasFewSlotsUnder decision_of
-
 -- A slot in which some port posts a row that is not empty matches a pair.
 abbrev pub BusySlotsMatchUnder : Scheduler → SwitchPlan → Type 0
 BusySlotsMatchUnder scheduler plan = (i t : ℕ) → i < ports_of plan → is_empty (posts_under scheduler plan i t).row ≡ false
     → (input output level : ℕ) × (kind : Kind)
     × Serves (decision_under scheduler (setup_for plan) (posts_under scheduler plan) t).matched input output level kind
-
-abbrev pub BusySlotsMatch : SwitchPlan → Type 0
-BusySlotsMatch = BusySlotsMatchUnder decision_of

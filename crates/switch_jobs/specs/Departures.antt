@@ -1,12 +1,12 @@
--- The messages of an output's capture, and the slots in which they leave. What ends in `under` is of any scheduler; the
--- other names are of the scheduler of the board.
+-- The messages of an output's capture, and the slots in which they leave. What ends in `Under` is of any
+-- scheduler.
 use Rattle.std.specs.Prelude.{◌≡◌, ℕ, ◌<◌, ◌==◌, ◌&&◌, Bool, true, false, List, map, filter, All, Option, None, Some}
 use Rattle.std.specs.List.{range_with_len}
 use Rattle.rotating_pick.specs.declared.kinds.Kind.{Kind}
 use Rattle.rotating_pick.specs.declared.limits.TheConstants.{LEVELS}
 use Rattle.cell_cutter.specs.declared.cell.Cell.{Cell}
 use Rattle.eslip_rounds.specs.Schedulers.{Scheduler}
-use Rattle.eslip_rounds.specs.Decisions.{decision_of, is_kind}
+use Rattle.eslip_rounds.specs.Decisions.{is_kind}
 use Rattle.slot_histories.specs.Slots.{crossed_under}
 use Rattle.card_core.specs.Plans.{message_of}
 use Rattle.switch_plan.specs.GoodPlans.{SwitchPlan}
@@ -63,6 +63,3 @@ pub record AreDepartures (scheduler : Scheduler) (plan : SwitchPlan) (slots j : 
 -- The messages of each output's capture are those of its flows, in the order of the slots in which their last cells cross.
 abbrev pub InterleavesFlowsUnder : Scheduler → SwitchPlan → ℕ → Type 0
 InterleavesFlowsUnder scheduler plan slots = (j : ℕ) → j < ports_of plan → (departures : List Departure) × AreDepartures scheduler plan slots j departures
-
-abbrev pub InterleavesFlows : SwitchPlan → ℕ → Type 0
-InterleavesFlows = InterleavesFlowsUnder decision_of

@@ -21,15 +21,9 @@ use Rattle.switch_jobs.specs.declared.outcome.Outcome.{Outcome}
 abbrev pub messages_under : Scheduler → SwitchPlan → ℕ → ℕ → List (List ℕ)
 messages_under scheduler plan j slots = delivered (cells_under scheduler plan j slots)
 
-abbrev pub messages_to : SwitchPlan → ℕ → ℕ → List (List ℕ)
-messages_to = messages_under decision_of
-
 -- how many packets of port i are admitted in the first slots
 abbrev pub admitted_count : Scheduler → SwitchPlan → ℕ → ℕ → ℕ
 admitted_count scheduler plan slots i = admitted (card_at plan i) (parts_under scheduler plan i slots) slots
-
-abbrev pub admitted_at : SwitchPlan → ℕ → ℕ → ℕ
-admitted_at = admitted_count decision_of
 
 -- and how many are dropped
 abbrev pub dropped_count : Scheduler → SwitchPlan → ℕ → ℕ → ℕ
