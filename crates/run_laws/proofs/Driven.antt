@@ -20,7 +20,8 @@ use Rattle.slot_histories.proofs.Telling.{IsTold-legal}
 use Rattle.card_core.specs.Cards.{served_in}
 use Rattle.card_worker.specs.Agreeing.{IsDriven}
 use Rattle.switch_plan.specs.GoodPlans.{SwitchPlan}
-use Rattle.run_laws.specs.Runs.{ports_of, setup_for, card_at, served_by, posts_in, run_slot, run_journal, run_takings}
+use Rattle.run_laws.specs.Runs.{ports_of, setup_for, card_at, run_journal, run_takings}
+use Rattle.run_laws.specs.RunSteps.{served_by, posts_in, run_slot}
 use Rattle.run_laws.proofs.SameParts.{post_at-alike}
 use Rattle.run_laws.proofs.Base.{served-at}
 

@@ -14,7 +14,8 @@ use Rattle.slot_histories.proofs.LegalLists.{AreInStep-legal, AreAccepted-legal,
 use Rattle.card_worker.specs.Agreeing.{IsDriven}
 use Rattle.card_worker.specs.Alone.{IsOver}
 use Rattle.switch_plan.specs.GoodPlans.{SwitchPlan, IsGood}
-use Rattle.run_laws.specs.Runs.{ports_of, setup_for, card_at, posts_in}
+use Rattle.run_laws.specs.Runs.{ports_of, setup_for, card_at}
+use Rattle.run_laws.specs.RunSteps.{posts_in}
 use Rattle.run_laws.specs.Ends.{IsLength}
 use Rattle.run_laws.proofs.Driven.{decided-run}
 use Rattle.run_laws.proofs.RunEnds.{run_ends}

@@ -12,8 +12,8 @@ use Rattle.card_core.specs.Deliveries.{cells_taken}
 use Rattle.card_core.specs.Cards.{HasReceived}
 use Rattle.card_worker.specs.Agreeing.{IsGiven, AreGivenAfter, AreGiven}
 use Rattle.switch_plan.specs.GoodPlans.{SwitchPlan, IsGood}
-use Rattle.run_laws.specs.Runs.{ports_of, setup_for, card_at, posts_in, run_takings}
-use Rattle.run_laws.specs.Crossings.{cells_to}
+use Rattle.run_laws.specs.Runs.{ports_of, setup_for, card_at, run_takings}
+use Rattle.run_laws.specs.RunSteps.{posts_in, cells_to}
 use Rattle.run_laws.proofs.Fitting.{cell_fits}
 
 module _ (plan : SwitchPlan) (j : ℕ) where

@@ -27,9 +27,10 @@ use Rattle.service_bound.proofs.LineRateByRounds.{served_by_rounds_at_line_rate,
 use Rattle.card_core.specs.Plans.{level_of, kind_of, queue_of}
 use Rattle.card_core.proofs.After.{level-queue}
 use Rattle.switch_plan.specs.GoodPlans.{SwitchPlan, IsGood}
-use Rattle.run_laws.specs.Runs.{ports_of, setup_for, card_at, parts_under, posts_under, posts_in}
+use Rattle.run_laws.specs.Runs.{ports_of, setup_for, card_at, parts_under, posts_under}
+use Rattle.run_laws.specs.RunSteps.{posts_in, IsBestLevel}
 use Rattle.run_laws.specs.Crossings.{queue_to}
-use Rattle.run_laws.specs.Sums.{schedule_under, run_schedule, IsBestUnder, IsBestLevel}
+use Rattle.run_laws.specs.Sums.{schedule_under, run_schedule, IsBestUnder}
 use Rattle.run_laws.proofs.Base.{good-card}
 use Rattle.run_laws.proofs.FlowCells.{level_to, kind_to}
 use Rattle.run_laws.proofs.LineRate.{at-line_rate}

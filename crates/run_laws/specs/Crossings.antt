@@ -4,7 +4,6 @@ use Rattle.std.specs.List.{flat_map, range_with_len}
 use Rattle.std.specs.Option.{option_to_list}
 use Rattle.cell_cutter.specs.declared.cell.Cell.{Cell}
 use Rattle.eslip_rounds.specs.Schedulers.{Scheduler}
-use Rattle.eslip_rounds.specs.Decisions.{decision_of}
 use Rattle.slot_histories.specs.Slots.{crossed_under}
 use Rattle.rotating_pick.specs.declared.kinds.Kind.{Kind}
 use Rattle.rotating_pick.specs.declared.kinds.Kind.TheVariants.{Uni, Multi}
@@ -18,9 +17,6 @@ use Rattle.run_laws.specs.Runs.{setup_for, card_at, parts_under, posts_under}
 abbrev pub cells_under : Scheduler → SwitchPlan → ℕ → ℕ → List Cell
 cells_under scheduler plan j slots = flat_map (λ t. option_to_list (crossed_under scheduler (setup_for plan) (posts_under scheduler plan) j t))
     (range_with_len 0 slots)
-
-abbrev pub cells_to : SwitchPlan → ℕ → ℕ → List Cell
-cells_to = cells_under decision_of
 
 -- the queue of an input from which cells of a level and a kind come to output j
 abbrev pub queue_to : ℕ → ℕ → Kind → Queue

@@ -3,3 +3,4 @@ pub mod Ends
 pub mod Crossings
 pub mod Sums
 pub mod Promises
+pub mod RunSteps

@@ -61,15 +61,9 @@ before_under scheduler plan (suc t) = after_slot (before_under scheduler plan t)
 abbrev pub parts_under : Scheduler → SwitchPlan → ℕ → ℕ → List (Option Served)
 parts_under scheduler plan i t = (before_under scheduler plan t).served i
 
-abbrev pub served_by : SwitchPlan → ℕ → ℕ → List (Option Served)
-served_by = parts_under decision_of
-
 -- what port i posts in slot t
 abbrev pub posts_under : Scheduler → SwitchPlan → ℕ → ℕ → Post
 posts_under scheduler plan i t = post_at (card_at plan i) (parts_under scheduler plan i t) t
-
-abbrev pub posts_in : SwitchPlan → ℕ → ℕ → Post
-posts_in = posts_under decision_of
 
 -- slot t with its posts, its match and its numbers
 abbrev pub slot_under : Scheduler → SwitchPlan → ℕ → JournalSlot
@@ -78,9 +72,6 @@ slot_under scheduler plan t = record {
   matched = (decision_under scheduler (setup_for plan) (posts_under scheduler plan) t).matched;
   numbers = (decision_under scheduler (setup_for plan) (posts_under scheduler plan) t).numbers;
 }
-
-abbrev pub run_slot : SwitchPlan → ℕ → JournalSlot
-run_slot = slot_under decision_of
 
 -- the journal of the first slots
 abbrev pub journal_under : Scheduler → SwitchPlan → ℕ → List JournalSlot

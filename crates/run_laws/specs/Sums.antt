@@ -24,9 +24,6 @@ work_under scheduler plan slots i packet =
 abbrev pub total_under : Scheduler → SwitchPlan → ℕ → ℕ
 total_under scheduler plan slots = sum_by (λ i. sum_by (work_under scheduler plan slots i) (card_at plan i).packets) (range_with_len 0 (ports_of plan))
 
-abbrev pub total_admitted : SwitchPlan → ℕ → ℕ
-total_admitted = total_under decision_of
-
 -- the first slots, as schedules have them
 abbrev pub schedule_under : Scheduler → SwitchPlan → ℕ → List DecidedSlot
 schedule_under scheduler plan slots = map (decided_under scheduler (setup_for plan) (posts_under scheduler plan)) (range_with_len 0 slots)
@@ -48,6 +45,3 @@ pub record IsBestUnder (scheduler : Scheduler) (plan : SwitchPlan) (slots level 
   pub best : (i : ℕ) (packet : Planned) → i < ports_of plan → IsAdmittedUnder scheduler plan slots i packet → level ≤ packet.level
   pub unicast : (i : ℕ) (packet : Planned) → i < ports_of plan → IsAdmittedUnder scheduler plan slots i packet → packet.level ≡ level
       → kind_of (queue_of packet) ≡ Uni
-
-abbrev pub IsBestLevel : SwitchPlan → ℕ → ℕ → Type 0
-IsBestLevel = IsBestUnder decision_of

@@ -20,7 +20,8 @@ use Rattle.slot_report.specs.Lines.{line_text, lines_text}
 use Rattle.slot_report.specs.Texts.{journal_line, map_with_place, slot_line}
 use Rattle.switch_plan.specs.GoodPlans.{SwitchPlan, IsGood}
 use Rattle.run_laws.specs.Ends.{IsLengthUnder}
-use Rattle.run_laws.specs.Runs.{journal_under, posts_under, run_journal, run_slot, slot_under, IsSlotUnder}
+use Rattle.run_laws.specs.Runs.{journal_under, posts_under, run_journal, slot_under, IsSlotUnder}
+use Rattle.run_laws.specs.RunSteps.{run_slot}
 use Rattle.run_laws.proofs.Base.{requested}
 use Rattle.journal_check.specs.Texts.{file_post, file_slot}
 use Rattle.journal_check.specs.WritingSteps.{WriterValue}

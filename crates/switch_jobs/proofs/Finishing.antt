@@ -19,11 +19,12 @@ use Rattle.card_worker.specs.declared.hands.Hand.{Hand}
 use Rattle.card_worker.proofs.Grouping.{at_place}
 use Rattle.slot_report.specs.declared.summary.Summary.{Summary}
 use Rattle.switch_plan.specs.GoodPlans.{SwitchPlan, packets_in, IsGood}
-use Rattle.run_laws.specs.Runs.{ports_of, setup_for, posts_in, run_slot, run_journal}
+use Rattle.run_laws.specs.Runs.{ports_of, setup_for, run_journal}
+use Rattle.run_laws.specs.RunSteps.{posts_in, run_slot}
 use Rattle.run_laws.specs.Sums.{run_schedule}
 use Rattle.run_laws.specs.Crossings.{cells_under}
 use Rattle.switch_jobs.specs.declared.ready.Terms.{Terms}
-use Rattle.switch_jobs.specs.Outcomes.{messages_under, admitted_count, dropped_count, longest_under, longest_at, summary_under, summary_of}
+use Rattle.switch_jobs.specs.Outcomes.{messages_under, admitted_count, dropped_count, longest_under, summary_under, summary_of}
 use Rattle.switch_jobs.specs.Outcomes.{IsOutputUnder, IsOutput}
 use Rattle.switch_jobs.specs.ReadinessSteps.{plan_with}
 use Rattle.switch_jobs.specs.JournalSteps.{noted_in, longest_in, HaveSums, summary_with, summary_in}
@@ -134,7 +135,7 @@ module _ (terms : Terms) (cards : List CardPlan) (good : IsGood (plan_with terms
         let rounds : journal.setup.rounds ≡ terms.rounds = ap (λ (s : Setup). s.rounds) (same ∙ is.setup) in
         let journal_same : journal.slots ≡ run_journal plan slots = decided ∙ is.journal in
         let count : length journal.slots ≡ slots = ap length journal_same ∙ length-map-range_with_len (run_slot plan) 0 slots in
-        let waits : longest_in journal.setup.ports journal.slots ≡ map (longest_at plan slots) (range_with_len 0 LEVELS) =
+        let waits : longest_in journal.setup.ports journal.slots ≡ map (longest_under decision_of plan slots) (range_with_len 0 LEVELS) =
         ap (λ n. longest_in n journal.slots) ports
         ∙ (ap (longest_in (ports_of plan)) journal_same
         ∙ ap (λ (noted : List NotedSlot). map (λ level. longest_wait (ports_of plan) level noted) (range_with_len 0 LEVELS)) (noted_same plan slots)) in

@@ -29,9 +29,6 @@ admitted_count scheduler plan slots i = admitted (card_at plan i) (parts_under s
 abbrev pub dropped_count : Scheduler → SwitchPlan → ℕ → ℕ → ℕ
 dropped_count scheduler plan slots i = dropped (card_at plan i) (parts_under scheduler plan i slots) slots
 
-abbrev pub dropped_at : SwitchPlan → ℕ → ℕ → ℕ
-dropped_at = dropped_count decision_of
-
 -- the sum over all ports
 abbrev pub over_ports : SwitchPlan → (ℕ → ℕ) → ℕ
 over_ports plan f = sum_by f (range_with_len 0 (ports_of plan))
@@ -39,9 +36,6 @@ over_ports plan f = sum_by f (range_with_len 0 (ports_of plan))
 -- the longest wait of a unicast queue of the level in the first slots
 abbrev pub longest_under : Scheduler → SwitchPlan → ℕ → ℕ → ℕ
 longest_under scheduler plan slots level = longest_wait (ports_of plan) level (map noted_of (schedule_under scheduler plan slots))
-
-abbrev pub longest_at : SwitchPlan → ℕ → ℕ → ℕ
-longest_at = longest_under decision_of
 
 -- the numbers of a run of so many slots
 unfoldable pub summary_under : Scheduler → SwitchPlan → ℕ → Summary
