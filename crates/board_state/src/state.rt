@@ -236,6 +236,7 @@ impl BoardState {
         ensures setup { IsSetup self.now.setup }
         ensures rows { AreJournalRows self.now.setup.ports (journal_of self.now.setup self.now.events) }
     {
+        // Reads a field: that tells the proof what the type says of its value.
         let _ = &self.ports;
     }
 

@@ -38,7 +38,7 @@ pub fn drive<G: Gate>(group: &mut Group, board: &Board, gate: &G, patience: u32)
     made
 }
 
-// What the seats tell of their cards.
+// For the proof alone: what the type of a seat says, of the seat of each member.
 fn hear(members: &[Member])
     ensures { (j : ℕ) (m : Member) → slice_get members.now j ≡ Some m → IsSeat m.seat }
 {

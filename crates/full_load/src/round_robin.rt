@@ -1,5 +1,5 @@
 //! Laws on slots of full load under round-robin matching, as the contracts of functions that do nothing. They hold of its
-//! definitions, for every number of ports.
+//! definitions, for 1 to 64 ports.
 
 ghost use Rattle.std.specs.Prelude.{◌≡◌, ℕ, ◌-◌, ◌+◌, ◌%◌, ◌<◌, ◌≤◌, List, ◌∷◌, All, length, drop};
 ghost use Rattle.rotating_pick.specs.declared.limits.TheConstants.{LEVELS};

@@ -23,7 +23,7 @@ use std::alloc::Global;
 /// Bytes that are not those of a journal file are answered by the place of the first bad field. The one
 /// other error is that there was no memory, which may come in place of any answer. Memory is taken once,
 /// for the waits: for each input and level 64 numbers and some more. Beside it and the file, two slots
-/// are kept.
+/// are kept. No clause says this of memory.
 pub fn check_journal(alloc: Global, bytes: &[u8]) -> Result<Verdict, JournalFault>
     requires { length bytes.now ≤ MAX_JOURNAL_BYTES }
 

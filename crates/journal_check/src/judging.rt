@@ -255,6 +255,7 @@ fn breaks(before: &Row, served: Option<Served>, row: &Row, count: usize) -> bool
     requires levels { IsOfLevels before.now }
     ensures { result ≡ not (keeps_rest count served before.now row.now) }
 {
+    // Only the contract speaks of the number of ports.
     let _ = count;
     !row.keeps(before, served)
 }

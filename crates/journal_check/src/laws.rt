@@ -140,5 +140,6 @@ pub fn finished_journals_are_lawful(journal: &Journal)
         → journal.now ≡ board_journal (record { setup = s; events = events })
         → answer_to (file_text (file_of journal.now)) ≡ Ok (yes_on (file_of journal.now)) }
 {
+    // Tells the proof that the rows of the journal have all levels.
     let _len = journal_len(journal);
 }

@@ -135,6 +135,7 @@ impl Reference {
         ensures switch { SameSwitch self.old self.new }
         ensures noted { (matches : List Matched) → HasNoted self.old matches → HasNoted self.new (matches ++ matched.now ∷ []) }
     {
+        // Only the contract speaks of the rows.
         let _ = rows;
         let unserved = count_slot(&mut self.tallies, self.unserved, self.slots, matched);
         take_served(&mut self.inputs, matched);
@@ -157,6 +158,7 @@ impl Reference {
     pub fn noted_slots(&self)
         ensures { (matches : List Matched) × HasNoted self.now matches }
     {
+        // Reads a field: that tells the proof what the type says of its value.
         let _ = &self.ports;
     }
 }

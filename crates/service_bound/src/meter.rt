@@ -104,6 +104,7 @@ impl WaitMeter {
     pub fn noted_slots(&self)
         ensures { (slots : List NotedSlot) × HasNoted self.now slots }
     {
+        // Reads a field: that tells the proof what the type says of its value.
         let _ = &self.ports;
     }
 }
@@ -149,6 +150,7 @@ fn note_input(
         (queues_at queues.old.items place) (queues_at queues.new.items place) }
     ensures others { (place : ℕ) → place / LEVELS ≢ input → queues_at queues.new.items place ≡ queues_at queues.old.items place }
 {
+    // Tells the proof what the type of a match says of its value.
     let _ = matched.ports();
     for level in 0..LEVEL_COUNT {
         let outputs = outputs_waiting(&rows[input], served, level);

@@ -77,6 +77,7 @@ impl Board {
     pub fn legal(&self)
         ensures { IsBoard self.now }
     {
+        // Reads a field: that tells the proof what the type says of its value.
         let _ = &self.max_slots;
     }
 

@@ -67,6 +67,7 @@ impl CardSeat {
     pub fn legal(&self)
         ensures { IsSeat self.now }
     {
+        // Reads a field: that tells the proof what the type says of its value.
         let _ = &self.card;
     }
 

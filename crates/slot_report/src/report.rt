@@ -89,7 +89,7 @@ pub fn summary_text(alloc: Global, summary: &Summary) -> Result<String, OutOfMem
 /// The report of a run: the summary, a line for each of the outputs, 64 at most, these further lines, and a line for each
 /// decided slot where a journal is given. The only error is want of memory.
 ///
-/// The text is sized before the first line.
+/// The text is sized before the first line; no clause says so.
 pub fn report_text(
     alloc: Global,
     summary: &Summary,
