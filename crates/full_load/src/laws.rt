@@ -1,5 +1,5 @@
 //! Laws on slots of full load, as the contracts of functions that do nothing. They hold of the scheduler's
-//! definitions, for 1 to 64 ports and any number of rounds from one on, from any pointers.
+//! definitions, for 1 to 64 ports, one round or more, and any pointers.
 
 ghost use Rattle.std.specs.Prelude.{◌≡◌, ℕ, ◌+◌, ◌-◌, ◌<◌, ◌≤◌, List, All, Any, length, take, drop};
 ghost use Rattle.rotating_pick.specs.declared.limits.TheConstants.{LEVELS, MAX_PORTS};
