@@ -16,6 +16,11 @@ struct Row {
     cell: &'static str,
 }
 
+// The 97 bytes of a packet of three cells, in hexadecimal.
+const LONG_PACKET: &str =
+    "61686f767d848b9299a0a7aeb5bcc3cad1d8dfe6edf4fb020910171e252c333a41484f565d646b727980878e959ca3aab1\
+    b8bfc6cdd4dbe2e9f0f7fe050c131a21282f363d444b525960676e757c838a91989fa6adb4bbc2c9d0d7dee5ecf3fa01";
+
 #[test]
 fn counts_cells(rt: HostRuntime) {
     for (len, cells) in [
@@ -121,7 +126,7 @@ fn cuts_cells(rt: HostRuntime) -> Result<(), Fail> {
             nanos: 308_578_930,
             original: 1_118_412_023,
             number: 0,
-            bytes: "61686f767d848b9299a0a7aeb5bcc3cad1d8dfe6edf4fb020910171e252c333a41484f565d646b727980878e959ca3aab1b8bfc6cdd4dbe2e9f0f7fe050c131a21282f363d444b525960676e757c838a91989fa6adb4bbc2c9d0d7dee5ecf3fa01",
+            bytes: LONG_PACKET,
             cell: "20000000380000009590839a12648a720000006142a99cf761686f767d848b9299a0a7aeb5bcc3cad1d8dfe6edf4fb020910171e252c333a41484f565d646b72",
         },
         Row {
@@ -132,7 +137,7 @@ fn cuts_cells(rt: HostRuntime) -> Result<(), Fail> {
             nanos: 308_578_930,
             original: 1_118_412_023,
             number: 1,
-            bytes: "61686f767d848b9299a0a7aeb5bcc3cad1d8dfe6edf4fb020910171e252c333a41484f565d646b727980878e959ca3aab1b8bfc6cdd4dbe2e9f0f7fe050c131a21282f363d444b525960676e757c838a91989fa6adb4bbc2c9d0d7dee5ecf3fa01",
+            bytes: LONG_PACKET,
             cell: "20030000380000017980878e959ca3aab1b8bfc6cdd4dbe2e9f0f7fe050c131a21282f363d444b525960676e757c838a91989fa6adb4bbc2c9d0d7dee5ecf3fa",
         },
         Row {
@@ -143,7 +148,7 @@ fn cuts_cells(rt: HostRuntime) -> Result<(), Fail> {
             nanos: 308_578_930,
             original: 1_118_412_023,
             number: 2,
-            bytes: "61686f767d848b9299a0a7aeb5bcc3cad1d8dfe6edf4fb020910171e252c333a41484f565d646b727980878e959ca3aab1b8bfc6cdd4dbe2e9f0f7fe050c131a21282f363d444b525960676e757c838a91989fa6adb4bbc2c9d0d7dee5ecf3fa01",
+            bytes: LONG_PACKET,
             cell: "1f030001010000020100000000000000000000000000000000000000000000000000000000000000000000000000000000000000000000000000000000000000",
         },
     ];
