@@ -6,7 +6,8 @@ use std::test;
 use switch_run::switch_main;
 
 const USAGE: &str =
-    "usage: tiny_tera run [options] TABLE PREFIX INPUT.. or tiny_tera gen [options] SEED COUNT PORTS or tiny_tera check FILE or tiny_tera firm [options] TABLE INPUT..\n";
+    "usage: tiny_tera run [options] TABLE PREFIX INPUT.. or tiny_tera gen [options] SEED COUNT PORTS or tiny_tera check FILE \
+    or tiny_tera firm [options] TABLE INPUT..\n";
 
 const TABLE: &str = "10.0.0.0/24 0\n10.0.1.0/24 1\n";
 
@@ -19,8 +20,8 @@ const NO_RAW_PACKET: &[u8; 24] =
     b"\xd4\xc3\xb2\xa1\x02\x00\x04\x00\x00\x00\x00\x00\x00\x00\x00\x00\x00\x00\x04\x00\x65\x00\x00\x00";
 
 // A record of a frame to 10.0.1.1, up to its last 26 bytes, which are 0.
-const RECORD: &[u8; 50] =
-    b"\x01\x00\x00\x00\x02\x00\x00\x00\x3c\x00\x00\x00\x3c\x00\x00\x00\x02\x00\x00\x00\x00\x01\x02\x00\x00\x00\x00\x02\x08\x00\x45\x00\x00\x2e\x00\x00\x00\x00\x40\xfd\x00\x00\x0a\x00\x00\x01\x0a\x00\x01\x01";
+const RECORD: &[u8; 50] = b"\x01\x00\x00\x00\x02\x00\x00\x00\x3c\x00\x00\x00\x3c\x00\x00\x00\
+    \x02\x00\x00\x00\x00\x01\x02\x00\x00\x00\x00\x02\x08\x00\x45\x00\x00\x2e\x00\x00\x00\x00\x40\xfd\x00\x00\x0a\x00\x00\x01\x0a\x00\x01\x01";
 
 // What a run of two ports without a packet tells.
 const NOTHING: &str =

@@ -24,7 +24,8 @@ struct Refusal<'a> {
 const PIECE: u32 = 12;
 
 const USAGE: &str =
-    "usage: tiny_tera run [options] TABLE PREFIX INPUT.. or tiny_tera gen [options] SEED COUNT PORTS or tiny_tera check FILE or tiny_tera firm [options] TABLE INPUT..\n";
+    "usage: tiny_tera run [options] TABLE PREFIX INPUT.. or tiny_tera gen [options] SEED COUNT PORTS or tiny_tera check FILE \
+    or tiny_tera firm [options] TABLE INPUT..\n";
 
 const FIFTH_READ: Fail = Fail {
     call: Call::Read,
