@@ -125,10 +125,9 @@ fn checked(number: u32, form: &Form) -> Result<Option<RouteLine>, TableFault>
     if has_host_bits(&form.target) {
         return Err(TableFault::HostBits { line: number });
     }
-    let fan = match form.fan {
-        Ok(fan) => fan,
-        Err(port) => return Err(TableFault::BadPort { line: number, port }),
-    };
+    let fan = form
+        .fan
+        .map_err(|port| TableFault::BadPort { line: number, port })?;
     if form.level >= LEVELS {
         return Err(TableFault::BadLevel { line: number });
     }
