@@ -5,10 +5,12 @@
 #   make install          installs the program, where tools/install is there, and the library
 #   make install-library  installs header, archive, shared object and pkg-config file alone
 #
-# PREFIX is where (/usr/local if not given), DESTDIR goes before it.
+# PREFIX is where (/usr/local if not given), DESTDIR goes before it. LIBRARY names the folder of a library that is built
+# already, as LIBRARY=out: that one is installed as it is, which needs no toolchain.
 
 PREFIX = /usr/local
 DESTDIR =
+LIBRARY =
 
 VERSION = 1
 
@@ -27,11 +29,13 @@ install: install-program install-library
 install-program:
 	DESTDIR="$(DESTDIR)" tools/install "$(PREFIX)"
 
-install-library: library
+BUILT = $(or $(LIBRARY),out)
+
+install-library: $(if $(LIBRARY),,library)
 	install -d "$(DESTDIR)$(PREFIX)/include" "$(DESTDIR)$(PREFIX)/lib/pkgconfig"
 	install -m 644 include/tiny_tera.h "$(DESTDIR)$(PREFIX)/include/"
-	install -m 644 out/libtiny_tera.a "$(DESTDIR)$(PREFIX)/lib/"
-	install -m 755 out/libtiny_tera.so "$(DESTDIR)$(PREFIX)/lib/libtiny_tera.so.$(VERSION)"
+	install -m 644 "$(BUILT)/libtiny_tera.a" "$(DESTDIR)$(PREFIX)/lib/"
+	install -m 755 "$(BUILT)/libtiny_tera.so" "$(DESTDIR)$(PREFIX)/lib/libtiny_tera.so.$(VERSION)"
 	ln -sf libtiny_tera.so.$(VERSION) "$(DESTDIR)$(PREFIX)/lib/libtiny_tera.so"
 	sed -e 's|@PREFIX@|$(PREFIX)|' -e 's|@VERSION@|$(VERSION)|' include/tiny_tera.pc.in \
 		>"$(DESTDIR)$(PREFIX)/lib/pkgconfig/tiny_tera.pc"
