@@ -48,6 +48,8 @@ class Estimate:
     def minutes_left(self, done, elapsed):
         """The minutes that are left where these crates are done after so many seconds."""
         left = WRITES_DOWN * self.left(done)
+        # Before the first crate is done, all that is known is how long it has been.
+        by_now = self.expected - left if done else min(elapsed, READS_FIRST)
         trusted = TRUSTED * self.expected
-        slowness = (elapsed + trusted) / (self.expected - left + trusted)
-        return max(1, round(left * slowness / 60))
+        slowness = (elapsed + trusted) / (by_now + trusted)
+        return max(1, round((self.expected - by_now) * slowness / 60))

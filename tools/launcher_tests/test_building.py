@@ -9,7 +9,7 @@ from unittest import mock
 
 from launch import sources
 from launch.building import Progress
-from launch.estimate import WRITES_DOWN, Estimate, seconds_by_crate
+from launch.estimate import READS_FIRST, WRITES_DOWN, Estimate, seconds_by_crate
 from launch.place import Place
 
 from .scene import TOP, Scene
@@ -193,6 +193,13 @@ class Estimates(unittest.TestCase):
         self.assertEqual(usual, 1)
         self.assertGreater(slow, 5)
         self.assertLessEqual(slow, 20 * 30 * WRITES_DOWN / 60)
+
+    def test_nothing_done(self):
+        """At the start all that is expected is left, and no more is known while sources are read."""
+        whole = self.estimate(2)
+        self.assertEqual(whole.minutes_left((), 0), round(whole.expected / 60))
+        self.assertEqual(whole.minutes_left((), READS_FIRST), round((whole.expected - READS_FIRST) / 60))
+        self.assertGreater(whole.minutes_left((), 20 * READS_FIRST), 5)
 
     def test_progress(self):
         said = []
