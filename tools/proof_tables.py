@@ -103,3 +103,16 @@ def comparison(before, measured):
     both = [name for name in measured if name in before]
     was, now = sum(before[it][0] for it in both), sum(measured[it][0] for it in both)
     return f"Crates that were measured before: {len(both)}; {was:,} seconds then, {now:,.0f} now, {now / max(was, 1):.2f} times"
+
+
+def longest_chain(libraries, crates):
+    """The seconds of the longest chain of crates, each of which waits for the one before, and its crates."""
+    ends = {}
+
+    def end(name):
+        if name not in ends:
+            below = max((end(it) for it in libraries[name] if it in libraries), default=(0, []), key=lambda it: it[0])
+            ends[name] = below[0] + crates.get(name, (0, 0))[0], [*below[1], name]
+        return ends[name]
+
+    return max((end(name) for name in libraries), default=(0, []), key=lambda it: it[0])

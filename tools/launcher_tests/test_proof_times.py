@@ -67,6 +67,11 @@ class Comparison(unittest.TestCase):
         self.assertEqual(lines[0], "`c`: 100 seconds before, 121 now; 3 functions before, 4 now")
         self.assertEqual(tables.comparison(before, measured), "Crates that were measured before: 5; 270 seconds then, 312 now, 1.16 times")
 
+    def test_chain(self):
+        libraries = {"a": [], "b": ["a", "hex"], "c": ["a"], "d": ["b", "c"], "e": []}
+        crates = {"a": (1, 1), "b": (9, 1), "c": (10, 1), "d": (2, 1), "e": (12, 1)}
+        self.assertEqual(tables.longest_chain(libraries, crates), (13, ["a", "c", "d"]))
+
     def test_functions(self):
         """What was not among the dearest took at most what the last of these did; what is new has nothing to grow from."""
         before = {("a", "f"): 40, ("a", tables.FIRST): 30, ("a", "g"): 20}
