@@ -207,8 +207,14 @@ class Packets(unittest.TestCase):
 
     def test_wrong_files(self):
         wrong = (DATA / "packets_of_all_states.packets.csv").read_text()
-        for old, new in ((",delay", ""), ("unrouted", "lost"), ("1178,1", "1178,2"), ("1177", "soon")):
-            self.assertRaises(ValueError, packets_of, wrong.replace(old, new))
+        for old, new in ((",delay", ""), ("unrouted", "lost"), ("1178,1", "1178,2"), ("1177", "soon"), ("1177", "1177.5")):
+            with self.subTest(new), self.assertRaisesRegex(ValueError, "^no packets file: "):
+                packets_of(wrong.replace(old, new))
+
+    def test_numbers_of_a_packets_file(self):
+        """They are whole numbers, also in columns with empty fields."""
+        kinds = packets_of((DATA / "packets_of_all_states.packets.csv").read_text()).dtypes
+        self.assertEqual({name for name in kinds.index if kinds[name] != "Int64"}, {"state", "kind"})
 
 
 def pairs_of(slot):
