@@ -61,7 +61,7 @@ def make_arrivals(kind, load, burst, hot, ports, slots, seed):
             if output is not None:
                 found.append(Arrival(slot, card, (output,), 0, 1))
     first = found[0].slot if found else 0
-    return [packet._replace(slot=packet.slot - first) for packet in found]
+    return [packet._replace(slot=packet.slot - first) for packet in found] if first else found
 
 
 def _source(kind, numbers, card, load, burst, hot, ports):
