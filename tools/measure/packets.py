@@ -24,10 +24,11 @@ def check_run(packets, report):
     for name, count in found.items():
         if count != report.summary[name]:
             raise Misfit(f"{name} {count}, and the report has {report.summary[name]}")
-    for output, told in enumerate(report.outputs):
-        here = left[left["output"] == output]
-        if (len(here), int(here["cells"].sum())) != tuple(told):
-            raise Misfit(f"output {output} packets {len(here)} cells {here['cells'].sum()}, and the report has {told[0]} and {told[1]}")
+    outputs = left.groupby("output")["cells"].agg(["size", "sum"]).reindex(range(len(report.outputs)), fill_value=0)
+    for output, (count, cells) in enumerate(outputs.itertuples(index=False)):
+        told = report.outputs[output]
+        if (count, cells) != told:
+            raise Misfit(f"output {output} packets {count} cells {cells}, and the report has {told[0]} and {told[1]}")
 
 
 def offered(packets):
@@ -58,4 +59,4 @@ def output_queued(left):
     number = ordered.groupby("output").cumcount()
     # The n-th cell of an output is given out n - m slots after the m-th came, for the m that makes this latest.
     latest = (ordered["arrival"] - number).groupby(ordered["output"]).cummax()
-    return (latest + number + 1).astype(numpy.int64)
+    return (latest + number + 1).astype(numpy.int64).sort_index()
