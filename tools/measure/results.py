@@ -1,4 +1,4 @@
-"""The result of one run of a sweep: its words, and the delays of its packets."""
+"""The result of one run of a sweep: the delays of its packets."""
 
 from math import ceil
 from statistics import fmean
@@ -15,18 +15,6 @@ from .report import Reference
 LEFT_OUT_FIRST = 0.2
 LEFT_OUT_LAST = 0.1
 PLACES = 4
-
-
-class Words(NamedTuple):
-    """The words of a run: the load in cells per input and slot, the mean burst in cells."""
-
-    kind: str
-    ports: int
-    load: float
-    scheduler: str
-    rounds: int
-    seed: int
-    commit: str
 
 
 class Result(NamedTuple):

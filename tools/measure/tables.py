@@ -8,8 +8,8 @@ import pandas
 from scipy import stats
 
 from .provenance import Provenance, read_lines
-from .results import PLACES, Result, Words
-from .words import ranges
+from .results import PLACES, Result
+from .words import Words, ranges
 
 POINT = ["kind", "ports", "load", "scheduler", "rounds"]
 CONFIDENCE = 0.95

@@ -1,11 +1,24 @@
-"""Words of the tools: lists of numbers with ranges, and numbers within their limits, as types of argparse.
+"""Words of the tools: those of a run, and as types of argparse lists of numbers with ranges, and numbers within limits.
 
 A word that is refused is told with what it may be.
 """
 
 import argparse
+from typing import NamedTuple
 
 MOST_NUMBERS = 10_000  # Of one list.
+
+
+class Words(NamedTuple):
+    """The words of a run; the load is in cells per input and slot."""
+
+    kind: str
+    ports: int
+    load: float
+    scheduler: str
+    rounds: int
+    seed: int
+    commit: str
 
 
 def whole(low, high):

@@ -2,6 +2,7 @@
 
 import argparse
 import math
+import os
 import tempfile
 import unittest
 from pathlib import Path
@@ -128,6 +129,18 @@ class Figures(unittest.TestCase):
             report_file.write_text(f"{bare}deepest 0\n")
             status, told = run(TOOLS / "plot", "--to", Path(name, "none"), report_file)
             self.assertEqual((status, Path(name, "none").exists()), (0, False))
+
+    def test_without_pandas(self):
+        """What needs no packets file is drawn, and for one the package that is missing is told in one line."""
+        with tempfile.TemporaryDirectory() as name:
+            Path(name, "pandas.py").write_text("raise ImportError('none', name='pandas')\n")
+            report_file, bare = Path(name, "one.report"), {**os.environ, "PYTHONPATH": name}
+            report_file.write_text(REPORT)
+            status, told = run(TOOLS / "plot", report_file, env=bare)
+            self.assertEqual((status, report_file.with_suffix(".matched.png").exists()), (0, True), told)
+            Path(name, "one.packets.csv").write_text(PACKETS)
+            told = "tools/plot: Python has no pandas (Debian: python3-pandas)\n"
+            self.assertEqual(run(TOOLS / "plot", report_file, env=bare), (1, told))
 
     def test_packets_of_another_run_are_refused(self):
         """The packets file of a run at one pace is not drawn with the report of a run at another, with or without slots."""
