@@ -30,15 +30,17 @@ BAD_WORDS = [
     (["--kinds", "trace"], "--kinds trace and --trace go together"),
     (["--kinds", "hot-spot", "--loads", "0.7"], "--loads: 0.7 is over 0.571, the most with kind hot-spot"),
 ]
-# The program, but for runs of two rounds while the file `broken` is there, slow while `slow` is, and without --alone
-# while `old` is. It takes that word and the name of a scheduler, makes its own run, and keeps the words in `words`.
+# The program, but for runs of two rounds, which fail while the file `broken` is there and are slow while `slow` is, and
+# without --alone while `old` is there. It takes that word and the name of a scheduler, makes its own run, and keeps the words in `words`.
 SCRIPT = """\
 #!/bin/sh
 echo "$*" >>{folder}/words
 case "$*" in *--alone*) [ -e {folder}/old ] && exit 2;; esac
 set -- $(echo "$*" | sed 's/--scheduler [a-z]*//; s/--alone//')
-case " $* " in *" --rounds 2 "*) [ -e {folder}/broken ] && exit 9;; esac
-[ -e {folder}/slow ] && case "$*" in *--slots*) touch {folder}/began && sleep 30;; esac
+case " $* " in *" --rounds 2 "*)
+    [ -e {folder}/broken ] && exit 9
+    [ -e {folder}/slow ] && sleep 200;;
+esac
 mkdir {folder}/busy 2>/dev/null || touch {folder}/overlap
 {program} "$@"
 status=$?
@@ -102,16 +104,18 @@ class Sweeps(unittest.TestCase):
         self.assertEqual(len(told.splitlines()), 2, told)
         self.assertIn("Error in rule run", (self.folder / "snakemake.log").read_text())
         first = self.folder / "bursty-ports-4-load-0.5-seed-1/islip-rounds-1.report"
+        # The other run of this traffic has its result, and it stays.
+        self.assertEqual([path.stem for path in first.parent.glob("*.json")], ["islip-rounds-1"])
         self.assertFalse((self.folder / "runs.csv").exists())
-        kept = first.stat().st_mtime_ns
+        kept = times(first)
         (self.room / "broken").unlink()
         status, told = run(*self.words, "--journals", "--cores", "1")
         self.assertEqual(status, 0, told)
-        self.assertEqual((first.stat().st_mtime_ns, (self.room / "overlap").exists()), (kept, False))
+        self.assertEqual((times(first), (self.room / "overlap").exists()), (kept, False))
         self.check_journal(first)
         # Another seed, which leaves the first in the tables; its interval needs both.
         status, told = run(*self.words, "--journals", "--seeds", "5")
-        self.assertEqual((status, first.stat().st_mtime_ns), (0, kept), told)
+        self.assertEqual((status, times(first)), (0, kept), told)
         runs, provenance = self.rows()
         self.assertEqual(runs[["rounds", "seed"]].values.tolist(), [[1, 1], [1, 5], [2, 1], [2, 5]])
         self.assertEqual((len(provenance.commands), provenance.notes[0]), (2, "seeds 1,5"))
@@ -142,25 +146,35 @@ class Sweeps(unittest.TestCase):
             self.assertTrue(report_file.with_suffix(f".{figure}.png").exists(), told)
 
     def test_interrupt_ends_in_one_line(self):
+        """Of a traffic's two runs one is done when the sweep is stopped; it stays when the sweep goes on."""
         (self.room / "slow").touch()
         # A shell in the background ignores the interrupt, and what it starts inherits that.
         def heed_interrupt():
             signal.signal(signal.SIGINT, signal.SIG_DFL)
 
-        words = [sys.executable, *map(str, self.words)]
+        words = [sys.executable, *map(str, self.words), "--reports", "--cores", "2"]
         process = subprocess.Popen(words, stderr=subprocess.PIPE, text=True, preexec_fn=heed_interrupt)
-        until = time.monotonic() + 300
-        while not (self.room / "began").exists() and time.monotonic() < until:
-            time.sleep(0.1)
+        # The traffic and the run of one round are done.
+        self.wait_for("2 of 4 steps")
         process.send_signal(signal.SIGINT)
         told = process.communicate(timeout=300)[1]
-        line = f"tools/sweep: stopped with 0 of 2 runs done; the same command goes on in {self.folder}\n"
+        line = f"tools/sweep: stopped with 1 of 2 runs done; the same command goes on in {self.folder}\n"
         self.assertEqual((process.returncode, told), (130, line))
+        first = self.folder / "bursty-ports-4-load-0.5-seed-1/islip-rounds-1.report"
+        kept = times(first)
         (self.room / "slow").unlink()
         # The same words, and another scheduler that the program has here.
-        status, told = run(*self.words, "--schedulers", "islip,firm")
-        self.assertEqual(status, 0, told)
+        status, told = run(*self.words, "--reports", "--schedulers", "islip,firm")
+        self.assertEqual((status, times(first)), (0, kept), told)
         self.assertEqual(self.rows("points")[0]["scheduler"].tolist(), ["firm", "firm", "islip", "islip"])
+
+    def wait_for(self, text):
+        """Waits until Snakemake has told this."""
+        log = self.folder / "snakemake.log"
+        until = time.monotonic() + 300
+        while not (log.exists() and text in log.read_text()) and time.monotonic() < until:
+            time.sleep(0.1)
+        self.assertIn(text, log.read_text())
 
     def test_one_thread(self):
         """Runs are made without the board where the program can, and else with one worker."""
@@ -184,3 +198,8 @@ class Sweeps(unittest.TestCase):
         runs, provenance = self.rows()
         self.assertEqual((runs["kind"].tolist(), runs["ports"].tolist()), (["trace"], [2]))
         self.assertIn("--trace a.pcap b.pcap", provenance.commands[0])
+
+
+def times(report_file):
+    """When a report and the result beside it were written."""
+    return [report_file.with_suffix(suffix).stat().st_mtime_ns for suffix in (".report", ".json")]
