@@ -45,7 +45,7 @@ def commit():
     """The commit of the repository, with a + where tracked code differs from it; `unknown` without git."""
     try:
         name = _git("rev-parse", "--short=12", "HEAD")
-        changed = _git("status", "--porcelain", "--untracked-files=no", "--", "crates", "tools", "crates.txt")
+        changed = _git("status", "--porcelain", "--untracked-files=no", "--", "crates", "tools", "python/tiny_tera", "crates.txt")
     except (OSError, subprocess.CalledProcessError):
         return UNKNOWN
     return name + "+" if changed else name
