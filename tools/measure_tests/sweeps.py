@@ -197,7 +197,7 @@ class Sweeps(unittest.TestCase):
         self.assertIn("rule run", log.read_text())
         runs, provenance = self.rows()
         self.assertEqual((runs["kind"].tolist(), runs["ports"].tolist()), (["trace"], [2]))
-        self.assertIn("--trace a.pcap b.pcap", provenance.commands[0])
+        self.assertIn("--program program --trace a.pcap b.pcap", provenance.commands[0])
 
 
 def times(report_file):
