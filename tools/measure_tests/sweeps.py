@@ -27,7 +27,10 @@ BAD_WORDS = [
     (["--burst", "0"], "'0' is not a whole number from 1"),
     (["--cores", "0"], "'0' is not a whole number from 1"),
     (["--schedulers", "islip,"], "'islip,' is no list of names"),
+    (["--slots", "2"], "'2' is not a whole number from 3 to 131072"),
     (["--kinds", "trace"], "--kinds trace and --trace go together"),
+    (["--kinds", "trace", "--trace", "/none"], "--trace: [Errno 2] No such file or directory: '/none'"),
+    (["--kinds", "trace", "--trace", "/dev/null"], "--trace: "),
     (["--kinds", "hot-spot", "--loads", "0.7"], "--loads: 0.7 is over 0.571, the most with kind hot-spot"),
 ]
 # The program, but for runs of two rounds, which fail while the file `broken` is there and are slow while `slow` is, and
