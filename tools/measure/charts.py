@@ -14,6 +14,7 @@ from matplotlib.ticker import MaxNLocator, StrMethodFormatter  # noqa: E402
 
 FORMATS = ("png", "svg")
 DOTS_PER_INCH = 120
+LETTERS_OF_AN_INCH = 20  # In the lines under a figure.
 COLOURS = ("#0072b2", "#d55e00", "#009e73", "#cc79a7", "#56b4e9", "#e69f00")
 MARKERS = ("o", "s", "^", "D", "v", "P")
 PLAIN = StrMethodFormatter("{x:g}")  # As 0.01, and not as a power of ten.
@@ -30,7 +31,7 @@ def save(figure, folder, name, told):
 
     What `told` says of where the figure comes from stands under it and in the files' descriptions.
     """
-    figure.supxlabel(told.text(), x=0.01, horizontalalignment="left", fontsize=6)
+    figure.supxlabel(told.text(int(figure.get_figwidth() * LETTERS_OF_AN_INCH)), x=0.01, horizontalalignment="left", fontsize=6)
     Path(folder).mkdir(parents=True, exist_ok=True)
     for form in FORMATS:
         file = Path(folder) / f"{name}.{form}"

@@ -7,7 +7,7 @@ from typing import NamedTuple
 
 TOP = Path(__file__).resolve().parent.parent.parent
 UNKNOWN = "unknown"
-LINE = 150  # Letters of a line under a figure.
+LINE = 150  # The most letters of a line under a figure.
 
 
 class Provenance(NamedTuple):
@@ -22,9 +22,10 @@ class Provenance(NamedTuple):
         commits = [f"commit {name}" for name in self.commits]
         return [*commits, *(f"command {words}" for words in self.commands), *self.notes]
 
-    def text(self):
-        """The same as a paragraph under a figure."""
-        return "\n".join(part for line in self.lines() for part in textwrap.wrap(line, LINE, break_on_hyphens=False))
+    def text(self, room):
+        """The same as a paragraph under a figure that has room for lines of so many letters."""
+        width = min(room, LINE)
+        return "\n".join(part for line in self.lines() for part in textwrap.wrap(line, width, break_on_hyphens=False))
 
 
 def read_lines(lines):

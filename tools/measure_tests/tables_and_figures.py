@@ -5,6 +5,7 @@ import math
 import os
 import tempfile
 import unittest
+from contextlib import redirect_stdout
 from pathlib import Path
 
 from measure import words
@@ -187,6 +188,18 @@ class Figures(unittest.TestCase):
                 drawn = (folder / f"figures/{figure}.svg").read_text()
                 for line in TOLD.lines():
                     self.assertTrue(line in drawn, line)
+
+    @unittest.skipIf(lacks("scipy"), lacks("scipy"))
+    def test_lines_under_a_figure_end_within_it(self):
+        from measure import charts
+        from measure.tables import points
+
+        told = Provenance(("abc",), ("tools/sweep --loads " + " ".join(f"0.{load}" for load in range(10, 99)),))
+        figure = charts.sweep_figure(points(runs_of(1.0, 2.0)), 16)
+        with tempfile.TemporaryDirectory() as name, redirect_stdout(None):
+            charts.save(figure, name, "delays", told)
+        under = figure.texts[-1].get_window_extent(figure.canvas.get_renderer())
+        self.assertLess(under.x1, figure.bbox.x1)
 
     def check_drawn(self, names, folder, words_of_plot):
         status, told = run(TOOLS / "plot", "--to", folder / "figures", *words_of_plot)
