@@ -179,8 +179,9 @@ def save_sweep(points, told, folder):
     for ports, part in below.groupby("ports"):
         name = "delays" if below["ports"].nunique() == 1 else f"delays_{ports}_ports"
         save(sweep_figure(part, ports), folder, name, told)
-    if len(full):
-        save(throughput_figure(full), folder, "throughput", told)
+    for kind, part in full.groupby("kind"):
+        name = "throughput" if full["kind"].nunique() == 1 else f"throughput_{kind}"
+        save(throughput_figure(part, kind), folder, name, told)
 
 
 def _line_name(scheduler, rounds, schedulers):
@@ -192,7 +193,9 @@ def _lines(points):
     """For each scheduler and number of rounds its name, its style and its points, in rising order."""
     schedulers = sorted(points["scheduler"].unique())
     for number, ((scheduler, rounds), part) in enumerate(points.groupby(["scheduler", "rounds"])):
-        style = {"marker": MARKERS[number % len(MARKERS)], "color": COLOURS[number % len(COLOURS)]}
+        # Where the colours begin again, each has another marker.
+        marker = MARKERS[(number + number // len(COLOURS)) % len(MARKERS)]
+        style = {"marker": marker, "color": COLOURS[number % len(COLOURS)]}
         yield part, {"label": _line_name(scheduler, rounds, schedulers), "capsize": 3, "markersize": 4, **style}
 
 
@@ -245,10 +248,9 @@ def _formula_line(axes, points):
         axes.plot(known["load"], known["formula"], color="#cccccc", linewidth=6, zorder=0, label="output-queued, formula")
 
 
-def throughput_figure(points):
+def throughput_figure(points, kind):
     """Throughput under full load over ports with its intervals, a line for each number of rounds."""
-    kinds = ", ".join(sorted(points["kind"].unique()))
-    figure, axes = _one(f"{kinds} traffic, load 1", "ports", "throughput (cells per output and slot)")
+    figure, axes = _one(f"{kind} traffic, load 1", "ports", "throughput (cells per output and slot)")
     for part, style in _lines(points):
         axes.errorbar(part["ports"], part["throughput"], yerr=_bars(part["throughput_half_width"]), **style)
     _ideal_line(axes, points, "ports", "output_queued_throughput")

@@ -190,6 +190,23 @@ class Figures(unittest.TestCase):
                     self.assertTrue(line in drawn, line)
 
     @unittest.skipIf(lacks("scipy"), lacks("scipy"))
+    def test_lines_and_kinds_are_told_apart(self):
+        """Nine lines of three schedulers differ in colour or marker, and each kind has its own figure of throughput."""
+        import pandas
+
+        from measure import charts
+        from measure.tables import points, write_table
+
+        of_kinds = [runs_of(9.0, kind=kind, load=1.0, ports=ports) for kind in ("uniform", "bursty") for ports in (2, 4)]
+        of_lines = [runs_of(9.0, scheduler=name, rounds=rounds) for name in ("islip", "firm", "rrm") for rounds in (1, 2, 4)]
+        (axes,) = charts.sweep_figure(points(pandas.concat(of_lines)), 16).axes
+        lines = [bar.lines[0] for bar in axes.containers if "round" in bar.get_label()]
+        self.assertEqual(len({(line.get_color(), line.get_marker()) for line in lines}), 9)
+        with tempfile.TemporaryDirectory() as name:
+            write_table(Path(name, "points.csv"), points(pandas.concat(of_kinds)), TOLD)
+            self.check_drawn(["throughput_uniform", "throughput_bursty"], Path(name), ["--sweep", Path(name, "points.csv")])
+
+    @unittest.skipIf(lacks("scipy"), lacks("scipy"))
     def test_lines_under_a_figure_end_within_it(self):
         from measure import charts
         from measure.tables import points
