@@ -26,6 +26,13 @@ def served_waits(journal):
     return counts
 
 
+def are_of_one_run(journal, counts, report):
+    """Whether a journal with these waits has the ports, the rounds, the slots and the longest waits of a report."""
+    head = (journal.ports, journal.rounds, journal.slot_count)
+    longest = tuple(max(count, default=0) for count in counts)
+    return (head, longest) == (tuple(report.summary[name] for name in ("ports", "rounds", "slots")), report.longest)
+
+
 def _after(slot, waiting, counts):
     """The queues that wait after a slot, with their waits; those that it serves are counted."""
     left = {}

@@ -156,6 +156,16 @@ class Figures(unittest.TestCase):
                 self.assertEqual((status, told.count("\n"), list(Path(name).glob("*.png"))), (1, 1, []), told)
                 self.assertIn("one.packets.csv: not the packets of", told)
 
+    def test_journal_of_another_run_is_refused(self):
+        """Its rounds, its slots and its longest waits are those of the report."""
+        for old, new in (("rounds 2", "rounds 1"), ("longest 2", "longest 3")):
+            with self.subTest(new), tempfile.TemporaryDirectory() as name:
+                report_file = Path(name, "one.report")
+                report_file.write_text(REPORT.replace(old, new))
+                report_file.with_suffix(".journal").write_bytes(JOURNAL)
+                told = f"tools/plot: {name}/one.journal: not the journal of {report_file}\n"
+                self.assertEqual(run(TOOLS / "plot", report_file), (1, told))
+
     def test_faults_are_told(self):
         with tempfile.TemporaryDirectory() as name:
             report_file = Path(name, "one.report")
