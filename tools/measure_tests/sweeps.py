@@ -62,8 +62,12 @@ class Words(unittest.TestCase):
                     status, said = run(TOOLS / "sweep", "--to", folder, "--program", "/bin/false", *words)
                     self.assertEqual(status, 2)
                     self.assertIn(told, said.splitlines()[-1])
-            status, said = run(TOOLS / "sweep", "--to", folder, "--program", "/bin/false")
-            self.assertEqual((status, said), (1, "tools/sweep: /bin/false gen 0 0 1 ends with status 1\n"))
+            # What the program tells before it runs, as the launcher does while it proves, is seen.
+            program = Path(name, "program")
+            program.write_text("#!/bin/sh\necho proved first >&2\nexit 1\n")
+            program.chmod(0o755)
+            status, said = run(TOOLS / "sweep", "--to", folder, "--program", program)
+            self.assertEqual((status, said), (1, f"proved first\ntools/sweep: {program} gen 0 0 1 ends with status 1\n"))
             self.assertFalse(folder.exists())
 
     @unittest.skipIf(lacks("tqdm"), lacks("tqdm"))
