@@ -9,19 +9,24 @@ ghost use Rattle.output_queued.specs.Steps.{MayTake, HasTaken, cells_to, with_ce
 use crate::coming::Coming;
 use crate::inputs::Input;
 use crate::tally::Tally;
-use rotating_pick::{Ports, lowest, union, without};
-use slot_match::Match;
+use rotating_pick::{PORT_COUNT, Ports, lowest, union, without};
+use slot_match::{Match, Served};
 
-/// Takes what the match serves off the inputs' queues.
-pub(crate) fn take_served(inputs: &mut Vec<Input>, matched: &Match)
+/// Takes what the match serves off the inputs' queues. The parts of all inputs are written to `parts`.
+pub(crate) fn take_served(
+    inputs: &mut Vec<Input>,
+    matched: &Match,
+    parts: &mut [Option<Served>; PORT_COUNT],
+)
     requires size { length inputs.old.items ≤ MAX_PORTS }
     requires count { length inputs.old.items ≡ length matched.now }
     requires may { (i : ℕ) → i < length inputs.old.items → MayTake (served_of matched.now i) (source_at inputs.old.items i) }
     ensures count { length inputs.new.items ≡ length inputs.old.items }
     ensures taken { (i : ℕ) → i < length inputs.old.items → HasTaken (served_of matched.now i) (source_at inputs.old.items i) (source_at inputs.new.items i) }
 {
+    matched.put_parts(parts);
     for input in 0..inputs.len() {
-        inputs[input].take(matched.served(input as u32));
+        inputs[input].take(parts[input]);
     }
 }
 

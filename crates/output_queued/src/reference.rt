@@ -18,8 +18,8 @@ use crate::inputs::Input;
 use crate::line::RefLine;
 use crate::tally::Tally;
 use card_core::MAX_SLOTS;
-use rotating_pick::{Kind, MAX_PORTS, OutOfMemory, Ports, contains, lowest, without};
-use slot_match::{Fed, Match, Row};
+use rotating_pick::{Kind, MAX_PORTS, OutOfMemory, PORT_COUNT, Ports, contains, lowest, without};
+use slot_match::{Fed, Match, Row, Served};
 use std::alloc::{AllocError, Global};
 use std::marker::Model;
 use voq_banks::MAX_DEPTH;
@@ -31,8 +31,8 @@ use voq_banks::MAX_DEPTH;
 /// depth wait there. What is admitted counts at its outputs in its arrival slot; each output of the ideal
 /// switch gives out a cell in each slot in which one waits.
 ///
-/// A slot costs a look at each input, and a step for each output to which a cell has come that the run has
-/// not served. No memory is taken after [`Reference::make`].
+/// A slot costs a look at each input and output, and a step for each output to which a cell has come that the
+/// run has not served. No memory is taken after [`Reference::make`].
 #[derive(Drop)]
 pub struct Reference {
     ports: u32,
@@ -43,6 +43,8 @@ pub struct Reference {
     tallies: Vec<Tally>,
     // The outputs to which a cell has come that the run has not served.
     unserved: Ports,
+    // The parts of all inputs in a match, which are written over.
+    parts: [Option<Served>; PORT_COUNT],
 }
 
 impl Model for Reference {
@@ -106,6 +108,7 @@ impl Reference {
             inputs,
             tallies,
             unserved,
+            parts: [None; PORT_COUNT],
         })
     }
 
@@ -138,7 +141,7 @@ impl Reference {
         // Only the contract speaks of the rows.
         let _ = rows;
         let unserved = count_slot(&mut self.tallies, self.unserved, self.slots, matched);
-        take_served(&mut self.inputs, matched);
+        take_served(&mut self.inputs, matched, &mut self.parts);
         self.slots += 1;
         self.unserved = let_in(&mut self.inputs, &mut self.tallies, unserved, self.slots);
     }
