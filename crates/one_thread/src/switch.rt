@@ -21,12 +21,12 @@ use crossbar::{Crossbar, Post};
 use islip_rounds::RoundsUsed;
 use named_schedulers::NamedScheduler;
 use pointer_state::Pointers;
-use rotating_pick::OutOfMemory;
+use rotating_pick::{OutOfMemory, PORT_COUNT};
 use run_laws::ends;
 use run_notes::RunNotes;
 use scheduler_names::SchedulerName;
 use service_bound::WaitMeter;
-use slot_match::{Match, Row};
+use slot_match::{Match, Row, Served};
 use std::alloc::Global;
 use std::mem::swap;
 
@@ -53,6 +53,8 @@ pub(crate) struct Switch {
     pub(crate) numbers: RoundsUsed,
     /// A match that is written over.
     pub(crate) spare: Match,
+    /// The parts of all inputs in a match, which are written over.
+    pub(crate) parts: [Option<Served>; PORT_COUNT],
     /// The waits in all slots before.
     pub(crate) meter: WaitMeter,
 }
@@ -92,6 +94,7 @@ impl Switch {
             matched: Match::new(ports),
             numbers: RoundsUsed::none(),
             spare: Match::new(ports),
+            parts: [None; PORT_COUNT],
             meter: WaitMeter::make(alloc, ports)?,
         })
     }
@@ -152,6 +155,7 @@ impl Switch {
             &self.crossbar,
             &self.spare,
             &self.matched,
+            &mut self.parts,
         );
         done
     }

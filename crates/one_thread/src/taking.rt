@@ -7,10 +7,10 @@ ghost use Rattle.one_thread.specs.ActingSteps.{AreAfter, plans_in, taken_now};
 use card_core::Card;
 use crossbar::{Crossbar, Taken};
 use rotating_pick::PORT_COUNT;
-use slot_match::Match;
+use slot_match::{Match, Served};
 
 /// Each card takes its part of the slot's match, and the cell that crosses to it: what the input that fed it in
-/// the slot before, whose match this was, has deposited.
+/// the slot before, whose match this was, has deposited. The parts of all inputs are written to `parts`.
 pub(crate) fn take_all(
     cards: &mut [Card],
     slot: u32,
@@ -18,6 +18,7 @@ pub(crate) fn take_all(
     crossbar: &Crossbar,
     before: &Match,
     matched: &Match,
+    parts: &mut [Option<Served>; PORT_COUNT],
 )
     requires few { length cards.old ≤ MAX_PORTS }
     requires crossbar { length crossbar.now ≡ length cards.old }
@@ -28,8 +29,7 @@ pub(crate) fn take_all(
     ensures after { (takings : ℕ → List ATaken) → AreAfter cards.old takings true
         → AreAfter cards.new (λ i. takings i ++ taken_now slot before.now matched.now crossbar.now done i ∷ []) false }
 {
-    let mut parts = [None; PORT_COUNT];
-    matched.put_parts(&mut parts);
+    matched.put_parts(parts);
     for place in 0..cards.len() {
         let taken = Taken {
             slot,
