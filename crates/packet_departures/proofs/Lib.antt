@@ -5,4 +5,4 @@ mod InOrder
 mod LastCells
 mod Earlier
 mod Earliest
-mod Copies
+pub mod Copies

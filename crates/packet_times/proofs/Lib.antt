@@ -7,3 +7,6 @@ mod Told
 mod Counted
 mod Walked
 mod Rowing
+mod Telling
+mod Summing
+mod Asides

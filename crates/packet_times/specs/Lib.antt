@@ -1,4 +1,5 @@
 pub mod Rows
+pub mod Sums
 pub mod NotingSteps
 pub mod Steps
 pub mod FieldSteps

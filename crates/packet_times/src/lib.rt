@@ -1,10 +1,11 @@
-//! When each packet of a run left: the packets file.
+//! When each packet of a run left: the packets file, and how its rows add up.
 #![tactic(auto)]
 
 mod ends;
 mod fields;
 mod going;
 mod inputs;
+pub mod laws;
 mod limits;
 mod rows;
 mod state;
