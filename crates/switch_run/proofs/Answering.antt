@@ -6,6 +6,7 @@ use Rattle.std.proofs.lemmas.List.Elements.{All-get_or}
 use Rattle.rotating_pick.specs.declared.limits.TheConstants.{MAX_FILE_BYTES}
 use Rattle.outside.specs.Contents.{Contents}
 use Rattle.outside.specs.WholeFiles.{Fits, IsTooLong}
+use Rattle.switch_words.specs.declared.job.Settings.{Settings}
 use Rattle.switch_words.specs.Reading.{JobWords, run, gen, check, firm, CheckWords}
 use Rattle.switch_plan.specs.GoodPlans.{SwitchPlan, IsGood}
 use Rattle.run_laws.specs.Ends.{IsLengthUnder}
@@ -16,7 +17,7 @@ use Rattle.job_files.specs.Statuses.{check_status}
 use Rattle.job_files.specs.Inputs.{AreFilesRead, AreInputs, CapturesRead, EarlierFit}
 use Rattle.job_files.specs.Jobs.{ReadWords, reads_of, IsInput, input_name}
 use Rattle.job_files.specs.OutputFiles.{Texts}
-use Rattle.switch_run.specs.Switched.{AreTexts}
+use Rattle.switch_run.specs.Switched.{AreTexts, IsPlanned}
 use Rattle.journal_command.specs.declared.ending.CheckEnding.{CheckEnding}
 use Rattle.journal_command.specs.declared.ending.CheckEnding.TheVariants as check_ending
 use Rattle.job_files.specs.declared.ending.Ending.{Ending}
@@ -230,6 +231,13 @@ run_good (run r) table captures plan slots is = is.planned.good
 run_good (gen g) table captures plan slots is = is.planned.good
 run_good (check w) table captures plan slots is = absurd is
 run_good (firm f) table captures plan slots is = absurd is
+
+pub run_plan : (job : JobWords) (table : List ℕ) (captures : List (List ℕ)) (plan : SwitchPlan) (slots : ℕ) → IsRunFor job table captures plan slots
+    → (settings : Settings) × IsPlanned settings table captures plan
+run_plan (run r) table captures plan slots is = (r.settings, is.planned)
+run_plan (gen g) table captures plan slots is = (g.settings, is.planned)
+run_plan (check w) table captures plan slots is = absurd is
+run_plan (firm f) table captures plan slots is = absurd is
 
 pub run_ends : (job : JobWords) (table : List ℕ) (captures : List (List ℕ)) (plan : SwitchPlan) (slots : ℕ) → IsRunFor job table captures plan slots
     → IsLengthUnder (decision_named (scheduler_in job)) plan slots

@@ -29,6 +29,7 @@ use Rattle.switch_jobs.specs.Departures.{InterleavesFlowsUnder}
 use Rattle.buffer_sizing.specs.Sizing.{IsSized}
 use Rattle.queue_measures.specs.Sums.{QueuesAddUpUnder}
 use Rattle.packet_departures.specs.Promises.{HasDeparturesUnder, CountsDepartures}
+use Rattle.packet_times.specs.Sums.{RowsAddUp}
 use Rattle.run_journals.specs.RunFiles.{journal_text_under}
 use Rattle.output_queued.specs.Lines.{ideal, ran}
 use Rattle.reference_run.specs.RunLines.{run_matches_under}
@@ -213,6 +214,7 @@ pub record RunPromises (name : SchedulerName) (plan : SwitchPlan) (slots : ℕ) 
   pub sized : IsSized (decision_named name) plan slots
   pub departures : HasDeparturesUnder (decision_named name) plan slots
   pub copies : CountsDepartures (decision_named name) plan slots
+  pub rows : RowsAddUp (decision_named name) plan slots
 
 -- the run under the second scheduler of the `firm` job that the words mean
 pub record IsFirmRunBy (c : Command) (plan : SwitchPlan) (slots : ℕ) : Type 0 where

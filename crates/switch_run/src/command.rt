@@ -15,6 +15,7 @@ use named_schedulers::laws as schedulers;
 use one_thread::laws as second_runs;
 use outside::Files;
 use packet_departures::laws as departures;
+use packet_times::laws as packets;
 use queue_measures::laws as measures;
 use reference_run::laws as references;
 use run_journals::laws as journals;
@@ -138,9 +139,10 @@ fn end_of<R: Threads + Sync, F: Files, G: Gate + Sync>(
 /// Where the run drops no packet, it is the same with queues of each depth from the cells of its deepest queue on, and
 /// with each smaller depth a packet is dropped. Each admitted packet has one departure at each of its outputs, no two
 /// have the same at one output, those of a flow are in the order of arrival, the messages of each output's capture are
-/// in the order of departures, and there are as many as the summary has copies. Of the run of a `firm` job, under the
-/// second scheduler, the same is promised of what is delivered, of arrivals and counts, of how soon a unicast queue is
-/// served and a multicast head completes, of how long waits are, and of its slots.
+/// in the order of departures, and there are as many as the summary has copies. The rows of the packets file tell as
+/// many packets of each state as the summary, and those of forwarded packets are as many as it has copies. Of the run
+/// of a `firm` job, under the second scheduler, the same is promised of what is delivered, of arrivals and counts, of
+/// how soon a unicast queue is served and a multicast head completes, of how long waits are, and of its slots.
 ///
 /// At 2 to 5 and at 7 every file is as before. Each status but 0 gives one line to standard error; where a call
 /// of that is refused, the rest of the line is left out, and the status stays.
@@ -172,5 +174,6 @@ pub fn switch_main<R: Threads + Sync, F: Files, G: Gate + Sync>(
     sizes::runs_are_sized();
     departures::runs_have_departures();
     departures::departures_are_counted();
+    packets::rows_add_up();
     end_of(rt, alloc, words, files, gate).status()
 }

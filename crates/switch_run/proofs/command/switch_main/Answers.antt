@@ -3,7 +3,7 @@ use Rattle.std.specs.Prelude.{Ok}
 use Rattle.named_schedulers.specs.Named.{decision_named}
 use Rattle.switch_run.specs.Causes.{Answers, scheduler_in}
 use Rattle.switch_run.specs.Endings.{Command, command_of}
-use Rattle.switch_run.proofs.Answering.{run_ends, run_good, too_long_exact, usage_exact}
+use Rattle.switch_run.proofs.Answering.{run_ends, run_good, run_plan, too_long_exact, usage_exact}
 use Rattle.switch_run.proofs.Refusing.{journal_exact, packets_exact, refusal_exact}
 use Rattle.switch_run.proofs.Completing.{complete}
 use Rattle.switch_run.proofs.Bounds.{serves_named, waits_named}
@@ -42,6 +42,7 @@ returns g c =
           let fair = c.each_is_a_scheduler.ensures name in
           let good = run_good is.job _ _ plan slots is.run in
           let ends = run_ends is.job _ _ plan slots is.run in
+          let made = run_plan is.job _ _ plan slots is.run in
           let lawful = c.journals_of_runs_are_lawful.ensures in
           let firm = c.runs_are_as_promised.ensures plan slots good in
           record {
@@ -64,6 +65,7 @@ returns g c =
             sized = c.runs_are_sized.ensures scheduler plan slots good ends;
             departures = c.runs_have_departures.ensures scheduler plan slots fair good ends;
             copies = c.departures_are_counted.ensures scheduler plan slots fair good ends;
+            rows = c.rows_add_up.ensures scheduler made.0 is.captures made.1.lines made.1.captures plan slots fair good made.1.planned ends;
           };
       firm_runs = λ plan slots is. c.runs_are_as_promised.ensures plan slots is.planned.good is.ends;
     }
