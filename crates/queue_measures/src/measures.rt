@@ -1,4 +1,4 @@
-ghost use Rattle.std.specs.Prelude.{◌≡◌, ◌≤◌, ◌+◌, ℕ, length, IfOk, string_bytes};
+ghost use Rattle.std.specs.Prelude.{◌≡◌, ◌<◌, ◌≤◌, ◌+◌, ℕ, None, length, slice_index_or, IfOk, string_bytes};
 ghost use Rattle.rotating_pick.specs.declared.limits.TheConstants.{MAX_PORTS};
 ghost use Rattle.eslip_rounds.specs.Schedulers.{Scheduler};
 ghost use Rattle.slot_match.specs.Parts.{served_of};
@@ -13,17 +13,19 @@ ghost use Rattle.queue_measures.specs.Steps.{deepest_among};
 use crate::inputs::Input;
 use crate::text::{put_deepest, put_input};
 use crossbar::Post;
-use rotating_pick::OutOfMemory;
+use rotating_pick::{OutOfMemory, PORT_COUNT};
 use slot_match::{Match, Served};
 use std::alloc::Global;
 use std::marker::Model;
 use switch_plan::Plan;
 
 /// What each queue of a run has held, noted slot by slot. No memory is taken between [`QueueMeasures::make`] and
-/// [`QueueMeasures::text`]; a slot costs a step for each input.
+/// [`QueueMeasures::text`]; a slot costs a step for each input and output.
 #[derive(Drop)]
 pub struct QueueMeasures {
     inputs: Vec<Input>,
+    // The parts of all inputs in a match, which are written over.
+    parts: [Option<Served>; PORT_COUNT],
 }
 
 impl Model for QueueMeasures {
@@ -48,7 +50,10 @@ impl QueueMeasures {
         for card in &plan.cards {
             inputs.push(Input::make(alloc, card)?)?;
         }
-        Ok(QueueMeasures { inputs })
+        Ok(QueueMeasures {
+            inputs,
+            parts: [None; PORT_COUNT],
+        })
     }
 
     /// Notes the next slot of the run, from slot 0 on: what its ports posted, and its match.
@@ -59,8 +64,10 @@ impl QueueMeasures {
             → IsSlotUnder scheduler plan slot posts.now matched.now → HasNoted scheduler plan self.new (slot + 1) }
     {
         let ports = self.inputs.len() as u32;
+        matched.put_parts(&mut self.parts);
         for i in 0..self.inputs.len() {
-            self.inputs[i].note(ports, slot, &posts[i].row, part_of(matched, i as u32));
+            let part = part_of(matched, &self.parts, i as u32);
+            self.inputs[i].note(ports, slot, &posts[i].row, part);
         }
     }
 
@@ -91,12 +98,13 @@ impl QueueMeasures {
     }
 }
 
-// The input's part of the match, None where the match has no such input.
-fn part_of(matched: &Match, input: u32) -> Option<Served>
+// The input's part of the match, whose parts these are, None where the match has no such input.
+fn part_of(matched: &Match, parts: &[Option<Served>; PORT_COUNT], input: u32) -> Option<Served>
+    requires { (i : ℕ) → i < length matched.now → slice_index_or parts.now i None ≡ served_of matched.now i }
     ensures { result ≡ served_of matched.now input }
 {
     if input < matched.ports() {
-        matched.served(input)
+        parts[input as usize]
     } else {
         None
     }

@@ -18,3 +18,9 @@ pub returns-else-input-ports : goal.returns-else-input-ports
 returns-else-input-ports c =
     sym (none-outside c.ports.result c.args.matched.now c.ports.ensures.whole c.args.input c.if-input-ports.false
     (served_of c.args.matched.now c.args.input) refl)
+
+pub returns-then-input-ports : goal.returns-then-input-ports
+returns-then-input-ports c =
+    let inside = c.if-input-ports.true in
+    let ports = c.ports.ensures.value in
+    c.requires c.args.input (omega arith)

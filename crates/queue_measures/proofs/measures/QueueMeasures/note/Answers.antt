@@ -54,8 +54,11 @@ note-requires c =
       served-length scheduler plan i slot,
       ports-is scheduler plan c.args.self.now slot c.args.posts.now c.args.matched.now h s i inside c.len-ports.result ports,
       row-is scheduler plan c.args.self.now slot c.args.posts.now c.args.matched.now h s i inside _,
-      serves scheduler plan c.args.self.now slot c.args.posts.now c.args.matched.now h s i inside _ c.part_of.result c.part_of.ensures,
+      serves scheduler plan c.args.self.now slot c.args.posts.now c.args.matched.now h s i inside _ c.part_of-part.result c.part_of-part.ensures,
     )
+
+pub part_of-part-requires : goal.part_of-part-requires
+part_of-part-requires c = c.loop-i.invariant.parts
 
 pub loop-i-preserved : goal.loop-i-preserved
 loop-i-preserved c =
@@ -74,6 +77,7 @@ loop-i-preserved c =
     c.index_mut.ensures.value ∙ get_or_default items i c.index_mut.result.now no_input there ∙ was.left i (omega arith) in
     record {
       long = length-set items i new ∙ was.long;
+      parts = was.parts;
       noted = λ scheduler plan h s k below.
           let n = h.count in
           let inside : i < ports_of plan = omega (arith, a, b, v, t, n) in
@@ -83,9 +87,9 @@ loop-i-preserved c =
           (served-length scheduler plan i slot)
           (ports-is scheduler plan c.args.self.now slot c.args.posts.now c.args.matched.now h s i inside c.len-ports.result ports)
           (row-is scheduler plan c.args.self.now slot c.args.posts.now c.args.matched.now h s i inside _)
-          (serves scheduler plan c.args.self.now slot c.args.posts.now c.args.matched.now h s i inside _ c.part_of.result c.part_of.ensures) in
-          let parts : parts_under scheduler plan i slot ++ c.part_of.result ∷ [] ≡ parts_under scheduler plan i (slot + 1) =
-          ap (λ part. parts_under scheduler plan i slot ++ part ∷ []) c.part_of.ensures
+          (serves scheduler plan c.args.self.now slot c.args.posts.now c.args.matched.now h s i inside _ c.part_of-part.result c.part_of-part.ensures) in
+          let parts : parts_under scheduler plan i slot ++ c.part_of-part.result ∷ [] ≡ parts_under scheduler plan i (slot + 1) =
+          ap (λ part. parts_under scheduler plan i slot ++ part ∷ []) c.part_of-part.ensures
           ∙ sym (next-parts scheduler plan c.args.self.now slot c.args.posts.now c.args.matched.now h s i inside) in
           elim (cases_eq k i) [
             | inl now ↦ subst (λ (input : Input). IsNoted (card_at plan k) input (parts_under scheduler plan k (slot + 1)))
