@@ -1,4 +1,4 @@
-ghost use Rattle.std.specs.Prelude.{◌≡◌, ℕ, ◌+◌, ◌<◌, ◌≤◌, ◌++◌, ◌∷◌, [], false, List, length, Option, map, slice_index_or, IfOk, OnOk};
+ghost use Rattle.std.specs.Prelude.{◌≡◌, ℕ, ◌+◌, ◌<◌, ◌≤◌, ◌++◌, ◌∷◌, [], false, None, List, length, Option, map, slice_index_or, IfOk, OnOk};
 ghost use Rattle.rotating_pick.specs.declared.limits.TheConstants.{MAX_PORTS};
 ghost use Rattle.slot_match.specs.declared.matching.Served.{Served as AServed};
 ghost use Rattle.slot_match.specs.Parts.{served_of};
@@ -13,7 +13,7 @@ ghost use Rattle.packet_times.specs.Steps.{AreNoted};
 use card_core::{CardPlan, Planned};
 use crossbar::Post;
 use queue_lengths::QueueLengths;
-use rotating_pick::OutOfMemory;
+use rotating_pick::{OutOfMemory, PORT_COUNT};
 use slot_match::{Match, Row, Served};
 use std::alloc::Global;
 use std::marker::Model;
@@ -90,23 +90,25 @@ pub(crate) fn inputs_of(alloc: Global, plan: &Plan) -> Result<Vec<Input>, OutOfM
     Ok(inputs)
 }
 
-// What the match serves the input, which may be none of its ports.
-fn part_of(matched: &Match, input: u32) -> Option<Served>
+// What the match, whose parts these are, serves the input, which may be none of its ports.
+fn part_of(matched: &Match, parts: &[Option<Served>; PORT_COUNT], input: u32) -> Option<Served>
+    requires { (i : ℕ) → i < length matched.now → slice_index_or parts.now i None ≡ served_of matched.now i }
     ensures { result ≡ served_of matched.now input }
 {
     if input < matched.ports() {
-        matched.served(input)
+        parts[input as usize]
     } else {
         None
     }
 }
 
-/// Notes a slot of each input: what the ports posted, and the match.
+/// Notes a slot of each input: what the ports posted, and the match. The parts of all inputs are written to `parts`.
 pub(crate) fn note_inputs(
     inputs: &mut [Input],
     slot: u32,
     posts: &[Post],
     matched: &Match,
+    parts: &mut [Option<Served>; PORT_COUNT],
 ) -> Result<(), OutOfMemory>
     requires few { length inputs.old ≤ MAX_PORTS }
     requires noted { (scheduler : Scheduler) × (plan : SwitchPlan) × AreNoted scheduler plan slot 0 inputs.old
@@ -114,8 +116,9 @@ pub(crate) fn note_inputs(
     ensures { (scheduler : Scheduler) (plan : SwitchPlan) → AreNoted scheduler plan slot 0 inputs.old → IsSlotUnder scheduler plan slot posts.now matched.now
         → OnOk result (AreNoted scheduler plan slot (ports_of plan) inputs.new) }
 {
+    matched.put_parts(parts);
     for i in 0..inputs.len() {
-        let part = part_of(matched, i as u32);
+        let part = part_of(matched, parts, i as u32);
         inputs[i].note(slot, &posts[i].row, part)?;
     }
     Ok(())

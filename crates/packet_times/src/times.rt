@@ -10,8 +10,8 @@ ghost use Rattle.packet_times.specs.NotingSteps.{HasNoted};
 use crate::ends::{FlowEnds, no_ends, note_ends};
 use crate::inputs::{Input, inputs_of, note_inputs};
 use crossbar::Post;
-use rotating_pick::{MAX_PORTS, OutOfMemory};
-use slot_match::{Fed, Match};
+use rotating_pick::{MAX_PORTS, OutOfMemory, PORT_COUNT};
+use slot_match::{Fed, Match, Served};
 use std::alloc::{AllocError, Global};
 use std::marker::Model;
 use switch_plan::Plan;
@@ -27,6 +27,8 @@ pub struct PacketTimes {
     pub(crate) ends: Vec<FlowEnds>,
     // What fed each output in the slot before.
     feeds: Vec<Option<Fed>>,
+    // The parts of all inputs in a match, which are written over.
+    parts: [Option<Served>; PORT_COUNT],
 }
 
 impl Model for PacketTimes {
@@ -50,6 +52,7 @@ impl PacketTimes {
             inputs,
             ends,
             feeds,
+            parts: [None; PORT_COUNT],
         })
     }
 
@@ -63,7 +66,7 @@ impl PacketTimes {
     {
         let ports = self.inputs.len() as u32;
         note_ends(&mut self.ends, ports, slot, posts, &self.feeds)?;
-        note_inputs(&mut self.inputs, slot, posts, matched)?;
+        note_inputs(&mut self.inputs, slot, posts, matched, &mut self.parts)?;
         keep_feeds(&mut self.feeds, matched)?;
         Ok(())
     }

@@ -18,6 +18,9 @@ bounds-posts-i c =
 abbrev no_post : Post
 no_post = record { row = record { uni = []; multi = [] }; cell = None; more = false }
 
+pub part_of-part-requires : goal.part_of-part-requires
+part_of-part-requires c = c.put_parts.ensures.parts
+
 pub note-requires : goal.note-requires
 note-requires c =
     let (scheduler, plan, first, is) = c.requires.noted in
