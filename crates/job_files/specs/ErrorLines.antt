@@ -19,7 +19,9 @@ use Rattle.job_files.specs.declared.ending.Ending.TheVariants.{WriteFault, Check
 
 -- the line where the words are not those of a job
 abbrev pub usage_line : List ℕ
-usage_line = codes "usage: tiny_tera run [options] TABLE PREFIX INPUT.. or tiny_tera gen [options] SEED COUNT PORTS or tiny_tera check FILE or tiny_tera firm [options] TABLE INPUT..\n"
+usage_line =
+    codes "usage: tiny_tera run [options] TABLE PREFIX INPUT.. or tiny_tera gen [options] SEED COUNT PORTS "
+    ++ codes "or tiny_tera check FILE or tiny_tera firm [options] TABLE INPUT..\n"
 
 -- the line for what is named
 abbrev pub named_line : List ℕ → List ℕ → List ℕ

@@ -20,7 +20,8 @@ use switch_plan::PlanFault;
 use switch_words::Job;
 
 const USAGE: &str =
-    "usage: tiny_tera run [options] TABLE PREFIX INPUT.. or tiny_tera gen [options] SEED COUNT PORTS or tiny_tera check FILE or tiny_tera firm [options] TABLE INPUT..\n";
+    "usage: tiny_tera run [options] TABLE PREFIX INPUT.. or tiny_tera gen [options] SEED COUNT PORTS or tiny_tera check FILE \
+    or tiny_tera firm [options] TABLE INPUT..\n";
 
 const MEMORY: &str = "out of memory\n";
 
@@ -55,10 +56,8 @@ fn hex_text(number: u32) -> [u8; 8]
     ensures { result ≡ hex_text number }
 {
     let mut text = [0; 8];
-    match hex::encode_to_slice(number.to_be_bytes(), &mut text) {
-        Ok(()) => text,
-        Err(_) => unreachable!(),
-    }
+    hex::encode_to_slice(number.to_be_bytes(), &mut text).unwrap();
+    text
 }
 
 fn give_part<F: Files>(files: &mut F, part: &Part) -> Result<(), Failed>
@@ -86,114 +85,80 @@ fn give_parts<F: Files>(files: &mut F, parts: &[Part])
     }
 }
 
-// The line for a text that is no table, in parts.
-fn table_parts(fault: TableFault) -> [Part<'static>; 5]
-    ensures { concat (map part_text result) ≡ table_line fault }
+// Prints the line for a text that is no table.
+fn print_table<F: Files>(files: &mut F, fault: TableFault)
+    ensures line { GivesLine (table_line fault) (F.told files.old) (F.told files.new) (F.faults files.old ToErr) (F.faults files.new ToErr) }
+    ensures never_fall { NeverFall (F.faults files.old) (F.faults files.new) }
 {
-    let (at, none, end) = (Text("table line "), Text(""), Text("\n"));
+    let (at, end) = (Text("table line "), Text("\n"));
     match fault {
-        TableFault::BadLine { line } => [
-            at,
-            Number(u64::from(line)),
-            Text(": bad line"),
-            none,
-            end,
-        ],
-        TableFault::HostBits { line } => [
-            at,
-            Number(u64::from(line)),
-            Text(": host bits"),
-            none,
-            end,
-        ],
+        TableFault::BadLine { line } => {
+            let line = Number(u64::from(line));
+            give_parts(files, &[at, line, Text(": bad line"), end]);
+        }
+        TableFault::HostBits { line } => {
+            let line = Number(u64::from(line));
+            give_parts(files, &[at, line, Text(": host bits"), end]);
+        }
         TableFault::BadPort { line, port } => {
             let (line, port) = (Number(u64::from(line)), Number(u64::from(port)));
-            [at, line, Text(": port "), port, end]
+            give_parts(files, &[at, line, Text(": port "), port, end]);
         }
-        TableFault::BadLevel { line } => [at, Number(u64::from(line)), Text(": level"), none, end],
+        TableFault::BadLevel { line } => {
+            let line = Number(u64::from(line));
+            give_parts(files, &[at, line, Text(": level"), end]);
+        }
         TableFault::Repeated { line, first } => {
             let (line, first) = (Number(u64::from(line)), Number(u64::from(first)));
-            [at, line, Text(": repeats line "), first, end]
+            give_parts(files, &[at, line, Text(": repeats line "), first, end]);
         }
         TableFault::TooManyLines { count } => {
             let count = Number(u64::from(count));
-            [Text("table: "), count, Text(" lines"), none, end]
+            give_parts(files, &[Text("table: "), count, Text(" lines"), end]);
         }
-        TableFault::OutOfMemory => [Text("out of memory"), none, none, none, end],
+        TableFault::OutOfMemory => print_memory(files),
     }
 }
 
-// The line for a file that is no capture, in parts.
-fn capture_parts(port: u32, fault: PcapFault) -> [Part<'static>; 9]
-    ensures { concat (map part_text result) ≡ capture_line port fault }
+// Prints the line for the file of a port that is no capture.
+fn print_capture<F: Files>(files: &mut F, port: u32, fault: PcapFault)
+    ensures line { GivesLine (capture_line port fault) (F.told files.old) (F.told files.new) (F.faults files.old ToErr) (F.faults files.new ToErr) }
+    ensures never_fall { NeverFall (F.faults files.old) (F.faults files.new) }
 {
     let (file, port, colon) = (Text("capture "), Number(u64::from(port)), Text(": "));
-    let (none, end) = (Text(""), Text("\n"));
+    let (bytes, end) = (Text(" bytes"), Text("\n"));
     match fault {
         PcapFault::ShortHeader { len } => {
-            let (what, len, unit) = (
-                Text("short header, "),
-                Number(u64::from(len)),
-                Text(" bytes"),
-            );
-            [file, port, colon, what, len, unit, none, none, end]
+            let (what, len) = (Text("short header, "), Number(u64::from(len)));
+            give_parts(files, &[file, port, colon, what, len, bytes, end]);
         }
         PcapFault::BadMagic { found } => {
             let (what, found) = (Text("bad magic "), Magic(found));
-            [file, port, colon, what, found, none, none, none, end]
+            give_parts(files, &[file, port, colon, what, found, end]);
         }
         PcapFault::BadVersion { major, minor } => {
-            let (major, minor) = (Number(u64::from(major)), Number(u64::from(minor)));
-            [
-                file,
-                port,
-                colon,
-                Text("version "),
-                major,
-                Text("."),
-                minor,
-                none,
-                end,
-            ]
+            let (what, major) = (Text("version "), Number(u64::from(major)));
+            let (dot, minor) = (Text("."), Number(u64::from(minor)));
+            give_parts(files, &[file, port, colon, what, major, dot, minor, end]);
         }
         PcapFault::BadLink { found } => {
             let (what, found) = (Text("link type "), Number(u64::from(found)));
-            [file, port, colon, what, found, none, none, none, end]
+            give_parts(files, &[file, port, colon, what, found, end]);
         }
         PcapFault::CutRecord { at } => {
             let (what, at) = (Text("cut record at "), Number(u64::from(at)));
-            [file, port, colon, what, at, none, none, none, end]
+            give_parts(files, &[file, port, colon, what, at, end]);
         }
         PcapFault::LongRecord { at, len } => {
-            let (at, len, unit) = (
-                Number(u64::from(at)),
-                Number(u64::from(len)),
-                Text(" bytes"),
+            let (what, at) = (Text("long record at "), Number(u64::from(at)));
+            let (comma, len) = (Text(", "), Number(u64::from(len)));
+            give_parts(
+                files,
+                &[file, port, colon, what, at, comma, len, bytes, end],
             );
-            [
-                file,
-                port,
-                colon,
-                Text("long record at "),
-                at,
-                Text(", "),
-                len,
-                unit,
-                end,
-            ]
         }
         PcapFault::OutOfMemory => {
-            [
-                file,
-                port,
-                colon,
-                Text("out of memory"),
-                none,
-                none,
-                none,
-                none,
-                end,
-            ]
+            give_parts(files, &[file, port, colon, Text("out of memory"), end]);
         }
     }
 }
@@ -203,8 +168,8 @@ fn print_refusal<F: Files>(files: &mut F, fault: PlanFault)
     ensures never_fall { NeverFall (F.faults files.old) (F.faults files.new) }
 {
     match fault {
-        PlanFault::Table(fault) => give_parts(files, &table_parts(fault)),
-        PlanFault::Capture { port, fault } => give_parts(files, &capture_parts(port, fault)),
+        PlanFault::Table(fault) => print_table(files, fault),
+        PlanFault::Capture { port, fault } => print_capture(files, port, fault),
         PlanFault::MixedLink { first, other } => give_parts(
             files,
             &[
