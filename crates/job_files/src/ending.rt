@@ -4,6 +4,7 @@ ghost use Rattle.job_files.specs.Statuses.{check_status, status_of};
 use crate::inputs::InputFile;
 use journal_command::CheckEnding;
 use rotating_pick::OutOfMemory;
+use std::alloc::{AllocError, AllocFailed};
 use switch_plan::PlanFault;
 
 /// What a job writes.
@@ -51,6 +52,28 @@ impl From<OutOfMemory> for Ending {
     ghost from_gives = { λ _ ending. ending ≡ NoMemory };
 
     fn from(_error: OutOfMemory) -> Ending {
+        Ending::OutOfMemory
+    }
+}
+
+impl From<AllocError> for Ending {
+    ghost use Rattle.std.specs.Prelude.{◌≡◌};
+    ghost use Rattle.job_files.specs.declared.ending.Ending.TheVariants.{OutOfMemory as NoMemory};
+
+    ghost from_gives = { λ _ ending. ending ≡ NoMemory };
+
+    fn from(_error: AllocError) -> Ending {
+        Ending::OutOfMemory
+    }
+}
+
+impl<T: Drop> From<AllocFailed<T>> for Ending {
+    ghost use Rattle.std.specs.Prelude.{◌≡◌};
+    ghost use Rattle.job_files.specs.declared.ending.Ending.TheVariants.{OutOfMemory as NoMemory};
+
+    ghost from_gives = { λ _ ending. ending ≡ NoMemory };
+
+    fn from(_error: AllocFailed<T>) -> Ending {
         Ending::OutOfMemory
     }
 }

@@ -119,9 +119,7 @@ fn read_captures<F: Files>(
     let mut captures = Vec::new(alloc);
     for port in 0..reads.inputs.len() as u32 {
         let capture = read_input(alloc, reads, files, InputFile::Capture(port), buf)?;
-        if captures.push(capture).is_err() {
-            return Err(Ending::OutOfMemory);
-        }
+        captures.push(capture)?;
     }
     Ok(captures)
 }
@@ -140,9 +138,7 @@ pub fn read_inputs<F: Files>(
     ensures read { IfOk result (λ i. AreFilesRead (reads_words reads.now) (F.told files.old) i.table.items (bytes_of_files i.captures)) }
     ensures stops { IfErr result (StopsReading (reads_words reads.now) (F.told files.old) (F.faults files.old) (F.faults files.new)) }
 {
-    let Ok(mut piece) = read_buffer(alloc) else {
-        return Err(Ending::OutOfMemory);
-    };
+    let mut piece = read_buffer(alloc)?;
     let buf = piece.as_mut_slice();
     let table = read_input(alloc, reads, files, InputFile::Table, buf)?;
     let captures = read_captures(alloc, reads, files, buf)?;

@@ -24,9 +24,7 @@ pub(crate) fn read_journal<F: Files>(
     ensures stops { (scheduler : Scheduler)
         → IfErr result (MeansCheck scheduler name.now (F.told files.old) (F.told files.new) (F.faults files.old) (F.faults files.new)) }
 {
-    let Ok(mut piece) = read_buffer(alloc) else {
-        return Err(CheckEnding::OutOfMemory);
-    };
+    let mut piece = read_buffer(alloc).map_err(|_| CheckEnding::OutOfMemory)?;
     match read_whole(alloc, files, name, MAX_JOURNAL_BYTES, piece.as_mut_slice()) {
         Ok(bytes) => Ok(bytes),
         Err(ReadFailure::Fault) => Err(CheckEnding::ReadFault),

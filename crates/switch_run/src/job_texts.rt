@@ -54,10 +54,7 @@ fn texts_of_run<R: Threads + Sync, F: Files, G: Gate + Sync>(
         wanted: wanted_by(job),
     };
     let ran = plan_and_run(rt, alloc, &job.settings, way, inputs, gate)?;
-    match run_texts(alloc, job, ran) {
-        Ok(texts) => Ok(texts),
-        Err(_) => Err(Ending::OutOfMemory),
-    }
+    Ok(run_texts(alloc, job, ran)?)
 }
 
 // What a `gen` job writes: its inputs are made, and run.
@@ -71,19 +68,14 @@ fn texts_of_gen<R: Threads + Sync, G: Gate + Sync>(
     ensures made { IfOk result (λ texts. (told : Option Contents) → AreToWrite (gen job.now) told (to_write texts)) }
     ensures stops { IfErr result (λ ending. (told : Option Contents) (was now : Place → ℕ) → Stops (gen job.now) told was now told ending) }
 {
-    let Ok(inputs) = made_inputs(alloc, job) else {
-        return Err(Ending::OutOfMemory);
-    };
+    let inputs = made_inputs(alloc, job)?;
     let way = RunWay {
         scheduler: job.scheduler,
         alone: false,
         wanted: Wanted::NOTHING,
     };
     let ran = plan_and_run(rt, alloc, &job.settings, way, inputs, gate)?;
-    match summary_alone(alloc, &ran.summary) {
-        Ok(texts) => Ok(texts),
-        Err(_) => Err(Ending::OutOfMemory),
-    }
+    Ok(summary_alone(alloc, &ran.summary)?)
 }
 
 // What a `firm` job writes: its inputs are read, and run under the second scheduler.
@@ -102,10 +94,7 @@ fn texts_of_firm<R: Threads + Sync, F: Files>(
 {
     let inputs = read_inputs(alloc, &reads_of_firm(job), files)?;
     let summary = plan_and_run_firm(rt, alloc, &job.settings, inputs)?;
-    match summary_alone(alloc, &summary) {
-        Ok(texts) => Ok(texts),
-        Err(_) => Err(Ending::OutOfMemory),
-    }
+    Ok(summary_alone(alloc, &summary)?)
 }
 
 // How a check ends.

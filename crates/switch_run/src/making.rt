@@ -215,8 +215,5 @@ pub(crate) fn plan_and_run_firm<R: Threads + Sync>(
     ensures stops { IfErr result (StopsPlan settings.now.pace_us inputs.table.items (bytes_of_files inputs.captures)) }
 {
     let plan = planned(rt, alloc, settings, inputs)?;
-    match run_firm(alloc, plan) {
-        Ok(summary) => Ok(summary),
-        Err(_) => Err(Ending::OutOfMemory),
-    }
+    Ok(run_firm(alloc, plan)?)
 }

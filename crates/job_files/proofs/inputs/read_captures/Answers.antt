@@ -1,4 +1,5 @@
-use Rattle.std.proofs.Common.{◌<◌, length, string_bytes, arith, ◌∙◌}
+use Rattle.std.proofs.Common.{◌<◌, length, string_bytes, ap, arith, ◌∙◌}
+use Rattle.std.specs.Prelude.{is_ok}
 use Rattle.std.proofs.lemmas.List.{length-map}
 use Rattle.std.proofs.lemmas.Result.{err_from_is_err_and}
 use Rattle.job_files.specs.FileSteps.{reads_words}
@@ -21,7 +22,8 @@ loop-port-preserved g c =
     let words = reads_words c.args.reads.now in
     let within : c.loop-port.port < length words.inputs = omega (arith, length-map c.args.reads.now.inputs.now string_bytes, c.loop-port-test.true) in
     let here = rw c.loop-port.invariant.told at c.in_ok-capture.ensures.bytes in
-    let pushed = bytes_pushed c.push.result c.push.new.self c.loop-port.captures c.in_ok-capture.capture c.push.ensures.items c.if-is_err.ensures.negation in
+    let pushed = bytes_pushed c.push.result c.push.new.self c.loop-port.captures c.in_ok-capture.capture c.push.ensures.items
+    (ap is_ok c.in_ok-push.was) in
     record {
       told = c.in_ok-capture.ensures.told ∙ c.loop-port.invariant.told;
       no_fault = λ p. c.in_ok-capture.ensures.no_fault p ∙ c.loop-port.invariant.no_fault p;

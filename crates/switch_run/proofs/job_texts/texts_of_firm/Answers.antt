@@ -43,11 +43,11 @@ returns-in_err-summary-clause-stops g c =
     (counts c.read_inputs.new.files) _ _ c.in_err-summary.field-0.0
     c.in_ok-inputs.ensures.told read c.in_err-summary.ensures.stops)
 
-pub returns-in-Ok-clause-made : goal.returns-in-Ok-clause-made
-returns-in-Ok-clause-made g c =
+pub returns-clause-made : goal.returns-clause-made
+returns-clause-made g c =
     let inputs = c.in_ok-inputs.inputs in
     let files = bytes_of_files inputs.captures in
-    let texts = c.in-Ok.texts in
+    let texts = c.in_ok-summary_alone.field-0 in
     let names = c.args.job.now.inputs.items in
     let read = rw c.reads_of_firm.ensures.names at c.in_ok-inputs.ensures.read in
     record {
@@ -57,5 +57,5 @@ returns-in-Ok-clause-made g c =
       few = omega (arith, read.captures_read.count, length-map names string_bytes, c.requires.inputs.most);
       made = firm_made (firm_words c.args.job.now) inputs.table.items files c.in_ok-summary.summary
           (to_write texts) c.in_ok-summary.ensures.ran
-          (ap (map shown) c.in-Ok.ensures.files) c.in-Ok.ensures.summary;
+          (ap (map shown) c.in_ok-summary_alone.ensures.files) c.in_ok-summary_alone.ensures.summary;
     }

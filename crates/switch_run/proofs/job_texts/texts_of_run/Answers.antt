@@ -40,8 +40,8 @@ returns-in_err-ran-clause-stops g c =
     (texts_stop (run_words c.args.job.now) (contents c.args.files.now) (contents c.read_inputs.new.files) (counts c.args.files.now)
     (counts c.read_inputs.new.files) _ _ c.in_err-ran.field-0.0 c.in_ok-inputs.ensures.told read stops)
 
-pub returns-in-Ok-clause-made : goal.returns-in-Ok-clause-made
-returns-in-Ok-clause-made g c =
+pub returns-clause-made : goal.returns-clause-made
+returns-clause-made g c =
     let inputs = c.in_ok-inputs.inputs in
     let files = bytes_of_files inputs.captures in
     let read = rw c.reads_of_run.ensures.names at c.in_ok-inputs.ensures.read in
@@ -52,5 +52,5 @@ returns-in-Ok-clause-made g c =
       captures = files;
       inputs = read;
       few = omega (arith, read.captures_read.count, length-map names string_bytes, c.requires.inputs.most);
-      made = c.in-Ok.ensures inputs.table.items files ran;
+      made = c.in_ok-run_texts.ensures inputs.table.items files ran;
     }
