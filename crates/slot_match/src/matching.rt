@@ -216,6 +216,7 @@ impl Match {
     }
 
     /// Matches the input with the outputs, where [`Match::may_add`] allows it. All earlier pairs stay.
+    #[inline(always)]
     pub fn add(&mut self, input: u32, outputs: Ports, level: u8, kind: Kind)
         requires input_in { input < length self.old }
         requires level_in { level < LEVELS }
