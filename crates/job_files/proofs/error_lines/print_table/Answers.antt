@@ -13,7 +13,8 @@ pub returns-in-BadLevel-clause-line : goal.returns-in-BadLevel-clause-line
 returns-in-BadLevel-clause-line g c = rw c.in-BadLevel.is (rw c.from-in-BadLevel.ensures at c.give_parts-in-BadLevel.ensures.line)
 
 pub returns-in-Repeated-clause-line : goal.returns-in-Repeated-clause-line
-returns-in-Repeated-clause-line g c = rw c.in-Repeated.is (rw (c.from-in-Repeated.ensures, c.from-in-Repeated-2.ensures) at c.give_parts-in-Repeated.ensures.line)
+returns-in-Repeated-clause-line g c =
+    rw c.in-Repeated.is (rw (c.from-in-Repeated.ensures, c.from-in-Repeated-2.ensures) at c.give_parts-in-Repeated.ensures.line)
 
 pub returns-in-TooManyLines-clause-line : goal.returns-in-TooManyLines-clause-line
 returns-in-TooManyLines-clause-line g c = rw c.in-TooManyLines.is (rw c.from-in-TooManyLines.ensures at c.give_parts-in-TooManyLines.ensures.line)
