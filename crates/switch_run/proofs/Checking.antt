@@ -19,10 +19,16 @@ use Rattle.switch_run.specs.Causes.{Answers, AnswersUnlessOut, CheckIsExact, IsC
 use Rattle.switch_run.specs.Endings.{Command, IsMade, IsStopped, Stops}
 use Rattle.job_files.specs.ErrorLines.{line_of}
 use Rattle.job_files.specs.LineParts.{GivesLine}
+use Rattle.job_files.specs.Statuses.{check_status}
 use Rattle.job_files.specs.declared.ending.Ending.{Ending}
 use Rattle.job_files.specs.declared.ending.Ending.TheVariants.{Done, Usage, ReadFault, TooLong, Refused, JournalTooLong, PacketsTooLong, OutOfMemory}
 use Rattle.job_files.specs.declared.ending.Ending.TheVariants.{WriteFault, Checked}
 use Rattle.switch_run.proofs.Answering.{no_job, no_reads, same_job, stops_here}
+
+-- a check of status 0 ends with yes
+pub check_is_yes : (e : CheckEnding) → check_status e ≡ 0 → e ≡ check_ending.Yes
+check_is_yes check_ending.Yes same = refl
+check_is_yes _ same = absurd (omega (arith, same))
 
 -- ---- the file has one answer
 

@@ -13,4 +13,3 @@ pub mod RunsMade
 pub mod Bounds
 pub mod MadeInputs
 pub mod DoneRuns
-pub mod AtZero

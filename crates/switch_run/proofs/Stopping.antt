@@ -1,11 +1,12 @@
 -- Why a job stops, said of a longer span of calls.
-use Rattle.std.proofs.Common.{◌≡◌, ◌≤◌, ◌+◌, ℕ, Bool, true, false, List, [], ◌∷◌, ◌++◌, length, Option, Some, None, inl, inr, refl, ◌∙◌, ap, subst}
+use Rattle.std.proofs.Common.{◌≡◌, ◌≤◌, ◌+◌, ℕ, Bool, true, false, List, [], ◌∷◌, ◌++◌, length, Option, Some, None, inl, inr, refl, sym, ◌∙◌, ap, subst}
 use Rattle.std.proofs.Common.{arith, length-append}
 use Rattle.std.specs.Prelude.{is_some, if◌then◌else◌, option_map}
-use Rattle.outside.specs.Contents.{Contents, append_out}
-use Rattle.outside.specs.Faults.{Place, ReadOf, ToOut, NeverFall}
+use Rattle.outside.specs.Contents.{Contents, append_err, append_out}
+use Rattle.outside.specs.Faults.{Place, ReadOf, ToOut, ToErr, NeverFall}
 use Rattle.outside.specs.WholeFiles.{NamedBytes}
 use Rattle.outside.proofs.Counting.{NeverFall-refl, Rose-wider, le-Rose}
+use Rattle.outside.proofs.Effects.{err_none}
 use Rattle.outside.proofs.Putting.{StopsAt-wider}
 use Rattle.eslip_rounds.specs.Schedulers.{Scheduler}
 use Rattle.named_schedulers.specs.Named.{decision_named}
@@ -18,9 +19,10 @@ use Rattle.job_files.specs.Jobs.{ReadWords, reads_of, pace_in, input_name}
 use Rattle.job_files.specs.OutputFiles.{Texts, files_from, files_of, journal_files, packets_files, packets_place, put_files, put_texts, report_name, run_files}
 use Rattle.job_files.specs.Inputs.{AreInputs}
 use Rattle.job_files.specs.LineParts.{GivesLine}
+use Rattle.job_files.specs.ErrorLines.{line_of}
 use Rattle.job_files.specs.RefusalLines.{memory_line}
 use Rattle.switch_run.specs.Endings.{Command, IsDone, IsMade, IsStopped, IsWriteFault, Means, Stops, StopsAtFile, StopsWriting, captures_made}
-use Rattle.switch_run.specs.MakingSteps.{AreMade, AreToWrite, StopsPlan, StopsTexts, ToWrite}
+use Rattle.switch_run.specs.MakingSteps.{AreMade, AreToWrite, IsEndOf, StopsPlan, StopsTexts, ToWrite}
 use Rattle.switch_run.specs.Switched.{nothing_wanted, wanted_by}
 use Rattle.job_files.specs.FileSteps.{StopsPutting, StopsReading}
 use Rattle.job_files.specs.declared.ending.Written.{Written}
@@ -41,6 +43,7 @@ module _ (job : JobWords) (texts : Texts) (a b c d : Place → ℕ) (old told : 
   StopsWriting-wider Packets s = StopsAtFile-wider (packets_place (length texts.outputs) (is_some texts.journal)) s
   StopsWriting-wider StandardOutput s = record { rose = Rose-wider a b c d ToOut start end s.rose; given = s.given; told_is = s.told_is }
 
+-- how a check ended within a span of calls is how it ended within a longer one
 MeansCheck-wider : (scheduler : Scheduler) (name : List ℕ) (old new : Option Contents) (a b c d : Place → ℕ) (ending : CheckEnding)
     → NeverFall a b → NeverFall c d
     → MeansCheck scheduler name old new b c ending → MeansCheck scheduler name old new a d ending
@@ -52,7 +55,8 @@ MeansCheck-wider scheduler name old new a b c d check_ending.ReadFault start end
 MeansCheck-wider scheduler name old new a b c d check_ending.OutOfMemory start end m = m
 MeansCheck-wider scheduler name old new a b c d check_ending.OutFault start end m = (m.0, m.1, m.2, Rose-wider a b c d ToOut start end m.3, m.4)
 
-pub Stops-wider : (job : JobWords) (old : Option Contents) (a b c d : Place → ℕ) (told : Option Contents) (ending : Ending) → NeverFall a b → NeverFall c d
+-- why a job stopped within a span of calls is why it stopped within a longer one
+Stops-wider : (job : JobWords) (old : Option Contents) (a b c d : Place → ℕ) (told : Option Contents) (ending : Ending) → NeverFall a b → NeverFall c d
     → Stops job old b c told ending → Stops job old a d told ending
 Stops-wider job old a b c d told Done start end stops = stops
 Stops-wider job old a b c d told Usage start end stops = stops
@@ -282,7 +286,7 @@ write_fault job old mid new written w was b now what same kept stops =
     }
 
 -- a job that stopped, and whose line was printed
-pub stopped : (c : Command) (ending : Ending) → IsStopped c ending → Means c ending
+stopped : (c : Command) (ending : Ending) → IsStopped c ending → Means c ending
 stopped c Done s = absurd s.stops
 stopped c Usage s = absurd s.stops
 stopped c (ReadFault input) s = s
@@ -295,7 +299,7 @@ stopped c (WriteFault written) s = s
 stopped c (Checked ending) s = s
 
 -- a line that was given after calls that made no count fall
-pub GivesLine-since : (text : List ℕ) (old new : Option Contents) (was mid now : ℕ) → was ≤ mid → GivesLine text old new mid now
+GivesLine-since : (text : List ℕ) (old new : Option Contents) (was mid now : ℕ) → was ≤ mid → GivesLine text old new mid now
     → GivesLine text old new was now
 GivesLine-since text old new was mid now kept line = record {
   part = line.part;
@@ -304,3 +308,27 @@ GivesLine-since text old new was mid now kept line = record {
   given = line.given;
   whole = elim line.whole [ inl all ↦ inl all | inr rose ↦ inr (le-Rose was mid now kept rose) ];
 }
+
+-- a first part of the empty text is empty
+no_part : (part rest : List ℕ) → [] ≡ part ++ rest → part ≡ []
+no_part [] rest splits = refl
+no_part (x ∷ more) rest splits = absurd (cc)
+
+-- where the line is empty, all is as before
+nothing_given : (old new : Option Contents) (was now : ℕ) → GivesLine [] old new was now → new ≡ old
+nothing_given old new was now line = line.given ∙ ap (λ part. option_map (append_err part) old) (no_part line.part line.rest line.splits) ∙ err_none old
+
+-- a job that ended, and whose line was printed
+pub ended : (c : Command) (job : JobWords) (told : Option Contents) (mid : Place → ℕ) (ending : Ending) → c.job ≡ Some job
+    → NeverFall c.was mid → NeverFall mid c.now → IsEndOf job c.old c.was mid told ending
+    → GivesLine (line_of job ending) told c.new (mid ToErr) (c.now ToErr) → Means c ending
+ended c job told mid Done words start end is line =
+    (job, words, subst (λ (o : Option Contents). IsDone job c.old o) (sym (nothing_given told c.new (mid ToErr) (c.now ToErr) line)) is)
+ended c job told mid ending words start end is line =
+    stopped c ending (record {
+      job = job;
+      told = told;
+      words = words;
+      stops = Stops-wider job c.old c.was c.was mid c.now told ending (NeverFall-refl c.was) end is;
+      line = GivesLine-since (line_of job ending) told c.new (c.was ToErr) (mid ToErr) (c.now ToErr) (start ToErr) line;
+    })

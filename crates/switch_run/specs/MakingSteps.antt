@@ -1,9 +1,10 @@
 -- What is made of a job's inputs, and what stops that: the words of the calls inside.
-use Rattle.std.specs.Prelude.{◌≡◌, ◌≤◌, ℕ, true, Bool, List, length, map, All, Option, Some, Ok, IfSome, is_some}
+use Rattle.std.specs.Prelude.{◌≡◌, ◌≤◌, ℕ, true, Bool, List, length, map, All, Option, Some, Result, Ok, IfErr, IfOk, IfSome, OnOk, is_some}
 use Rattle.std.specs.Prelude.{slice_get, string_bytes}
 use Rattle.std.specs.List.{concat}
 use Rattle.rotating_pick.specs.declared.limits.TheConstants.{MAX_PORTS}
 use Rattle.outside.specs.Contents.{Contents}
+use Rattle.outside.specs.Faults.{NeverFall, NoneRose, Place}
 use Rattle.outside.specs.WholeFiles.{NamedBytes}
 use Rattle.eslip_rounds.specs.Schedulers.{Scheduler}
 use Rattle.card_core.specs.declared.outcome.CardOut.{CardOut}
@@ -26,14 +27,15 @@ use Rattle.run_notes.specs.NotingSteps.{HasNoted, StopsTold, told_by}
 use Rattle.run_notes.specs.Told.{told_under}
 use Rattle.one_thread.specs.FirmRuns.{IsFirmRun, HasShortWaits}
 use Rattle.job_files.specs.Inputs.{AreInputs}
+use Rattle.job_files.specs.Jobs.{RunsSwitch}
 use Rattle.job_files.specs.OutputFiles.{Texts, files_of, shown}
 use Rattle.job_files.specs.declared.output_files.JobTexts.{JobTexts}
 use Rattle.switch_run.specs.declared.making.NotedRun.{NotedRun}
 use Rattle.switch_run.specs.declared.making.EndedRun.{EndedRun}
 use Rattle.switch_run.specs.Switched.{IsPlanned, IsJobOutcome, IsLongJournal, IsLongPackets}
-use Rattle.switch_run.specs.Endings.{captures_made}
+use Rattle.switch_run.specs.Endings.{IsDone, Stops, captures_made}
 use Rattle.job_files.specs.declared.ending.Ending.{Ending}
-use Rattle.job_files.specs.declared.ending.Ending.TheVariants.{Refused, JournalTooLong, PacketsTooLong, OutOfMemory}
+use Rattle.job_files.specs.declared.ending.Ending.TheVariants.{Done, Refused, JournalTooLong, PacketsTooLong, OutOfMemory}
 
 -- What the run of a plan leaves that ends after so many slots: its numbers, and what each port is left with, which is cut
 -- into messages.
@@ -147,3 +149,18 @@ pub record AreToWrite (job : JobWords) (told : Option Contents) (written : ToWri
   pub inputs : AreInputs job told table captures
   pub few : length captures ≤ MAX_PORTS
   pub made : AreMade job table captures written
+
+-- What making the texts of a job left and answered. Nothing was written and no count fell; where the texts are made none rose,
+-- and they are to be written, and where they are not the job stops.
+pub record Makes (job : JobWords) (old : Option Contents) (was now : Place → ℕ) (told : Option Contents) (made : Result JobTexts Ending) : Type 0 where
+  pub runs : RunsSwitch job
+  pub told_is : told ≡ old
+  pub never_fall : NeverFall was now
+  pub no_fault : OnOk made (NoneRose was now)
+  pub texts : IfOk made (λ texts. AreToWrite job old (to_write texts))
+  pub stops : IfErr made (Stops job old was now told)
+
+-- how a job ends: it is done and all is written, or it stops before that, or its check ends
+abbrev pub IsEndOf : JobWords → Option Contents → (Place → ℕ) → (Place → ℕ) → Option Contents → Ending → Type 0
+IsEndOf job old was now told Done = IsDone job old told
+IsEndOf job old was now told ending = Stops job old was now told ending

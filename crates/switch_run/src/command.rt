@@ -1,16 +1,18 @@
-ghost use Rattle.std.specs.Prelude.{◌≡◌, ℕ, Some, map, string_bytes, IfErr, OnOk};
-ghost use Rattle.outside.specs.Faults.{NeverFall, NoneRose};
+ghost use Rattle.std.specs.Prelude.{◌≡◌, ◌≤◌, ◌+◌, ℕ, Option, Some, length, map, string_bytes, IfOk};
+ghost use Rattle.outside.specs.Contents.{Contents};
+ghost use Rattle.outside.specs.Faults.{NeverFall, NoneRose, Place};
 ghost use Rattle.job_files.specs.Statuses.{status_of};
 ghost use Rattle.switch_words.specs.Limits.{IsWithinLimits};
-ghost use Rattle.switch_words.specs.Reading.{job_words};
+ghost use Rattle.switch_words.specs.Reading.{JobWords, job_words};
 ghost use Rattle.switch_run.specs.Causes.{SwitchTheorem};
-ghost use Rattle.switch_run.specs.Endings.{IsDone, Means, Stops, command_of};
+ghost use Rattle.switch_run.specs.Endings.{Means, command_of};
+ghost use Rattle.switch_run.specs.MakingSteps.{IsEndOf, Makes};
 ghost use Rattle.job_files.specs.declared.ending.Ending.{Ending};
 
-use crate::job_texts::job_texts;
+use crate::job_texts::{end_of_check, texts_of_firm, texts_of_gen, texts_of_run};
 use buffer_sizing::laws as sizes;
 use card_worker::Gate;
-use job_files::{Ending, print_line, print_memory, print_usage, put_texts};
+use job_files::{Ending, JobTexts, print_line, print_memory, print_usage, put_texts};
 use named_schedulers::laws as schedulers;
 use one_thread::laws as second_runs;
 use outside::Files;
@@ -18,6 +20,7 @@ use packet_departures::laws as departures;
 use packet_times::laws as packets;
 use queue_measures::laws as measures;
 use reference_run::laws as references;
+use rotating_pick::MAX_PORTS;
 use run_journals::laws as journals;
 use run_laws::{deliveries, ends, waits};
 use std::alloc::Global;
@@ -25,25 +28,42 @@ use std::thread::Threads;
 use switch_jobs::laws as numbers;
 use switch_words::{Job, WordsFault, read_words};
 
-// Reads the job's inputs, runs it and writes its texts, up to the first call that is refused.
+// Writes the texts of a job, where they were made: how the job ends.
+fn end_of_writing<F: Files>(made: Result<JobTexts, Ending>, files: &mut F) -> Ending
+    requires { IfOk made (λ texts. length texts.files.items ≤ MAX_PORTS + 3) }
+    ensures meaning { (job : JobWords) (old : Option Contents) (was : Place → ℕ) → Makes job old was (F.faults files.old) (F.told files.old) made
+        → IsEndOf job old was (F.faults files.new) (F.told files.new) result }
+    ensures no_fault { (job : JobWords) (old : Option Contents) (was : Place → ℕ) → Makes job old was (F.faults files.old) (F.told files.old) made
+        → status_of result ≡ 0 → NoneRose was (F.faults files.new) }
+    ensures never_fall { NeverFall (F.faults files.old) (F.faults files.new) }
+{
+    match made {
+        Ok(texts) => match put_texts(files, &texts) {
+            Ok(()) => Ending::Done,
+            Err(written) => Ending::WriteFault(written),
+        },
+        Err(ending) => ending,
+    }
+}
+
+// Reads what the job names, runs or checks it, and writes its texts, up to the first call that is refused.
 fn attempt<R: Threads + Sync, F: Files, G: Gate + Sync>(
     rt: &R,
     alloc: Global,
     job: &Job,
     files: &mut F,
     gate: &G,
-) -> Result<(), Ending>
+) -> Ending
     requires { IsWithinLimits job.now }
-    ensures done { OnOk result (IsDone (job_words job.now) (F.told files.old) (F.told files.new)) }
-    ensures stops { IfErr result (Stops (job_words job.now) (F.told files.old) (F.faults files.old) (F.faults files.new) (F.told files.new)) }
-    ensures no_fault { OnOk result (NoneRose (F.faults files.old) (F.faults files.new)) }
-    ensures at_zero { IfErr result (λ ending. status_of ending ≡ 0 → NoneRose (F.faults files.old) (F.faults files.new)) }
+    ensures meaning { IsEndOf (job_words job.now) (F.told files.old) (F.faults files.old) (F.faults files.new) (F.told files.new) result }
+    ensures no_fault { status_of result ≡ 0 → NoneRose (F.faults files.old) (F.faults files.new) }
     ensures never_fall { NeverFall (F.faults files.old) (F.faults files.new) }
 {
-    let texts = job_texts(rt, alloc, job, files, gate)?;
-    match put_texts(files, &texts) {
-        Ok(()) => Ok(()),
-        Err(written) => Err(Ending::WriteFault(written)),
+    match job {
+        Job::Run(job) => end_of_writing(texts_of_run(rt, alloc, job, files, gate), files),
+        Job::Gen(job) => end_of_writing(texts_of_gen(rt, alloc, job, gate), files),
+        Job::Check(job) => end_of_check(alloc, job, files),
+        Job::Firm(job) => end_of_writing(texts_of_firm(rt, alloc, job, files), files),
     }
 }
 
@@ -66,13 +86,9 @@ fn run<R: Threads + Sync, F: Files, G: Gate + Sync>(
     ensures no_fault { status_of result ≡ 0 → NoneRose (F.faults files.old) (F.faults files.new) }
     ensures never_fall { NeverFall (F.faults files.old) (F.faults files.new) }
 {
-    match attempt(rt, alloc, job, files, gate) {
-        Ok(()) => Ending::Done,
-        Err(ending) => {
-            print_line(files, job, ending);
-            ending
-        }
-    }
+    let ending = attempt(rt, alloc, job, files, gate);
+    print_line(files, job, ending);
+    ending
 }
 
 // How the command of these words ends.

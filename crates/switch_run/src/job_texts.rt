@@ -2,10 +2,10 @@ ghost use Rattle.std.specs.Prelude.{◌≡◌, ℕ, Option, IfErr, IfOk, OnOk};
 ghost use Rattle.outside.specs.Contents.{Contents};
 ghost use Rattle.outside.specs.Faults.{NeverFall, NoneRose, Place};
 ghost use Rattle.job_files.specs.Statuses.{status_of};
-ghost use Rattle.switch_words.specs.Limits.{IsFirmWithinLimits, IsGenWithinLimits, IsRunWithinLimits, IsWithinLimits};
-ghost use Rattle.switch_words.specs.Reading.{run, gen, check, firm, run_words, check_words, firm_words, job_words};
+ghost use Rattle.switch_words.specs.Limits.{IsFirmWithinLimits, IsGenWithinLimits, IsRunWithinLimits};
+ghost use Rattle.switch_words.specs.Reading.{run, gen, check, firm, run_words, check_words, firm_words};
 ghost use Rattle.switch_run.specs.Endings.{Stops};
-ghost use Rattle.switch_run.specs.MakingSteps.{AreToWrite, to_write};
+ghost use Rattle.switch_run.specs.MakingSteps.{AreToWrite, IsEndOf, to_write};
 ghost use Rattle.switch_run.specs.Switched.{wanted_by};
 
 use crate::making::{RunWay, plan_and_run, plan_and_run_firm};
@@ -17,7 +17,7 @@ use outside::Files;
 use run_notes::Wanted;
 use std::alloc::Global;
 use std::thread::Threads;
-use switch_words::{CheckJob, FirmJob, GenJob, Job, RunJob};
+use switch_words::{CheckJob, FirmJob, GenJob, RunJob};
 
 // What the run of a `run` job is to tell.
 fn wanted_by(job: &RunJob) -> Wanted
@@ -32,8 +32,8 @@ fn wanted_by(job: &RunJob) -> Wanted
     }
 }
 
-// What a `run` job writes: its inputs are read, and run.
-fn texts_of_run<R: Threads + Sync, F: Files, G: Gate + Sync>(
+/// What a `run` job writes: its inputs are read, and run.
+pub(crate) fn texts_of_run<R: Threads + Sync, F: Files, G: Gate + Sync>(
     rt: &R,
     alloc: Global,
     job: &RunJob,
@@ -57,8 +57,8 @@ fn texts_of_run<R: Threads + Sync, F: Files, G: Gate + Sync>(
     Ok(run_texts(alloc, job, ran)?)
 }
 
-// What a `gen` job writes: its inputs are made, and run.
-fn texts_of_gen<R: Threads + Sync, G: Gate + Sync>(
+/// What a `gen` job writes: its inputs are made, and run.
+pub(crate) fn texts_of_gen<R: Threads + Sync, G: Gate + Sync>(
     rt: &R,
     alloc: Global,
     job: &GenJob,
@@ -78,8 +78,8 @@ fn texts_of_gen<R: Threads + Sync, G: Gate + Sync>(
     Ok(summary_alone(alloc, &ran.summary)?)
 }
 
-// What a `firm` job writes: its inputs are read, and run under the second scheduler.
-fn texts_of_firm<R: Threads + Sync, F: Files>(
+/// What a `firm` job writes: its inputs are read, and run under the second scheduler.
+pub(crate) fn texts_of_firm<R: Threads + Sync, F: Files>(
     rt: &R,
     alloc: Global,
     job: &FirmJob,
@@ -97,38 +97,14 @@ fn texts_of_firm<R: Threads + Sync, F: Files>(
     Ok(summary_alone(alloc, &summary)?)
 }
 
-// How a check ends.
-fn end_of_check<F: Files>(alloc: Global, job: &CheckJob, files: &mut F) -> Ending
-    ensures stops { Stops (check (check_words job.now)) (F.told files.old) (F.faults files.old) (F.faults files.new) (F.told files.new) result }
+/// How a check ends.
+pub(crate) fn end_of_check<F: Files>(alloc: Global, job: &CheckJob, files: &mut F) -> Ending
+    ensures meaning { IsEndOf (check (check_words job.now)) (F.told files.old) (F.faults files.old) (F.faults files.new) (F.told files.new) result }
     ensures no_fault { status_of result ≡ 0 → NoneRose (F.faults files.old) (F.faults files.new) }
     ensures never_fall { NeverFall (F.faults files.old) (F.faults files.new) }
 {
     match check_file(alloc, job.file.as_str(), job.scheduler, files) {
         CheckEnding::OutOfMemory => Ending::OutOfMemory,
         ending => Ending::Checked(ending),
-    }
-}
-
-/// What the job writes, up to the first call that is refused. A `check` job writes no texts: its end is answered.
-pub(crate) fn job_texts<R: Threads + Sync, F: Files, G: Gate + Sync>(
-    rt: &R,
-    alloc: Global,
-    job: &Job,
-    files: &mut F,
-    gate: &G,
-) -> Result<JobTexts, Ending>
-    requires { IsWithinLimits job.now }
-    ensures told { OnOk result (F.told files.new ≡ F.told files.old) }
-    ensures no_fault { OnOk result (NoneRose (F.faults files.old) (F.faults files.new)) }
-    ensures at_zero { IfErr result (λ ending. status_of ending ≡ 0 → NoneRose (F.faults files.old) (F.faults files.new)) }
-    ensures never_fall { NeverFall (F.faults files.old) (F.faults files.new) }
-    ensures made { IfOk result (λ texts. AreToWrite (job_words job.now) (F.told files.old) (to_write texts)) }
-    ensures stops { IfErr result (Stops (job_words job.now) (F.told files.old) (F.faults files.old) (F.faults files.new) (F.told files.new)) }
-{
-    match job {
-        Job::Run(job) => texts_of_run(rt, alloc, job, files, gate),
-        Job::Gen(job) => texts_of_gen(rt, alloc, job, gate),
-        Job::Check(job) => Err(end_of_check(alloc, job, files)),
-        Job::Firm(job) => texts_of_firm(rt, alloc, job, files),
     }
 }

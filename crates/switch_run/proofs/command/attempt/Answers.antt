@@ -1,35 +1,62 @@
-use Rattle.std.proofs.Common.{arith, ◌∙◌}
-use Rattle.std.proofs.lemmas.List.{length-map}
-use Rattle.std.proofs.lemmas.Result.{err_from_is_err_and}
-use Rattle.switch_words.specs.Reading.{job_words}
-use Rattle.job_files.specs.OutputFiles.{shown}
-use Rattle.switch_run.specs.MakingSteps.{to_write}
-use Rattle.switch_run.proofs.Stopping.{done, few_files, write_fault}
+use Rattle.outside.proofs.Counting.{NeverFall-trans}
+use Rattle.switch_words.specs.Reading.{run, gen, firm, run_words, firm_words}
+use Rattle.switch_run.specs.MakingSteps.{Makes}
+use Rattle.switch_run.proofs.ToWrite.{few_texts, gen_makes}
 use Rattle.switch_run.proofs.command.attempt.Goals as goal
 
-pub put_texts-requires : goal.put_texts-requires
-put_texts-requires g c =
-    let texts = c.in_ok-texts.texts in
-    let few = few_files (job_words c.args.job.now) _ (to_write texts) c.in_ok-texts.ensures.made in
-    omega (arith, few, length-map texts.files.items shown)
+pub end_of_writing-requires : goal.end_of_writing-requires
+end_of_writing-requires g c =
+    few_texts (run (run_words c.in-Run.job)) (g.F.Files.told c.args.files.now) c.texts_of_run.result c.texts_of_run.ensures.made
 
-pub returns-in-Ok-clause-done : goal.returns-in-Ok-clause-done
-returns-in-Ok-clause-done g c =
-    done (job_words c.args.job.now) _ (to_write c.in_ok-texts.texts) c.in_ok-texts.ensures.made _ _ c.in_ok-texts.ensures.told c.in-Ok.ensures.ok
-
-pub returns-clause-stops : goal.returns-clause-stops
-returns-clause-stops g c =
-    let contents = g.F.Files.told in
+pub returns-in-Run : goal.returns-in-Run
+returns-in-Run g c =
+    let told = g.F.Files.told in
     let counts = g.F.Files.faults in
-    write_fault (job_words c.args.job.now) (contents c.args.files.now) (contents c.job_texts.new.files) (contents c.put_texts.new.files)
-    (to_write c.in_ok-texts.texts) c.in_ok-texts.ensures.made
-    (counts c.args.files.now) (counts c.job_texts.new.files)
-    (counts c.put_texts.new.files) c.in-Err.written c.in_ok-texts.ensures.told c.job_texts.ensures.never_fall c.in-Err.ensures.err
+    let job = run (run_words c.in-Run.job) in
+    let is = c.texts_of_run.ensures in
+    let makes : Makes job (told c.args.files.now) (counts c.args.files.now) (counts c.texts_of_run.new.files) (told c.texts_of_run.new.files)
+    c.texts_of_run.result =
+    record { runs = tt; told_is = is.told; never_fall = is.never_fall; no_fault = is.no_fault; texts = is.made; stops = is.stops } in
+    record {
+      meaning = rw c.in-Run.is (c.end_of_writing.ensures.meaning job (told c.args.files.now) (counts c.args.files.now) makes);
+      no_fault = c.end_of_writing.ensures.no_fault job (told c.args.files.now) (counts c.args.files.now) makes;
+      never_fall = NeverFall-trans _ _ _ is.never_fall c.end_of_writing.ensures.never_fall;
+    }
 
-pub returns-in-Ok-clause-no_fault : goal.returns-in-Ok-clause-no_fault
-returns-in-Ok-clause-no_fault g c p = c.in-Ok.ensures.no_fault p ∙ c.in_ok-texts.ensures.no_fault p
+pub end_of_writing-requires-in-Gen : goal.end_of_writing-requires-in-Gen
+end_of_writing-requires-in-Gen g c =
+    let told = g.F.Files.told c.args.files.now in
+    let counts = g.F.Files.faults c.args.files.now in
+    few_texts (gen c.in-Gen.job) told c.texts_of_gen.result
+    (gen_makes c.in-Gen.job told counts c.texts_of_gen.result c.texts_of_gen.ensures.made c.texts_of_gen.ensures.stops).texts
 
-pub returns-in_err-texts-clause-at_zero : goal.returns-in_err-texts-clause-at_zero
-returns-in_err-texts-clause-at_zero g c =
-    let failed = err_from_is_err_and c.from_residual.result c.from_residual.ensures.1 in
-    rw (failed.1, failed.2) c.in_err-texts.ensures.at_zero
+pub returns-in-Gen : goal.returns-in-Gen
+returns-in-Gen g c =
+    let told = g.F.Files.told c.args.files.now in
+    let counts = g.F.Files.faults c.args.files.now in
+    let makes = gen_makes c.in-Gen.job told counts c.texts_of_gen.result c.texts_of_gen.ensures.made c.texts_of_gen.ensures.stops in
+    let is = c.end_of_writing-in-Gen.ensures in
+    record {
+      meaning = rw c.in-Gen.is (is.meaning (gen c.in-Gen.job) told counts makes);
+      no_fault = is.no_fault (gen c.in-Gen.job) told counts makes;
+      never_fall = is.never_fall;
+    }
+
+pub end_of_writing-requires-in-Firm : goal.end_of_writing-requires-in-Firm
+end_of_writing-requires-in-Firm g c =
+    few_texts (firm (firm_words c.in-Firm.job)) (g.F.Files.told c.args.files.now) c.texts_of_firm.result c.texts_of_firm.ensures.made
+
+pub returns-in-Firm : goal.returns-in-Firm
+returns-in-Firm g c =
+    let told = g.F.Files.told in
+    let counts = g.F.Files.faults in
+    let job = firm (firm_words c.in-Firm.job) in
+    let is = c.texts_of_firm.ensures in
+    let makes : Makes job (told c.args.files.now) (counts c.args.files.now) (counts c.texts_of_firm.new.files) (told c.texts_of_firm.new.files)
+    c.texts_of_firm.result =
+    record { runs = tt; told_is = is.told; never_fall = is.never_fall; no_fault = is.no_fault; texts = is.made; stops = is.stops } in
+    record {
+      meaning = rw c.in-Firm.is (c.end_of_writing-in-Firm.ensures.meaning job (told c.args.files.now) (counts c.args.files.now) makes);
+      no_fault = c.end_of_writing-in-Firm.ensures.no_fault job (told c.args.files.now) (counts c.args.files.now) makes;
+      never_fall = NeverFall-trans _ _ _ is.never_fall c.end_of_writing-in-Firm.ensures.never_fall;
+    }

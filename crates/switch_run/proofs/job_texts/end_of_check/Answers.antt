@@ -1,10 +1,10 @@
 use Rattle.std.proofs.Common.{refl}
 use Rattle.switch_words.specs.Reading.{check_words}
-use Rattle.switch_run.proofs.AtZero.{check_is_yes}
+use Rattle.switch_run.proofs.Checking.{check_is_yes}
 use Rattle.switch_run.proofs.job_texts.end_of_check.Goals as goal
 
-pub returns-in_default-clause-stops : goal.returns-in_default-clause-stops
-returns-in_default-clause-stops g c = record {
+pub returns-in_default-clause-meaning : goal.returns-in_default-clause-meaning
+returns-in_default-clause-meaning g c = record {
   words = check_words c.args.job.now;
   is_check = refl;
   means = rw c.as_str.ensures.value at c.check_file.ensures.meaning;

@@ -1,0 +1,41 @@
+use Rattle.std.proofs.Common.{◌∙◌, arith}
+use Rattle.switch_run.proofs.ToWrite.{made_done, made_write_fault, other_status, stopping_ends}
+use Rattle.switch_run.proofs.command.end_of_writing.Goals as goal
+
+pub put_texts-requires : goal.put_texts-requires
+put_texts-requires g c = rw c.in-Ok.is at c.requires
+
+pub returns-in-Ok-put_texts-clause-meaning : goal.returns-in-Ok-put_texts-clause-meaning
+returns-in-Ok-put_texts-clause-meaning g c job old was makes =
+    let counts = g.F.Files.faults in
+    let contents = g.F.Files.told in
+    made_done job old (contents c.args.files.now) (contents c.put_texts.new.files) was (counts c.args.files.now) (counts c.put_texts.new.files)
+    c.in-Ok.texts (rw c.in-Ok.is at makes) c.in-Ok-put_texts.ensures.ok
+
+pub returns-in-Ok-put_texts-clause-no_fault : goal.returns-in-Ok-put_texts-clause-no_fault
+returns-in-Ok-put_texts-clause-no_fault g c job old was makes zero p =
+    let kept = rw c.in-Ok.is at makes.no_fault in
+    c.in-Ok-put_texts.ensures.no_fault p ∙ kept p
+
+pub returns-in-Ok-clause-meaning : goal.returns-in-Ok-clause-meaning
+returns-in-Ok-clause-meaning g c job old was makes =
+    let counts = g.F.Files.faults in
+    let contents = g.F.Files.told in
+    made_write_fault job old (contents c.args.files.now) (contents c.put_texts.new.files) was (counts c.args.files.now) (counts c.put_texts.new.files)
+    c.in-Ok.texts (rw c.in-Ok.is at makes) _ c.in-Err-put_texts.ensures.err
+
+pub returns-in-Ok-clause-no_fault : goal.returns-in-Ok-clause-no_fault
+returns-in-Ok-clause-no_fault g c job old was makes zero = absurd (omega (arith, zero))
+
+pub returns-clause-meaning : goal.returns-clause-meaning
+returns-clause-meaning g c job old was makes =
+    let counts = g.F.Files.faults in
+    let contents = g.F.Files.told in
+    stopping_ends job old (contents c.args.files.now) was (counts c.args.files.now) c.in-Err.ending (rw c.in-Err.is at makes.stops)
+
+pub returns-clause-no_fault : goal.returns-clause-no_fault
+returns-clause-no_fault g c job old was makes zero =
+    let counts = g.F.Files.faults in
+    let contents = g.F.Files.told in
+    absurd (other_status job old (contents c.args.files.now) was (counts c.args.files.now) c.in-Err.ending makes.runs
+    (rw c.in-Err.is at makes.stops) zero)
