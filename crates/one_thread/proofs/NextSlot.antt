@@ -33,7 +33,7 @@ use Rattle.run_laws.specs.Sums.{schedule_under}
 use Rattle.run_laws.proofs.Base.{requested}
 use Rattle.run_laws.proofs.Fitting.{cell_fits}
 use Rattle.switch_jobs.proofs.Serving.{served_taken, cells_crossed}
-use Rattle.switch_jobs.proofs.Limits.{slots_few}
+use Rattle.run_laws.proofs.Limits.{slots_few}
 use Rattle.one_thread.specs.ActingSteps.{AreAfter, plans_in, MayPostAll, ArePosts, ArePosted, taken_now}
 use Rattle.one_thread.specs.StandingSteps.{matched_before}
 

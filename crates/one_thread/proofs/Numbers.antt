@@ -15,11 +15,11 @@ use Rattle.switch_plan.specs.GoodPlans.{SwitchPlan, packets_in, IsGood}
 use Rattle.run_laws.specs.Runs.{takings_under}
 use Rattle.run_laws.specs.Sums.{schedule_under}
 use Rattle.switch_jobs.specs.declared.ready.Terms.{Terms}
-use Rattle.switch_jobs.specs.Outcomes.{longest_under, summary_under, IsOutputUnder}
+use Rattle.run_outcomes.specs.Outcomes.{longest_under, summary_under, IsOutputUnder}
 use Rattle.switch_jobs.specs.ReadinessSteps.{plan_with}
 use Rattle.switch_jobs.specs.JournalSteps.{HaveSums, summary_with}
 use Rattle.switch_jobs.proofs.Leaving.{output_of}
-use Rattle.switch_jobs.proofs.Limits.{slots_few}
+use Rattle.run_laws.proofs.Limits.{slots_few}
 use Rattle.switch_jobs.proofs.Finishing.{sums-fit, summary-is}
 use Rattle.one_thread.specs.declared.switch.Switch.{Switch}
 use Rattle.one_thread.specs.ActingSteps.{AreOutputs}

@@ -29,8 +29,8 @@ use Rattle.run_laws.proofs.OfFlows.{all_of_flows}
 use Rattle.run_laws.proofs.RunEnds.{run_bound}
 use Rattle.run_laws.proofs.RunSchedule.{run-schedule, run-within, run-kept}
 use Rattle.run_laws.proofs.RunWindows.{begins, middle, in_first, best-window, best-alone}
-use Rattle.switch_jobs.proofs.Counted.{counted-once}
-use Rattle.switch_jobs.specs.Outcomes.{longest_under, summary_under}
+use Rattle.run_outcomes.proofs.Counted.{counted-once}
+use Rattle.run_outcomes.specs.Outcomes.{longest_under, summary_under}
 use Rattle.one_thread.specs.AloneRuns.{IsLeftUnder}
 use Rattle.one_thread.specs.FirmRuns.{IsFirmRun, HasShortWaits, FirmPromises}
 use Rattle.one_thread.proofs.Completing.{completes-firm}

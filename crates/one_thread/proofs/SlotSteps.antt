@@ -26,7 +26,7 @@ use Rattle.switch_plan.specs.GoodPlans.{SwitchPlan, IsGood}
 use Rattle.run_laws.specs.Runs.{ports_of, setup_for, posts_under, takings_under}
 use Rattle.run_laws.specs.Sums.{schedule_under}
 use Rattle.run_laws.proofs.Base.{within, sound, requested}
-use Rattle.switch_jobs.proofs.Limits.{slots_few}
+use Rattle.run_laws.proofs.Limits.{slots_few}
 use Rattle.run_notes.specs.NotingSteps.{IsRunSlot}
 use Rattle.one_thread.specs.declared.switch.Switch.{Switch}
 use Rattle.one_thread.specs.ActingSteps.{AreAfter, plans_in, MayPostAll, ArePosts, ArePosted, taken_now}

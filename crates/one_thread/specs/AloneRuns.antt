@@ -7,7 +7,7 @@ use Rattle.switch_plan.specs.GoodPlans.{SwitchPlan}
 use Rattle.run_laws.specs.Runs.{ports_of}
 use Rattle.run_laws.specs.Ends.{IsLengthUnder}
 use Rattle.switch_jobs.specs.Captures.{IsCut}
-use Rattle.switch_jobs.specs.Outcomes.{IsOutputUnder, summary_under}
+use Rattle.run_outcomes.specs.Outcomes.{IsOutputUnder, summary_under}
 
 -- What the run of the plan under the scheduler leaves, which ends after so many slots: its numbers, and what each port is
 -- left with, which is cut into messages.

@@ -8,7 +8,7 @@ use Rattle.run_laws.specs.Ends.{IsLengthUnder}
 use Rattle.run_laws.specs.Sums.{IsBestUnder}
 use Rattle.run_laws.specs.Promises.{ArrivalsComeFirst, BusySlotsMatchUnder, CompletesUnder, DeliversUnder, DeliversNoOthersUnder, HasFewSlotsUnder}
 use Rattle.run_laws.specs.Promises.{ServesUnder, WaitsUnder}
-use Rattle.switch_jobs.specs.Outcomes.{summary_under, CountsPacketsOnce}
+use Rattle.run_outcomes.specs.Outcomes.{summary_under, CountsPacketsOnce}
 
 -- these are the numbers of the plan's run, to its end
 pub record IsFirmRun (plan : SwitchPlan) (summary : Summary) : Type 0 where

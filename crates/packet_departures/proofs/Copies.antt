@@ -20,7 +20,7 @@ use Rattle.card_core.specs.Queues.{is_routed, is_admitted}
 use Rattle.card_core.specs.Deliveries.{messages_from}
 use Rattle.card_core.proofs.After.{level-queue}
 use Rattle.switch_plan.specs.GoodPlans.{SwitchPlan, IsGood}
-use Rattle.switch_jobs.specs.Outcomes.{messages_under, over_ports, summary_under}
+use Rattle.run_outcomes.specs.Outcomes.{messages_under, over_ports, summary_under}
 use Rattle.run_laws.specs.Runs.{ports_of, card_at, parts_under}
 use Rattle.run_laws.specs.Ends.{IsLengthUnder}
 use Rattle.run_laws.specs.Crossings.{cells_under, queue_to}

@@ -24,7 +24,7 @@ use Rattle.card_core.proofs.Accepting.{one_output}
 use Rattle.card_core.proofs.Arriving.{is_queue-refl}
 use Rattle.card_core.proofs.Passing.{is_queue-same}
 use Rattle.switch_plan.specs.GoodPlans.{SwitchPlan}
-use Rattle.switch_jobs.specs.Departures.{Departure, is_from, is_last, IsEnding, AreDepartures}
+use Rattle.run_outcomes.specs.Departures.{Departure, is_from, is_last, IsEnding, AreDepartures}
 use Rattle.run_laws.specs.Runs.{ports_of, setup_for, card_at, parts_under, posts_under}
 use Rattle.run_laws.specs.Ends.{IsLengthUnder}
 use Rattle.run_laws.specs.Crossings.{queue_to, admitted_under}

@@ -8,8 +8,8 @@ use Rattle.eslip_rounds.specs.Schedulers.{Scheduler, IsScheduler}
 use Rattle.eslip_rounds.proofs.Testing.{Decides-kind}
 use Rattle.card_core.specs.Plans.{message_of}
 use Rattle.switch_plan.specs.GoodPlans.{SwitchPlan, IsGood}
-use Rattle.switch_jobs.specs.Departures.{Departure, is_from, AreDepartures}
-use Rattle.switch_jobs.proofs.Departing.{departures-are}
+use Rattle.run_outcomes.specs.Departures.{Departure, is_from, AreDepartures}
+use Rattle.run_outcomes.proofs.Departing.{departures-are}
 use Rattle.run_laws.specs.Runs.{ports_of, card_at}
 use Rattle.run_laws.specs.Ends.{IsLengthUnder}
 use Rattle.packet_departures.specs.Departures.{Flow, flow_of, ends_of, goes_by, earlier_by}

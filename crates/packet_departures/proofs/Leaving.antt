@@ -14,7 +14,7 @@ use Rattle.card_core.specs.Plans.{level_of, kind_of, queue_of}
 use Rattle.card_core.specs.Deliveries.{is_of_flow}
 use Rattle.card_core.proofs.After.{level-queue}
 use Rattle.switch_plan.specs.GoodPlans.{SwitchPlan, IsGood}
-use Rattle.switch_jobs.proofs.Departing.{departures-are}
+use Rattle.run_outcomes.proofs.Departing.{departures-are}
 use Rattle.run_laws.specs.Runs.{setup_for, card_at, posts_under}
 use Rattle.run_laws.specs.Ends.{IsLengthUnder}
 use Rattle.run_laws.proofs.Base.{good-card}

@@ -7,8 +7,8 @@ use Rattle.card_core.specs.declared.plan.Planned.{Planned}
 use Rattle.card_core.specs.Plans.{size_of, message_of}
 use Rattle.card_core.specs.Queues.{is_routed, is_admitted}
 use Rattle.switch_plan.specs.GoodPlans.{SwitchPlan}
-use Rattle.switch_jobs.specs.Departures.{AreDepartures, Departure}
-use Rattle.switch_jobs.specs.Outcomes.{messages_under, over_ports, summary_under}
+use Rattle.run_outcomes.specs.Departures.{AreDepartures, Departure}
+use Rattle.run_outcomes.specs.Outcomes.{messages_under, over_ports, summary_under}
 use Rattle.run_laws.specs.Runs.{ports_of, card_at, parts_under}
 use Rattle.packet_departures.specs.Departures.{flow_of, departure_under}
 

@@ -24,7 +24,7 @@ use Rattle.run_laws.specs.Runs.{ports_of, card_at, no_plan}
 use Rattle.run_laws.specs.Ends.{IsLengthUnder}
 use Rattle.run_laws.proofs.Base.{good-card}
 use Rattle.run_laws.proofs.RangeSums.{sum_by-same, sum_by-plus}
-use Rattle.switch_jobs.specs.Outcomes.{over_ports, summary_under}
+use Rattle.run_outcomes.specs.Outcomes.{over_ports, summary_under}
 use Rattle.switch_jobs.proofs.Adding.{sum_of, sum_by-map}
 use Rattle.packet_times.specs.declared.state.PacketState.TheVariants.{Unrouted, Oversize}
 use Rattle.packet_times.specs.Sums.{input_told, packets_told, RowsAddUp}

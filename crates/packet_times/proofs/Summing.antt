@@ -21,7 +21,7 @@ use Rattle.run_laws.specs.Ends.{IsLengthUnder}
 use Rattle.run_laws.proofs.Base.{good-card}
 use Rattle.run_laws.proofs.Arrivals.{arrivals_first}
 use Rattle.run_laws.proofs.RangeSums.{sum_by-turn}
-use Rattle.switch_jobs.specs.Outcomes.{admitted_count, dropped_count, summary_under}
+use Rattle.run_outcomes.specs.Outcomes.{admitted_count, dropped_count, summary_under}
 use Rattle.packet_departures.specs.Promises.{leaves_by}
 use Rattle.packet_departures.proofs.Copies.{counted}
 use Rattle.packet_times.specs.declared.state.PacketState.{PacketState}

@@ -2,12 +2,13 @@ use card_core::{CardOut, CardPlan, Planned};
 use card_worker::Gate;
 use pcap_records::Link;
 use rotating_pick::{OutOfMemory, Ports};
+use run_outcomes::Outcome;
 use slot_report::Summary;
 use std::alloc::Global;
 use std::process::Abort;
 use std::sync::atomic::{AtomicU64, Ordering};
 use std::test::Fail;
-use switch_jobs::{Outcome, jobs, output_bytes, run_job, run_ready_with};
+use switch_jobs::{jobs, output_bytes, run_job, run_ready_with};
 use switch_plan::Plan;
 
 // Counts the tries of all workers.

@@ -18,8 +18,8 @@ use Rattle.run_laws.specs.Sums.{schedule_under}
 use Rattle.run_laws.proofs.Base.{accepted, sound}
 use Rattle.run_laws.proofs.FirstDone.{not_done, one_length}
 use Rattle.run_laws.proofs.RunEnds.{run_ends}
-use Rattle.switch_jobs.specs.Outcomes.{summary_under}
-use Rattle.switch_jobs.proofs.Limits.{slots_some, slots_few, slots_halved}
+use Rattle.run_outcomes.specs.Outcomes.{summary_under}
+use Rattle.run_laws.proofs.Limits.{slots_some, slots_few, slots_halved}
 use Rattle.journal_check.specs.declared.verdict.Verdict.TheVariants.{Yes}
 use Rattle.journal_check.specs.Texts.{file_slot, HasLevels, IsFile}
 use Rattle.journal_check.specs.Verdicts.{noted_of as noted_in, longest_waits, yes_on}

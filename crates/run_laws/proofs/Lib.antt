@@ -9,6 +9,7 @@ pub mod CardWork
 pub mod RunWork
 pub mod RunEnds
 pub mod SlotLimits
+pub mod Limits
 pub mod Rooms
 pub mod FlowSums
 pub mod FirstParts

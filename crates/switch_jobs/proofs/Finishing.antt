@@ -24,14 +24,14 @@ use Rattle.run_laws.specs.RunSteps.{posts_in, run_slot}
 use Rattle.run_laws.specs.Sums.{run_schedule}
 use Rattle.run_laws.specs.Crossings.{cells_under}
 use Rattle.switch_jobs.specs.declared.ready.Terms.{Terms}
-use Rattle.switch_jobs.specs.Outcomes.{messages_under, admitted_count, dropped_count, longest_under, summary_under, summary_of}
-use Rattle.switch_jobs.specs.Outcomes.{IsOutputUnder, IsOutput}
+use Rattle.run_outcomes.specs.Outcomes.{messages_under, admitted_count, dropped_count, longest_under, summary_under, summary_of}
+use Rattle.run_outcomes.specs.Outcomes.{IsOutputUnder, IsOutput}
 use Rattle.switch_jobs.specs.ReadinessSteps.{plan_with}
 use Rattle.switch_jobs.specs.JournalSteps.{noted_in, longest_in, HaveSums, summary_with, summary_in}
 use Rattle.switch_jobs.specs.EndingSteps.{AreLeft, IsRunOf}
 use Rattle.switch_jobs.proofs.Adding.{sum_of, sum_fits}
 use Rattle.switch_jobs.proofs.Leaving.{IsFew, few_of}
-use Rattle.switch_jobs.proofs.Limits.{slots_few}
+use Rattle.run_laws.proofs.Limits.{slots_few}
 
 -- the numbers of a run, one by one
 abbrev numbers_with : Terms → ℕ → ℕ → ℕ → ℕ → ℕ → ℕ → ℕ → ℕ → List ℕ → Summary

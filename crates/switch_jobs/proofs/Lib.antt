@@ -6,7 +6,4 @@ pub mod Disbanded
 pub mod Serving
 pub mod Leaving
 mod Made
-pub mod Limits
 pub mod Finishing
-pub mod Counted
-pub mod Departing

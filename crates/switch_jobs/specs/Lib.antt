@@ -1,8 +1,6 @@
-pub mod Outcomes
 pub mod Captures
 pub mod JournalSteps
 pub mod ReadinessSteps
 pub mod SharingSteps
 pub mod EndingSteps
 pub mod OneJournal
-pub mod Departures

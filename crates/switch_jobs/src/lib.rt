@@ -5,9 +5,7 @@ mod captures;
 mod driving;
 mod ending;
 pub mod jobs;
-pub mod laws;
 mod meters;
-mod outcome;
 mod ready;
 mod running;
 mod sharing;
@@ -15,7 +13,6 @@ mod summaries;
 
 pub use captures::output_bytes;
 pub use meters::longest_of;
-pub use outcome::Outcome;
 pub use ready::{Ready, Terms};
 pub use running::{run_job, run_ready, run_ready_with};
 pub use summaries::sum_up;

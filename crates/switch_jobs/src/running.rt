@@ -1,18 +1,18 @@
 ghost use Rattle.std.specs.Prelude.{◌≤◌, IfOk, length};
 ghost use Rattle.switch_plan.specs.GoodPlans.{switch_plan_of, IsGood};
 ghost use Rattle.run_laws.specs.Promises.{CompletesMulticast, ServesWaiting, WaitsAreShort};
-ghost use Rattle.switch_jobs.specs.Outcomes.{IsOutcome};
+ghost use Rattle.run_outcomes.specs.Outcomes.{IsOutcome};
 ghost use Rattle.switch_jobs.specs.OneJournal.{IsOneJournal};
 
 use crate::driving::drive_all;
 use crate::ending::{end_run, finish_cards, run_is_made};
 use crate::jobs;
-use crate::outcome::Outcome;
 use crate::ready::{Ready, Rooms};
 use crate::sharing::{for_processors, share};
 use crate::summaries::summarize;
 use card_worker::Gate;
 use rotating_pick::OutOfMemory;
+use run_outcomes::Outcome;
 use std::alloc::Global;
 use std::thread::Threads;
 use switch_plan::Plan;

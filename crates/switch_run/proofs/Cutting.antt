@@ -3,8 +3,8 @@ use Rattle.std.specs.Prelude.{All}
 use Rattle.eslip_rounds.specs.Decisions.{decision_of}
 use Rattle.eslip_rounds.proofs.Scheduling.{IsScheduler-decision_of}
 use Rattle.switch_plan.specs.GoodPlans.{SwitchPlan, IsGood}
-use Rattle.switch_jobs.specs.declared.outcome.Outcome.{Outcome}
-use Rattle.switch_jobs.specs.Outcomes.{IsOutcome}
+use Rattle.run_outcomes.specs.declared.outcome.Outcome.{Outcome}
+use Rattle.run_outcomes.specs.Outcomes.{IsOutcome}
 use Rattle.switch_jobs.specs.Captures.{IsCut}
 use Rattle.one_thread.proofs.Cutting.{cut_outputs_under}
 

@@ -36,7 +36,7 @@ use Rattle.run_laws.specs.Runs.{after_slot, before_under, card_at, decision_in, 
 use Rattle.run_laws.specs.Ends.{IsLengthUnder}
 use Rattle.run_laws.specs.Crossings.{cells_under, queue_to}
 use Rattle.run_laws.specs.Sums.{IsAdmittedUnder, IsBestUnder}
-use Rattle.switch_jobs.specs.Outcomes.{over_ports, summary_under}
+use Rattle.run_outcomes.specs.Outcomes.{over_ports, summary_under}
 use Rattle.run_journals.specs.RunFiles.{journal_text_under}
 use Rattle.reference_run.specs.RunLines.{run_lines_under}
 use Rattle.queue_lengths.specs.Lengths.{deepest_of, greatest}

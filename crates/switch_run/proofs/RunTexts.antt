@@ -21,7 +21,7 @@ use Rattle.switch_words.specs.Reading.{FirmWords, RunWords, run, gen, firm}
 use Rattle.journal_check.specs.declared.limits.TheConstants.{MAX_JOURNAL_BYTES}
 use Rattle.switch_plan.specs.GoodPlans.{SwitchPlan}
 use Rattle.run_laws.specs.Runs.{journal_under, ports_of}
-use Rattle.switch_jobs.specs.Outcomes.{messages_under, summary_under}
+use Rattle.run_outcomes.specs.Outcomes.{messages_under, summary_under}
 use Rattle.packet_times.specs.declared.limits.TheConstants.{MAX_PACKETS_BYTES}
 use Rattle.run_notes.specs.declared.wanted.Wanted.{Wanted}
 use Rattle.run_notes.specs.NotingSteps.{told_by}

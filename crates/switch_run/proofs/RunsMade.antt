@@ -5,8 +5,8 @@ use Rattle.eslip_rounds.specs.Schedulers.{Scheduler}
 use Rattle.eslip_rounds.specs.Decisions.{decision_of}
 use Rattle.switch_words.specs.declared.job.Settings.{Settings}
 use Rattle.switch_plan.specs.GoodPlans.{SwitchPlan, IsGood}
-use Rattle.switch_jobs.specs.declared.outcome.Outcome.{Outcome}
-use Rattle.switch_jobs.specs.Outcomes.{IsOutcome}
+use Rattle.run_outcomes.specs.declared.outcome.Outcome.{Outcome}
+use Rattle.run_outcomes.specs.Outcomes.{IsOutcome}
 use Rattle.run_laws.specs.Ends.{IsLengthUnder}
 use Rattle.run_notes.specs.declared.wanted.Wanted.{Wanted}
 use Rattle.run_notes.specs.declared.texts.NotesFault.{NotesFault}

@@ -24,8 +24,8 @@ use Rattle.run_laws.specs.Runs.{ports_of}
 use Rattle.run_laws.specs.Ends.{IsLengthUnder}
 use Rattle.run_laws.specs.Promises.{ArrivalsComeFirst, BusySlotsMatchUnder, CompletesUnder, DeliversNoOthersUnder, DeliversUnder, HasFewSlotsUnder}
 use Rattle.run_laws.specs.Promises.{ServesUnder, WaitsUnder, bound_of}
-use Rattle.switch_jobs.specs.Outcomes.{summary_under, CountsPacketsOnce}
-use Rattle.switch_jobs.specs.Departures.{InterleavesFlowsUnder}
+use Rattle.run_outcomes.specs.Outcomes.{summary_under, CountsPacketsOnce}
+use Rattle.run_outcomes.specs.Departures.{InterleavesFlowsUnder}
 use Rattle.buffer_sizing.specs.Sizing.{IsSized}
 use Rattle.queue_measures.specs.Sums.{QueuesAddUpUnder}
 use Rattle.packet_departures.specs.Promises.{HasDeparturesUnder, CountsDepartures}

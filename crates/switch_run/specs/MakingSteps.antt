@@ -19,7 +19,7 @@ use Rattle.run_laws.specs.Ends.{IsLengthUnder}
 use Rattle.journal_check.specs.declared.limits.TheConstants.{MAX_JOURNAL_BYTES}
 use Rattle.packet_times.specs.declared.limits.TheConstants.{MAX_PACKETS_BYTES}
 use Rattle.switch_jobs.specs.Captures.{IsCut}
-use Rattle.switch_jobs.specs.Outcomes.{IsOutputUnder, summary_under}
+use Rattle.run_outcomes.specs.Outcomes.{IsOutputUnder, summary_under}
 use Rattle.run_notes.specs.declared.wanted.Wanted.{Wanted}
 use Rattle.run_notes.specs.declared.texts.NotesFault.{NotesFault}
 use Rattle.run_notes.specs.declared.texts.NotesFault.TheVariants as fault

@@ -23,9 +23,9 @@ use reference_run::laws as references;
 use rotating_pick::MAX_PORTS;
 use run_journals::laws as journals;
 use run_laws::{deliveries, ends, waits};
+use run_outcomes::laws as numbers;
 use std::alloc::Global;
 use std::thread::Threads;
-use switch_jobs::laws as numbers;
 use switch_words::{Job, WordsFault, read_words};
 
 // Writes the texts of a job, where they were made: how the job ends.

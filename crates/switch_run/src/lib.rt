@@ -8,4 +8,5 @@ mod making;
 mod texts;
 
 pub use command::switch_main;
-pub use switch_jobs::{Outcome, Ready, output_bytes, run_job, run_ready, run_ready_with};
+pub use run_outcomes::Outcome;
+pub use switch_jobs::{Ready, output_bytes, run_job, run_ready, run_ready_with};

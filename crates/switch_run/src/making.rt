@@ -15,11 +15,12 @@ use one_thread::{AloneOutcome, run_alone, run_firm};
 use pcap_records::Link;
 use rotating_pick::OutOfMemory;
 use run_notes::{NotedTexts, NotesFault, RunNotes, Wanted};
+use run_outcomes::Outcome;
 use scheduler_names::SchedulerName;
 use slot_report::Summary;
 use std::alloc::Global;
 use std::thread::Threads;
-use switch_jobs::{Outcome, run_job};
+use switch_jobs::run_job;
 use switch_plan::{Plan, PlanFault, jobs};
 use switch_words::Settings;
 

@@ -5,13 +5,14 @@ use crate::commands::{Given, PIECE, command, compare_file, compare_text, files_o
 use card_worker::{Gate, OpenGate};
 use outside::MemFiles;
 use rotating_pick::{MAX_FILE_BYTES, OutOfMemory};
+use run_outcomes::Outcome;
 use scheduler_names::SchedulerName;
 use std::alloc::{AllocError, Global};
 use std::process::Abort;
 use std::sync::atomic::{AtomicU64, Ordering};
 use std::test::Fail;
 use std::thread::Threads;
-use switch_jobs::{Outcome, jobs, run_ready_with};
+use switch_jobs::{jobs, run_ready_with};
 use switch_plan::jobs::plan;
 use switch_plan::{Made, made_input};
 use switch_words::{GenJob, Settings};

@@ -10,7 +10,7 @@ use Rattle.card_core.specs.Plans.{plan_of}
 use Rattle.slot_report.specs.declared.summary.Summary.{Summary}
 use Rattle.switch_plan.specs.GoodPlans.{SwitchPlan, switch_plan_of, packets_in, IsGood}
 use Rattle.switch_jobs.specs.ReadinessSteps.{plan_with}
-use Rattle.switch_jobs.specs.Outcomes.{summary_under}
+use Rattle.run_outcomes.specs.Outcomes.{summary_under}
 use Rattle.switch_jobs.specs.JournalSteps.{HaveSums, summary_with}
 use Rattle.run_notes.specs.NotingSteps.{HasNoted}
 use Rattle.one_thread.specs.declared.running.AloneOutcome.{AloneOutcome}

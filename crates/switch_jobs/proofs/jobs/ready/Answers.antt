@@ -5,7 +5,7 @@ use Rattle.std.proofs.lemmas.List.{length-map}
 use Rattle.std.proofs.lemmas.Option.{slice_get-map}
 use Rattle.card_core.specs.Plans.{plan_of}
 use Rattle.switch_plan.specs.GoodPlans.{switch_plan_of}
-use Rattle.switch_jobs.proofs.Limits.{slots_some, slots_few, slots_halved}
+use Rattle.run_laws.proofs.Limits.{slots_some, slots_few, slots_halved}
 use Rattle.switch_jobs.proofs.jobs.ready.Goals as goal
 
 pub make-requires-clause-slots : goal.make-requires-clause-slots

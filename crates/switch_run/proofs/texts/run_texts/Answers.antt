@@ -7,7 +7,7 @@ use Rattle.switch_plan.specs.ReadingSteps.{bytes_of_files}
 use Rattle.switch_words.specs.Reading.{run_words}
 use Rattle.run_laws.specs.Runs.{journal_under}
 use Rattle.switch_run.specs.MakingSteps.{HaveMessages}
-use Rattle.switch_jobs.specs.Outcomes.{messages_under}
+use Rattle.run_outcomes.specs.Outcomes.{messages_under}
 use Rattle.switch_run.proofs.RunTexts.{have_messages, is_some-mapped, lines_told, run_made}
 use Rattle.switch_run.proofs.texts.run_texts.Goals as goal
 

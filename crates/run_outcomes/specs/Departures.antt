@@ -12,7 +12,7 @@ use Rattle.card_core.specs.Plans.{message_of}
 use Rattle.switch_plan.specs.GoodPlans.{SwitchPlan}
 use Rattle.run_laws.specs.Runs.{ports_of, setup_for, card_at, posts_under}
 use Rattle.run_laws.specs.Crossings.{admitted_under}
-use Rattle.switch_jobs.specs.Outcomes.{messages_under}
+use Rattle.run_outcomes.specs.Outcomes.{messages_under}
 
 -- A message that leaves by an output: the slot in which its last cell crosses, and its input, level and kind, which are its
 -- flow.

@@ -15,7 +15,7 @@ use Rattle.run_laws.specs.Runs.{ports_of, setup_for, card_at, parts_under, run_j
 use Rattle.run_laws.specs.Ends.{IsLength}
 use Rattle.run_laws.specs.Crossings.{cells_under}
 use Rattle.run_laws.specs.Sums.{schedule_under}
-use Rattle.switch_jobs.specs.declared.outcome.Outcome.{Outcome}
+use Rattle.run_outcomes.specs.declared.outcome.Outcome.{Outcome}
 
 -- the messages that are delivered to output j in the first slots, in the order of the slots in which their last cells cross
 abbrev pub messages_under : Scheduler → SwitchPlan → ℕ → ℕ → List (List ℕ)

@@ -15,7 +15,7 @@ use Rattle.run_laws.specs.Runs.{ports_of, setup_for, posts_under}
 use Rattle.run_laws.specs.Ends.{IsLengthUnder}
 use Rattle.run_laws.proofs.Emptied.{packets_delivered}
 use Rattle.run_laws.proofs.OfFlows.{all_of_flows}
-use Rattle.switch_jobs.specs.Departures.{Departure, is_from, messages_in, is_last, IsEnding, AreDepartures}
+use Rattle.run_outcomes.specs.Departures.{Departure, is_from, messages_in, is_last, IsEnding, AreDepartures}
 
 -- ---- one element or none
 map_one : {X Y : Type 0} (f : X → Y) (b : Bool) (x : X) → map f (if b then x ∷ [] else []) ≡ (if b then f x ∷ [] else [])

@@ -4,8 +4,8 @@ ghost use Rattle.std.specs.Prelude.{ℕ};
 ghost use Rattle.eslip_rounds.specs.Schedulers.{Scheduler, IsScheduler};
 ghost use Rattle.switch_plan.specs.GoodPlans.{SwitchPlan, IsGood};
 ghost use Rattle.run_laws.specs.Ends.{IsLengthUnder};
-ghost use Rattle.switch_jobs.specs.Outcomes.{summary_under, CountsPacketsOnce};
-ghost use Rattle.switch_jobs.specs.Departures.{InterleavesFlowsUnder};
+ghost use Rattle.run_outcomes.specs.Outcomes.{summary_under, CountsPacketsOnce};
+ghost use Rattle.run_outcomes.specs.Departures.{InterleavesFlowsUnder};
 
 /// The summary of a run counts every packet once: as too long, as one without a route, as dropped or as forwarded.
 pub fn packets_are_counted_once()

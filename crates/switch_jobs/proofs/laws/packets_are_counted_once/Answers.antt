@@ -1,5 +1,0 @@
-use Rattle.switch_jobs.proofs.Counted.{counted-once}
-use Rattle.switch_jobs.proofs.laws.packets_are_counted_once.Goals as goal
-
-pub returns : goal.returns
-returns c scheduler plan slots good ends = counted-once scheduler plan slots good ends
