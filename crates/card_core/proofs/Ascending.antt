@@ -1,25 +1,10 @@
 -- A plan's packets, as far as they were looked at.
-use Rattle.std.proofs.Common.{◌≡◌, ◌∙◌, ◌⊎◌, ℕ, zero, suc, ◌+◌, ◌<◌, ◌≤◌, List, [], ◌∷◌, length, Some, slice_get, slice_index_or, refl, sym, ap, subst}
+use Rattle.std.proofs.Common.{◌≡◌, ◌∙◌, ◌⊎◌, ℕ, zero, suc, ◌+◌, ◌<◌, ◌≤◌, List, [], length, Some, slice_get, slice_index_or, refl, sym, ap, subst}
 use Rattle.std.proofs.Common.{arith, inl, inr}
 use Rattle.std.proofs.lemmas.Bool.{cases_eq}
-use Rattle.std.proofs.lemmas.Option.{same_Some}
+use Rattle.std.proofs.lemmas.Option.{slice_get_within, get_or_from_slice_get, slice_get-get_or}
 use Rattle.card_core.specs.declared.plan.Planned.{Planned}
 use Rattle.card_core.specs.Plans.{IsPlanned, AreRising}
-
-pub get_some : (packets : List Planned) (k : ℕ) (p d : Planned) → slice_get packets k ≡ Some p → slice_index_or packets k d ≡ p
-get_some [] k p d is = absurd (cc)
-get_some (x ∷ packets) zero p d is = same_Some x p is
-get_some (x ∷ packets) (suc k) p d is = get_some packets k p d is
-
-pub some_get : (packets : List Planned) (k : ℕ) (d : Planned) → k < length packets → slice_get packets k ≡ Some (slice_index_or packets k d)
-some_get [] k d inside = absurd (omega arith)
-some_get (x ∷ packets) zero d inside = refl
-some_get (x ∷ packets) (suc k) d inside = some_get packets k d (omega arith)
-
-pub some_lt : (packets : List Planned) (k : ℕ) (p : Planned) → slice_get packets k ≡ Some p → k < length packets
-some_lt [] k p is = absurd (cc)
-some_lt (x ∷ packets) zero p is = omega arith
-some_lt (x ∷ packets) (suc k) p is = omega (arith, some_lt packets k p is)
 
 at_or_below : (k i : ℕ) → k < i + 1 → (k ≡ i) ⊎ (k < i)
 at_or_below k i below = elim (cases_eq k i) [ inl same ↦ inl same | inr other ↦ inr (omega arith) ]
@@ -28,7 +13,7 @@ pub planned_more : (n bytes : ℕ) (packets : List Planned) (i : ℕ) (d : Plann
     → ((k : ℕ) (p : Planned) → k < i → slice_get packets k ≡ Some p → IsPlanned n bytes p) → IsPlanned n bytes (slice_index_or packets i d)
     → (k : ℕ) (p : Planned) → k < i + 1 → slice_get packets k ≡ Some p → IsPlanned n bytes p
 planned_more n bytes packets i d before here k p below is = elim (at_or_below k i below) [
-  | inl same ↦ subst (IsPlanned n bytes) (get_some packets i p d (ap (slice_get packets) (sym same) ∙ is)) here
+  | inl same ↦ subst (IsPlanned n bytes) (get_or_from_slice_get packets i p d (ap (slice_get packets) (sym same) ∙ is)) here
   | inr less ↦ before k p less is
 ]
 
@@ -50,7 +35,7 @@ rises_none packets = record {
 pub rises_more : (packets : List Planned) (i least : ℕ) (d : Planned) → RisesTo packets i least → least ≤ (slice_index_or packets i d).arrival
     → RisesTo packets (i + 1) ((slice_index_or packets i d).arrival + 1)
 rises_more packets i least d so_far from =
-    let at_i = λ (p : Planned) (is : slice_get packets i ≡ Some p). ap (λ (r : Planned). r.arrival) (get_some packets i p d is) in
+    let at_i = λ (p : Planned) (is : slice_get packets i ≡ Some p). ap (λ (r : Planned). r.arrival) (get_or_from_slice_get packets i p d is) in
     record {
       start = λ none. absurd (omega arith);
       last = λ k p at there. let same : k ≡ i = omega arith in let e = at_i p (ap (slice_get packets) (sym same) ∙ there) in omega arith;
@@ -65,14 +50,14 @@ rises_more packets i least d so_far from =
     }
 
 pub rises_all : (packets : List Planned) (i least : ℕ) → length packets ≤ i → RisesTo packets i least → AreRising packets
-rises_all packets i least all so_far k j p r a b before = so_far.rising k j p r (let l = some_lt packets j r b in omega arith) a b before
+rises_all packets i least all so_far k j p r a b before = so_far.rising k j p r (let l = slice_get_within packets j r b in omega arith) a b before
 
 pub rises_not : (packets : List Planned) (i least : ℕ) (d : Planned) → RisesTo packets i least → i < length packets
     → (slice_index_or packets i d).arrival < least → AreRising packets → ⊥
 rises_not packets zero least d so_far inside less rising = let z = so_far.start refl in omega arith
 rises_not packets (suc i) least d so_far inside less rising =
-    let here = some_get packets (suc i) d inside in
-    let before = some_get packets i d (omega arith) in
+    let here = slice_get-get_or packets (suc i) d inside in
+    let before = slice_get-get_or packets i d (omega arith) in
     let e = so_far.last i (slice_index_or packets i d) (omega arith) before in
     let f = rising i (suc i) (slice_index_or packets i d) (slice_index_or packets (suc i) d) before here (omega arith) in
     omega arith

@@ -1,7 +1,7 @@
 -- What comes to the output of a card.
-use Rattle.std.proofs.Common.{◌≡◌, ◌∙◌, ◌⊎◌, ℕ, zero, suc, ◌+◌, ◌*◌, ◌<◌, ◌≤◌, Bool, true, false, List, length, slice_index_or, slice_set, refl, sym}
+use Rattle.std.proofs.Common.{◌≡◌, ◌∙◌, ℕ, ◌+◌, ◌*◌, Bool, true, false, List, length, slice_index_or, slice_set, refl, sym}
 use Rattle.std.proofs.Common.{ap, arith, inl, inr, if◌then◌else◌, length-append}
-use Rattle.std.proofs.lemmas.Bool.{cases_eq}
+use Rattle.std.proofs.lemmas.Bool.{cases_eq, cases_lt}
 use Rattle.std.proofs.lemmas.List.{get_or-set_same, get_or-set_other, set_past, length-take-le}
 use Rattle.cell_cutter.specs.declared.cell.Cell.{Cell}
 use Rattle.cell_cutter.specs.Cells.{IsUsed, used_bytes}
@@ -22,12 +22,6 @@ full_case flow cell true full next used room = refl
 full_case flow cell false full next used room =
     omega (arith, length-append flow.bytes (used_bytes cell), length-take-le cell.used cell.payload (omega arith))
 
-inside_or_past : (i n : ℕ) → (i < n) ⊎ (n ≤ i)
-inside_or_past zero zero = inr (omega arith)
-inside_or_past zero (suc n) = inl (omega arith)
-inside_or_past (suc i) zero = inr (omega arith)
-inside_or_past (suc i) (suc n) = elim (inside_or_past i n) [ inl less ↦ inl (omega arith) | inr more ↦ inr (omega arith) ]
-
 pub full_after : (flows : Flows) (cell : Cell) → AreFull flows → Fits flows cell → AreFull (after_cell flows cell)
 full_after flows cell full fits place = elim (cases_eq place (place_of_cell cell)) [
   | inr other ↦
@@ -35,7 +29,7 @@ full_after flows cell full fits place = elim (cases_eq place (place_of_cell cell
       (fresh 0) ≡ slice_index_or flows.flows place (fresh 0) =
       get_or-set_other flows.flows (place_of_cell cell) place (with_cell (flow_of flows cell) cell) (fresh 0) other in
       ap (λ (f : Flow). length f.bytes) same ∙ full place ∙ ap (λ (f : Flow). 56 * f.next) (sym same)
-  | inl here ↦ elim (inside_or_past (place_of_cell cell) (length flows.flows)) [
+  | inl here ↦ elim (cases_lt (place_of_cell cell) (length flows.flows)) [
     | inl inside ↦
         let now : slice_index_or (slice_set flows.flows (place_of_cell cell) (with_cell (flow_of flows cell) cell)) place (fresh 0) ≡ with_cell
         (flow_of flows cell) cell =

@@ -1,9 +1,9 @@
 -- The messages of the cells that came, with one cell more.
-use Rattle.std.proofs.Common.{◌≡◌, ◌≢◌, ◌∙◌, ◌⊎◌, ℕ, zero, suc, ◌+◌, ◌<◌, ◌==◌, ◌&&◌, Bool, true, false, List, [], ◌∷◌, ◌++◌, map, length}
+use Rattle.std.proofs.Common.{◌≡◌, ◌≢◌, ◌∙◌, ℕ, zero, suc, ◌+◌, ◌<◌, ◌==◌, ◌&&◌, Bool, true, false, List, [], ◌∷◌, ◌++◌, map, length}
 use Rattle.std.proofs.Common.{slice_index_or, slice_set, refl, sym, ap, subst, arith, inl, inr, if◌then◌else◌, append_assoc}
 use Rattle.std.specs.List.{concat}
-use Rattle.std.proofs.lemmas.Bool.{eq-eqb, eqb-true}
-use Rattle.std.proofs.lemmas.List.{append-nil, map-set, map-append, set-get_or, get_or-set_same, get_or-set_other, length_push}
+use Rattle.std.proofs.lemmas.Bool.{eq-eqb, eqb-true, cases_Bool}
+use Rattle.std.proofs.lemmas.List.{append-nil, map-set, map-append, set-get_or, get_or-set_same, get_or-set_other, length_push, length-map}
 use Rattle.std.proofs.lemmas.List.Elements.{filter-append}
 use Rattle.std.proofs.lemmas.List.Folds.{concat-append}
 use Rattle.rotating_pick.specs.declared.kinds.Kind.{Kind}
@@ -68,10 +68,6 @@ parts_of true true false is = absurd (cc)
 parts_of true false c is = absurd (cc)
 parts_of false b c is = absurd (cc)
 
-true_or_not : (b : Bool) → (b ≡ true) ⊎ (b ≡ false)
-true_or_not true = inl refl
-true_or_not false = inr refl
-
 cells-own : (cells : List Cell) (cell : Cell) (i l : ℕ) (k : Kind) → is_of_flow i l k cell ≡ true
     → flow_cells i l k (cells ++ cell ∷ []) ≡ flow_cells i l k cells ++ cell ∷ []
 cells-own cells cell i l k is = filter-append (is_of_flow i l k) cells (cell ∷ [])
@@ -100,10 +96,6 @@ sizes_stay flows place flow same =
     ∙ ap (slice_set (map (λ (f : Flow). f.size) flows) place) (same ∙ size_at flows place)
     ∙ set-get_or (map (λ (f : Flow). f.size) flows) place 0
 
-size_length : (flows : List Flow) → length (map (λ (f : Flow). f.size) flows) ≡ length flows
-size_length [] = refl
-size_length (f ∷ flows) = ap suc (size_length flows)
-
 kind_small : (kind : Kind) → kind_byte kind < 2
 kind_small Uni = omega arith
 kind_small Multi = omega arith
@@ -115,7 +107,7 @@ module _ (plan : Plan) (good : IsGoodPlan plan) (r : Received) (cells : List Cel
 
   place_in : place_of_cell cell < length r.flows.flows
   place_in =
-      let a = size_length r.flows.flows in
+      let a = length-map r.flows.flows (λ (f : Flow). f.size) in
       let b = ap length had.sizes in
       let k = kind_small cell.kind in
       let i = input_in in
@@ -134,7 +126,7 @@ module _ (plan : Plan) (good : IsGoodPlan plan) (r : Received) (cells : List Cel
       ∙ get_or-set_same r.flows.flows (place_of_cell cell) (with_cell (flow_of r.flows cell) cell) (fresh 0) place_in
 
   flows_case : (i l : ℕ) (k : Kind) → i < plan.ports → l < 4 → Stands (flow_at (after_cell r.flows cell) i l k) (flow_cells i l k (cells ++ cell ∷ []))
-  flows_case i l k inside below = elim (true_or_not (is_of_flow i l k cell)) [
+  flows_case i l k inside below = elim (cases_Bool (is_of_flow i l k cell)) [
     | inl mine ↦
         let p = parts_of (cell.input == i) (cell.level == l) (is_kind cell.kind k) mine in
         let same_i = eqb-true cell.input i p.0 in

@@ -2,10 +2,11 @@
 use Rattle.std.proofs.Common.{◌≡◌, ◌∙◌, ℕ, zero, suc, ◌+◌, ◌^◌, ◌<◌, ◌≤◌, ◌==◌, ◌&&◌, not, Bool, true, false, List, [], ◌∷◌, ◌++◌, drop, take, length}
 use Rattle.std.proofs.Common.{Option, Some, None, slice_index_or, refl, sym, ap, subst, arith, if◌then◌else◌, append_assoc}
 use Rattle.std.specs.Option.{option_map}
-use Rattle.std.proofs.lemmas.Bool.{and_parts, and_from, eqb-true, eq-eqb}
+use Rattle.std.proofs.lemmas.Bool.{and_parts, and_from, eqb-true, eq-eqb, false_from_ne_true}
 use Rattle.std.proofs.lemmas.List.{append-nil, take-append-le, take_all, length-drop}
 use Rattle.std.proofs.lemmas.List.Elements.{filter-append}
 use Rattle.std.proofs.lemmas.Nat.Bits.{bit_at-pow_same}
+use Rattle.std.specs.Cmp.{both_ways}
 use Rattle.rotating_pick.specs.PortSets.{Has}
 use Rattle.rotating_pick.specs.declared.kinds.Kind.{Kind}
 use Rattle.rotating_pick.specs.declared.kinds.Kind.TheVariants.{Uni, Multi}
@@ -23,8 +24,7 @@ use Rattle.card_core.specs.Queues.{Passed, waiting, remaining, rest_of, coming, 
 use Rattle.card_core.specs.Posts.{has_cells, row_at, granted_by, granted_at, queue_by, IsServable}
 use Rattle.slot_histories.specs.Parts.{IsPartOf}
 use Rattle.card_core.specs.Grants.{serves, first_of, granted_to, to_output, begun_for}
-use Rattle.card_core.proofs.Remaining.{remaining-has, remaining-part, lacks}
-use Rattle.card_core.proofs.Sets.{same_test}
+use Rattle.card_core.proofs.Remaining.{remaining-has, remaining-part}
 use Rattle.card_core.proofs.Passing.{AreOf, AreOf-drop, kept-gone, IsHeld, IsKept, kept-before, kept-in, kept-arrival, waiting-more, small_fan}
 use Rattle.card_core.proofs.Accepting.{uni-in, multi-in, rest_output, output_left, one_output, last-only}
 use Rattle.card_core.proofs.Taking.{remaining-whole}
@@ -71,7 +71,7 @@ false_not true e is = cc
 false_not false e is = cc
 
 none_has : (j : ℕ) → has 0 j ≡ false
-none_has j = lacks (has 0 j) (λ e. zero-has 0 j refl ((Decides-has 0 j).0 e))
+none_has j = false_from_ne_true (has 0 j) (λ e. zero-has 0 j refl ((Decides-has 0 j).0 e))
 
 take_next : (n : ℕ) (xs : List FanCell) (c : FanCell) (v : List FanCell) → drop n xs ≡ c ∷ v → take (n + 1) xs ≡ take n xs ++ c ∷ []
 take_next zero [] c v is = absurd (cc)
@@ -132,7 +132,7 @@ module _ (plan : Plan) (good : IsGoodPlan plan) (q : Queue) (j : ℕ) where
       let tells = Decides-gives part j (level_of q) (kind_of q) in
       let rest = rest_of q s in
       let next = rest_of q (with_since s (part ∷ s.since)) in
-      same_test (has next j) (has rest j && not (serves q j part))
+      both_ways (has next j) (has rest j && not (serves q j part))
       (λ m.
       let both = of.0 ((Decides-has next j).0 m) in
       and_from (has rest j) (not (serves q j part)) ((Decides-has rest j).1 both.0)

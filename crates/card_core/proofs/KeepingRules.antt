@@ -3,7 +3,7 @@ use Rattle.std.proofs.Common.{◌≡◌, ◌≢◌, ◌∙◌, ◌↔◌, ℕ, z
 use Rattle.std.proofs.Common.{◌++◌, drop, length, Option, None}
 use Rattle.std.proofs.Common.{slice_index_or, count_by, refl, sym, ap, arith, inl, inr, if◌then◌else◌, length-append, length-drop}
 use Rattle.std.specs.List.{range_with_len}
-use Rattle.std.proofs.lemmas.Bool.{cases_eq, eq-eqb, ne_eqb, lt-ltb, le-ltb}
+use Rattle.std.proofs.lemmas.Bool.{cases_eq, eq-eqb, ne_eqb, lt-ltb, le-ltb, and_right, or_parts, or_from}
 use Rattle.std.proofs.lemmas.List.Sums.{sum_by-cons}
 use Rattle.rotating_pick.specs.PortSets.{Has}
 use Rattle.rotating_pick.proofs.Bits.{Has-lt}
@@ -16,7 +16,7 @@ use Rattle.card_core.specs.Plans.{Plan, Queue, IsGoodPlan, level_of, kind_of, is
 use Rattle.card_core.specs.Queues.{Passed, waiting, remaining, rest_of, with_since, head_gone, after_part_of, is_routed, fits, coming, before, queue_in}
 use Rattle.card_core.specs.Queues.{is_admitted, enters, cells_admitted}
 use Rattle.card_core.specs.QueueRules.{comes_in, cells_entering, is_first, parts_for, left_of, completes, KeepsRules}
-use Rattle.card_core.proofs.Remaining.{any_gives, neither, from_neither, remaining-has, remaining-from}
+use Rattle.card_core.proofs.Remaining.{any_gives, remaining-has, remaining-from}
 use Rattle.card_core.proofs.Passing.{is_queue-same, AreOf, AreOf-drop, small_fan, kept-before}
 use Rattle.card_core.proofs.Admitting.{same_test, entered_stays, entered-is}
 
@@ -94,12 +94,8 @@ module _ (plan : Plan) (q : Queue) (served : List (Option Served)) where
   other_first : (n u : ℕ) → (queue u).left ≢ n → is_first queue n u ≡ false
   other_first n u other = rw (ne_eqb (queue u).left n other) refl
 
-  and_false : (a b : Bool) → b ≡ false → a && b ≡ false
-  and_false true b is = is
-  and_false false b is = refl
-
   absent_first : (n u : ℕ) → length (queue (suc u)).entered ≤ n → is_first queue n u ≡ false
-  absent_first n u none = and_false ((queue u).left == n) (nat_lt n (length (queue (suc u)).entered)) (le-ltb n (length (queue (suc u)).entered) none)
+  absent_first n u none = and_right ((queue u).left == n) (nat_lt n (length (queue (suc u)).entered)) (le-ltb n (length (queue (suc u)).entered) none)
 
   -- whether a cell waits in slot t
   first_is : (t : ℕ) → is_first queue (queue t).left t ≡ nat_lt (queue t).left (length (queue (suc t)).entered)
@@ -197,12 +193,12 @@ module _ (plan : Plan) (good : IsGoodPlan plan) (q : Queue) (served : List (Opti
   none_of : (b : Bool) (part : Option Served) (parts : List (Option Served)) → any_gives q (if b then part ∷ parts else parts) output ≡ false
       → (b ≡ true → gives part output (level_of q) (kind_of q) ≡ false) × (any_gives q parts output ≡ false)
   none_of true part parts none =
-      let both = neither (gives part output (level_of q) (kind_of q)) (any_gives q parts output) none in (λ is. both.0, both.1)
+      let both = or_parts (gives part output (level_of q) (kind_of q)) (any_gives q parts output) none in (λ is. both.0, both.1)
   none_of false part parts none = (λ is. absurd (cc), none)
 
   none_with : (b : Bool) (part : Option Served) (parts : List (Option Served)) → (b ≡ true → gives part output (level_of q) (kind_of q) ≡ false)
       → any_gives q parts output ≡ false → any_gives q (if b then part ∷ parts else parts) output ≡ false
-  none_with true part parts here none = from_neither (gives part output (level_of q) (kind_of q)) (any_gives q parts output) (here refl) none
+  none_with true part parts here none = or_from (gives part output (level_of q) (kind_of q)) (any_gives q parts output) (here refl) none
   none_with false part parts here none = none
 
   module _ (history : ℕ → Passed) (n : ℕ) where

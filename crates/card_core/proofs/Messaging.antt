@@ -5,6 +5,7 @@ use Rattle.std.proofs.lemmas.Bool.{le-leb, lt-leb}
 use Rattle.std.proofs.lemmas.List.{map-append}
 use Rattle.std.proofs.lemmas.List.Elements.{filter-append}
 use Rattle.std.specs.List.{range_with_len}
+use Rattle.std.proofs.lemmas.Option.{get_or_from_slice_get}
 use Rattle.rotating_pick.specs.declared.kinds.Kind.{Kind}
 use Rattle.slot_match.specs.declared.matching.Served.{Served}
 use Rattle.slot_histories.specs.Tests.{has}
@@ -21,7 +22,6 @@ use Rattle.card_core.specs.declared.plan.Planned.{Planned}
 use Rattle.card_core.specs.Plans.{Plan, Queue, IsGoodPlan, queue_of, size_of, level_of, kind_of, bytes_of, message_of, cell_in, cell_named, no_packet}
 use Rattle.card_core.specs.Queues.{before, enters, cells_admitted}
 use Rattle.card_core.specs.Grants.{to_output, packets_to}
-use Rattle.card_core.proofs.Ascending.{get_some}
 use Rattle.card_core.proofs.Accepting.{length-place}
 use Rattle.card_core.proofs.Admitting.{entered-is}
 
@@ -84,7 +84,7 @@ module _ (plan : Plan) (good : IsGoodPlan plan) where
   pub packet-cells : (k : ℕ) (p : Planned) → slice_get plan.packets k ≡ Some p
       → cells_named (cells_with_fan k (size_of p) p.fan) ≡ cells_of_message plan.card (level_of (queue_of p)) (kind_of (queue_of p)) (message_of plan p)
   packet-cells k p there =
-      cells-are k (size_of p) p (get_some plan.packets k p no_packet there) 0 (size_of p)
+      cells-are k (size_of p) p (get_or_from_slice_get plan.packets k p no_packet there) 0 (size_of p)
       ∙ ap (λ n. map (cell_in plan p) (range_with_len 0 (cells_in n))) (sym (message-long k p there))
 
   module _ (q : Queue) (j : ℕ) (served : List (Option Served)) (t : ℕ) where

@@ -1,14 +1,14 @@
 -- Which packet of a plan is next, whether it arrives in a slot, and whether more arrive later.
-use Rattle.std.proofs.Common.{◌≡◌, ◌≢◌, ◌∙◌, ℕ, zero, suc, ◌+◌, ◌<◌, ◌≤◌, ◌==◌, nat_lt, Bool, true, false, List, [], ◌∷◌, length, Option, Some, None}
+use Rattle.std.proofs.Common.{◌≡◌, ◌≢◌, ◌∙◌, ℕ, zero, suc, ◌+◌, ◌<◌, ◌≤◌, ◌==◌, nat_lt, Bool, false, List, [], ◌∷◌, length, Option, Some, None}
 use Rattle.std.proofs.Common.{slice_get, get_or, refl, sym, ap, arith, inl, inr, if◌then◌else◌}
 use Rattle.std.specs.List.{list_any}
-use Rattle.std.proofs.lemmas.Bool.{cases_eq, cases_lt, eq-eqb, ne_eqb, lt-ltb, le-ltb, or_right}
-use Rattle.std.proofs.lemmas.Option.{same_Some, slice_get-get_or}
+use Rattle.std.proofs.lemmas.Bool.{cases_eq, cases_lt, eq-eqb, ne_eqb, lt-ltb, le-ltb}
+use Rattle.std.proofs.lemmas.Option.{same_Some, slice_get-get_or, slice_get_within}
+use Rattle.std.proofs.lemmas.Map.Keys.{any_passes_from_place}
 use Rattle.card_core.specs.declared.plan.Planned.{Planned}
 use Rattle.card_core.specs.Plans.{Plan, IsGoodPlan, arriving, arriving_from, no_packet}
 use Rattle.card_core.specs.States.{IsNext}
 use Rattle.card_core.specs.StateSteps.{next_in, arriving_if}
-use Rattle.card_core.proofs.After.{some_in}
 
 -- ---- a packet that was looked at
 -- one that was found is the one that was looked at, and arrives in the slot
@@ -66,7 +66,7 @@ module _ (plan : Plan) (good : IsGoodPlan plan) (t next : ℕ) (is : IsNext plan
         let low = is.after place packet there behind in
         omega arith
     | inr further ↦
-        let inside = some_in plan.packets place packet there in
+        let inside = slice_get_within plan.packets place packet there in
         let at = slice_get-get_or plan.packets next packet (omega arith) in
         let up = good.rising next place (get_or plan.packets next packet) packet at there (omega arith) in
         let low = is.after next (get_or plan.packets next packet) at (omega arith) in
@@ -95,7 +95,7 @@ module _ (plan : Plan) (good : IsGoodPlan plan) (t next : ℕ) (is : IsNext plan
       let (there, now) = next-there packet one in
       let number : 0 + next ≡ next = omega arith in (
         record {
-          within = omega (arith, some_in plan.packets next packet there);
+          within = omega (arith, slice_get_within plan.packets next packet there);
           before = λ place earlier at less. elim (cases_eq place next) [
             | inl same ↦
                 let mine = ap (λ (it : Planned). it.arrival) (same_Some earlier packet (sym at ∙ ap (slice_get plan.packets) same ∙ there)) in
@@ -110,13 +110,6 @@ module _ (plan : Plan) (good : IsGoodPlan plan) (t next : ℕ) (is : IsNext plan
       )
 
 -- ---- whether more arrive
--- a packet that passes a test is among those of which one passes
-any_found : (test : Planned → Bool) (packets : List Planned) (place : ℕ) (packet : Planned) → slice_get packets place ≡ Some packet → test packet ≡ true
-    → list_any test packets ≡ true
-any_found test [] place packet there holds = absurd cc
-any_found test (head ∷ packets) zero packet there holds = let same = same_Some head packet there in rw (same, holds) refl
-any_found test (head ∷ packets) (suc place) packet there holds =
-    or_right (test head) (list_any test packets) (any_found test packets place packet there holds)
 
 -- where each fails, none passes
 any_none : (test : Planned → Bool) (packets : List Planned) → ((place : ℕ) (packet : Planned) → slice_get packets place ≡ Some packet → test packet ≡ false)
@@ -132,11 +125,11 @@ more_is packets t next is = elim (cases_lt next (length packets)) [
       let packet = get_or packets next no_packet in
       let there = slice_get-get_or packets next no_packet less in
       let late = is.after next packet there (omega arith) in
-      let found = any_found (λ one. nat_lt t one.arrival) packets next packet there (lt-ltb t packet.arrival (omega arith)) in
+      let found = any_passes_from_place (λ one. nat_lt t one.arrival) packets next packet there (lt-ltb t packet.arrival (omega arith)) in
       lt-ltb next (length packets) less ∙ sym found
   | inr above ↦
       let none = any_none (λ one. nat_lt t one.arrival) packets (λ place packet there.
-      let early = is.before place packet there (omega (arith, some_in packets place packet there)) in
+      let early = is.before place packet there (omega (arith, slice_get_within packets place packet there)) in
       le-ltb t packet.arrival (omega arith)) in
       le-ltb next (length packets) above ∙ sym none
 ]

@@ -1,7 +1,7 @@
 -- How many packets there are, and how many enter each queue.
 use Rattle.std.proofs.Common.{◌≡◌, ◌≢◌, ◌∙◌, ℕ, zero, suc, ◌+◌, ◌*◌, ◌^◌, ◌<◌, ◌≤◌, ◌==◌, ◌&&◌, Bool, true, false, List, [], ◌∷◌, ◌++◌, length, Some}
 use Rattle.std.proofs.Common.{slice_get, slice_index, slice_index_or, slice_set, refl, sym, ap, subst, arith, inl, inr, count_by, replicate}
-use Rattle.std.proofs.lemmas.Bool.{cases_eq, ne_eqb}
+use Rattle.std.proofs.lemmas.Bool.{cases_eq, ne_eqb, and_right}
 use Rattle.std.proofs.lemmas.List.{get_or-set_same, get_or-set_other, length-set, length-replicate}
 use Rattle.std.proofs.lemmas.Nat.Bits.{bit_at-pow_same}
 use Rattle.rotating_pick.specs.PortSets.{Has, HasSeveral}
@@ -48,10 +48,6 @@ one_true test p is = rw is refl
 one_false : (test : Planned → Bool) (p : Planned) → test p ≡ false → count_by test (p ∷ []) ≡ 0
 one_false test p is = rw is refl
 
-and_false : (a b : Bool) → b ≡ false → a && b ≡ false
-and_false true b e = e
-and_false false b e = refl
-
 module _ (p : Planned) where
   takes : (q : Queue) → p.fan ≢ 0 → q ≡ queue_of p → packets_for q (p ∷ []) ≡ 1
   takes q some is =
@@ -60,7 +56,7 @@ module _ (p : Planned) where
       one_true (λ r. is_routed r && is_queue q (queue_of r)) p (rw (e, f) refl)
 
   skips : (q : Queue) → is_queue q (queue_of p) ≡ false → packets_for q (p ∷ []) ≡ 0
-  skips q no' = one_false (λ r. is_routed r && is_queue q (queue_of r)) p (and_false (is_routed p) (is_queue q (queue_of p)) no')
+  skips q no' = one_false (λ r. is_routed r && is_queue q (queue_of r)) p (and_right (is_routed p) (is_queue q (queue_of p)) no')
 
   module _ (ports : ℕ) (before : List Planned) (uni fan : List ℕ) (rooms : HasRooms ports before uni fan) where
     uni_case : (j : ℕ) → queue_of p ≡ OfOutput j p.level → p.fan ≢ 0 → p.level < 4 → 4 * j + p.level < length uni → (k m : ℕ) → k < ports → m < 4

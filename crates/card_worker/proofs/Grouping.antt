@@ -246,7 +246,3 @@ few_members (group ∷ groups) (suc p) g at =
 pub next_seats : {X : Type 0} (xs : List X) (i : ℕ) → slice_get (remove xs 0) i ≡ slice_get xs (suc i)
 next_seats [] i = refl
 next_seats (x ∷ xs) i = refl
-
-pub next_length : {X : Type 0} (xs : List X) → 0 < length xs → length (remove xs 0) + 1 ≡ length xs
-next_length [] some = absurd (omega arith)
-next_length (x ∷ xs) some = omega arith

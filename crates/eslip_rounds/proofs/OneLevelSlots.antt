@@ -3,7 +3,7 @@ use Rattle.std.proofs.Common.{◌≡◌, ℕ, zero, suc, ◌+◌, ◌<◌, ◌�
 use Rattle.std.proofs.Common.{subst, arith, add-one}
 use Rattle.std.specs.List.{range_with_len}
 use Rattle.std.specs.Option.{option_map}
-use Rattle.std.proofs.lemmas.List.{length-replicate, get_or-replicate, ext_get_or}
+use Rattle.std.proofs.lemmas.List.{length-replicate, get_or-replicate, ext_get_or, length-map}
 use Rattle.std.proofs.lemmas.List.FromFn.{length-map-range_with_len}
 use Rattle.std.proofs.lemmas.List.Sums.{sum_by-cons}
 use Rattle.rotating_pick.specs.declared.limits.TheConstants.{LEVELS, MAX_PORTS}
@@ -106,10 +106,6 @@ first-map : (before : List (Option Fed)) (steps : List (List (Option Fed)))
 first-map before [] = refl
 first-map before (step ∷ steps) = refl
 
-length-map-inputs : (steps : List (List (Option Fed))) → length (map inputs_of steps) ≡ length steps
-length-map-inputs [] = refl
-length-map-inputs (step ∷ steps) = ap suc (length-map-inputs steps)
-
 -- the pointers of the level move as in iSLIP
 AreMoved-islip : (n t level : ℕ) (rows : List Row) (first_match matched : List (Option Fed)) (before after : Places) → ArePairsOf level first_match
     → AreMoved n t rows first_match matched before after → islip_slots.AreMoved n (inputs_of first_match) (pointers_of level before) (pointers_of level after)
@@ -140,7 +136,7 @@ IsSlot-islip n rounds t level rows before a level_in size unicast slot =
     let counts = same_counts n t level rows before level_in unicast size start steps are slot.chain in
     record {
       steps = map inputs_of steps;
-      count = length-map-inputs steps ∙ slot.count;
+      count = length-map steps inputs_of ∙ slot.count;
       chain = subst Chain none (AreRounds-islip n t level rows before level_in unicast size start steps are slot.chain);
       result = ap inputs_of slot.result ∙ (last-map start steps ∙ ap (λ m. last_of m (map inputs_of steps)) none);
       numbered = slot.numbered ∙ ap (λ c. numbers_of (added_from 0 c)) (sym counts);

@@ -1,5 +1,5 @@
 -- The line of greatest length, by a search for each prefix length that occurs.
-use Rattle.std.proofs.Common.{◌≡◌, ◌∙◌, ℕ, ◌-◌, ◌^◌, ◌%◌, ◌≤◌, true, false, List, Option, None, Some, refl, sym, ap, subst, inl, inr, arith}
+use Rattle.std.proofs.Common.{◌≡◌, ◌∙◌, ℕ, ◌-◌, ◌^◌, ◌%◌, ◌≤◌, true, List, Option, None, Some, sym, ap, subst, inl, inr, arith}
 use Rattle.std.specs.Option.{is_some}
 use Rattle.std.specs.Int.{bit_at}
 use Rattle.std.proofs.lemmas.Bool.{cases_eq}
@@ -25,11 +25,6 @@ pub found_longest : (table : List RouteLine) (address k : ℕ) (line : Option Ro
     → is_some line ≡ true → line ≡ line_with (prefix_at address k) table → line ≡ longest (covering table address)
 found_longest table address k None few are none some is = absurd cc
 found_longest table address k (Some line) few are none some is = sym (longest_at address k table few are none line (sym is)).0
-
--- a line that was not found is none
-pub not_found : (line : Option RouteLine) → is_some line ≡ false → line ≡ None
-not_found None none = refl
-not_found (Some line) none = absurd cc
 
 -- nothing is left
 pub none_left : (rest k : ℕ) → rest ≡ 0 → (j : ℕ) → Has rest j → k ≤ j

@@ -8,10 +8,8 @@ use Rattle.std.proofs.lemmas.Option.{cond_some}
 use Rattle.std.proofs.lemmas.List.{drop_all, drop_more, length-drop, length-take}
 use Rattle.std.proofs.lemmas.List.Quantifiers.{position-Some}
 use Rattle.std.proofs.lemmas.List.Splits.{slice_split_first, length-slice_split}
+use Rattle.std.proofs.Math.Numerals.{one-add}
 use Rattle.forward_table.specs.Text.{lines, words, parts, is_blank, is_not_empty, line_feed}
-
-one_more : (n : ℕ) → 1 + n ≡ suc n
-one_more n = omega arith
 
 -- the place that `position` gives is within the list
 pub place_is : {X : Type 0} (p : X → Bool) (xs : List X) (i : ℕ) → position p xs ≡ Some i → (position_or_len p xs ≡ i) × (i < length xs)
@@ -39,7 +37,7 @@ lines_to_place [] within = absurd (omega arith)
 lines_to_place (x ∷ xs) within =
     elim (cases_Bool (is_line_feed x)) [
       | inl passes ↦ rw passes refl
-      | inr fails ↦ let further = rw fails at within in rw (fails, one_more, lines_to_place xs (omega arith)) refl
+      | inr fails ↦ let further = rw fails at within in rw (fails, one-add, lines_to_place xs (omega arith)) refl
     ]
 
 pub lines_at : (text : List ℕ) (i : ℕ) → position is_line_feed text ≡ Some i → lines text ≡ take i text ∷ lines (drop (i + 1) text)
@@ -103,7 +101,7 @@ words_from_place : (line : List ℕ) → words line ≡ words (drop (position_or
 words_from_place [] = refl
 words_from_place (x ∷ xs) =
     elim (cases_Bool (is_blank x)) [
-      | inl passes ↦ words-blank x xs passes ∙ rw (passes, one_more) (words_from_place xs)
+      | inl passes ↦ words-blank x xs passes ∙ rw (passes, one-add) (words_from_place xs)
       | inr fails ↦ rw (fails, fails) refl
     ]
 
@@ -119,7 +117,7 @@ first_in_place : (line : List ℕ) → position_or_len is_in_word line < length 
 first_in_place [] within = absurd (omega arith)
 first_in_place (x ∷ xs) within =
     elim (cases_Bool (is_blank x)) [
-      | inl passes ↦ let further = rw passes at within in rw (passes, one_more) (first_in_place xs (omega arith))
+      | inl passes ↦ let further = rw passes at within in rw (passes, one-add) (first_in_place xs (omega arith))
       | inr fails ↦ rw fails (x, xs, refl, fails)
     ]
 

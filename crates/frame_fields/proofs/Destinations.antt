@@ -3,17 +3,13 @@ use Rattle.std.proofs.Common.{◌≡◌, ℕ, ◌+◌, ◌/◌, ◌≤◌, ◌==
 use Rattle.std.proofs.Common.{sym, ap, ◌∙◌, inl, inr}
 use Rattle.std.specs.Prelude.{option_and_then}
 use Rattle.std.specs.Int.{w32, from_be_bytes}
-use Rattle.std.proofs.lemmas.Bool.{leb-true, le-leb, eqb-true, eq-eqb, and_parts, and_from}
+use Rattle.std.proofs.lemmas.Bool.{leb-true, le-leb, eqb-true, eq-eqb, and_parts, and_from, cond-true}
 use Rattle.std.proofs.lemmas.Option.{cond_some}
 use Rattle.pcap_records.specs.declared.link.Link.{Link}
 use Rattle.pcap_records.specs.declared.link.Link.TheVariants.{Ethernet, RawIp}
 use Rattle.frame_fields.specs.Destination.{type_at, packet_place, destination_at, destination_of, ipv4_type, tag_type, HasType, BeginsAt, HasDestination}
 
 -- ---- a value that is there where a test holds
-
-there : {X : Type 0} (b : Bool) (x : X) → b ≡ true → cond b (Some x) None ≡ Some x
-there true x is = refl
-there false x is = absurd (cc)
 
 -- ---- type fields
 
@@ -23,7 +19,7 @@ type_read frame place number e =
     record { within = leb-true (place + 2) (length frame) t.0; number_is = t.1 }
 
 type_there : (frame : List ℕ) (place number : ℕ) → HasType frame place number → type_at frame place ≡ Some number
-type_there frame place number h = there _ _ (le-leb (place + 2) (length frame) h.within) ∙ ap Some h.number_is
+type_there frame place number h = cond-true _ (Some _) None (le-leb (place + 2) (length frame) h.within) ∙ ap Some h.number_is
 
 -- ---- where the packet begins
 
@@ -85,7 +81,7 @@ header_read frame place address e =
 
 header_there : (frame : List ℕ) (place address : ℕ) → HasHeader frame place address → destination_at frame place ≡ Some address
 header_there frame place address h =
-    there _ _ (and_from _ _ (le-leb (place + 20) (length frame) h.header) (eq-eqb (slice_index frame place / 16) 4 h.version)) ∙ ap Some h.address_is
+    cond-true _ (Some _) None (and_from _ _ (le-leb (place + 20) (length frame) h.header) (eq-eqb (slice_index frame place / 16) 4 h.version)) ∙ ap Some h.address_is
 
 -- ---- the destination
 

@@ -1,5 +1,5 @@
 -- Readings of several things, one after another.
-use Rattle.std.proofs.Common.{◌≡◌, ℕ, suc, ◌+◌, ◌-◌, ◌<◌, ◌∙◌, List, [], ◌∷◌, ◌++◌, Result, Ok, Err, MatchResult, refl, sym, ap, arith, append_assoc}
+use Rattle.std.proofs.Common.{◌≡◌, ℕ, suc, ◌+◌, ◌-◌, ◌<◌, ◌∙◌, List, [], ◌∷◌, ◌++◌, Ok, Err, refl, sym, ap, arith, append_assoc}
 use Rattle.std.specs.List.{range_with_len}
 use Rattle.std.proofs.lemmas.List.{append-nil}
 use Rattle.journal_check.specs.Fields.{Reading, read_on, each_in}
@@ -8,12 +8,6 @@ use Rattle.journal_check.specs.Fields.{Reading, read_on, each_in}
 abbrev pub with_front : {X : Type 0} → List X → Reading (List X) → Reading (List X)
 with_front done (Ok read) = Ok (done ++ read.0, read.1)
 with_front done (Err bad) = Err bad
-
--- what holds of each outcome, by what holds of it
-pub along : {T E : Type 0} (P P' : T → Type 0) (Q Q' : E → Type 0) (r : Result T E) → ((x : T) → P x → P' x) → ((e : E) → Q e → Q' e) → MatchResult r P Q
-    → MatchResult r P' Q'
-along P P' Q Q' (Ok x) ok err h = ok x h
-along P P' Q Q' (Err e) ok err h = err e h
 
 -- a thing and then a reading of things
 abbrev pub one_more : {X : Type 0} → X → Reading (List X) → Reading (List X)

@@ -1,5 +1,5 @@
 -- Why a slot that was read fails, or what it leaves.
-use Rattle.std.proofs.Common.{◌≡◌, ℕ, ◌∙◌, Bool, List, length, take, Option, None, Some, is_some, false, refl, sym, ap}
+use Rattle.std.proofs.Common.{◌≡◌, ℕ, ◌∙◌, Bool, List, length, take, Option, None, Some, sym, ap}
 use Rattle.std.specs.List.{list_any}
 use Rattle.std.specs.Option.{option_or}
 use Rattle.slot_match.specs.declared.rows.Row.{Row}
@@ -18,10 +18,6 @@ use Rattle.journal_check.specs.Files.{FileSlot, rows_of, mores_of}
 use Rattle.journal_check.specs.Lawful.{Before, decided_in, after_slot, post_failure, output_failure, failure_in}
 use Rattle.journal_check.specs.Steps.{IsSlotRead, before_of}
 use Rattle.journal_check.proofs.LawfulFiles.{no_output_failure}
-
-pub is_none : {X : Type 0} (o : Option X) → is_some o ≡ false → o ≡ None
-is_none None e = refl
-is_none (Some x) e = absurd (cc)
 
 -- the same of slices that are as long and have the same elements
 pub post_again : (n m : ℕ) (judge : Judge) (r : Option Reason) (rows others : List Row) (more also : List Bool) → m ≡ n → others ≡ rows → also ≡ more

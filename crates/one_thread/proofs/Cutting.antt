@@ -1,5 +1,5 @@
 -- The lengths of the messages that a run delivers.
-use Rattle.std.proofs.Common.{◌≡◌, ◌≢◌, ◌<◌, ◌≤◌, ◌+◌, ℕ, Bool, true, false, List, [], ◌∷◌, ◌++◌, map, drop, length, get_or, Option, Some, refl, sym}
+use Rattle.std.proofs.Common.{◌≡◌, ◌≢◌, ◌<◌, ◌≤◌, ◌+◌, ℕ, Bool, true, List, [], ◌∷◌, ◌++◌, map, drop, length, get_or, Option, Some, refl, sym}
 use Rattle.std.proofs.Common.{◌∙◌, ap, arith, length-append}
 use Rattle.std.specs.Prelude.{All, nat_lt, ◌&&◌, filter, sum, sum_by, slice_get, if◌then◌else◌}
 use Rattle.std.specs.List.{concat}
@@ -10,6 +10,7 @@ use Rattle.std.proofs.lemmas.List.Elements.{All-append, All-cons, All-filter, Al
 use Rattle.std.proofs.lemmas.List.Sums.{sum-map, sum_by-cons}
 use Rattle.std.proofs.lemmas.Nat.Bits.{bit_at-zero}
 use Rattle.std.proofs.lemmas.Option.{slice_get-get_or}
+use Rattle.std.specs.Cmp.{second_so}
 use Rattle.rotating_pick.specs.declared.kinds.Kind.{Kind}
 use Rattle.rotating_pick.specs.declared.kinds.Kind.TheVariants.{Uni, Multi}
 use Rattle.cell_cutter.specs.declared.cell.Cell.{Cell}
@@ -90,10 +91,6 @@ All-filter_with test P xs each k d k_in =
     let when : All (λ x. test x ≡ true → P x) xs = λ i e i_in. each i (get_or xs i e) (slice_get-get_or xs i e i_in) in
     All-filter test (λ x. test x ≡ true → P x) xs when k d k_in (filter_passes test xs k d k_in)
 
-right_of : (a b : Bool) → (a && b) ≡ true → b ≡ true
-right_of true b is = is
-right_of false b is = absurd (cc)
-
 -- a set with a member is not empty
 some_fan : (fan j : ℕ) → has fan j ≡ true → fan ≢ 0
 some_fan fan j is none =
@@ -109,7 +106,7 @@ packets_size plan q j served t good =
     (All-filter_with (λ packet. nat_lt packet.arrival t && enters plan q served packet && has packet.fan j)
     (λ packet. IsOfSize (message_of plan packet)) plan.packets
     (λ k packet found passes. message_size plan packet ((good.packets k packet found).forwarded
-    (some_fan packet.fan j (right_of (nat_lt packet.arrival t && enters plan q served packet) (has packet.fan j) passes)))))
+    (some_fan packet.fan j (second_so (nat_lt packet.arrival t && enters plan q served packet) (has packet.fan j) passes)))))
 
 -- ---- the messages of a run
 

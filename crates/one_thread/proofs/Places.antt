@@ -1,5 +1,5 @@
 -- What a loop over the cards has done up to a place, with one place more.
-use Rattle.std.proofs.Common.{◌≡◌, ◌∙◌, ℕ, zero, suc, ◌+◌, ◌<◌, ◌&&◌, not, Bool, true, false, List, [], ◌∷◌, map, length, get_or, set, Option, Some}
+use Rattle.std.proofs.Common.{◌≡◌, ◌∙◌, ℕ, ◌+◌, ◌<◌, ◌&&◌, not, Bool, true, false, List, [], ◌∷◌, map, length, get_or, set, Option, Some}
 use Rattle.std.proofs.Common.{refl, sym, ap, subst, arith, inl, inr}
 use Rattle.std.specs.Prelude.{slice_get}
 use Rattle.std.specs.List.{range_with_len, list_all}
@@ -15,12 +15,6 @@ use Rattle.crossbar.specs.declared.cards.Taken.{Taken}
 use Rattle.card_core.specs.Cards.{CardState, IsAfter}
 use Rattle.card_worker.proofs.Passes.{get-set_same, get-set_other}
 use Rattle.one_thread.specs.ActingSteps.{ArePosted}
-
--- a list with another element at a place, where it is mapped to the same
-pub map-set : {X Y : Type 0} (f : X → Y) (xs : List X) (i : ℕ) (y d : X) → f y ≡ f (get_or xs i d) → map f (set xs i y) ≡ map f xs
-map-set f [] i y d same = refl
-map-set f (x ∷ xs) zero y d same = ap (λ z. z ∷ map f xs) same
-map-set f (x ∷ xs) (suc i) y d same = ap (λ zs. f x ∷ zs) (map-set f xs i y d same)
 
 -- what holds of each element up to a place
 pub each-more : {X : Type 0} (P : ℕ → X → Type 0) (k : ℕ) (xs : List X) (y : X) → k < length xs → ((i : ℕ) (x : X) → i < k → slice_get xs i ≡ Some x → P i x)

@@ -35,18 +35,14 @@ rising_to n coming is k j p r a b before =
     let second : d.slot ≡ r.arrival = ap (λ q. q.arrival) same' in
     omega arith
 
-slot_at : (coming : List Coming) (i : ℕ) (d : Coming) → i < length coming
-    → slice_index_or (map planned_of coming) i (planned_of d) ≡ planned_of (slice_index_or coming i d)
-slot_at coming i d inside = get_or-map planned_of coming i d (planned_of d) inside
-
 pub rises_on : (coming : List Coming) (i least : ℕ) (d : Coming) → RisesTo (map planned_of coming) i least → i < length coming
     → least ≤ (slice_index_or coming i d).slot → RisesTo (map planned_of coming) (i + 1) ((slice_index_or coming i d).slot + 1)
 rises_on coming i least d so_far inside from =
-    let same = ap (λ p. p.arrival) (slot_at coming i d inside) in
+    let same = ap (λ p. p.arrival) (get_or-map planned_of coming i d (planned_of d) inside) in
     subst (λ a. RisesTo (map planned_of coming) (i + 1) (a + 1)) same (rises_more (map planned_of coming) i least (planned_of d) so_far (omega arith))
 
 pub rises_no_more : (n : ℕ) (coming : List Coming) (i least : ℕ) (d : Coming) → RisesTo (map planned_of coming) i least → i < length coming
     → length (map planned_of coming) ≡ length coming → (slice_index_or coming i d).slot < least → IsInput n coming → ⊥
 rises_no_more n coming i least d so_far inside long less is =
-    let same = ap (λ p. p.arrival) (slot_at coming i d inside) in
+    let same = ap (λ p. p.arrival) (get_or-map planned_of coming i d (planned_of d) inside) in
     rises_not (map planned_of coming) i least (planned_of d) so_far (omega arith) (omega arith) (rising_to n coming is)

@@ -1,12 +1,9 @@
 -- Lists by their places.
-use Rattle.std.proofs.Common.{◌≡◌, ◌∙◌, ℕ, ◌<◌, List, length, slice_index_or, slice_set, inl, inr}
+use Rattle.std.proofs.Common.{◌≡◌, ℕ, ◌<◌, List, length, slice_index_or, slice_set, inl, inr}
 use Rattle.std.proofs.lemmas.Bool.{cases_eq}
-use Rattle.std.proofs.lemmas.List.{get_or_default, get_or-set_same, get_or-set_other}
+use Rattle.std.proofs.lemmas.List.{get_or-set_same, get_or-set_other}
 
 module _ {X : Type 0} where
-  -- what an index found is at its place
-  pub found-at : (d : X) (xs : List X) (i : ℕ) (x : X) → i < length xs → x ≡ slice_index_or xs i x → x ≡ slice_index_or xs i d
-  found-at d xs i x inside is = is ∙ get_or_default xs i x d inside
 
   -- what holds of the new one at its place, and of the others, holds of all
   pub set-case : (d : X) (P : ℕ → X → Type 0) (xs : List X) (i : ℕ) (x : X) → i < length xs → P i x → (k : ℕ) → ((k ≡ i → ⊥) → P k (slice_index_or xs k d))

@@ -1,8 +1,8 @@
 -- Elements of a list whose texts differ, and a walk that compares each with those before it.
-use Rattle.std.proofs.Common.{◌≡◌, ◌<◌, ◌≤◌, ◌+◌, ℕ, List, Bool, true, false, length, get_or, take, sym, ◌∙◌, ap, arith, inl, inr}
+use Rattle.std.proofs.Common.{◌≡◌, ◌<◌, ◌≤◌, ◌+◌, ℕ, List, true, false, length, get_or, take, sym, ◌∙◌, ap, arith, inl, inr}
 use Rattle.std.specs.Prelude.{bytes_eq}
 use Rattle.std.specs.List.{list_any}
-use Rattle.std.proofs.lemmas.Bool.{cases_lt}
+use Rattle.std.proofs.lemmas.Bool.{cases_lt, both_ways}
 use Rattle.std.proofs.lemmas.List.{get_or-take, get_or_default, length-take-le}
 use Rattle.std.proofs.lemmas.List.Folds.{Any-from_list_any, list_any_at}
 use Rattle.std.proofs.lemmas.Slice.Eq.{bytes_eq-Decides}
@@ -20,9 +20,6 @@ found_before text xs i here within any =
     let below : a.0 < i = omega (arith, a.2, length-take-le i xs within) in
     (a.0, a.1, below, ap text (sym (get_or-take i xs a.0 a.1 below) ∙ a.3) ∙ (bytes_eq-Decides (text a.1) here).0 a.4)
 
-not_both : (b : Bool) → b ≡ true → b ≡ false → ⊥
-not_both b is isnt = absurd (cc)
-
 -- where its text is none of theirs, it differs too
 pub differ_more : {X : Type 0} (text : X → List ℕ) (xs : List X) (i : ℕ) (d : X) → DifferBelow text i xs → i < length xs
     → list_any (λ x. bytes_eq (text x) (text (get_or xs i d))) (take i xs) ≡ false
@@ -36,5 +33,5 @@ differ_more text xs i d differ within none j k e before below same =
           let at : text (get_or (take i xs) j e) ≡ text (get_or xs i d) = ap text (get_or-take i xs j e less)
           ∙ (same ∙ (ap (λ n. text (get_or xs n e)) is ∙ ap text (get_or_default xs i e d within))) in
           let short : j < length (take i xs) = omega (arith, length-take-le i xs (omega arith)) in
-          not_both _ (list_any_at (λ x. bytes_eq (text x) (text (get_or xs i d))) (take i xs) j e short ((bytes_eq-Decides _ _).1 at)) none
+          both_ways _ none (list_any_at (λ x. bytes_eq (text x) (text (get_or xs i d))) (take i xs) j e short ((bytes_eq-Decides _ _).1 at))
     ]

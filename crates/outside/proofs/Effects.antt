@@ -2,9 +2,10 @@
 use Rattle.std.proofs.Common.{◌≡◌, ◌≢◌, ◌+◌, ℕ, List, [], ◌++◌, take, drop, Bool, true, false, cond, Option, Some, None, refl, sym, ◌∙◌, ap, append_assoc}
 use Rattle.std.specs.Prelude.{option_map, bytes_eq, IfSome, ◌||◌, Result, Ok, Err}
 use Rattle.std.proofs.Math.Seq.{take-add}
-use Rattle.std.proofs.lemmas.Bool.{false_from_ne_true}
+use Rattle.std.proofs.lemmas.Bool.{false_from_ne_true, or_right}
 use Rattle.std.proofs.lemmas.List.{append-nil}
 use Rattle.std.proofs.lemmas.Slice.Eq.{bytes_eq-Decides}
+use Rattle.std.proofs.Math.Bool.{or_self_left}
 use Rattle.outside.specs.Contents.{Contents, after_write, begin_file, append_file, append_out, append_err}
 
 -- a name is itself, and no other
@@ -54,13 +55,9 @@ again_at : (here : Bool) (o : Option (List ℕ)) → cond here (Some []) (cond h
 again_at true o = refl
 again_at false o = refl
 
-begun_again : (here was : Bool) → (here || (here || was)) ≡ (here || was)
-begun_again true was = refl
-begun_again false was = refl
-
 pub begin_file-begin_file : (name : List ℕ) (c : Contents) → begin_file name (begin_file name c) ≡ begin_file name c
 begin_file-begin_file name c =
-    λ j. record { file = λ n. again_at (bytes_eq n name) (c.file n) j; begun = λ n. begun_again (bytes_eq n name) (c.begun n) j; out = c.out; err = c.err }
+    λ j. record { file = λ n. again_at (bytes_eq n name) (c.file n) j; begun = λ n. or_self_left (bytes_eq n name) (c.begun n) j; out = c.out; err = c.err }
 
 emptied_at : (here : Bool) (o : Option (List ℕ)) (more : List ℕ)
     → cond here (Some []) (cond here (option_map (λ bytes. bytes ++ more) o) o) ≡ cond here (Some []) o
@@ -95,13 +92,9 @@ file-append_file-begin_file name more c = file-append_file name more [] (begin_f
 pub begun-begin_file : (name : List ℕ) (c : Contents) → (begin_file name c).begun name ≡ true
 begun-begin_file name c = rw (bytes_eq-same name) refl
 
-begun_or : (here was : Bool) → was ≡ true → (here || was) ≡ true
-begun_or true was is = refl
-begun_or false was is = is
-
 -- a name that was begun stays begun
 pub begun-begin_file-stays : (name n : List ℕ) (c : Contents) → c.begun n ≡ true → (begin_file name c).begun n ≡ true
-begun-begin_file-stays name n c is = begun_or (bytes_eq n name) (c.begun n) is
+begun-begin_file-stays name n c is = or_right (bytes_eq n name) (c.begun n) is
 
 pub begun-begin_file-other : (name n : List ℕ) (c : Contents) → n ≢ name → (begin_file name c).begun n ≡ c.begun n
 begun-begin_file-other name n c other = rw (bytes_eq-other n name other) refl

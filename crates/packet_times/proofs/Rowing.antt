@@ -7,14 +7,13 @@ use Rattle.std.proofs.lemmas.List.{append-nil, map-append, take_more, take_all}
 use Rattle.std.proofs.lemmas.List.Concat.{flat_map-append}
 use Rattle.std.proofs.lemmas.List.Elements.{filter-append}
 use Rattle.std.proofs.lemmas.List.FromFn.{get_or-enumerate_from, length-enumerate_from}
-use Rattle.std.proofs.lemmas.Option.{get_or_from_slice_get}
+use Rattle.std.proofs.lemmas.Option.{get_or_from_slice_get, slice_get_within}
 use Rattle.rotating_pick.specs.PortSets.{Has}
 use Rattle.eslip_rounds.specs.Schedulers.{Scheduler}
 use Rattle.slot_histories.specs.Tests.{has}
 use Rattle.card_core.specs.declared.plan.Planned.{Planned}
 use Rattle.card_core.specs.Plans.{no_packet}
 use Rattle.card_core.specs.Queues.{is_routed}
-use Rattle.card_core.proofs.Ascending.{some_lt}
 use Rattle.switch_plan.specs.GoodPlans.{SwitchPlan}
 use Rattle.run_laws.specs.Runs.{ports_of, card_at, parts_under}
 use Rattle.packet_departures.specs.Departures.{departure_under}
@@ -89,7 +88,7 @@ module _ (g : ℕ → Planned → List (List (List ℕ))) (ps : List Planned) (o
   walk-more k p new at was more =
       let h : ℕ × Planned → List (List (List ℕ)) = λ q. g q.0 q.1 in
       let pairs = enumerate_from 0 ps in
-      let inside = some_lt ps k p at in
+      let inside = slice_get_within ps k p at in
       let within : k < length pairs = subst (λ n. k < n) (sym (length-enumerate_from 0 ps)) inside in
       let here : slice_index_or pairs k (0, no_packet) ≡ (k, p) = get_or-enumerate_from 0 ps k (0, no_packet) inside
       ∙ ap (λ (n : ℕ). (n, slice_index_or ps k no_packet)) (zero-add k) ∙ ap (λ (x : Planned). (k, x)) (get_or_from_slice_get ps k p no_packet at) in

@@ -4,6 +4,7 @@ use Rattle.std.proofs.Common.{cond, count_by, sum_by, Option, refl, zero-add, sy
 use Rattle.std.specs.List.{list_any, range_with_len}
 use Rattle.std.proofs.lemmas.Bool.{cases_eq, cases_Bool, cond-true, cond-false}
 use Rattle.std.proofs.lemmas.List.Sums.{sum_by-cons, length-filter}
+use Rattle.std.proofs.Math.Bool.{or_self}
 use Rattle.eslip_rounds.specs.Schedulers.{Scheduler}
 use Rattle.slot_histories.specs.Tests.{has}
 use Rattle.card_core.specs.declared.plan.Planned.{Planned}
@@ -61,10 +62,6 @@ tells-aside : (s : PacketState) (i k : ℕ) (p : Planned) (state : PacketState) 
 unfolding aside_row
 tells-aside s i k p state = refl
 
-both-or : (b : Bool) → b || b ≡ b
-both-or true = refl
-both-or false = refl
-
 or-false : (b : Bool) → b || false ≡ b
 or-false true = refl
 or-false false = refl
@@ -74,7 +71,7 @@ module _ {A : Type 0} (test : A → Bool) (f : ℕ → A) (b : Bool) (same : (j 
   any-same [] some = absurd (omega (arith, some))
   any-same (j ∷ []) some = ap (λ v. v || false) (same j) ∙ or-false b
   any-same (j ∷ k ∷ js) some =
-      ap (λ v. v || list_any test (map f (k ∷ js))) (same j) ∙ ap (λ v. b || v) (any-same (k ∷ js) (omega arith)) ∙ both-or b
+      ap (λ v. v || list_any test (map f (k ∷ js))) (same j) ∙ ap (λ v. b || v) (any-same (k ∷ js) (omega arith)) ∙ or_self b
 
   count-same : (js : List ℕ) → count_by test (map f js) ≡ (if b then length js else 0)
   count-same [] = none b where

@@ -5,7 +5,7 @@ use Rattle.std.proofs.lemmas.Bool.{cases_eq, eqb-true, eq-eqb, lt-ltb, both_ways
 use Rattle.std.proofs.lemmas.List.{get_or_default, length-replicate}
 use Rattle.std.proofs.lemmas.List.Sums.{count_by-le-length, count_by_more_yes, count_by_more_no}
 use Rattle.std.proofs.lemmas.Nat.Bits.{bit_at-pow_other}
-use Rattle.std.proofs.lemmas.Option.{get_or_from_slice_get, slice_get-get_or}
+use Rattle.std.proofs.lemmas.Option.{get_or_from_slice_get, slice_get-get_or, slice_get_within}
 use Rattle.rotating_pick.specs.PortSets.{Has}
 use Rattle.rotating_pick.specs.declared.kinds.Kind.{Kind}
 use Rattle.rotating_pick.specs.declared.kinds.Kind.TheVariants.{Uni, Multi}
@@ -16,7 +16,6 @@ use Rattle.slot_histories.specs.Tests.{has}
 use Rattle.card_core.specs.declared.plan.Planned.{Planned}
 use Rattle.card_core.specs.Plans.{OfOutput, OfLevel, IsPlanned, is_queue, queue_of, level_of, kind_of, last_port, no_packet}
 use Rattle.card_core.proofs.Arriving.{is_queue-refl}
-use Rattle.card_core.proofs.Ascending.{some_lt}
 use Rattle.card_core.proofs.Passing.{is_queue-same}
 use Rattle.card_core.proofs.Plenty.{few_packets}
 use Rattle.switch_plan.specs.GoodPlans.{SwitchPlan, IsGood}
@@ -92,7 +91,7 @@ module _ (scheduler : Scheduler) (plan : SwitchPlan) (slots k : ℕ) (p : Planne
     packets = (card_at plan flow.input).packets
 
     inside : k < length (card_at plan flow.input).packets
-    inside = some_lt (card_at plan flow.input).packets k p at
+    inside = slice_get_within (card_at plan flow.input).packets k p at
 
     here : slice_index_or (card_at plan flow.input).packets k no_packet ≡ p
     here = get_or_from_slice_get (card_at plan flow.input).packets k p no_packet at

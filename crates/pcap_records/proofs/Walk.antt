@@ -7,6 +7,7 @@ use Rattle.std.proofs.lemmas.List.{append-nil, drop_all, length-drop, map_push, 
 use Rattle.std.proofs.lemmas.List.Concat.{flat_map-append}
 use Rattle.std.proofs.lemmas.List.Elements.{All-nil, All-push}
 use Rattle.std.proofs.lemmas.List.Sums.{sum_by_push}
+use Rattle.std.proofs.ByRecursion.{All-push as every_push}
 use Rattle.pcap_records.specs.declared.capture.Stored.{Stored}
 use Rattle.pcap_records.specs.declared.fault.PcapFault.{PcapFault}
 use Rattle.pcap_records.specs.declared.fault.PcapFault.TheVariants.{ShortHeader, BadMagic, BadVersion, BadLink, CutRecord, LongRecord, OutOfMemory}
@@ -28,10 +29,6 @@ pub record IsReadBefore (order : Order) (nano : Bool) (file : List ℕ) (at : �
   pub within : All (IsWithin file) packets
   pub place : at ≡ 24 + records_length packets
   pub in_order : AreInOrder packets
-
-each_push : {X : Type 0} (P : X → Type 0) (xs : List X) (x : X) → AllByRecursion P xs → P x → AllByRecursion P (xs ++ x ∷ [])
-each_push P [] x all p = (p, tt)
-each_push P (y ∷ ys) x all p = (all.0, each_push P ys x all.1 p)
 
 none_in_order : AreInOrder []
 none_in_order k d below = absurd (omega arith)
@@ -74,7 +71,7 @@ read_more order nano file at packets s before next =
     flat_map-append (record_bytes order) before.records (r ∷ []) ∙ ap (λ (w : List ℕ). front ++ w) (append-nil (record_bytes order r)) in
     record {
       records = before.records ++ r ∷ [];
-      each = each_push IsRecord before.records r before.each next.each;
+      each = every_push IsRecord before.records r before.each next.each;
       spelled =
           before.spelled ∙ ap (λ (w : List ℕ). front ++ w) next.spelled ∙ sym (append_assoc front (record_bytes order r) (drop (s.start + s.len) file))
           ∙ ap (λ (w : List ℕ). w ++ drop (s.start + s.len) file) (sym more);

@@ -2,6 +2,7 @@
 use Rattle.std.proofs.Common.{◌≡◌, ◌≢◌, ◌∙◌, ℕ, ◌+◌, ◌-◌, ◌^◌, ◌<◌, ◌&&◌, nat_le, Bool, true, false, List, length, Option, Some, None, refl, sym, ap}
 use Rattle.std.proofs.Common.{subst, arith, if◌then◌else◌, slice_get, slice_index, length-set, length-drop}
 use Rattle.std.proofs.lemmas.Bool.{ne_eqb}
+use Rattle.std.proofs.lemmas.List.{get_or-set_same, get_or-set_other}
 use Rattle.slot_match.specs.declared.matching.Served.{Served}
 use Rattle.card_core.specs.declared.plan.Planned.{Planned}
 use Rattle.card_core.specs.Plans.{Plan, Queue, IsPlanned, is_queue, queue_of, size_of, arriving}
@@ -13,7 +14,7 @@ use Rattle.queue_lengths.specs.Lengths.{IsQueue, place_of, count_of, length_befo
 use Rattle.queue_lengths.specs.Counters.{Counters, CountBefore, CountIn, arrival_in}
 use Rattle.queue_lengths.specs.Steps.{MayEnter, place_for, enters_at, lengths_with}
 use Rattle.queue_lengths.specs.declared.counting.Arrival.{Arrival}
-use Rattle.queue_lengths.proofs.Places.{place-inside, place-same, IsQueue-packet, set-here, set-other}
+use Rattle.queue_lengths.proofs.Places.{place-inside, place-same, IsQueue-packet}
 use Rattle.queue_lengths.proofs.Lengths.{gain, in_count, before_few}
 use Rattle.card_core.proofs.NextPackets.{next-none, next-there, next-one}
 
@@ -25,12 +26,11 @@ module _ (ports : ℕ) (lengths : List ℕ) (p : Planned) (q : Queue) (mine : Is
       ≡ slice_index lengths (place_of ports q) + (if same && entered then size_of p else 0)
   with_at true true e =
       let inside = place-inside ports (queue_of p) mine in
-      let here = set-here lengths (place_for ports p) (slice_index lengths (place_for ports p) + size_of p) (omega (arith, inside)) in
+      let here = get_or-set_same lengths (place_for ports p) (slice_index lengths (place_for ports p) + size_of p) 0 (omega (arith, inside)) in
       subst (λ r. slice_index (lengths_with ports lengths p true) (place_of ports r) ≡ slice_index lengths (place_of ports r) + size_of p)
       (sym (is_queue-same q (queue_of p) e)) here
   with_at true false e =
-      let other = set-other lengths (place_for ports p) (slice_index lengths (place_for ports p) + size_of p) (place_of ports q)
-      (λ at.
+      let other = get_or-set_other lengths (place_for ports p) (place_of ports q) (slice_index lengths (place_for ports p) + size_of p) 0 (λ at.
       let same = place-same ports q (queue_of p) is mine at in
       let yes' : is_queue q (queue_of p) ≡ true = subst (λ r. is_queue q r ≡ true) same (is_queue-refl q) in
       absurd (cc)) in

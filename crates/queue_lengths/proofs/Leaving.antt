@@ -6,6 +6,8 @@ use Rattle.std.proofs.lemmas.Bool.{cases_eq, eqb-true, ne_eqb, eq-eqb}
 use Rattle.std.proofs.lemmas.List.FromFn.{get_or-map-range_with_len}
 use Rattle.std.proofs.lemmas.Option.{same_Some}
 use Rattle.std.proofs.Math.ListN.{get_or-append}
+use Rattle.std.proofs.Math.Seq.{get_or-append_seam}
+use Rattle.std.proofs.lemmas.List.{get_or-set_same, get_or-set_other}
 use Rattle.rotating_pick.specs.PortSets.{Has, IsAmong}
 use Rattle.rotating_pick.specs.declared.kinds.Kind.{Kind}
 use Rattle.rotating_pick.specs.declared.kinds.Kind.TheVariants.{Uni, Multi}
@@ -27,14 +29,14 @@ use Rattle.card_core.specs.States.{IsNext}
 use Rattle.card_core.proofs.Remaining.{remaining-part}
 use Rattle.card_core.proofs.Passing.{kept-in, some_waiting, stays_of, is_queue-same}
 use Rattle.card_core.proofs.Accepting.{has-some, uni-in, multi-in, last-only, rest_output}
-use Rattle.card_core.proofs.Taking.{idle, leaves, queue_in-more, before-next, one_slot, last_part}
+use Rattle.card_core.proofs.Taking.{idle, leaves, queue_in-more, before-next, one_slot}
 use Rattle.card_core.proofs.Carding.{cases_pair}
 use Rattle.card_core.proofs.After.{last-power}
 use Rattle.card_core.proofs.Arriving.{is_queue-refl, other-output}
 use Rattle.queue_lengths.specs.Lengths.{IsQueue, place_of, count_of, length_in}
 use Rattle.queue_lengths.specs.Counters.{Counters, AreServable, CountBefore, CountIn}
 use Rattle.queue_lengths.specs.Steps.{is_last, place_left}
-use Rattle.queue_lengths.proofs.Places.{place-inside, place-same, queue_unicast, set-here, set-other}
+use Rattle.queue_lengths.proofs.Places.{place-inside, place-same, queue_unicast}
 
 kinds_differ : Uni ≡ Multi → ⊥
 kinds_differ e = absurd (cc)
@@ -54,7 +56,7 @@ servable-next plan served part before' now t inside = elim (cases_eq t (length s
   | inl last ↦
       let row : row_at plan (served ++ part ∷ []) t ≡ row_at plan served (length served) =
       ap (row_at plan (served ++ part ∷ [])) last ∙ row-more plan served (part ∷ []) (length served) (omega arith) in
-      let is : slice_index_or (served ++ part ∷ []) t None ≡ part = ap (λ n. slice_index_or (served ++ part ∷ []) n None) last ∙ last_part served part in
+      let is : slice_index_or (served ++ part ∷ []) t None ≡ part = ap (λ n. slice_index_or (served ++ part ∷ []) n None) last ∙ get_or-append_seam served part [] None in
       rw (row, is) now
   | inr other ↦
       let below : t < length served = omega (arith, one_slot served part) in
@@ -78,12 +80,11 @@ module _ (ports : ℕ) (lengths : List ℕ) (r q : Queue) (mine : IsQueue ports 
       ≡ slice_index lengths (place_of ports q) - (if same && last then 1 else 0)
   left_at true true e =
       let inside = place-inside ports r mine in
-      let here = set-here lengths (place_of ports r) (slice_index lengths (place_of ports r) - 1) (omega (arith, inside)) in
+      let here = get_or-set_same lengths (place_of ports r) (slice_index lengths (place_of ports r) - 1) 0 (omega (arith, inside)) in
       let same = is_queue-same q r e in
       subst (λ s. slice_index (lengths_left lengths (Some (place_of ports r))) (place_of ports s) ≡ slice_index lengths (place_of ports s) - 1) (sym same) here
   left_at true false e =
-      let other = set-other lengths (place_of ports r) (slice_index lengths (place_of ports r) - 1) (place_of ports q)
-      (λ at.
+      let other = get_or-set_other lengths (place_of ports r) (place_of ports q) (slice_index lengths (place_of ports r) - 1) 0 (λ at.
       let same = place-same ports q r is mine at in
       let yes' : is_queue q r ≡ true = subst (λ s. is_queue q s ≡ true) same (is_queue-refl q) in
       absurd (cc)) in

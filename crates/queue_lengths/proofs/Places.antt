@@ -1,7 +1,6 @@
 -- The places of the queues of an input: one for each, none twice.
-use Rattle.std.proofs.Common.{◌≡◌, ◌≢◌, ℕ, ◌^◌, ◌<◌, ◌==◌, Bool, true, false, List, length, refl, sym, ap, subst, arith, if◌then◌else◌, slice_index, slice_set}
+use Rattle.std.proofs.Common.{◌≡◌, ℕ, ◌^◌, ◌<◌, ◌==◌, Bool, true, false, refl, sym, ap, subst, arith, if◌then◌else◌}
 use Rattle.std.proofs.lemmas.Bool.{eqb-true}
-use Rattle.std.proofs.lemmas.List.{get_or-set_same, get_or-set_other}
 use Rattle.std.proofs.lemmas.Nat.Bits.{bit_at-pow_same}
 use Rattle.rotating_pick.specs.PortSets.{Has, HasSeveral}
 use Rattle.rotating_pick.specs.declared.limits.TheConstants.{LEVELS, MAX_PORTS}
@@ -53,8 +52,3 @@ unfolding fanned
 queue_multicast fan level several = queue-multicast (fanned fan level) several
 
 -- ---- lengths by their places
-pub set-here : (lengths : List ℕ) (place long : ℕ) → place < length lengths → slice_index (slice_set lengths place long) place ≡ long
-set-here lengths place long inside = get_or-set_same lengths place long 0 inside
-
-pub set-other : (lengths : List ℕ) (place long other : ℕ) → other ≢ place → slice_index (slice_set lengths place long) other ≡ slice_index lengths other
-set-other lengths place long other differ = get_or-set_other lengths place other long 0 differ

@@ -2,7 +2,7 @@
 use Rattle.std.proofs.Common.{◌≡◌, ◌∙◌, ℕ, suc, ◌<◌, not, nat_lt, Bool, true, false, List, [], ◌∷◌, ◌++◌, map, Option, None, slice_index_or, refl, sym}
 use Rattle.std.proofs.Common.{ap, subst, arith, if◌then◌else◌}
 use Rattle.std.specs.List.{list_any, list_all}
-use Rattle.std.proofs.lemmas.Bool.{not-false, or_parts}
+use Rattle.std.proofs.lemmas.Bool.{not-false, or_parts, false_from_ne_true}
 use Rattle.std.proofs.lemmas.List.{append-nil}
 use Rattle.std.proofs.lemmas.List.Folds.{list_all_at}
 use Rattle.std.proofs.lemmas.List.FromFn.{get_or-map-range_with_len}
@@ -26,7 +26,7 @@ use Rattle.card_core.specs.Queues.{waiting, remaining, after_part_of, before as 
 use Rattle.card_core.specs.Posts.{has_cells, row_at}
 use Rattle.card_core.specs.Grants.{serves, first_of, granted_to}
 use Rattle.card_core.specs.Deliveries.{messages_from}
-use Rattle.card_core.proofs.Remaining.{lacks, remaining-some}
+use Rattle.card_core.proofs.Remaining.{remaining-some}
 use Rattle.card_core.proofs.Passing.{kept-in}
 use Rattle.card_core.proofs.Accepting.{head-of, uni-from, multi-from}
 use Rattle.card_core.proofs.Granting.{all_granted}
@@ -97,7 +97,7 @@ module _ (scheduler : Scheduler) (plan : SwitchPlan) where
 
   pub last_more : (i t : ℕ) → i < ports_of plan → is_done_at (ports_of plan) (posts_under scheduler plan) t ≡ true
       → (posts_under scheduler plan i t).more ≡ false
-  last_more i t inside done = lacks (posts_under scheduler plan i t).more (no_more i t inside done)
+  last_more i t inside done = false_from_ne_true (posts_under scheduler plan i t).more (no_more i t inside done)
 
 module _ (scheduler : Scheduler) (scheduling : IsScheduler scheduler) (plan : SwitchPlan) (good : IsGood plan) where
   pub last_row : (i t : ℕ) → i < ports_of plan → is_done_at (ports_of plan) (posts_under scheduler plan) t ≡ true

@@ -3,10 +3,11 @@ use Rattle.std.proofs.Common.{◌≡◌, ◌∙◌, ℕ, zero, suc, ◌+◌, ◌
 use Rattle.std.proofs.Common.{Some, None, slice_index_or, refl, sym, ap, subst, arith, if◌then◌else◌, append_assoc}
 use Rattle.std.specs.List.{range_with_len, flat_map}
 use Rattle.std.specs.Option.{option_map, option_to_list}
-use Rattle.std.proofs.lemmas.Bool.{and_from, and_parts, eqb-true, eq-eqb}
+use Rattle.std.proofs.lemmas.Bool.{and_from, and_parts, eqb-true, eq-eqb, false_from_ne_true}
 use Rattle.std.proofs.lemmas.List.{append-nil, map-append, take-append-drop}
 use Rattle.std.proofs.lemmas.List.Elements.{filter-append}
 use Rattle.std.proofs.Math.Seq.{take-append_seam}
+use Rattle.std.proofs.lemmas.Option.{get_or_from_slice_get}
 use Rattle.rotating_pick.specs.declared.kinds.Kind.{Kind}
 use Rattle.rotating_pick.specs.declared.kinds.Kind.TheVariants.{Uni, Multi}
 use Rattle.eslip_rounds.specs.Decisions.{is_kind}
@@ -31,8 +32,6 @@ use Rattle.card_core.specs.Queues.{waiting, rest_of, before as queue_before, que
 use Rattle.card_core.specs.Posts.{granted_at}
 use Rattle.card_core.specs.Grants.{serves, first_of, granted_to, to_output, begun_for, packets_to}
 use Rattle.card_core.specs.Deliveries.{is_of_flow, flow_cells}
-use Rattle.card_core.proofs.Ascending.{get_some}
-use Rattle.card_core.proofs.Remaining.{lacks}
 use Rattle.card_core.proofs.Passing.{AreOf, AreOf-drop, kept-in}
 use Rattle.card_core.proofs.Granting.{granted_is, first_granted}
 use Rattle.card_core.proofs.Messaging.{messages-are}
@@ -78,7 +77,7 @@ flow_one i level kind cell from = ap (λ (b : Bool). if b then cell ∷ [] else 
 
 flow_none : (i level : ℕ) (kind : Kind) (cell : Cell) → (IsFrom i level kind cell → ⊥) → flow_cells i level kind (cell ∷ []) ≡ []
 flow_none i level kind cell other =
-    ap (λ (b : Bool). if b then cell ∷ [] else []) (lacks (is_of_flow i level kind cell) (λ is. other (flow_is i level kind cell is)))
+    ap (λ (b : Bool). if b then cell ∷ [] else []) (false_from_ne_true (is_of_flow i level kind cell) (λ is. other (flow_is i level kind cell is)))
 
 -- ---- the first cell of a queue
 first_list : (card : Plan) (w : List FanCell) → option_to_list (option_map (cell_named card) (first_name w)) ≡ named card (first_of w)
@@ -94,7 +93,7 @@ firsts_are : (i j level : ℕ) (kind : Kind) (card : Plan) (w : List FanCell) �
     → FirstsAre i level kind card w
 firsts_are i j level kind card [] own are = tt
 firsts_are i j level kind card (c ∷ w) own are =
-    let at = get_some card.packets c.name.packet are.0.packet no_packet are.0.there in (
+    let at = get_or_from_slice_get card.packets c.name.packet are.0.packet no_packet are.0.there in (
       own,
       ap (λ p. level_of (queue_of p)) at ∙ ap level_of (sym are.0.queue) ∙ level_to j level kind,
       ap (λ p. kind_of (queue_of p)) at ∙ ap kind_of (sym are.0.queue) ∙ kind_to j level kind,

@@ -2,6 +2,8 @@
 use Rattle.std.proofs.Common.{◌≡◌, ◌∙◌, ◌⊎◌, ◌≢◌, ℕ, ◌+◌, ◌<◌, ◌≤◌, List, [], ◌∷◌, ◌++◌, length, slice_index_or, ap, sym, subst, arith, inl, inr, length-append}
 use Rattle.std.specs.Prelude.{map, Result, Ok, Err, IfOk, IfErr, All}
 use Rattle.std.proofs.lemmas.List.{get_or_append_left, get_or_default, length-map}
+use Rattle.std.proofs.Math.Seq.{get_or-append_seam}
+use Rattle.std.proofs.Math.ListN.{get_or-map as get_or-map_same}
 use Rattle.pcap_records.specs.declared.fault.PcapFault.{PcapFault}
 use Rattle.pcap_records.specs.declared.fault.PcapFault.TheVariants.{OutOfMemory}
 use Rattle.pcap_records.specs.declared.capture.Capture.{Capture}
@@ -12,7 +14,6 @@ use Rattle.switch_plan.specs.Traffic.{CaptureFile, file_of, IsFile}
 use Rattle.switch_plan.specs.Refusals.{IsFirstFault}
 use Rattle.switch_plan.specs.ReadingSteps.{IsCaptureOf, IsReadAs, AreReadAs, AreCapturesOf}
 use Rattle.switch_plan.proofs.Sizes.{capture_short, capture_few}
-use Rattle.switch_plan.proofs.Mapping.{at_map, at_end}
 
 abbrev pub read_as : Capture → Result Capture PcapFault
 read_as capture = Ok capture
@@ -25,7 +26,7 @@ capture_at files answers rest captures read whole k bytes d inside within =
     let inside' : k < length (map read_as captures) = omega (arith, length-map captures read_as) in
     subst (IsReadAs (slice_index_or files k bytes))
     (ap (λ xs. slice_index_or xs k (read_as d)) (sym whole) ∙ get_or_append_left (map read_as captures) rest (read_as d) k inside'
-    ∙ at_map read_as captures k d)
+    ∙ get_or-map_same read_as captures k d)
     (read.each k bytes (read_as d) within)
 
 pub all_read : (files : List (List ℕ)) (answers : List (Result Capture PcapFault)) (captures : List Capture) → AreReadAs files answers
@@ -55,7 +56,7 @@ first_fault files answers rest captures fault read whole =
     subst (IsReadAs (slice_index_or files (length captures) bytes))
     (ap (λ xs. slice_index_or xs (length captures) (Err fault)) (sym whole)
     ∙ ap (λ k. slice_index_or (map read_as captures ++ Err fault ∷ rest) k (Err fault)) (sym (length-map captures read_as))
-    ∙ at_end (map read_as captures) rest (Err fault) (Err fault))
+    ∙ get_or-append_seam (map read_as captures) (Err fault) rest (Err fault))
     (read.each (length captures) bytes (Err fault) within) in
     elim (here []) [
       | inl memory ↦ inl memory

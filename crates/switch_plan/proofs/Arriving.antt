@@ -2,13 +2,13 @@
 use Rattle.std.proofs.Common.{◌≡◌, ◌∙◌, ℕ, zero, suc, ◌+◌, ◌*◌, ◌<◌, ◌≤◌, List, [], ◌∷◌, length, slice_index_or, refl, ap, sym, subst, arith}
 use Rattle.std.specs.Prelude.{map, All}
 use Rattle.std.proofs.lemmas.List.{get_or_default, length-map}
+use Rattle.std.proofs.Math.ListN.{get_or-map as get_or-map_same}
 use Rattle.cell_cutter.specs.Messages.{cells_of_packet}
 use Rattle.line_pace.specs.declared.pace.Pace.{Pace}
 use Rattle.line_pace.specs.Arrivals.{base_of, CanCome, slots_taken}
 use Rattle.pcap_records.specs.declared.capture.Stored.{Stored}
 use Rattle.pcap_records.specs.Packets.{captured_in, packet_in, IsWithin}
 use Rattle.switch_plan.specs.Traffic.{stamp_of}
-use Rattle.switch_plan.proofs.Mapping.{at_map}
 use Rattle.switch_plan.proofs.Times.{no_stored, length-captured_in}
 
 pub taken_last : (slots : List ℕ) (k : ℕ) → length slots ≡ k + 1 → slots_taken slots ≡ slice_index_or slots k 0 + 1
@@ -42,6 +42,6 @@ all_can_come pace bytes packets within times short k d inside =
     subst (CanCome pace)
     (sym
     (get_or_default (map stamp_of own) k d (stamp_of (packet_in bytes no_stored)) inside
-    ∙ at_map stamp_of own k (packet_in bytes no_stored)
-    ∙ ap stamp_of (at_map (packet_in bytes) packets k no_stored)))
+    ∙ get_or-map_same stamp_of own k (packet_in bytes no_stored)
+    ∙ ap stamp_of (get_or-map_same (packet_in bytes) packets k no_stored)))
     (can_come pace bytes (slice_index_or packets k no_stored) (within k no_stored k_in) (times k no_stored k_in) (short k no_stored k_in))

@@ -2,12 +2,12 @@
 use Rattle.std.proofs.Common.{◌≡◌, ℕ, zero, suc, ◌+◌, ◌*◌, ◌<◌, ◌≤◌, List, [], ◌∷◌, length, slice_index_or, Option, None, Some, ap, subst, arith}
 use Rattle.std.specs.Prelude.{map, fold, All}
 use Rattle.std.proofs.lemmas.List.{length-map}
+use Rattle.std.proofs.Math.ListN.{get_or-map as get_or-map_same}
 use Rattle.line_pace.specs.Arrivals.{base_of}
 use Rattle.pcap_records.specs.declared.capture.Capture.{Capture}
 use Rattle.pcap_records.specs.declared.capture.Stored.{Stored}
 use Rattle.pcap_records.specs.Packets.{Packet, packet_in, packets_of}
 use Rattle.switch_plan.specs.Traffic.{CaptureFile, file_of, earlier, time_of, least_in, least_time, pace_from, pace_of}
-use Rattle.switch_plan.proofs.Mapping.{at_map}
 
 -- there is a least time, and it is no later than this
 abbrev IsBy : Option ℕ → ℕ → Type 0
@@ -46,7 +46,7 @@ by_packet : (least : Option ℕ) (captures : List Capture) (i k : ℕ) (c : Capt
 by_packet least [] i k c d inside within = absurd (omega arith)
 by_packet least (capture ∷ captures) zero k c d inside within =
     let times = map time_of (packets_of capture) in
-    let at : slice_index_or times k (time_of d) ≡ time_of (slice_index_or (packets_of capture) k d) = at_map time_of (packets_of capture) k d in
+    let at : slice_index_or times k (time_of d) ≡ time_of (slice_index_or (packets_of capture) k d) = get_or-map_same time_of (packets_of capture) k d in
     by_files (least_in least (packets_of capture)) (map file_of captures) (time_of (slice_index_or (packets_of capture) k d))
     (subst (IsBy (least_in least (packets_of capture))) at (by_each least times k (time_of d) (omega (arith, length-map (packets_of capture) time_of))))
 by_packet least (capture ∷ captures) (suc i) k c d inside within =
@@ -65,6 +65,6 @@ all_come pace_us captures i c inside k d within =
     let own = packet_in capture.bytes.items in
     let here = by_packet None captures i k c (own d) inside (omega (arith, length-map capture.packets.items own)) in
     let at : time_of (slice_index_or (packets_of capture) k (own d)) ≡ time_of (own (slice_index_or capture.packets.items k d)) =
-    ap time_of (at_map own capture.packets.items k d) in
+    ap time_of (get_or-map_same own capture.packets.items k d) in
     base_by pace_us (least_time (map file_of captures)) (time_of (own (slice_index_or capture.packets.items k d)))
     (subst (IsBy (least_time (map file_of captures))) at here)

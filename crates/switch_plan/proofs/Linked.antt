@@ -4,12 +4,12 @@ use Rattle.std.proofs.Common.{if◌then◌else◌, refl, ap, sym, subst, arith}
 use Rattle.std.specs.Prelude.{map, find, not, ◌==◌, option_map}
 use Rattle.std.proofs.lemmas.Bool.Decides.{nat_tests}
 use Rattle.std.proofs.lemmas.List.{length-map}
+use Rattle.std.proofs.Math.ListN.{get_or-map as get_or-map_same}
 use Rattle.pcap_records.specs.declared.capture.Capture.{Capture}
 use Rattle.pcap_records.specs.Format.{link_type}
 use Rattle.switch_plan.specs.declared.fault.PlanFault.TheVariants.{MixedLink}
 use Rattle.switch_plan.specs.Traffic.{CaptureFile, file_of}
 use Rattle.switch_plan.specs.Refusals.{first_link, mixed_links}
-use Rattle.switch_plan.proofs.Mapping.{at_map}
 
 -- an element that does not pass is passed over
 passed_over : {A : Type 0} (b : Bool) (x : A) (rest more : Option A) → (if b then Some x else rest) ≡ None → (rest ≡ None → more ≡ None)
@@ -51,8 +51,8 @@ links_of captures = map (λ capture. link_type capture.link) (map file_of captur
 link_at : (captures : List Capture) (k : ℕ) (capture : Capture) → capture ≡ slice_index_or captures k capture
     → slice_index_or (links_of captures) k (link_type capture.link) ≡ link_type capture.link
 link_at captures k capture is =
-    at_map (λ (file : CaptureFile). link_type file.link) (map file_of captures) k (file_of capture)
-    ∙ ap (λ (file : CaptureFile). link_type file.link) (at_map file_of captures k capture)
+    get_or-map_same (λ (file : CaptureFile). link_type file.link) (map file_of captures) k (file_of capture)
+    ∙ ap (λ (file : CaptureFile). link_type file.link) (get_or-map_same file_of captures k capture)
     ∙ ap (λ (c : Capture). link_type c.link) (sym is)
 
 links_long : (captures : List Capture) → length (links_of captures) ≡ length captures

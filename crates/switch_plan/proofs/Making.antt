@@ -1,6 +1,6 @@
 -- Lists that grow by one step after the other, and the sizes of made frames.
 use Rattle.std.proofs.Common.{◌≡◌, ◌∙◌, ℕ, zero, suc, ◌+◌, ◌-◌, List, [], ◌∷◌, ◌++◌, length, ap, sym, arith, append_assoc}
-use Rattle.std.specs.Prelude.{map, flat_map, Result, Ok, Err, OnOk}
+use Rattle.std.specs.Prelude.{map, flat_map}
 use Rattle.std.specs.List.{range_with_len}
 use Rattle.std.proofs.lemmas.List.{flat_map_more, length-replicate, map_push}
 use Rattle.std.proofs.lemmas.List.FromFn.{map-range_with_len_more}
@@ -33,10 +33,6 @@ map_next g f xs x k before here =
 pub frame_length : (ports h : ℕ) → length (made_frame ports h) ≡ made_length h
 unfolding made_frame frame_begin
 frame_length ports h = omega (arith, length-replicate {A = ℕ} (made_length h - 34) 0)
-
-pub on_ok : {T E P Q : Type 0} (r : Result T E) → OnOk r P → (P → Q) → OnOk r Q
-on_ok (Ok x) holds f = f holds
-on_ok (Err e) holds f = tt
 
 -- a record's header and its frame are the record
 pub record_made : (job : GenJob) (port k number : ℕ) (old mid new : List ℕ) → number ≡ made_number job.seed port k

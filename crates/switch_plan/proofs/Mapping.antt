@@ -4,18 +4,6 @@ use Rattle.std.specs.Prelude.{map}
 use Rattle.std.specs.List.{zip}
 use Rattle.std.proofs.lemmas.List.{map_push, take_more}
 
--- Each element is made of the one at its place.
-pub at_map : {A B : Type 0} (f : A → B) (xs : List A) (k : ℕ) (d : A) → slice_index_or (map f xs) k (f d) ≡ f (slice_index_or xs k d)
-at_map f [] zero d = refl
-at_map f [] (suc k) d = refl
-at_map f (x ∷ xs) zero d = refl
-at_map f (x ∷ xs) (suc k) d = at_map f xs k d
-
--- The element after a list is the first that follows.
-pub at_end : {A : Type 0} (xs ys : List A) (y d : A) → slice_index_or (xs ++ y ∷ ys) (length xs) d ≡ y
-at_end [] ys y d = refl
-at_end (x ∷ xs) ys y d = at_end xs ys y d
-
 -- Two lists side by side have at a place the elements of both,
 pub at_zip : {A B : Type 0} (xs : List A) (ys : List B) (k : ℕ) (d : A) (e : B) → k < length xs → k < length ys
     → slice_index_or (zip xs ys) k (d, e) ≡ (slice_index_or xs k d, slice_index_or ys k e)

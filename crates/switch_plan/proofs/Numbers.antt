@@ -8,6 +8,7 @@ use Rattle.std.proofs.lemmas.List.Sums.{sum_by-cons}
 use Rattle.std.proofs.lemmas.Option.{none-some, same_Some}
 use Rattle.std.proofs.lemmas.List.Folds.{fold-map}
 use Rattle.std.proofs.lemmas.List.{length-map}
+use Rattle.std.proofs.Math.ListN.{get_or-map as get_or-map_same}
 use Rattle.pcap_records.specs.declared.link.Link.{Link}
 use Rattle.pcap_records.specs.Packets.{Packet}
 use Rattle.forward_table.specs.declared.route_lines.Route.{Route}
@@ -17,7 +18,6 @@ use Rattle.forward_table.specs.Routing.{serving_line, route_of}
 use Rattle.forward_table.proofs.Serving.{Contains-serving}
 use Rattle.frame_fields.specs.Destination.{destination_of}
 use Rattle.switch_plan.specs.Traffic.{is_oversize, is_unrouted, route_for, fan_of}
-use Rattle.switch_plan.proofs.Mapping.{at_map}
 
 pub count_map : {A B : Type 0} (p : B → Bool) (f : A → B) (xs : List A) → count_by p (map f xs) ≡ count_by (λ x. p (f x)) xs
 count_map p f xs = fold-map (λ a x. a + cond (p x) 1 0) f 0 xs
@@ -39,7 +39,7 @@ routed_by n table address route (Some line) routes is e =
     let there = Contains-serving table address line is in
     let k = there.0 in
     let inside : k < length table = let h = there.1 in omega (arith, length-map table (λ (l : RouteLine). l.route)) in
-    subst (IsRouteOf n) (sym (at_map (λ (l : RouteLine). l.route) table k line) ∙ there.2 ∙ same_Some line.route route e) (routes k line inside)
+    subst (IsRouteOf n) (sym (get_or-map_same (λ (l : RouteLine). l.route) table k line) ∙ there.2 ∙ same_Some line.route route e) (routes k line inside)
 
 pub routed : (n : ℕ) (table : List RouteLine) (address : Option ℕ) (route : Route) → AreRoutesOf n table → route_of table address ≡ Some route
     → IsRouteOf n route

@@ -9,6 +9,7 @@ use Rattle.std.proofs.lemmas.List.{same_lists, get_or_default, length-map}
 use Rattle.std.proofs.lemmas.List.Sums.{sum_by-cons}
 use Rattle.std.proofs.lemmas.Nat.{pow_pos}
 use Rattle.std.proofs.lemmas.Simd.{map-map}
+use Rattle.std.proofs.Math.ListN.{get_or-map as get_or-map_same}
 use Rattle.line_pace.specs.declared.pace.Pace.{Pace}
 use Rattle.line_pace.specs.Arrivals.{slots_taken}
 use Rattle.pcap_records.specs.declared.link.Link.{Link}
@@ -29,7 +30,7 @@ use Rattle.switch_plan.specs.Totals.{most_for, slots_of}
 use Rattle.switch_plan.specs.ReadingSteps.{IsCaptureOf}
 use Rattle.switch_plan.specs.CountingSteps.{IsForwardable, AreCountable}
 use Rattle.switch_plan.specs.CardSteps.{slots_at, traffic_at, is_long, IsCardFor}
-use Rattle.switch_plan.proofs.Mapping.{at_map, at_zip, length_zip}
+use Rattle.switch_plan.proofs.Mapping.{at_zip, length_zip}
 use Rattle.switch_plan.proofs.Times.{no_stored, length-captured_in}
 use Rattle.switch_plan.proofs.Rising.{arrivals_rise, slots_long, rising_apart, rising_below, rising_few, zip_right}
 use Rattle.switch_plan.proofs.Numbers.{count_map, count_left, routed, aside_split}
@@ -105,18 +106,18 @@ module _ (ports depth : ℕ) (table : List RouteLine) (pace : Pace) (port : ℕ)
       let in_pairs : k < length (map f pairs) =
       omega (arith, length-map pairs f, length_zip (packets_of capture) (slots_at pace capture) (stored_long ∙ sym taken_long), stored_long) in
       let same : unplaced (slice_index_or card.packets.items k d) ≡ planned table capture.link (packet_in capture.bytes.items s) slot =
-      sym (at_map unplaced card.packets.items k d)
+      sym (get_or-map_same unplaced card.packets.items k d)
       ∙ ap (λ xs. slice_index_or xs k (unplaced d)) is.packets.packets_are
       ∙ get_or_default (map f pairs) k (unplaced d) (f (own, 0)) in_pairs
-      ∙ at_map f pairs k (own, 0)
+      ∙ get_or-map_same f pairs k (own, 0)
       ∙ ap f (at_zip (packets_of capture) (slots_at pace capture) k own 0 (omega (arith, stored_long)) (omega (arith, taken_long)))
-      ∙ ap (λ p. planned table capture.link p slot) (at_map (packet_in capture.bytes.items) capture.packets.items k no_stored) in
+      ∙ ap (λ p. planned table capture.link p slot) (get_or-map_same (packet_in capture.bytes.items) capture.packets.items k no_stored) in
       let place : (slice_index_or card.packets.items k d).start ≡ s.start =
-      sym (at_map (λ (p : Planned). p.start) card.packets.items k d)
+      sym (get_or-map_same (λ (p : Planned). p.start) card.packets.items k d)
       ∙ ap (λ xs. slice_index_or xs k d.start) is.packets.places
       ∙ get_or_default (map (λ (s : Stored). s.start) capture.packets.items) k d.start no_stored.start
       (omega (arith, length-map capture.packets.items (λ (s : Stored). s.start)))
-      ∙ at_map (λ (s : Stored). s.start) capture.packets.items k no_stored in
+      ∙ get_or-map_same (λ (s : Stored). s.start) capture.packets.items k no_stored in
       record {
         nanos = ap (λ (p : Planned). p.nanos) same;
         start = place;
@@ -215,10 +216,10 @@ module _ (ports depth : ℕ) (table : List RouteLine) (pace : Pace) (port : ℕ)
       ∙ ap (λ n. take s.len (drop n card.bytes.items)) from.start
       ∙ ap (λ (b : List ℕ). take s.len (drop s.start b)) is.kept in
       get_or_default (map (bytes_of (plan_of card)) card.packets.items) k d (bytes_of (plan_of card) no_packet) inside
-      ∙ at_map (bytes_of (plan_of card)) card.packets.items k no_packet
+      ∙ get_or-map_same (bytes_of (plan_of card)) card.packets.items k no_packet
       ∙ body
-      ∙ sym (ap (λ (x : Packet). x.bytes) (at_map (packet_in capture.bytes.items) capture.packets.items k no_stored))
-      ∙ sym (at_map (λ (x : Packet). x.bytes) (packets_of capture) k own)
+      ∙ sym (ap (λ (x : Packet). x.bytes) (get_or-map_same (packet_in capture.bytes.items) capture.packets.items k no_stored))
+      ∙ sym (get_or-map_same (λ (x : Packet). x.bytes) (packets_of capture) k own)
       ∙ sym (get_or_default (map (λ (x : Packet). x.bytes) (packets_of capture)) k d own.bytes
       (omega (arith, length-map (packets_of capture) (λ (x : Packet). x.bytes), stored_long, card_long))))
 
@@ -258,7 +259,7 @@ module _ (ports depth : ℕ) (table : List RouteLine) (pace : Pace) (port : ℕ)
       let here : k < length records = let e = ap length read.file.packets_are in
       omega (arith, e, length-map records (packet_of capture.nano), stored_long, card_long) in
       let same : packet_in capture.bytes.items s ≡ slice_index_or (map (packet_of capture.nano) records) k own =
-      sym (at_map (packet_in capture.bytes.items) capture.packets.items k no_stored) ∙ ap (λ xs. slice_index_or xs k own) read.file.packets_are in
+      sym (get_or-map_same (packet_in capture.bytes.items) capture.packets.items k no_stored) ∙ ap (λ xs. slice_index_or xs k own) read.file.packets_are in
       let stored : s.nanos % 1000 ≡ 0 =
       ap (λ (p : Packet). p.nanos % 1000) same ∙ micros_are capture.nano micro records k own here in
       ap (λ n. n % 1000) from.nanos ∙ stored

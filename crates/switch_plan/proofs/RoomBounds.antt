@@ -10,6 +10,7 @@ use Rattle.std.proofs.lemmas.Nat.Bits.{bit_at-zero, bit_at-suc, bit_at_lowest}
 use Rattle.std.proofs.lemmas.List.Elements.{All-nil, All-append, All-map, All-head, All-tail}
 use Rattle.std.proofs.lemmas.List.Sums.{sum_by-cons, sum_by-le-sum_by}
 use lib.Count.{ones_step}
+use Rattle.std.specs.Cmp.{first_so}
 use Rattle.cell_cutter.specs.Messages.{cells_of_packet}
 use Rattle.card_core.specs.declared.plan.Planned.{Planned}
 use Rattle.switch_plan.specs.Totals.{most_for, goes_to, message_length, flow_of, bytes_to, work_of, total_work, greatest_message, sizes_for}
@@ -78,9 +79,6 @@ packet_room_few output ports packets work =
     let few = most_few ports in let within = messages_within output packets in omega arith
 
 -- ---- sizes
-and_first : (a b : Bool) → (a && b) ≡ true → a ≡ true
-and_first true b both = refl
-and_first false b both = both
 
 pick_within : (b : Bool) (x y most : ℕ) → (b ≡ true → x ≤ most) → y ≤ most → (if b then x else y) ≤ most
 pick_within true x y most one other = one refl
@@ -97,7 +95,7 @@ size_step : (output flow most : ℕ) (p : Planned) → IsForwardable p → most 
     → (if goes_to output p && (flow_of p == flow) then max most (message_length p) else most) ≤ 65551
 size_step output flow most p may few =
     pick_within (goes_to output p && (flow_of p == flow)) (max most (message_length p)) most 65551
-    (λ both. let short = may (goes_some output p (and_first (goes_to output p) (flow_of p == flow) both)) in omega arith) few
+    (λ both. let short = may (goes_some output p (first_so (goes_to output p) (flow_of p == flow) both)) in omega arith) few
 
 size_few : (output flow most : ℕ) (packets : List Planned) → All IsForwardable packets → most ≤ 65551
     → fold (λ most packet. if goes_to output packet && (flow_of packet == flow) then max most (message_length packet) else most) most packets ≤ 65551

@@ -3,12 +3,12 @@ use Rattle.std.proofs.Common.{◌≡◌, ◌∙◌, ℕ, zero, suc, ◌+◌, ◌
 use Rattle.std.specs.Prelude.{map, fold, All}
 use Rattle.std.specs.List.{AllByRecursion}
 use Rattle.std.proofs.lemmas.List.{length-map, length-take-le}
+use Rattle.std.proofs.Math.ListN.{get_or-map as get_or-map_same}
 use Rattle.pcap_records.specs.declared.capture.Capture.{Capture}
 use Rattle.pcap_records.specs.declared.capture.Stored.{Stored}
 use Rattle.pcap_records.specs.Packets.{Packet, captured_in, packet_in, packets_of, AreInOrder, IsWithin}
 use Rattle.pcap_records.specs.Format.{Record, IsRecord, packet_of}
 use Rattle.switch_plan.specs.Traffic.{IsFile, file_of}
-use Rattle.switch_plan.proofs.Mapping.{at_map}
 use Rattle.switch_plan.proofs.Times.{no_stored, length-captured_in}
 
 records_short : (nano : Bool) (records : List Record) → AllByRecursion IsRecord records → (k : ℕ) (d : Packet) → k < length records
@@ -27,7 +27,7 @@ capture_short bytes capture file within k d inside =
     let short = records_short capture.nano file.records file.each k own
     (omega (arith, long, length-map capture.packets.items (packet_in capture.bytes.items))) in
     let same : slice_index_or (map (packet_of capture.nano) file.records) k own ≡ packet_in capture.bytes.items stored =
-    ap (λ xs. slice_index_or xs k own) (sym file.packets_are) ∙ at_map (packet_in capture.bytes.items) capture.packets.items k d in
+    ap (λ xs. slice_index_or xs k own) (sym file.packets_are) ∙ get_or-map_same (packet_in capture.bytes.items) capture.packets.items k d in
     let here : length (captured_in capture.bytes.items stored) ≤ 262144 = subst (λ (p : Packet). length p.bytes ≤ 262144) same short in
     omega (arith, here, length-captured_in capture.bytes.items stored (within k d inside))
 

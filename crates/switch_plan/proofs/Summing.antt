@@ -5,6 +5,7 @@ use Rattle.std.proofs.lemmas.Nat.{ones_le_self}
 use Rattle.std.proofs.lemmas.List.Sums.{fold_more}
 use Rattle.std.proofs.lemmas.List.{length-map}
 use lib.Count.{ones_step}
+use Rattle.std.proofs.Math.ListN.{get_or-map as get_or-map_same}
 use Rattle.cell_cutter.specs.Messages.{cells_of_packet}
 use Rattle.card_core.specs.declared.plan.Planned.{Planned}
 use Rattle.card_core.specs.declared.plan.CardPlan.{CardPlan}
@@ -12,7 +13,6 @@ use Rattle.card_core.specs.Plans.{no_packet}
 use Rattle.switch_plan.specs.Totals.{work_of, total_work, total_aside, bytes_to, goes_to, body_room_for, packet_room_for, slots_of, greatest_slots}
 use Rattle.switch_plan.specs.CountingSteps.{AreCountable, packets_of_cards}
 use Rattle.switch_plan.specs.CardSteps.{is_long}
-use Rattle.switch_plan.proofs.Mapping.{at_map}
 use Rattle.switch_plan.proofs.Arriving.{taken_last}
 
 -- a number of `bits` bits has at most as many that are set
@@ -31,7 +31,7 @@ cells_forwarded len short = omega arith
 pub packets_at : (cards : List CardPlan) (k : ℕ) (card : CardPlan) → card ≡ slice_index_or cards k card
     → slice_index_or (packets_of_cards cards) k card.packets.items ≡ card.packets.items
 packets_at cards k card is =
-    at_map (λ (c : CardPlan). c.packets.items) cards k card ∙ ap (λ (c : CardPlan). c.packets.items) (sym is)
+    get_or-map_same (λ (c : CardPlan). c.packets.items) cards k card ∙ ap (λ (c : CardPlan). c.packets.items) (sym is)
 
 cards_long : (cards : List CardPlan) → length (packets_of_cards cards) ≡ length cards
 cards_long cards = length-map cards (λ (c : CardPlan). c.packets.items)
@@ -81,7 +81,7 @@ slots_next cards k card inside is =
 pub slots_last : (packets : List Planned) (k : ℕ) → length packets ≡ k + 1 → slots_of packets ≡ (slice_index_or packets k no_packet).arrival + 1
 slots_last packets k long =
     taken_last (map (λ packet. packet.arrival) packets) k (length-map packets (λ packet. packet.arrival) ∙ long)
-    ∙ ap (λ n. n + 1) (at_map (λ packet. packet.arrival) packets k no_packet)
+    ∙ ap (λ n. n + 1) (get_or-map_same (λ packet. packet.arrival) packets k no_packet)
 
 pub oversize_next : (cards : List CardPlan) (k : ℕ) (card : CardPlan) → k < length cards → card ≡ slice_index_or cards k card
     → sum_by (count_by is_long) (take (k + 1) (packets_of_cards cards)) ≡ sum_by (count_by is_long)

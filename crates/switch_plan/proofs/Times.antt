@@ -7,6 +7,7 @@ use Rattle.std.proofs.lemmas.List.Sums.{fold_more}
 use Rattle.std.proofs.lemmas.List.{map_more, take_all, length-map}
 use Rattle.std.proofs.lemmas.List.Folds.{fold-map}
 use Rattle.std.proofs.lemmas.Simd.{map-map}
+use Rattle.std.proofs.Math.ListN.{get_or-map as get_or-map_same}
 use Rattle.cell_cutter.specs.Messages.{cells_of_packet}
 use Rattle.line_pace.specs.declared.pace.Stamp.{Stamp}
 use Rattle.pcap_records.specs.declared.capture.Stored.{Stored}
@@ -16,7 +17,7 @@ use Rattle.pcap_records.specs.declared.link.Link.{Link}
 use Rattle.forward_table.specs.declared.route_lines.RouteLine.{RouteLine}
 use Rattle.card_core.specs.declared.plan.Planned.{Planned}
 use Rattle.switch_plan.specs.Traffic.{planned, unplaced, CaptureFile, file_of, earlier, time_of, stamp_of, least_in, least_time}
-use Rattle.switch_plan.proofs.Mapping.{at_map, at_zip, length_zip, made_next}
+use Rattle.switch_plan.proofs.Mapping.{at_zip, length_zip, made_next}
 
 -- a packet of no bytes, which no place of a capture has
 abbrev pub no_stored : Stored
@@ -85,8 +86,8 @@ planned_next table link bytes stored slots k made pushed packet push inside same
     let long = length-map stored (packet_in bytes) in
     let there : slice_index_or (map f (zip packets slots)) k (f d) ≡ planned table link (packet_in bytes (slice_index_or stored k no_stored))
     (slice_index_or slots k 0) =
-    at_map f (zip packets slots) k d
+    get_or-map_same f (zip packets slots) k d
     ∙ ap f (at_zip packets slots k (packet_in bytes no_stored) 0 (omega arith) (omega arith))
-    ∙ ap (λ p. planned table link p (slice_index_or slots k 0)) (at_map (packet_in bytes) stored k no_stored) in
+    ∙ ap (λ p. planned table link p (slice_index_or slots k 0)) (get_or-map_same (packet_in bytes) stored k no_stored) in
     let all : length (map f (zip packets slots)) ≡ length stored = length-map (zip packets slots) f ∙ length_zip packets slots (omega arith) ∙ long in
     made_next unplaced made pushed (map f (zip packets slots)) packet k (f d) push (is ∙ sym there) (omega arith) so_far

@@ -3,6 +3,7 @@ use Rattle.std.proofs.Common.{◌≡◌, ◌<◌, ◌≤◌, ℕ, List, [], ◌�
 use Rattle.std.proofs.lemmas.Bool.{cases_lt}
 use Rattle.std.proofs.lemmas.List.{get_or-map, get_or-take, length-take-le}
 use Rattle.std.proofs.lemmas.List.Elements.{All-get_or}
+use Rattle.std.proofs.lemmas.Option.{same_Some, none-some}
 use Rattle.rotating_pick.specs.declared.limits.TheConstants.{MAX_FILE_BYTES}
 use Rattle.outside.specs.Contents.{Contents}
 use Rattle.outside.specs.WholeFiles.{Fits, IsTooLong}
@@ -99,22 +100,16 @@ same_job c job other a b = cc
 same_words : (job : JobWords) (r s : ReadWords) → reads_of job ≡ Some r → reads_of job ≡ Some s → s ≡ r
 same_words job r s a b = cc
 
-same_reads : (r s : ReadWords) → Some r ≡ Some s → r ≡ s
-same_reads r s same = cc
-
 pub no_job : (c : Command) (job : JobWords) → c.job ≡ Some job → c.job ≡ None → ⊥
 no_job c job a b = absurd (cc)
-
-none_read : (r : ReadWords) → None ≡ Some r → ⊥
-none_read r same = absurd (cc)
 
 -- the inputs of a job that reads files are what these hold
 files_read : (job : JobWords) (r : ReadWords) (told : Option Contents) (table : List ℕ) (captures : List (List ℕ)) → reads_of job ≡ Some r
     → AreInputs job told table captures → AreFilesRead r told table captures
-files_read (run w) r told table captures reads inputs = subst (λ (s : ReadWords). AreFilesRead s told table captures) (same_reads _ r reads) inputs
-files_read (gen g) r told table captures reads inputs = absurd (none_read r reads)
+files_read (run w) r told table captures reads inputs = subst (λ (s : ReadWords). AreFilesRead s told table captures) (same_Some _ r reads) inputs
+files_read (gen g) r told table captures reads inputs = absurd (none-some r reads)
 files_read (check w) r told table captures reads inputs = absurd inputs
-files_read (firm f) r told table captures reads inputs = subst (λ (s : ReadWords). AreFilesRead s told table captures) (same_reads _ r reads) inputs
+files_read (firm f) r told table captures reads inputs = subst (λ (s : ReadWords). AreFilesRead s told table captures) (same_Some _ r reads) inputs
 
 -- a check has no inputs, and reads no table and no captures
 pub no_inputs : (job : JobWords) (words : CheckWords) (told : Option Contents) (table : List ℕ) (captures : List (List ℕ)) → job ≡ check words
@@ -122,7 +117,7 @@ pub no_inputs : (job : JobWords) (words : CheckWords) (told : Option Contents) (
 no_inputs job words told table captures is inputs = subst (λ (j : JobWords). AreInputs j told table captures) is inputs
 
 pub no_reads : (job : JobWords) (words : CheckWords) (r : ReadWords) → job ≡ check words → reads_of job ≡ Some r → ⊥
-no_reads job words r is reads = none_read r (subst (λ (j : JobWords). reads_of j ≡ Some r) is reads)
+no_reads job words r is reads = none-some r (subst (λ (j : JobWords). reads_of j ≡ Some r) is reads)
 
 -- no check has the status of usage
 check_is_no_usage : (e : CheckEnding) → check_status e ≡ 2 → ⊥

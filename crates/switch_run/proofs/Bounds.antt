@@ -1,5 +1,6 @@
 -- Within how many slots a unicast queue is served under the scheduler of a name.
-use Rattle.std.proofs.Common.{◌≡◌, ◌*◌, ℕ, Some, None, subst}
+use Rattle.std.proofs.Common.{◌≡◌, ◌*◌, ℕ, Some, subst}
+use Rattle.std.proofs.lemmas.Option.{same_Some, none-some}
 use Rattle.scheduler_names.specs.declared.names.SchedulerName.{SchedulerName}
 use Rattle.scheduler_names.specs.declared.names.SchedulerName.TheVariants.{Islip, Firm, Rrm}
 use Rattle.eslip_rounds.specs.Decisions.{decision_of}
@@ -12,26 +13,20 @@ use Rattle.run_laws.specs.Promises.{ServesUnder, ServesWaiting, WaitsAreShort, W
 use Rattle.one_thread.specs.FirmRuns.{FirmPromises}
 use Rattle.switch_run.specs.Causes.{bound_named}
 
-some_once : (a b : ℕ) → Some a ≡ Some b → a ≡ b
-some_once a b same = cc
-
-none_is_some : (b : ℕ) → None ≡ Some b → ⊥
-none_is_some b same = cc
-
 pub serves_named : (name : SchedulerName) (plan : SwitchPlan) (slots : ℕ) → IsLengthUnder (decision_named name) plan slots → ServesWaiting plan slots
     → (IsLengthUnder firm_decision plan slots → FirmPromises plan slots)
     → (bound : ℕ) → bound_named name plan ≡ Some bound → ServesUnder (decision_named name) plan slots bound
 serves_named Islip plan slots ends serves firm bound is =
-    subst (λ (b : ℕ). ServesUnder decision_of plan slots b) (some_once (bound_of plan) bound is) serves
+    subst (λ (b : ℕ). ServesUnder decision_of plan slots b) (same_Some (bound_of plan) bound is) serves
 serves_named Firm plan slots ends serves firm bound is =
-    subst (λ (b : ℕ). ServesUnder firm_decision plan slots b) (some_once (ports_of plan * ports_of plan) bound is) (firm ends).serves
-serves_named Rrm plan slots ends serves firm bound is = absurd (none_is_some bound is)
+    subst (λ (b : ℕ). ServesUnder firm_decision plan slots b) (same_Some (ports_of plan * ports_of plan) bound is) (firm ends).serves
+serves_named Rrm plan slots ends serves firm bound is = absurd (none-some bound is)
 
 pub waits_named : (name : SchedulerName) (plan : SwitchPlan) (slots : ℕ) → IsLengthUnder (decision_named name) plan slots → WaitsAreShort plan slots
     → (IsLengthUnder firm_decision plan slots → FirmPromises plan slots)
     → (bound : ℕ) → bound_named name plan ≡ Some bound → WaitsUnder (decision_named name) plan slots bound
 waits_named Islip plan slots ends waits firm bound is =
-    subst (λ (b : ℕ). WaitsUnder decision_of plan slots b) (some_once (bound_of plan) bound is) waits
+    subst (λ (b : ℕ). WaitsUnder decision_of plan slots b) (same_Some (bound_of plan) bound is) waits
 waits_named Firm plan slots ends waits firm bound is =
-    subst (λ (b : ℕ). WaitsUnder firm_decision plan slots b) (some_once (ports_of plan * ports_of plan) bound is) (firm ends).waits
-waits_named Rrm plan slots ends waits firm bound is = absurd (none_is_some bound is)
+    subst (λ (b : ℕ). WaitsUnder firm_decision plan slots b) (same_Some (ports_of plan * ports_of plan) bound is) (firm ends).waits
+waits_named Rrm plan slots ends waits firm bound is = absurd (none-some bound is)

@@ -1,7 +1,7 @@
 -- Where nothing stands against a command, all is written.
 use Rattle.std.proofs.Common.{◌≡◌, ◌<◌, ◌+◌, ℕ, zero, suc, Bool, true, false, List, [], ◌∷◌, ◌++◌, length, get_or, Option, Some, None, inl, inr, refl}
 use Rattle.std.proofs.Common.{sym, ◌∙◌, ap, subst, arith, append_assoc, length-append}
-use Rattle.std.specs.Prelude.{◌⊎◌, if◌then◌else◌, is_some}
+use Rattle.std.specs.Prelude.{if◌then◌else◌, is_some}
 use Rattle.std.proofs.Math.ListN.{get_or-append}
 use Rattle.std.proofs.Math.Seq.{get_or-append_seam}
 use Rattle.outside.specs.Contents.{Contents}
@@ -22,10 +22,6 @@ use Rattle.job_files.specs.declared.ending.Ending.TheVariants.{Done, Usage, Read
 use Rattle.job_files.specs.declared.ending.Ending.TheVariants.{WriteFault, Checked}
 use Rattle.job_files.proofs.Holding.{length-files_from}
 use Rattle.switch_run.proofs.Answering.{no_job, no_read_fault, stops_here}
-
-tells : (b : Bool) → (b ≡ true) ⊎ (b ≡ false)
-tells true = inl refl
-tells false = inr refl
 
 -- ---- the names of what is written
 

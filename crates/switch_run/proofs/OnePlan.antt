@@ -1,8 +1,8 @@
 -- A job has one plan, a plan has one length of its run, and so a job makes one list of texts.
-use Rattle.std.proofs.Common.{◌≡◌, ◌<◌, ◌≤◌, ◌∙◌, ℕ, zero, suc, Bool, true, false, List, [], ◌∷◌, map, length, get_or, Option, Some, None, refl, sym}
+use Rattle.std.proofs.Common.{◌≡◌, ◌<◌, ◌≤◌, ◌∙◌, ℕ, zero, suc, Bool, true, List, [], ◌∷◌, map, length, get_or, Option, Some, None, refl, sym}
 use Rattle.std.proofs.Common.{ap, subst, inl, inr, arith}
-use Rattle.std.specs.Prelude.{◌||◌, IfSome, if◌then◌else◌}
-use Rattle.std.proofs.lemmas.Bool.{cases_eq, cases_lt}
+use Rattle.std.specs.Prelude.{IfSome, if◌then◌else◌}
+use Rattle.std.proofs.lemmas.Bool.{cases_eq, cases_lt, or_right, or_left}
 use Rattle.std.proofs.lemmas.List.{get_or-map, get_or_default, length-map, same_lists}
 use Rattle.std.proofs.lemmas.Option.{slice_get-get_or}
 use Rattle.crossbar.specs.declared.cards.Post.{Post}
@@ -37,20 +37,13 @@ use Rattle.switch_run.proofs.OneOutcome.{same_captures, same_table}
 -- ---- the length of a run
 
 module _ (n : ℕ) (posts : ℕ → ℕ → Post) where
-  either_done : (a b : Bool) → b ≡ true → (a || b) ≡ true
-  either_done true b is = refl
-  either_done false b is = is
-
-  stays_done : (a b : Bool) → a ≡ true → (a || b) ≡ true
-  stays_done true b is = refl
-  stays_done false b is = absurd (cc)
 
   -- a slot that is done is one of those before a later slot
   done_earlier : (k m : ℕ) → k < m → is_done_at n posts k ≡ true → is_done_before n posts m ≡ true
   done_earlier k zero less is = absurd (omega arith)
   done_earlier k (suc m) less is = elim (cases_eq k m) [
-    | inl same ↦ either_done (is_done_before n posts m) (is_done_at n posts m) (subst (λ t. is_done_at n posts t ≡ true) same is)
-    | inr other ↦ stays_done (is_done_before n posts m) (is_done_at n posts m) (done_earlier k m (omega arith) is)
+    | inl same ↦ or_right (is_done_before n posts m) (is_done_at n posts m) (subst (λ t. is_done_at n posts t ≡ true) same is)
+    | inr other ↦ or_left (is_done_before n posts m) (is_done_at n posts m) (done_earlier k m (omega arith) is)
   ]
 
 module _ (scheduler : Scheduler) (plan : SwitchPlan) where

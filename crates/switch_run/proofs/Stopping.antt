@@ -2,6 +2,7 @@
 use Rattle.std.proofs.Common.{◌≡◌, ◌≤◌, ◌+◌, ℕ, Bool, true, false, List, [], ◌∷◌, ◌++◌, length, Option, Some, None, inl, inr, refl, sym, ◌∙◌, ap, subst}
 use Rattle.std.proofs.Common.{arith, length-append}
 use Rattle.std.specs.Prelude.{is_some, if◌then◌else◌, option_map}
+use Rattle.std.proofs.lemmas.Bool.{false≢true}
 use Rattle.outside.specs.Contents.{Contents, append_err, append_out}
 use Rattle.outside.specs.Faults.{Place, ReadOf, ToOut, ToErr, NeverFall}
 use Rattle.outside.specs.WholeFiles.{NamedBytes}
@@ -136,9 +137,6 @@ texts_stop r old told was now table captures OutOfMemory same inputs stops = sam
 texts_stop r old told was now table captures (WriteFault written) same inputs stops = absurd stops
 texts_stop r old told was now table captures (Checked ending) same inputs stops = absurd stops
 
-no_is_no_yes : false ≡ true → ⊥
-no_is_no_yes same = cc
-
 -- nor were those of a `gen` job, of which nothing is wanted
 pub gen_stops : (g : GenJob) (told : Option Contents) (was now : Place → ℕ) (table : List ℕ) (captures : List (List ℕ)) (ending : Ending)
     → AreInputs (gen g) told table captures
@@ -149,8 +147,8 @@ gen_stops g told was now table captures (ReadFault input) inputs stops = absurd 
 gen_stops g told was now table captures (TooLong input) inputs stops = absurd stops
 gen_stops g told was now table captures (Refused fault) inputs stops =
     plan_stops (gen g) told told was now table captures (Refused fault) refl inputs stops
-gen_stops g told was now table captures (JournalTooLong size) inputs stops = absurd (no_is_no_yes stops.0)
-gen_stops g told was now table captures (PacketsTooLong size) inputs stops = absurd (no_is_no_yes stops.0)
+gen_stops g told was now table captures (JournalTooLong size) inputs stops = absurd (false≢true stops.0)
+gen_stops g told was now table captures (PacketsTooLong size) inputs stops = absurd (false≢true stops.0)
 gen_stops g told was now table captures OutOfMemory inputs stops = refl
 gen_stops g told was now table captures (WriteFault written) inputs stops = absurd stops
 gen_stops g told was now table captures (Checked ending) inputs stops = absurd stops

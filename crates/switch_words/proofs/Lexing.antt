@@ -1,6 +1,6 @@
 -- What a word is to clap, and to the definition.
 use Rattle.std.proofs.Common.{◌≡◌, ◌==◌, ap, true, false, [], ◌∷◌, Option, None, Some, refl, inl, inr, ℕ}
-use Rattle.std.proofs.lemmas.Bool.{eqb-true}
+use Rattle.std.proofs.lemmas.Bool.{eqb-true, cases_Bool}
 use Rattle.std.proofs.lemmas.Str.{encodes-chars}
 use Rattle.std.specs.Prelude.{slice_get, is_some}
 use Rattle.std.specs.Str.{IsUtf8}
@@ -10,7 +10,6 @@ use Rattle.std.specs.List.{before_first}
 use Rattle.clap.specs.Lexer.{long_of, short_of}
 use Rattle.clap.specs.Walk.{Text}
 use Rattle.switch_words.specs.Parts.{closing, option, name, refused, value_in, word_of}
-use Rattle.switch_words.proofs.Rows.{tells}
 
 abbrev dashes : Text
 dashes = 45 ∷ 45 ∷ []
@@ -28,12 +27,12 @@ double a b (x ∷ xs) h k = longs (before_first (λ c. c == 61) (x ∷ xs)) (val
 
 pub lexed : (word : Text) → Lexed word
 lexed [] = plains refl refl refl refl
-lexed (a ∷ []) = elim (tells (a == 45)) [
+lexed (a ∷ []) = elim (cases_Bool (a == 45)) [
   | inl h ↦ plains (rw h refl) (rw h refl) (rw h refl) refl
   | inr h ↦ plains (rw h refl) (rw h refl) (rw h refl) refl
 ]
-lexed (a ∷ b ∷ rest) = elim (tells (a == 45)) [
-  | inl h ↦ elim (tells (b == 45)) [
+lexed (a ∷ b ∷ rest) = elim (cases_Bool (a == 45)) [
+  | inl h ↦ elim (cases_Bool (b == 45)) [
     | inl k ↦ double a b rest h k
     | inr k ↦ shorts b rest (rw (h, k) refl) (rw (h, k) refl) (rw (h, k) refl) (rw (h, k) refl) (ap (λ (x : ℕ). x ∷ b ∷ rest) (eqb-true a 45 h))
   ]

@@ -3,6 +3,8 @@ use Rattle.std.proofs.Common.{◌≡◌, ◌⊎◌, ◌∙◌, ap, ap₂, subst,
 use Rattle.std.proofs.Common.{string_bytes, String}
 use Rattle.std.specs.Prelude.{◌++◌, fold, unwrap_or}
 use Rattle.std.proofs.lemmas.Str.{IsUtf8-string_bytes}
+use Rattle.std.proofs.lemmas.Bool.{cases_Bool}
+use Rattle.std.proofs.option.Match.{None-if_not_some}
 use Rattle.clap.specs.Walk.{Held, Row, Rule, Text, finished, has_row, idle, nothing_held, rows_after, rows_of, settled, walk, walk_from, with_default}
 use Rattle.clap.specs.Simple.{App, HasMatchesOf, built, matches_of}
 use Rattle.clap.specs.Kinds.{HasKind, IsAmong, Kinds, or_else}
@@ -23,8 +25,8 @@ use Rattle.switch_words.specs.declared.options.Command.TheVariants.{Run, Gen, Ch
 use Rattle.switch_words.specs.Options.{Flag, slots, journal, reference, queues, packets, alone}
 use Rattle.switch_words.specs.LineSteps.{flags_for, line_for, lookup_in, parts_in, parts_of}
 use Rattle.switch_words.specs.Parts.{no_parts, parts_from}
-use Rattle.switch_words.proofs.Rows.{has_row-lookup, lookup-with, put, tells}
-use Rattle.switch_words.proofs.Rules.{HasRules, IsSound, absent, flag_id, flag_rule, has_rules, names_rule, parts_in-put_default}
+use Rattle.switch_words.proofs.Rows.{has_row-lookup, lookup-with, put}
+use Rattle.switch_words.proofs.Rules.{HasRules, IsSound, flag_id, flag_rule, has_rules, names_rule, parts_in-put_default}
 use Rattle.switch_words.proofs.Rules.{rules_for, shape_with}
 use Rattle.switch_words.proofs.Unless.{unless, unless-or_else}
 use Rattle.switch_words.proofs.Turns.{idle_open, or_once}
@@ -41,11 +43,11 @@ AreUsual (a ∷ rest) = IsUsual a × AreUsual rest
 no_default_fault : (rows : List Row) (a : Rule) (rest : List Rule) → IsUsual a → defaults_fault (with_default rows a) rest ≡ []
     → defaults_fault rows (a ∷ rest) ≡ []
 unfolding defaults_fault
-no_default_fault rows a rest (inl none) h = elim (tells (has_row a.id rows)) [
+no_default_fault rows a rest (inl none) h = elim (cases_Bool (has_row a.id rows)) [
   | inl there ↦ rw there (rw there at h)
   | inr there ↦ rw (there, none) (rw (there, none) at h)
 ]
-no_default_fault rows a rest (inr (f, is)) h = elim (tells (has_row (flag_id f) rows)) [
+no_default_fault rows a rest (inr (f, is)) h = elim (cases_Bool (has_row (flag_id f) rows)) [
   | inl there ↦ rw (is, there) (rw (is, there) at h)
   | inr there ↦ rw (is, there) (rw (is, there) at h)
 ]
@@ -57,14 +59,14 @@ no_faults (a ∷ rest) usual rows = no_default_fault rows a rest usual.0 (no_fau
 
 -- a default says nothing
 same_default : (rows : List Row) (a : Rule) → IsUsual a → parts_in (lookup_in (with_default rows a)) ≡ parts_in (lookup_in rows)
-same_default rows a (inl none) = elim (tells (has_row a.id rows)) [
+same_default rows a (inl none) = elim (cases_Bool (has_row a.id rows)) [
   | inl there ↦ rw there refl
   | inr there ↦ rw (there, none) refl
 ]
-same_default rows a (inr (f, is)) = elim (tells (has_row (flag_id f) rows)) [
+same_default rows a (inr (f, is)) = elim (cases_Bool (has_row (flag_id f) rows)) [
   | inl there ↦ rw (is, there) refl
   | inr there ↦
-      let none : lookup_in rows (flag_id f) ≡ None = absent _ (sym (has_row-lookup (flag_id f) rows) ∙ there) in
+      let none : lookup_in rows (flag_id f) ≡ None = None-if_not_some _ (sym (has_row-lookup (flag_id f) rows) ∙ there) in
       rw (is, there) (ap parts_in (λ i other. lookup-with (flag_id f) AsWritten DefaultValue (codes "false" ∷ []) rows other i)
       ∙ (ap (λ (o : Option (List Text)). parts_in (put (flag_id f) (unwrap_or o [] ++ codes "false" ∷ []) (lookup_in rows))) none
       ∙ parts_in-put_default f (lookup_in rows) none))

@@ -1,8 +1,9 @@
 -- What is found in the rows of a parse.
-use Rattle.std.proofs.Common.{◌≡◌, ◌⊎◌, ◌∙◌, ◌++◌, ap, sym, Bool, true, false, List, [], ◌∷◌, Option, None, Some, is_some, refl, inl, inr}
+use Rattle.std.proofs.Common.{◌≡◌, ◌∙◌, ◌++◌, ap, sym, true, false, List, [], ◌∷◌, Option, None, Some, is_some, refl, inl, inr}
 use Rattle.std.specs.Prelude.{option_map, unwrap_or, if◌then◌else◌, find, option_and_then, slice_get}
 use Rattle.std.specs.Str.{bytes_eq}
 use Rattle.std.proofs.lemmas.Slice.Eq.{bytes_eq-Decides}
+use Rattle.std.proofs.lemmas.Bool.{cases_Bool}
 use Rattle.clap.specs.Walk.{Row, Text, has_row, rows_of, with_values, without}
 use Rattle.switch_words.specs.LineSteps.{Lookup, first_text, lookup_in}
 use Rattle.clap.specs.Matches.{first_value}
@@ -10,10 +11,6 @@ use Rattle.clap.specs.declared.parser.matches.Found.{Found}
 use Rattle.clap.proofs.WalkLemmas.{first_value-rows}
 use Rattle.clap.specs.declared.builder.value_parser.Reading.{Reading}
 use Rattle.clap.specs.declared.parser.matches.ValueSource.{ValueSource}
-
-pub tells : (b : Bool) → (b ≡ true) ⊎ (b ≡ false)
-tells true = inl refl
-tells false = inr refl
 
 -- with other values of an id
 abbrev pub put : Text → List Text → Lookup → Lookup
@@ -27,20 +24,20 @@ other_text a b h e =
 -- values that are added to those of an id
 pub lookup-with : (id : Text) (how : Reading) (s : ValueSource) (values : List Text) (rows : List Row) (other : Text)
     → lookup_in (with_values id how s values rows) other ≡ put id (unwrap_or (lookup_in rows id) [] ++ values) (lookup_in rows) other
-lookup-with id how s values [] other = elim (tells (bytes_eq id other)) [
+lookup-with id how s values [] other = elim (cases_Bool (bytes_eq id other)) [
   | inl h ↦ rw h refl
   | inr h ↦ rw h refl
 ]
-lookup-with id how s values (r ∷ rs) other = elim (tells (bytes_eq r.id id)) [
+lookup-with id how s values (r ∷ rs) other = elim (cases_Bool (bytes_eq r.id id)) [
   | inl h ↦
       let same : bytes_eq id other ≡ bytes_eq r.id other = ap (λ (x : Text). bytes_eq x other) (sym ((bytes_eq-Decides r.id id).0 h)) in
-      elim (tells (bytes_eq r.id other)) [
+      elim (cases_Bool (bytes_eq r.id other)) [
         | inl k ↦ rw (h, same, k) refl
         | inr k ↦ rw (h, same, k) refl
       ]
-  | inr h ↦ elim (tells (bytes_eq r.id other)) [
+  | inr h ↦ elim (cases_Bool (bytes_eq r.id other)) [
     | inl k ↦
-        let apart : bytes_eq id other ≡ false = elim (tells (bytes_eq id other)) [
+        let apart : bytes_eq id other ≡ false = elim (cases_Bool (bytes_eq id other)) [
           | inl e ↦ absurd (other_text r.id id h ((bytes_eq-Decides r.id other).0 k ∙ sym ((bytes_eq-Decides id other).0 e)))
           | inr e ↦ e
         ] in
@@ -52,7 +49,7 @@ lookup-with id how s values (r ∷ rs) other = elim (tells (bytes_eq r.id id)) [
 -- a row is there where its id is found
 pub has_row-lookup : (id : Text) (rows : List Row) → has_row id rows ≡ is_some (lookup_in rows id)
 has_row-lookup id [] = refl
-has_row-lookup id (r ∷ rs) = elim (tells (bytes_eq r.id id)) [
+has_row-lookup id (r ∷ rs) = elim (cases_Bool (bytes_eq r.id id)) [
   | inl h ↦ rw h refl
   | inr h ↦ rw h (has_row-lookup id rs)
 ]
@@ -60,7 +57,7 @@ has_row-lookup id (r ∷ rs) = elim (tells (bytes_eq r.id id)) [
 -- nothing is taken out where there is no row
 pub without-none : (id : Text) (rows : List Row) → lookup_in rows id ≡ None → without id rows ≡ rows
 without-none id [] none = refl
-without-none id (r ∷ rs) none = elim (tells (bytes_eq r.id id)) [
+without-none id (r ∷ rs) none = elim (cases_Bool (bytes_eq r.id id)) [
   | inl h ↦
       let bad : ◌≡◌ {A = Option (List Text)} (Some r.values) None = rw h at none in
       cc

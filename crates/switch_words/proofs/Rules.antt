@@ -3,6 +3,8 @@ use Rattle.std.proofs.Common.{◌≡◌, ◌∙◌, ◌++◌, ap, sym, subst, tr
 use Rattle.std.specs.Prelude.{map, unwrap_or, option_and_then}
 use Rattle.std.proofs.lemmas.Slice.Eq.{bytes_eq-Decides}
 use Rattle.std.specs.Str.{bytes_eq}
+use Rattle.std.proofs.lemmas.Bool.{cases_Bool}
+use Rattle.std.proofs.option.Match.{None-if_not_some}
 use Rattle.clap.specs.Walk.{Row, Rule, Text, arg_by_id, arg_by_index, arg_by_long, arg_by_short, has_row, used}
 use Rattle.clap.specs.Simple.{Shape, filled, new_shape, with_index}
 use Rattle.clap.specs.Faults.{use_fault}
@@ -15,7 +17,7 @@ use Rattle.switch_words.specs.Options.{Flag, slots, journal, reference, queues, 
 use Rattle.switch_words.specs.LineSteps.{Lookup, first_text, flag_arg, flags_for, is_true_text, lookup_in, names_arg, option_arg, options_for, parts_in}
 use Rattle.switch_words.specs.Parts.{Parts, is_given, set_flag, set_text, text_in, with_flag, with_names, with_text}
 use Rattle.switch_words.proofs.Unless.{unless}
-use Rattle.switch_words.proofs.Rows.{has_row-lookup, lookup-with, put, tells, without-none}
+use Rattle.switch_words.proofs.Rows.{has_row-lookup, lookup-with, put, without-none}
 
 -- ---- the rules, as they are written and as they are built
 
@@ -129,27 +131,27 @@ is_text : (a b : Text) → bytes_eq a b ≡ true → a ≡ b
 is_text a b h = (bytes_eq-Decides a b).0 h
 
 named : (name : Text) → Named name
-named name = elim (tells (bytes_eq (codes "rounds") name)) [
+named name = elim (cases_Bool (bytes_eq (codes "rounds") name)) [
   | inl h ↦ setting rounds (is_text _ _ h)
-  | inr a ↦ elim (tells (bytes_eq (codes "depth") name)) [
+  | inr a ↦ elim (cases_Bool (bytes_eq (codes "depth") name)) [
     | inl h ↦ setting depth (is_text _ _ h)
-    | inr b ↦ elim (tells (bytes_eq (codes "workers") name)) [
+    | inr b ↦ elim (cases_Bool (bytes_eq (codes "workers") name)) [
       | inl h ↦ setting workers (is_text _ _ h)
-      | inr d ↦ elim (tells (bytes_eq (codes "pace-us") name)) [
+      | inr d ↦ elim (cases_Bool (bytes_eq (codes "pace-us") name)) [
         | inl h ↦ setting pace_us (is_text _ _ h)
-        | inr e ↦ elim (tells (bytes_eq (codes "scheduler") name)) [
+        | inr e ↦ elim (cases_Bool (bytes_eq (codes "scheduler") name)) [
           | inl h ↦ setting scheduler (is_text _ _ h)
-          | inr s ↦ elim (tells (bytes_eq (codes "slots") name)) [
+          | inr s ↦ elim (cases_Bool (bytes_eq (codes "slots") name)) [
             | inl h ↦ switch slots (is_text _ _ h)
-            | inr f ↦ elim (tells (bytes_eq (codes "journal") name)) [
+            | inr f ↦ elim (cases_Bool (bytes_eq (codes "journal") name)) [
               | inl h ↦ switch journal (is_text _ _ h)
-              | inr g ↦ elim (tells (bytes_eq (codes "reference") name)) [
+              | inr g ↦ elim (cases_Bool (bytes_eq (codes "reference") name)) [
                 | inl h ↦ switch reference (is_text _ _ h)
-                | inr k ↦ elim (tells (bytes_eq (codes "queues") name)) [
+                | inr k ↦ elim (cases_Bool (bytes_eq (codes "queues") name)) [
                   | inl h ↦ switch queues (is_text _ _ h)
-                  | inr m ↦ elim (tells (bytes_eq (codes "packets") name)) [
+                  | inr m ↦ elim (cases_Bool (bytes_eq (codes "packets") name)) [
                     | inl h ↦ switch packets (is_text _ _ h)
-                    | inr n ↦ elim (tells (bytes_eq (codes "alone") name)) [
+                    | inr n ↦ elim (cases_Bool (bytes_eq (codes "alone") name)) [
                       | inl h ↦ switch alone (is_text _ _ h)
                       | inr o ↦ unknown a b d e s f g k m n o
                     ]
@@ -196,7 +198,7 @@ pub record IsSound (lookup : Lookup) : Type 0 where
 
 put_texts : (id : Text) (v : Text) (vs : List Text) (lookup : Lookup) → IsSound lookup → (other : Text)
     → is_some (first_text (put id (v ∷ vs) lookup other)) ≡ is_some (put id (v ∷ vs) lookup other)
-put_texts id v vs lookup sound other = elim (tells (bytes_eq id other)) [
+put_texts id v vs lookup sound other = elim (cases_Bool (bytes_eq id other)) [
   | inl h ↦ rw h refl
   | inr h ↦ rw h (sound.texts other)
 ]
@@ -260,7 +262,7 @@ sound_value s v lookup sound = record {
 pub sound_flag : (f : Flag) (lookup : Lookup) → IsSound lookup → IsSound (put (flag_id f) (codes "true" ∷ []) lookup)
 sound_flag f lookup sound = record {
   texts = put_texts (flag_id f) (codes "true") [] lookup sound;
-  flag = λ g. elim (tells (bytes_eq (flag_id f) (flag_id g))) [
+  flag = λ g. elim (cases_Bool (bytes_eq (flag_id f) (flag_id g))) [
     | inl h ↦ rw h refl
     | inr h ↦ rw h (sound.flag g)
   ];
@@ -318,15 +320,11 @@ parts_in-put scheduler v lookup = refl
 
 -- ---- what a use of an argument adds
 
-pub absent : (o : Option (List Text)) → is_some o ≡ false → o ≡ None
-absent None h = refl
-absent (Some x) h = cc
-
 -- a first use adds the values
 first_use : (id : Text) (v : Text) (rows : List Row) → has_row id rows ≡ false
     → lookup_in (used (option_rule id) (v ∷ []) rows) ≡ put id (v ∷ []) (lookup_in rows)
 first_use id v rows h =
-    let none : lookup_in rows id ≡ None = absent _ (sym (has_row-lookup id rows) ∙ h) in
+    let none : lookup_in rows id ≡ None = None-if_not_some _ (sym (has_row-lookup id rows) ∙ h) in
     let each : (other : Text) → lookup_in (used (option_rule id) (v ∷ []) rows) other ≡ put id (v ∷ []) (lookup_in rows) other =
     λ other. rw (without-none id rows none)
     (lookup-with id AsWritten CommandLine (v ∷ []) rows other
@@ -339,7 +337,7 @@ cons_nil x xs h = cc
 -- a use that passes leaves the rows sound
 pub sound_use : (s : Setting) (v : Text) (rows : List Row) → IsSound (lookup_in rows) → use_fault false (option_rule (id_of s)) (v ∷ []) rows ≡ []
     → IsSound (lookup_in (used (option_rule (id_of s)) (v ∷ []) rows))
-sound_use s v rows sound passes = elim (tells (has_row (id_of s) rows)) [
+sound_use s v rows sound passes = elim (cases_Bool (has_row (id_of s) rows)) [
   | inl h ↦ absurd (cons_nil _ _ (rw h at passes))
   | inr h ↦ subst IsSound (sym (first_use (id_of s) v rows h)) (sound_value s v (lookup_in rows) sound)
 ]
@@ -350,7 +348,7 @@ pub set_value : (s : Setting) (v : Text) (rows : List Row) → IsSound (lookup_i
 set_value s v rows sound k x next =
     let there : is_some (text_in (parts_in (lookup_in rows)) s) ≡ has_row (id_of s) rows =
     ap is_some (text_in-parts_in s (lookup_in rows)) ∙ (sound.texts (id_of s) ∙ sym (has_row-lookup (id_of s) rows)) in
-    elim (tells (has_row (id_of s) rows)) [
+    elim (cases_Bool (has_row (id_of s) rows)) [
       | inl h ↦ rw (there, h) refl
       | inr h ↦
           let is = first_use (id_of s) v rows h in
@@ -364,10 +362,10 @@ pub flag_is_set : (f : Flag) (rows : List Row) → IsSound (lookup_in rows) → 
 flag_is_set f rows sound k x next =
     let there : is_given (parts_in (lookup_in rows)).flags f ≡ has_row (flag_id f) rows = is_given-parts_in f (lookup_in rows)
     ∙ (sound.flag f ∙ sym (has_row-lookup (flag_id f) rows)) in
-    elim (tells (has_row (flag_id f) rows)) [
+    elim (cases_Bool (has_row (flag_id f) rows)) [
       | inl h ↦ rw (there, h) refl
       | inr h ↦
-          let none : lookup_in rows (flag_id f) ≡ None = absent _ (sym (has_row-lookup (flag_id f) rows) ∙ h) in
+          let none : lookup_in rows (flag_id f) ≡ None = None-if_not_some _ (sym (has_row-lookup (flag_id f) rows) ∙ h) in
           let each : (other : Text) → lookup_in (used (flag_rule (flag_id f)) [] rows) other ≡ put (flag_id f) (codes "true" ∷ []) (lookup_in rows) other =
           λ other. rw (without-none (flag_id f) rows none) (lookup-with (flag_id f) AsWritten CommandLine (codes "true" ∷ []) rows other
           ∙ ap (λ (o : Option (List Text)). put (flag_id f) (unwrap_or o [] ++ codes "true" ∷ []) (lookup_in rows) other) none) in

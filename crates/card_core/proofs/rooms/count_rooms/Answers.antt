@@ -1,10 +1,10 @@
 use Rattle.std.proofs.Common.{◌≡◌, ◌∙◌, ◌+◌, ◌<◌, ◌^◌, ℕ, List, [], ◌∷◌, ◌++◌, arith, refl, sym, subst, take, length, slice_index_or}
 use Rattle.std.proofs.lemmas.List.{take_more, take_all}
+use Rattle.std.proofs.lemmas.Option.{slice_get-get_or}
 use Rattle.card_core.specs.declared.plan.Planned.{Planned}
 use Rattle.card_core.specs.InputQueues.{QueueRooms}
 use Rattle.card_core.specs.Plans.{no_packet}
 use Rattle.card_core.specs.StateSteps.{HasRooms}
-use Rattle.card_core.proofs.Ascending.{some_get}
 use Rattle.card_core.proofs.Plenty.{few_up}
 use Rattle.card_core.proofs.rooms.count_rooms.Goals as goal
 
@@ -25,13 +25,13 @@ count-requires-clause-few c =
 pub count-requires-clause-level : goal.count-requires-clause-level
 count-requires-clause-level c =
     (c.requires.packets c.loop-packet.packet-index (slice_index_or c.args.packets.now c.loop-packet.packet-index no_packet)
-    (some_get c.args.packets.now c.loop-packet.packet-index no_packet c.loop-packet-test.true)).0
+    (slice_get-get_or c.args.packets.now c.loop-packet.packet-index no_packet c.loop-packet-test.true)).0
 
 pub count-requires-clause-fan : goal.count-requires-clause-fan
 count-requires-clause-fan c =
     subst (λ n. (slice_index_or c.args.packets.now c.loop-packet.packet-index no_packet).fan < 2 ^ n) (sym c.loop-packet.invariant.ports)
     (c.requires.packets c.loop-packet.packet-index (slice_index_or c.args.packets.now c.loop-packet.packet-index no_packet)
-    (some_get c.args.packets.now c.loop-packet.packet-index no_packet c.loop-packet-test.true)).1
+    (slice_get-get_or c.args.packets.now c.loop-packet.packet-index no_packet c.loop-packet-test.true)).1
 
 pub loop-packet-init : goal.loop-packet-init
 loop-packet-init c = record {

@@ -1,15 +1,16 @@
 use Rattle.std.proofs.Common.{ℕ, ◌∙◌, ◌-◌, ap, sym, refl, arith}
+use Rattle.std.proofs.option.Match.{None-if_not_some}
 use Rattle.forward_table.specs.declared.route_lines.Target.TheVariants.{Prefix}
 use Rattle.forward_table.specs.Reading.{line_with}
 use Rattle.forward_table.proofs.Covering.{prefix_at, longest_none}
-use Rattle.forward_table.proofs.Searching.{none_before, found_longest, not_found, none_left, searched_more}
+use Rattle.forward_table.proofs.Searching.{none_before, found_longest, none_left, searched_more}
 use Rattle.forward_table.proofs.ordered_lines.longest_of.Goals as goal
 
 pub loop-host_bits-preserved : goal.loop-host_bits-preserved
 loop-host_bits-preserved c =
     let k = c.in-Some.host_bits in
     let looked = c.line_of-line.ensures ∙ ap (λ (a : ℕ). line_with (Prefix (32 - k) a) c.args.ordered.now) c.without_host_bits.ensures in
-    let none = not_found c.line_of-line.result (sym c.is_some.ensures ∙ c.if-is_some.false) in
+    let none = None-if_not_some c.line_of-line.result (sym c.is_some.ensures ∙ c.if-is_some.false) in
     record {
       left = λ j has. c.loop-host_bits.invariant.left j ((c.without-rest.ensures.members j).0 has).1;
       searched = searched_more c.args.ordered.now c.args.lengths c.loop-host_bits.rest c.without-rest.result c.args.address k

@@ -2,10 +2,11 @@ use Rattle.std.proofs.Common.{◌≡◌, ◌∙◌, ◌+◌, ◌<◌, ◌&&◌, 
 use Rattle.std.specs.Prelude.{Some, slice_get}
 use Rattle.std.proofs.lemmas.List.{length-set}
 use Rattle.std.proofs.lemmas.Option.{slice_get-get_or}
+use Rattle.std.proofs.Math.Seq.{map-set_same}
 use Rattle.card_core.specs.Cards.{CardState}
 use Rattle.card_worker.proofs.Passes.{get-set_other}
 use Rattle.one_thread.specs.ActingSteps.{ArePosted}
-use Rattle.one_thread.proofs.Places.{map-set, ArePosted-more, more_comes, no_more_comes}
+use Rattle.one_thread.proofs.Places.{ArePosted-more, more_comes, no_more_comes}
 use Rattle.one_thread.proofs.posting.post_all.Goals.{then-post, else-post}
 use Rattle.one_thread.proofs.posting.post_all.Goals as goal
 
@@ -29,7 +30,7 @@ loop-place-preserved c =
       posts_long = length-set at.posts k post ∙ at.invariant.posts_long;
       rows_long = length-set at.rows k post.row ∙ at.invariant.rows_long;
       deposits_long = ap length c.deposit.ensures ∙ (length-set at.crossbar k post.cell ∙ at.invariant.deposits_long);
-      plans = map-set (λ (x : CardState). x.sends.plan) at.cards k new d c.post-post.ensures.plan ∙ at.invariant.plans;
+      plans = map-set_same (λ (x : CardState). x.sends.plan) at.cards k new d c.post-post.ensures.plan ∙ at.invariant.plans;
       later = λ i after. get-set_other at.cards k i new (λ e. absurd (omega arith)) ∙ at.invariant.later i (omega arith);
       posted = λ takings expected was are.
           let here : slice_get at.cards k ≡ Some card = slice_get-get_or at.cards k d inside in

@@ -2,11 +2,12 @@ use Rattle.std.proofs.Common.{◌≡◌, ◌∙◌, ◌<◌, ◌++◌, ◌∷◌
 use Rattle.std.specs.Prelude.{None, Some, slice_get, slice_index_or}
 use Rattle.std.proofs.lemmas.List.{length-set}
 use Rattle.std.proofs.lemmas.Option.{slice_get-get_or, slice_get_within}
+use Rattle.std.proofs.Math.Seq.{map-set_same}
 use Rattle.crossbar.specs.declared.cards.Taken.{Taken}
 use Rattle.card_core.specs.Cards.{CardState, IsAfter}
 use Rattle.card_worker.proofs.Passes.{get-set_other}
 use Rattle.one_thread.specs.ActingSteps.{taken_now}
-use Rattle.one_thread.proofs.Places.{map-set, each-more}
+use Rattle.one_thread.proofs.Places.{each-more}
 use Rattle.one_thread.proofs.taking.take_all.Goals as goal
 
 pub loop-place-preserved : goal.loop-place-preserved
@@ -27,7 +28,7 @@ loop-place-preserved c =
     let is : taken ≡ now k = λ i. record { slot = c.args.slot; served = part i; cell = c.fetch.ensures.cell i; done = c.args.done } in
     record {
       count = length-set at.cards k new ∙ long;
-      plans = map-set (λ (x : CardState). x.sends.plan) at.cards k new d c.take.ensures.plan ∙ at.invariant.plans;
+      plans = map-set_same (λ (x : CardState). x.sends.plan) at.cards k new d c.take.ensures.plan ∙ at.invariant.plans;
       later = λ i after. get-set_other at.cards k i new (λ e. absurd (omega arith)) ∙ at.invariant.later i (omega arith);
       taken = λ takings was.
           let here : slice_get at.cards k ≡ Some card = slice_get-get_or at.cards k d inside in

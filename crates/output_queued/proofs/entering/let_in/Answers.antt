@@ -1,9 +1,9 @@
 use Rattle.std.proofs.Common.{◌≡◌, ◌∙◌, ◌+◌, ◌<◌, None, Some, length, length-set, ap, sym, subst, arith}
+use Rattle.std.proofs.lemmas.List.{get_or_read}
 use Rattle.rotating_pick.proofs.Bits.{Has-lt}
 use Rattle.output_queued.specs.Switches.{card_for, IsComing}
 use Rattle.output_queued.specs.NotingSteps.{Source, no_source, source_at, tally_at, IsBefore}
 use Rattle.output_queued.specs.Steps.{IsPart, HasEntered, HaveEntered, IsAdmissible, cells_to, with_cells}
-use Rattle.output_queued.proofs.Places.{found-at}
 use Rattle.output_queued.proofs.Arrivals.{next-part, next-before, one-entered, none-more, cells-few, unserved-more}
 use Rattle.output_queued.proofs.entering.let_in.Goals as goal
 use Rattle.output_queued.proofs.entering.let_in.Goals.{in-Some, in_default}
@@ -20,7 +20,7 @@ arrive-requires c =
     let inside : k < ports = omega arith in
     let below : k < length now = omega arith in
     let so_far = c.loop-input.invariant.entered ports depth served stand in
-    let found : c.index_mut.result.now ≡ source_at now k = found-at no_source now k c.index_mut.result.now below c.index_mut.ensures.value in
+    let found : c.index_mut.result.now ≡ source_at now k = get_or_read now k c.index_mut.result.now below c.index_mut.ensures.value no_source in
     let part = next-part ports depth c.args.slot served c.args.inputs.now.items stand k now c.args.tallies.now.items c.loop-input.tallies.items so_far inside in
     let before = next-before ports depth c.args.slot served c.args.inputs.now.items stand k now c.args.tallies.now.items c.loop-input.tallies.items so_far
     inside in (
@@ -44,7 +44,7 @@ add_cells-requires-clause-fan c j has =
     let inside : k < ports = omega arith in
     let below : k < length now = omega arith in
     let so_far = c.loop-input.invariant.entered ports depth served stand in
-    let found : c.index_mut.result.now ≡ source_at now k = found-at no_source now k c.index_mut.result.now below c.index_mut.ensures.value in
+    let found : c.index_mut.result.now ≡ source_at now k = get_or_read now k c.index_mut.result.now below c.index_mut.ensures.value no_source in
     let part = next-part ports depth c.args.slot served c.args.inputs.now.items stand k now c.args.tallies.now.items c.loop-input.tallies.items so_far inside in
     let is : IsComing ports c.in-Some.packet = c.in-Some.ensures.packet ports depth (subst (λ (s : Source). IsPart ports depth s.coming) (sym found) part) in
     let lower = Has-lt ports c.in-Some.packet.fan j is.fan has in
@@ -64,7 +64,7 @@ loop-input-preserved c =
     let end = c.len-input-end.ensures in
     let long = inv.long in
     let below : k < length now = omega arith in
-    let found : c.index_mut.result.now ≡ source_at now k = found-at no_source now k c.index_mut.result.now below c.index_mut.ensures.value in
+    let found : c.index_mut.result.now ≡ source_at now k = get_or_read now k c.index_mut.result.now below c.index_mut.ensures.value no_source in
     elim c.match-arrive.branch [
       | in-Some w ↦
           let packet = w.in-Some.packet in

@@ -1,11 +1,10 @@
 use Rattle.std.proofs.Common.{◌≡◌, ◌∙◌, ◌<◌, Option, None, length, length-set, slice_index_or, sym, subst, arith, inl, inr}
 use Rattle.std.proofs.lemmas.Bool.{cases_eq}
-use Rattle.std.proofs.lemmas.List.{get_or-set_same, get_or-set_other}
+use Rattle.std.proofs.lemmas.List.{get_or-set_same, get_or-set_other, get_or_read}
 use Rattle.slot_match.specs.declared.matching.Served.{Served}
 use Rattle.slot_match.specs.Parts.{served_of}
 use Rattle.output_queued.specs.NotingSteps.{Source, no_source, source_at}
 use Rattle.output_queued.specs.Steps.{MayTake, HasTaken}
-use Rattle.output_queued.proofs.Places.{found-at}
 use Rattle.output_queued.proofs.entering.take_served.Goals as goal
 
 pub take-requires : goal.take-requires
@@ -21,7 +20,7 @@ take-requires c =
     let inside : k < length old = omega arith in
     let matches : k < length c.args.matched.now = omega arith in
     let now = at.inputs.items in
-    let found : c.index_mut.result.now ≡ source_at now k = found-at no_source now k c.index_mut.result.now below c.index_mut.ensures.value in
+    let found : c.index_mut.result.now ≡ source_at now k = get_or_read now k c.index_mut.result.now below c.index_mut.ensures.value no_source in
     let part : slice_index_or c.put_parts.new.parts k None ≡ served_of c.args.matched.now k = c.put_parts.ensures.parts k matches in
     subst (MayTake (slice_index_or c.put_parts.new.parts k None)) (sym (found ∙ at.invariant.left k (omega arith)))
     (subst (λ (p : Option Served). MayTake p (source_at old k)) (sym part) (c.requires.may k inside))
@@ -39,7 +38,7 @@ loop-input-preserved c =
     let count = c.requires.count in
     let below : k < length now = omega arith in
     let matches : k < length c.args.matched.now = omega arith in
-    let found : c.index_mut.result.now ≡ source_at now k = found-at no_source now k c.index_mut.result.now below c.index_mut.ensures.value in
+    let found : c.index_mut.result.now ≡ source_at now k = get_or_read now k c.index_mut.result.now below c.index_mut.ensures.value no_source in
     let part : slice_index_or c.put_parts.new.parts k None ≡ served_of c.args.matched.now k = c.put_parts.ensures.parts k matches in
     let here : HasTaken (served_of c.args.matched.now k) (source_at old k) new =
     subst (λ (p : Option Served). HasTaken p (source_at old k) new) part

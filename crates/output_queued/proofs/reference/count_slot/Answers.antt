@@ -2,13 +2,13 @@ use Rattle.std.proofs.Common.{◌≡◌, ◌∙◌, ◌↔◌, ℕ, ◌<◌, ◌
 use Rattle.std.proofs.Common.{if◌then◌else◌}
 use Rattle.std.specs.Prelude.{is_some}
 use Rattle.std.proofs.lemmas.Bool.{cases_eq}
-use Rattle.std.proofs.lemmas.List.{get_or-set_same, get_or-set_other}
+use Rattle.std.proofs.lemmas.List.{get_or-set_same, get_or-set_other, get_or_read}
 use Rattle.rotating_pick.specs.PortSets.{Has}
 use Rattle.slot_match.specs.Matches.{fed_of}
 use Rattle.output_queued.specs.declared.tally.Tally.{Tally}
 use Rattle.output_queued.specs.NotingSteps.{no_tally, tally_at, IsUnserved}
 use Rattle.output_queued.specs.Steps.{Ticks}
-use Rattle.output_queued.proofs.Places.{found-at, set-case}
+use Rattle.output_queued.proofs.Places.{set-case}
 use Rattle.output_queued.proofs.reference.count_slot.Goals as goal
 use Rattle.output_queued.proofs.reference.count_slot.Goals.{then-not-is_behind, else-not-is_behind}
 
@@ -51,7 +51,7 @@ loop-output-preserved c =
     let long = inv.long in
     let below : out < length now = omega arith in
     let found : c.index_mut-tally.result.now ≡ tally_at now out =
-    found-at no_tally now out c.index_mut-tally.result.now below c.index_mut-tally.ensures.value in
+    get_or_read now out c.index_mut-tally.result.now below c.index_mut-tally.ensures.value no_tally in
     let was : tally_at now out ≡ tally_at old out = inv.left out member in
     let fed : c.is_some.result ≡ is_some (fed_of c.args.matched.now out) = c.is_some.ensures ∙ ap is_some c.fed.ensures.value in
     let ticks = c.tick.ensures.ticks in

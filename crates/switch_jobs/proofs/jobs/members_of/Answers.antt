@@ -3,12 +3,13 @@ use Rattle.std.specs.Prelude.{Some, slice_get}
 use Rattle.std.specs.Vec.Iter.{into_iter_items}
 use Rattle.std.proofs.lemmas.List.{length-map, length_push}
 use Rattle.std.proofs.lemmas.Option.{slice_get-get_or, slice_get_within}
+use Rattle.std.proofs.lemmas.List.Edits.{length-remove}
 use Rattle.slot_histories.specs.declared.events.Event.{Event}
 use Rattle.turn_lock.specs.Seats.{SeatValue, new_seat}
 use Rattle.card_core.specs.Plans.{Plan, plan_of}
 use Rattle.card_worker.specs.declared.hands.Member.{Member}
 use Rattle.card_worker.specs.Trying.{IsMember}
-use Rattle.card_worker.proofs.Grouping.{next_seats, next_length}
+use Rattle.card_worker.proofs.Grouping.{next_seats}
 use Rattle.switch_jobs.specs.ReadinessSteps.{plans_in}
 use Rattle.switch_jobs.proofs.Members.{gone_more, here_of, AreInPlace, AreInPlace-more, plans_more}
 use Rattle.switch_jobs.proofs.jobs.members_of.Goals as goal
@@ -55,7 +56,7 @@ loop-card-preserved c =
     let seat = c.remove-seat.result in
     let first : slice_get at.seats.items 0 ≡ Some seat = slice_get-get_or at.seats.items 0 seat inside ∙ ap Some (sym c.remove-seat.ensures.value) in
     let items = c.remove-seat.ensures.items in
-    let long : length c.remove-seat.new.self.items + 1 ≡ length at.seats.items = ap (λ xs. length xs + 1) items ∙ next_length at.seats.items inside in
+    let long : length c.remove-seat.new.self.items + 1 ≡ length at.seats.items = ap (λ xs. length xs + 1) items ∙ length-remove at.seats.items 0 inside in
     let hand = c.in_ok-hand.hand in
     let plan : hand.card.sends.plan ≡ plan_of x = c.in_ok-hand.ensures.plan in
     let sized = c.requires.sized done x here in

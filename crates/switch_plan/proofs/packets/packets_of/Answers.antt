@@ -2,10 +2,11 @@ use Rattle.std.proofs.Common.{◌≡◌, ◌∙◌, ◌<◌, ◌≤◌, length, 
 use Rattle.std.specs.Prelude.{map}
 use Rattle.std.specs.List.{zip}
 use Rattle.std.proofs.lemmas.List.{get_or_default, take_all, length-map}
+use Rattle.std.proofs.Math.ListN.{get_or-map as get_or-map_same}
 use Rattle.pcap_records.specs.declared.capture.Stored.{Stored}
 use Rattle.pcap_records.specs.Packets.{packet_in, captured_in, packets_of}
 use Rattle.switch_plan.specs.Traffic.{planned}
-use Rattle.switch_plan.proofs.Mapping.{at_map, length_zip, made_next}
+use Rattle.switch_plan.proofs.Mapping.{length_zip, made_next}
 use Rattle.switch_plan.proofs.Times.{no_stored, planned_next}
 use Rattle.switch_plan.proofs.packets.packets_of.Goals as goal
 
@@ -24,7 +25,7 @@ loop-k-preserved c =
           c.loop-k.invariant.made;
       places = made_next (λ packet. packet.start) c.loop-k.packets.items c.push.new.self.items
           (map (λ (s : Stored). s.start) capture.packets.items) c.planned.result k 0 c.in_ok-push.ensures.items
-          (c.planned.ensures.start ∙ ap (λ (s : Stored). s.start) same ∙ sym (at_map (λ (s : Stored). s.start) capture.packets.items k no_stored))
+          (c.planned.ensures.start ∙ ap (λ (s : Stored). s.start) same ∙ sym (get_or-map_same (λ (s : Stored). s.start) capture.packets.items k no_stored))
           (let l = length-map capture.packets.items (λ (s : Stored). s.start) in omega arith)
           c.loop-k.invariant.places;
     }

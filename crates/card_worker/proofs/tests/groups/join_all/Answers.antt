@@ -1,10 +1,11 @@
 use Rattle.std.proofs.Common.{◌≡◌, ◌∙◌, suc, ◌+◌, ◌<◌, ap, sym, subst, arith, length}
 use Rattle.std.specs.Prelude.{Some, slice_get}
 use Rattle.std.proofs.lemmas.Option.{slice_get-get_or}
+use Rattle.std.proofs.lemmas.List.Edits.{length-remove}
 use Rattle.slot_histories.specs.declared.events.Event.{Event}
 use Rattle.turn_lock.specs.Seats.{SeatValue, new_seat}
 use Rattle.card_worker.specs.Trying.{IsMember}
-use Rattle.card_worker.proofs.Grouping.{AreGroups-none, next_seats, next_length}
+use Rattle.card_worker.proofs.Grouping.{AreGroups-none, next_seats}
 use Rattle.card_worker.proofs.tests.groups.join_all.Goals as goal
 
 pub loop-card-init : goal.loop-card-init
@@ -26,7 +27,7 @@ loop-card-preserved c =
     let ports = c.requires.ports in
     let inside : 0 < length at.seats.items = omega arith in
     let items = c.remove-seat.ensures.items in
-    let long : length c.remove-seat.new.self.items + 1 ≡ length at.seats.items = ap (λ xs. length xs + 1) items ∙ next_length at.seats.items inside in
+    let long : length c.remove-seat.new.self.items + 1 ≡ length at.seats.items = ap (λ xs. length xs + 1) items ∙ length-remove at.seats.items 0 inside in
     record {
       groups = c.in_ok-join.ensures.groups;
       some = let count = c.in_ok-join.ensures.count in let some = at.invariant.some in omega arith;

@@ -1,11 +1,11 @@
 use Rattle.std.proofs.Common.{◌≡◌, ◌∙◌, ◌++◌, ◌∷◌, [], ℕ, None, length, take, refl, sym, subst}
+use Rattle.std.proofs.option.Match.{None-if_not_some}
 use Rattle.named_schedulers.specs.Named.{decision_named}
 use Rattle.service_bound.specs.Waits.{NotedSlot}
 use Rattle.service_bound.specs.MeterSteps.{HasNoted}
 use Rattle.journal_check.specs.Lawful.{after_slot, failure_in}
 use Rattle.journal_check.specs.Steps.{before_of}
 use Rattle.journal_check.proofs.Judged.{passed, noted_same}
-use Rattle.journal_check.proofs.SlotFails.{is_none}
 use Rattle.journal_check.proofs.judging.Judge.judge.Goals as goal
 
 pub returns-in-None-clause-judged : goal.returns-in-None-clause-judged
@@ -15,7 +15,7 @@ returns-in-None-clause-judged c slots value count is judged =
     let mid = c.slot_failure.new.self in
     let rows = c.args.slot.now.rows in
     let same_rows : take n rows ≡ take n rows = refl in
-    let was : old.failure ≡ None = is_none old.failure (sym c.is_some.ensures ∙ c.if-is_some.false) in
+    let was : old.failure ≡ None = None-if_not_some old.failure (sym c.is_some.ensures ∙ c.if-is_some.false) in
     let stays = c.in-None.ensures.stays in
     let why : None ≡ failure_in (decision_named old.scheduler) n old.rounds (length slots) (before_of n old) value =
     subst (λ (t : ℕ). None ≡ failure_in (decision_named old.scheduler) n old.rounds t (before_of n old) value) count (c.in-None.ensures.failure value is) in

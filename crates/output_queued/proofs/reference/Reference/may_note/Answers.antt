@@ -1,15 +1,11 @@
-use Rattle.std.proofs.Common.{◌≡◌, ◌∙◌, Bool, true, false, map, ap, sym, subst, arith}
-use Rattle.std.proofs.lemmas.Bool.{eqb-true, eq-eqb, le-ltb}
+use Rattle.std.proofs.Common.{◌≡◌, ◌∙◌, true, false, map, ap, sym, subst, arith}
+use Rattle.std.proofs.lemmas.Bool.{eqb-true, eq-eqb, le-ltb, both_ways}
 use Rattle.card_core.specs.StateSteps.{row_of}
 use Rattle.output_queued.specs.NotingSteps.{Source, State, MayNote}
 use Rattle.output_queued.specs.contracts.reference.Reference.{the_view}
 use Rattle.output_queued.proofs.Noted.{note_from, note_rows, note_ports}
 use Rattle.output_queued.proofs.reference.Reference.may_note.Goals as goal
 use Rattle.output_queued.proofs.reference.Reference.may_note.Goals.{then-self-lt-MAX_SLOTS, else-self-lt-MAX_SLOTS, then-ports-self, else-ports-self}
-
-clash : (b : Bool) → b ≡ true → b ≡ false → ⊥
-clash true yes_ no_ = cc
-clash false yes_ no_ = cc
 
 pub returns-then-are_rows : goal.returns-then-are_rows
 returns-then-are_rows c =
@@ -28,9 +24,9 @@ returns-then-are_rows c =
               (note_from s0 c.self.invariant.0 c.self.invariant.1 rows matched v.if-self-lt-MAX_SLOTS.true v.ports.result ports v.ports.ensures.whole same
               (c.are_named.ensures.0 named))
           | else-self-lt-MAX_SLOTS v ↦ absurd
-              (clash c.if-self-lt-MAX_SLOTS.value w.if-ports-self.true (v.value-is ∙ le-ltb c.self.inside.slots 262145 v.if-self-lt-MAX_SLOTS.false))
+              (both_ways c.if-self-lt-MAX_SLOTS.value (v.value-is ∙ le-ltb c.self.inside.slots 262145 v.if-self-lt-MAX_SLOTS.false) w.if-ports-self.true)
         ]
-        | else-ports-self w ↦ absurd (clash c.if-ports-self.value all (w.value-is ∙ w.if-ports-self.false))
+        | else-ports-self w ↦ absurd (both_ways c.if-ports-self.value (w.value-is ∙ w.if-ports-self.false) all)
       ],
       λ may. c.are_named.ensures.1 may.2.named,
     )
@@ -48,12 +44,12 @@ returns-else-are_rows c =
             | then-ports-self w ↦
                 let same = note_rows s0 rows matched may ∙ sym (ap (map (λ (source : Source). row_of source.banks source.fans)) w.deref.ensures.value) in
                 let are : w.are_rows.result ≡ true = w.are_rows.ensures.1 same in
-                absurd (clash c.if-ports-self.value (w.value-is ∙ are) none)
+                absurd (both_ways c.if-ports-self.value none (w.value-is ∙ are))
             | else-ports-self w ↦ elim c.if-self-lt-MAX_SLOTS.branch [
               | then-self-lt-MAX_SLOTS v ↦
                   let ports : v.ports.result ≡ c.self.inside.ports = v.ports.ensures.value ∙ note_ports s0 rows matched may in
                   let test = eq-eqb v.ports.result c.self.inside.ports ports in
-                  absurd (clash c.if-self-lt-MAX_SLOTS.value (v.value-is ∙ test) w.if-ports-self.false)
+                  absurd (both_ways c.if-self-lt-MAX_SLOTS.value w.if-ports-self.false (v.value-is ∙ test))
               | else-self-lt-MAX_SLOTS v ↦
                   let slots = may.1.stands.slots in
                   let few = may.2.few in

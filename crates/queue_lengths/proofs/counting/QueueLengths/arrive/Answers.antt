@@ -1,11 +1,11 @@
 use Rattle.std.proofs.Common.{rules, ◌≡◌, ◌∙◌, ℕ, ◌+◌, ◌<◌, List, length, Option, Some, None, ap, sym, subst, arith}
 use Rattle.std.specs.Vec.{with_items}
 use Rattle.std.proofs.lemmas.List.{with_items_is, places}
+use Rattle.std.proofs.lemmas.Option.{slice_get_within}
 use Rattle.card_core.specs.declared.plan.Planned.{Planned}
 use Rattle.slot_match.specs.declared.matching.Served.{Served}
 use Rattle.card_core.specs.Plans.{Plan}
 use Rattle.card_core.specs.StateSteps.{next_in}
-use Rattle.card_core.proofs.After.{some_in}
 use Rattle.card_core.proofs.Plenty.{few_packets}
 use Rattle.queue_lengths.specs.Counters.{Counters, CountBefore, CountIn, arrival_in}
 use Rattle.queue_lengths.specs.Steps.{MayEnter, enters_at, lengths_with}
@@ -47,7 +47,7 @@ overflow_add-self c =
     let next : next_in s0.packets s0.next (length served) ≡ Some c.in_ok-packet.packet =
     looked_at s0.packets c.deref.result.now s0.next long c.next_arrival.ensures c.deref.ensures.value c.in_ok-packet.was in
     let inside : s0.next < length plan.packets =
-    some_in plan.packets s0.next c.in_ok-packet.packet (packet-there plan s0 served was0 c.in_ok-packet.packet next) in
+    slice_get_within plan.packets s0.next c.in_ok-packet.packet (packet-there plan s0 served was0 c.in_ok-packet.packet next) in
     let few = few_packets plan was0.good in
     omega arith
 

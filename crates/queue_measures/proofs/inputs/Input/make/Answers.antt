@@ -1,4 +1,5 @@
-use Rattle.std.proofs.Common.{◌≡◌, ◌∙◌, ℕ, zero, suc, refl, ◌<◌, [], List, length, replicate, slice_index_or, ap, sym, arith}
+use Rattle.std.proofs.Common.{◌∙◌, [], List, length, slice_index_or, ap, sym, arith}
+use Rattle.std.proofs.lemmas.List.{get_or-replicate, length-replicate}
 use Rattle.card_core.specs.Plans.{plan_of}
 use Rattle.queue_lengths.specs.Lengths.{place_of}
 use Rattle.queue_measures.specs.declared.numbers.QueueNumbers.{QueueNumbers}
@@ -7,15 +8,6 @@ use Rattle.queue_measures.proofs.SoFar.{numbers-first}
 use Rattle.queue_lengths.proofs.Places.{place-inside}
 use Rattle.queue_measures.proofs.inputs.Input.make.Goals as goal
 
-all-same : (n k : ℕ) → k < n → slice_index_or (replicate n no_numbers) k no_numbers ≡ no_numbers
-all-same zero k inside = absurd (omega arith)
-all-same (suc n) zero inside = refl
-all-same (suc n) (suc k) inside = all-same n k (omega arith)
-
-long : (n : ℕ) → length (replicate n no_numbers) ≡ n
-long zero = refl
-long (suc n) = ap suc (long n)
-
 pub returns : goal.returns
 returns c =
     let plan = plan_of c.args.plan.now in
@@ -23,8 +15,8 @@ returns c =
     let count = c.queue_count.ensures in
     record {
       counts = c.in_ok-queues.ensures;
-      count = ap length items ∙ long c.queue_count.result ∙ count;
+      count = ap length items ∙ length-replicate c.queue_count.result no_numbers ∙ count;
       numbers = λ q mine. ap (λ (ns : List QueueNumbers). slice_index_or ns (place_of plan.ports q) no_numbers) items
-          ∙ all-same c.queue_count.result (place_of plan.ports q) (let inside = place-inside plan.ports q mine in omega (arith, inside, count))
+          ∙ get_or-replicate c.queue_count.result (place_of plan.ports q) no_numbers no_numbers (let inside = place-inside plan.ports q mine in omega (arith, inside, count))
           ∙ sym (numbers-first plan [] q);
     }
