@@ -7,7 +7,7 @@ use Rattle.std.proofs.lemmas.List.{get_or-take, get_or-drop, length-take, length
 use Rattle.std.proofs.lemmas.List.FromFn.{fill_by_all}
 use Rattle.std.proofs.Math.Seq.{get_or-append_seam, get_or-append_right, set-append_seam}
 use Rattle.std.proofs.Math.ListN.{get_or-append}
-use Rattle.rotating_pick.proofs.Tables.{get_or-same}
+use Rattle.std_lemmas.proofs.Lists.{get_or-same}
 use Rattle.crossbar.specs.declared.cards.Post.{Post as CardPost}
 use Rattle.slot_histories.specs.declared.events.Event.{Event}
 use Rattle.slot_histories.specs.declared.events.Event.TheVariants.{Post}

@@ -1,9 +1,11 @@
 -- The packets that were admitted and dropped, over all packets of the plan.
-use Rattle.std.proofs.Common.{◌≡◌, ◌≢◌, ◌∙◌, ℕ, zero, suc, ◌+◌, ◌≤◌, ◌==◌, ◌&&◌, not, nat_lt, Bool, true, false, List, [], ◌∷◌, ◌++◌, Option, Some}
+use Rattle.std.proofs.Common.{◌≡◌, ◌∙◌, ℕ, zero, suc, ◌+◌, ◌≤◌, ◌==◌, ◌&&◌, not, nat_lt, Bool, true, false, List, [], ◌∷◌, ◌++◌, Option, Some}
 use Rattle.std.proofs.Common.{None, slice_get, slice_index_or, count_by, refl, sym, ap, arith, inl, inr, if◌then◌else◌, append_assoc}
-use Rattle.std.proofs.lemmas.Bool.{cases_eq, cases_lt, eq-eqb, ne_eqb, lt-ltb, le-ltb}
+use Rattle.std.proofs.lemmas.Bool.{cases_eq, eq-eqb, ne_eqb, lt-ltb, le-ltb}
 use Rattle.std.proofs.lemmas.List.{append-nil}
 use Rattle.std.proofs.lemmas.List.Sums.{sum_by-cons}
+use Rattle.std_lemmas.proofs.Bools.{same_third}
+use Rattle.std_lemmas.proofs.Numbers.{lt_suc-other}
 use Rattle.slot_match.specs.declared.matching.Served.{Served}
 use Rattle.multicast_queue.specs.FanQueues.{FanCell}
 use Rattle.cell_rings.specs.CellQueues.{cells_with_fan}
@@ -22,17 +24,6 @@ rest-rising p ps rising k j x y at to less = rising (suc k) (suc j) x y at to (o
 
 rest-later : (p : Planned) (ps : List Planned) (t : ℕ) → AreRising (p ∷ ps) → p.arrival ≡ t → AreFrom (suc t) ps
 rest-later p ps t rising now j r at = let up = rising 0 (suc j) p r refl at (omega arith) in omega arith
-
-same_before : (a t : ℕ) → a ≢ t → nat_lt a (suc t) ≡ nat_lt a t
-same_before a t differ = elim (cases_lt a t) [
-  | inl less ↦ lt-ltb a (suc t) (omega arith) ∙ sym (lt-ltb a t less)
-  | inr le ↦ le-ltb a (suc t) (omega (arith, differ)) ∙ sym (le-ltb a t le)
-]
-
-pub same_test : (r s a b : Bool) → (s ≡ true → a ≡ b) → (r && s && a) ≡ (r && s && b)
-same_test true true a b same = same refl
-same_test true false a b same = refl
-same_test false s a b same = refl
 
 -- ---- the cells of the admitted packets
 entered_if : (s t : Passed) (b : Bool) → t.entered ≡ s.entered → (if b then head_gone s else t).entered ≡ s.entered
@@ -65,7 +56,7 @@ module _ (plan : Plan) (q : Queue) (served : List (Option Served)) where
             rw (lt-ltb p.arrival (suc t) (omega arith), le-ltb p.arrival t (omega arith), eq-eqb p.arrival t now, none, none') (append-nil _)
         | inr differ ↦
             let here = if nat_lt p.arrival t && enters plan q served p then cells_with_fan k (size_of p) p.fan else [] in
-            rw (same_before p.arrival t differ, ne_eqb p.arrival t differ)
+            rw (lt_suc-other p.arrival t differ, ne_eqb p.arrival t differ)
             (ap (λ w. here ++ w) (admitted_step t (k + 1) ps (rest-rising p ps rising))
             ∙ sym (append_assoc here (cells_admitted plan q served t (k + 1) ps) (arrival_cells (arriving_from (k + 1) ps t))))
       ]
@@ -75,7 +66,7 @@ module _ (plan : Plan) (q : Queue) (served : List (Option Served)) where
   coming_enters t (Some (k, p)) is =
       let now : p.arrival ≡ t = (arriving-there 0 plan.packets t k p is).3 in
       let same : (is_routed p && is_queue q (queue_of p) && fits plan (before plan q served t) p) ≡ enters plan q served p =
-      same_test (is_routed p) (is_queue q (queue_of p)) (fits plan (before plan q served t) p) (is_admitted plan served p.arrival p)
+      same_third (is_routed p) (is_queue q (queue_of p)) (fits plan (before plan q served t) p) (is_admitted plan served p.arrival p)
       (λ mine. ap (λ r. fits plan (before plan r served t) p) (is_queue-same q (queue_of p) mine) ∙ ap (λ u. is_admitted plan served u p) (sym now)) in
       ap (λ b. if b then cells_with_fan k (size_of p) p.fan else []) same
 
@@ -127,7 +118,7 @@ module _ (test : Planned → Bool) where
             ) (omega arith)
         | inr differ ↦
             let more = passing_step t (k + 1) ps (rest-rising p ps rising) in
-            rw (passing-cons (suc t) p ps, passing-cons t p ps, same_before p.arrival t differ, ne_eqb p.arrival t differ, more) (omega arith)
+            rw (passing-cons (suc t) p ps, passing-cons t p ps, lt_suc-other p.arrival t differ, ne_eqb p.arrival t differ, more) (omega arith)
       ]
 
 module _ (plan : Plan) (good : IsGoodPlan plan) (served : List (Option Served)) where

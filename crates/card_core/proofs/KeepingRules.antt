@@ -5,6 +5,7 @@ use Rattle.std.proofs.Common.{slice_index_or, count_by, refl, sym, ap, arith, in
 use Rattle.std.specs.List.{range_with_len}
 use Rattle.std.proofs.lemmas.Bool.{cases_eq, eq-eqb, ne_eqb, lt-ltb, le-ltb, and_right, or_parts, or_from}
 use Rattle.std.proofs.lemmas.List.Sums.{sum_by-cons}
+use Rattle.std_lemmas.proofs.Bools.{same_third}
 use Rattle.rotating_pick.specs.PortSets.{Has}
 use Rattle.rotating_pick.proofs.Bits.{Has-lt}
 use Rattle.slot_match.specs.declared.matching.Served.{Served}
@@ -18,7 +19,7 @@ use Rattle.card_core.specs.Queues.{is_admitted, enters, cells_admitted}
 use Rattle.card_core.specs.QueueRules.{comes_in, cells_entering, is_first, parts_for, left_of, completes, KeepsRules}
 use Rattle.card_core.proofs.Remaining.{any_gives, remaining-has, remaining-from}
 use Rattle.card_core.proofs.Passing.{is_queue-same, AreOf, AreOf-drop, small_fan, kept-before}
-use Rattle.card_core.proofs.Admitting.{same_test, entered_stays, entered-is}
+use Rattle.card_core.proofs.Admitting.{entered_stays, entered-is}
 
 -- ---- numbers and lists
 -- of a range with one number more
@@ -167,7 +168,7 @@ module _ (plan : Plan) (q : Queue) (served : List (Option Served)) where
   -- the cells that entered
   comes_enters : (p : Planned) → enters plan q served p ≡ comes_in plan q queue p
   comes_enters p =
-      same_test (is_routed p) (is_queue q (queue_of p)) (is_admitted plan served p.arrival p) (fits plan (queue p.arrival) p)
+      same_third (is_routed p) (is_queue q (queue_of p)) (is_admitted plan served p.arrival p) (fits plan (queue p.arrival) p)
       (λ mine. ap (λ r. fits plan (before plan r served p.arrival) p) (sym (is_queue-same q (queue_of p) mine)))
 
   cells_are : (t k : ℕ) (ps : List Planned) → cells_admitted plan q served t k ps ≡ cells_entering plan q queue t k ps

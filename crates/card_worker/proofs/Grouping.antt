@@ -1,11 +1,12 @@
 -- Groups of a board: made, driven and disbanded.
 use Rattle.std.proofs.Common.{◌≡◌, ◌∙◌, ℕ, zero, suc, ◌+◌, ◌<◌, ◌≤◌, false, List, [], ◌∷◌, ◌++◌, length, set, get_or, refl, sym, ap, subst, arith, inl, inr}
 use Rattle.std.specs.Prelude.{None, Some, slice_get}
-use Rattle.std.specs.List.{remove}
 use Rattle.std.proofs.lemmas.Bool.{cases_eq}
 use Rattle.std.proofs.lemmas.List.{length_push}
 use Rattle.std.proofs.lemmas.List.Sums.{sum_by-set, sum_by-cons}
 use Rattle.std.proofs.lemmas.Option.{slice_get_within, get_or_from_slice_get}
+use Rattle.std_lemmas.proofs.Options.{some_same}
+use Rattle.std_lemmas.proofs.Lists.{at_place, get-set_same, get-set_other, get-snoc}
 use Rattle.slot_histories.specs.declared.events.Event.{Event}
 use Rattle.turn_lock.specs.Seats.{TurnValue, SeatValue, AreSeats, new_seat}
 use Rattle.slot_board.specs.Columns.{IsBoard}
@@ -20,14 +21,6 @@ use Rattle.card_worker.specs.Trying.{IsMember}
 use Rattle.card_worker.specs.Driving.{AfterPasses}
 use Rattle.card_worker.specs.Disbanding.{IsAmong, HasCard, AreFrom, member_count}
 use Rattle.card_worker.specs.Groups.{AreGroups}
-use Rattle.card_worker.proofs.Passes.{get-set_same, get-set_other, some_same}
-use Rattle.card_worker.proofs.Removing.{get-snoc}
-
--- the element at a place within the list
-pub at_place : {X : Type 0} (xs : List X) (i : ℕ) → i < length xs → (x : X) × (slice_get xs i ≡ Some x)
-at_place [] i inside = absurd (omega (arith, inside))
-at_place (x ∷ xs) zero inside = (x, refl)
-at_place (x ∷ xs) (suc i) inside = at_place xs i (omega (arith, inside))
 
 -- a new card and its new seat
 pub IsMember-new : (board : TurnValue Event) (hand : Hand) → IsBoard board → hand.kept ≡ None → IsAfter hand.card [] false
@@ -241,8 +234,3 @@ few_members (group ∷ groups) (suc p) g at =
     let rest = few_members groups p g at in
     let sums = sum_by-cons (λ (x : Group). length x.members.items) group groups in
     omega arith
-
--- the next seat, where the first of the seats is taken off
-pub next_seats : {X : Type 0} (xs : List X) (i : ℕ) → slice_get (remove xs 0) i ≡ slice_get xs (suc i)
-next_seats [] i = refl
-next_seats (x ∷ xs) i = refl

@@ -3,6 +3,8 @@ use Rattle.std.proofs.Common.{◌≡◌, ◌∙◌, ℕ, ◌+◌, ◌*◌, ◌<�
 use Rattle.std.specs.Prelude.{slice_get}
 use Rattle.std.proofs.lemmas.Bool.{cases_eq, cases_lt, both_ways}
 use Rattle.std.proofs.lemmas.List.{length-set, map-set, get_or-map, set-get_or, append-nil, append_assoc}
+use Rattle.std_lemmas.proofs.Options.{some_same}
+use Rattle.std_lemmas.proofs.Lists.{get-set_same, get-set_other}
 use Rattle.slot_histories.specs.declared.events.Event.{Event}
 use Rattle.slot_histories.specs.declared.events.Event.TheVariants.{Decide}
 use Rattle.slot_histories.specs.Events.{Setup, posts_of, takes_of, decides, posted}
@@ -21,7 +23,7 @@ use Rattle.card_worker.specs.TryingSteps.{one_if}
 use Rattle.card_worker.specs.Alone.{IsHandOf, AreHandsOf, GoesOn, IsOver}
 use Rattle.card_worker.specs.AloneSteps.{with_event, plans_of, IsStill, AfterAct, AfterRound}
 use Rattle.card_worker.proofs.Columns.{column-decide}
-use Rattle.card_worker.proofs.Passes.{get-set_same, get-set_other, some_same, one_none}
+use Rattle.card_worker.proofs.Passes.{one_none}
 
 -- a hand whose card keeps its plan
 pub plans_of-set : (hands : List Hand) (i : ℕ) (new old : Hand) → i < length hands → new.card.sends.plan ≡ (get_or hands i old).card.sends.plan

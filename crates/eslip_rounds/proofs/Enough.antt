@@ -4,6 +4,7 @@ use Rattle.std.proofs.Common.{subst, inl, inr, arith, tests}
 use Rattle.std.proofs.lemmas.List.{ext_get_or, get_or_past}
 use Rattle.std.proofs.lemmas.List.Sums.{sum_by-cons}
 use Rattle.std.proofs.lemmas.Option.{none-some}
+use Rattle.std_lemmas.proofs.Options.{kept_or_new}
 use Rattle.rotating_pick.specs.declared.kinds.Kind.{Kind}
 use Rattle.rotating_pick.specs.declared.kinds.Kind.TheVariants.{Multi}
 use Rattle.slot_match.specs.declared.rows.Row.{Row}
@@ -12,7 +13,7 @@ use Rattle.slot_match.specs.Rows.{row_of, AreWithin}
 use Rattle.slot_match.specs.Matches.{fed_of, IsFreeOutput, IsMatch, IsMaximal}
 use Rattle.slot_match.proofs.Pairs.{Serves-from}
 use Rattle.pointer_state.specs.Places.{Places, AreAtPorts, accept_of}
-use Rattle.islip_rounds.proofs.Counting.{count_fewer, kept_or_new, more_or_same}
+use Rattle.islip_rounds.proofs.Counting.{count_fewer, more_or_same}
 use Rattle.islip_rounds.specs.Numbers.{last_of, matched_count, added_from, rounds_used}
 use Rattle.eslip_rounds.specs.Rounds.{Requests, Grants, IsRound, AreRounds}
 use Rattle.eslip_rounds.proofs.Bests.{taken_from}

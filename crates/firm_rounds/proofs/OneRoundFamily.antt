@@ -8,10 +8,10 @@ use Rattle.std.proofs.Common.{◌≡◌, ℕ, zero, suc, ◌+◌, ◌-◌, ◌*�
 use Rattle.std.proofs.Math.Nat.{mod-eq_of_lt}
 use Rattle.std.proofs.lemmas.List.Elements.{All-nil, All-cons}
 use Rattle.std.proofs.lemmas.Nat.{mod_below}
+use Rattle.std_lemmas.proofs.Numbers.{square-is, mod_once}
 use Rattle.rotating_pick.specs.Rotation.{distance}
 use Rattle.rotating_pick.specs.declared.kinds.Kind.TheVariants.{Uni}
 use Rattle.rotating_pick.specs.declared.limits.TheConstants.{MAX_PORTS}
-use Rattle.rotating_pick.proofs.Circle.{mod_once}
 use Rattle.slot_match.specs.declared.rows.Row.{Row}
 use Rattle.slot_match.specs.Rows.{Names, row_of, AreWithin}
 use Rattle.slot_match.specs.Matches.{Serves}
@@ -81,9 +81,6 @@ length-turns n (suc k) x some =
     let down = length-downs x (n - 1) 1 (lowers x 0 ∷ turns n (x + 1) k) in
     let rest = length-turns n k (x + 1) some in
     omega arith
-
-square-is : (n m : ℕ) → n ≡ m + 1 → m * n + n ≡ n * n
-square-is n m e = rw e (omega arith)
 
 length-family : (n : ℕ) → 0 < n → length (turns n 1 (n - 1)) ≡ n * n
 length-family n some = length-turns n (n - 1) 1 some ∙ square-is n (n - 1) (omega arith)

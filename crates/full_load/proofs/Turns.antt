@@ -1,13 +1,13 @@
 -- From slot n - 1 of full load on each output serves the inputs in turn.
 use Rattle.std.proofs.Common.{◌≡◌, ℕ, zero, suc, ◌+◌, ◌-◌, ◌%◌, ◌<◌, ◌≤◌, ◌∙◌, List, [], ◌∷◌, Any, length, drop, take, ap, subst, arith}
 use Rattle.std.proofs.Math.Nat.{mod-eq_of_lt, mod-add-mod}
+use Rattle.std_lemmas.proofs.Lists.{Any-here, Any-later}
 use Rattle.rotating_pick.specs.Rotation.{distance}
 use Rattle.rotating_pick.specs.declared.kinds.Kind.TheVariants.{Uni}
 use Rattle.rotating_pick.proofs.Circle.{distance-lt, place_at_distance}
 use Rattle.slot_match.specs.Matches.{Serves}
 use Rattle.pointer_state.specs.Places.{Places, grant_of}
 use Rattle.eslip_rounds.specs.Schedules.{DecidedSlot}
-use Rattle.service_bound.proofs.InWindows.{Any-here, Any-later}
 use Rattle.full_load.specs.FullLoad.{IsFullyLoaded}
 use Rattle.full_load.proofs.Parking.{IsSpread, IsSpread-first, all_taken, apart_at_last}
 use Rattle.full_load.proofs.Filling.{grants_of, Takes, begins, decided_here, first_here, step_here, loaded_later, spread_later}

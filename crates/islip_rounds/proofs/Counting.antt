@@ -4,6 +4,7 @@ use Rattle.std.proofs.Common.{inl, inr, arith}
 use Rattle.std.proofs.lemmas.List.{ext_get_or}
 use Rattle.std.proofs.lemmas.List.Sums.{sum_by-cons}
 use Rattle.std.proofs.lemmas.Option.{none-some}
+use Rattle.std_lemmas.proofs.Options.{kept_or_new}
 use Rattle.rotating_pick.proofs.Picking.{Decides, least}
 use Rattle.islip_rounds.specs.Numbers.{matched_count}
 
@@ -59,11 +60,6 @@ added_at : {X : Type 0} (o p : Option X) → ((f : X) × (o ≡ None) × (p ≡ 
 added_at None (Some f) = inl (f, refl, refl)
 added_at None None = inr (λ f e h. none-some f h)
 added_at (Some x) p = inr (λ f e h. none-some x (sym e))
-
-pub kept_or_new : {X : Type 0} (o p : Option X) → ((f : X) → o ≡ Some f → p ≡ Some f) → ((f : X) → o ≡ None → p ≡ Some f → ⊥) → o ≡ p
-kept_or_new (Some x) p keep none = sym (keep x refl)
-kept_or_new None None keep none = refl
-kept_or_new None (Some y) keep none = absurd (none y refl refl)
 
 -- a match that keeps another has more outputs, or is that one
 pub more_or_same : {X : Type 0} (a b : List (Option X)) → length a ≡ length b → Keeps a b → (matched_count a < matched_count b) ⊎ (a ≡ b)

@@ -1,12 +1,12 @@
 -- A round in which something is asked matches a pair.
 use Rattle.std.proofs.Common.{◌≡◌, ℕ, ◌<◌, List, [], ◌∷◌, Option, None, length, slice_index, sym, subst, arith, inr}
+use Rattle.std_lemmas.proofs.Lists.{get_or-same}
 use Rattle.rotating_pick.specs.PortSets.{Has}
 use Rattle.islip_rounds.specs.declared.numbers.RoundsUsed.{RoundsUsed}
 use Rattle.islip_rounds.specs.declared.unicast.UniPointers.{UniPointers}
 use Rattle.islip_rounds.specs.Numbers.{last_of}
 use Rattle.islip_rounds.specs.Rounds.{Feeds, IsRound, AreRounds}
 use Rattle.islip_rounds.specs.Slots.{unmatched, IsSlot}
-use Rattle.rotating_pick.proofs.Tables.{get_or-same}
 use Rattle.islip_rounds.proofs.Maximal.{some_accepts}
 use Rattle.islip_rounds.proofs.Running.{nothing_fed}
 

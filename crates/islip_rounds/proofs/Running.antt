@@ -2,13 +2,13 @@
 use Rattle.std.proofs.Common.{◌≡◌, ◌+◌, ◌-◌, ℕ, ◌<◌, ◌∙◌, List, [], ◌∷◌, ◌++◌, Option, None, length, map, slice_index_or, refl, sym, ap, subst, arith}
 use Rattle.std.proofs.Common.{length-append}
 use Rattle.std.proofs.lemmas.List.{length-map, get_or_append_left}
+use Rattle.std_lemmas.proofs.Lists.{get_or-same}
 use Rattle.islip_rounds.specs.declared.numbers.RoundsUsed.{RoundsUsed}
 use Rattle.islip_rounds.specs.declared.unicast.UniPointers.{UniPointers}
 use Rattle.islip_rounds.specs.Numbers.{last_of, matched_count, added_from, numbers_of, slot_numbers}
 use Rattle.islip_rounds.specs.Rounds.{Feeds, IsRound, AreRounds}
 use Rattle.islip_rounds.specs.Slots.{unmatched}
 use Rattle.islip_rounds.proofs.Lasts.{last_of-append, added_from-append, length-added_from}
-use Rattle.rotating_pick.proofs.Tables.{get_or-same}
 
 -- one more round at the end
 pub AreRounds-append : (n : ℕ) (asks : List ℕ) (pointers : UniPointers) (before after : List (Option ℕ)) (steps : List (List (Option ℕ)))

@@ -1,8 +1,8 @@
 -- Which sets of a row are not empty, as the bits of a byte.
-use Rattle.std.proofs.Common.{◌≡◌, ◌≢◌, ◌↔◌, ◌⊎◌, ℕ, ◌+◌, ◌-◌, ◌<◌, ◌≤◌, ◌==◌, ◌∙◌, not, true, false, List, length, slice_index, sym, ap, inl, inr, arith}
-use Rattle.std.proofs.lemmas.Bool.{cases_eq, cases_lt, cases_Bool}
-use Rattle.std.proofs.lemmas.Bool.Decides.{Decides-eqb}
+use Rattle.std.proofs.Common.{◌≡◌, ◌≢◌, ◌↔◌, ◌⊎◌, ℕ, ◌+◌, ◌-◌, ◌<◌, ◌≤◌, ◌==◌, ◌∙◌, not, true, List, length, slice_index, sym, ap, inl, inr, arith}
+use Rattle.std.proofs.lemmas.Bool.{cases_eq, cases_lt}
 use Rattle.std.proofs.lemmas.List.{get_or_append_left, get_or-append_right}
+use Rattle.std_lemmas.proofs.Numbers.{from_not_zero, not_zero}
 use Rattle.rotating_pick.specs.PortSets.{Has}
 use Rattle.rotating_pick.proofs.Bits.{no_member-zero}
 use Rattle.slot_match.specs.declared.rows.Row.{Row}
@@ -53,12 +53,6 @@ rises bits flags new sets first level full added so_far k = (
     | inr flag ↦ elim (split sets first level k flag) [ inl before ↦ (added k).1 (inr ((so_far k).1 (inr before))) | inr p ↦ (added k).1 (inl p.0) ]
   ],
 )
-
-pub not_zero : (x : ℕ) → x ≢ 0 → not (x == 0) ≡ true
-not_zero x some = elim (cases_Bool (x == 0)) [ inl e ↦ absurd (some ((Decides-eqb x 0).0 e)) | inr e ↦ ap not e ]
-
-from_not_zero : (x : ℕ) → not (x == 0) ≡ true → x ≢ 0
-from_not_zero x e none = absurd (let zero : (x == 0) ≡ true = (Decides-eqb x 0).1 none in let same : false ≡ true = sym (ap not zero) ∙ e in cc)
 
 module _ (row : Row) (unicast bits : ℕ) (uni_long : length row.uni ≡ 4) (first : (k : ℕ) → Has unicast k ↔ (Has 0 k ⊎ IsFlag row.uni 0 4 k))
     (second : (k : ℕ) → Has bits k ↔ (Has unicast k ⊎ IsFlag row.multi 4 4 k)) where

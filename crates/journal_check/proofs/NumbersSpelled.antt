@@ -3,11 +3,12 @@ use Rattle.std.proofs.Common.{◌≡◌, ℕ, zero, suc, ◌+◌, ◌-◌, ◌*�
 use Rattle.std.proofs.Common.{slice_index, Ok, Err, refl, sym, ap, subst, inl, inr, arith, append_assoc, leb-true, nat_le, true}
 use Rattle.std.specs.List.{flat_map, range_with_len}
 use Rattle.std.specs.Int.{byte_at, bytes_high_first}
-use Rattle.std.proofs.Math.Nat.{mod-eq_of_lt, mod-lt, mul-add-mod_self_right}
+use Rattle.std.proofs.Math.Nat.{mod-eq_of_lt, mul-add-mod_self_right}
 use Rattle.std.proofs.lemmas.Bool.{cases_Bool, cases_lt, and_parts}
 use Rattle.std.proofs.lemmas.List.{append-nil, length-append, length-take-le, take-append-drop, get_or_past, get_or-take, get_or-append_right}
 use Rattle.std.proofs.lemmas.List.Elements.{All-cons}
 use Rattle.std.proofs.lemmas.Nat.{div-mul-add}
+use Rattle.std_lemmas.proofs.Numbers.{byte_at-lt}
 use Rattle.byteorder.specs.Endian.{big_from, big_number, big_bytes}
 use Rattle.byteorder.specs.Numbers.{big_from-cons, big_from-lt, big_from-take, big_number-reads_back, length-bytes_high_first}
 use Rattle.journal_check.specs.declared.fields.Field.{Field}
@@ -104,13 +105,9 @@ same_bytes (suc n) (x ∷ xs) (y ∷ ys) p q are also e =
     ∙ (mul-add-mod_self_right y high s ∙ mod-eq_of_lt s_low) in
     ap (λ (b : ℕ). b ∷ xs) heads ∙ ap (λ (t : List ℕ). y ∷ t) (same_bytes n xs ys (omega arith) (omega arith) xs_are ys_are rests)
 
-byte_fits : (k x : ℕ) → byte_at k x < 256
-byte_fits zero x = omega arith
-byte_fits (suc k) x = mod-lt (x / 256 ^ suc k) (omega arith)
-
 high_first_fit : (n x : ℕ) → AreBytes (bytes_high_first n x)
 high_first_fit zero x = λ k d below. absurd (omega arith)
-high_first_fit (suc n) x = All-cons (λ (b : ℕ). b < 256) (byte_at n x) (bytes_high_first n x) (byte_fits n x) (high_first_fit n x)
+high_first_fit (suc n) x = All-cons (λ (b : ℕ). b < 256) (byte_at n x) (bytes_high_first n x) (byte_at-lt n x) (high_first_fit n x)
 
 -- the number in the first n bytes is spelled by them
 front_spelled : (n : ℕ) (bytes : List ℕ) → n ≤ length bytes → AreBytes bytes → take n bytes ≡ big_bytes n (big_number n bytes)

@@ -8,6 +8,7 @@ use Rattle.std.proofs.lemmas.Bool.{cases_Bool, cases_lt, cond-true, cond-false}
 use Rattle.std.proofs.lemmas.Bool.Decides.{Decides-eqb}
 use Rattle.std.proofs.lemmas.Grind.{flat_map-append}
 use Rattle.std.proofs.lemmas.List.{append-nil, get_or_append_left, get_or-append_right}
+use Rattle.std_lemmas.proofs.Numbers.{not_zero}
 use Rattle.rotating_pick.proofs.Bits.{Has-lt}
 use Rattle.slot_match.specs.declared.rows.Row.{Row}
 use Rattle.slot_match.proofs.Sets.{Has-same, Has-set_of}
@@ -17,7 +18,6 @@ use Rattle.journal_check.specs.Fields.{Reading, number_in, each_in}
 use Rattle.journal_check.specs.Files.{set_in, row_in, post_in}
 use Rattle.journal_check.specs.Texts.{all_sets, sets_there, set_text, number_of, post_text}
 use Rattle.journal_check.proofs.NumberReads.{from_bounds}
-use Rattle.journal_check.proofs.Flags.{not_zero}
 use Rattle.journal_check.proofs.Spelled.{one_byte}
 use Rattle.journal_check.proofs.Written.{set_some}
 use Rattle.journal_check.proofs.NumbersSpelled.{AreBytes, Spells, spells_on, ends_here, spells_more, IsSpelled, number_spelled}

@@ -8,9 +8,9 @@
 use Rattle.std.proofs.Common.{◌≡◌, ℕ, zero, suc, ◌+◌, ◌-◌, ◌*◌, ◌%◌, ◌<◌, ◌≤◌, ◌⊎◌, ◌∙◌, List, [], ◌∷◌, length, drop, refl, ap, sym, subst, inl, inr, arith}
 use Rattle.std.proofs.Math.Nat.{mod-eq_of_lt}
 use Rattle.std.proofs.lemmas.Bool.{cases_lt}
+use Rattle.std_lemmas.proofs.Numbers.{square-is, mod_once}
 use Rattle.rotating_pick.specs.Rotation.{distance}
 use Rattle.rotating_pick.specs.declared.limits.TheConstants.{MAX_PORTS}
-use Rattle.rotating_pick.proofs.Circle.{mod_once}
 use Rattle.pointer_state.specs.Places.{Places, places_at_first, grant_of, accept_of}
 use Rattle.pointer_state.proofs.Moves.{AreAtPorts-at_first}
 use Rattle.pointer_state.proofs.Tables.{place_of-at_first}
@@ -47,10 +47,6 @@ length-turns n (suc k) x some =
     let down = length-downs x (n - 1) 1 (hands x (whose (x + 1) k) ∷ turns n (x + 1) k) in
     let rest = length-turns n k (x + 1) some in
     omega arith
-
--- the sum of the turns as a square
-square-is : (n m : ℕ) → n ≡ m + 1 → m * n + n ≡ n * n
-square-is n m e = rw e (omega arith)
 
 -- so many slots are all turns
 length-family : (n : ℕ) → 0 < n → length (turns n 1 (n - 1)) ≡ n * n

@@ -2,8 +2,8 @@
 use Rattle.std.proofs.Common.{◌≡◌, ℕ, zero, suc, ◌+◌, ◌-◌, ◌%◌, ◌<◌, ◌≤◌, ◌∙◌, List, [], ◌∷◌, refl, ap, sym, subst, inl, inr, arith}
 use Rattle.std.proofs.Math.Nat.{mod-eq_of_lt}
 use Rattle.std.proofs.lemmas.Bool.{cases_lt}
+use Rattle.std_lemmas.proofs.Numbers.{mod_once}
 use Rattle.rotating_pick.specs.Rotation.{distance}
-use Rattle.rotating_pick.proofs.Circle.{mod_once}
 use Rattle.pointer_state.specs.Places.{Places, grant_of, accept_of}
 use Rattle.line_rate_waits.proofs.Plans.{Plan}
 use Rattle.line_rate_waits.proofs.PlannedRuns.{Follows, Starts, IsLateBy-before, IsLateBy-last}

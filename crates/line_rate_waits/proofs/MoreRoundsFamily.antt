@@ -11,9 +11,9 @@
 use Rattle.std.proofs.Common.{◌≡◌, ℕ, zero, suc, ◌+◌, ◌-◌, ◌%◌, ◌<◌, ◌≤◌, ◌⊎◌, ◌∙◌, List, [], ◌∷◌, refl, ap, sym, subst, inl, inr, arith}
 use Rattle.std.proofs.Math.Nat.{mod-eq_of_lt}
 use Rattle.std.proofs.lemmas.Bool.{cases_lt}
+use Rattle.std_lemmas.proofs.Numbers.{mod_once}
 use Rattle.rotating_pick.specs.Rotation.{distance}
 use Rattle.rotating_pick.specs.declared.kinds.Kind.TheVariants.{Uni}
-use Rattle.rotating_pick.proofs.Circle.{mod_once}
 use Rattle.slot_match.specs.Matches.{Serves}
 use Rattle.slot_match.proofs.Pairs.{Serves-once}
 use Rattle.pointer_state.specs.Places.{Places, grant_of, accept_of}

@@ -8,8 +8,8 @@
 -- its last slot the next input begins to ask output 1, which takes input 1.
 use Rattle.std.proofs.Common.{◌≡◌, ℕ, zero, suc, ◌+◌, ◌-◌, ◌*◌, ◌%◌, ◌<◌, ◌≤◌, ◌⊎◌, ◌∙◌, List, [], ◌∷◌, length, refl, ap, sym, subst, inl, inr, arith}
 use Rattle.std.proofs.Math.Nat.{mod-eq_of_lt}
+use Rattle.std_lemmas.proofs.Numbers.{mod_once}
 use Rattle.rotating_pick.specs.Rotation.{distance}
-use Rattle.rotating_pick.proofs.Circle.{mod_once}
 use Rattle.pointer_state.specs.Places.{Places, grant_of, accept_of}
 use Rattle.service_bound.specs.Waits.{longest_service_in_one_round}
 use Rattle.service_bound.proofs.Distances.{distance-below, distance-own}

@@ -2,8 +2,8 @@
 use Rattle.std.proofs.Common.{◌≡◌, ℕ, zero, suc, ◌+◌, ◌-◌, ◌%◌, ◌<◌, ◌≤◌, ◌∙◌, List, ◌∷◌, length, drop, refl, ap, sym, subst, inl, inr, arith}
 use Rattle.std.proofs.Math.Nat.{mod-eq_of_lt}
 use Rattle.std.proofs.lemmas.Bool.{cases_lt, cases_eq}
+use Rattle.std_lemmas.proofs.Numbers.{mod_once}
 use Rattle.rotating_pick.specs.declared.limits.TheConstants.{MAX_PORTS}
-use Rattle.rotating_pick.proofs.Circle.{mod_once}
 use Rattle.pointer_state.specs.Places.{Places, places_at_first, grant_of, accept_of}
 use Rattle.pointer_state.proofs.Moves.{AreAtPorts-at_first}
 use Rattle.pointer_state.proofs.Tables.{place_of-at_first}

@@ -2,11 +2,11 @@
 use Rattle.std.proofs.Common.{◌≡◌, ◌∙◌, ◌+◌, false, List, [], ◌∷◌, ◌++◌, map, sym, ap, subst, arith, inl, inr}
 use Rattle.std.proofs.lemmas.List.{length_push, map_push}
 use Rattle.std.proofs.lemmas.Option.{slice_get_within}
+use Rattle.std_lemmas.proofs.Lists.{get-snoc}
 use Rattle.card_core.specs.declared.outcome.CardOut.{CardOut}
 use Rattle.card_core.specs.declared.plan.CardPlan.{CardPlan}
 use Rattle.card_core.specs.Plans.{plan_of}
 use Rattle.card_core.specs.Cards.{CardState, IsAfter}
-use Rattle.card_worker.proofs.Removing.{get-snoc}
 use Rattle.switch_jobs.specs.EndingSteps.{Leaves}
 use Rattle.one_thread.specs.ActingSteps.{AreAfter, plans_in, AreOutputs}
 

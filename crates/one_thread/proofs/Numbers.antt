@@ -3,6 +3,7 @@ use Rattle.std.proofs.Common.{◌≡◌, ◌∙◌, ℕ, ◌≤◌, false, List,
 use Rattle.std.specs.Prelude.{slice_get}
 use Rattle.std.specs.List.{sum_by, range_with_len}
 use Rattle.std.proofs.lemmas.Option.{slice_get_within}
+use Rattle.std_lemmas.proofs.Lists.{at_place}
 use Rattle.rotating_pick.specs.declared.limits.TheConstants.{LEVELS}
 use Rattle.eslip_rounds.specs.Schedulers.{Scheduler}
 use Rattle.service_bound.specs.Waits.{NotedSlot, noted_of, longest_wait}
@@ -10,7 +11,6 @@ use Rattle.service_bound.specs.MeterSteps.{HasNoted}
 use Rattle.card_core.specs.declared.outcome.CardOut.{CardOut}
 use Rattle.card_core.specs.Plans.{Plan as CardPlan}
 use Rattle.card_core.specs.Cards.{IsOut}
-use Rattle.card_worker.proofs.Grouping.{at_place}
 use Rattle.switch_plan.specs.GoodPlans.{SwitchPlan, packets_in, IsGood}
 use Rattle.run_laws.specs.Runs.{takings_under}
 use Rattle.run_laws.specs.Sums.{schedule_under}

@@ -8,12 +8,12 @@ use Rattle.std.proofs.lemmas.List.Edits.{fill_by_more}
 use Rattle.std.proofs.lemmas.List.Folds.{list_all-map, list_all-append}
 use Rattle.std.proofs.lemmas.List.FromFn.{map-range_with_len_more}
 use Rattle.std.proofs.lemmas.Option.{same_Some}
+use Rattle.std_lemmas.proofs.Lists.{get-set_same, get-set_other}
 use Rattle.slot_match.specs.declared.rows.Row.{Row}
 use Rattle.cell_cutter.specs.declared.cell.Cell.{Cell}
 use Rattle.crossbar.specs.declared.cards.Post.{Post}
 use Rattle.crossbar.specs.declared.cards.Taken.{Taken}
 use Rattle.card_core.specs.Cards.{CardState, IsAfter}
-use Rattle.card_worker.proofs.Passes.{get-set_same, get-set_other}
 use Rattle.one_thread.specs.ActingSteps.{ArePosted}
 
 -- what holds of each element up to a place

@@ -3,6 +3,7 @@ use Rattle.std.proofs.Common.{◌≡◌, ◌∙◌, ℕ, ◌+◌, ◌*◌, map, 
 use Rattle.std.specs.List.{range_with_len}
 use Rattle.std.specs.Prelude.{◌<◌, ◌≤◌, List, slice_index}
 use Rattle.std.proofs.lemmas.List.FromFn.{length-map-range_with_len, get_or-map-range_with_len}
+use Rattle.std_lemmas.proofs.Ranges.{middle}
 use Rattle.rotating_pick.specs.declared.limits.TheConstants.{LEVELS}
 use Rattle.slot_report.specs.declared.summary.Summary.{Summary}
 use Rattle.rotating_pick.specs.declared.kinds.Kind.TheVariants.{Uni}
@@ -28,7 +29,7 @@ use Rattle.run_laws.proofs.Emptied.{packets_delivered}
 use Rattle.run_laws.proofs.OfFlows.{all_of_flows}
 use Rattle.run_laws.proofs.RunEnds.{run_bound}
 use Rattle.run_laws.proofs.RunSchedule.{run-schedule, run-within, run-kept}
-use Rattle.run_laws.proofs.RunWindows.{begins, middle, in_first, best-window, best-alone}
+use Rattle.run_laws.proofs.RunWindows.{begins, in_first, best-window, best-alone}
 use Rattle.run_outcomes.proofs.Counted.{counted-once}
 use Rattle.run_outcomes.specs.Outcomes.{longest_under, summary_under}
 use Rattle.one_thread.specs.AloneRuns.{IsLeftUnder}

@@ -2,6 +2,7 @@
 use Rattle.std.proofs.Common.{◌≡◌, ◌∙◌, ℕ, zero, suc, ◌+◌, ◌<◌, Bool, true, false, List, [], ◌∷◌, ◌++◌, map, take, drop, length, Option, Some, sym, ap}
 use Rattle.std.proofs.Common.{subst, arith}
 use Rattle.std.specs.Prelude.{slice_get}
+use Rattle.std_lemmas.proofs.Lists.{whole_back}
 use Rattle.slot_match.specs.declared.rows.Row.{Row}
 use Rattle.slot_match.specs.declared.matching.Fed.{Fed}
 use Rattle.slot_match.specs.Rows.{AreWithin}
@@ -21,7 +22,6 @@ use Rattle.service_bound.specs.MeterSteps.{Meter, HasNoted}
 use Rattle.slot_match.specs.Parts.{served_of}
 use Rattle.card_core.specs.Posts.{IsServable}
 use Rattle.card_core.specs.Cards.{CardState, MayTake}
-use Rattle.card_worker.proofs.Removing.{whole_back}
 use Rattle.switch_plan.specs.GoodPlans.{SwitchPlan, IsGood}
 use Rattle.run_laws.specs.Runs.{ports_of, setup_for, posts_under, takings_under}
 use Rattle.run_laws.specs.Sums.{schedule_under}

@@ -3,6 +3,7 @@ use Rattle.std.proofs.Common.{◌≡◌, ◌≢◌, ◌∙◌, ℕ, zero, suc, �
 use Rattle.std.proofs.Common.{slice_index_or, refl, sym, ap, subst, arith, inl, inr, if◌then◌else◌, length-append}
 use Rattle.std.proofs.lemmas.Bool.{eq-eqb, eqb-true}
 use Rattle.std.proofs.lemmas.List.Elements.{filter-append}
+use Rattle.std_lemmas.proofs.Numbers.{below_power}
 use Rattle.rotating_pick.specs.PortSets.{Has}
 use Rattle.rotating_pick.proofs.Bits.{no_member-zero}
 use Rattle.rotating_pick.proofs.Members.{only_member}
@@ -18,7 +19,7 @@ use Rattle.card_core.specs.Grants.{serves, first_of, granted_to, to_output}
 use Rattle.card_core.proofs.Admitting.{entered_stays}
 use Rattle.card_core.proofs.CellCounts.{packet_goes, granted_few}
 use Rattle.card_core.proofs.Granting.{all_granted}
-use Rattle.card_core.proofs.Passing.{arriving-there, is_queue-same, below_power}
+use Rattle.card_core.proofs.Passing.{arriving-there, is_queue-same}
 use Rattle.card_core.proofs.Arriving.{queue-unicast, queue-multicast}
 use Rattle.card_core.proofs.Posted.{one_or_several}
 use Rattle.output_queued.specs.Switches.{brought, cells_from}

@@ -13,7 +13,6 @@ use Rattle.rotating_pick.specs.declared.limits.TheConstants.{LEVELS}
 use Rattle.eslip_rounds.specs.Schedulers.{Scheduler, IsScheduler}
 use Rattle.slot_histories.specs.Tests.{has}
 use Rattle.slot_histories.proofs.SetTests.{Decides-has}
-use Rattle.slot_histories.proofs.CardSums.{sum_by-range_same}
 use Rattle.card_core.specs.declared.plan.Planned.{Planned}
 use Rattle.card_core.specs.Plans.{Queue, OfOutput, OfLevel, level_of, is_queue, queue_of, message_of}
 use Rattle.card_core.specs.Queues.{is_routed, is_admitted}
@@ -26,12 +25,13 @@ use Rattle.run_laws.specs.Ends.{IsLengthUnder}
 use Rattle.run_laws.specs.Crossings.{cells_under, queue_to}
 use Rattle.run_laws.proofs.Base.{good-card}
 use Rattle.run_laws.proofs.Emptied.{packets_delivered}
-use Rattle.run_laws.proofs.RangeSums.{sum_by-same, range_sum-at}
+use Rattle.std_lemmas.proofs.Sums.{sum_by-same, range_sum-at}
 use Rattle.run_laws.proofs.FlowSums.{level_sum, level_add, delivered-sum}
 use Rattle.run_laws.proofs.OfFlows.{all_of_flows}
 use Rattle.packet_departures.specs.Departures.{goes_by}
 use Rattle.packet_departures.specs.Promises.{leaves_by, leaving_by, CountsDepartures}
-use Rattle.packet_departures.proofs.Filtered.{count-cons}
+use Rattle.std_lemmas.proofs.Filters.{count-cons}
+use Rattle.std_lemmas.proofs.RangeSums.{sum_by-range_same}
 use Rattle.packet_departures.proofs.FlowEnds.{flow_to, only_output, admitted_go}
 
 ones : (ms : List (List ℕ)) → sum_by (λ m. 1) ms ≡ length ms

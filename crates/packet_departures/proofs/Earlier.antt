@@ -6,7 +6,7 @@ use Rattle.std.proofs.lemmas.List.Sums.{length-filter}
 use Rattle.std.proofs.lemmas.Option.{same_Some}
 use Rattle.card_core.specs.declared.plan.Planned.{Planned}
 use Rattle.card_core.specs.Plans.{AreRising}
-use Rattle.packet_departures.proofs.Filtered.{count-cons}
+use Rattle.std_lemmas.proofs.Filters.{count-cons}
 
 -- all packets arrive in slot t or later
 abbrev AreFrom : ℕ → List Planned → Type 0

@@ -36,7 +36,7 @@ use Rattle.run_laws.proofs.Base.{good-card, servable, before-same, granted_to-sa
 use Rattle.run_laws.proofs.FlowCells.{level_to, kind_to, granted_cells, flow_first}
 use Rattle.run_laws.proofs.PacketCells.{named, packets_cells}
 use Rattle.packet_departures.specs.Departures.{Flow, is_end_of, ends_of, goes_by}
-use Rattle.packet_departures.proofs.Filtered.{count-cons, count_less, sum_most, place_in, place_map, take_range, range_get, slot_of}
+use Rattle.std_lemmas.proofs.Filters.{count-cons, count_less, sum_most, place_in, place_map, take_range, range_get, slot_of}
 use Rattle.packet_departures.proofs.FlowEnds.{flow_to}
 use Rattle.packet_departures.proofs.Earlier.{early, early_first, early_few}
 use Rattle.packet_departures.proofs.LastCells.{lasts, weight, lasts-cons, lasts-append, whole_messages, cells_weigh}

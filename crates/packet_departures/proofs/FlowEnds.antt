@@ -32,7 +32,7 @@ use Rattle.run_laws.proofs.Arrivals.{arrivals_first}
 use Rattle.run_laws.proofs.FlowCells.{level_to, kind_to}
 use Rattle.packet_departures.specs.Departures.{Flow, flow_of, is_end_of, ends_of, goes_by}
 use Rattle.packet_departures.specs.Promises.{Leaves}
-use Rattle.packet_departures.proofs.Filtered.{filter_twice, filter_same, map_filter}
+use Rattle.std_lemmas.proofs.Filters.{filter_twice, filter_same, map_filter}
 
 -- ---- the flow of a packet
 -- a packet of a unicast queue goes to the queue's output

@@ -14,7 +14,7 @@ use Rattle.run_laws.specs.Runs.{ports_of, card_at}
 use Rattle.run_laws.specs.Ends.{IsLengthUnder}
 use Rattle.packet_departures.specs.Departures.{Flow, flow_of, ends_of, goes_by, earlier_by}
 use Rattle.packet_departures.specs.Promises.{DepartsAs, RecordsAreInOrder}
-use Rattle.packet_departures.proofs.Filtered.{place_in, place_of, map_place, place_map}
+use Rattle.std_lemmas.proofs.Filters.{place_in, place_of, map_place, place_map}
 use Rattle.packet_departures.proofs.FlowEnds.{flow_to, flow_is, flow_slots, goes_is, admitted_go}
 
 from_itself : (d : Departure) → is_from d.input d.level d.kind d ≡ true

@@ -1,5 +1,5 @@
 -- The first cells of some messages, by how many of them are last ones: so many messages are whole.
-use Rattle.std.proofs.Common.{◌≡◌, ◌∙◌, ℕ, zero, suc, ◌+◌, ◌-◌, ◌*◌, ◌<◌, ◌≤◌, Bool, true, false, List, [], ◌∷◌, ◌++◌, map, take, length, length-append}
+use Rattle.std.proofs.Common.{◌≡◌, ◌∙◌, ℕ, zero, suc, ◌+◌, ◌-◌, ◌*◌, ◌<◌, ◌≤◌, Bool, false, List, [], ◌∷◌, ◌++◌, map, take, length, length-append}
 use Rattle.std.proofs.Common.{sum_by, count_by, refl, sym, ap, arith, inl, inr, if◌then◌else◌}
 use Rattle.std.specs.List.{range_with_len, flat_map}
 use Rattle.std.proofs.lemmas.Bool.{cases_lt, lt-leb}
@@ -7,6 +7,7 @@ use Rattle.std.proofs.lemmas.List.{take-append-le}
 use Rattle.std.proofs.lemmas.List.FromFn.{length-map-range_with_len, take-map-range_with_len}
 use Rattle.std.proofs.lemmas.List.Sums.{sum_by-append, sum_by-cons}
 use Rattle.std.proofs.Math.Seq.{take-append-add}
+use Rattle.std_lemmas.proofs.Bools.{one_if-le}
 use Rattle.rotating_pick.specs.declared.kinds.Kind.{Kind}
 use Rattle.cell_cutter.specs.declared.cell.Cell.{Cell}
 use Rattle.cell_cutter.specs.Messages.{cells_in}
@@ -26,10 +27,6 @@ lasts-cons cell cells = sum_by-cons (λ (c : Cell). if c.last then 1 else 0) cel
 pub lasts-append : (xs ys : List Cell) → lasts (xs ++ ys) ≡ lasts xs + lasts ys
 lasts-append xs ys = sum_by-append (λ (c : Cell). if c.last then 1 else 0) xs ys
 
-at_most : (b : Bool) → (if b then 1 else 0) ≤ 1
-at_most true = omega arith
-at_most false = omega arith
-
 module _ (input level : ℕ) (kind : Kind) where
   abbrev cells_of : List ℕ → List Cell
   cells_of = cells_of_message input level kind
@@ -47,7 +44,7 @@ module _ (input level : ℕ) (kind : Kind) where
 
   lasts_one : (m : List ℕ) (a n : ℕ) → a + n ≤ weight m → lasts (some_of m a n) ≤ 1
   lasts_one m a zero few = omega arith
-  lasts_one m a (suc zero) few = let cell = cell_of input level kind m a in omega (arith, lasts-cons cell [], at_most cell.last)
+  lasts_one m a (suc zero) few = let cell = cell_of input level kind m a in omega (arith, lasts-cons cell [], one_if-le cell.last)
   lasts_one m a (suc (suc n)) few =
       let cell = cell_of input level kind m a in
       let on : cell.last ≡ false = lt-leb (length m) (56 * a + 56) (omega (arith, few)) in

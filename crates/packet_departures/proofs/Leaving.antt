@@ -20,7 +20,7 @@ use Rattle.run_laws.specs.Ends.{IsLengthUnder}
 use Rattle.run_laws.proofs.Base.{good-card}
 use Rattle.packet_departures.specs.Departures.{Flow, flow_of, is_end_of, ends_of, goes_by, earlier_by, departure_under}
 use Rattle.packet_departures.specs.Promises.{Leaves, EachDeparts, DeparturesRise, DeparturesDiffer}
-use Rattle.packet_departures.proofs.Filtered.{count_less, count_within, slot_of, slots_rise}
+use Rattle.std_lemmas.proofs.Filters.{count_less, count_within, slot_of, slots_rise}
 use Rattle.packet_departures.proofs.FlowEnds.{leaving_goes, ends_count}
 use Rattle.packet_departures.proofs.Earliest.{earliest}
 

@@ -1,4 +1,3 @@
-mod Filtered
 mod FlowEnds
 mod Leaving
 mod InOrder

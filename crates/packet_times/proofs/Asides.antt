@@ -9,7 +9,6 @@ use Rattle.cell_cutter.specs.declared.sizes.TheConstants.{MAX_FORWARDED_BYTES}
 use Rattle.pcap_records.specs.Packets.{Packet}
 use Rattle.forward_table.specs.declared.route_lines.RouteLine.{RouteLine}
 use Rattle.eslip_rounds.specs.Schedulers.{Scheduler, IsScheduler}
-use Rattle.slot_histories.proofs.CardSums.{sum_by-range_same}
 use Rattle.card_core.specs.declared.plan.Planned.{Planned}
 use Rattle.card_core.specs.Plans.{Plan}
 use Rattle.card_core.specs.Queues.{is_routed}
@@ -18,14 +17,14 @@ use Rattle.switch_words.specs.declared.job.Settings.{Settings}
 use Rattle.switch_plan.specs.Traffic.{CaptureFile, is_oversize, unplaced, pace_of, stamp_of, planned, port_traffic}
 use Rattle.switch_plan.specs.Refusals.{first_link}
 use Rattle.switch_plan.specs.GoodPlans.{SwitchPlan, packets_in, IsGood, IsPlanOf}
-use Rattle.switch_plan.proofs.Numbers.{count_map, count_left}
 use Rattle.switch_plan.proofs.Rising.{slots_long}
 use Rattle.run_laws.specs.Runs.{ports_of, card_at, no_plan}
 use Rattle.run_laws.specs.Ends.{IsLengthUnder}
 use Rattle.run_laws.proofs.Base.{good-card}
-use Rattle.run_laws.proofs.RangeSums.{sum_by-same, sum_by-plus}
+use Rattle.std_lemmas.proofs.Sums.{sum_by-same, sum_by-plus}
+use Rattle.std_lemmas.proofs.RangeSums.{sum_by-range_same}
+use Rattle.std_lemmas.proofs.MappedSums.{sum_by-map, sum_of, count_map, count_left}
 use Rattle.run_outcomes.specs.Outcomes.{over_ports, summary_under}
-use Rattle.switch_jobs.proofs.Adding.{sum_of, sum_by-map}
 use Rattle.packet_times.specs.declared.state.PacketState.TheVariants.{Unrouted, Oversize}
 use Rattle.packet_times.specs.Sums.{input_told, packets_told, RowsAddUp}
 use Rattle.packet_times.proofs.Telling.{unrouted-if, oversize-if}

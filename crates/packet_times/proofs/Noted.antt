@@ -3,11 +3,13 @@ use Rattle.std.proofs.Common.{◌≡◌, ◌∙◌, ℕ, zero, suc, ◌+◌, ◌
 use Rattle.std.proofs.Common.{arith, inl, inr, slice_set, slice_index_or, replicate, get_or-set_same, get_or-set_other, length-set}
 use Rattle.std.specs.List.{range_with_len}
 use Rattle.std.proofs.lemmas.Bool.{cases_eq}
-use Rattle.std.proofs.lemmas.List.{length-replicate, get_or-map, length-map, map-id}
+use Rattle.std.proofs.lemmas.List.{length-replicate, get_or-map, length-map}
 use Rattle.std.proofs.lemmas.List.Elements.{filter-append}
-use Rattle.std.proofs.lemmas.List.FromFn.{get_or-map-range_with_len, length-map-range_with_len, map-range_with_len_more}
+use Rattle.std.proofs.lemmas.List.FromFn.{get_or-map-range_with_len, length-map-range_with_len}
 use Rattle.std.proofs.Math.ListN.{get_or-append}
 use Rattle.std.proofs.Math.Seq.{get_or-append_seam}
+use Rattle.std_lemmas.proofs.Lists.{get_or-same}
+use Rattle.std_lemmas.proofs.Ranges.{range_more}
 use Rattle.reassembly.specs.declared.limits.TheConstants.{FLOWS_PER_INPUT}
 use Rattle.slot_match.specs.declared.matching.Fed.{Fed}
 use Rattle.slot_match.specs.Parts.{served_of}
@@ -24,7 +26,6 @@ use Rattle.run_laws.proofs.Base.{decision-same, good-card}
 use Rattle.packet_departures.specs.Departures.{Flow, is_end_of, ends_of}
 use Rattle.packet_times.specs.NotingSteps.{Input, Times, no_input, flow_place, IsNoted, IsLastMatch, HasNoted}
 use Rattle.packet_times.specs.Steps.{end_in, HasEnds, AreNoted}
-use Rattle.rotating_pick.proofs.Tables.{get_or-same}
 
 pub parts-first : (scheduler : Scheduler) (plan : SwitchPlan) (i : ℕ) → parts_under scheduler plan i 0 ≡ []
 unfolding before_under
@@ -34,10 +35,6 @@ parts-suc : (scheduler : Scheduler) (plan : SwitchPlan) (i t : ℕ) → parts_un
     ++ served_of (decision_under scheduler (setup_for plan) (posts_under scheduler plan) t).matched i ∷ []
 unfolding before_under
 parts-suc scheduler plan i t = ap (λ decision. parts_under scheduler plan i t ++ served_of decision.matched i ∷ []) (decision-same scheduler plan t)
-
-pub range_more : (n : ℕ) → range_with_len 0 (n + 1) ≡ range_with_len 0 n ++ n ∷ []
-range_more n = sym (map-id (range_with_len 0 (n + 1))) ∙ map-range_with_len_more (λ x. x) 0 n n (omega arith)
-    ∙ ap (λ xs. xs ++ n ∷ []) (map-id (range_with_len 0 n))
 
 module _ (scheduler : Scheduler) (plan : SwitchPlan) (slot : ℕ) (posts : List CardPost) (matched : List (Option Fed))
     (is : IsSlotUnder scheduler plan slot posts matched) where

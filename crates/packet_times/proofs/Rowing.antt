@@ -8,6 +8,7 @@ use Rattle.std.proofs.lemmas.List.Concat.{flat_map-append}
 use Rattle.std.proofs.lemmas.List.Elements.{filter-append}
 use Rattle.std.proofs.lemmas.List.FromFn.{get_or-enumerate_from, length-enumerate_from}
 use Rattle.std.proofs.lemmas.Option.{get_or_from_slice_get, slice_get_within}
+use Rattle.std_lemmas.proofs.Ranges.{range_more}
 use Rattle.rotating_pick.specs.PortSets.{Has}
 use Rattle.eslip_rounds.specs.Schedulers.{Scheduler}
 use Rattle.slot_histories.specs.Tests.{has}
@@ -22,7 +23,6 @@ use Rattle.packet_times.specs.declared.state.PacketState.TheVariants.{Forwarded,
 use Rattle.packet_times.specs.NotingSteps.{was_admitted}
 use Rattle.packet_times.specs.Rows.{row_text, routed_row, state_of, departure_if, packet_rows}
 use Rattle.packet_times.specs.WalkingSteps.{row_to, rows_to}
-use Rattle.packet_times.proofs.Noted.{range_more}
 
 -- ---- the departure of a packet by its state
 departed : (r a o : Bool) (d : Option ℕ)

@@ -10,17 +10,17 @@ use Rattle.rotating_pick.proofs.Bits.{Has-lt, zero-no_members}
 use Rattle.eslip_rounds.specs.Schedulers.{Scheduler, IsScheduler}
 use Rattle.slot_match.proofs.Sets.{Has-some}
 use Rattle.slot_histories.specs.Tests.{has}
-use Rattle.slot_histories.proofs.CardSums.{sum_by-range_same}
 use Rattle.card_core.specs.declared.plan.Planned.{Planned}
 use Rattle.card_core.specs.Queues.{is_routed, is_admitted, count_before}
 use Rattle.card_core.proofs.Admitting.{count-is}
-use Rattle.card_core.proofs.Passing.{below_power}
 use Rattle.switch_plan.specs.GoodPlans.{SwitchPlan, IsGood}
 use Rattle.run_laws.specs.Runs.{ports_of, card_at, parts_under}
 use Rattle.run_laws.specs.Ends.{IsLengthUnder}
 use Rattle.run_laws.proofs.Base.{good-card}
 use Rattle.run_laws.proofs.Arrivals.{arrivals_first}
-use Rattle.run_laws.proofs.RangeSums.{sum_by-turn}
+use Rattle.std_lemmas.proofs.Sums.{sum_by-turn}
+use Rattle.std_lemmas.proofs.Numbers.{below_power}
+use Rattle.std_lemmas.proofs.RangeSums.{sum_by-range_same}
 use Rattle.run_outcomes.specs.Outcomes.{admitted_count, dropped_count, summary_under}
 use Rattle.packet_departures.specs.Promises.{leaves_by}
 use Rattle.packet_departures.proofs.Copies.{counted}

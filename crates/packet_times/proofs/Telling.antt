@@ -10,7 +10,7 @@ use Rattle.slot_histories.specs.Tests.{has}
 use Rattle.card_core.specs.declared.plan.Planned.{Planned}
 use Rattle.card_core.specs.Queues.{is_routed, is_admitted}
 use Rattle.run_laws.specs.Runs.{ports_of, card_at, parts_under}
-use Rattle.run_laws.proofs.RangeSums.{sum_by-zero}
+use Rattle.std_lemmas.proofs.Sums.{sum_by-zero}
 use Rattle.switch_plan.specs.GoodPlans.{SwitchPlan}
 use Rattle.packet_departures.specs.Promises.{leaves_by}
 use Rattle.packet_times.specs.declared.state.PacketState.{PacketState}

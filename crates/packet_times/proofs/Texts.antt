@@ -6,11 +6,11 @@ use Rattle.std.specs.Result.{result_ok}
 use Rattle.std.proofs.lemmas.List.{append-nil}
 use Rattle.std.proofs.lemmas.List.Concat.{flat_map-append}
 use Rattle.std.proofs.lemmas.Option.{none-some, same_Some}
+use Rattle.std_lemmas.proofs.Ranges.{flat_map_next}
+use Rattle.std_lemmas.proofs.Appending.{both}
 use Rattle.rotating_pick.specs.declared.memory.OutOfMemory.{OutOfMemory}
 use Rattle.eslip_rounds.specs.Schedulers.{Scheduler}
-use Rattle.slot_report.proofs.Appending.{both}
 use Rattle.switch_plan.specs.GoodPlans.{SwitchPlan}
-use Rattle.switch_plan.proofs.Making.{flat_map_next}
 use Rattle.run_laws.specs.Runs.{ports_of}
 use Rattle.packet_times.specs.declared.fields.Field.{Field}
 use Rattle.packet_times.specs.Rows.{row_text, header, packets_text_under}

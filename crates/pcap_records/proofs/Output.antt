@@ -6,7 +6,8 @@ use Rattle.std.proofs.lemmas.Bool.{cases_lt}
 use Rattle.std.proofs.lemmas.List.{append-nil, length-append, length-drop, drop_at, drop-drop, get_or_past}
 use Rattle.std.proofs.lemmas.List.Concat.{flat_map-append}
 use Rattle.std.proofs.lemmas.List.Elements.{recursion_from_All, All-append, All-from_recursion}
-use Rattle.std.specs.Int.{byte_at, bytes_high_first}
+use Rattle.std.specs.Int.{bytes_high_first}
+use Rattle.std_lemmas.proofs.Numbers.{byte_at-lt}
 use Rattle.cell_cutter.specs.Messages.{message_header}
 use Rattle.pcap_records.specs.declared.link.Link.{Link}
 use Rattle.pcap_records.specs.declared.link.Link.TheVariants.{Ethernet, RawIp}
@@ -123,13 +124,9 @@ read_again_alone nano link messages all =
 
 -- ---- the message of a packet
 
-byte_fits : (k x : ℕ) → byte_at k x < 256
-byte_fits zero x = omega arith
-byte_fits (suc k) x = omega arith
-
 bytes_fit : (n x : ℕ) → AllByRecursion (λ b. b < 256) (bytes_high_first n x)
 bytes_fit zero x = tt
-bytes_fit (suc n) x = (byte_fits n x, bytes_fit n x)
+bytes_fit (suc n) x = (byte_at-lt n x, bytes_fit n x)
 
 number_fits : (n x : ℕ) → All (λ b. b < 256) (number_bytes Big n x)
 unfolding number_bytes

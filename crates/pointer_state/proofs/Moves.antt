@@ -4,13 +4,10 @@ use Rattle.std.proofs.Common.{get_or-set_other}
 use Rattle.std.proofs.lemmas.Bool.{cases_eq}
 use Rattle.std.proofs.lemmas.List.{length-replicate}
 use Rattle.std.proofs.lemmas.Nat.{mod_below}
+use Rattle.std_lemmas.proofs.Numbers.{below_by}
 use Rattle.rotating_pick.specs.declared.limits.TheConstants.{LEVELS, MAX_PORTS}
 use Rattle.pointer_state.specs.Places.{Places, place_of, with_place, AreAtPorts, places_at_first, places_met, places_passed}
 use Rattle.pointer_state.proofs.Tables.{IsTable-with, place_of-with_same, place_of-with_other, IsTable-at_first, place_of-at_first, shared-at_first}
-
--- what is equal to a number below n is below n
-pub below_by : (n a b : ℕ) → a ≡ b → b < n → a < n
-below_by n a b e h = omega arith
 
 -- each place of the table is below n, also after another was set
 below-with : (table : List (List ℕ)) (level port place n other x : ℕ) → place_of (with_place table level port place) level port ≡ place

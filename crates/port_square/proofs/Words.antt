@@ -4,7 +4,7 @@ use Rattle.std.specs.Int.{bit_at}
 use Rattle.std.proofs.lemmas.Bool.{cases_lt}
 use Rattle.std.proofs.lemmas.Nat.{shr-shr, pow_pos}
 use Rattle.std.proofs.lemmas.Nat.Bits.{bit_at-lt, bit_at_and, bit_at_xor, bit_at_cat_low, bit_at_cat_high, bit_at-zero}
-use Rattle.rotating_pick.proofs.Bits.{bit_at-mod}
+use Rattle.std_lemmas.proofs.Numbers.{bit_at-mod}
 use Rattle.port_square.proofs.Turning.{without_set, down_bit, down_bit_set}
 
 -- a shift to the left, within the word

@@ -8,6 +8,7 @@ use Rattle.std.proofs.lemmas.Option.{same_Some}
 use Rattle.std.proofs.Math.ListN.{get_or-append}
 use Rattle.std.proofs.Math.Seq.{get_or-append_seam}
 use Rattle.std.proofs.lemmas.List.{get_or-set_same, get_or-set_other}
+use Rattle.std_lemmas.proofs.Numbers.{cases_pair}
 use Rattle.rotating_pick.specs.PortSets.{Has, IsAmong}
 use Rattle.rotating_pick.specs.declared.kinds.Kind.{Kind}
 use Rattle.rotating_pick.specs.declared.kinds.Kind.TheVariants.{Uni, Multi}
@@ -30,7 +31,6 @@ use Rattle.card_core.proofs.Remaining.{remaining-part}
 use Rattle.card_core.proofs.Passing.{kept-in, some_waiting, stays_of, is_queue-same}
 use Rattle.card_core.proofs.Accepting.{has-some, uni-in, multi-in, last-only, rest_output}
 use Rattle.card_core.proofs.Taking.{idle, leaves, queue_in-more, before-next, one_slot}
-use Rattle.card_core.proofs.Carding.{cases_pair}
 use Rattle.card_core.proofs.After.{last-power}
 use Rattle.card_core.proofs.Arriving.{is_queue-refl, other-output}
 use Rattle.queue_lengths.specs.Lengths.{IsQueue, place_of, count_of, length_in}

@@ -4,6 +4,7 @@ use Rattle.std.proofs.Common.{refl, ap, arith, slice_index_or, if◌then◌else�
 use Rattle.std.proofs.lemmas.Bool.{and_parts, leb-true}
 use Rattle.std.proofs.lemmas.List.{length-map, drop-append-le}
 use Rattle.std.proofs.lemmas.List.FromFn.{length-map-range_with_len}
+use Rattle.std_lemmas.proofs.Bools.{same_third}
 use Rattle.slot_match.specs.declared.matching.Served.{Served}
 use Rattle.multicast_queue.specs.FanQueues.{FanCell}
 use Rattle.cell_rings.specs.CellQueues.{names_of_packet, cells_with_fan}
@@ -38,10 +39,6 @@ part_of_fewer q s part [] = omega arith
 part_of_fewer q s part (c ∷ w) = if_fewer s (part ∷ s.since) (rest_of q (with_since s (part ∷ s.since)) == 0)
 
 -- ---- with the packet that arrives
-same_test : (r s a b : Bool) → (s ≡ true → a ≡ b) → (r && s && a) ≡ (r && s && b)
-same_test true true a b same = same refl
-same_test true false a b same = refl
-same_test false s a b same = refl
 
 module _ (plan : Plan) (q : Queue) where
   pub arrival_count : (s : Passed) (arrives : Option (ℕ × Planned)) → s.left ≤ length s.entered
@@ -60,7 +57,7 @@ module _ (plan : Plan) (q : Queue) where
   coming_count served t (Some (k, p)) =
       let s = before plan q served t in
       let same : (is_routed p && is_queue q (queue_of p) && fits plan s p) ≡ (is_for q p && is_admitted plan served t p) =
-      same_test (is_routed p) (is_queue q (queue_of p)) (fits plan s p) (is_admitted plan served t p)
+      same_third (is_routed p) (is_queue q (queue_of p)) (fits plan s p) (is_admitted plan served t p)
       (λ mine. ap (λ r. fits plan (before plan r served t) p) (is_queue-same q (queue_of p) mine)) in
       count_if (is_routed p && is_queue q (queue_of p) && fits plan s p) k (size_of p) p.fan ∙ ap (λ b. if b then size_of p else 0) same
 

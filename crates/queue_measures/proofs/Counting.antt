@@ -1,11 +1,12 @@
 -- The numbers of all queues of an input, with the packet that arrives in a slot.
-use Rattle.std.proofs.Common.{◌≡◌, ◌≢◌, ◌∙◌, ℕ, zero, suc, ◌+◌, ◌*◌, ◌/◌, ◌%◌, ◌^◌, ◌<◌, ◌≤◌, ◌==◌, ◌&&◌, not, Bool, true, false, List, [], ◌∷◌, ◌++◌}
+use Rattle.std.proofs.Common.{◌≡◌, ◌≢◌, ◌∙◌, ℕ, zero, suc, ◌+◌, ◌*◌, ◌/◌, ◌%◌, ◌^◌, ◌<◌, ◌≤◌, ◌&&◌, not, Bool, true, false, List, [], ◌∷◌, ◌++◌}
 use Rattle.std.proofs.Common.{length, Option, Some, None, slice_index, slice_index_or, slice_set, refl, sym, ap, subst, arith, inl, inr, if◌then◌else◌}
 use Rattle.std.specs.Option.{option_map}
-use Rattle.std.proofs.lemmas.Bool.{cases_eq, cases_lt, cases_Bool, eq-eqb, lt-ltb, le-ltb, and_parts}
+use Rattle.std.proofs.lemmas.Bool.{cases_eq, cases_lt, cases_Bool, lt-ltb, le-ltb, and_parts}
 use Rattle.std.proofs.lemmas.Grind.{get_or-set_at}
 use Rattle.std.proofs.lemmas.List.{get_or-set_other, length-set}
 use Rattle.std.proofs.lemmas.Option.{same_Some}
+use Rattle.std_lemmas.proofs.Numbers.{from_not_zero}
 use Rattle.slot_match.specs.declared.matching.Served.{Served}
 use Rattle.card_core.specs.declared.plan.Planned.{Planned}
 use Rattle.card_core.specs.Plans.{Plan, Queue, IsGoodPlan, IsPlanned, is_queue, queue_of, size_of, arriving}
@@ -44,16 +45,13 @@ so_far-few test weight most plan good few (suc t) =
     (λ k p is passes. let there = arriving-there 0 plan.packets t k p is in few p (good.packets there.0 p there.2) passes) in
     omega (arith, before, step, now)
 
-routed-somewhere : (fan : ℕ) → not (fan == 0) ≡ true → fan ≢ 0
-routed-somewhere fan routed none = let e = eq-eqb fan 0 none in absurd cc
-
 numbers-small : (plan : Plan) → IsGoodPlan plan → (served : List (Option Served)) (q : Queue) (t : ℕ) → t < 131072 → IsSmall (numbers_so_far plan served t q)
 numbers-small plan good served q t early =
     let packets = so_far-few (is_for q) (λ p. 1) 1 plan good (λ p planned passes. omega arith) t in
     let dropped = so_far-few (λ p. is_for q p && not (is_admitted plan served p.arrival p)) (λ p. 1) 1 plan good (λ p planned passes. omega arith) t in
     let cells = so_far-few (enters plan q served) size_of 1171 plan good
     (λ p planned passes. cells_forwarded p.len
-    (planned.forwarded (routed-somewhere p.fan
+    (planned.forwarded (from_not_zero p.fan
     (and_parts (is_routed p) (is_queue q (queue_of p)) (and_parts (is_for q p) (is_admitted plan served p.arrival p) passes).0).0))) t in
     record {
       packets = omega arith;

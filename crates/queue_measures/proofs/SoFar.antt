@@ -1,10 +1,12 @@
 -- The numbers of a queue over the first slots, with those of one slot more.
-use Rattle.std.proofs.Common.{◌≡◌, ◌≢◌, ◌∙◌, ℕ, zero, suc, ◌+◌, ◌<◌, ◌≤◌, ◌==◌, ◌&&◌, not, nat_lt, max, Bool, true, false, List, [], ◌∷◌, ◌++◌, length}
+use Rattle.std.proofs.Common.{◌≡◌, ◌∙◌, ℕ, zero, suc, ◌+◌, ◌<◌, ◌≤◌, ◌==◌, ◌&&◌, not, nat_lt, max, Bool, true, false, List, [], ◌∷◌, ◌++◌, length}
 use Rattle.std.proofs.Common.{drop, Option, Some, None, slice_get, slice_index_or, refl, sym, ap, arith, inl, inr, if◌then◌else◌, length-drop}
 use Rattle.std.specs.List.{sum_by}
-use Rattle.std.proofs.lemmas.Bool.{cases_eq, cases_lt, eq-eqb, ne_eqb, lt-ltb, le-ltb, ltb-true}
+use Rattle.std.proofs.lemmas.Bool.{cases_eq, eq-eqb, ne_eqb, lt-ltb, le-ltb, ltb-true}
 use Rattle.std.proofs.lemmas.List.{append-nil}
 use Rattle.std.proofs.lemmas.List.Sums.{sum_by-cons}
+use Rattle.std_lemmas.proofs.Bools.{if_within}
+use Rattle.std_lemmas.proofs.Numbers.{lt_suc-other}
 use Rattle.slot_match.specs.declared.matching.Served.{Served}
 use Rattle.multicast_queue.specs.FanQueues.{FanCell}
 use Rattle.card_core.specs.declared.plan.Planned.{Planned}
@@ -27,12 +29,6 @@ rest-rising p ps rising k j x y at to less = rising (suc k) (suc j) x y at to (o
 
 rest-later : (p : Planned) (ps : List Planned) (t : ℕ) → AreRising (p ∷ ps) → p.arrival ≡ t → AreFrom (suc t) ps
 rest-later p ps t rising now j r at = let up = rising 0 (suc j) p r refl at (omega arith) in omega arith
-
-same_before : (a t : ℕ) → a ≢ t → nat_lt a (suc t) ≡ nat_lt a t
-same_before a t differ = elim (cases_lt a t) [
-  | inl less ↦ lt-ltb a (suc t) (omega arith) ∙ sym (lt-ltb a t less)
-  | inr le ↦ le-ltb a (suc t) (omega (arith, differ)) ∙ sym (le-ltb a t le)
-]
 
 -- ---- the weight of the packets that arrive in the first slots and pass a test
 module _ (test : Planned → Bool) (weight : Planned → ℕ) where
@@ -75,18 +71,13 @@ module _ (test : Planned → Bool) (weight : Planned → ℕ) where
             ) (omega arith)
         | inr differ ↦
             let more = so_far-step t (k + 1) ps (rest-rising p ps rising) in
-            rw (so_far-cons (suc t) p ps, so_far-cons t p ps, same_before p.arrival t differ, ne_eqb p.arrival t differ, more) (omega arith)
+            rw (so_far-cons (suc t) p ps, so_far-cons t p ps, lt_suc-other p.arrival t differ, ne_eqb p.arrival t differ, more) (omega arith)
       ]
-
--- what one choice adds
-chosen : (b : Bool) (w most : ℕ) → (b ≡ true → w ≤ most) → (if b then w else 0) ≤ most
-chosen true w most le = le refl
-chosen false w most le = omega arith
 
 pub now_few : (test : Planned → Bool) (weight : Planned → ℕ) (most : ℕ) (arrives : Option (ℕ × Planned))
     → ((k : ℕ) (p : Planned) → arrives ≡ Some (k, p) → test p ≡ true → weight p ≤ most) → now_of test weight arrives ≤ most
 now_few test weight most None few = omega arith
-now_few test weight most (Some (k, p)) few = chosen (test p) (weight p) most (few k p refl)
+now_few test weight most (Some (k, p)) few = if_within (test p) (weight p) most (few k p refl)
 
 -- a test that is the same of what arrives in the first slots
 under : (a b c : Bool) → (a ≡ true → b ≡ c) → (a && b) ≡ (a && c)

@@ -1,5 +1,5 @@
 -- Each packet that goes anywhere is for one queue of its input, so what the queues count adds up to what the packets do.
-use Rattle.std.proofs.Common.{◌≡◌, ◌≢◌, ◌∙◌, ℕ, zero, suc, ◌+◌, ◌<◌, ◌≤◌, ◌&&◌, not, Bool, true, false, List, [], ◌∷◌, map, length, Option, Some, slice_get}
+use Rattle.std.proofs.Common.{◌≡◌, ◌≢◌, ◌∙◌, ℕ, zero, suc, ◌+◌, ◌<◌, ◌≤◌, ◌&&◌, not, Bool, true, false, List, [], ◌∷◌, length, Option, Some, slice_get}
 use Rattle.std.proofs.Common.{refl, sym, ap, arith, inl, inr, if◌then◌else◌}
 use Rattle.std.specs.Prelude.{All}
 use Rattle.std.specs.List.{range_with_len, sum_by}
@@ -12,7 +12,8 @@ use Rattle.card_core.specs.Queues.{is_routed, is_admitted}
 use Rattle.card_core.proofs.Passing.{is_queue-same}
 use Rattle.card_core.proofs.Arriving.{is_queue-refl}
 use Rattle.card_core.proofs.Admitting.{count-is, both-are}
-use Rattle.run_laws.proofs.RangeSums.{sum_by-zero, sum_by-plus, sum_by-same}
+use Rattle.std_lemmas.proofs.Sums.{sum_by-zero, sum_by-plus, sum_by-same}
+use Rattle.std_lemmas.proofs.MappedSums.{sum_by-map}
 use Rattle.queue_lengths.specs.Lengths.{IsQueue, count_of, place_of, queues_of, is_for}
 use Rattle.queue_measures.specs.Steps.{queue_at}
 use Rattle.queue_measures.specs.Sums.{AddUp}
@@ -43,10 +44,6 @@ range-one f a (suc n) m from below none =
           omega (arith, step, rest, here)
     ]
 
-sum-map : {X Y : Type 0} (f : Y → ℕ) (g : X → Y) (xs : List X) → sum_by f (map g xs) ≡ sum_by (λ x. f (g x)) xs
-sum-map f g [] = refl
-sum-map f g (x ∷ xs) = sum_by-cons f (g x) (map g xs) ∙ ap (λ n. f (g x) + n) (sum-map f g xs) ∙ sym (sum_by-cons (λ y. f (g y)) x xs)
-
 -- ---- a packet is for one queue
 module _ (ports : ℕ) (r : Queue) (mine : IsQueue ports r) (w : ℕ) where
   abbrev at : ℕ → ℕ
@@ -70,7 +67,7 @@ module _ (ports : ℕ) (r : Queue) (mine : IsQueue ports r) (w : ℕ) where
   one-queue =
       let inside = place-inside ports r mine in
       ap (sum_by (λ q. if is_queue q r then w else 0)) (queues-placed ports)
-      ∙ sum-map (λ q. if is_queue q r then w else 0) (queue_at ports) (range_with_len 0 (count_of ports))
+      ∙ sum_by-map (λ q. if is_queue q r then w else 0) (queue_at ports) (range_with_len 0 (count_of ports))
       ∙ range-one at 0 (count_of ports) (place_of ports r) (omega arith) (omega (arith, inside))
       (λ place from below differ. elsewhere place (omega (arith, below)) differ)
       ∙ there

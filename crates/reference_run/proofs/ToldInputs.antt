@@ -6,6 +6,7 @@ use Rattle.std.proofs.lemmas.Bool.{eq-eqb}
 use Rattle.std.proofs.lemmas.List.{length-map, map-append}
 use Rattle.std.proofs.lemmas.List.Elements.{filter_more}
 use Rattle.std.proofs.lemmas.Option.{same_Some}
+use Rattle.std_lemmas.proofs.Lists.{got_map}
 use Rattle.card_core.specs.declared.plan.Planned.{Planned}
 use Rattle.card_core.specs.Plans.{Plan, IsGoodPlan}
 use Rattle.card_core.specs.Queues.{is_routed}
@@ -95,11 +96,6 @@ module _ (card : Plan) (good : IsGoodPlan card) where
         omega arith;
   }
 
-mapped-at : {X Y : Type 0} (f : X → Y) (xs : List X) (k : ℕ) (y : Y) → slice_get (map f xs) k ≡ Some y → (x : X) × (slice_get xs k ≡ Some x) × (f x ≡ y)
-mapped-at f [] k y is = absurd (cc)
-mapped-at f (x ∷ xs) zero y is = (x, refl, same_Some (f x) y is)
-mapped-at f (x ∷ xs) (suc k) y is = mapped-at f xs k y is
-
 first-card : (cards : List Plan) → 0 < length cards → (card : Plan) × (slice_get cards 0 ≡ Some card)
 first-card [] some = absurd (omega arith)
 first-card (card ∷ cards) some = (card, refl)
@@ -115,7 +111,7 @@ told-switch plan good = record {
       is.depth in omega arith;
   count = length-map plan.cards coming_in;
   each = λ i coming there.
-      let (card, at, same) = mapped-at coming_in plan.cards i coming there in
+      let (card, at, same) = got_map coming_in plan.cards i coming there in
       let is = good.cards i card at in
       subst (IsInput (length plan.cards)) same (subst (λ n. IsInput n (coming_in card)) is.ports (told-input card is.good));
 }

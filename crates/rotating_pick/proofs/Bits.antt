@@ -4,9 +4,9 @@ use Rattle.std.specs.Int.{bit_at}
 use Rattle.std.proofs.Math.Nat.{mod-eq_of_lt}
 use Rattle.std.proofs.lemmas.Bool.{cases_eq, cases_lt}
 use Rattle.std.proofs.lemmas.Nat.{shr-shr, shr_below, and_mask, mul-add-lt, pow-add, pow_pos, mod_below, one_shl, shl_whole, or_shifted}
-use Rattle.std.proofs.lemmas.Nat.Bits.{same_from_bits, bit_at_above, bit_at_cat_low, bit_at_cat_high, bit_at_and, bit_at_ones, bit_at-lt, bit_at-zero}
+use Rattle.std.proofs.lemmas.Nat.Bits.{same_from_bits, bit_at_above, bit_at_cat_low, bit_at_cat_high, bit_at-lt, bit_at-zero}
+use Rattle.std_lemmas.proofs.Numbers.{mod_once, bit_at-mod}
 use Rattle.rotating_pick.specs.PortSets.{Has}
-use Rattle.rotating_pick.proofs.Circle.{mod_once}
 
 -- a member of a set of n ports is below n
 pub Has-lt : (n ports x : ℕ) → ports < 2 ^ n → Has ports x → x < n
@@ -24,11 +24,6 @@ zero-no_members ports none =
       | inl one ↦ absurd (none i one)
       | inr other ↦ let clear : bit_at ports i ≡ 0 = omega (arith, bit_at-lt ports i) in clear ∙ sym (bit_at-zero i)
     ])
-
--- the low bits of a number are its own
-pub bit_at-mod : (n k i : ℕ) → i < k → bit_at (n % 2 ^ k) i ≡ bit_at n i
-bit_at-mod n k i h =
-    sym (ap (λ m. bit_at m i) (and_mask n k)) ∙ bit_at_and n (2 ^ k - 1) i ∙ omega (arith, bit_at_ones k i h, bit_at-lt n i)
 
 -- the lowest `by` ports, above the j others: what `rotate` computes
 abbrev pub turned : ℕ → ℕ → ℕ → ℕ

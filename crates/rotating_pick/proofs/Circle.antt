@@ -1,13 +1,10 @@
 -- Distances and places round the circle of n ports.
-use Rattle.std.proofs.Common.{◌≡◌, ℕ, ◌+◌, ◌-◌, ◌%◌, ◌<◌, ◌≤◌, ◌∙◌, inl, inr, arith}
-use Rattle.std.proofs.Math.Nat.{mod-eq_of_lt, mod-eq-sub-mod}
+use Rattle.std.proofs.Common.{◌≡◌, ℕ, ◌+◌, ◌-◌, ◌%◌, ◌<◌, ◌∙◌, inl, inr, arith}
+use Rattle.std.proofs.Math.Nat.{mod-eq_of_lt}
 use Rattle.std.proofs.lemmas.Bool.{cases_lt}
 use Rattle.std.proofs.lemmas.Nat.{mod_below}
+use Rattle.std_lemmas.proofs.Numbers.{mod_once}
 use Rattle.rotating_pick.specs.Rotation.{distance}
-
--- one turn too many
-pub mod_once : (n a : ℕ) → n ≤ a → a < n + n → a % n ≡ a - n
-mod_once n a high low = let short : a - n < n = omega arith in mod-eq-sub-mod high ∙ mod-eq_of_lt short
 
 pub distance-lt : (n from x : ℕ) → from < n → distance n from x < n
 distance-lt n from x h = mod_below (x + (n - from)) n (omega arith)

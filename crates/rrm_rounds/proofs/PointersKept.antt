@@ -1,11 +1,12 @@
 -- After a slot the pointers of the level are at ports again, and the shared pointer has passed the first head that completed.
 use Rattle.std.proofs.Common.{ℕ}
+use Rattle.std_lemmas.proofs.Numbers.{below_moved}
 use Rattle.rotating_pick.specs.Rotation.{IsFirstFrom}
 use Rattle.rotating_pick.specs.declared.kinds.Kind.TheVariants.{Uni}
 use Rattle.slot_match.specs.Rows.{HasHead}
 use Rattle.slot_match.specs.Matches.{Serves, Completes}
 use Rattle.pointer_state.specs.Places.{grant_of, accept_of, shared_of}
-use Rattle.service_bound.proofs.InWindows.{KeepPointing, below_moved}
+use Rattle.service_bound.proofs.InWindows.{KeepPointing}
 use Rattle.service_bound.proofs.HeadsComplete.{PassHeads}
 use Rattle.rrm_rounds.specs.Slots.{IsGrantedFirst, AreMovedByRrm}
 

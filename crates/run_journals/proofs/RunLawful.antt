@@ -3,10 +3,10 @@ use Rattle.std.proofs.Common.{◌≡◌, ℕ, zero, suc, ◌<◌, ◌≤◌, not
 use Rattle.std.specs.List.{range_with_len}
 use Rattle.std.proofs.lemmas.List.FromFn.{length-map-range_with_len}
 use Rattle.std.proofs.lemmas.Simd.{map-map}
+use Rattle.std_lemmas.proofs.Ranges.{map_range-same}
 use Rattle.rotating_pick.specs.declared.limits.TheConstants.{LEVELS}
 use Rattle.slot_match.specs.declared.rows.Row.{Row}
 use Rattle.eslip_rounds.specs.Schedulers.{Scheduler, IsScheduler}
-use Rattle.slot_histories.proofs.Agreeing.{map_range-same}
 use Rattle.board_state.specs.Boards.{IsSetup}
 use Rattle.service_bound.specs.Waits.{NotedSlot, noted_of, longest_wait}
 use Rattle.slot_board.specs.Schedules.{decided_under}

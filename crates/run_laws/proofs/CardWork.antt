@@ -22,7 +22,7 @@ use Rattle.card_core.specs.Grants.{granted_to, to_output}
 use Rattle.card_core.proofs.CellCounts.{packet_goes, granted_few}
 use Rattle.card_core.proofs.Admitting.{entered-is}
 use Rattle.switch_plan.specs.Totals.{work_of}
-use Rattle.run_laws.proofs.RangeSums.{sum_by-zero, sum_by-same, sum_by-plus, sum_by-turn, sum_by-times, range_sum-le, range_sum-one, bits-few}
+use Rattle.std_lemmas.proofs.Sums.{sum_by-zero, sum_by-same, sum_by-plus, sum_by-turn, sum_by-times, range_sum-le, range_sum-one, bits-few}
 
 -- ---- of one queue and one output
 -- the cells that a packet brings to an output of a queue before slot t

@@ -31,7 +31,7 @@ use Rattle.run_laws.proofs.Base.{good-card}
 use Rattle.run_laws.proofs.Rooms.{packets-at}
 use Rattle.run_laws.proofs.OfFlows.{all_of_flows}
 use Rattle.run_laws.proofs.FlowCells.{flow-messages}
-use Rattle.run_laws.proofs.RangeSums.{sum_by-same, range_sum-le, range_sum-most}
+use Rattle.std_lemmas.proofs.Sums.{sum_by-same, range_sum-le, range_sum-most}
 use Rattle.run_laws.proofs.FlowSums.{level_sum, level_add, delivered-sum}
 
 -- ---- sums over what a test lets through, and over what a function makes

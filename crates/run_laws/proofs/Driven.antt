@@ -4,6 +4,7 @@ use Rattle.std.specs.List.{range_with_len}
 use Rattle.std.proofs.lemmas.Bool.{cases_lt}
 use Rattle.std.proofs.lemmas.List.FromFn.{get_or-map-range_with_len}
 use Rattle.std.proofs.lemmas.Simd.{map-map}
+use Rattle.std_lemmas.proofs.Ranges.{map_range-same}
 use Rattle.eslip_rounds.specs.Decisions.{decision_of}
 use Rattle.crossbar.specs.declared.cards.Taken.{Taken}
 use Rattle.slot_histories.specs.declared.events.Event.{Event}
@@ -12,7 +13,7 @@ use Rattle.slot_histories.specs.Slots.{served_at, taken_at}
 use Rattle.slot_histories.specs.Legal.{IsLegal}
 use Rattle.slot_histories.specs.Answers.{takings_of, journal_slot, journal_of}
 use Rattle.slot_histories.specs.Columns.{column_of}
-use Rattle.slot_histories.proofs.Agreeing.{map_range-same, slot_posts-same, decision_at-same, served_at-same, taken_at-same}
+use Rattle.slot_histories.proofs.Agreeing.{slot_posts-same, decision_at-same, served_at-same, taken_at-same}
 use Rattle.slot_histories.proofs.InStep.{AreInStep}
 use Rattle.slot_histories.proofs.LegalLists.{AreInStep-legal}
 use Rattle.slot_histories.proofs.Ordering.{takings_of-slots}

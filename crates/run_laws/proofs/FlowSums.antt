@@ -11,7 +11,7 @@ use Rattle.rotating_pick.specs.declared.limits.TheConstants.{LEVELS}
 use Rattle.eslip_rounds.specs.Decisions.{is_kind}
 use Rattle.cell_cutter.specs.declared.cell.Cell.{Cell}
 use Rattle.card_core.specs.Deliveries.{is_of_flow, ended_by, messages_after, messages_from}
-use Rattle.run_laws.proofs.RangeSums.{sum_by-same, sum_by-plus, sum_by-none, range_sum-at}
+use Rattle.std_lemmas.proofs.Sums.{sum_by-same, sum_by-plus, sum_by-none, range_sum-at}
 
 -- ---- sums over the flows
 -- over those of an input

@@ -4,7 +4,6 @@ pub mod Crossed
 pub mod RunSchedule
 pub mod FirstDone
 pub mod BusySlots
-pub mod RangeSums
 pub mod CardWork
 pub mod RunWork
 pub mod RunEnds

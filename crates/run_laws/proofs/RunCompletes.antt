@@ -2,6 +2,7 @@
 use Rattle.std.proofs.Common.{◌≡◌, ◌∙◌, ℕ, ◌+◌, ◌*◌, map, take, drop, length, ap, sym, subst, arith}
 use Rattle.std.specs.List.{range_with_len}
 use Rattle.std.proofs.lemmas.List.FromFn.{length-map-range_with_len}
+use Rattle.std_lemmas.proofs.Ranges.{middle}
 use Rattle.rotating_pick.specs.declared.kinds.Kind.TheVariants.{Multi}
 use Rattle.slot_match.specs.Rows.{Names, HasHead, row_of}
 use Rattle.pointer_state.specs.Places.{places_at_first}
@@ -20,7 +21,7 @@ use Rattle.run_laws.specs.Runs.{ports_of, setup_for, posts_under}
 use Rattle.run_laws.specs.Sums.{schedule_under}
 use Rattle.run_laws.specs.Promises.{CompletesUnder, CompletesMulticast}
 use Rattle.run_laws.proofs.RunSchedule.{run-schedule, run-within, run-kept}
-use Rattle.run_laws.proofs.RunWindows.{begins, middle, in_first}
+use Rattle.run_laws.proofs.RunWindows.{begins, in_first}
 
 -- under a scheduler whose pointers stay at ports, and whose shared pointer passes the heads that complete
 pub heads-complete_by : (Moves : Moving) (scheduler : Scheduler)

@@ -2,8 +2,8 @@
 use Rattle.std.proofs.Common.{◌≡◌, ◌∙◌, ℕ, zero, suc, ◌+◌, ◌-◌, ◌<◌, ◌≤◌, List, All, map, take, drop, length, refl, sym, ap, subst, arith}
 use Rattle.std.specs.Prelude.{slice_index_or, Any}
 use Rattle.std.specs.List.{range_with_len}
-use Rattle.std.proofs.lemmas.List.{drop-map}
-use Rattle.std.proofs.lemmas.List.FromFn.{length-map-range_with_len, get_or-map-range_with_len, take-map-range_with_len}
+use Rattle.std.proofs.lemmas.List.FromFn.{length-map-range_with_len, get_or-map-range_with_len}
+use Rattle.std_lemmas.proofs.Ranges.{middle}
 use Rattle.rotating_pick.specs.declared.kinds.Kind.{Kind}
 use Rattle.rotating_pick.specs.declared.kinds.Kind.TheVariants.{Uni, Multi}
 use Rattle.rotating_pick.specs.declared.limits.TheConstants.{LEVELS}
@@ -38,21 +38,6 @@ use Rattle.run_laws.proofs.RunSchedule.{run-schedule, run-within, run-kept}
 use Rattle.run_laws.proofs.WaitingPackets.{named-waits, waiting-admitted}
 
 -- ---- slots out of the middle
-drop-range : (first a n : ℕ) → first ≤ n → drop first (range_with_len a n) ≡ range_with_len (a + first) (n - first)
-drop-range zero a n few = ap (λ b. range_with_len b n) (let e : a ≡ a + 0 = omega arith in e)
-    ∙ ap (range_with_len (a + 0)) (let e : n ≡ n - 0 = omega arith in e)
-drop-range (suc first) a zero few = absurd (omega arith)
-drop-range (suc first) a (suc n) few =
-    drop-range first (a + 1) n (omega arith)
-    ∙ ap (λ b. range_with_len b (n - first)) (let e : a + 1 + first ≡ a + suc first = omega arith in e)
-    ∙ ap (range_with_len (a + suc first)) (let e : n - first ≡ suc n - suc first = omega arith in e)
-
-pub middle : {X : Type 0} (f : ℕ → X) (first count n : ℕ) → first + count ≤ n
-    → take count (drop first (map f (range_with_len 0 n))) ≡ map f (range_with_len first count)
-middle f first count n few =
-    ap (take count) (drop-map f first (range_with_len 0 n)
-    ∙ ap (map f) (drop-range first 0 n (omega arith) ∙ ap (λ a. range_with_len a (n - first)) (let e : 0 + first ≡ first = omega arith in e)))
-    ∙ take-map-range_with_len f first (n - first) count (omega arith)
 
 pub in_first : (P : List Row → Type 0) (f : ℕ → DecidedSlot) (first count : ℕ) → P (f first).rows → InFirst P (map f (range_with_len first count))
 in_first P f first zero there = tt

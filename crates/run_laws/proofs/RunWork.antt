@@ -30,7 +30,7 @@ use Rattle.switch_plan.specs.GoodPlans.{SwitchPlan, IsGood, packets_in}
 use Rattle.run_laws.specs.Runs.{ports_of, setup_for, card_at, no_plan, parts_under, posts_under}
 use Rattle.run_laws.specs.Sums.{work_under, total_under}
 use Rattle.run_laws.proofs.Base.{served-at, queue_in-same, granted_to-same, good-card, sound, is-slot, servable, pair-named}
-use Rattle.run_laws.proofs.RangeSums.{range_sum-le, range_sum-less, range_sum-shift, sum_by-same}
+use Rattle.std_lemmas.proofs.Sums.{range_sum-le, range_sum-less, range_sum-shift, sum_by-same}
 use Rattle.run_laws.proofs.CardWork.{card_work}
 
 -- ---- the cells of one grant

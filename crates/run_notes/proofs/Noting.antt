@@ -5,6 +5,7 @@ use Rattle.std.specs.List.{enumerate_from, range_with_len}
 use Rattle.std.proofs.lemmas.List.{append-nil, length-map, map-append}
 use Rattle.std.proofs.lemmas.List.Concat.{flat_map-append}
 use Rattle.std.proofs.lemmas.List.FromFn.{length-map-range_with_len, get_or-map-range_with_len, map-range_with_len_more}
+use Rattle.std_lemmas.proofs.Ranges.{map_range-same}
 use Rattle.islip_rounds.specs.declared.numbers.RoundsUsed.{RoundsUsed}
 use Rattle.crossbar.specs.declared.cards.Post.{Post}
 use Rattle.eslip_rounds.specs.Schedulers.{Scheduler, IsScheduler}
@@ -15,7 +16,6 @@ use Rattle.card_core.specs.Posts.{IsServable}
 use Rattle.slot_histories.specs.Answers.{JournalSlot}
 use Rattle.board_state.specs.Boards.{no_slot}
 use Rattle.board_state.specs.declared.limits.TheConstants.{MAX_SLOTS}
-use Rattle.slot_histories.proofs.Agreeing.{map_range-same}
 use Rattle.slot_report.specs.Lines.{line_text, lines_text}
 use Rattle.slot_report.specs.Texts.{journal_line, map_with_place, slot_line}
 use Rattle.switch_plan.specs.GoodPlans.{SwitchPlan, IsGood}

@@ -18,9 +18,9 @@ use Rattle.run_laws.specs.Ends.{IsLengthUnder}
 use Rattle.run_laws.proofs.Base.{good-card}
 use Rattle.run_laws.proofs.Rooms.{packets-at}
 use Rattle.run_laws.proofs.Arrivals.{arrivals_first}
-use Rattle.run_laws.proofs.RangeSums.{sum_by-plus, range_sum-le}
+use Rattle.std_lemmas.proofs.Sums.{sum_by-plus, range_sum-le}
+use Rattle.std_lemmas.proofs.MappedSums.{sum_by-map}
 use Rattle.run_outcomes.specs.Outcomes.{admitted_count, dropped_count, over_ports, summary_under, CountsPacketsOnce}
-use Rattle.switch_jobs.proofs.Adding.{sum_by-map}
 
 -- a packet goes somewhere or nowhere
 abbrev is_aside : Planned → Bool

@@ -3,8 +3,9 @@ use Rattle.std.proofs.Common.{◌≡◌, ℕ, ◌+◌, ◌-◌, ◌%◌, ◌<◌
 use Rattle.std.proofs.Math.Nat.{mod-eq_of_lt}
 use Rattle.std.proofs.lemmas.Bool.{cases_lt}
 use Rattle.std.proofs.lemmas.Nat.{mod_below}
+use Rattle.std_lemmas.proofs.Numbers.{mod_once}
 use Rattle.rotating_pick.specs.Rotation.{distance}
-use Rattle.rotating_pick.proofs.Circle.{mod_once, distance-lt}
+use Rattle.rotating_pick.proofs.Circle.{distance-lt}
 use Rattle.rotating_pick.proofs.Picking.{distance-injective}
 
 -- a distance by subtraction: of a port that is not below the pointer, and of one below it

@@ -1,6 +1,7 @@
 -- A rank that falls in each slot in which a request is left: as many slots as its bound are enough, and no wait reaches the bound.
 use Rattle.std.proofs.Common.{◌≡◌, ℕ, zero, suc, ◌+◌, ◌<◌, ◌≤◌, ◌⊎◌, List, [], ◌∷◌, length, map, All, Any, refl, subst, inl, inr, arith}
 use Rattle.std.proofs.lemmas.List.Elements.{All-nil, All-cons, All-head, All-tail}
+use Rattle.std_lemmas.proofs.Lists.{Any-here, Any-later}
 use Rattle.rotating_pick.specs.declared.kinds.Kind.TheVariants.{Uni}
 use Rattle.slot_match.specs.declared.rows.Row.{Row}
 use Rattle.slot_match.specs.Rows.{Names, row_of, AreWithin}
@@ -12,7 +13,7 @@ use Rattle.eslip_rounds.specs.Slots.{Moving}
 use Rattle.eslip_rounds.specs.Schedules.{DecidedSlot}
 use Rattle.service_bound.specs.Windows.{IsWithoutMulticast, InFirst, AreFollowing, IsWindowBy}
 use Rattle.service_bound.specs.Waits.{noted_of, wait_in, waits_from, longest_wait}
-use Rattle.service_bound.proofs.InWindows.{Any-here, Any-later, AskOn, KeepPointing, IsWindowSlotBy, first_slot_by, later_slots_by}
+use Rattle.service_bound.proofs.InWindows.{AskOn, KeepPointing, IsWindowSlotBy, first_slot_by, later_slots_by}
 use Rattle.service_bound.proofs.Waiting.{wait_in-or}
 use Rattle.service_bound.proofs.AllBelow.{longest_wait-below}
 

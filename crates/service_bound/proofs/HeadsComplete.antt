@@ -1,6 +1,7 @@
 -- Over a window the shared pointer comes nearer to a waiting head in every second slot, until the head completes.
 use Rattle.std.proofs.Common.{◌≡◌, ℕ, ◌+◌, ◌*◌, ◌%◌, ◌<◌, ◌≤◌, List, [], ◌∷◌, Option, length, Any, refl, sym, subst, inl, inr, arith}
 use Rattle.std.proofs.lemmas.Bool.{cases_eq}
+use Rattle.std_lemmas.proofs.Lists.{Any-here, Any-later}
 use Rattle.rotating_pick.specs.Rotation.{distance, IsFirstFrom}
 use Rattle.rotating_pick.specs.declared.kinds.Kind.TheVariants.{Multi}
 use Rattle.rotating_pick.specs.declared.limits.TheConstants.{LEVELS}
@@ -22,7 +23,7 @@ use Rattle.service_bound.proofs.Distances.{distance-passed}
 use Rattle.service_bound.proofs.FirstRound.{IsFirstKind, grants_first, accepts_there}
 use Rattle.service_bound.proofs.LaterRounds.{first_of, BeginsWith, BeginsWith-slot}
 use Rattle.service_bound.proofs.PointersAfter.{first_head, passed_head}
-use Rattle.service_bound.proofs.InWindows.{Any-here, Any-later, InFirst-along, KeepPointing, AreMoved-keep, IsWindowSlotBy, first_slot_by, later_slots_by}
+use Rattle.service_bound.proofs.InWindows.{InFirst-along, KeepPointing, AreMoved-keep, IsWindowSlotBy, first_slot_by, later_slots_by}
 
 -- twice the distance of the head from the shared pointer, and one more where slot t is even
 abbrev pub slots_to_go : ℕ → ℕ → Places → ℕ → ℕ → ℕ

@@ -1,7 +1,5 @@
 -- A window's first slot, and the window of the slots after it.
-use Rattle.std.proofs.Common.{◌≡◌, ℕ, suc, ◌+◌, ◌%◌, ◌<◌, List, [], ◌∷◌, Option, length, Any, refl, inl, inr, arith}
-use Rattle.std.proofs.lemmas.Bool.{cases_lt}
-use Rattle.std.proofs.lemmas.Nat.{mod_below}
+use Rattle.std.proofs.Common.{◌≡◌, ℕ, ◌+◌, ◌<◌, List, [], ◌∷◌, Option, length, arith}
 use Rattle.std.proofs.lemmas.List.Elements.{All-head, All-tail}
 use Rattle.rotating_pick.specs.declared.kinds.Kind.TheVariants.{Uni}
 use Rattle.slot_match.specs.declared.rows.Row.{Row}
@@ -9,18 +7,11 @@ use Rattle.slot_match.specs.declared.matching.Fed.{Fed}
 use Rattle.slot_match.specs.Rows.{Names, row_of, AreWithin}
 use Rattle.slot_match.specs.Matches.{Serves}
 use Rattle.pointer_state.specs.Places.{Places, ArePointing}
-use Rattle.pointer_state.proofs.Moves.{below_by}
 use Rattle.eslip_rounds.specs.Slots.{Moving, AreMoved, IsSlotBy}
 use Rattle.eslip_rounds.specs.Schedules.{DecidedSlot}
 use Rattle.service_bound.specs.Windows.{IsClean, InFirst, IsWindowBy, IsWindow}
 use Rattle.service_bound.proofs.LaterRounds.{first_of, length-first_of}
 use Rattle.service_bound.proofs.PointersAfter.{ArePointing-after}
-
-pub Any-here : {X : Type 0} (P : X → Type 0) (x : X) (xs : List X) → P x → Any P (x ∷ xs)
-Any-here P x xs here = (0, x, omega arith, refl, here)
-
-pub Any-later : {X : Type 0} (P : X → Type 0) (x : X) (xs : List X) → Any P xs → Any P (x ∷ xs)
-Any-later P x xs some = (suc some.0, some.1, omega (arith, some.2), some.3, some.4)
 
 pub InFirst-along : (P Q : List Row → Type 0) → ((rows : List Row) → P rows → Q rows) → (slots : List DecidedSlot) → InFirst P slots → InFirst Q slots
 InFirst-along P Q f [] there = there
@@ -30,19 +21,6 @@ InFirst-along P Q f (slot ∷ slots) there = f slot.rows there
 abbrev pub AskOn : ℕ → ℕ → List (Option Fed) → List Row → List Row → ℕ → Type 0
 AskOn n level matched rows later j = (x : ℕ) → x < n → Names (row_of rows x) level Uni j → (Serves matched x j level Uni → ⊥)
     → Names (row_of later x) level Uni j
-
--- a pointer that goes one beyond a port, or stays, is at a port again
-pub below_moved : (n after before : ℕ) (P : ℕ → Type 0) → ((i : ℕ) → P i → after ≡ (i + 1) % n) → (((i : ℕ) → P i → ⊥) → after ≡ before) → before < n
-    → after < n
-below_moved n after before P moves stays before_in = elim (cases_lt after n) [
-  | inl below ↦ below
-  | inr above ↦
-      let nobody : (i : ℕ) → P i → ⊥ = λ i p.
-      let there = moves i p in
-      let beyond = mod_below (i + 1) n (omega arith) in
-      absurd (omega arith) in
-      below_by n after before (stays nobody) before_in
-]
 
 -- where pointers move so, those of the level are at ports again after a slot
 abbrev pub KeepPointing : Moving → ℕ → ℕ → Type 0

@@ -2,6 +2,7 @@
 use Rattle.std.proofs.Common.{◌≡◌, ℕ, ◌+◌, ◌%◌, ◌<◌, ◌⊎◌, List, Option, length, sym, subst, inl, inr, arith}
 use Rattle.std.proofs.lemmas.Bool.{cases_lt}
 use Rattle.std.proofs.lemmas.Nat.{mod_below}
+use Rattle.std_lemmas.proofs.Numbers.{below_by}
 use Rattle.rotating_pick.specs.Rotation.{IsFirstFrom}
 use Rattle.rotating_pick.specs.declared.kinds.Kind.TheVariants.{Uni}
 use Rattle.rotating_pick.proofs.First.{IsFirstFrom-only}
@@ -12,7 +13,6 @@ use Rattle.slot_match.specs.Rows.{HasHead, AreWithin}
 use Rattle.slot_match.specs.Matches.{Serves, Completes}
 use Rattle.slot_match.proofs.Pairs.{Serves-decides, fed_of-lt}
 use Rattle.pointer_state.specs.Places.{Places, ArePointing, grant_of, accept_of, shared_of}
-use Rattle.pointer_state.proofs.Moves.{below_by}
 use Rattle.eslip_rounds.specs.Slots.{AreMoved}
 use Rattle.eslip_rounds.proofs.Deciding.{some_below, Completes-or, HasHead-decides}
 use Rattle.eslip_rounds.proofs.Unique.{fed_by}

@@ -1,6 +1,7 @@
 -- Over a window without multicast the rank of a request falls from slot to slot until it is served.
 use Rattle.std.proofs.Common.{ℕ, ◌+◌, ◌*◌, ◌<◌, ◌≤◌, List, [], ◌∷◌, length, All, Any, inl, inr, arith}
 use Rattle.std.proofs.lemmas.List.Elements.{All-head, All-tail}
+use Rattle.std_lemmas.proofs.Lists.{Any-here, Any-later}
 use Rattle.rotating_pick.specs.declared.kinds.Kind.TheVariants.{Uni}
 use Rattle.slot_match.specs.declared.rows.Row.{Row}
 use Rattle.slot_match.specs.Rows.{Names, row_of}
@@ -12,7 +13,7 @@ use Rattle.eslip_rounds.specs.Schedules.{DecidedSlot}
 use Rattle.service_bound.specs.Windows.{IsWithoutMulticast, InFirst, IsWindow}
 use Rattle.service_bound.specs.Waits.{longest_service}
 use Rattle.service_bound.proofs.Rank.{twice_longest-some}
-use Rattle.service_bound.proofs.InWindows.{Any-here, Any-later, InFirst-along, first_slot, later_slots}
+use Rattle.service_bound.proofs.InWindows.{InFirst-along, first_slot, later_slots}
 use Rattle.service_bound.proofs.RankFalls.{twice_rank_of, falls_in_slot, twice_rank_of-bound}
 
 module _ (n rounds level i j : ℕ) (some : 0 < rounds) (i_in : i < n) where

@@ -1,5 +1,5 @@
 -- The seats that the turn lock of a new board gives.
-use Rattle.std.proofs.Common.{◌≡◌, ◌∙◌, ℕ, ◌<◌, List, [], ◌∷◌, ◌++◌, length, Some, refl, sym, ap, subst, arith}
+use Rattle.std.proofs.Common.{◌≡◌, ◌∙◌, ℕ, ◌<◌, List, [], length, Some, refl, sym, ap, subst, arith}
 use Rattle.std.specs.Prelude.{slice_get}
 use Rattle.std.proofs.lemmas.Option.{slice_get_within}
 use Rattle.slot_histories.specs.declared.events.Event.{Event}
@@ -8,11 +8,6 @@ use Rattle.board_state.specs.Boards.{BoardValue, IsSetup}
 use Rattle.slot_board.specs.Turns.{numbers_of, setup_of}
 use Rattle.slot_board.specs.Columns.{IsBoard}
 use Rattle.slot_board.specs.ColumnSteps.{IsNewCard}
-
--- the element that follows the first ones
-pub slice_get-seam : {X : Type 0} (xs ys : List X) (x : X) → slice_get (xs ++ x ∷ ys) (length xs) ≡ Some x
-slice_get-seam [] ys x = refl
-slice_get-seam (y ∷ xs) ys x = slice_get-seam xs ys x
 
 -- a turn lock round the state of a board on which nothing has happened
 pub IsBoard-new : (turn : TurnValue Event) (board : BoardValue) → IsSetup board.setup → board.events ≡ [] → turn.first ≡ board.events

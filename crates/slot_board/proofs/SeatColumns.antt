@@ -3,6 +3,7 @@ use Rattle.std.proofs.Common.{◌≡◌, ◌∙◌, ℕ, ◌+◌, Bool, true, Li
 use Rattle.std.specs.Prelude.{if◌then◌else◌}
 use Rattle.std.proofs.lemmas.Bool.{eq-eqb}
 use Rattle.std.proofs.lemmas.List.{append-nil}
+use Rattle.std_lemmas.proofs.Lists.{append_same-nil}
 use Rattle.crossbar.specs.declared.cards.Post.{Post as CardPost}
 use Rattle.crossbar.specs.declared.cards.Taken.{Taken}
 use Rattle.slot_histories.specs.declared.events.Event.{Event}
@@ -15,7 +16,7 @@ use Rattle.slot_histories.proofs.Appending.{posts_of-append, takes_of-append}
 use Rattle.turn_lock.specs.declared.history.TurnOf.{TurnOf}
 use Rattle.turn_lock.specs.Histories.{IsPrefixOf, entries_of, turns_of, IsAllowed}
 use Rattle.turn_lock.specs.Seats.{SeatValue}
-use Rattle.turn_lock.proofs.HistoryLemmas.{append_same-nil, entries_of-append, entries_of-snoc, turns_of-append, IsAllowed-append}
+use Rattle.turn_lock.proofs.HistoryLemmas.{entries_of-append, entries_of-snoc, turns_of-append, IsAllowed-append}
 use Rattle.slot_board.specs.declared.waits.TakeWait.{TakeWait}
 use Rattle.slot_board.specs.declared.waits.TakeWait.TheVariants.{Busy, NotYet}
 use Rattle.slot_board.specs.Turns.{MayAdd, post_entries, decision_entries}

@@ -1,19 +1,12 @@
 -- What the first slots give depends on the posts of these slots alone.
-use Rattle.std.proofs.Common.{◌≡◌, ℕ, zero, suc, ◌+◌, ◌<◌, ◌≤◌, map, refl, ap, arith}
-use Rattle.std.specs.List.{range_with_len, list_all}
+use Rattle.std.proofs.Common.{◌≡◌, ℕ, zero, suc, ◌<◌, ◌≤◌, map, refl, ap, arith}
+use Rattle.std.specs.List.{list_all}
+use Rattle.std_lemmas.proofs.Ranges.{map_range-same}
 use Rattle.slot_match.specs.Parts.{served_of}
 use Rattle.crossbar.specs.declared.cards.Post.{Post as CardPost}
 use Rattle.slot_histories.specs.Events.{Setup}
 use Rattle.slot_histories.specs.Slots.{slot_posts, slot_rows, places_at, decision_at, served_at, is_done_at, is_done_before, crossed, taken_at}
 use Rattle.slot_histories.specs.Slots.{row_before, served_before}
-
--- two functions that agree on a range give one list there
-pub map_range-same : {X : Type 0} (f g : ℕ → X) (a n : ℕ) → ((i : ℕ) → i < a + n → f i ≡ g i) → map f (range_with_len a n) ≡ map g (range_with_len a n)
-map_range-same f g a zero same = refl
-map_range-same f g a (suc n) same =
-    let first : f a ≡ g a = same a (omega arith) in
-    let rest = map_range-same f g (a + 1) n (λ i below. same i (omega arith)) in
-    cc
 
 -- `these` and `those` agree on the cards of the board and the slots below k
 module _ (s : Setup) (these those : ℕ → ℕ → CardPost) (k : ℕ) (same : (i t : ℕ) → i < s.ports → t < k → these i t ≡ those i t) where

@@ -3,6 +3,7 @@ use Rattle.std.proofs.Common.{◌≡◌, ◌≢◌, ℕ, ◌+◌, ◌*◌, ◌<�
 use Rattle.std.specs.List.{range_with_len, sum_by}
 use Rattle.std.proofs.lemmas.Bool.{cases_eq}
 use Rattle.std.proofs.lemmas.List.{length_push}
+use Rattle.std_lemmas.proofs.RangeSums.{sum_by-range_same, sum_by-range_one, sum_by-range_le}
 use Rattle.crossbar.specs.declared.cards.Post.{Post as CardPost}
 use Rattle.slot_histories.specs.declared.events.Event.{Event}
 use Rattle.slot_histories.specs.declared.events.Event.TheVariants.{Post, Decide, Take}
@@ -10,7 +11,6 @@ use Rattle.slot_histories.specs.Events.{Setup, posts_of, takes_of, decides, post
 use Rattle.slot_histories.specs.Legal.{MayPost, MayDecide, MayTake, Allows}
 use Rattle.slot_histories.proofs.Appending.{posted-append, posts_of-other, posts_of-decide, posts_of-take, takes_of-same, takes_of-other, takes_of-post}
 use Rattle.slot_histories.proofs.Appending.{takes_of-decide, decides-post, decides-decide, decides-take, posted_more}
-use Rattle.slot_histories.proofs.CardSums.{sum_by-range_same, sum_by-range_one, sum_by-range_le}
 
 -- how many posts and takes of the card stand in the list
 abbrev pub acts_of : List Event → ℕ → ℕ

@@ -1,6 +1,5 @@
 pub mod Appending
 pub mod Agreeing
-pub mod CardSums
 pub mod InStep
 pub mod AcceptedPosts
 pub mod LegalLists

@@ -3,6 +3,7 @@ use Rattle.std.proofs.Common.{◌≡◌, ◌∙◌, ℕ, ◌+◌, ◌<◌, Bool,
 use Rattle.std.proofs.Common.{append_assoc, add-one, refl}
 use Rattle.std.proofs.lemmas.Bool.{eqb-true}
 use Rattle.std.specs.List.{range_with_len}
+use Rattle.std_lemmas.proofs.Ranges.{map_range-same}
 use Rattle.slot_histories.specs.declared.events.Event.{Event}
 use Rattle.slot_histories.specs.declared.events.Event.TheVariants.{Post, Decide, Take}
 use Rattle.slot_histories.specs.Events.{Setup, posts_of, takes_of, decides, posted, no_post}
@@ -10,7 +11,7 @@ use Rattle.slot_histories.specs.Slots.{taken_at}
 use Rattle.slot_histories.specs.Legal.{MayTake, IsLegalAfter, IsLegal}
 use Rattle.slot_histories.specs.Answers.{takings_after, takings_of, journal_slot, journal_of}
 use Rattle.slot_histories.proofs.Appending.{takes_of-append, takes_of-post, takes_of-decide}
-use Rattle.slot_histories.proofs.Agreeing.{map_range-same, taken_at-same, slot_posts-same, decision_at-same}
+use Rattle.slot_histories.proofs.Agreeing.{taken_at-same, slot_posts-same, decision_at-same}
 use Rattle.slot_histories.proofs.InStep.{AreInStep, AreInStep-none, AreInStep-more, posted-stays}
 
 -- what a take adds, whoever took

@@ -1,34 +1,14 @@
 -- Texts that grow at their end.
-use Rattle.std.proofs.Common.{◌≡◌, ◌+◌, ◌<◌, ◌≤◌, ℕ, cond, List, [], ◌∷◌, ◌++◌, take, get_or, length, refl, sym, ◌∙◌, ap, subst, append_assoc, zero-add}
-use Rattle.std.specs.Prelude.{Result, Ok, Err, is_ok, Option, None, Some, OnOk, option_to_list, codes}
+use Rattle.std.proofs.Common.{◌≡◌, ◌+◌, ◌<◌, ◌≤◌, ℕ, List, [], ◌∷◌, ◌++◌, take, get_or, length, refl, sym, ◌∙◌, ap, subst, zero-add}
+use Rattle.std.specs.Prelude.{Option, None, Some, option_to_list, codes}
 use Rattle.std.specs.List.{flat_map, filter_map, join_with_byte, enumerate_from}
-use Rattle.std.proofs.lemmas.List.{append-nil, flat_map_more, get_or-map, length-map, take_all, take_more}
+use Rattle.std.proofs.lemmas.List.{append-nil, flat_map_more, get_or-map, length-map}
 use Rattle.std.proofs.lemmas.List.Concat.{flat_map-append}
 use Rattle.std.proofs.lemmas.List.FromFn.{get_or-enumerate_from, length-enumerate_from}
+use Rattle.std_lemmas.proofs.Appending.{both, one_more, all_of}
 use Rattle.slot_report.specs.Lines.{line_text, lines_text}
 use Rattle.slot_report.specs.PieceSteps.{after_space}
 use Rattle.slot_report.specs.Texts.{map_with_place}
-
--- what a call that appends says where it is answered Ok
-pub appended : {T E : Type 0} (r : Result T E) (old piece new : List ℕ) → new ≡ cond (is_ok r) (old ++ piece) old → OnOk r (new ≡ old ++ piece)
-appended (Ok x) old piece new is = is
-appended (Err e) old piece new is = tt
-
--- two pieces in a row
-pub both : (old mid new a b : List ℕ) → mid ≡ old ++ a → new ≡ mid ++ b → new ≡ old ++ (a ++ b)
-both old mid new a b first second = second ∙ ap (λ s. s ++ b) first ∙ append_assoc old a b
-
--- one more of the listed pieces
-pub one_more : {X : Type 0} (f : X → List ℕ) (xs : List X) (i : ℕ) (d : X) (old now new : List ℕ) → i < length xs → now ≡ old ++ flat_map f (take i xs)
-    → new ≡ now ++ f (get_or xs i d) → new ≡ old ++ flat_map f (take (i + 1) xs)
-one_more f xs i d old now new within at more =
-    more ∙ ap (λ s. s ++ f (get_or xs i d)) at ∙ flat_map_more f old (take i xs) (get_or xs i d)
-    ∙ ap (λ ys. old ++ flat_map f ys) (sym (take_more xs i d within))
-
--- all of the listed pieces
-pub all_of : {X : Type 0} (f : X → List ℕ) (xs : List X) (n : ℕ) (old new : List ℕ) → length xs ≤ n → new ≡ old ++ flat_map f (take n xs)
-    → new ≡ old ++ flat_map f xs
-all_of f xs n old new whole at = at ∙ ap (λ ys. old ++ flat_map f ys) (take_all n xs whole)
 
 pub length-map_with_place : {X Y : Type 0} (f : ℕ → X → Y) (xs : List X) → length (map_with_place f xs) ≡ length xs
 length-map_with_place f xs = length-map (enumerate_from 0 xs) (λ p. f p.0 p.1) ∙ length-enumerate_from 0 xs

@@ -1,13 +1,12 @@
 -- Sums over the outputs of a run, what bounds them, and the least of some numbers.
-use Rattle.std.proofs.Common.{◌≡◌, ◌∙◌, ℕ, zero, suc, ◌^◌, ◌<◌, ◌≤◌, Bool, true, false, cond, List, [], ◌∷◌, ◌++◌, length, get_or, map, refl, sym, ap, arith}
+use Rattle.std.proofs.Common.{◌≡◌, ℕ, zero, suc, ◌^◌, ◌<◌, ◌≤◌, Bool, true, false, cond, List, [], ◌∷◌, ◌++◌, length, get_or, map, refl, arith}
 use Rattle.std.specs.Prelude.{Some, Option, None, slice_get, All}
 use Rattle.std.specs.List.{sum_by, filter, range_with_len, flat_map}
 use Rattle.std.specs.Option.{option_to_list}
-use Rattle.std.proofs.lemmas.List.{length-append, length-map, get_or-map}
-use Rattle.std.proofs.lemmas.List.FromFn.{fill_by_all, length-range_with_len}
-use Rattle.std.proofs.lemmas.List.Sums.{sum_by-le, sum-map}
-use Rattle.std.proofs.lemmas.Option.{slice_get-get_or, get_or_from_slice_get}
-use Rattle.std.proofs.lemmas.Simd.{map-map}
+use Rattle.std.proofs.lemmas.List.{length-append}
+use Rattle.std.proofs.lemmas.List.FromFn.{length-range_with_len}
+use Rattle.std.proofs.lemmas.List.Sums.{sum_by-le}
+use Rattle.std.proofs.lemmas.Option.{slice_get-get_or}
 use Rattle.cell_cutter.specs.declared.cell.Cell.{Cell}
 use Rattle.slot_match.specs.declared.matching.Served.{Served}
 use Rattle.slot_board.specs.Boards.{least_of}
@@ -15,22 +14,6 @@ use Rattle.card_core.specs.declared.plan.Planned.{Planned}
 use Rattle.card_core.specs.Plans.{Plan as CardPlan, arriving}
 use Rattle.card_core.specs.Queues.{count_in, count_before}
 use Rattle.card_core.specs.Deliveries.{ended_by, messages_after}
-use Rattle.card_worker.proofs.Grouping.{at_place}
-
--- a sum over a list, where each term is told by its place
-pub sum_of : {X : Type 0} (f : X → ℕ) (g : ℕ → ℕ) (xs : List X) (n : ℕ) → length xs ≡ n → ((i : ℕ) (x : X) → slice_get xs i ≡ Some x → f x ≡ g i)
-    → sum_by f xs ≡ sum_by g (range_with_len 0 n)
-sum_of {X} f g xs n long each =
-    let term : (k : ℕ) → k < n → get_or (map f xs) k 0 ≡ g k = λ k below.
-    let inside : k < length xs = omega arith in
-    let (x, at) = at_place xs k inside in
-    get_or-map f xs k x 0 inside ∙ ap f (get_or_from_slice_get xs k x x at) ∙ each k x at in
-    let terms = fill_by_all g (map f xs) n 0 (length-map xs f ∙ long) term in
-    sym (sum-map f xs) ∙ ap (λ ys. sum_by (λ y. y) ys) terms ∙ sum-map g (range_with_len 0 n)
-
--- a sum over a list that was made element by element
-pub sum_by-map : {A B : Type 0} (f : B → ℕ) (g : A → B) (xs : List A) → sum_by f (map g xs) ≡ sum_by (λ x. f (g x)) xs
-sum_by-map f g xs = sym (sum-map f (map g xs)) ∙ (ap (λ ys. sum_by (λ y. y) ys) (map-map f g xs) ∙ sum-map (λ x. f (g x)) xs)
 
 -- sums of small terms over a few elements fit
 pub sum_fits : {X : Type 0} (f : X → ℕ) (xs : List X) → length xs ≤ 64 → ((i : ℕ) (x : X) → slice_get xs i ≡ Some x → f x ≤ 262145) → sum_by f xs < 2 ^ 32

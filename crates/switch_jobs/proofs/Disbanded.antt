@@ -4,6 +4,8 @@ use Rattle.std.specs.Prelude.{Some, slice_get}
 use Rattle.std.specs.Option.{option_map}
 use Rattle.std.proofs.lemmas.List.{length-map, length_push}
 use Rattle.std.proofs.lemmas.Option.{slice_get-map, slice_get_within}
+use Rattle.std_lemmas.proofs.Options.{some_same}
+use Rattle.std_lemmas.proofs.Lists.{at_place, get-snoc}
 use Rattle.slot_histories.specs.declared.events.Event.{Event}
 use Rattle.turn_lock.specs.Seats.{SeatValue}
 use Rattle.slot_board.specs.Seats.{is_due, refusals}
@@ -14,9 +16,6 @@ use Rattle.card_worker.specs.declared.hands.Hand.{Hand}
 use Rattle.card_worker.specs.declared.hands.Group.{Group}
 use Rattle.card_worker.specs.AloneSteps.{plans_of}
 use Rattle.card_worker.specs.Disbanding.{AreFrom}
-use Rattle.card_worker.proofs.Passes.{some_same}
-use Rattle.card_worker.proofs.Removing.{get-snoc}
-use Rattle.card_worker.proofs.Grouping.{at_place}
 use Rattle.switch_jobs.specs.SharingSteps.{ArePlanned, HaveWaited}
 use Rattle.switch_jobs.specs.EndingSteps.{Leaves, AreLeft, AreOfPlans}
 use Rattle.switch_jobs.proofs.Adding.{least-from}

@@ -5,6 +5,8 @@ use Rattle.std.specs.List.{sum_by, range_with_len}
 use Rattle.std.proofs.lemmas.List.FromFn.{length-map-range_with_len}
 use Rattle.std.proofs.lemmas.Option.{slice_get_within}
 use Rattle.std.proofs.lemmas.Simd.{map-map}
+use Rattle.std_lemmas.proofs.Lists.{at_place}
+use Rattle.std_lemmas.proofs.MappedSums.{sum_of}
 use Rattle.rotating_pick.specs.declared.limits.TheConstants.{LEVELS}
 use Rattle.eslip_rounds.specs.Schedulers.{Scheduler}
 use Rattle.eslip_rounds.specs.Decisions.{decision_of}
@@ -16,7 +18,6 @@ use Rattle.slot_board.specs.States.{StateValue, JournalValue}
 use Rattle.card_core.specs.declared.outcome.CardOut.{CardOut}
 use Rattle.card_core.specs.Plans.{Plan as CardPlan}
 use Rattle.card_worker.specs.declared.hands.Hand.{Hand}
-use Rattle.card_worker.proofs.Grouping.{at_place}
 use Rattle.slot_report.specs.declared.summary.Summary.{Summary}
 use Rattle.switch_plan.specs.GoodPlans.{SwitchPlan, packets_in, IsGood}
 use Rattle.run_laws.specs.Runs.{ports_of, setup_for, run_journal}
@@ -29,7 +30,7 @@ use Rattle.run_outcomes.specs.Outcomes.{IsOutputUnder, IsOutput}
 use Rattle.switch_jobs.specs.ReadinessSteps.{plan_with}
 use Rattle.switch_jobs.specs.JournalSteps.{noted_in, longest_in, HaveSums, summary_with, summary_in}
 use Rattle.switch_jobs.specs.EndingSteps.{AreLeft, IsRunOf}
-use Rattle.switch_jobs.proofs.Adding.{sum_of, sum_fits}
+use Rattle.switch_jobs.proofs.Adding.{sum_fits}
 use Rattle.switch_jobs.proofs.Leaving.{IsFew, few_of}
 use Rattle.run_laws.proofs.Limits.{slots_few}
 

@@ -1,27 +1,15 @@
 -- Lists that were gone through in part, and members of a board that are made one by one.
-use Rattle.std.proofs.Common.{◌≡◌, ◌∙◌, ℕ, List, [], ◌∷◌, ◌++◌, length, map, refl, sym, ap, subst, append_assoc, inl, inr}
+use Rattle.std.proofs.Common.{◌≡◌, ◌∙◌, ℕ, List, [], ◌∷◌, ◌++◌, length, map, sym, ap, subst, inl, inr}
 use Rattle.std.specs.Prelude.{Some, slice_get}
 use Rattle.std.proofs.lemmas.List.{map_push}
+use Rattle.std_lemmas.proofs.Lists.{get-snoc}
 use Rattle.slot_histories.specs.declared.events.Event.{Event}
 use Rattle.turn_lock.specs.Seats.{TurnValue}
 use Rattle.card_core.specs.declared.plan.CardPlan.{CardPlan}
 use Rattle.card_core.specs.Plans.{plan_of}
 use Rattle.card_worker.specs.declared.hands.Member.{Member}
 use Rattle.card_worker.specs.Trying.{IsMember}
-use Rattle.card_worker.proofs.Removing.{get-snoc}
 use Rattle.switch_jobs.specs.ReadinessSteps.{plans_in}
-
--- the element after those that were gone through
-pub get_next : {X : Type 0} (ys : List X) (x : X) (xs : List X) → slice_get (ys ++ x ∷ xs) (length ys) ≡ Some x
-get_next [] x xs = refl
-get_next (y ∷ ys) x xs = get_next ys x xs
-
--- one more was gone through
-pub gone_more : {X : Type 0} (ys rest xs all : List X) (x : X) → ys ++ rest ≡ all → rest ≡ x ∷ xs → (ys ++ x ∷ []) ++ xs ≡ all
-gone_more ys rest xs all x whole next = append_assoc ys (x ∷ []) xs ∙ (ap (λ zs. ys ++ zs) (sym next) ∙ whole)
-
-pub here_of : {X : Type 0} (ys rest xs all : List X) (x : X) → ys ++ rest ≡ all → rest ≡ x ∷ xs → slice_get all (length ys) ≡ Some x
-here_of ys rest xs all x whole next = ap (λ zs. slice_get zs (length ys)) (sym (ap (λ zs. ys ++ zs) (sym next) ∙ whole)) ∙ get_next ys x xs
 
 -- members of a board, by card
 abbrev pub AreInPlace : TurnValue Event → List Member → Type 0

@@ -3,6 +3,8 @@ use Rattle.std.proofs.Common.{◌≡◌, ◌∙◌, ℕ, ◌+◌, ◌<◌, ◌�
 use Rattle.std.specs.Prelude.{Some, slice_get, vec_capacity}
 use Rattle.std.proofs.lemmas.Bool.{cases_eq}
 use Rattle.std.proofs.lemmas.Option.{slice_get_within, get_or_from_slice_get}
+use Rattle.std_lemmas.proofs.Options.{some_same}
+use Rattle.std_lemmas.proofs.Lists.{at_place, get-set_same, get-set_other, get-snoc}
 use Rattle.slot_histories.specs.declared.events.Event.{Event}
 use Rattle.turn_lock.specs.Seats.{TurnValue}
 use Rattle.slot_board.specs.Seats.{is_due, refusals}
@@ -12,9 +14,6 @@ use Rattle.card_worker.specs.declared.hands.Group.{Group}
 use Rattle.card_worker.specs.Disbanding.{IsAmong}
 use Rattle.card_worker.specs.Driving.{IsSameMember}
 use Rattle.card_worker.specs.Groups.{IsDrivenGroup}
-use Rattle.card_worker.proofs.Passes.{get-set_same, get-set_other, some_same}
-use Rattle.card_worker.proofs.Removing.{get-snoc}
-use Rattle.card_worker.proofs.Grouping.{at_place}
 use Rattle.switch_jobs.specs.ReadinessSteps.{AreEmptyGroups, HaveRoomFor}
 use Rattle.switch_jobs.specs.SharingSteps.{ArePlanned, HaveWaited}
 

@@ -5,7 +5,7 @@ use Rattle.std.specs.Prelude.{map, All, nat_lt, slice_get, sum, sum_by}
 use Rattle.std.proofs.lemmas.Bool.Decides.{nat_tests}
 use Rattle.std.proofs.lemmas.List.Elements.{All-head, All-tail, All-map}
 use Rattle.std.proofs.lemmas.Option.{none-some, same_Some, slice_get-get_or}
-use Rattle.std.proofs.lemmas.List.Sums.{sum_by-cons, sum-map}
+use Rattle.std.proofs.lemmas.List.Sums.{sum-map}
 use Rattle.std.proofs.lemmas.List.Folds.{fold-map}
 use Rattle.line_pace.specs.declared.pace.Pace.{Pace}
 use Rattle.line_pace.specs.Arrivals.{slots_taken}
@@ -148,15 +148,3 @@ sums_same F H cards captures same =
     ∙ ap sum same
     ∙ sum-map (λ (capture : Capture). H (file_of capture)) captures
     ∙ sym (fold-map (λ a x. a + H x) file_of 0 captures)
-
-pub sum_both : {A : Type 0} (f g : A → ℕ) (xs : List A) → sum_by (λ x. f x + g x) xs ≡ sum_by f xs + sum_by g xs
-sum_both f g [] = refl
-sum_both f g (x ∷ xs) =
-    sum_by-cons (λ y. f y + g y) x xs
-    ∙ ap (λ n. f x + g x + n) (sum_both f g xs)
-    ∙ regroup (f x) (g x) (sum_by f xs) (sum_by g xs)
-    ∙ ap (λ n. n + (g x + sum_by g xs)) (sym (sum_by-cons f x xs))
-    ∙ ap (λ n. sum_by f (x ∷ xs) + n) (sym (sum_by-cons g x xs))
-  where
-    regroup : (a b c d : ℕ) → a + b + (c + d) ≡ a + c + (b + d)
-    regroup a b c d = omega arith

@@ -1,10 +1,11 @@
 -- A plan is good where its parts are.
-use Rattle.std.proofs.Common.{◌≡◌, ◌∙◌, ℕ, zero, suc, ◌<◌, ◌≤◌, List, [], ◌∷◌, length, Some, refl, sym, ap, subst, arith}
+use Rattle.std.proofs.Common.{◌≡◌, ◌∙◌, ℕ, ◌≤◌, List, length, Some, sym, ap, subst, arith}
 use Rattle.std.specs.Prelude.{map, slice_get, slice_index_or, All}
 use Rattle.std.specs.Option.{option_map}
-use Rattle.std.proofs.lemmas.Option.{same_Some, slice_get-map, slice_get-get_or, get_or_from_slice_get}
+use Rattle.std.proofs.lemmas.Option.{slice_get-map, slice_get-get_or, get_or_from_slice_get}
 use Rattle.std.proofs.lemmas.Simd.{map-map}
 use Rattle.std.proofs.lemmas.List.{get_or_default, length-map}
+use Rattle.std_lemmas.proofs.Lists.{at_place, got_map}
 use Rattle.rotating_pick.specs.declared.limits.TheConstants.{MAX_PORTS, MAX_ROUNDS}
 use Rattle.card_core.specs.declared.plan.Planned.{Planned}
 use Rattle.card_core.specs.declared.plan.CardPlan.{CardPlan}
@@ -26,26 +27,15 @@ countable card good = record {
   forwarded = λ k d inside. (good.packets k (slice_index_or card.packets.items k d) (slice_get-get_or card.packets.items k d inside)).forwarded;
 }
 
--- an element within a list
-pub got_at : {A : Type 0} (xs : List A) (k : ℕ) → k < length xs → (x : A) × (slice_get xs k ≡ Some x)
-got_at [] k inside = absurd (omega arith)
-got_at (x ∷ xs) zero inside = (x, refl)
-got_at (x ∷ xs) (suc k) inside = got_at xs k (omega arith)
-
 -- the packets of cards that are all well formed
 pub countable_cards : (cards : List CardPlan) (depth : ℕ) → AreOwnCards depth cards → All AreCountable (packets_of_cards cards)
 countable_cards cards depth own k d inside =
-    let card = got_at cards k (let l = length-map cards (λ (c : CardPlan). c.packets.items) in omega arith) in
+    let card = at_place cards k (let l = length-map cards (λ (c : CardPlan). c.packets.items) in omega arith) in
     let is : card.0 ≡ slice_index_or cards k card.0 = sym (get_or_from_slice_get cards k card.0 card.0 card.1) in
     let same = get_or_default (packets_of_cards cards) k d card.0.packets.items inside ∙ packets_at cards k card.0 is in
     subst AreCountable (sym same) (countable card.0 (own k card.0 card.1).good)
 
 -- ---- a plan and its cards
--- an element of a list that was made of another
-got_map : {A B : Type 0} (f : A → B) (xs : List A) (k : ℕ) (y : B) → slice_get (map f xs) k ≡ Some y → (x : A) × (slice_get xs k ≡ Some x) × (f x ≡ y)
-got_map f [] k y is = absurd (cc)
-got_map f (x ∷ xs) zero y is = (x, refl, same_Some (f x) y is)
-got_map f (x ∷ xs) (suc k) y is = got_map f xs k y is
 
 map_got : (cards : List CardPlan) (port : ℕ) (card : CardPlan) → slice_get cards port ≡ Some card
     → slice_get (map card_plan_of cards) port ≡ Some (card_plan_of card)

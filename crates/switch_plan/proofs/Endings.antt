@@ -6,6 +6,7 @@ use Rattle.std.specs.Option.{option_or}
 use Rattle.std.proofs.lemmas.List.{same_lists, get_or_default, length-map}
 use Rattle.std.proofs.lemmas.Option.{none-some, same_Some}
 use Rattle.std.proofs.Math.ListN.{get_or-map as get_or-map_same}
+use Rattle.std_lemmas.proofs.Lists.{at_place}
 use Rattle.pcap_records.specs.declared.capture.Capture.{Capture as ACapture}
 use Rattle.pcap_records.specs.declared.fault.PcapFault.{PcapFault}
 use Rattle.forward_table.specs.declared.faults.TableFault.{TableFault}
@@ -22,7 +23,6 @@ use Rattle.switch_plan.specs.Refusals.{IsFirstFault, first_link, mixed_links, fi
 use Rattle.switch_plan.specs.Refusals.{refusal_of}
 use Rattle.switch_plan.specs.ReadingSteps.{bytes_of_files, IsCaptureOf, AreCapturesOf}
 use Rattle.switch_plan.specs.GoodPlans.{switch_plan_of, IsPlanOf}
-use Rattle.switch_plan.proofs.Checked.{got_at}
 use Rattle.switch_plan.proofs.Refused.{refusal_once, no_refusal}
 
 -- ---- captures that were read
@@ -39,7 +39,7 @@ kept_bytes files captures are =
     same_lists (map bytes captures) files (length-map captures bytes ∙ are.count)
     (λ k d inside.
     let within : k < length captures = omega (arith, length-map captures bytes) in
-    let got = got_at captures k within in
+    let got = at_place captures k within in
     get_or_default (map bytes captures) k d (bytes got.0) inside
     ∙ get_or-map_same bytes captures k got.0
     ∙ (are.each k d got.0 (let n = are.count in omega arith)).kept)
@@ -49,7 +49,7 @@ files_are files captures are = record {
   count = length-map captures file_of ∙ are.count;
   each = λ k bytes capture within.
       let inside : k < length captures = let n = are.count in omega arith in
-      let got = got_at captures k inside in
+      let got = at_place captures k inside in
       let same : file_of (slice_index_or captures k got.0) ≡ slice_index_or (map file_of captures) k capture =
       sym (get_or_default (map file_of captures) k capture (file_of got.0) (omega (arith, length-map captures file_of)) ∙ get_or-map_same file_of captures k got.0) in
       subst (IsFile (slice_index_or files k bytes)) same (are.each k bytes got.0 within).file;

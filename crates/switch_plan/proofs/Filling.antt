@@ -1,8 +1,9 @@
 -- The cards of which the first have their rooms.
-use Rattle.std.proofs.Common.{◌≡◌, ◌≢◌, ◌∙◌, ◌⊎◌, ℕ, zero, suc, ◌+◌, ◌<◌, ◌≤◌, List, [], ◌∷◌, length, set, Some, refl, sym, ap, subst, arith, inl, inr}
+use Rattle.std.proofs.Common.{◌≡◌, ◌∙◌, ℕ, zero, suc, ◌+◌, ◌<◌, ◌≤◌, List, [], ◌∷◌, length, set, Some, refl, sym, ap, subst, arith, inl, inr}
 use Rattle.std.proofs.Common.{length-set}
 use Rattle.std.specs.Prelude.{map, slice_get}
 use Rattle.std.proofs.lemmas.Option.{same_Some}
+use Rattle.std_lemmas.proofs.Lists.{got_set}
 use Rattle.card_core.specs.declared.plan.Planned.{Planned}
 use Rattle.card_core.specs.declared.plan.CardPlan.{CardPlan}
 use Rattle.switch_plan.specs.declared.output_rooms.OutputRoom.{OutputRoom}
@@ -30,17 +31,6 @@ map_kept : {A B : Type 0} (f : A → B) (xs : List A) (k : ℕ) (c x : A) → sl
 map_kept f [] k c x is same = refl
 map_kept f (a ∷ xs) zero c x is same = ap (λ b. b ∷ map f xs) (same ∙ sym (ap f (same_Some a c is)))
 map_kept f (a ∷ xs) (suc k) c x is same = ap (λ ys. f a ∷ ys) (map_kept f xs k c x is same)
-
--- what is found where one was written
-pub got_set : {A : Type 0} (xs : List A) (k j : ℕ) (x y : A) → slice_get (set xs k x) j ≡ Some y → ((j ≡ k) × (y ≡ x)) ⊎ ((j ≢ k) × (slice_get xs j ≡ Some y))
-got_set [] k j x y is = absurd (cc)
-got_set (a ∷ xs) zero zero x y is = inl (refl, sym (same_Some x y is))
-got_set (a ∷ xs) zero (suc j) x y is = inr (λ e. absurd (omega arith), is)
-got_set (a ∷ xs) (suc k) zero x y is = inr (λ e. absurd (omega arith), is)
-got_set (a ∷ xs) (suc k) (suc j) x y is = elim (got_set xs k j x y is) [
-  | inl both ↦ inl (ap suc both.0, both.1)
-  | inr both ↦ inr (λ e. both.0 (omega arith), both.1)
-]
 
 pub AreFilled-more : (k : ℕ) (old now : List CardPlan) (card with_room : CardPlan) → AreFilled k old now → slice_get now k ≡ Some card
     → IsSized (packets_of_cards now) k card with_room → AreFilled (k + 1) old (set now k with_room)

@@ -5,6 +5,7 @@ use Rattle.std.specs.Prelude.{map, All, slice_get}
 use Rattle.std.proofs.lemmas.Option.{slice_get_within}
 use Rattle.std.proofs.lemmas.Simd.{map-map}
 use Rattle.std.proofs.lemmas.List.{length-map}
+use Rattle.std_lemmas.proofs.Lists.{at_place}
 use Rattle.line_pace.specs.declared.pace.Pace.{Pace}
 use Rattle.pcap_records.specs.declared.link.Link.{Link}
 use Rattle.pcap_records.specs.declared.capture.Capture.{Capture}
@@ -25,7 +26,7 @@ use Rattle.switch_plan.specs.SizingSteps.{IsSized}
 use Rattle.switch_plan.specs.GoodPlans.{switch_plan_of, IsGood, IsPlanOf}
 use Rattle.switch_plan.specs.CardSteps.{IsPlanWith}
 use Rattle.switch_plan.proofs.RoomBounds.{body_room_few, packet_room_few, sizes_few, sizes_long}
-use Rattle.switch_plan.proofs.Checked.{got_at, same_packets, good_from}
+use Rattle.switch_plan.proofs.Checked.{same_packets, good_from}
 use Rattle.switch_plan.proofs.Placed.{bodies_are, starts_are, whole}
 use Rattle.switch_plan.proofs.Carded.{cards_each, all_packets, kept_map}
 use Rattle.switch_plan.proofs.Alike.{all_micro}
@@ -52,7 +53,7 @@ module _ {table : List RouteLine} {settings : Settings} {pace : Pace} {n : ℕ} 
       × IsSized (packets_of_cards cards) port old new
   old_at port new there =
       let inside = slice_get_within plan.cards.items port new there in
-      let old = got_at cards port (let count = with.count in omega arith) in
+      let old = at_place cards port (let count = with.count in omega arith) in
       (old.0, old.1, with.sized port old.0 new old.1 there)
 
   -- A card with its rooms is the plan's own card of its port.

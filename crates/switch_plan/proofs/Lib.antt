@@ -1,5 +1,4 @@
 pub mod Making
-pub mod Mapping
 pub mod Answered
 pub mod Times
 pub mod Sizes

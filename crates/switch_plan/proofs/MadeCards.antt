@@ -3,6 +3,7 @@ use Rattle.std.proofs.Common.{◌≡◌, ◌∙◌, ℕ, ◌+◌, ◌≤◌, ◌
 use Rattle.std.specs.Prelude.{map, All, slice_get, sum_by, count_by}
 use Rattle.std.proofs.lemmas.List.Sums.{sum_by-le, count_by-le-length}
 use Rattle.std.proofs.lemmas.Simd.{map-map}
+use Rattle.std_lemmas.proofs.Sums.{sum_by-plus}
 use Rattle.line_pace.specs.declared.pace.Pace.{Pace}
 use Rattle.pcap_records.specs.declared.capture.Capture.{Capture}
 use Rattle.pcap_records.specs.Packets.{Packet, packets_of}
@@ -21,7 +22,7 @@ use Rattle.switch_plan.specs.CardSteps.{traffic_at, is_long, IsCardFor, AreCards
 use Rattle.switch_plan.proofs.RoomBounds.{most_few}
 use Rattle.switch_plan.proofs.Totalling.{greatest_few}
 use Rattle.switch_plan.proofs.Placed.{countable, places, rising, traffic_is, card_slots, long_are, aside_are}
-use Rattle.switch_plan.proofs.Carded.{cards_long, cards_map, cards_each, all_packets, sums_same, sum_both}
+use Rattle.switch_plan.proofs.Carded.{cards_long, cards_map, cards_each, all_packets, sums_same}
 use Rattle.switch_plan.proofs.Alike.{one_link, traffic_same}
 
 -- what is known of the card of a port before its rooms are
@@ -138,7 +139,7 @@ module _ {table : List RouteLine} {settings : Settings} {pace : Pace} {n : ℕ} 
       aside_are n settings.depth table pace port capture card job.routes its.0 is
       ∙ ap (λ its_link. long (file_of capture) + count_by (λ (packet : Packet). is_unrouted table its_link packet.bytes) (packets_of capture)) its.1)
       0 captures cards linked job.cards_are)
-      ∙ sum_both long lost (map file_of captures)
+      ∙ sum_by-plus long lost (map file_of captures)
 
   -- The packets that are too long are among those that are set aside.
   pub long_within : sum_by (count_by is_long) (packets_of_cards cards) ≤ total_aside (packets_of_cards cards)

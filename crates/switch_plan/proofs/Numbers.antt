@@ -1,12 +1,10 @@
 -- How many packets go nowhere, and why.
 use Rattle.std.proofs.Common.{◌≡◌, ◌∙◌, ℕ, ◌+◌, ◌<◌, Bool, true, false, cond, List, [], ◌∷◌, length, Option, None, Some, refl, ap, sym, subst, arith}
 use Rattle.std.proofs.Common.{if◌then◌else◌}
-use Rattle.std.specs.Prelude.{map, sum_by, count_by, not, is_none, ◌==◌, ◌&&◌, option_map}
-use Rattle.std.specs.List.{zip}
+use Rattle.std.specs.Prelude.{sum_by, count_by, not, is_none, ◌==◌, ◌&&◌, option_map}
 use Rattle.std.proofs.lemmas.Bool.Decides.{nat_tests}
 use Rattle.std.proofs.lemmas.List.Sums.{sum_by-cons}
 use Rattle.std.proofs.lemmas.Option.{none-some, same_Some}
-use Rattle.std.proofs.lemmas.List.Folds.{fold-map}
 use Rattle.std.proofs.lemmas.List.{length-map}
 use Rattle.std.proofs.Math.ListN.{get_or-map as get_or-map_same}
 use Rattle.pcap_records.specs.declared.link.Link.{Link}
@@ -18,18 +16,6 @@ use Rattle.forward_table.specs.Routing.{serving_line, route_of}
 use Rattle.forward_table.proofs.Serving.{Contains-serving}
 use Rattle.frame_fields.specs.Destination.{destination_of}
 use Rattle.switch_plan.specs.Traffic.{is_oversize, is_unrouted, route_for, fan_of}
-
-pub count_map : {A B : Type 0} (p : B → Bool) (f : A → B) (xs : List A) → count_by p (map f xs) ≡ count_by (λ x. p (f x)) xs
-count_map p f xs = fold-map (λ a x. a + cond (p x) 1 0) f 0 xs
-
-pub count_left : {A B : Type 0} (p : A → Bool) (xs : List A) (ys : List B) → length xs ≡ length ys → count_by (λ pair. p pair.0) (zip xs ys) ≡ count_by p xs
-count_left p [] ys same = refl
-count_left p (x ∷ xs) [] same = absurd (omega arith)
-count_left {A = A} {B = B} p (x ∷ xs) (y ∷ ys) same =
-    let test : A × B → ℕ = λ pair. cond (p pair.0) 1 0 in
-    sum_by-cons test (x, y) (zip xs ys)
-    ∙ ap (λ n. cond (p x) 1 0 + n) (count_left p xs ys (omega arith))
-    ∙ sym (sum_by-cons (λ x. cond (p x) 1 0) x xs)
 
 -- the route of an address is one of the table's
 routed_by : (n : ℕ) (table : List RouteLine) (address : Option ℕ) (route : Route) (served : Option RouteLine) → AreRoutesOf n table

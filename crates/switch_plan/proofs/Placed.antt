@@ -30,10 +30,11 @@ use Rattle.switch_plan.specs.Totals.{most_for, slots_of}
 use Rattle.switch_plan.specs.ReadingSteps.{IsCaptureOf}
 use Rattle.switch_plan.specs.CountingSteps.{IsForwardable, AreCountable}
 use Rattle.switch_plan.specs.CardSteps.{slots_at, traffic_at, is_long, IsCardFor}
-use Rattle.switch_plan.proofs.Mapping.{at_zip, length_zip}
+use Rattle.std_lemmas.proofs.Mapping.{at_zip, length_zip}
+use Rattle.std_lemmas.proofs.MappedSums.{count_map, count_left}
 use Rattle.switch_plan.proofs.Times.{no_stored, length-captured_in}
 use Rattle.switch_plan.proofs.Rising.{arrivals_rise, slots_long, rising_apart, rising_below, rising_few, zip_right}
-use Rattle.switch_plan.proofs.Numbers.{count_map, count_left, routed, aside_split}
+use Rattle.switch_plan.proofs.Numbers.{routed, aside_split}
 
 -- a packet that is planned of a stored one, on a link
 pub record IsFrom (table : List RouteLine) (link : Link) (bytes : List ℕ) (stored : Stored) (slot : ℕ) (packet : Planned) : Type 0 where

@@ -11,6 +11,7 @@ use Rattle.std.proofs.lemmas.List.Elements.{All-nil, All-append, All-map, All-he
 use Rattle.std.proofs.lemmas.List.Sums.{sum_by-cons, sum_by-le-sum_by}
 use lib.Count.{ones_step}
 use Rattle.std.specs.Cmp.{first_so}
+use Rattle.std_lemmas.proofs.Bools.{if_within}
 use Rattle.cell_cutter.specs.Messages.{cells_of_packet}
 use Rattle.card_core.specs.declared.plan.Planned.{Planned}
 use Rattle.switch_plan.specs.Totals.{most_for, goes_to, message_length, flow_of, bytes_to, work_of, total_work, greatest_message, sizes_for}
@@ -30,10 +31,6 @@ work_some output p goes =
     let ones = ones_some output p.fan (eqb-true (bit_at p.fan output) 1 goes) in
     let more = mul-le-mul_left (cells_of_packet p.len) ones in
     omega (arith, more)
-
-if_within : (b : Bool) (x most : ℕ) → (b ≡ true → x ≤ most) → (if b then x else 0) ≤ most
-if_within true x most within = within refl
-if_within false x most within = omega arith
 
 -- the cells hold its message
 bytes_within : (output : ℕ) (p : Planned) → bytes_to output p ≤ 56 * work_of p

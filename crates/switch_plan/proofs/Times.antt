@@ -17,7 +17,7 @@ use Rattle.pcap_records.specs.declared.link.Link.{Link}
 use Rattle.forward_table.specs.declared.route_lines.RouteLine.{RouteLine}
 use Rattle.card_core.specs.declared.plan.Planned.{Planned}
 use Rattle.switch_plan.specs.Traffic.{planned, unplaced, CaptureFile, file_of, earlier, time_of, stamp_of, least_in, least_time}
-use Rattle.switch_plan.proofs.Mapping.{at_zip, length_zip, made_next}
+use Rattle.std_lemmas.proofs.Mapping.{at_zip, length_zip, made_next}
 
 -- a packet of no bytes, which no place of a capture has
 abbrev pub no_stored : Stored

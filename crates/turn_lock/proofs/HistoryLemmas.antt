@@ -6,10 +6,6 @@ use Rattle.std.proofs.lemmas.Bool.Decides.{nat_tests}
 use Rattle.turn_lock.specs.declared.history.TurnOf.{TurnOf}
 use Rattle.turn_lock.specs.Histories.{IsPrefixOf, entries_of, turns_of, IsAllowed, IsBelow}
 
-pub append_same-nil : {X : Type 0} (xs ys : List X) → xs ++ ys ≡ xs → ys ≡ []
-append_same-nil [] ys e = e
-append_same-nil (x ∷ xs) ys e = append_same-nil xs ys (cc)
-
 module _ {X : Type 0} where
   pub IsPrefixOf-length : (xs ys : List X) → IsPrefixOf xs ys → length xs ≤ length ys
   IsPrefixOf-length xs ys p = omega (arith, ap length p.1, length-append xs p.0)

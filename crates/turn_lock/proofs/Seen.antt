@@ -2,6 +2,7 @@
 use Rattle.std.proofs.Common.{◌≡◌, ◌≢◌, ◌+◌, ◌^◌, ◌<◌, ◌≤◌, ◌⊎◌, inl, inr, ℕ, List, [], ◌∷◌, ◌++◌, length, sym, ap, ◌∙◌, subst, arith}
 use Rattle.std.proofs.Common.{length-append}
 use Rattle.std.proofs.lemmas.List.{append_assoc}
+use Rattle.std_lemmas.proofs.Lists.{append_same-nil}
 use Rattle.turn_lock.specs.declared.history.TurnOf.{TurnOf}
 use Rattle.turn_lock.specs.declared.history.Opening.{Opening}
 use Rattle.turn_lock.specs.declared.view.View.{View}
@@ -9,7 +10,7 @@ use Rattle.turn_lock.specs.declared.view.JoinedSeat.{JoinedSeat}
 use Rattle.turn_lock.specs.Histories.{turns_of, IsBelow}
 use Rattle.turn_lock.specs.Views.{joined_numbers}
 use Rattle.turn_lock.specs.Rule.{IsIn, HasSeen, IsOvertaken, JoinedHaveSeen, Fits}
-use Rattle.turn_lock.proofs.HistoryLemmas.{IsPrefixOf-length, append_same-nil, turns_of-append, turns_of-other, turns_of-all, IsBelow-append}
+use Rattle.turn_lock.proofs.HistoryLemmas.{IsPrefixOf-length, turns_of-append, turns_of-other, turns_of-all, IsBelow-append}
 
 change : {A P Q C : Type 0} → (P → Q ⊎ C) → A ⊎ (P ⊎ C) → A ⊎ (Q ⊎ C)
 change f (inl a) = inl a

@@ -1,5 +1,5 @@
 use Rattle.std.proofs.Common.{◌∙◌, None, slice_index_or, ap}
-use Rattle.rotating_pick.proofs.Tables.{get_or-same}
+use Rattle.std_lemmas.proofs.Lists.{get_or-same}
 use Rattle.islip_rounds.proofs.rounds.choices.Goals as goal
 
 pub returns : goal.returns

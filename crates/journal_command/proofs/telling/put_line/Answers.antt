@@ -1,7 +1,8 @@
 use Rattle.std.proofs.Common.{map, string_bytes}
 use Rattle.std.specs.Prelude.{codes, decimal}
 use Rattle.std.proofs.lemmas.Result.{on_ok_weaker}
-use Rattle.slot_report.proofs.Appending.{appended, whole_line}
+use Rattle.std_lemmas.proofs.Appending.{appended}
+use Rattle.slot_report.proofs.Appending.{whole_line}
 use Rattle.journal_command.proofs.telling.put_line.Goals as goal
 
 pub returns : goal.returns

@@ -1,8 +1,8 @@
 use Rattle.std.proofs.Common.{◌∙◌, ◌++◌, ap, sym, arith, string_bytes}
 use Rattle.std.specs.Prelude.{decimal}
 use Rattle.std.proofs.lemmas.List.Folds.{flat_map-map}
+use Rattle.std_lemmas.proofs.Appending.{one_more, all_of}
 use Rattle.slot_report.specs.PieceSteps.{after_space}
-use Rattle.slot_report.proofs.Appending.{all_of, one_more}
 use Rattle.journal_command.proofs.telling.put_numbers.Goals as goal
 
 pub loop-number-preserved : goal.loop-number-preserved

@@ -1,5 +1,5 @@
 use Rattle.std.proofs.Common.{ℕ}
-use Rattle.rotating_pick.proofs.Tables.{get_or-same}
+use Rattle.std_lemmas.proofs.Lists.{get_or-same}
 use Rattle.known_answers.proofs.fields.table_of.Goals as goal
 
 pub loop-k-init : goal.loop-k-init

@@ -1,7 +1,7 @@
 use Rattle.std.proofs.Common.{◌≡◌, List, ◌∷◌, [], ◌++◌, length, ap, sym, subst, arith}
 use Rattle.std.specs.Vec.Iter.{into_iter_items}
+use Rattle.std_lemmas.proofs.Lists.{gone_more}
 use Rattle.card_core.specs.declared.outcome.CardOut.{CardOut}
-use Rattle.switch_jobs.proofs.Members.{gone_more}
 use Rattle.one_thread.specs.ActingSteps.{AreOutputs}
 use Rattle.one_thread.proofs.Leavings.{AreOutputs-more}
 use Rattle.one_thread.proofs.leaving.finish_cards.Goals as goal

@@ -3,8 +3,8 @@ use Rattle.std.specs.Prelude.{Some, slice_get}
 use Rattle.std.proofs.lemmas.List.{length-set}
 use Rattle.std.proofs.lemmas.Option.{slice_get-get_or}
 use Rattle.std.proofs.Math.Seq.{map-set_same}
+use Rattle.std_lemmas.proofs.Lists.{get-set_other}
 use Rattle.card_core.specs.Cards.{CardState}
-use Rattle.card_worker.proofs.Passes.{get-set_other}
 use Rattle.one_thread.specs.ActingSteps.{ArePosted}
 use Rattle.one_thread.proofs.Places.{ArePosted-more, more_comes, no_more_comes}
 use Rattle.one_thread.proofs.posting.post_all.Goals.{then-post, else-post}

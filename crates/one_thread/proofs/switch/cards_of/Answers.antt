@@ -2,9 +2,9 @@ use Rattle.std.proofs.Common.{◌≡◌, ◌∙◌, ◌∷◌, [], ◌++◌, fal
 use Rattle.std.specs.Vec.Iter.{into_iter_items}
 use Rattle.std.proofs.lemmas.List.{length-map}
 use Rattle.std.proofs.lemmas.Option.{slice_get_within}
+use Rattle.std_lemmas.proofs.Lists.{gone_more, here_of}
 use Rattle.card_core.specs.Plans.{plan_of}
 use Rattle.card_core.specs.Cards.{CardState}
-use Rattle.switch_jobs.proofs.Members.{gone_more, here_of}
 use Rattle.one_thread.specs.ActingSteps.{AreAfter, plans_in}
 use Rattle.one_thread.proofs.Leavings.{made-more, new-more}
 use Rattle.one_thread.proofs.switch.cards_of.Goals as goal

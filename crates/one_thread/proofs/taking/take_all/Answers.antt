@@ -3,9 +3,9 @@ use Rattle.std.specs.Prelude.{None, Some, slice_get, slice_index_or}
 use Rattle.std.proofs.lemmas.List.{length-set}
 use Rattle.std.proofs.lemmas.Option.{slice_get-get_or, slice_get_within}
 use Rattle.std.proofs.Math.Seq.{map-set_same}
+use Rattle.std_lemmas.proofs.Lists.{get-set_other}
 use Rattle.crossbar.specs.declared.cards.Taken.{Taken}
 use Rattle.card_core.specs.Cards.{CardState, IsAfter}
-use Rattle.card_worker.proofs.Passes.{get-set_other}
 use Rattle.one_thread.specs.ActingSteps.{taken_now}
 use Rattle.one_thread.proofs.Places.{each-more}
 use Rattle.one_thread.proofs.taking.take_all.Goals as goal

@@ -1,8 +1,8 @@
 use Rattle.std.proofs.Common.{◌≡◌, ◌∙◌, List, ◌++◌, ℕ, ap, append_assoc, string_bytes}
 use Rattle.std.specs.Prelude.{codes, decimal}
 use Rattle.std.proofs.lemmas.Result.{on_ok_weaker}
+use Rattle.std_lemmas.proofs.Appending.{appended}
 use Rattle.slot_report.specs.Lines.{line_text}
-use Rattle.slot_report.proofs.Appending.{appended}
 use Rattle.output_queued.specs.declared.line.RefLine.{RefLine}
 use Rattle.output_queued.specs.Texts.{reference_line}
 use Rattle.output_queued.proofs.text.put_line.Goals as goal

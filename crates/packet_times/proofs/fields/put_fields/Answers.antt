@@ -1,5 +1,5 @@
 use Rattle.std.proofs.Common.{arith, string_bytes}
-use Rattle.slot_report.proofs.Appending.{all_of, both, one_more}
+use Rattle.std_lemmas.proofs.Appending.{both, one_more, all_of}
 use Rattle.packet_times.specs.FieldSteps.{after_comma}
 use Rattle.packet_times.proofs.fields.put_fields.Goals as goal
 

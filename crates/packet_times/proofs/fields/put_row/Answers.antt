@@ -1,7 +1,7 @@
 use Rattle.std.proofs.Common.{◌∙◌, ◌++◌, ℕ, List, ap, string_bytes}
 use Rattle.std.proofs.lemmas.Result.{on_ok_weaker}
 use Rattle.std.specs.Prelude.{codes}
-use Rattle.slot_report.proofs.Appending.{appended}
+use Rattle.std_lemmas.proofs.Appending.{appended}
 use Rattle.packet_times.proofs.Texts.{whole_row}
 use Rattle.packet_times.proofs.fields.put_row.Goals as goal
 

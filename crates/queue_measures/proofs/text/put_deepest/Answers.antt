@@ -1,8 +1,8 @@
 use Rattle.std.proofs.Common.{◌≡◌, ◌∙◌, List, ◌++◌, ℕ, ap, append_assoc, string_bytes}
 use Rattle.std.specs.Prelude.{codes, decimal}
 use Rattle.std.proofs.lemmas.Result.{on_ok_weaker}
+use Rattle.std_lemmas.proofs.Appending.{appended}
 use Rattle.slot_report.specs.Lines.{line_text}
-use Rattle.slot_report.proofs.Appending.{appended}
 use Rattle.queue_measures.specs.Lines.{deepest_line}
 use Rattle.queue_measures.proofs.text.put_deepest.Goals as goal
 

@@ -1,9 +1,9 @@
 use Rattle.std.proofs.Common.{◌≡◌, ◌∙◌, List, ◌++◌, ℕ, ap, append_assoc, string_bytes}
 use Rattle.std.specs.Prelude.{codes, decimal}
 use Rattle.std.proofs.lemmas.Result.{on_ok_weaker}
+use Rattle.std_lemmas.proofs.Appending.{appended}
 use Rattle.card_core.specs.Plans.{Queue}
 use Rattle.slot_report.specs.Lines.{line_text}
-use Rattle.slot_report.proofs.Appending.{appended}
 use Rattle.queue_measures.specs.declared.numbers.QueueNumbers.{QueueNumbers}
 use Rattle.queue_measures.specs.Lines.{queue_line, queue_name}
 use Rattle.queue_measures.specs.Steps.{queue_at}

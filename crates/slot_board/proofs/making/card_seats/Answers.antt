@@ -1,7 +1,7 @@
 use Rattle.std.proofs.Common.{◌≡◌, ◌∙◌, ◌∷◌, ◌++◌, Some, sym, ap}
 use Rattle.std.specs.Prelude.{slice_get}
 use Rattle.std.specs.Vec.Iter.{into_iter_items}
-use Rattle.slot_board.proofs.NewSeats.{slice_get-seam}
+use Rattle.std_lemmas.proofs.Lists.{slice_get-seam}
 use Rattle.slot_board.proofs.making.card_seats.Goals as goal
 
 pub card_seat-requires-clause-new : goal.card_seat-requires-clause-new

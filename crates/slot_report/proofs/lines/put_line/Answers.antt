@@ -1,8 +1,9 @@
 use Rattle.std.proofs.Common.{map, string_bytes}
 use Rattle.std.proofs.lemmas.Result.{on_ok_weaker}
 use Rattle.std.specs.Prelude.{codes}
+use Rattle.std_lemmas.proofs.Appending.{appended}
 use Rattle.slot_report.specs.PieceSteps.{word_text}
-use Rattle.slot_report.proofs.Appending.{appended, whole_line}
+use Rattle.slot_report.proofs.Appending.{whole_line}
 use Rattle.slot_report.proofs.lines.put_line.Goals as goal
 
 pub returns : goal.returns

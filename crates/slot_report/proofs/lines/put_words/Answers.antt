@@ -1,9 +1,9 @@
 use Rattle.std.proofs.Common.{◌∙◌, ◌++◌, ap, arith, string_bytes}
 use Rattle.std.proofs.lemmas.List.Folds.{flat_map-map}
 use Rattle.slot_report.specs.PieceSteps.{after_space, word_text}
-use Rattle.slot_report.proofs.Appending.{all_of, both, one_more}
 use Rattle.slot_report.proofs.lines.put_words.Goals as goal
 use Rattle.std.proofs.Common.{sym}
+use Rattle.std_lemmas.proofs.Appending.{both, one_more, all_of}
 
 pub loop-word-preserved : goal.loop-word-preserved
 loop-word-preserved c = one_more (λ word. after_space (word_text word)) c.args.words.now c.loop-word.word-index _ (string_bytes c.args.text.now)

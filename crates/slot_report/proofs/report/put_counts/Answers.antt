@@ -1,8 +1,8 @@
 use Rattle.std.proofs.Common.{◌∙◌, ◌++◌, ap, arith, string_bytes, sym}
 use Rattle.std.proofs.lemmas.List.Folds.{flat_map-map}
+use Rattle.std_lemmas.proofs.Appending.{one_more, all_of}
 use Rattle.slot_report.specs.Lines.{line_text}
 use Rattle.slot_report.specs.PieceSteps.{count_line}
-use Rattle.slot_report.proofs.Appending.{all_of, one_more}
 use Rattle.slot_report.proofs.report.put_counts.Goals as goal
 
 pub loop-name-preserved : goal.loop-name-preserved

@@ -1,8 +1,9 @@
 use Rattle.std.proofs.Common.{[], ◌∷◌, ◌++◌, string_bytes}
 use Rattle.std.proofs.lemmas.Result.{on_ok_weaker}
 use Rattle.std.specs.Prelude.{codes, decimal}
+use Rattle.std_lemmas.proofs.Appending.{appended}
 use Rattle.slot_report.specs.Texts.{pairs_of, slot_line}
-use Rattle.slot_report.proofs.Appending.{appended, more_words, whole_line}
+use Rattle.slot_report.proofs.Appending.{more_words, whole_line}
 use Rattle.slot_report.proofs.slot_lines.put_slot_line.Goals as goal
 
 pub returns : goal.returns

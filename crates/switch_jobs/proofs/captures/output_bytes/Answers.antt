@@ -1,9 +1,9 @@
 use Rattle.std.proofs.Common.{◌≡◌, ◌∙◌, ◌++◌, length, take, drop, ap, sym}
 use Rattle.std.specs.List.{flat_map}
 use Rattle.std.proofs.lemmas.List.{take_at}
+use Rattle.std_lemmas.proofs.Lists.{whole_back}
 use Rattle.pcap_records.specs.Output.{header_text, record_text}
 use Rattle.pcap_records.proofs.Output.{length-header_text}
-use Rattle.card_worker.proofs.Removing.{whole_back}
 use Rattle.switch_jobs.proofs.captures.output_bytes.Goals as goal
 
 pub returns : goal.returns

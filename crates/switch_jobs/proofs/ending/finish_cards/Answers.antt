@@ -1,8 +1,8 @@
 use Rattle.std.proofs.Common.{◌≡◌, List, ◌∷◌, [], ◌++◌, length, ap, sym, subst, arith}
 use Rattle.std.specs.Vec.Iter.{into_iter_items}
+use Rattle.std_lemmas.proofs.Lists.{gone_more}
 use Rattle.card_core.specs.declared.outcome.CardOut.{CardOut}
 use Rattle.switch_jobs.specs.EndingSteps.{AreLeft}
-use Rattle.switch_jobs.proofs.Members.{gone_more}
 use Rattle.switch_jobs.proofs.Disbanded.{AreLeft-more}
 use Rattle.switch_jobs.proofs.ending.finish_cards.Goals as goal
 

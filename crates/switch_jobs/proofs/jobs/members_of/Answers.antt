@@ -4,14 +4,14 @@ use Rattle.std.specs.Vec.Iter.{into_iter_items}
 use Rattle.std.proofs.lemmas.List.{length-map, length_push}
 use Rattle.std.proofs.lemmas.Option.{slice_get-get_or, slice_get_within}
 use Rattle.std.proofs.lemmas.List.Edits.{length-remove}
+use Rattle.std_lemmas.proofs.Lists.{slice_get-remove_first, gone_more, here_of}
 use Rattle.slot_histories.specs.declared.events.Event.{Event}
 use Rattle.turn_lock.specs.Seats.{SeatValue, new_seat}
 use Rattle.card_core.specs.Plans.{Plan, plan_of}
 use Rattle.card_worker.specs.declared.hands.Member.{Member}
 use Rattle.card_worker.specs.Trying.{IsMember}
-use Rattle.card_worker.proofs.Grouping.{next_seats}
 use Rattle.switch_jobs.specs.ReadinessSteps.{plans_in}
-use Rattle.switch_jobs.proofs.Members.{gone_more, here_of, AreInPlace, AreInPlace-more, plans_more}
+use Rattle.switch_jobs.proofs.Members.{AreInPlace, AreInPlace-more, plans_more}
 use Rattle.switch_jobs.proofs.jobs.members_of.Goals as goal
 
 pub hand_of-requires : goal.hand_of-requires
@@ -79,7 +79,7 @@ loop-card-preserved c =
       room = let room = at.invariant.room in let same = c.push_reserved.ensures.capacity in omega arith;
       seats_left = omega arith;
       seats_new = λ i s mine.
-          let there : slice_get at.seats.items (suc i) ≡ Some s = sym (next_seats at.seats.items i) ∙ (ap (λ xs. slice_get xs i) (sym items) ∙ mine) in
+          let there : slice_get at.seats.items (suc i) ≡ Some s = sym (slice_get-remove_first at.seats.items i) ∙ (ap (λ xs. slice_get xs i) (sym items) ∙ mine) in
           let same : suc i + done ≡ i + length (at.yielded ++ x ∷ []) = omega arith in
           at.invariant.seats_new (suc i) s there ∙ ap (λ k. new_seat board k) same;
     }

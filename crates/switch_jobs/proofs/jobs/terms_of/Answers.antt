@@ -5,10 +5,10 @@ use Rattle.std.specs.Option.{option_map}
 use Rattle.std.proofs.lemmas.List.{length-map}
 use Rattle.std.proofs.lemmas.List.Sums.{sum_by-le}
 use Rattle.std.proofs.lemmas.Option.{slice_get-map, slice_get-get_or}
+use Rattle.std_lemmas.proofs.MappedSums.{sum_by-map}
 use Rattle.card_core.specs.declared.plan.CardPlan.{CardPlan}
 use Rattle.card_core.specs.Plans.{Plan, plan_of}
 use Rattle.card_core.proofs.Plenty.{few_packets}
-use Rattle.switch_jobs.proofs.Adding.{sum_by-map}
 use Rattle.switch_jobs.proofs.jobs.terms_of.Goals as goal
 
 pub packet_count-requires : goal.packet_count-requires

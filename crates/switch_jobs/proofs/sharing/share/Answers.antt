@@ -4,11 +4,11 @@ use Rattle.std.specs.Option.{option_map}
 use Rattle.std.specs.Vec.Iter.{into_iter_items}
 use Rattle.std.proofs.lemmas.List.{length-append, length_push}
 use Rattle.std.proofs.lemmas.Option.{slice_get-map, slice_get_within}
+use Rattle.std_lemmas.proofs.Lists.{gone_more, here_of}
 use Rattle.card_worker.specs.declared.hands.Member.{Member}
 use Rattle.card_worker.specs.Groups.{AreGroups}
 use Rattle.card_worker.proofs.Grouping.{AreGroups-none}
 use Rattle.switch_jobs.specs.ReadinessSteps.{plans_in}
-use Rattle.switch_jobs.proofs.Members.{gone_more, here_of}
 use Rattle.switch_jobs.proofs.Planning.{ArePlanned-none}
 use Rattle.switch_jobs.proofs.sharing.share.Goals as goal
 

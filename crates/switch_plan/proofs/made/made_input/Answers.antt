@@ -1,7 +1,7 @@
 use Rattle.std.proofs.Common.{◌∙◌, ℕ, List, Vec, Global, ap}
 use Rattle.std.specs.Prelude.{map}
+use Rattle.std_lemmas.proofs.Ranges.{map_next}
 use Rattle.switch_plan.specs.Made.{made_capture}
-use Rattle.switch_plan.proofs.Making.{map_next}
 use Rattle.switch_plan.proofs.made.made_input.Goals as goal
 
 pub loop-port-preserved : goal.loop-port-preserved

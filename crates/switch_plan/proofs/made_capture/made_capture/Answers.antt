@@ -1,11 +1,11 @@
 use Rattle.std.proofs.Common.{◌∙◌, ℕ, List, ◌++◌, ap}
 use Rattle.std.specs.Prelude.{false}
+use Rattle.std_lemmas.proofs.Ranges.{flat_map_next}
 use Rattle.pcap_records.specs.declared.link.Link.TheVariants.{Ethernet}
 use Rattle.pcap_records.specs.declared.order.Order.TheVariants.{Little}
 use Rattle.pcap_records.specs.Format.{record_bytes}
 use Rattle.pcap_records.specs.Output.{header_text}
 use Rattle.switch_plan.specs.Made.{made_record}
-use Rattle.switch_plan.proofs.Making.{flat_map_next}
 use Rattle.switch_plan.proofs.made_capture.made_capture.Goals as goal
 
 pub loop-k-preserved : goal.loop-k-preserved

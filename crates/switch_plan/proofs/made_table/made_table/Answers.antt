@@ -1,6 +1,6 @@
 use Rattle.std.proofs.Common.{◌∙◌, [], ◌++◌, ap}
+use Rattle.std_lemmas.proofs.Ranges.{flat_map_next}
 use Rattle.switch_plan.specs.Made.{level_text}
-use Rattle.switch_plan.proofs.Making.{flat_map_next}
 use Rattle.switch_plan.proofs.made_table.made_table.Goals as goal
 
 pub loop-level-preserved : goal.loop-level-preserved

@@ -1,7 +1,7 @@
 use Rattle.std.proofs.Common.{◌∙◌, ◌++◌, ap}
 use Rattle.std.specs.String.{string_bytes}
+use Rattle.std_lemmas.proofs.Ranges.{flat_map_next}
 use Rattle.switch_plan.specs.Made.{group_text}
-use Rattle.switch_plan.proofs.Making.{flat_map_next}
 use Rattle.switch_plan.proofs.made_table.push_level.Goals as goal
 
 pub loop-group-preserved : goal.loop-group-preserved

@@ -1,12 +1,12 @@
 use Rattle.std.proofs.Common.{◌∙◌, ◌+◌, ◌<◌, List, length, length-set, take, refl, ap, sym, subst, arith, inl, inr}
 use Rattle.std.proofs.lemmas.Option.{slice_get_read, slice_get_within}
+use Rattle.std_lemmas.proofs.Lists.{got_set}
 use Rattle.card_core.specs.declared.plan.Planned.{Planned}
 use Rattle.card_core.specs.declared.plan.CardPlan.{CardPlan}
 use Rattle.switch_plan.specs.declared.output_rooms.OutputRoom.{OutputRoom}
 use Rattle.switch_plan.specs.CountingSteps.{AreCountable, packets_of_cards}
 use Rattle.switch_plan.specs.OutputSteps.{room_at, room_for, IsRoomOf}
 use Rattle.switch_plan.proofs.Summing.{countable_at}
-use Rattle.switch_plan.proofs.Filling.{got_set}
 use Rattle.switch_plan.proofs.AllPorts.{room_next, sums_fit}
 use Rattle.switch_plan.proofs.output_rooms.add_port.Goals as goal
 

@@ -1,9 +1,10 @@
 use Rattle.std.proofs.Common.{◌∙◌, ◌<◌, length, length-set, refl, sym, subst, arith, inl, inr}
 use Rattle.std.proofs.lemmas.Option.{slice_get_read, slice_get_within}
+use Rattle.std_lemmas.proofs.Lists.{got_set}
 use Rattle.switch_plan.specs.CountingSteps.{packets_of_cards}
 use Rattle.switch_plan.specs.SizingSteps.{IsSized}
 use Rattle.switch_plan.proofs.RoomBounds.{body_room_few, packet_room_few}
-use Rattle.switch_plan.proofs.Filling.{got_set, AreFilled-more, IsSized-made}
+use Rattle.switch_plan.proofs.Filling.{AreFilled-more, IsSized-made}
 use Rattle.switch_plan.proofs.output_rooms.with_rooms.Goals as goal
 
 pub fill-requires-clause-bytes : goal.fill-requires-clause-bytes

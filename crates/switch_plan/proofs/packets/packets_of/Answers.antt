@@ -6,7 +6,7 @@ use Rattle.std.proofs.Math.ListN.{get_or-map as get_or-map_same}
 use Rattle.pcap_records.specs.declared.capture.Stored.{Stored}
 use Rattle.pcap_records.specs.Packets.{packet_in, captured_in, packets_of}
 use Rattle.switch_plan.specs.Traffic.{planned}
-use Rattle.switch_plan.proofs.Mapping.{length_zip, made_next}
+use Rattle.std_lemmas.proofs.Mapping.{length_zip, made_next}
 use Rattle.switch_plan.proofs.Times.{no_stored, planned_next}
 use Rattle.switch_plan.proofs.packets.packets_of.Goals as goal
 

@@ -2,10 +2,11 @@ use Rattle.std.proofs.Common.{◌≡◌, ◌∙◌, suc, ◌+◌, ◌<◌, ap, s
 use Rattle.std.specs.Prelude.{Some, slice_get}
 use Rattle.std.proofs.lemmas.Option.{slice_get-get_or}
 use Rattle.std.proofs.lemmas.List.Edits.{length-remove}
+use Rattle.std_lemmas.proofs.Lists.{slice_get-remove_first}
 use Rattle.slot_histories.specs.declared.events.Event.{Event}
 use Rattle.turn_lock.specs.Seats.{SeatValue, new_seat}
 use Rattle.card_worker.specs.Trying.{IsMember}
-use Rattle.card_worker.proofs.Grouping.{AreGroups-none, next_seats}
+use Rattle.card_worker.proofs.Grouping.{AreGroups-none}
 use Rattle.card_worker.proofs.tests.groups.join_all.Goals as goal
 
 pub loop-card-init : goal.loop-card-init
@@ -33,7 +34,7 @@ loop-card-preserved c =
       some = let count = c.in_ok-join.ensures.count in let some = at.invariant.some in omega arith;
       left = omega arith;
       seats = λ i s mine.
-          let there : slice_get at.seats.items (suc i) ≡ Some s = sym (next_seats at.seats.items i) ∙ ap (λ xs. slice_get xs i) (sym items) ∙ mine in
+          let there : slice_get at.seats.items (suc i) ≡ Some s = sym (slice_get-remove_first at.seats.items i) ∙ ap (λ xs. slice_get xs i) (sym items) ∙ mine in
           let same : suc i + at.card ≡ i + (at.card + 1) = omega arith in
           at.invariant.seats (suc i) s there ∙ ap (λ k. new_seat board k) same;
     }

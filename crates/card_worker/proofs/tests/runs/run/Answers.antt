@@ -1,9 +1,9 @@
 use Rattle.std.proofs.Common.{◌≡◌, ◌∙◌, ℕ, List, ◌++◌, length, take, drop, ap, sym, subst}
+use Rattle.std_lemmas.proofs.Lists.{whole_back}
 use Rattle.slot_histories.specs.declared.events.Event.{Event}
 use Rattle.turn_lock.specs.Seats.{TurnValue}
 use Rattle.card_worker.specs.declared.hands.Group.{Group}
 use Rattle.card_worker.specs.Groups.{AreGroups}
-use Rattle.card_worker.proofs.Removing.{whole_back}
 use Rattle.card_worker.proofs.tests.runs.run.Goals as goal
 
 lent : (board : TurnValue Event) (slice groups : List Group) → slice ≡ groups → AreGroups board board.seats groups → AreGroups board board.seats slice

@@ -1,9 +1,9 @@
 use Rattle.std.proofs.Common.{◌∙◌, length, refl, ap, sym, subst}
 use Rattle.std.specs.Vec.{with_items}
+use Rattle.std_lemmas.proofs.Lists.{whole_back}
 use Rattle.run_notes.specs.NotingSteps.{IsRunSlot}
 use Rattle.one_thread.proofs.SlotSteps.{AreGathered, free, ports-are, matched-long, few-noted, count-posted, cards-back, rows-back, posts-back, within-given}
 use Rattle.one_thread.proofs.SlotSteps.{end-is-done, slot-is-made, may, next}
-use Rattle.card_worker.proofs.Removing.{whole_back}
 use Rattle.one_thread.proofs.switch.Switch.make_slot.Goals as goal
 
 pub post_all-done-requires-clause-free : goal.post_all-done-requires-clause-free

@@ -1,5 +1,5 @@
-use Rattle.std.proofs.Common.{◌≡◌, ◌∙◌, ◌++◌, ℕ, List, length, take, drop, ap, sym, subst, arith}
-use Rattle.std.proofs.lemmas.List.{append-nil, take_all, drop_all}
+use Rattle.std.proofs.Common.{◌∙◌, length, drop, ap, sym, subst, arith}
+use Rattle.std.proofs.lemmas.List.{take_at}
 use Rattle.queue_measures.specs.NotingSteps.{Input, IsNoted}
 use Rattle.queue_measures.specs.Steps.{MayCount, with_arrivals}
 use Rattle.queue_measures.proofs.Counting.{noted-may, noted-next, with_arrivals-count}
@@ -29,11 +29,6 @@ leave-requires c =
     let noted = subst (λ (i : Input). IsNoted plan i served) (sym c.self.view_is) c.requires.2 in
     (plan, served, c.arrive-arrival.ensures.counts plan served noted.counts c.requires.3, c.requires.5, c.requires.6)
 
--- a list as long as the vector that it is written to is all that stands there
-whole : {X : Type 0} (n : ℕ) (new old : List X) → length new ≡ n → length old ≡ n → take n (new ++ drop (length new) old) ≡ new
-whole n new old long was = ap (λ rest. take n (new ++ rest)) (drop_all (length new) old (omega arith)) ∙ ap (take n) (append-nil new)
-    ∙ take_all n new (omega arith)
-
 pub returns : goal.returns
 returns c = λ plan served was now size row servable.
     let noted = subst (λ (i : Input). IsNoted plan i served) (sym c.self.view_is) was in
@@ -43,7 +38,7 @@ returns c = λ plan served was now size row servable.
     ∙ ap (with_arrivals c.args.ports c.args.slot c.arrive-arrival.new.self.lengths c.arrive-arrival.result) c.deref_mut.ensures.value in
     let old = c.self.inside.numbers in
     let count = ap length numbers ∙ with_arrivals-count c.args.ports c.args.slot c.arrive-arrival.new.self.lengths c.arrive-arrival.result old.items in
-    let kept = whole old.len c.count_arrival.new.numbers old.items (count ∙ sym old.ok.0) (sym old.ok.0) in
+    let kept = take_at c.count_arrival.new.numbers (drop (length c.count_arrival.new.numbers) old.items) old.len (count ∙ sym old.ok.0) in
     noted-next plan served c.self.inside.queues old.items noted c.args.ports c.args.slot now size c.arrive-arrival.new.self
     counts c.arrive-arrival.result (told.arrival plan served noted.counts now) c.args.part _ c.leave.new.self (kept ∙ numbers)
     (c.leave.ensures plan served counts row servable)
@@ -54,6 +49,6 @@ invariant_of-self c =
     ∙ ap (with_arrivals c.args.ports c.args.slot c.arrive-arrival.new.self.lengths c.arrive-arrival.result) c.deref_mut.ensures.value in
     let old = c.self.inside.numbers in
     let count = ap length numbers ∙ with_arrivals-count c.args.ports c.args.slot c.arrive-arrival.new.self.lengths c.arrive-arrival.result old.items in
-    let kept = ap length (whole old.len c.count_arrival.new.numbers old.items (count ∙ sym old.ok.0) (sym old.ok.0)) in
+    let kept = ap length (take_at c.count_arrival.new.numbers (drop (length c.count_arrival.new.numbers) old.items) old.len (count ∙ sym old.ok.0)) in
     let few = c.self.invariant in
     omega (arith, kept, count, few)

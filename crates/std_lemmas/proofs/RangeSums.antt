@@ -1,8 +1,8 @@
--- Sums over the cards of a board.
-use Rattle.std.proofs.Common.{◌≡◌, ◌≢◌, ℕ, zero, suc, ◌+◌, ◌*◌, ◌<◌, ◌≤◌, refl, arith, inl, inr}
-use Rattle.std.specs.List.{range_with_len, sum_by}
+-- Sums over ranges, by their terms.
+use Rattle.std.proofs.Common.{◌*◌, ◌+◌, ◌<◌, ◌≡◌, ◌≢◌, ◌≤◌, arith, inl, inr, refl, suc, zero, ℕ}
 use Rattle.std.proofs.lemmas.Bool.{cases_eq}
 use Rattle.std.proofs.lemmas.List.Sums.{sum_by-cons}
+use Rattle.std.specs.List.{range_with_len, sum_by}
 
 -- functions that agree on the range have one sum
 pub sum_by-range_same : (a n : ℕ) (f g : ℕ → ℕ) → ((i : ℕ) → a ≤ i → i < a + n → g i ≡ f i) → sum_by g (range_with_len a n) ≡ sum_by f (range_with_len a n)
@@ -12,7 +12,7 @@ sum_by-range_same a (suc n) f g same =
     let rest = sum_by-range_same (a + 1) n f g (λ i from below. same i (omega arith) (omega arith)) in
     omega (arith, sum_by-cons f a (range_with_len (a + 1) n), sum_by-cons g a (range_with_len (a + 1) n))
 
--- one more at one of them is one more in the sum
+-- where one of the terms is greater by one, so is the sum
 pub sum_by-range_one : (a n : ℕ) (f g : ℕ → ℕ) (card : ℕ) → a ≤ card → card < a + n → g card ≡ f card + 1
     → ((i : ℕ) → a ≤ i → i < a + n → card ≢ i → g i ≡ f i) → sum_by g (range_with_len a n) ≡ sum_by f (range_with_len a n) + 1
 sum_by-range_one a zero f g card from below more same = absurd (omega arith)

@@ -1,0 +1,11 @@
+pub mod Bools
+pub mod Numbers
+pub mod Options
+pub mod Lists
+pub mod Mapping
+pub mod Ranges
+pub mod Filters
+pub mod Sums
+pub mod RangeSums
+pub mod MappedSums
+pub mod Appending

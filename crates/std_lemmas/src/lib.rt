@@ -1,0 +1,2 @@
+//! Lemmas on words of the standard library alone that more than one crate cites.
+#![tactic(auto)]
