@@ -2,7 +2,7 @@
 use Rattle.std.proofs.Common.{◌≡◌, ◌≢◌, ◌∙◌, ℕ, ◌+◌, ◌<◌, ◌≤◌, true, false, List, [], ◌∷◌, ◌++◌, length, refl, sym, ap, subst, arith, inl, inr}
 use Rattle.std.specs.Prelude.{Option, None, if◌then◌else◌}
 use Rattle.std.proofs.lemmas.Bool.{both_ways, cases_lt, ne_eqb}
-use Rattle.std.proofs.lemmas.List.{length_push, append-nil}
+use Rattle.std.proofs.lemmas.List.{length_push}
 use Rattle.slot_match.specs.declared.rows.Row.{Row}
 use Rattle.slot_match.specs.declared.matching.Served.{Served}
 use Rattle.crossbar.specs.declared.cards.Post.{Post as CardPost}
@@ -24,7 +24,7 @@ use Rattle.card_worker.specs.declared.hands.Hand.{Hand}
 use Rattle.card_worker.specs.Agreeing.{IsDriven, IsLevel, IsAhead, IsInStep}
 use Rattle.card_worker.specs.AgreeingSteps.{CanPost, AfterGiving}
 use Rattle.card_worker.specs.Alone.{IsHandOf}
-use Rattle.card_worker.specs.AloneSteps.{with_event, IsStill, AfterAct}
+use Rattle.card_worker.specs.AloneSteps.{with_event, AfterAct}
 use Rattle.card_worker.proofs.Accepting.{accepted_at, servable_told}
 use Rattle.card_worker.proofs.Steps.{next_post, IsLevel-posted, IsDriven-posted, IsLevel-taken, IsDriven-taken, level_of, slot_is, good_plan}
 use Rattle.card_worker.proofs.Steps.{servable_card, CanPost-of}
@@ -171,15 +171,4 @@ AfterAct-take i board =
       goes_on = (Take i ∷ [], refl);
       others = λ j ne. column-take-other board.setup board.events i j (λ same. ne (sym same));
       still = λ no. absurd (both_ways true no refl);
-    }
-
-pub AfterAct-none : (i : ℕ) (board : StateValue) → IsStill board.setup i board.events → AfterAct i board board false
-AfterAct-none i board still =
-    record {
-      setup = refl;
-      refused = refl;
-      count = omega arith;
-      goes_on = ([], sym (append-nil board.events));
-      others = λ j ne. refl;
-      still = λ no. (refl, still);
     }

@@ -1,5 +1,5 @@
 -- The files that a run writes, one after the other.
-use Rattle.std.proofs.Common.{◌≡◌, ◌<◌, ◌≤◌, ◌+◌, ℕ, suc, List, [], ◌∷◌, ◌++◌, map, take, length, get_or, Option, Some, None, inl, inr, refl, sym, ◌∙◌}
+use Rattle.std.proofs.Common.{◌≡◌, ◌<◌, ◌+◌, ℕ, suc, List, [], ◌∷◌, ◌++◌, map, take, length, get_or, Option, Some, None, inl, inr, refl, sym, ◌∙◌}
 use Rattle.std.proofs.Common.{ap, subst, arith}
 use Rattle.std.specs.Prelude.{Result, Ok, Err, OnOk, is_err, is_ok, Bool, true, false, ◌&&◌, ◌==◌, if◌then◌else◌, option_map, string_bytes}
 use Rattle.std.proofs.lemmas.List.{get_or-map, length-map, map_push}
@@ -12,7 +12,7 @@ use Rattle.outside.specs.WholeFiles.{NamedBytes, Puts, StopsAt, put_file}
 use Rattle.outside.proofs.Counting.{NeverFall-refl}
 use Rattle.outside.proofs.Putting.{StopsAt-wider}
 use Rattle.outside.proofs.Effects.{option_map-option_map}
-use Rattle.job_files.specs.OutputFiles.{files_from, nameless, output_name, packets_place, put_files, shown}
+use Rattle.job_files.specs.OutputFiles.{files_from, nameless, output_name, put_files, shown}
 use Rattle.job_files.specs.FileSteps.{StopsAtPlace, StopsPutting, written_at}
 use Rattle.job_files.specs.declared.output_files.OutputFile.{OutputFile}
 use Rattle.job_files.specs.declared.ending.Written.TheVariants.{Journal, Packets}
@@ -109,11 +109,3 @@ stops_at_place outputs with_journal files text place old told was now within sto
             rw (le-ltb place outputs after, other.0) (stops_later outputs with_journal files text place old told was now (omega (arith, after, differs)) at)
       ]
     ]
-
--- where no file stands after the packets file, it is the packets file that was being written
-pub packets_at_its_place : (outputs : ℕ) (with_journal : Bool) (files : List NamedBytes) (text : List ℕ) (old told : Option Contents) (was now : Place → ℕ)
-    → length files ≤ packets_place outputs with_journal + 1 → StopsPutting outputs with_journal files text Packets old was now told
-    → StopsAtPlace files (packets_place outputs with_journal) old was now told
-packets_at_its_place outputs with_journal files text old told was now few stops =
-    let same : stops.0 ≡ packets_place outputs with_journal = omega (arith, few, stops.1, stops.2.within) in
-    subst (λ (n : ℕ). StopsAtPlace files n old was now told) same stops.2

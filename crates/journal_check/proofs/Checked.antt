@@ -15,11 +15,7 @@ use Rattle.journal_check.specs.Fields.{Reading, each_in}
 use Rattle.journal_check.specs.Files.{FileSlot, JournalFile, slot_in, header_in, end_in, file_in, place_in, told_by, journal_in}
 use Rattle.journal_check.specs.Verdicts.{verdict_under, answer_by, answer_under}
 use Rattle.journal_check.specs.Steps.{IsRead, IsBadAt, IsSlotRead, IsFor, IsJudged}
-use Rattle.journal_check.proofs.Loops.{with_front, left_in, begin, step_ok, step_err, step_end}
-
--- what a judge keeps is for its own rounds
-pub for_own : (n rounds t : ℕ) (judge : Judge) → IsFor n rounds t judge → IsFor n judge.rounds t judge
-for_own n rounds t judge ready = subst (λ (r : ℕ). IsFor n r t judge) (sym ready.rounds_are) ready
+use Rattle.journal_check.proofs.Loops.{with_front, left_in, step_ok, step_err}
 
 module _ (name : SchedulerName) where
   -- the first t slots are read and judged, and the next stands at `at`
@@ -33,17 +29,6 @@ module _ (name : SchedulerName) where
     pub ready : IsFor n rounds t judge
 
   module _ (n rounds total : ℕ) (bytes : List ℕ) where
-    pub slots_begin : (judge : Judge) → judge.scheduler ≡ name → 12 ≤ length bytes → IsJudged (decision_named name) n rounds [] judge → IsFor n rounds 0 judge
-        → AreSlotsJudged n rounds total bytes 0 12 judge
-    slots_begin judge named long judged ready = record {
-      slots = [];
-      count = refl;
-      within = long;
-      whole = begin (λ k. slot_in n) total (drop 12 bytes);
-      named = named;
-      judged = judged;
-      ready = ready;
-    }
 
     pub slots_go_on : (t at to : ℕ) (judge new : Judge) (read : SlotRead) (value : FileSlot) → t < total → AreSlotsJudged n rounds total bytes t at judge
         → IsRead (slot_in n) bytes at value to → IsSlotRead n read value
@@ -74,13 +59,6 @@ module _ (name : SchedulerName) where
       within = here.within;
       fails = step_err (λ k. slot_in n) (each_in (λ k. slot_in n) (range_with_len 0 total) (drop 12 bytes)) so_far.slots t total (drop at bytes)
           (drop bad bytes) below so_far.whole here.fails;
-    }
-
-    pub slots_end : (at : ℕ) (judge : Judge) → (so_far : AreSlotsJudged n rounds total bytes total at judge)
-        → IsRead (each_in (λ t. slot_in n) (range_with_len 0 total)) bytes 12 so_far.slots at
-    slots_end at judge so_far = record {
-      within = so_far.within;
-      reads = step_end (λ k. slot_in n) (each_in (λ k. slot_in n) (range_with_len 0 total) (drop 12 bytes)) so_far.slots total (drop at bytes) so_far.whole;
     }
 
 -- ---- the answer

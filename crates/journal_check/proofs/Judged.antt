@@ -39,29 +39,6 @@ module _ (scheduler : Scheduler) where
         ≡ failure_with scheduler n rounds (length slots) old old.failure (value ∷ more)
     so_far more = ap (failure_from scheduler n rounds 0 (at_first n)) (append_assoc slots (value ∷ []) more) ∙ judged.found (value ∷ more)
 
-    -- a slot failed before
-    pub skipped : (failure : Failure) → old.failure ≡ Some failure → new.failure ≡ Some failure → IsJudged scheduler n rounds (slots ++ value ∷ []) new
-    skipped failure was is = record {
-      found = λ more.
-          so_far more ∙ ap (λ (f : Option Failure). failure_with scheduler n rounds (length slots) old f (value ∷ more)) was
-          ∙ sym (ap (λ (f : Option Failure). failure_with scheduler n rounds (length (slots ++ value ∷ [])) new f more) is);
-      noted = λ none. absurd (let same : None ≡ Some failure = sym none ∙ is in cc);
-    }
-
-    -- this slot is the first that fails
-    pub failed : (reason : Reason) → old.failure ≡ None → failure_in scheduler n rounds (length slots) (before_of n old) value ≡ Some reason
-        → new.failure ≡ Some (record { slot = length slots; reason = reason }) → IsJudged scheduler n rounds (slots ++ value ∷ []) new
-    failed reason was why is =
-        let failure : Failure = record { slot = length slots; reason = reason } in
-        record {
-          found = λ more.
-              so_far more ∙ ap (λ (f : Option Failure). failure_with scheduler n rounds (length slots) old f (value ∷ more)) was
-              ∙ ap (λ (r : Option Reason). failure_or (length slots) r
-              (failure_from scheduler n rounds (length slots + 1) (after_slot scheduler n rounds (length slots) (before_of n old) value) more)) why
-              ∙ sym (ap (λ (f : Option Failure). failure_with scheduler n rounds (length (slots ++ value ∷ [])) new f more) is);
-          noted = λ none. absurd (let same : None ≡ Some failure = sym none ∙ is in cc);
-        }
-
     -- this slot may follow
     pub passed : old.failure ≡ None → new.failure ≡ None → failure_in scheduler n rounds (length slots) (before_of n old) value ≡ None
         → before_of n new ≡ after_slot scheduler n rounds (length slots) (before_of n old) value

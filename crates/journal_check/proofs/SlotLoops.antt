@@ -55,14 +55,6 @@ module _ (n : ℕ) (bytes : List ℕ) (at : ℕ) where
         (sym (ap (λ (k : ℕ). take k (set fed i output)) (add-one i) ∙ take-suc-set fed i output (let long = so_far.long in omega arith)));
   }
 
-  pub outputs_fail : (i next bad : ℕ) (fed : List (Option Fed)) → i < n → AreOutputsRead n bytes at i next fed → IsBadAt (output_in n) bytes next bad
-      → IsBadAt (each_in (λ k. output_in n) (range_with_len 0 n)) bytes at bad
-  outputs_fail i next bad fed below so_far here = record {
-    within = here.within;
-    fails = step_err (λ k. output_in n) (each_in (λ k. output_in n) (range_with_len 0 n) (drop at bytes)) (take i fed) i n (drop next bytes)
-        (drop bad bytes) below so_far.whole here.fails;
-  }
-
   pub outputs_end : (next : ℕ) (fed : List (Option Fed)) → AreOutputsRead n bytes at n next fed
       → IsRead (each_in (λ k. output_in n) (range_with_len 0 n)) bytes at (take n fed) next
   outputs_end next fed so_far = record {

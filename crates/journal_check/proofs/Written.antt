@@ -4,7 +4,7 @@ use Rattle.std.proofs.Common.{Some, All, refl, sym, ap, subst, arith, append_ass
 use Rattle.std.specs.List.{flat_map}
 use Rattle.std.proofs.lemmas.Grind.{flat_map-append}
 use Rattle.std.proofs.lemmas.List.{length-append, append-nil, take_more, take_all, length-map, get_or_default, get_or-map}
-use Rattle.std.proofs.lemmas.Bool.{cases_eq, cases_Bool, cond-true, cond-false, eq-eqb}
+use Rattle.std.proofs.lemmas.Bool.{cases_eq, cases_Bool, cond-false}
 use Rattle.std.proofs.lemmas.Bool.Decides.{Decides-eqb}
 use Rattle.std.proofs.lemmas.List.Folds.{flat_map-map}
 use Rattle.byteorder.specs.Endian.{big_bytes}
@@ -52,10 +52,6 @@ unfolding post_text
 post_long row more =
     let both = ap length (flat_map-append set_text row.uni row.multi) ∙ length-append (flat_map set_text row.uni) (flat_map set_text row.multi) in
     omega arith
-
--- the text of a set
-pub set_none : (set : ℕ) → set ≡ 0 → set_text set ≡ []
-set_none set none = cond-true (set == 0) [] (big_bytes 8 set) (eq-eqb set 0 none)
 
 pub set_some : (set : ℕ) → (set ≡ 0 → ⊥) → set_text set ≡ big_bytes 8 set
 set_some set some = cond-false (set == 0) [] (big_bytes 8 set) (elim (cases_Bool (set == 0)) [ inl e ↦ absurd (some ((Decides-eqb set 0).0 e)) | inr e ↦ e ])

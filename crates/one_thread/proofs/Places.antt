@@ -61,16 +61,6 @@ ArePosted-more k cards takings posts listed rows deposits done after card post s
           ∙ (ap (λ (p : Post). list_all (λ i. not (posts i).more) (range_with_len 0 k) && not p.more) is ∙ sym (all-more (λ i. not (posts i).more) k)));
     }
 
-pub ArePosted-none : (cards : List CardState) (takings : ℕ → List Taken) (posts : ℕ → Post) (listed : List Post) (rows : List Row)
-    (deposits : List (Option Cell)) → ArePosted 0 cards takings posts listed rows deposits true
-ArePosted-none cards takings posts listed rows deposits = record {
-  after = λ i card below at. absurd (omega arith);
-  post = λ d i below. absurd (omega arith);
-  row = λ d i below. absurd (omega arith);
-  deposit = λ d i below. absurd (omega arith);
-  end = refl;
-}
-
 -- whether all is done after a post that has more to come, and after one that has not
 pub more_comes : (done more after : Bool) → more ≡ true → after ≡ false → after ≡ (done && not more)
 more_comes true more after some is = is ∙ ap not (sym some)

@@ -26,14 +26,6 @@ pub twice-more : (x : Tally) (a b n : ℕ) → n ≡ a + b → with_cells (with_
 twice-more x a b n is = tally-by (x.came + a + b) (x.came + n) x.given x.ran x.line (omega arith)
 
 module _ (ports depth slot : ℕ) (served : ℕ → List (Option Served)) (old : List Source) where
-  pub none-entered : (counted : List Tally) → HaveEntered ports depth slot 0 served old old counted counted
-  none-entered counted = record {
-    count = refl;
-    coming = λ i. refl;
-    entered = λ i below. absurd (omega arith);
-    left = λ i above. refl;
-    tallies = λ j. sym (none-more (tally_at counted j));
-  }
 
   -- an input that is next stands as before
   module _ (stand : Stand ports depth slot old served) (k : ℕ) (now : List Source) (counted tallies : List Tally)

@@ -1,5 +1,5 @@
 -- Counts that never fall, and one that rose: what calls one after another say together.
-use Rattle.std.proofs.Common.{◌≤◌, ℕ, inl, inr, arith, refl, ◌∙◌}
+use Rattle.std.proofs.Common.{◌≤◌, ℕ, inl, inr, arith, refl}
 use Rattle.outside.specs.Faults.{Place, NeverFall, NoneRose, Rose}
 
 pub NeverFall-refl : (counts : Place → ℕ) → NeverFall counts counts
@@ -10,9 +10,6 @@ NeverFall-trans a b c first then p = omega (arith, first p, then p)
 
 pub NoneRose-refl : (counts : Place → ℕ) → NoneRose counts counts
 NoneRose-refl counts p = refl
-
-pub NoneRose-trans : (a b c : Place → ℕ) → NoneRose a b → NoneRose b c → NoneRose a c
-NoneRose-trans a b c first then p = then p ∙ first p
 
 -- what rose, and did not fall afterwards, rose
 pub Rose-le : (a b c : ℕ) → Rose a b → b ≤ c → Rose a c

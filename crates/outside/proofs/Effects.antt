@@ -1,11 +1,10 @@
 -- What calls one after another make of the contents, as equations of whole contents.
 use Rattle.std.proofs.Common.{◌≡◌, ◌≢◌, ◌+◌, ℕ, List, [], ◌++◌, take, drop, Bool, true, false, cond, Option, Some, None, refl, sym, ◌∙◌, ap, append_assoc}
-use Rattle.std.specs.Prelude.{option_map, bytes_eq, IfSome, ◌||◌, Result, Ok, Err}
+use Rattle.std.specs.Prelude.{option_map, bytes_eq, IfSome, Result, Ok, Err}
 use Rattle.std.proofs.Math.Seq.{take-add}
-use Rattle.std.proofs.lemmas.Bool.{false_from_ne_true, or_right}
+use Rattle.std.proofs.lemmas.Bool.{false_from_ne_true}
 use Rattle.std.proofs.lemmas.List.{append-nil}
 use Rattle.std.proofs.lemmas.Slice.Eq.{bytes_eq-Decides}
-use Rattle.std.proofs.Math.Bool.{or_self_left}
 use Rattle.outside.specs.Contents.{Contents, after_write, begin_file, append_file, append_out, append_err}
 
 -- a name is itself, and no other
@@ -16,17 +15,6 @@ pub bytes_eq-other : (n name : List ℕ) → n ≢ name → bytes_eq n name ≡ 
 bytes_eq-other n name other = false_from_ne_true (bytes_eq n name) (λ same. other ((bytes_eq-Decides n name).0 same))
 
 -- Nothing appended
-
-nothing_at : (here : Bool) (o : Option (List ℕ)) → cond here (option_map (λ bytes. bytes ++ []) o) o ≡ o
-nothing_at true None = refl
-nothing_at true (Some bytes) = ap Some (append-nil bytes)
-nothing_at false o = refl
-
-pub append_file-nothing : (name : List ℕ) (c : Contents) → append_file name [] c ≡ c
-append_file-nothing name c = λ j. record { file = λ n. nothing_at (bytes_eq n name) (c.file n) j; begun = c.begun; out = c.out; err = c.err }
-
-pub append_out-nothing : (c : Contents) → append_out [] c ≡ c
-append_out-nothing c = λ j. record { file = c.file; begun = c.begun; out = append-nil c.out j; err = c.err }
 
 pub append_err-nothing : (c : Contents) → append_err [] c ≡ c
 append_err-nothing c = λ j. record { file = c.file; begun = c.begun; out = c.out; err = append-nil c.err j }
@@ -51,24 +39,6 @@ append_err-append_err a b c = λ j. record { file = c.file; begun = c.begun; out
 
 -- Begun again
 
-again_at : (here : Bool) (o : Option (List ℕ)) → cond here (Some []) (cond here (Some []) o) ≡ cond here (Some []) o
-again_at true o = refl
-again_at false o = refl
-
-pub begin_file-begin_file : (name : List ℕ) (c : Contents) → begin_file name (begin_file name c) ≡ begin_file name c
-begin_file-begin_file name c =
-    λ j. record { file = λ n. again_at (bytes_eq n name) (c.file n) j; begun = λ n. or_self_left (bytes_eq n name) (c.begun n) j; out = c.out; err = c.err }
-
-emptied_at : (here : Bool) (o : Option (List ℕ)) (more : List ℕ)
-    → cond here (Some []) (cond here (option_map (λ bytes. bytes ++ more) o) o) ≡ cond here (Some []) o
-emptied_at true o more = refl
-emptied_at false o more = refl
-
--- what a file held before it was begun is gone
-pub begin_file-append_file : (name more : List ℕ) (c : Contents) → begin_file name (append_file name more c) ≡ begin_file name c
-begin_file-append_file name more c =
-    λ j. record { file = λ n. emptied_at (bytes_eq n name) (c.file n) more j; begun = λ n. bytes_eq n name || c.begun n; out = c.out; err = c.err }
-
 -- What a file holds
 
 pub file-begin_file : (name : List ℕ) (c : Contents) → (begin_file name c).file name ≡ Some []
@@ -92,16 +62,6 @@ file-append_file-begin_file name more c = file-append_file name more [] (begin_f
 pub begun-begin_file : (name : List ℕ) (c : Contents) → (begin_file name c).begun name ≡ true
 begun-begin_file name c = rw (bytes_eq-same name) refl
 
--- a name that was begun stays begun
-pub begun-begin_file-stays : (name n : List ℕ) (c : Contents) → c.begun n ≡ true → (begin_file name c).begun n ≡ true
-begun-begin_file-stays name n c is = or_right (bytes_eq n name) (c.begun n) is
-
-pub begun-begin_file-other : (name n : List ℕ) (c : Contents) → n ≢ name → (begin_file name c).begun n ≡ c.begun n
-begun-begin_file-other name n c other = rw (bytes_eq-other n name other) refl
-
-pub begun-append_file : (name more n : List ℕ) (c : Contents) → (append_file name more c).begun n ≡ c.begun n
-begun-append_file name more n c = refl
-
 -- The same of contents that are told or not
 
 -- one effect after another
@@ -113,35 +73,12 @@ pub is_begun : (name : List ℕ) (o : Option Contents) → IfSome (option_map (b
 is_begun name None = tt
 is_begun name (Some c) = begun-begin_file name c
 
-pub is_begun-begin_file : (name n : List ℕ) (o : Option Contents) → IfSome o (λ c. c.begun n ≡ true)
-    → IfSome (option_map (begin_file name) o) (λ c. c.begun n ≡ true)
-is_begun-begin_file name n None is = tt
-is_begun-begin_file name n (Some c) is = begun-begin_file-stays name n c is
-
 pub is_begun-append_file : (name more n : List ℕ) (o : Option Contents) → IfSome o (λ c. c.begun n ≡ true)
     → IfSome (option_map (append_file name more) o) (λ c. c.begun n ≡ true)
 is_begun-append_file name more n None is = tt
 is_begun-append_file name more n (Some c) is = is
 
-pub is_begun-append_out : (more n : List ℕ) (o : Option Contents) → IfSome o (λ c. c.begun n ≡ true)
-    → IfSome (option_map (append_out more) o) (λ c. c.begun n ≡ true)
-is_begun-append_out more n None is = tt
-is_begun-append_out more n (Some c) is = is
-
-pub is_begun-append_err : (more n : List ℕ) (o : Option Contents) → IfSome o (λ c. c.begun n ≡ true)
-    → IfSome (option_map (append_err more) o) (λ c. c.begun n ≡ true)
-is_begun-append_err more n None is = tt
-is_begun-append_err more n (Some c) is = is
-
 -- Bytes that are written in pieces: none of them, and after the first n of them the next k
-
-pub write_none : (name : List ℕ) (o : Option Contents) → option_map (append_file name []) o ≡ o
-write_none name None = refl
-write_none name (Some c) = ap Some (append_file-nothing name c)
-
-pub out_none : (o : Option Contents) → option_map (append_out []) o ≡ o
-out_none None = refl
-out_none (Some c) = ap Some (append_out-nothing c)
 
 pub err_none : (o : Option Contents) → option_map (append_err []) o ≡ o
 err_none None = refl

@@ -47,15 +47,6 @@ pub longers : (o : Option Contents) (name out buf : List ℕ) (room k : ℕ) →
 longers None name out buf room k front piece = tt
 longers (Some c) name out buf room k front piece = longer (c.file name) out buf room k front piece
 
-pub too_long : (o : Option Contents) (name out buf : List ℕ) (room k most : ℕ) → IfSome o (λ c. IsFrontOf (c.file name) out)
-    → IfSome o (λ c. GivesPiece (c.file name) (length out) room buf k) → length out ≤ most → most - length out < k
-    → IfSome o (λ c. (bytes : List ℕ) × (c.file name ≡ Some bytes) × (most < length bytes))
-too_long None name out buf room k most front piece within more = tt
-too_long (Some c) name out buf room k most front piece within more =
-    let rest : length (drop (length out) piece.bytes) ≡ length piece.bytes - length out = length-drop (length out) piece.bytes in
-    let fits : k ≤ length (drop (length out) piece.bytes) = piece.within in
-    (piece.bytes, piece.there, omega arith)
-
 -- what a read said, of the contents at the start and at numbers that are equal
 pub piece_here : (o now : Option Contents) (name : List ℕ) (at : ℕ) (n room : ℕ) (buf : List ℕ) (k m : ℕ) → now ≡ o → at ≡ n → k ≡ m
     → IfSome now (λ c. GivesPiece (c.file name) at room buf k) → IfSome o (λ c. GivesPiece (c.file name) n room buf m)

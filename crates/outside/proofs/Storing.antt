@@ -1,16 +1,14 @@
 -- What a change of one file makes of the contents and of the counts.
-use Rattle.std.proofs.Common.{◌≡◌, ◌+◌, ◌^◌, ◌≤◌, ℕ, List, [], ◌++◌, Bool, true, false, cond, Option, Some, None, refl, sym, ◌∙◌, ap, arith, inl, inr}
-use Rattle.std.specs.Prelude.{option_map, unwrap_or, is_none, bytes_eq, nat_lt, ◌||◌, ◌&&◌}
-use Rattle.std.proofs.lemmas.Bool.{ltb-false}
+use Rattle.std.proofs.Common.{◌≡◌, ◌+◌, ℕ, List, [], ◌++◌, Bool, true, false, cond, Option, Some, None, refl, sym, ◌∙◌, ap}
+use Rattle.std.specs.Prelude.{option_map, unwrap_or, is_none, bytes_eq, ◌||◌, ◌&&◌}
 use Rattle.std.proofs.lemmas.Slice.Eq.{bytes_eq-Decides}
 use Rattle.outside.specs.Calls.{one_more, raised, NamesFile}
-use Rattle.outside.specs.Contents.{Contents, begin_file, append_file}
-use Rattle.outside.specs.Faults.{Place, ReadOf, BeginOf, WriteOf, ToOut, ToErr, NeverFall, Rose}
+use Rattle.outside.specs.Contents.{begin_file, append_file}
+use Rattle.outside.specs.Faults.{Place, ReadOf, BeginOf, WriteOf, ToOut, ToErr}
 use Rattle.outside.specs.MemoryFiles.{FileState, file_named, contents_among, counts_at, faults_among, is_counted, is_alike, PutsFile, CountsFault}
 use Rattle.outside.specs.declared.memory_files.calls.Call.{Call}
 use Rattle.outside.specs.declared.memory_files.calls.Call.TheVariants.{Read, Begin, Write}
 use Rattle.outside.specs.declared.memory_files.calls.CallCounts.{CallCounts}
-use Rattle.outside.proofs.Effects.{bytes_eq-same}
 
 -- One file in place of another under a name
 
@@ -100,18 +98,6 @@ part_kept g false a b e = refl
 
 -- the counts after a failed call that names a file
 
-pub read_counted : (name : List ℕ) (old new : List FileState) (was now : CallCounts) (out err : List ℕ) → CountsFault Read name old new was now
-    → (p : Place) → faults_among new now p ≡ cond (is_counted (contents_among old out err) (ReadOf name) p) (raised (faults_among old was p))
-    (faults_among old was p)
-read_counted name old new was now out err c (ReadOf n) = ap (λ x. x.read) (c.counts n)
-    ∙ part_of (λ (x : CallCounts). x.read) (is_alike (contents_among old [] []).file name n) (one_more Read (counts_at old was n)) (counts_at old was n)
-read_counted name old new was now out err c (BeginOf n) = ap (λ x. x.begin) (c.counts n)
-    ∙ part_kept (λ (x : CallCounts). x.begin) (is_alike (contents_among old [] []).file name n) (one_more Read (counts_at old was n)) (counts_at old was n) refl
-read_counted name old new was now out err c (WriteOf n) = ap (λ x. x.write) (c.counts n)
-    ∙ part_kept (λ (x : CallCounts). x.write) (is_alike (contents_among old [] []).file name n) (one_more Read (counts_at old was n)) (counts_at old was n) refl
-read_counted name old new was now out err c ToOut = c.out
-read_counted name old new was now out err c ToErr = c.err
-
 pub begin_counted : (name : List ℕ) (old new : List FileState) (was now : CallCounts) (out err : List ℕ) → CountsFault Begin name old new was now
     → (p : Place) → faults_among new now p ≡ cond (is_counted (contents_among old out err) (BeginOf name) p) (raised (faults_among old was p))
     (faults_among old was p)
@@ -125,50 +111,7 @@ begin_counted name old new was now out err c (WriteOf n) = ap (λ x. x.write) (c
 begin_counted name old new was now out err c ToOut = c.out
 begin_counted name old new was now out err c ToErr = c.err
 
-pub write_counted : (name : List ℕ) (old new : List FileState) (was now : CallCounts) (out err : List ℕ) → CountsFault Write name old new was now
-    → (p : Place) → faults_among new now p ≡ cond (is_counted (contents_among old out err) (WriteOf name) p) (raised (faults_among old was p))
-    (faults_among old was p)
-write_counted name old new was now out err c (ReadOf n) = ap (λ x. x.read) (c.counts n)
-    ∙ part_kept (λ (x : CallCounts). x.read) (is_alike (contents_among old [] []).file name n) (one_more Write (counts_at old was n)) (counts_at old was n) refl
-write_counted name old new was now out err c (BeginOf n) = ap (λ x. x.begin) (c.counts n)
-    ∙ part_kept (λ (x : CallCounts). x.begin) (is_alike (contents_among old [] []).file name n) (one_more Write (counts_at old was n))
-    (counts_at old was n) refl
-write_counted name old new was now out err c (WriteOf n) = ap (λ x. x.write) (c.counts n)
-    ∙ part_of (λ (x : CallCounts). x.write) (is_alike (contents_among old [] []).file name n) (one_more Write (counts_at old was n)) (counts_at old was n)
-write_counted name old new was now out err c ToOut = c.out
-write_counted name old new was now out err c ToErr = c.err
-
 -- What a raised count says
-
-raised_by : (n : ℕ) (below : Bool) → nat_lt (n + 1) (2 ^ 64) ≡ below → Rose n (cond below (n + 1) n)
-raised_by n true is = inl (omega arith)
-raised_by n false is = inr (ltb-false _ _ is)
-
-pub raised-Rose : (n : ℕ) → Rose n (raised n)
-raised-Rose n = raised_by n (nat_lt (n + 1) (2 ^ 64)) refl
-
-not_below : (n : ℕ) (here below : Bool) → n ≤ cond here (cond below (n + 1) n) n
-not_below n true true = omega arith
-not_below n true false = omega arith
-not_below n false below = omega arith
-
-pub none_fell : (c : Contents) (place : Place) (before after : Place → ℕ)
-    → ((p : Place) → after p ≡ cond (is_counted c place p) (raised (before p)) (before p)) → NeverFall before after
-none_fell c place before after is p = rw (is p) (not_below (before p) (is_counted c place p) (nat_lt (before p + 1) (2 ^ 64)))
-
-alike : (file : List ℕ → Option (List ℕ)) (name : List ℕ) → is_alike file name name ≡ true
-alike file name = rw (bytes_eq-same name) refl
-
-counts_itself : (c : Contents) (place : Place) → is_counted c place place ≡ true
-counts_itself c (ReadOf name) = alike c.file name
-counts_itself c (BeginOf name) = alike c.file name
-counts_itself c (WriteOf name) = alike c.file name
-counts_itself c ToOut = refl
-counts_itself c ToErr = refl
-
-pub own_rose : (c : Contents) (place : Place) (before after : Place → ℕ)
-    → ((p : Place) → after p ≡ cond (is_counted c place p) (raised (before p)) (before p)) → Rose (before place) (after place)
-own_rose c place before after is = rw (is place) (rw (counts_itself c place) (raised-Rose (before place)))
 
 -- A file that is begun
 
@@ -204,12 +147,6 @@ begun_contents name old new after out err puts empty begun = λ j. record {
     begun_flag_at n = ap (λ o. unwrap_or (option_map (λ (f : FileState). f.begun) o) false) (puts.finds n)
         ∙ begun_flag (bytes_eq n name) after (file_named n old) begun
 
-begun_counts : (name n : List ℕ) (old : List FileState) (after : FileState) (was : CallCounts) → after.faults ≡ counts_at old was name
-    → (same : Bool) → bytes_eq n name ≡ same
-    → unwrap_or (option_map (λ (f : FileState). f.faults) (cond same (Some after) (file_named n old))) was ≡ counts_at old was n
-begun_counts name n old after was faults true same = let e : n ≡ name = (bytes_eq-Decides n name).0 same in rw e faults
-begun_counts name n old after was faults false same = refl
-
 -- A file that is written
 
 -- a file that was begun is there
@@ -242,27 +179,6 @@ appended_contents name old new f after more out err there puts bytes begun = λ 
     appended_file_at n = ap (option_map (λ (g : FileState). g.bytes)) (puts.finds n) ∙ appended_file name n old f after more there bytes (bytes_eq n name) refl
 
 -- Counts that stay at each name stay at each place
-
-same_faults : (old new : List FileState) (was : CallCounts) → ((n : List ℕ) → counts_at new was n ≡ counts_at old was n) → (p : Place)
-    → faults_among new was p ≡ faults_among old was p
-same_faults old new was same (ReadOf n) = ap (λ x. x.read) (same n)
-same_faults old new was same (BeginOf n) = ap (λ x. x.begin) (same n)
-same_faults old new was same (WriteOf n) = ap (λ x. x.write) (same n)
-same_faults old new was same ToOut = refl
-same_faults old new was same ToErr = refl
-
-pub begun_faults : (name : List ℕ) (old new : List FileState) (after : FileState) (was : CallCounts) → PutsFile old new name after
-    → after.faults ≡ counts_at old was name
-    → (p : Place) → faults_among new was p ≡ faults_among old was p
-begun_faults name old new after was puts faults =
-    same_faults old new was (λ n. ap (λ o. unwrap_or (option_map (λ (f : FileState). f.faults) o) was) (puts.finds n)
-    ∙ begun_counts name n old after was faults (bytes_eq n name) refl)
-
-pub appended_faults : (name : List ℕ) (old new : List FileState) (f after : FileState) (was : CallCounts) → file_named name old ≡ Some f
-    → PutsFile old new name after → after.faults ≡ f.faults
-    → (p : Place) → faults_among new was p ≡ faults_among old was p
-appended_faults name old new f after was there puts faults =
-    same_faults old new was (λ n. ap (λ o. unwrap_or o was) (kept (λ (g : FileState). g.faults) name n old new f after there puts faults))
 
 -- the file that is begun in place of the one that was there
 pub begun_is : (name : List ℕ) (fs : List FileState) (d : FileState) (elsewhere : CallCounts) → file_named name fs ≡ Some d → d.name ≡ name

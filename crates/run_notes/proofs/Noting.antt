@@ -27,8 +27,7 @@ use Rattle.journal_check.specs.Texts.{file_post, file_slot}
 use Rattle.journal_check.specs.WritingSteps.{WriterValue}
 use Rattle.run_journals.specs.RunFiles.{run_file_under}
 use Rattle.output_queued.specs.Lines.{line_of, lines_of}
-use Rattle.output_queued.specs.NotingSteps.{HasNoted, MayNote, State, cards_in}
-use Rattle.output_queued.specs.Steps.{SameSwitch}
+use Rattle.output_queued.specs.NotingSteps.{MayNote, State, cards_in}
 use Rattle.output_queued.specs.Switches.{Matched}
 use Rattle.reference_run.specs.MeetingSteps.{IsReferenceOf, run_rows_under}
 use Rattle.reference_run.specs.RunLines.{run_matches_under}
@@ -53,16 +52,6 @@ lines_more scheduler plan t =
     ∙ flat_map-append line_text (map h (range_with_len 0 t)) (h t ∷ [])
     ∙ ap (λ s. lines_text (map h (range_with_len 0 t)) ++ s) (append-nil (line_text (h t)))
     ∙ ap (λ lines. lines_text lines ++ line_text (h t)) (sym (places-range journal_line g 0 t))
-
--- one slot more is noted
-pub noted_more : (plan : SwitchPlan) (old new : State) (matches : List Matched) (matched : Matched) → IsReferenceOf plan old matches → SameSwitch old new
-    → HasNoted new (matches ++ matched ∷ []) → IsReferenceOf plan new (matches ++ matched ∷ [])
-noted_more plan old new matches matched is same noted = record {
-  ports = same.ports ∙ is.ports;
-  depth = same.depth ∙ is.depth;
-  coming = same.coming ∙ is.coming;
-  noted = noted;
-}
 
 -- the lines of the plan's reference are those of the run
 pub lines_of_run : (scheduler : Scheduler) (plan : SwitchPlan) (slots : ℕ) (reference : State) → IsGood plan

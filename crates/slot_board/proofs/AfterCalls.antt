@@ -12,14 +12,12 @@ use Rattle.slot_histories.specs.declared.events.Event.TheVariants.{Post, Take}
 use Rattle.slot_histories.specs.Events.{posts_of, takes_of}
 use Rattle.slot_histories.specs.Legal.{IsLegal}
 use Rattle.turn_lock.specs.declared.history.TurnOf.{TurnOf}
-use Rattle.turn_lock.specs.Seats.{SeatValue, busy}
-use Rattle.slot_board.specs.declared.waits.TakeWait.{TakeWait}
-use Rattle.slot_board.specs.declared.waits.TakeWait.TheVariants.{Busy, NotYet}
+use Rattle.turn_lock.specs.Seats.{SeatValue}
 use Rattle.slot_board.specs.Turns.{post_entries, decision_entries}
 use Rattle.slot_histories.specs.Columns.{slots_taken, has_ended}
 use Rattle.slot_histories.proofs.Telling.{IsTold-legal}
 use Rattle.slot_board.specs.Seats.{column_at, setup_at, events_seen, slot_of, IsPosted, refusals, events_before, HasCardTurn, HasPosted, HasTaken}
-use Rattle.slot_board.specs.Seats.{IsUndecided, IsWait}
+use Rattle.slot_board.specs.Seats.{IsUndecided}
 use Rattle.slot_board.specs.Columns.{IsBoard}
 use Rattle.slot_board.specs.ColumnSteps.{IsCardSeat}
 use Rattle.slot_board.specs.Calls.{IsSeat, AfterPost, AfterTaking, AfterRefusal}
@@ -122,14 +120,7 @@ module _ (old new : SeatValue Event) (seat : IsSeat old) (after : IsSeat new) (c
         tries = tries;
       }
 
-pub AfterRefusal-busy : (old : SeatValue Event) → AfterRefusal old (busy old)
-AfterRefusal-busy old = record { column = refl; slot = refl; posted = (λ it. it, λ it. it); done = refl; tries = omega arith }
-
 pub AfterRefusal-undecided : (ports : ℕ) (old new : SeatValue Event) → IsSeat old → IsUndecided ports old new → AfterRefusal old new
 AfterRefusal-undecided ports old new seat has =
     AfterRefusal-column old new seat (IsSeat-turn (λ events. []) old new has.between seat has.turn) (IsUndecided-column ports old new has)
     (ap refusals has.turn.turn ∙ refusals-idle old has.between has.turn.others)
-
-pub AfterRefusal-wait : (wait : TakeWait) (old new : SeatValue Event) → IsSeat old → IsWait wait old new → AfterRefusal old new
-AfterRefusal-wait Busy old new seat is = subst (AfterRefusal old) (sym is) (AfterRefusal-busy old)
-AfterRefusal-wait (NotYet ports) old new seat is = AfterRefusal-undecided ports old new seat is

@@ -17,10 +17,8 @@ use Rattle.turn_lock.specs.declared.history.TurnOf.{TurnOf}
 use Rattle.turn_lock.specs.Histories.{IsPrefixOf, entries_of, turns_of, IsAllowed}
 use Rattle.turn_lock.specs.Seats.{SeatValue}
 use Rattle.turn_lock.proofs.HistoryLemmas.{entries_of-append, entries_of-snoc, turns_of-append, IsAllowed-append}
-use Rattle.slot_board.specs.declared.waits.TakeWait.{TakeWait}
-use Rattle.slot_board.specs.declared.waits.TakeWait.TheVariants.{Busy, NotYet}
 use Rattle.slot_board.specs.Turns.{MayAdd, post_entries, decision_entries}
-use Rattle.slot_board.specs.Seats.{setup_at, events_seen, column_at, slot_of, events_before, HasCardTurn, HasPosted, HasTaken, IsUndecided, IsWait}
+use Rattle.slot_board.specs.Seats.{setup_at, events_seen, column_at, slot_of, events_before, HasCardTurn, HasPosted, HasTaken, IsUndecided}
 use Rattle.slot_histories.specs.Columns.{column_of, with_post, with_taking}
 use Rattle.slot_histories.proofs.Takings.{takings_of-beyond, takings_of-take}
 use Rattle.slot_board.proofs.OtherTurns.{posts_of-others, takes_of-others, posts_of-decision, takes_of-decision}
@@ -137,9 +135,6 @@ module _ (ports : ℕ) (old new : SeatValue Event) (has : IsUndecided ports old 
   pub IsUndecided-posts : posts_of old.number (events_seen new) ≡ posts_of old.number (events_seen old)
   IsUndecided-posts = HasCardTurn-posts (λ events. []) old new has.between has.turn ∙ append-nil (posts_of old.number (events_seen old))
 
-  pub IsUndecided-takes : takes_of old.number (events_seen new) ≡ slot_of old
-  IsUndecided-takes = let takes = HasCardTurn-takes (λ events. []) old new has.between has.turn in omega arith
-
   pub IsUndecided-column : column_at new ≡ column_at old
   IsUndecided-column =
       let adds : List Event → List Event = λ events. [] in
@@ -147,11 +142,6 @@ module _ (ports : ℕ) (old new : SeatValue Event) (has : IsUndecided ports old 
       HasCardTurn-column adds old new has.between has.turn (posts_of old.number (events_seen old))
       (takings_of (setup_at old) old.number (events_seen old)) IsUndecided-posts
       (ap (takings_of (setup_at old) old.number) (append-nil before) ∙ HasCardTurn-taken adds old new has.between has.turn)
-
--- a wait leaves the column
-pub IsWait-column : (wait : TakeWait) (old new : SeatValue Event) → IsWait wait old new → column_at new ≡ column_at old
-IsWait-column Busy old new is = ap column_at is
-IsWait-column (NotYet ports) old new is = IsUndecided-column ports old new is
 
 -- a seat's column is that of the whole history, which goes on without it
 module _ (history : List (TurnOf Event)) (allowed : IsAllowed MayAdd history) (i : ℕ) (seat : SeatValue Event) (seen : IsPrefixOf seat.seen history)

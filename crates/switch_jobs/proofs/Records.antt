@@ -2,7 +2,7 @@
 use Rattle.std.proofs.Common.{◌≡◌, ◌∙◌, ℕ, zero, suc, ◌+◌, ◌<◌, ◌≤◌, Bool, List, [], ◌∷◌, ◌++◌, length, get_or, map, take, drop, sum, refl, sym, ap}
 use Rattle.std.proofs.Common.{arith, append_assoc}
 use Rattle.std.specs.List.{concat, flat_map}
-use Rattle.std.proofs.lemmas.List.{append-nil, length-append, length-map, length-take-le, take_all, take_at, drop_at, drop-drop, take_more, get_or-map}
+use Rattle.std.proofs.lemmas.List.{append-nil, length-append, length-map, length-take-le, take_at, drop_at, drop-drop, take_more, get_or-map}
 use Rattle.std.proofs.lemmas.List.Concat.{flat_map-append}
 use Rattle.std.proofs.lemmas.List.Sums.{sum_by-cons}
 use Rattle.pcap_records.specs.Output.{record_text}
@@ -55,9 +55,3 @@ module _ (nano : Bool) (first body lens : List ℕ) (ms : List (List ℕ)) (whol
       ap (take (at + length m)) written
       ∙ (take_at (front ++ text) (drop (at + length m) old) (at + length m) size
       ∙ (ap (λ xs. xs ++ text) so_far ∙ (append_assoc first (records (take k ms)) text ∙ ap (λ xs. first ++ xs) more)))
-
-  -- and all records
-  pub records_all : (buffer : List ℕ) (k at : ℕ) → length lens ≤ k → length buffer ≤ at → take at buffer ≡ first ++ flat_map (record_text nano) (take k ms)
-      → buffer ≡ first ++ flat_map (record_text nano) ms
-  records_all buffer k at end full so_far =
-      sym (take_all at buffer full) ∙ (so_far ∙ ap (λ xs. first ++ flat_map (record_text nano) xs) (take_all k ms (omega (arith, long))))

@@ -9,7 +9,6 @@ use Rattle.std.proofs.Math.ListN.{get_or-map as get_or-map_same}
 use Rattle.std_lemmas.proofs.Lists.{at_place}
 use Rattle.pcap_records.specs.declared.capture.Capture.{Capture as ACapture}
 use Rattle.pcap_records.specs.declared.fault.PcapFault.{PcapFault}
-use Rattle.forward_table.specs.declared.faults.TableFault.{TableFault}
 use Rattle.forward_table.specs.declared.route_lines.RouteLine.{RouteLine}
 use Rattle.forward_table.specs.Reading.{reading_of}
 use Rattle.card_core.specs.declared.plan.Planned.{Planned}
@@ -119,14 +118,6 @@ pub told_once : (pace_us : Option ℕ) (text : List ℕ) (files : List (List ℕ
     ⊎ IsRefusal pace_us text files answer → IsRefusal pace_us text files fault → (answer ≡ OutOfMemory) ⊎ (answer ≡ fault)
 told_once pace_us text files answer fault (inl memory) is = inl memory
 told_once pace_us text files answer fault (inr told) is = inr (refusal_once pace_us text files answer fault told is)
-
--- a fault of the table, and one of a capture, as refusals
-pub table_refused : (pace_us : Option ℕ) (text : List ℕ) (files : List (List ℕ)) (ports : ℕ) (answer : PlanFault) → ports ≡ length files
-    → (answer ≡ OutOfMemory) ⊎ ((fault : TableFault) × (answer ≡ Table fault) × (reading_of ports text ≡ Err fault)) → (answer ≡ OutOfMemory)
-    ⊎ IsRefusal pace_us text files answer
-table_refused pace_us text files ports answer ports_is (inl memory) = inl memory
-table_refused pace_us text files ports answer ports_is (inr (fault, is, bad)) =
-    inr (subst (IsRefusal pace_us text files) (sym is) (subst (λ n. reading_of n text ≡ Err fault) ports_is bad))
 
 pub capture_refused : (pace_us : Option ℕ) (text : List ℕ) (files : List (List ℕ)) (ports : ℕ) (table : List RouteLine) (answer : PlanFault)
     → ports ≡ length files → reading_of ports text ≡ Ok table

@@ -18,14 +18,6 @@ pub record AreFilled (k : ℕ) (old new : List CardPlan) : Type 0 where
   pub filled : (port : ℕ) (o n : CardPlan) → port < k → slice_get old port ≡ Some o → slice_get new port ≡ Some n → IsSized (packets_of_cards old) port o n
   pub rest : (port : ℕ) (o n : CardPlan) → k ≤ port → slice_get old port ≡ Some o → slice_get new port ≡ Some n → n ≡ o
 
-pub AreFilled-none : (cards : List CardPlan) → AreFilled 0 cards cards
-AreFilled-none cards = record {
-  count = refl;
-  packets = refl;
-  filled = λ port o n less _ _. absurd (omega arith);
-  rest = λ port o n from was is. same_Some n o (sym is ∙ was);
-}
-
 -- ---- a card is written
 map_kept : {A B : Type 0} (f : A → B) (xs : List A) (k : ℕ) (c x : A) → slice_get xs k ≡ Some c → f x ≡ f c → map f (set xs k x) ≡ map f xs
 map_kept f [] k c x is same = refl

@@ -1,11 +1,10 @@
 -- The flow of a packet, and the greatest messages as far as a loop has come.
-use Rattle.std.proofs.Common.{◌≡◌, ◌≢◌, ◌∙◌, ◌⊎◌, ℕ, ◌+◌, ◌*◌, ◌^◌, ◌<◌, ◌==◌, ◌&&◌, max, true, false, List, [], ◌++◌, length, take, drop}
-use Rattle.std.proofs.Common.{slice_index_or, refl, ap, sym, arith, append_assoc}
-use Rattle.std.specs.Prelude.{if◌then◌else◌, map}
+use Rattle.std.proofs.Common.{◌≡◌, ◌≢◌, ◌∙◌, ◌⊎◌, ℕ, ◌+◌, ◌*◌, ◌^◌, ◌<◌, List, [], ◌++◌, length, take, drop}
+use Rattle.std.proofs.Common.{slice_index_or, ap, sym, arith, append_assoc}
+use Rattle.std.specs.Prelude.{map}
 use Rattle.std.specs.List.{range_with_len}
 use Rattle.std.proofs.lemmas.List.{flat_map_more, append_cancel_left, take-append-drop, take_more, length-map}
 use Rattle.std.proofs.lemmas.Grind.{flat_map-append}
-use Rattle.std.proofs.lemmas.List.Sums.{fold_more}
 use Rattle.rotating_pick.specs.PortSets.{HasSeveral}
 use Rattle.cell_cutter.specs.Kinds.{kind_byte}
 use Rattle.card_core.specs.declared.plan.Planned.{Planned}
@@ -13,7 +12,7 @@ use Rattle.card_core.specs.declared.plan.CardPlan.{CardPlan}
 use Rattle.card_core.specs.Plans.{kind_of}
 use Rattle.card_core.proofs.Arriving.{queue-unicast, queue-multicast}
 use Rattle.card_core.proofs.Sets.{several-of}
-use Rattle.switch_plan.specs.Totals.{flow_of, goes_to, message_length, greatest_message, sizes_for}
+use Rattle.switch_plan.specs.Totals.{flow_of, greatest_message, sizes_for}
 use Rattle.switch_plan.specs.CountingSteps.{packets_of_cards}
 use Rattle.switch_plan.proofs.Summing.{packets_at}
 
@@ -24,29 +23,6 @@ flow-unicast p j is inside = ap (λ q. 2 * p.level + kind_byte (kind_of q)) (que
 -- and of one with several
 pub flow-multicast : (p : Planned) → (p.fan ≡ 0) ⊎ HasSeveral p.fan → p.fan ≢ 0 → flow_of p ≡ 2 * p.level + 1
 flow-multicast p none some = ap (λ q. 2 * p.level + kind_byte (kind_of q)) (queue-multicast p (several-of p.fan none some))
-
--- the greatest message of one flow, with one packet more
-pub greatest_next : (output flow : ℕ) (packets : List Planned) (k : ℕ) (p : Planned) → k < length packets → p ≡ slice_index_or packets k p
-    → greatest_message output flow (take (k + 1) packets) ≡
-    (if goes_to output p && (flow_of p == flow) then max (greatest_message output flow (take k packets))
-    (message_length p) else greatest_message output flow (take k packets))
-greatest_next output flow packets k p inside is =
-    fold_more (λ most (packet : Planned). if goes_to output packet && (flow_of packet == flow) then max most (message_length packet) else most) 0 packets k p
-    inside
-    ∙ ap (λ (packet : Planned). if goes_to output packet
-    && (flow_of packet == flow) then max (greatest_message output flow (take k packets)) (message_length packet) else greatest_message output flow
-    (take k packets)) (sym is)
-
-pub greatest_aside : (output flow : ℕ) (packets : List Planned) (k : ℕ) (p : Planned) → k < length packets → p ≡ slice_index_or packets k p
-    → goes_to output p ≡ false
-    → greatest_message output flow (take (k + 1) packets) ≡ greatest_message output flow (take k packets)
-greatest_aside output flow packets k p inside is goes = greatest_next output flow packets k p inside is ∙ rw goes refl
-
-pub greatest_more : (output flow : ℕ) (packets : List Planned) (k : ℕ) (p : Planned) → k < length packets → p ≡ slice_index_or packets k p
-    → goes_to output p ≡ true
-    → greatest_message output flow (take (k + 1) packets) ≡
-    (if flow_of p == flow then max (greatest_message output flow (take k packets)) (message_length p) else greatest_message output flow (take k packets))
-greatest_more output flow packets k p inside is goes = greatest_next output flow packets k p inside is ∙ rw goes refl
 
 -- ---- the greatest messages of all flows of an input
 abbrev pub greatest_of : ℕ → List Planned → List ℕ

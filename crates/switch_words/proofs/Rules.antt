@@ -203,10 +203,6 @@ put_texts id v vs lookup sound other = elim (cases_Bool (bytes_eq id other)) [
   | inr h ↦ rw h (sound.texts other)
 ]
 
--- another id keeps its values
-put-other : (id : Text) (vs : List Text) (lookup : Lookup) (other : Text) → bytes_eq id other ≡ false → put id vs lookup other ≡ lookup other
-put-other id vs lookup other apart = rw apart refl
-
 -- no option, and no name, has the id of a flag
 value_apart : (s : Setting) (f : Flag) → bytes_eq (id_of s) (flag_id f) ≡ false
 value_apart rounds slots = refl
