@@ -19,10 +19,10 @@ use Rattle.card_core.proofs.Passing.{arriving-there, is_queue-same}
 abbrev AreFrom : ℕ → List Planned → Type 0
 AreFrom t ps = (j : ℕ) (p : Planned) → slice_get ps j ≡ Some p → t ≤ p.arrival
 
-rest-rising : (p : Planned) (ps : List Planned) → AreRising (p ∷ ps) → AreRising ps
+pub rest-rising : (p : Planned) (ps : List Planned) → AreRising (p ∷ ps) → AreRising ps
 rest-rising p ps rising k j x y at to less = rising (suc k) (suc j) x y at to (omega arith)
 
-rest-later : (p : Planned) (ps : List Planned) (t : ℕ) → AreRising (p ∷ ps) → p.arrival ≡ t → AreFrom (suc t) ps
+pub rest-later : (p : Planned) (ps : List Planned) (t : ℕ) → AreRising (p ∷ ps) → p.arrival ≡ t → AreFrom (suc t) ps
 rest-later p ps t rising now j r at = let up = rising 0 (suc j) p r refl at (omega arith) in omega arith
 
 -- ---- the cells of the admitted packets

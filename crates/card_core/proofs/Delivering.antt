@@ -6,10 +6,10 @@ use Rattle.std.proofs.lemmas.Bool.{eq-eqb, eqb-true, cases_Bool}
 use Rattle.std.proofs.lemmas.List.{append-nil, map-set, map-append, set-get_or, get_or-set_same, get_or-set_other, length_push, length-map}
 use Rattle.std.proofs.lemmas.List.Elements.{filter-append}
 use Rattle.std.proofs.lemmas.List.Folds.{concat-append}
+use Rattle.reassembly.proofs.Storing.{kind_byte-lt}
 use Rattle.rotating_pick.specs.declared.kinds.Kind.{Kind}
 use Rattle.rotating_pick.specs.declared.kinds.Kind.TheVariants.{Uni, Multi}
 use Rattle.eslip_rounds.specs.Decisions.{is_kind}
-use Rattle.cell_cutter.specs.Kinds.{kind_byte}
 use Rattle.cell_cutter.specs.declared.cell.Cell.{Cell}
 use Rattle.cell_cutter.specs.Cells.{used_bytes}
 use Rattle.reassembly.specs.Flows.{Flow, fresh, place_of, place_of_cell, flow_of, bytes_with, with_cell, after_cell}
@@ -48,7 +48,7 @@ same_kind Uni Multi is = absurd (cc)
 same_kind Multi Uni is = absurd (cc)
 same_kind Multi Multi is = refl
 
-kind_refl : (k : Kind) → is_kind k k ≡ true
+pub kind_refl : (k : Kind) → is_kind k k ≡ true
 kind_refl Uni = refl
 kind_refl Multi = refl
 
@@ -59,7 +59,7 @@ kind_place Uni Multi i l j m below below' same = absurd (omega arith)
 kind_place Multi Uni i l j m below below' same = absurd (omega arith)
 kind_place Multi Multi i l j m below below' same = (omega arith, omega arith, refl)
 
-of_own : (cell : Cell) → is_of_flow cell.input cell.level cell.kind cell ≡ true
+pub of_own : (cell : Cell) → is_of_flow cell.input cell.level cell.kind cell ≡ true
 of_own cell = let a = eq-eqb cell.input cell.input refl in let b = eq-eqb cell.level cell.level refl in rw (a, b) (kind_refl cell.kind)
 
 parts_of : (a b c : Bool) → a && b && c ≡ true → (a ≡ true) × (b ≡ true) × (c ≡ true)
@@ -96,10 +96,6 @@ sizes_stay flows place flow same =
     ∙ ap (slice_set (map (λ (f : Flow). f.size) flows) place) (same ∙ size_at flows place)
     ∙ set-get_or (map (λ (f : Flow). f.size) flows) place 0
 
-kind_small : (kind : Kind) → kind_byte kind < 2
-kind_small Uni = omega arith
-kind_small Multi = omega arith
-
 module _ (plan : Plan) (good : IsGoodPlan plan) (r : Received) (cells : List Cell) (had : HasReceived plan r cells) (cell : Cell)
     (may : MayReceive r cell) where
   input_in : cell.input < plan.ports
@@ -109,7 +105,7 @@ module _ (plan : Plan) (good : IsGoodPlan plan) (r : Received) (cells : List Cel
   place_in =
       let a = length-map r.flows.flows (λ (f : Flow). f.size) in
       let b = ap length had.sizes in
-      let k = kind_small cell.kind in
+      let k = kind_byte-lt cell.kind in
       let i = input_in in
       let l = may.flow.form.level in
       omega (arith, a, b, k, i, l, good.flows)

@@ -7,6 +7,7 @@ use Rattle.std.proofs.lemmas.List.{append-nil, take-append-le, take_all, length-
 use Rattle.std.proofs.lemmas.List.Elements.{filter-append}
 use Rattle.std.proofs.lemmas.Nat.Bits.{bit_at-pow_same}
 use Rattle.std.specs.Cmp.{both_ways}
+use Rattle.card_core.proofs.Carding.{kinds_differ}
 use Rattle.rotating_pick.specs.PortSets.{Has}
 use Rattle.rotating_pick.specs.declared.kinds.Kind.{Kind}
 use Rattle.rotating_pick.specs.declared.kinds.Kind.TheVariants.{Uni, Multi}
@@ -270,8 +271,6 @@ module _ (plan : Plan) (good : IsGoodPlan plan) (served : List (Option Served)) 
       ∙ goes_there j l cells (are_take (OfOutput j l) s.left s.entered kept.cells)
 
 -- ---- the queue that a part serves
-uni_multi : Uni ≡ Multi → ⊥
-uni_multi e = cc
 
 queue_is : (row : Row) (part : Served) (kind : Kind) (q : Queue) (j : ℕ) → ((l : ℕ) → Names row l Uni j → j < 64) → part.kind ≡ kind → IsPartOf row part
     → serves q j (Some part) ≡ true → queue_by kind part ≡ q
@@ -282,11 +281,11 @@ queue_is row part Uni (OfOutput k l) j inside is may served =
     let only = last-only 64 part.outputs j (inside l (gives-names row (Some part) j l Uni may given)) given.0 (λ y other. may.one is y j other given.0) in
     ap (λ i. OfOutput i part.level) (only ∙ sym port) ∙ ap (OfOutput k) (sym given.1)
 queue_is row part Uni (OfLevel l) j inside is may served = let given = (Decides-gives (Some part) j l Multi).0 served in
-    absurd (uni_multi (sym is ∙ sym given.2))
+    absurd (kinds_differ (sym is ∙ sym given.2))
 queue_is row part Multi (OfOutput k l) j inside is may served =
     let both = and_parts (k == j) (gives (Some part) j l Uni) served in
     let given = (Decides-gives (Some part) j l Uni).0 both.1 in
-    absurd (uni_multi (given.2 ∙ is))
+    absurd (kinds_differ (given.2 ∙ is))
 queue_is row part Multi (OfLevel l) j inside is may served = let given = (Decides-gives (Some part) j l Multi).0 served in ap OfLevel (sym given.1)
 
 module _ (plan : Plan) (good : IsGoodPlan plan) (served : List (Option Served)) where

@@ -6,7 +6,7 @@ use Rattle.std.proofs.lemmas.List.{length_push}
 use Rattle.std.proofs.lemmas.List.Sums.{sum_by-set, sum_by-cons}
 use Rattle.std.proofs.lemmas.Option.{slice_get_within, get_or_from_slice_get}
 use Rattle.std_lemmas.proofs.Options.{some_same}
-use Rattle.std_lemmas.proofs.Lists.{at_place, get-set_same, get-set_other, get-snoc}
+use Rattle.std_lemmas.proofs.Lists.{at_place, get-set_same, get-set_other, get-snoc, slice_get-seam}
 use Rattle.slot_histories.specs.declared.events.Event.{Event}
 use Rattle.turn_lock.specs.Seats.{TurnValue, SeatValue, AreSeats, new_seat}
 use Rattle.slot_board.specs.Columns.{IsBoard}
@@ -70,10 +70,6 @@ get-push : {X : Type 0} (xs : List X) (y x : X) (i : ℕ) → slice_get xs i ≡
 get-push [] y x i is = let below : i < 0 = slice_get_within [] i x is in absurd (omega arith)
 get-push (z ∷ xs) y x zero is = is
 get-push (z ∷ xs) y x (suc i) is = get-push xs y x i is
-
-get-last : {X : Type 0} (xs : List X) (y : X) → slice_get (xs ++ y ∷ []) (length xs) ≡ Some y
-get-last [] y = refl
-get-last (z ∷ xs) y = get-last xs y
 
 module _ (board : TurnValue Event) (cards : ℕ) (groups : List Group) (p : ℕ) (group new : Group) (member : Member) (are : AreGroups board cards groups)
     (found : slice_get groups p ≡ Some group) (items : new.members.items ≡ group.members.items ++ member ∷ []) (is : IsMember board member)
@@ -139,7 +135,7 @@ module _ (board : TurnValue Event) (cards : ℕ) (groups : List Group) (p : ℕ)
                 group = new;
                 within = length group.members.items;
                 found = now_found;
-                at = ap (λ ms. slice_get ms (length group.members.items)) items ∙ get-last group.members.items member;
+                at = ap (λ ms. slice_get ms (length group.members.items)) items ∙ slice_get-seam group.members.items [] member;
               };
               number = number ∙ sym last;
             }

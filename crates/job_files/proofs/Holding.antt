@@ -201,7 +201,7 @@ packets_held r texts c bytes is =
     ∙ ap (λ (packets : Option (List ℕ)). (put_files (packets_files r.prefix packets) (after_journal r texts c)).file (packets_name r.prefix)) is
     ∙ file-append_file-begin_file (packets_name r.prefix) bytes (after_journal r texts c)
 
-same_run : (r s : RunWords) → run r ≡ run s → s ≡ r
+pub same_run : (r s : RunWords) → run r ≡ run s → s ≡ r
 same_run r s same = cc
 
 -- a job that writes no files leaves them all

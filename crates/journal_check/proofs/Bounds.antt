@@ -1,21 +1,17 @@
 -- The bounds on waiting in lawful files, each under its own schedulers.
-use Rattle.std.proofs.Common.{◌≡◌, ℕ, zero, suc, ◌+◌, ◌-◌, ◌*◌, ◌/◌, ◌<◌, ◌≤◌, ◌==◌, false, List, length, take, drop, All, Any, sym, subst, inl, inr, arith}
-use Rattle.std.proofs.lemmas.Bool.{cases_eq, cases_Bool, cond-true, cond-false, eq-eqb}
-use Rattle.std.proofs.lemmas.Bool.Decides.{Decides-eqb}
+use Rattle.std.proofs.Common.{ℕ, zero, suc, ◌+◌, ◌-◌, ◌*◌, ◌/◌, ◌<◌, ◌≤◌, ◌==◌, length, take, drop, All, Any, sym, subst, inl, inr, arith}
+use Rattle.std.proofs.lemmas.Bool.{cases_Bool, cond-true, cond-false}
 use Rattle.std.proofs.Math.Nat.{mul-le-mul_left}
+use Rattle.service_bound.proofs.LineRateByRounds.{served_by_rounds}
 use Rattle.rotating_pick.specs.declared.kinds.Kind.TheVariants.{Uni}
 use Rattle.slot_match.specs.Rows.{Names, row_of, HasHead}
 use Rattle.slot_match.specs.Matches.{Serves, Completes}
-use Rattle.pointer_state.specs.Places.{Places}
 use Rattle.eslip_rounds.specs.Slots.{AreMoved}
-use Rattle.eslip_rounds.specs.Schedules.{DecidedSlot}
 use Rattle.eslip_rounds.specs.Decisions.{decision_of}
 use Rattle.eslip_rounds.proofs.Scheduling.{IsSchedulerBy-decision_of, IsScheduler-decision_of}
-use Rattle.service_bound.specs.Windows.{IsWindow, InFirst, IsClean, IsWithoutMulticast}
+use Rattle.service_bound.specs.Windows.{InFirst, IsClean, IsWithoutMulticast}
 use Rattle.service_bound.specs.Waits.{longest_service, longest_service_in_one_round, longest_service_by}
 use Rattle.service_bound.proofs.InWindows.{AreMoved-keep}
-use Rattle.service_bound.proofs.ServedInTime.{served_in_time}
-use Rattle.service_bound.proofs.OneRoundServed.{one_served_in_time}
 use Rattle.service_bound.proofs.HeadsComplete.{AreMoved-pass}
 use Rattle.firm_rounds.specs.Slots.{AreMovedByFirm}
 use Rattle.firm_rounds.specs.Decisions.{firm_decision}
@@ -30,24 +26,6 @@ use Rattle.journal_check.specs.Files.{JournalFile}
 use Rattle.journal_check.specs.Texts.{IsFile}
 use Rattle.journal_check.specs.Lawful.{decided_slots_under, IsLawfulUnder}
 use Rattle.journal_check.proofs.Scheduling.{unicast_within, multicast_within}
-
-served_by : (n rounds t level i j : ℕ) (places : Places) (slots : List DecidedSlot) → 0 < rounds → i < n → IsWindow n rounds t level places slots
-    → All (λ slot. IsWithoutMulticast n level slot.rows) slots → InFirst (λ rows. Names (row_of rows i) level Uni j) slots
-    → longest_service_by n rounds ≤ length slots → Any (λ slot. Serves slot.decision.matched i j level Uni) slots
-served_by n rounds t level i j places slots some below window alone named long =
-    elim (cases_eq rounds 1) [
-      | inl one ↦
-          let bound : longest_service_by n rounds ≡ longest_service_in_one_round n =
-          cond-true (rounds == 1) (longest_service_in_one_round n) (longest_service n) (eq-eqb rounds 1 one) in
-          one_served_in_time n t level i j places slots below (subst (λ (r : ℕ). IsWindow n r t level places slots) one window) alone named
-          (subst (λ (k : ℕ). k ≤ length slots) bound long)
-      | inr more ↦
-          let bound : longest_service_by n rounds ≡ longest_service n =
-          cond-false (rounds == 1) (longest_service_in_one_round n) (longest_service n) (not_equal rounds more) in
-          served_in_time n rounds t level i j places slots some below window alone named (subst (λ (k : ℕ). k ≤ length slots) bound long)
-    ] where
-      not_equal : (x : ℕ) → (x ≡ 1 → ⊥) → (x == 1) ≡ false
-      not_equal x apart = elim (cases_Bool (x == 1)) [ inl e ↦ absurd (apart ((Decides-eqb x 1).0 e)) | inr e ↦ e ]
 
 -- a bound is some slots
 half_some : (n x : ℕ) → 0 < n → 2 ≤ x → 0 < n * x / 2
@@ -73,7 +51,7 @@ pub unicast_in_time : (file : JournalFile) → IsFile file → IsLawfulUnder dec
 unicast_in_time file good lawful level first count i j below =
     unicast_within decision_of IsScheduler-decision_of file good lawful AreMoved IsSchedulerBy-decision_of (longest_service_by file.ports file.rounds) level
     first count i j (longest_some file.ports file.rounds good.ports_some) (AreMoved-keep file.ports level)
-    (λ t places window. served_by file.ports file.rounds t level i j places window good.rounds_some below) below
+    (λ t places window. served_by_rounds file.ports file.rounds t level i j places window good.rounds_some below) below
 
 pub multicast_in_time : (file : JournalFile) → IsFile file → IsLawfulUnder decision_of file → (level first count i : ℕ) → i < file.ports
     → All (λ slot. IsClean file.ports level slot.rows) (take count (drop first (decided_slots_under decision_of file)))

@@ -29,7 +29,6 @@ module _ (name : SchedulerName) where
     pub ready : IsFor n rounds t judge
 
   module _ (n rounds total : ℕ) (bytes : List ℕ) where
-
     pub slots_go_on : (t at to : ℕ) (judge new : Judge) (read : SlotRead) (value : FileSlot) → t < total → AreSlotsJudged n rounds total bytes t at judge
         → IsRead (slot_in n) bytes at value to → IsSlotRead n read value
         → ((slots : List FileSlot) (v : FileSlot) → t ≡ length slots → IsSlotRead n read v

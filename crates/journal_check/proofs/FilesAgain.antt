@@ -5,6 +5,7 @@ use Rattle.std.specs.List.{flat_map, range_with_len}
 use Rattle.std.proofs.lemmas.Bool.{cond-true, cond-false, and_from, cases_Bool, eq-eqb, or_left, or_right}
 use Rattle.std.proofs.lemmas.Bool.Decides.{Decides-eqb}
 use Rattle.std.proofs.lemmas.List.{append-nil}
+use Rattle.journal_check.proofs.NumberReads.{most_few}
 use Rattle.byteorder.specs.Endian.{big_bytes}
 use Rattle.rotating_pick.specs.declared.kinds.Kind.{Kind}
 use Rattle.rotating_pick.specs.declared.kinds.Kind.TheVariants.{Uni, Multi}
@@ -75,12 +76,6 @@ module _ (n : ℕ) (few : n ≤ 64) where
 
 from_to : (low high x : ℕ) → low ≤ x → x ≤ high → is_from low high x ≡ true
 from_to low high x above below = and_from (nat_le low x) (nat_le x high) (le-leb low x above) (le-leb x high below)
-
-most_few : (ports : ℕ) → most_slots ports ≤ 262145
-most_few ports = elim (cases_Bool (nat_lt 32 ports)) [
-  | inl e ↦ let same : most_slots ports ≡ 131073 = cond-true (nat_lt 32 ports) 131073 262145 e in omega arith
-  | inr e ↦ let same : most_slots ports ≡ 262145 = cond-false (nat_lt 32 ports) 131073 262145 e in omega arith
-]
 
 header_again : (ports rounds slots : ℕ) (rest : List ℕ) → 1 ≤ ports → ports ≤ 64 → 1 ≤ rounds → rounds ≤ 64 → 1 ≤ slots → slots ≤ most_slots ports
     → header_in (header_text ports rounds slots ++ rest) ≡ Ok (record { ports = ports; rounds = rounds; slots = slots }, rest)

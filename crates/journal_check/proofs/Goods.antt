@@ -1,5 +1,5 @@
 -- Slots of files whose rows name none but the ports, and what they leave.
-use Rattle.std.proofs.Common.{◌≡◌, ℕ, ◌^◌, ◌<◌, ◌≤◌, ◌∙◌, List, length, map, All, refl, sym, subst, inl, inr, false, arith, get_or, slice_index}
+use Rattle.std.proofs.Common.{◌≡◌, ℕ, ◌^◌, ◌<◌, ◌≤◌, ◌∙◌, List, length, map, All, sym, subst, inl, inr, false, arith, get_or, slice_index}
 use Rattle.std.proofs.lemmas.Bool.{cases_lt}
 use Rattle.std.proofs.lemmas.List.{get_or-map, get_or-replicate, get_or_past, length-map}
 use Rattle.rotating_pick.specs.PortSets.{Has}
@@ -9,11 +9,11 @@ use Rattle.slot_match.specs.declared.rows.Row.{Row}
 use Rattle.slot_match.specs.Rows.{row_of, no_row, empty_row, IsWithin, IsOfLevels, AreWithin}
 use Rattle.slot_match.specs.Matches.{IsMatch}
 use Rattle.slot_match.proofs.Kept.{IsMatch-unmatched}
-use Rattle.pointer_state.specs.Places.{AreAtPorts, places_at_first}
+use Rattle.pointer_state.specs.Places.{AreAtPorts}
 use Rattle.pointer_state.proofs.Moves.{AreAtPorts-at_first}
 use Rattle.eslip_rounds.specs.Schedulers.{Scheduler, IsScheduler}
 use Rattle.slot_histories.proofs.EventTests.{IsEmptyRow-empty}
-use Rattle.slot_histories.proofs.SoundDecisions.{IsSoundDecision, IsSoundDecision-slot}
+use Rattle.slot_histories.proofs.SoundDecisions.{IsSoundDecision, IsSoundDecision-slot, ports-at_first}
 use Rattle.journal_check.specs.declared.posts.FilePost.{FilePost}
 use Rattle.journal_check.specs.Files.{FileSlot, rows_of}
 use Rattle.journal_check.specs.Texts.{IsFileRow, IsFileSlot}
@@ -68,10 +68,6 @@ file_within n slot good = record {
 pub file_rows : (n : ℕ) (slot : FileSlot) → IsFileSlot n slot → AreRows n (rows_of slot)
 file_rows n slot good = let rows = file_within n slot good in record { within = rows.ports; levels = rows.levels }
 
-ports-first : (n : ℕ) → (places_at_first n).ports ≡ n
-unfolding places_at_first
-ports-first n = refl
-
 empty_within : (n : ℕ) → IsWithin n empty_row
 empty_within n level j kind has = absurd (IsEmptyRow-empty level j kind has)
 
@@ -87,7 +83,7 @@ good_at_first n some few = record {
   };
   whole = IsMatch-unmatched n;
   at_ports = AreAtPorts-at_first n some few;
-  ports = ports-first n;
+  ports = ports-at_first n;
 }
 
 module _ (scheduler : Scheduler) (scheduling : IsScheduler scheduler) where

@@ -93,7 +93,7 @@ number_allowed field bytes at number next read =
       | inr e ↦ absurd (let same : Err rest ≡ Ok (number, drop next bytes) = sym (not_good field rest e) ∙ read.reads in cc)
     ]
 
-most_few : (ports : ℕ) → most_slots ports ≤ 262145
+pub most_few : (ports : ℕ) → most_slots ports ≤ 262145
 most_few ports = elim (cases_Bool (nat_lt 32 ports)) [
   | inl e ↦ let same : most_slots ports ≡ 131073 = cond-true (nat_lt 32 ports) 131073 262145 e in omega arith
   | inr e ↦ let same : most_slots ports ≡ 262145 = cond-false (nat_lt 32 ports) 131073 262145 e in omega arith

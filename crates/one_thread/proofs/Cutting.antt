@@ -4,18 +4,17 @@ use Rattle.std.proofs.Common.{◌∙◌, ap, arith, length-append}
 use Rattle.std.specs.Prelude.{All, nat_lt, ◌&&◌, filter, sum, sum_by, slice_get, if◌then◌else◌}
 use Rattle.std.specs.List.{concat}
 use Rattle.std.specs.Int.{bit_at}
-use Rattle.std.proofs.lemmas.Bool.{eq-eqb, eqb-true}
+use Rattle.std.proofs.lemmas.Bool.{eqb-true}
 use Rattle.std.proofs.lemmas.List.{length-take}
 use Rattle.std.proofs.lemmas.List.Elements.{All-append, All-cons, All-filter, All-head, All-map, All-nil, All-same, All-tail, filter_passes}
 use Rattle.std.proofs.lemmas.List.Sums.{sum-map, sum_by-cons}
 use Rattle.std.proofs.lemmas.Nat.Bits.{bit_at-zero}
 use Rattle.std.proofs.lemmas.Option.{slice_get-get_or}
 use Rattle.std.specs.Cmp.{second_so}
+use Rattle.card_core.proofs.Delivering.{of_own}
 use Rattle.rotating_pick.specs.declared.kinds.Kind.{Kind}
-use Rattle.rotating_pick.specs.declared.kinds.Kind.TheVariants.{Uni, Multi}
 use Rattle.cell_cutter.specs.declared.cell.Cell.{Cell}
 use Rattle.cell_cutter.specs.Messages.{message_header}
-use Rattle.eslip_rounds.specs.Decisions.{is_kind}
 use Rattle.eslip_rounds.specs.Schedulers.{Scheduler, IsScheduler}
 use Rattle.slot_match.specs.declared.matching.Served.{Served}
 use Rattle.card_core.specs.declared.outcome.CardOut.{CardOut}
@@ -44,13 +43,6 @@ All-right : {X : Type 0} (P : X → Type 0) (xs ys : List X) → All P (xs ++ ys
 All-right P [] ys all = all
 All-right P (x ∷ xs) ys all = All-right P xs ys (All-tail P x (xs ++ ys) all)
 
-kind_is_itself : (kind : Kind) → is_kind kind kind ≡ true
-kind_is_itself Uni = refl
-kind_is_itself Multi = refl
-
-of_its_flow : (cell : Cell) → is_of_flow cell.input cell.level cell.kind cell ≡ true
-of_its_flow cell = rw (eq-eqb cell.input cell.input refl, eq-eqb cell.level cell.level refl, kind_is_itself cell.kind) refl
-
 -- a cell of one of so many inputs and levels
 abbrev IsOfPort : ℕ → ℕ → Cell → Type 0
 IsOfPort n levels cell = (cell.input < n) × (cell.level < levels)
@@ -62,7 +54,7 @@ all_flows P n levels before (cell ∷ cells) ports flows =
     let here = All-head (IsOfPort n levels) cell cells ports in
     let first : All P ((if is_of_flow cell.input cell.level cell.kind cell then ended_by before cell else [])
     ++ messages_from cell.input cell.level cell.kind (before ++ cell ∷ []) cells) = flows cell.input cell.level cell.kind here.0 here.1 in
-    let mine = rw (of_its_flow cell) at first in
+    let mine = rw (of_own cell) at first in
     All-append P (ended_by before cell) (messages_after (before ++ cell ∷ []) cells)
     (All-left P (ended_by before cell) (messages_from cell.input cell.level cell.kind (before ++ cell ∷ []) cells) mine)
     (all_flows P n levels (before ++ cell ∷ []) cells (All-tail (IsOfPort n levels) cell cells ports)

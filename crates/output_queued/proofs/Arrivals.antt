@@ -26,7 +26,6 @@ pub twice-more : (x : Tally) (a b n : ℕ) → n ≡ a + b → with_cells (with_
 twice-more x a b n is = tally-by (x.came + a + b) (x.came + n) x.given x.ran x.line (omega arith)
 
 module _ (ports depth slot : ℕ) (served : ℕ → List (Option Served)) (old : List Source) where
-
   -- an input that is next stands as before
   module _ (stand : Stand ports depth slot old served) (k : ℕ) (now : List Source) (counted tallies : List Tally)
       (so_far : HaveEntered ports depth slot k served old now counted tallies) (inside : k < ports) where

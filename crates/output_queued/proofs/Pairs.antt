@@ -2,6 +2,7 @@
 use Rattle.std.proofs.Common.{◌≡◌, ◌∙◌, ℕ, ◌<◌, ◌==◌, Bool, true, false, List, [], length, Option, None, Some, slice_index_or, refl, sym, ap, subst}
 use Rattle.std.proofs.Common.{inl, inr, if◌then◌else◌}
 use Rattle.std.proofs.lemmas.Bool.{eq-eqb, eqb-true, and_from, and_parts}
+use Rattle.card_core.proofs.Carding.{kinds_differ}
 use Rattle.rotating_pick.specs.declared.kinds.Kind.{Kind}
 use Rattle.rotating_pick.specs.declared.kinds.Kind.TheVariants.{Uni, Multi}
 use Rattle.slot_match.specs.declared.rows.Row.{Row}
@@ -26,9 +27,6 @@ use Rattle.card_core.proofs.Arriving.{is_queue-refl}
 use Rattle.output_queued.specs.Switches.{Matched}
 use Rattle.output_queued.proofs.Shares.{over, over-none, over-one, over-same, grant_for, IsTo, unicast, multicast}
 
-not_both : {A : Type 0} (kind : Kind) → kind ≡ Uni → kind ≡ Multi → A
-not_both kind uni multi = cc
-
 -- the queue of an input from which it feeds output j, at a level with a kind
 abbrev pub to_queue : ℕ → ℕ → Kind → Queue
 to_queue j level Uni = OfOutput j level
@@ -49,7 +47,7 @@ module _ (n : ℕ) (matched : Matched) (whole : IsMatch n matched) (i : ℕ) whe
           named = λ j has. named j part.level part.kind ((mine.outputs j).0 has);
           one = λ uni j k has again. elim (whole.once i j part.level part.kind k part.level part.kind ((mine.outputs j).0 has) ((mine.outputs k).0 again)) [
             | inl same ↦ same
-            | inr twice ↦ not_both part.kind uni twice.1
+            | inr twice ↦ absurd (kinds_differ (sym uni ∙ twice.1))
           ];
           level = let first = mine.some in whole.level_in i first.0 part.level part.kind ((mine.outputs first.0).0 first.1);
         }

@@ -4,7 +4,6 @@ use Rattle.std.proofs.lemmas.Bool.{cases_eq}
 use Rattle.std.proofs.lemmas.List.{get_or-set_same, get_or-set_other}
 
 module _ {X : Type 0} where
-
   -- what holds of the new one at its place, and of the others, holds of all
   pub set-case : (d : X) (P : ℕ → X → Type 0) (xs : List X) (i : ℕ) (x : X) → i < length xs → P i x → (k : ℕ) → ((k ≡ i → ⊥) → P k (slice_index_or xs k d))
       → P k (slice_index_or (slice_set xs i x) k d)

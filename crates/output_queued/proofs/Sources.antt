@@ -84,7 +84,7 @@ good-card n depth coming part = record {
       let (c, at, same) = planned-at coming k p there in
       let is = part.input.packets k c at in
       let few = bytes-in coming k c at in
-      let whole = length-replicate (sum_by (λ (d : Coming). bytes_for d.cells) coming) 0 in
+      let whole = length-replicate {A = ℕ} (sum_by (λ (d : Coming). bytes_for d.cells) coming) 0 in
       let cells = is.few in
       let some = is.some in
       subst (IsPlanned n (length (replicate {A = ℕ} (sum_by (λ (d : Coming). bytes_for d.cells) coming) 0))) same (record {
@@ -102,7 +102,7 @@ good-card n depth coming part = record {
       let second : d.slot ≡ r.arrival = ap (λ (q : Planned). q.arrival) same' in
       omega arith;
   flows = length-replicate (8 * n) 0;
-  sizes = λ k d inside. zeros (8 * n) k d (let long = length-replicate (8 * n) 0 in omega arith);
+  sizes = λ k d inside. zeros (8 * n) k d (let long = length-replicate {A = ℕ} (8 * n) 0 in omega arith);
   messages = omega arith;
   body = omega arith;
 }

@@ -7,6 +7,7 @@ use Rattle.std.proofs.lemmas.Option.{same_Some}
 use Rattle.card_core.specs.declared.plan.Planned.{Planned}
 use Rattle.card_core.specs.Plans.{AreRising}
 use Rattle.std_lemmas.proofs.Filters.{count-cons}
+use Rattle.card_core.proofs.Admitting.{rest-rising}
 
 -- all packets arrive in slot t or later
 abbrev AreFrom : ℕ → List Planned → Type 0
@@ -15,9 +16,6 @@ AreFrom t ps = (j : ℕ) (p : Planned) → slice_get ps j ≡ Some p → t ≤ p
 from_first : (t : ℕ) (p : Planned) (ps : List Planned) → AreRising (p ∷ ps) → t ≤ p.arrival → AreFrom t (p ∷ ps)
 from_first t p ps rising le zero r at = let e : p.arrival ≡ r.arrival = ap (λ (x : Planned). x.arrival) (same_Some p r at) in omega (arith, e, le)
 from_first t p ps rising le (suc j) r at = let up = rising 0 (suc j) p r refl at (omega arith) in omega (arith, up, le)
-
-rest_rising : (p : Planned) (ps : List Planned) → AreRising (p ∷ ps) → AreRising ps
-rest_rising p ps rising k j x y at to less = rising (suc k) (suc j) x y at to (omega arith)
 
 module _ (g : Planned → Bool) where
   -- those that pass and arrive before slot t
@@ -39,7 +37,7 @@ module _ (g : Planned → Bool) where
   early_first t [] rising = ([], refl)
   early_first t (p ∷ ps) rising = elim (cases_lt p.arrival t) [
     | inl before ↦
-        let (rest, is) = early_first t ps (rest_rising p ps rising) in (
+        let (rest, is) = early_first t ps (rest-rising p ps rising) in (
           rest,
           kept p (g p) (filter g ps) (filter (early t) ps) rest is
               ∙ ap (λ (b : Bool). (if b && g p then p ∷ filter (early t) ps else filter (early t) ps) ++ rest) (sym (lt-ltb p.arrival t before)),
@@ -60,5 +58,5 @@ module _ (g : Planned → Bool) where
       let none = ap length (none_early p.arrival (x ∷ ps) (from_first p.arrival x ps rising (omega (arith, same)))) in
       omega (arith, none, length-filter (early p.arrival) (x ∷ ps))
   early_few (x ∷ ps) (suc k) p rising at =
-      let rest = early_few ps k p (rest_rising x ps rising) at in
+      let rest = early_few ps k p (rest-rising x ps rising) at in
       omega (arith, count-cons (early p.arrival) x ps, count-cons g x (take k ps), both_most (nat_lt x.arrival p.arrival) (g x), rest)

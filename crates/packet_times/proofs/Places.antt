@@ -5,6 +5,7 @@ use Rattle.std.proofs.lemmas.Bool.{eqb-true, eq-eqb}
 use Rattle.rotating_pick.specs.declared.limits.TheConstants.{LEVELS}
 use Rattle.std.proofs.lemmas.List.{append-nil}
 use Rattle.std.proofs.lemmas.Nat.{mul-add-lt, same_from_place}
+use Rattle.card_core.proofs.Delivering.{kind_refl}
 use Rattle.rotating_pick.specs.declared.kinds.Kind.{Kind}
 use Rattle.rotating_pick.specs.declared.kinds.Kind.TheVariants.{Uni, Multi}
 use Rattle.reassembly.specs.declared.limits.TheConstants.{FLOWS_PER_INPUT}
@@ -111,10 +112,6 @@ module _ (ports slot output : ℕ) (cell : Option Cell) (old new : List (List �
 all_true : (a b c d : Bool) → a ≡ true → b ≡ true → c ≡ true → d ≡ true → a && (b && c && d) ≡ true
 all_true a b c d p q r s = cc
 
-kind-refl : (k : Kind) → is_kind k k ≡ true
-kind-refl Uni = refl
-kind-refl Multi = refl
-
 -- a last cell ends a message of its flow
 pub ends-own : (ports output place input : ℕ) (cell : Option Cell) (c : Cell) → cell ≡ Some c → c.last ≡ true → input ≡ c.input → input < ports
     → output < ports → c.level < LEVELS
@@ -127,6 +124,6 @@ ends-own ports output place input cell c is last same low few level at =
       goes = refl;
       ends = ap (is_end_of flow) is
           ∙ all_true c.last (c.input == input) (c.level == c.level) (is_kind c.kind c.kind) last (eq-eqb c.input input (sym same))
-          (eq-eqb c.level c.level refl) (kind-refl c.kind);
+          (eq-eqb c.level c.level refl) (kind_refl c.kind);
       is = at;
     }

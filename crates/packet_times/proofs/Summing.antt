@@ -21,6 +21,7 @@ use Rattle.run_laws.proofs.Arrivals.{arrivals_first}
 use Rattle.std_lemmas.proofs.Sums.{sum_by-turn}
 use Rattle.std_lemmas.proofs.Numbers.{below_power}
 use Rattle.std_lemmas.proofs.RangeSums.{sum_by-range_same}
+use Rattle.run_laws.proofs.PacketCells.{some_fan}
 use Rattle.run_outcomes.specs.Outcomes.{admitted_count, dropped_count, summary_under}
 use Rattle.packet_departures.specs.Promises.{leaves_by}
 use Rattle.packet_departures.proofs.Copies.{counted}
@@ -56,8 +57,6 @@ count-flat test f (x ∷ xs) =
     ∙ sym (sum_by-cons (λ z. count_by test (f z)) x xs)
 
 -- ---- the outputs of a packet
-routed-fan : (p : Planned) → is_routed p ≡ true → p.fan ≢ 0
-routed-fan p routed none = let clash : false ≡ true = sym (ap not (eq-eqb p.fan 0 none)) ∙ routed in absurd (cc)
 
 has-one : (n fan : ℕ) → n ≤ 64 → fan < 2 ^ n → fan ≢ 0 → (j : ℕ) × Has fan j
 has-one n fan few among some = Has-some fan (below_power n fan few among) (λ none. some (zero-no_members fan none))
@@ -70,7 +69,7 @@ module _ (scheduler : Scheduler) (plan : SwitchPlan) (good : IsGood plan) (slots
       let card = good-card plan good i inside in
       let is = card.good.packets k p at in
       let few = card.good.size in
-      let member = has-one (card_at plan i).ports p.fan few is.fan (routed-fan p routed) in
+      let member = has-one (card_at plan i).ports p.fan few is.fan (some_fan p routed) in
       let ports = card.ports in
       let to : member.0 < ports_of plan = let below = Has-lt (card_at plan i).ports p.fan member.0 is.fan member.1 in omega (arith, below, ports) in
       some-in (has p.fan) 0 (ports_of plan) member.0 (omega arith) (omega (arith, to)) (eq-eqb _ 1 member.1)

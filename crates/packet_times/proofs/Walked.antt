@@ -1,15 +1,16 @@
 -- The packets of an input, one after the other: what of each is counted, and its departures.
 use Rattle.std.proofs.Common.{◌≡◌, ◌∙◌, ℕ, ◌+◌, ◌^◌, ◌<◌, ◌≤◌, ◌==◌, ◌&&◌, Bool, true, false, List, [], length, take, Some, slice_get}
-use Rattle.std.proofs.Common.{slice_index, slice_index_or, refl, sym, ap, subst, arith, inl, inr, replicate, length-take, if◌then◌else◌}
-use Rattle.std.proofs.lemmas.Bool.{cases_eq, eqb-true, eq-eqb, lt-ltb, both_ways}
+use Rattle.std.proofs.Common.{slice_index, slice_index_or, refl, sym, ap, subst, arith, replicate, length-take, if◌then◌else◌}
+use Rattle.std.proofs.lemmas.Bool.{eqb-true, eq-eqb, lt-ltb, both_ways}
 use Rattle.std.proofs.lemmas.List.{get_or_default, length-replicate}
 use Rattle.std.proofs.lemmas.List.Sums.{count_by-le-length, count_by_more_yes, count_by_more_no}
-use Rattle.std.proofs.lemmas.Nat.Bits.{bit_at-pow_other}
 use Rattle.std.proofs.lemmas.Option.{get_or_from_slice_get, slice_get-get_or, slice_get_within}
 use Rattle.std_lemmas.proofs.Lists.{get_or-same}
+use Rattle.run_laws.proofs.FlowCells.{level_to, kind_to}
+use Rattle.rotating_pick.proofs.Members.{only_member}
+use Rattle.card_core.proofs.After.{level-queue}
 use Rattle.rotating_pick.specs.PortSets.{Has}
 use Rattle.rotating_pick.specs.declared.kinds.Kind.{Kind}
-use Rattle.rotating_pick.specs.declared.kinds.Kind.TheVariants.{Uni, Multi}
 use Rattle.rotating_pick.specs.declared.limits.TheConstants.{LEVELS, MAX_PORTS}
 use Rattle.eslip_rounds.specs.Schedulers.{Scheduler}
 use Rattle.slot_histories.specs.Tests.{has}
@@ -32,36 +33,16 @@ use Rattle.packet_times.proofs.Places.{kind_few, kind_same}
 use Rattle.packet_times.proofs.Told.{admitted-at}
 
 -- ---- the queue of a packet
-level-if : (b : Bool) (j level : ℕ) → level_of (if b then OfOutput j level else OfLevel level) ≡ level
-level-if true j level = refl
-level-if false j level = refl
-
-pub queue-level : (p : Planned) → level_of (queue_of p) ≡ p.level
-queue-level p = level-if (p.fan == 2 ^ last_port MAX_PORTS p.fan) (last_port MAX_PORTS p.fan) p.level
-
-only-bit : (k j : ℕ) → Has (2 ^ k) j → j ≡ k
-only-bit k j is = elim (cases_eq j k) [
-  | inl e ↦ e
-  | inr ne ↦ let none = bit_at-pow_other k j ne in absurd (omega (arith, none, is))
-]
 
 own-if : (b : Bool) (fan last level j : ℕ) → (b ≡ true → fan ≡ 2 ^ last) → Has fan j
     → queue_to j level (kind_of (if b then OfOutput last level else OfLevel level)) ≡ (if b then OfOutput last level else OfLevel level)
-own-if true fan last level j is member = ap (λ k. OfOutput k level) (only-bit last j (subst (λ f. Has f j) (is refl) member))
+own-if true fan last level j is member = ap (λ k. OfOutput k level) (only_member last j (subst (λ f. Has f j) (is refl) member))
 own-if false fan last level j is member = refl
 
 own-queue : (p : Planned) (j : ℕ) → Has p.fan j → queue_to j p.level (kind_of (queue_of p)) ≡ queue_of p
 own-queue p j member =
     let last = last_port MAX_PORTS p.fan in
     own-if (p.fan == 2 ^ last) p.fan last p.level j (λ e. eqb-true p.fan (2 ^ last) e) member
-
-level-to : (j level : ℕ) (kind : Kind) → level_of (queue_to j level kind) ≡ level
-level-to j level Uni = refl
-level-to j level Multi = refl
-
-kind-to : (j level : ℕ) (kind : Kind) → kind_of (queue_to j level kind) ≡ kind
-kind-to j level Uni = refl
-kind-to j level Multi = refl
 
 -- ---- whether a packet goes by a flow
 goes-parts : (a b c d : Bool) → (a && b && c) && d ≡ true → (b ≡ true) × (d ≡ true)
@@ -122,8 +103,8 @@ module _ (scheduler : Scheduler) (plan : SwitchPlan) (slots k : ℕ) (p : Planne
       step-yes goes =
           let both = goes-parts _ (is_queue (queue_to flow.output flow.level flow.kind) (queue_of p)) _ (has p.fan flow.output) goes in
           let same = is_queue-same (queue_to flow.output flow.level flow.kind) (queue_of p) (both.0) in
-          let level : flow.level ≡ p.level = sym (level-to flow.output flow.level flow.kind) ∙ ap level_of same ∙ queue-level p in
-          let kind : flow.kind ≡ kind_of (queue_of p) = sym (kind-to flow.output flow.level flow.kind) ∙ ap kind_of same in
+          let level : flow.level ≡ p.level = sym (level_to flow.output flow.level flow.kind) ∙ ap level_of same ∙ level-queue p in
+          let kind : flow.kind ≡ kind_of (queue_of p) = sym (kind_to flow.output flow.level flow.kind) ∙ ap kind_of same in
           let place : own_place flow.output flow.level flow.kind ≡ own_place flow.output p.level (kind_of (queue_of p)) =
           ap (λ l. own_place flow.output l flow.kind) level ∙ ap (own_place flow.output p.level) kind in
           let size = good.size.most in
@@ -213,11 +194,11 @@ module _ (scheduler : Scheduler) (plan : SwitchPlan) (slots : ℕ) (times : Time
         ≡ departure_under scheduler plan slots outcome.input output outcome.number outcome.packet
     departure-is output counts kind same inside gone =
         let flow = flow_of outcome.input output outcome.packet in
-        let low : level_of (queue_of outcome.packet) < LEVELS = subst (λ l. l < LEVELS) (sym (queue-level outcome.packet)) planned-is.level in
+        let low : level_of (queue_of outcome.packet) < LEVELS = subst (λ l. l < LEVELS) (sym (level-queue outcome.packet)) planned-is.level in
         let flows : IsFlow (ports_of plan) flow = record { input = is.input; output = inside; level = low } in
         ap (λ (l : ℕ). slice_get (slice_index_or times.ends
         (flow_place (ports_of plan) (record { input = outcome.input; output = output; level = l; kind = kind })) [])
-        (slice_index counts (own_place output l kind))) (sym (queue-level outcome.packet))
+        (slice_index counts (own_place output l kind))) (sym (level-queue outcome.packet))
         ∙ ap (λ (k : Kind). slice_get
         (slice_index_or times.ends (flow_place (ports_of plan) (record { input = outcome.input; output = output; level = flow.level; kind = k })) [])
         (slice_index counts (own_place output flow.level k))) same

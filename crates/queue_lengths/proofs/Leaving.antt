@@ -9,6 +9,7 @@ use Rattle.std.proofs.Math.ListN.{get_or-append}
 use Rattle.std.proofs.Math.Seq.{get_or-append_seam}
 use Rattle.std.proofs.lemmas.List.{get_or-set_same, get_or-set_other}
 use Rattle.std_lemmas.proofs.Numbers.{cases_pair}
+use Rattle.card_core.proofs.Carding.{kinds_differ}
 use Rattle.rotating_pick.specs.PortSets.{Has, IsAmong}
 use Rattle.rotating_pick.specs.declared.kinds.Kind.{Kind}
 use Rattle.rotating_pick.specs.declared.kinds.Kind.TheVariants.{Uni, Multi}
@@ -37,9 +38,6 @@ use Rattle.queue_lengths.specs.Lengths.{IsQueue, place_of, count_of, length_in}
 use Rattle.queue_lengths.specs.Counters.{Counters, AreServable, CountBefore, CountIn}
 use Rattle.queue_lengths.specs.Steps.{is_last, place_left}
 use Rattle.queue_lengths.proofs.Places.{place-inside, place-same, queue_unicast}
-
-kinds_differ : Uni ≡ Multi → ⊥
-kinds_differ e = absurd (cc)
 
 -- ---- the row of a slot depends on the parts before it alone
 row-more : (plan : Plan) (served more : List (Option Served)) (t : ℕ) → t ≤ length served → row_at plan (served ++ more) t ≡ row_at plan served t

@@ -27,14 +27,14 @@ count_if true k size fan = cells_count k size fan
 count_if false k size fan = refl
 
 -- ---- what a slot serves makes no queue longer
-gone_fewer : (s : Passed) → length (waiting (head_gone s)) ≤ length (waiting s)
+pub gone_fewer : (s : Passed) → length (waiting (head_gone s)) ≤ length (waiting s)
 gone_fewer s = omega (arith, length-drop (s.left + 1) s.entered, length-drop s.left s.entered)
 
-if_fewer : (s : Passed) (since : List (Option Served)) (b : Bool) → length (waiting (if b then head_gone s else with_since s since)) ≤ length (waiting s)
+pub if_fewer : (s : Passed) (since : List (Option Served)) (b : Bool) → length (waiting (if b then head_gone s else with_since s since)) ≤ length (waiting s)
 if_fewer s since true = gone_fewer s
 if_fewer s since false = omega arith
 
-part_of_fewer : (q : Queue) (s : Passed) (part : Option Served) (w : List FanCell) → length (waiting (after_part_of q s part w)) ≤ length (waiting s)
+pub part_of_fewer : (q : Queue) (s : Passed) (part : Option Served) (w : List FanCell) → length (waiting (after_part_of q s part w)) ≤ length (waiting s)
 part_of_fewer q s part [] = omega arith
 part_of_fewer q s part (c ∷ w) = if_fewer s (part ∷ s.since) (rest_of q (with_since s (part ∷ s.since)) == 0)
 

@@ -1,17 +1,18 @@
 -- The numbers of a queue over the first slots, with those of one slot more.
-use Rattle.std.proofs.Common.{◌≡◌, ◌∙◌, ℕ, zero, suc, ◌+◌, ◌<◌, ◌≤◌, ◌==◌, ◌&&◌, not, nat_lt, max, Bool, true, false, List, [], ◌∷◌, ◌++◌, length}
-use Rattle.std.proofs.Common.{drop, Option, Some, None, slice_get, slice_index_or, refl, sym, ap, arith, inl, inr, if◌then◌else◌, length-drop}
+use Rattle.std.proofs.Common.{◌≡◌, ◌∙◌, ℕ, zero, suc, ◌+◌, ◌<◌, ◌≤◌, ◌&&◌, not, nat_lt, max, Bool, true, false, List, [], ◌∷◌, ◌++◌, length}
+use Rattle.std.proofs.Common.{drop, Option, Some, None, slice_get, slice_index_or, refl, sym, ap, arith, inl, inr, if◌then◌else◌}
 use Rattle.std.specs.List.{sum_by}
 use Rattle.std.proofs.lemmas.Bool.{cases_eq, eq-eqb, ne_eqb, lt-ltb, le-ltb, ltb-true}
 use Rattle.std.proofs.lemmas.List.{append-nil}
 use Rattle.std.proofs.lemmas.List.Sums.{sum_by-cons}
 use Rattle.std_lemmas.proofs.Bools.{if_within}
 use Rattle.std_lemmas.proofs.Numbers.{lt_suc-other}
+use Rattle.queue_lengths.proofs.Lengths.{part_of_fewer}
+use Rattle.card_core.proofs.Admitting.{rest-rising, rest-later}
 use Rattle.slot_match.specs.declared.matching.Served.{Served}
-use Rattle.multicast_queue.specs.FanQueues.{FanCell}
 use Rattle.card_core.specs.declared.plan.Planned.{Planned}
 use Rattle.card_core.specs.Plans.{Plan, Queue, AreRising, IsGoodPlan, is_queue, queue_of, size_of, arriving, arriving_from}
-use Rattle.card_core.specs.Queues.{Passed, waiting, rest_of, with_since, with_arrival, head_gone, after_part_of, is_routed, fits, coming, before}
+use Rattle.card_core.specs.Queues.{Passed, waiting, with_arrival, is_routed, fits, coming, before}
 use Rattle.card_core.specs.Queues.{queue_in, is_admitted, enters}
 use Rattle.card_core.proofs.Passing.{arriving-there}
 use Rattle.card_core.proofs.Taking.{before-more, queue_in-more}
@@ -23,12 +24,6 @@ use Rattle.queue_measures.specs.Steps.{with_packet}
 -- all packets arrive in slot t or later
 abbrev AreFrom : ℕ → List Planned → Type 0
 AreFrom t ps = (j : ℕ) (p : Planned) → slice_get ps j ≡ Some p → t ≤ p.arrival
-
-rest-rising : (p : Planned) (ps : List Planned) → AreRising (p ∷ ps) → AreRising ps
-rest-rising p ps rising k j x y at to less = rising (suc k) (suc j) x y at to (omega arith)
-
-rest-later : (p : Planned) (ps : List Planned) (t : ℕ) → AreRising (p ∷ ps) → p.arrival ≡ t → AreFrom (suc t) ps
-rest-later p ps t rising now j r at = let up = rising 0 (suc j) p r refl at (omega arith) in omega arith
 
 -- ---- the weight of the packets that arrive in the first slots and pass a test
 module _ (test : Planned → Bool) (weight : Planned → ℕ) where
@@ -111,16 +106,6 @@ first_greatest-same f g (suc t) same =
     rw (less, most, here) refl
 
 -- ---- what a slot serves makes no queue longer
-gone_fewer : (s : Passed) → length (waiting (head_gone s)) ≤ length (waiting s)
-gone_fewer s = omega (arith, length-drop (s.left + 1) s.entered, length-drop s.left s.entered)
-
-if_fewer : (s : Passed) (since : List (Option Served)) (b : Bool) → length (waiting (if b then head_gone s else with_since s since)) ≤ length (waiting s)
-if_fewer s since true = gone_fewer s
-if_fewer s since false = omega arith
-
-part_of_fewer : (q : Queue) (s : Passed) (part : Option Served) (w : List FanCell) → length (waiting (after_part_of q s part w)) ≤ length (waiting s)
-part_of_fewer q s part [] = omega arith
-part_of_fewer q s part (c ∷ w) = if_fewer s (part ∷ s.since) (rest_of q (with_since s (part ∷ s.since)) == 0)
 
 -- whether the packet that arrives is for the queue
 abbrev pub is_coming_for : Queue → Option (ℕ × Planned) → Bool

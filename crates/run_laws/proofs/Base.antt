@@ -6,8 +6,8 @@ use Rattle.std.proofs.lemmas.Bool.{cases_lt}
 use Rattle.std.proofs.lemmas.List.FromFn.{length-map-range_with_len, get_or-map-range_with_len, map-range_with_len_more}
 use Rattle.std.proofs.lemmas.Option.{slice_get-get_or}
 use Rattle.std.proofs.lemmas.Simd.{map-map}
+use Rattle.card_core.proofs.Carding.{kinds_differ}
 use Rattle.rotating_pick.specs.declared.kinds.Kind.{Kind}
-use Rattle.rotating_pick.specs.declared.kinds.Kind.TheVariants.{Uni, Multi}
 use Rattle.slot_match.specs.declared.matching.Served.{Served}
 use Rattle.slot_match.specs.Rows.{Names, AreWithin, IsWithin, IsOfLevels}
 use Rattle.slot_match.specs.Matches.{Serves}
@@ -33,8 +33,6 @@ use Rattle.run_laws.specs.Runs.{ports_of, setup_for, card_at, no_plan, rows_in, 
 use Rattle.run_laws.proofs.SameParts.{before-alike, queue_in-alike, row_at-alike, granted_to-alike}
 
 -- ---- what a slot serves of rows within the ports
-not_both : {A : Type 0} (kind : Kind) → kind ≡ Uni → kind ≡ Multi → A
-not_both kind uni multi = cc
 
 module _ (scheduler : Scheduler) (s : Setup) (posts : ℕ → ℕ → CardPost) (t : ℕ) (sound : IsSoundDecision s.ports (decision_under scheduler s posts t))
     (slot : IsSlotBy StayAtPorts s.ports s.rounds t (slot_rows s.ports posts t) (places_under scheduler s posts t) (decision_under scheduler s posts t)) where
@@ -55,7 +53,7 @@ module _ (scheduler : Scheduler) (s : Setup) (posts : ℕ → ℕ → CardPost) 
         named = λ j has. pair-named i j part.level part.kind inside ((mine.outputs j).0 has);
         one = λ uni j k has again. elim (matches.once i j part.level part.kind k part.level part.kind ((mine.outputs j).0 has) ((mine.outputs k).0 again)) [
           | inl same ↦ same
-          | inr twice ↦ not_both part.kind uni twice.1
+          | inr twice ↦ absurd (kinds_differ (sym uni ∙ twice.1))
         ];
         level = let first = mine.some in matches.level_in i first.0 part.level part.kind ((mine.outputs first.0).0 first.1);
       }

@@ -1,5 +1,5 @@
 -- Each cell that crosses is the next of its flow and has room.
-use Rattle.std.proofs.Common.{◌≡◌, ◌∙◌, ℕ, zero, suc, ◌+◌, ◌*◌, ◌^◌, ◌<◌, ◌≤◌, ◌==◌, Bool, true, false, List, [], ◌∷◌, ◌++◌, map, take, length, sum_by}
+use Rattle.std.proofs.Common.{◌≡◌, ◌∙◌, ℕ, zero, suc, ◌+◌, ◌*◌, ◌^◌, ◌<◌, ◌≤◌, ◌==◌, Bool, true, List, [], ◌∷◌, ◌++◌, map, take, length, sum_by}
 use Rattle.std.proofs.Common.{Option, Some, None, slice_index_or, refl, sym, ap, subst, arith, if◌then◌else◌, append_assoc}
 use Rattle.std.specs.Prelude.{slice_index}
 use Rattle.std.specs.List.{range_with_len, concat}
@@ -10,6 +10,7 @@ use Rattle.std.proofs.lemmas.List.Elements.{filter-append}
 use Rattle.std.proofs.lemmas.List.FromFn.{length-map-range_with_len, map-range_with_len_more}
 use Rattle.std.proofs.lemmas.List.Sums.{sum_by-cons, sum_by-append}
 use Rattle.std.proofs.Math.Seq.{take-add}
+use Rattle.card_core.proofs.After.{level-if}
 use Rattle.rotating_pick.specs.declared.kinds.Kind.{Kind}
 use Rattle.rotating_pick.specs.declared.limits.TheConstants.{LEVELS}
 use Rattle.cell_cutter.specs.declared.cell.Cell.{Cell}
@@ -21,7 +22,7 @@ use Rattle.reassembly.specs.Flows.{Flow, Fits, fresh, place_of, flow_of, bytes_w
 use Rattle.reassembly.specs.Cutting.{Stands, rest_after, joined}
 use Rattle.reassembly.specs.Filling.{begun_with}
 use Rattle.reassembly.proofs.Taking.{Fits-next}
-use Rattle.card_core.specs.Plans.{Plan, OfOutput, OfLevel, level_of, kind_of, queue_of, last_port}
+use Rattle.card_core.specs.Plans.{Plan, level_of, kind_of, queue_of, last_port}
 use Rattle.card_core.specs.Deliveries.{is_of_flow, flow_cells, message_with, delivered}
 use Rattle.card_core.specs.Cards.{Received, HasReceived, MayReceiveAny, flow_at}
 use Rattle.card_core.proofs.Delivering.{delivered-push}
@@ -67,10 +68,6 @@ size_at : (flows : List Flow) (place : ℕ) → (slice_index_or flows place (fre
 size_at [] place = refl
 size_at (f ∷ flows) zero = refl
 size_at (f ∷ flows) (suc place) = size_at flows place
-
-level_for : (b : Bool) (output level : ℕ) → level_of (if b then OfOutput output level else OfLevel level) ≡ level
-level_for true output level = refl
-level_for false output level = refl
 
 -- ---- the room of messages
 length_concat : (lists : List (List ℕ)) → length (concat lists) ≡ sum_by length lists
@@ -135,7 +132,7 @@ module _ (scheduler : Scheduler) (scheduling : IsScheduler scheduler) (plan : Sw
         let begun : flow ≡ begun_with flow.size m k = flow_begun i level kind m k flow flow_before stands next.begun in
         let size : flow.size ≡ slice_index (card_at plan j).sizes (place_of i level kind) = size_at r.flows.flows (place_of i level kind)
         ∙ ap (λ xs. slice_index xs (place_of i level kind)) had.sizes in
-        let levels : p.level ≡ level = sym (level_for (p.fan == 2 ^ last_port 64 p.fan) (last_port 64 p.fan) p.level) ∙ ap level_of (sym of.queue)
+        let levels : p.level ≡ level = sym (level-if (p.fan == 2 ^ last_port 64 p.fan) (last_port 64 p.fan) p.level) ∙ ap level_of (sym of.queue)
         ∙ level_to j level kind in
         let kinds : kind_of (queue_of p) ≡ kind = ap kind_of (sym of.queue) ∙ kind_to j level kind in
         let enough = size-enough plan good i j of.place p inside to of.there of.goes in

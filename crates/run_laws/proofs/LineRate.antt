@@ -5,6 +5,7 @@ use Rattle.std.proofs.Common.{None, refl, sym, ap, subst, arith, append-nil}
 use Rattle.std.specs.Prelude.{slice_index_or}
 use Rattle.std.specs.List.{range_with_len}
 use Rattle.std.proofs.lemmas.Option.{same_Some}
+use Rattle.card_core.proofs.Arriving.{coming-else}
 use Rattle.rotating_pick.specs.declared.kinds.Kind.TheVariants.{Uni}
 use Rattle.slot_match.specs.declared.matching.Served.{Served}
 use Rattle.slot_match.specs.Rows.{Names, row_of}
@@ -30,12 +31,6 @@ none_wait : (cells : List FanCell) → has_cells cells ≡ false → cells ≡ [
 none_wait [] is = refl
 none_wait (c ∷ cells) is = absurd (cc)
 
--- where the second of three tests fails, nothing comes
-none_if : (routed own fit : Bool) (cells : List FanCell) → own ≡ false → (if routed && own && fit then cells else []) ≡ []
-none_if true true fit cells is = absurd (cc)
-none_if true false fit cells is = refl
-none_if false own fit cells is = refl
-
 module _ (card : Plan) (q : Queue) where
   -- a queue without cells to which none come has none
   still_none : (s : Passed) (cells : List FanCell) → waiting s ≡ [] → cells ≡ [] → has_cells (drop s.left (s.entered ++ cells)) ≡ true → ⊥
@@ -54,7 +49,7 @@ module _ (card : Plan) (q : Queue) where
   of_packet s k p true empty is some = ((k, p), refl, is_queue-same q (queue_of p) is)
   of_packet s k p false empty is some =
       absurd (still_none s (if is_routed p && is_queue q (queue_of p) && fits card s p then cells_with_fan k (size_of p) p.fan else []) empty
-      (none_if (is_routed p) (is_queue q (queue_of p)) (fits card s p) (cells_with_fan k (size_of p) p.fan) is) some)
+      (coming-else (is_routed p) (is_queue q (queue_of p)) (fits card s p) (cells_with_fan k (size_of p) p.fan) is) some)
 
   by_arrival : (s : Passed) (arrives : Option (ℕ × Planned)) → waiting s ≡ [] → has_cells (waiting (with_arrival card q arrives s)) ≡ true → Comes arrives
   by_arrival s None empty some = absurd (still_none s [] empty refl some)

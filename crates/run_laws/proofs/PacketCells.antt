@@ -35,7 +35,7 @@ pub record IsMessageTo (plan : Plan) (q : Queue) (j : ℕ) (message : List ℕ) 
   pub is : message ≡ message_of plan packet
 
 -- ---- the cells of a packet
-some_fan : (p : Planned) → is_routed p ≡ true → p.fan ≢ 0
+pub some_fan : (p : Planned) → is_routed p ≡ true → p.fan ≢ 0
 some_fan p routed none = let e = eq-eqb p.fan 0 none in let r : not (p.fan == 0) ≡ true = routed in let r' : not true ≡ true = rw e at r in absurd (cc)
 
 module _ (plan : Plan) (good : IsGoodPlan plan) (q : Queue) (j : ℕ) where

@@ -46,7 +46,7 @@ by_ports_and_rounds P n rounds general two more = elim (cases_lt 2 n) [
 ]
 
 -- ---- so many slots are enough
-served_by_rounds : (n rounds t level i j : ℕ) (places : Places) (slots : List DecidedSlot) → 0 < rounds → i < n → IsWindow n rounds t level places slots
+pub served_by_rounds : (n rounds t level i j : ℕ) (places : Places) (slots : List DecidedSlot) → 0 < rounds → i < n → IsWindow n rounds t level places slots
     → All (λ slot. IsWithoutMulticast n level slot.rows) slots
     → InFirst (λ rows. Names (row_of rows i) level Uni j) slots → longest_service_by n rounds ≤ length slots
     → Any (λ slot. Serves slot.decision.matched i j level Uni) slots

@@ -38,7 +38,7 @@ IsSoundDecision-slot n rounds t rows before decision at_ports ports slot =
       ports = slot.moved.1 ∙ ports;
     }
 
-ports-at_first : (n : ℕ) → (places_at_first n).ports ≡ n
+pub ports-at_first : (n : ℕ) → (places_at_first n).ports ≡ n
 unfolding places_at_first
 ports-at_first n = refl
 

@@ -80,6 +80,12 @@ got_map f [] k y is = absurd (cc)
 got_map f (x ∷ xs) zero y is = (x, refl, same_Some (f x) y is)
 got_map f (x ∷ xs) (suc k) y is = got_map f xs k y is
 
+-- and the element at a place is what the list's own there is made into
+pub slice_get-map : {X Y : Type 0} (f : X → Y) (xs : List X) (i : ℕ) (d : X) → i < length xs → slice_get (map f xs) i ≡ Some (f (slice_index_or xs i d))
+slice_get-map f [] i d inside = absurd (omega arith)
+slice_get-map f (x ∷ xs) zero d inside = refl
+slice_get-map f (x ∷ xs) (suc i) d inside = slice_get-map f xs i d (omega arith)
+
 -- what is found where one was written
 pub got_set : {A : Type 0} (xs : List A) (k j : ℕ) (x y : A) → slice_get (set xs k x) j ≡ Some y → ((j ≡ k) × (y ≡ x)) ⊎ ((j ≢ k) × (slice_get xs j ≡ Some y))
 got_set [] k j x y is = absurd (cc)

@@ -1,5 +1,5 @@
 -- Sums over the outputs of a run, what bounds them, and the least of some numbers.
-use Rattle.std.proofs.Common.{◌≡◌, ℕ, zero, suc, ◌^◌, ◌<◌, ◌≤◌, Bool, true, false, cond, List, [], ◌∷◌, ◌++◌, length, get_or, map, refl, arith}
+use Rattle.std.proofs.Common.{◌≡◌, ℕ, suc, ◌^◌, ◌<◌, ◌≤◌, Bool, true, false, cond, List, [], ◌∷◌, ◌++◌, length, get_or, map, refl, arith}
 use Rattle.std.specs.Prelude.{Some, Option, None, slice_get, All}
 use Rattle.std.specs.List.{sum_by, filter, range_with_len, flat_map}
 use Rattle.std.specs.Option.{option_to_list}
@@ -8,11 +8,7 @@ use Rattle.std.proofs.lemmas.List.FromFn.{length-range_with_len}
 use Rattle.std.proofs.lemmas.List.Sums.{sum_by-le}
 use Rattle.std.proofs.lemmas.Option.{slice_get-get_or}
 use Rattle.cell_cutter.specs.declared.cell.Cell.{Cell}
-use Rattle.slot_match.specs.declared.matching.Served.{Served}
 use Rattle.slot_board.specs.Boards.{least_of}
-use Rattle.card_core.specs.declared.plan.Planned.{Planned}
-use Rattle.card_core.specs.Plans.{Plan as CardPlan, arriving}
-use Rattle.card_core.specs.Queues.{count_in, count_before}
 use Rattle.card_core.specs.Deliveries.{ended_by, messages_after}
 
 -- sums of small terms over a few elements fit
@@ -26,19 +22,6 @@ sum_fits {X} f xs few each =
 one_at_most : (b : Bool) → cond b 1 0 ≤ 1
 one_at_most true = omega arith
 one_at_most false = omega arith
-
-count_in-le : (wanted : Bool) (plan : CardPlan) (served : List (Option Served)) (t : ℕ) (arrives : Option (ℕ × Planned))
-    → count_in wanted plan served t arrives ≤ 1
-count_in-le wanted plan served t None = omega arith
-count_in-le wanted plan served t (Some (k, packet)) = one_at_most _
-
--- one packet a slot is admitted or dropped
-pub count_before-le : (wanted : Bool) (plan : CardPlan) (served : List (Option Served)) (t : ℕ) → count_before wanted plan served t ≤ t
-count_before-le wanted plan served zero = omega arith
-count_before-le wanted plan served (suc t) =
-    let before = count_before-le wanted plan served t in
-    let here = count_in-le wanted plan served t (arriving plan t) in
-    omega (arith, before, here)
 
 ended-le : (b : Bool) (m : List ℕ) → length (cond b (m ∷ []) []) ≤ 1
 ended-le true m = omega arith

@@ -4,6 +4,7 @@ use Rattle.std.specs.Prelude.{Some, None, Option}
 use Rattle.std.specs.List.{concat}
 use Rattle.std.proofs.lemmas.Bool.{both_ways}
 use Rattle.std.proofs.lemmas.List.FromFn.{length-map-range_with_len}
+use Rattle.card_core.proofs.Posted.{count-few}
 use Rattle.crossbar.specs.declared.cards.Post.{Post}
 use Rattle.crossbar.specs.declared.cards.Taken.{Taken}
 use Rattle.cell_cutter.specs.declared.cell.Cell.{Cell}
@@ -25,7 +26,7 @@ use Rattle.run_laws.specs.Crossings.{cells_under}
 use Rattle.run_laws.specs.Ends.{IsLength}
 use Rattle.run_outcomes.specs.Outcomes.{IsOutputUnder, IsOutput}
 use Rattle.switch_jobs.specs.EndingSteps.{Leaves}
-use Rattle.switch_jobs.proofs.Adding.{count_before-le, messages-le, cells-le}
+use Rattle.switch_jobs.proofs.Adding.{messages-le, cells-le}
 use Rattle.switch_jobs.proofs.Serving.{served_taken, cells_crossed, takings_end}
 
 -- the card was given these of the takings, and posted since or not
@@ -74,8 +75,8 @@ module _ (scheduler : Scheduler) (plan : SwitchPlan) (slots j : ℕ) where
   few_of out is =
       let cells = cells-le (crossed_under scheduler (setup_for plan) (posts_under scheduler plan) j) slots in
       let messages = messages-le [] (cells_under scheduler plan j slots) in
-      let admits = count_before-le true (card_at plan j) (parts_under scheduler plan j slots) slots in
-      let drops = count_before-le false (card_at plan j) (parts_under scheduler plan j slots) slots in
+      let admits = count-few true (card_at plan j) (parts_under scheduler plan j slots) slots in
+      let drops = count-few false (card_at plan j) (parts_under scheduler plan j slots) slots in
       let a = is.packets in
       let b = is.cells in
       let c = is.admitted in

@@ -4,12 +4,12 @@ use Rattle.std.proofs.Common.{Some, if◌then◌else◌, refl, ap, sym, subst, a
 use Rattle.std.specs.Prelude.{map, find, not, ◌==◌, option_map, All}
 use Rattle.std.proofs.lemmas.Bool.Decides.{nat_tests}
 use Rattle.std.proofs.lemmas.Simd.{map-map}
+use Rattle.pcap_records.proofs.Once.{link_once}
 use Rattle.line_pace.specs.declared.pace.Pace.{Pace}
 use Rattle.line_pace.specs.Arrivals.{base_of}
 use Rattle.pcap_records.specs.declared.capture.Capture.{Capture}
 use Rattle.pcap_records.specs.declared.capture.Stored.{Stored}
 use Rattle.pcap_records.specs.declared.link.Link.{Link}
-use Rattle.pcap_records.specs.declared.link.Link.TheVariants.{Ethernet, RawIp}
 use Rattle.pcap_records.specs.Format.{link_type}
 use Rattle.pcap_records.specs.Packets.{packets_of}
 use Rattle.forward_table.specs.declared.route_lines.RouteLine.{RouteLine}
@@ -19,12 +19,6 @@ use Rattle.switch_plan.specs.Refusals.{first_link, mixed_links}
 use Rattle.switch_plan.specs.ReadingSteps.{IsCaptureOf}
 use Rattle.switch_plan.specs.CardSteps.{CanBePlanned, traffic_at}
 use Rattle.switch_plan.proofs.Leasts.{all_come}
-
-link_same : (a b : Link) → link_type a ≡ link_type b → a ≡ b
-link_same Ethernet Ethernet same = refl
-link_same Ethernet RawIp same = absurd (omega arith)
-link_same RawIp Ethernet same = absurd (omega arith)
-link_same RawIp RawIp same = refl
 
 not_found : {A B : Type 0} (f : A → B) (found : Option A) → option_map f found ≡ None → found ≡ None
 not_found f None none = refl
@@ -43,7 +37,7 @@ links_alike : (link : Link) (captures : List Capture)
     → (k : ℕ) (d : Capture) → k < length captures → (slice_index_or captures k d).link ≡ link
 links_alike link [] none k d inside = absurd (omega arith)
 links_alike link (capture ∷ captures) none zero d inside =
-    link_same capture.link link
+    link_once capture.link link
     (same_type (link_type capture.link) (link_type link)
     (none_first (not (link_type capture.link == link_type link)) (link_type capture.link)
     (find (λ other. not (other == link_type link)) (map (λ c. link_type c.link) (map file_of captures))) none).0)

@@ -32,6 +32,7 @@ use Rattle.switch_plan.specs.CountingSteps.{IsForwardable, AreCountable}
 use Rattle.switch_plan.specs.CardSteps.{slots_at, traffic_at, is_long, IsCardFor}
 use Rattle.std_lemmas.proofs.Mapping.{at_zip, length_zip}
 use Rattle.std_lemmas.proofs.MappedSums.{count_map, count_left}
+use Rattle.switch_plan.proofs.RoomBounds.{most_few}
 use Rattle.switch_plan.proofs.Times.{no_stored, length-captured_in}
 use Rattle.switch_plan.proofs.Rising.{arrivals_rise, slots_long, rising_apart, rising_below, rising_few, zip_right}
 use Rattle.switch_plan.proofs.Numbers.{routed, aside_split}
@@ -44,9 +45,6 @@ pub record IsFrom (table : List RouteLine) (link : Link) (bytes : List ℕ) (sto
   pub arrival : packet.arrival ≡ slot
   pub fan : packet.fan ≡ fan_of (route_for table link (captured_in bytes stored))
   pub level : packet.level ≡ level_of (route_for table link (captured_in bytes stored))
-
-most_within : (ports : ℕ) → most_for ports ≤ 131072
-most_within ports = grind (arith, nat_tests)
 
 -- a route that is kept unless the frame is too long
 kept_route : (P : Option Route → Type 0) (long : Bool) (route : Option Route) → P None → P route → P (if long then None else route)
@@ -133,7 +131,7 @@ module _ (ports depth : ℕ) (table : List RouteLine) (pace : Pace) (port : ℕ)
   few_packets =
       let few = rising_few (slots_at pace capture) (arrivals_rise pace 0 (packets_of capture)) in
       let most = is.within in
-      omega (arith, card_long, taken_long, most_within ports)
+      omega (arith, card_long, taken_long, most_few ports)
 
   fan_is_short : (k : ℕ) (d : Planned) → k < length card.packets.items → IsForwardable (slice_index_or card.packets.items k d)
   fan_is_short k d inside goes =
@@ -173,7 +171,7 @@ module _ (ports depth : ℕ) (table : List RouteLine) (pace : Pace) (port : ℕ)
         level = subst (λ l. l < 4) (sym from.level) fan.1;
         fan = subst (λ f. f < 2 ^ ports) (sym from.fan) fan.0;
         forwarded = subst IsForwardable at (fan_is_short k packet inside);
-        early = omega (arith, from.arrival, most_within ports);
+        early = omega (arith, from.arrival, most_few ports);
       }
 
   pub rising : AreRising card.packets.items

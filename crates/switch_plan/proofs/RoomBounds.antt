@@ -8,10 +8,11 @@ use Rattle.std.proofs.Math.Nat.{mul-le-mul_left}
 use Rattle.std.proofs.lemmas.Bool.{eqb-true}
 use Rattle.std.proofs.lemmas.Nat.Bits.{bit_at-zero, bit_at-suc, bit_at_lowest}
 use Rattle.std.proofs.lemmas.List.Elements.{All-nil, All-append, All-map, All-head, All-tail}
-use Rattle.std.proofs.lemmas.List.Sums.{sum_by-cons, sum_by-le-sum_by}
+use Rattle.std.proofs.lemmas.List.Sums.{sum_by-le-sum_by}
 use lib.Count.{ones_step}
 use Rattle.std.specs.Cmp.{first_so}
 use Rattle.std_lemmas.proofs.Bools.{if_within}
+use Rattle.std_lemmas.proofs.Sums.{sum_by-times}
 use Rattle.cell_cutter.specs.Messages.{cells_of_packet}
 use Rattle.card_core.specs.declared.plan.Planned.{Planned}
 use Rattle.switch_plan.specs.Totals.{most_for, goes_to, message_length, flow_of, bytes_to, work_of, total_work, greatest_message, sizes_for}
@@ -42,20 +43,16 @@ message_within output p =
     if_within (goes_to output p) 1 (work_of p) (λ goes. let some = work_some output p goes in omega (arith, some))
 
 -- ---- sums
-times_sum : {A : Type 0} (n : ℕ) (f : A → ℕ) (xs : List A) → sum_by (λ x. n * f x) xs ≡ n * sum_by f xs
-times_sum n f [] = omega arith
-times_sum n f (x ∷ xs) =
-    rw (sum_by-cons f x xs, sum_by-cons (λ x. n * f x) x xs) (omega (arith, times_sum n f xs))
 
 port_bytes_within : (output : ℕ) (packets : List Planned) → sum_by (bytes_to output) packets ≤ 56 * sum_by work_of packets
 port_bytes_within output packets =
-    subst (λ n. sum_by (bytes_to output) packets ≤ n) (times_sum 56 work_of packets)
+    subst (λ n. sum_by (bytes_to output) packets ≤ n) (sum_by-times 56 work_of packets)
     (sum_by-le-sum_by (bytes_to output) (λ p. 56 * work_of p) packets (bytes_within output))
 
 -- the bytes of all messages to an output are within the payloads of all cells
 pub body_within : (output : ℕ) (packets : List (List Planned)) → body_room_for output packets ≤ 56 * total_work packets
 body_within output packets =
-    subst (λ n. body_room_for output packets ≤ n) (times_sum 56 (sum_by work_of) packets)
+    subst (λ n. body_room_for output packets ≤ n) (sum_by-times 56 (sum_by work_of) packets)
     (sum_by-le-sum_by (sum_by (bytes_to output)) (λ ps. 56 * sum_by work_of ps) packets (port_bytes_within output))
 
 -- and no more messages than cells come to it

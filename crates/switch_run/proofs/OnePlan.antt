@@ -37,7 +37,6 @@ use Rattle.switch_run.proofs.OneOutcome.{same_captures, same_table}
 -- ---- the length of a run
 
 module _ (n : ℕ) (posts : ℕ → ℕ → Post) where
-
   -- a slot that is done is one of those before a later slot
   done_earlier : (k m : ℕ) → k < m → is_done_at n posts k ≡ true → is_done_before n posts m ≡ true
   done_earlier k zero less is = absurd (omega arith)

@@ -1,5 +1,6 @@
 -- When the answers come that refuse a job: for its inputs, its journal and its packets file.
 use Rattle.std.proofs.Common.{◌≡◌, ℕ, true, List, Some, inl, inr, sym, ◌∙◌, ap, subst}
+use Rattle.job_files.proofs.Holding.{same_run}
 use Rattle.outside.specs.Contents.{Contents}
 use Rattle.switch_words.specs.Reading.{JobWords, run, check, RunWords, CheckWords}
 use Rattle.named_schedulers.specs.Named.{decision_named}
@@ -61,15 +62,12 @@ long_in job contents size j =
       longer = j.longer;
     }
 
-same_run_words : (r s : RunWords) → run r ≡ run s → s ≡ r
-same_run_words r s same = cc
-
 long_of_run : (r : RunWords) (contents : Contents) (size : ℕ) → IsJournalTooLong (run r) (Some contents) size → IsLongIn r contents size
-long_of_run r contents size j = subst (λ (s : RunWords). IsLongIn s contents size) (same_run_words r j.words j.is_run) (long_in (run r) contents size j)
+long_of_run r contents size j = subst (λ (s : RunWords). IsLongIn s contents size) (same_run r j.words j.is_run) (long_in (run r) contents size j)
 
 -- and it was wanted
 wanted_long : (r : RunWords) (contents : Contents) (size : ℕ) → IsJournalTooLong (run r) (Some contents) size → IsLongIn r contents size × (r.journal ≡ true)
-wanted_long r contents size j = (long_of_run r contents size j, ap (λ (w : RunWords). w.journal) (sym (same_run_words r j.words j.is_run)) ∙ j.wanted)
+wanted_long r contents size j = (long_of_run r contents size j, ap (λ (w : RunWords). w.journal) (sym (same_run r j.words j.is_run)) ∙ j.wanted)
 
 refused_is_not_long : (r : RunWords) (c : Contents) (t u : List ℕ) (xs ys : List (List ℕ)) (fault : PlanFault) (size : ℕ) → AreInputs (run r) (Some c) t xs
     → AreInputs (run r) (Some c) u ys
@@ -108,7 +106,7 @@ packets_in job contents size p = record {
 
 packets_of_run : (r : RunWords) (contents : Contents) (size : ℕ) → IsPacketsTooLong (run r) (Some contents) size → IsLongPacketsIn r contents size
 packets_of_run r contents size p =
-    subst (λ (s : RunWords). IsLongPacketsIn s contents size) (same_run_words r p.words p.is_run) (packets_in (run r) contents size p)
+    subst (λ (s : RunWords). IsLongPacketsIn s contents size) (same_run r p.words p.is_run) (packets_in (run r) contents size p)
 
 -- what is too long of the same files
 packets_elsewhere : (r : RunWords) (c : Contents) (t u : List ℕ) (xs ys : List (List ℕ)) (size : ℕ) → AreInputs (run r) (Some c) t xs

@@ -11,9 +11,6 @@ use Rattle.clap.specs.Lexer.{long_of, short_of}
 use Rattle.clap.specs.Walk.{Text}
 use Rattle.switch_words.specs.Parts.{closing, option, name, refused, value_in, word_of}
 
-abbrev dashes : Text
-dashes = 45 ∷ 45 ∷ []
-
 pub data Lexed (word : Text) : Type 0 where
   closes : bytes_eq word (45 ∷ 45 ∷ []) ≡ true → word_of word ≡ closing → Lexed word
   longs : (n : Text) (v : Option Text) → bytes_eq word (45 ∷ 45 ∷ []) ≡ false → long_of word ≡ Some (n, v) → word_of word ≡ option n v → Lexed word

@@ -1,8 +1,9 @@
-use Rattle.std.proofs.Common.{◌≡◌, ◌∙◌, ◌↔◌, ℕ, ◌<◌, ◌≤◌, Bool, true, false, List, length, length-set, slice_set, refl, sym, ap, subst, arith, inl, inr}
+use Rattle.std.proofs.Common.{◌≡◌, ◌∙◌, ◌↔◌, ℕ, ◌<◌, ◌≤◌, true, false, List, length, length-set, slice_set, refl, sym, ap, subst, arith, inl, inr}
 use Rattle.std.proofs.Common.{if◌then◌else◌}
 use Rattle.std.specs.Prelude.{is_some}
 use Rattle.std.proofs.lemmas.Bool.{cases_eq}
 use Rattle.std.proofs.lemmas.List.{get_or-set_same, get_or-set_other, get_or_read}
+use Rattle.std_lemmas.proofs.Bools.{one_if-le}
 use Rattle.rotating_pick.specs.PortSets.{Has}
 use Rattle.slot_match.specs.Matches.{fed_of}
 use Rattle.output_queued.specs.declared.tally.Tally.{Tally}
@@ -34,10 +35,6 @@ unserved-set old new now out tally below is low others mine = record {
   behind = λ j. set-case no_tally (λ k t. t.ran ≤ t.came) now out tally below low j (λ other. is.behind j);
 }
 
-one_at_most : (b : Bool) → (if b then 1 else 0) ≤ 1
-one_at_most true = omega arith
-one_at_most false = omega arith
-
 pub loop-output-preserved : goal.loop-output-preserved
 loop-output-preserved c =
     let inv = c.loop-output.invariant in
@@ -60,7 +57,7 @@ loop-output-preserved c =
     (subst (λ t. Ticks c.args.slot (if c.is_some.result then 1 else 0) t new) (found ∙ was) ticks) in
     let came = made.came in
     let ran = made.ran in
-    let one = one_at_most (is_some (fed_of c.args.matched.now out)) in
+    let one = one_if-le (is_some (fed_of c.args.matched.now out)) in
     let behind = ours.1 in
     let low : new.ran ≤ new.came = omega arith in
     record {

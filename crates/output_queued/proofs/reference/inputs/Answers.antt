@@ -1,17 +1,15 @@
-use Rattle.std.proofs.Common.{◌≡◌, ◌∙◌, ◌<◌, ℕ, List, [], ◌∷◌, ◌++◌, map, length, slice_get, Some, refl, ap, sym, subst, arith, append_assoc}
+use Rattle.std.proofs.Common.{◌≡◌, ◌∙◌, ◌<◌, ℕ, List, [], ◌∷◌, ◌++◌, map, length, slice_get, Some, refl, ap, sym, subst, arith}
 use Rattle.std.proofs.Common.{length-append, inl, inr}
 use Rattle.std.specs.Vec.Iter.{into_iter_items}
 use Rattle.std.proofs.lemmas.Bool.{cases_eq}
 use Rattle.std.proofs.lemmas.List.{map-append}
 use Rattle.std.proofs.Math.ListN.{get_or-append}
 use Rattle.std.proofs.Math.Seq.{get_or-append_seam}
+use Rattle.std_lemmas.proofs.Lists.{gone_more}
 use Rattle.output_queued.specs.declared.coming.Coming.{Coming}
 use Rattle.output_queued.specs.Switches.{card_for}
 use Rattle.output_queued.specs.NotingSteps.{Source, no_source, source_at, IsBefore}
 use Rattle.output_queued.proofs.reference.inputs.Goals as goal
-
-gone_more : {X : Type 0} (gone rest next whole : List X) (x : X) → gone ++ rest ≡ whole → rest ≡ x ∷ next → (gone ++ x ∷ []) ++ next ≡ whole
-gone_more gone rest next whole x all first = append_assoc gone (x ∷ []) next ∙ ap (λ r. gone ++ r) (sym first) ∙ all
 
 here_of : {X Y : Type 0} (f : X → Y) (gone next : List X) (x : X) → slice_get (map f (gone ++ x ∷ next)) (length gone) ≡ Some (f x)
 here_of f [] next x = refl

@@ -1,8 +1,9 @@
-use Rattle.std.proofs.Common.{◌≡◌, ◌∙◌, ◌+◌, ◌<◌, ℕ, zero, suc, List, [], ◌∷◌, ◌++◌, map, take, length, slice_get, slice_index_or, Some, refl, ap, sym}
+use Rattle.std.proofs.Common.{◌≡◌, ◌∙◌, ◌+◌, ◌<◌, ℕ, List, [], ◌∷◌, ◌++◌, map, take, length, slice_get, slice_index_or, Some, ap, sym}
 use Rattle.std.proofs.Common.{subst, arith}
 use Rattle.std.specs.Prelude.{Result, Ok, Err, IfOk}
 use Rattle.std.proofs.lemmas.List.{map-append, length-map, take_all, map_more}
 use Rattle.std.proofs.lemmas.Simd.{map-map}
+use Rattle.std_lemmas.proofs.Lists.{slice_get-map}
 use Rattle.card_core.specs.Plans.{plan_of}
 use Rattle.switch_plan.specs.GoodPlans.{SwitchPlan, switch_plan_of}
 use Rattle.run_laws.specs.Runs.{ports_of}
@@ -13,11 +14,6 @@ use Rattle.reference_run.specs.Meeting.{coming_in}
 use Rattle.reference_run.specs.MeetingSteps.{IsReferenceOf}
 use Rattle.reference_run.proofs.ToldInputs.{told-switch}
 use Rattle.reference_run.proofs.making.reference_of.Goals as goal
-
-get-mapped : {X Y : Type 0} (f : X → Y) (xs : List X) (i : ℕ) (d : X) → i < length xs → slice_get (map f xs) i ≡ Some (f (slice_index_or xs i d))
-get-mapped f [] i d inside = absurd (omega arith)
-get-mapped f (x ∷ xs) zero d inside = refl
-get-mapped f (x ∷ xs) (suc i) d inside = get-mapped f xs i d (omega arith)
 
 made-of : {E : Type 0} (result : Result State E) (plan : SwitchPlan) (n : ℕ) (lists : List (List Coming)) → n ≡ ports_of plan
     → lists ≡ map coming_in plan.cards → IfOk result (λ r. r.ports ≡ n) → IfOk result (λ r. r.depth ≡ plan.depth)
@@ -31,7 +27,7 @@ coming_in-requires c =
     let i = c.loop-card.card-index in
     let card = c.card-item.result in
     let there : slice_get (map plan_of c.args.plan.now.cards.items) i ≡ Some (plan_of card) =
-    ap (λ xs. slice_get (map plan_of xs) i) (sym c.deref-card-items.ensures.value) ∙ get-mapped plan_of ps i card c.loop-card-test.true
+    ap (λ xs. slice_get (map plan_of xs) i) (sym c.deref-card-items.ensures.value) ∙ slice_get-map plan_of ps i card c.loop-card-test.true
     ∙ ap (λ x. Some (plan_of x)) (sym c.card-item.is) in
     (c.requires.cards i (plan_of card) there).good
 

@@ -1,6 +1,7 @@
-use Rattle.std.proofs.Common.{◌≡◌, ◌∙◌, ◌<◌, ℕ, zero, suc, List, [], ◌∷◌, map, length, slice_get, slice_index_or, Some, refl, ap, sym, subst, arith}
+use Rattle.std.proofs.Common.{◌≡◌, ◌∙◌, List, [], ◌∷◌, map, length, slice_get, slice_index_or, Some, ap, sym, subst, arith}
 use Rattle.std.proofs.Common.{length-append}
 use Rattle.std.proofs.lemmas.List.{get_or-map, length-map}
+use Rattle.std_lemmas.proofs.Lists.{slice_get-map}
 use Rattle.card_core.specs.Plans.{Plan, plan_of}
 use Rattle.switch_plan.specs.GoodPlans.{switch_plan_of}
 use Rattle.run_laws.specs.Runs.{card_at, no_plan}
@@ -9,18 +10,13 @@ use Rattle.queue_measures.specs.NotingSteps.{Input, IsNoted, no_input}
 use Rattle.queue_measures.proofs.Slots.{noted-more}
 use Rattle.queue_measures.proofs.measures.QueueMeasures.make.Goals as goal
 
-get-mapped : {X Y : Type 0} (f : X → Y) (xs : List X) (i : ℕ) (d : X) → i < length xs → slice_get (map f xs) i ≡ Some (f (slice_index_or xs i d))
-get-mapped f [] i d inside = absurd (omega arith)
-get-mapped f (x ∷ xs) zero d inside = refl
-get-mapped f (x ∷ xs) (suc i) d inside = get-mapped f xs i d (omega arith)
-
 pub make-requires : goal.make-requires
 make-requires c =
     let ps = c.deref-card-items.result.now in
     let i = c.loop-card.card-index in
     let card = c.card-item.result in
     let there : slice_get (map plan_of c.args.plan.now.cards.items) i ≡ Some (plan_of card) =
-    ap (λ xs. slice_get (map plan_of xs) i) (sym c.deref-card-items.ensures.value) ∙ get-mapped plan_of ps i card c.loop-card-test.true
+    ap (λ xs. slice_get (map plan_of xs) i) (sym c.deref-card-items.ensures.value) ∙ slice_get-map plan_of ps i card c.loop-card-test.true
     ∙ ap (λ x. Some (plan_of x)) (sym c.card-item.is) in
     (c.requires.cards i (plan_of card) there).good
 
