@@ -81,7 +81,8 @@ header_read frame place address e =
 
 header_there : (frame : List ℕ) (place address : ℕ) → HasHeader frame place address → destination_at frame place ≡ Some address
 header_there frame place address h =
-    cond-true _ (Some _) None (and_from _ _ (le-leb (place + 20) (length frame) h.header) (eq-eqb (slice_index frame place / 16) 4 h.version)) ∙ ap Some h.address_is
+    let both = and_from _ _ (le-leb (place + 20) (length frame) h.header) (eq-eqb (slice_index frame place / 16) 4 h.version) in
+    cond-true _ (Some _) None both ∙ ap Some h.address_is
 
 -- ---- the destination
 

@@ -54,7 +54,8 @@ servable-next plan served part before' now t inside = elim (cases_eq t (length s
   | inl last ↦
       let row : row_at plan (served ++ part ∷ []) t ≡ row_at plan served (length served) =
       ap (row_at plan (served ++ part ∷ [])) last ∙ row-more plan served (part ∷ []) (length served) (omega arith) in
-      let is : slice_index_or (served ++ part ∷ []) t None ≡ part = ap (λ n. slice_index_or (served ++ part ∷ []) n None) last ∙ get_or-append_seam served part [] None in
+      let is : slice_index_or (served ++ part ∷ []) t None ≡ part =
+      ap (λ n. slice_index_or (served ++ part ∷ []) n None) last ∙ get_or-append_seam served part [] None in
       rw (row, is) now
   | inr other ↦
       let below : t < length served = omega (arith, one_slot served part) in

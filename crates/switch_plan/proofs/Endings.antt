@@ -50,7 +50,8 @@ files_are files captures are = record {
       let inside : k < length captures = let n = are.count in omega arith in
       let got = at_place captures k inside in
       let same : file_of (slice_index_or captures k got.0) ≡ slice_index_or (map file_of captures) k capture =
-      sym (get_or_default (map file_of captures) k capture (file_of got.0) (omega (arith, length-map captures file_of)) ∙ get_or-map_same file_of captures k got.0) in
+      sym (get_or_default (map file_of captures) k capture (file_of got.0) (omega (arith, length-map captures file_of))
+      ∙ get_or-map_same file_of captures k got.0) in
       subst (IsFile (slice_index_or files k bytes)) same (are.each k bytes got.0 within).file;
 }
 

@@ -4,7 +4,12 @@ use Rattle.card_core.proofs.Ascending.{planned_more}
 use Rattle.card_core.proofs.checking.are_planned.Goals as goal
 
 pub returns : goal.returns
-returns c = (λ yes_ k packet there. c.loop-packet.invariant k packet (let l = slice_get_within c.args.packets.now k packet there in omega arith) there, λ all. refl)
+returns c = (
+  λ yes_ k packet there.
+      let inside = slice_get_within c.args.packets.now k packet there in
+      c.loop-packet.invariant k packet (omega arith) there,
+  λ all. refl,
+)
 
 pub loop-packet-preserved : goal.loop-packet-preserved
 loop-packet-preserved c =
@@ -18,7 +23,8 @@ pub returns-then-not-is_planned : goal.returns-then-not-is_planned
 returns-then-not-is_planned c = (
   λ no_. absurd (cc),
   λ all.
-      let yes_ = c.is_planned.ensures.1 (all c.loop-packet.packet-index _ (slice_get-get_or c.args.packets.now c.loop-packet.packet-index _ c.loop-packet-test.true)) in
+      let there = slice_get-get_or c.args.packets.now c.loop-packet.packet-index _ c.loop-packet-test.true in
+      let yes_ = c.is_planned.ensures.1 (all c.loop-packet.packet-index _ there) in
       let f = c.if-not-is_planned.true in
       absurd (cc),
 )

@@ -79,7 +79,8 @@ loop-card-preserved c =
       room = let room = at.invariant.room in let same = c.push_reserved.ensures.capacity in omega arith;
       seats_left = omega arith;
       seats_new = λ i s mine.
-          let there : slice_get at.seats.items (suc i) ≡ Some s = sym (slice_get-remove_first at.seats.items i) ∙ (ap (λ xs. slice_get xs i) (sym items) ∙ mine) in
+          let next = sym (slice_get-remove_first at.seats.items i) in
+          let there : slice_get at.seats.items (suc i) ≡ Some s = next ∙ (ap (λ xs. slice_get xs i) (sym items) ∙ mine) in
           let same : suc i + done ≡ i + length (at.yielded ++ x ∷ []) = omega arith in
           at.invariant.seats_new (suc i) s there ∙ ap (λ k. new_seat board k) same;
     }

@@ -34,7 +34,8 @@ loop-card-preserved c =
       some = let count = c.in_ok-join.ensures.count in let some = at.invariant.some in omega arith;
       left = omega arith;
       seats = λ i s mine.
-          let there : slice_get at.seats.items (suc i) ≡ Some s = sym (slice_get-remove_first at.seats.items i) ∙ ap (λ xs. slice_get xs i) (sym items) ∙ mine in
+          let next = sym (slice_get-remove_first at.seats.items i) in
+          let there : slice_get at.seats.items (suc i) ≡ Some s = next ∙ ap (λ xs. slice_get xs i) (sym items) ∙ mine in
           let same : suc i + at.card ≡ i + (at.card + 1) = omega arith in
           at.invariant.seats (suc i) s there ∙ ap (λ k. new_seat board k) same;
     }

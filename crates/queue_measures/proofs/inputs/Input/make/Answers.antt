@@ -17,6 +17,7 @@ returns c =
       counts = c.in_ok-queues.ensures;
       count = ap length items ∙ length-replicate c.queue_count.result no_numbers ∙ count;
       numbers = λ q mine. ap (λ (ns : List QueueNumbers). slice_index_or ns (place_of plan.ports q) no_numbers) items
-          ∙ get_or-replicate c.queue_count.result (place_of plan.ports q) no_numbers no_numbers (let inside = place-inside plan.ports q mine in omega (arith, inside, count))
+          ∙ get_or-replicate c.queue_count.result (place_of plan.ports q) no_numbers no_numbers
+          (let inside = place-inside plan.ports q mine in omega (arith, inside, count))
           ∙ sym (numbers-first plan [] q);
     }
