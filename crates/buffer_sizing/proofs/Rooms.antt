@@ -1,15 +1,11 @@
 -- Room for the packets that arrive in the first slots: where none is dropped, and where no queue is longer than a depth.
-use Rattle.std.proofs.Common.{◌≡◌, ◌∙◌, ℕ, zero, suc, ◌+◌, ◌-◌, ◌^◌, ◌<◌, ◌≤◌, ◌==◌, ◌&&◌, not, Bool, true, false, List, [], length, Option, Some}
+use Rattle.std.proofs.Common.{◌≡◌, ◌∙◌, ℕ, zero, suc, ◌+◌, ◌-◌, ◌<◌, ◌≤◌, ◌&&◌, not, Bool, true, false, List, [], length, Option, Some}
 use Rattle.std.proofs.Common.{slice_get, refl, sym, ap, subst, arith, inl, inr, if◌then◌else◌, length-drop}
-use Rattle.std.proofs.lemmas.Bool.{cases_eq, leb-true, eqb-true}
-use Rattle.std.proofs.lemmas.Nat.Bits.{bit_at-pow_same}
-use Rattle.rotating_pick.specs.PortSets.{Has}
-use Rattle.rotating_pick.specs.declared.limits.TheConstants.{LEVELS, MAX_PORTS}
-use Rattle.rotating_pick.proofs.Bits.{Has-lt}
+use Rattle.std.proofs.lemmas.Bool.{cases_eq, leb-true}
 use Rattle.slot_match.specs.declared.matching.Served.{Served}
 use Rattle.cell_rings.specs.CellQueues.{cells_with_fan}
 use Rattle.card_core.specs.declared.plan.Planned.{Planned}
-use Rattle.card_core.specs.Plans.{Plan, Queue, OfOutput, OfLevel, IsGoodPlan, IsPlanned, is_queue, queue_of, last_port, size_of, arriving}
+use Rattle.card_core.specs.Plans.{Plan, Queue, IsGoodPlan, is_queue, queue_of, size_of, arriving}
 use Rattle.card_core.specs.Queues.{Passed, is_routed, fits, coming, before, is_admitted, count_before, count_in, dropped}
 use Rattle.card_core.proofs.Passing.{arriving-there, kept-before}
 use Rattle.card_core.proofs.Arriving.{is_queue-refl}

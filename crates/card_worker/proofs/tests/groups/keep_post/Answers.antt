@@ -1,4 +1,4 @@
-use Rattle.std.proofs.Common.{◌≡◌, ◌∙◌, ap, subst, sym}
+use Rattle.std.proofs.Common.{◌∙◌, ap, subst, sym}
 use Rattle.std.proofs.lemmas.Bool.{both_ways}
 use Rattle.slot_board.specs.Seats.{IsPosted, column_at}
 use Rattle.card_worker.specs.Agreeing.{IsDriven}

@@ -1,11 +1,11 @@
-use Rattle.std.proofs.Common.{◌≡◌, ◌∙◌, ◌<◌, ℕ, Bool, true, false, List, [], None, length, refl, sym, ap, subst, arith, slice_get, slice_index}
+use Rattle.std.proofs.Common.{◌≡◌, ◌∙◌, ◌<◌, ℕ, Bool, true, false, List, [], None, length, refl, sym, ap, arith, slice_get, slice_index}
 use Rattle.std.proofs.Common.{slice_index_or, if◌then◌else◌}
 use Rattle.std.proofs.lemmas.Bool.{lt-ltb, ltb-true}
 use Rattle.std.proofs.lemmas.List.{get_or_default}
 use Rattle.rotating_pick.specs.declared.limits.TheConstants.{LEVELS}
 use Rattle.run_laws.specs.Runs.{ports_of}
 use Rattle.packet_departures.specs.Departures.{Flow, departure_under}
-use Rattle.packet_times.specs.NotingSteps.{Times, HasNoted, flow_place}
+use Rattle.packet_times.specs.NotingSteps.{Times, flow_place}
 use Rattle.packet_times.specs.WalkingSteps.{own_place}
 use Rattle.packet_times.proofs.Walked.{few-inputs, planned-is, departure-is}
 use Rattle.packet_times.proofs.times.PacketTimes.departure.Goals as goal

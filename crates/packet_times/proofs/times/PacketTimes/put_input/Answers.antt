@@ -1,13 +1,12 @@
-use Rattle.std.proofs.Common.{◌≡◌, ◌∙◌, ◌<◌, ◌≤◌, ◌+◌, ◌++◌, ℕ, Bool, true, false, List, [], Some, length, take, slice_get, slice_index_or, refl, sym}
+use Rattle.std.proofs.Common.{◌≡◌, ◌∙◌, ◌<◌, ◌≤◌, ◌+◌, ◌++◌, ℕ, true, false, List, [], Some, length, slice_get, slice_index_or, sym}
 use Rattle.std.proofs.Common.{ap, subst, arith, string_bytes}
 use Rattle.std.specs.List.{flat_map, enumerate_from}
 use Rattle.std.proofs.lemmas.List.{append-nil}
 use Rattle.rotating_pick.specs.declared.limits.TheConstants.{LEVELS, MAX_PORTS}
 use Rattle.card_core.specs.declared.plan.Planned.{Planned}
 use Rattle.card_core.specs.Plans.{kind_of, queue_of, no_packet}
-use Rattle.run_laws.specs.Runs.{ports_of, card_at, parts_under}
-use Rattle.packet_times.specs.declared.walk.Outcome.{Outcome}
-use Rattle.packet_times.specs.NotingSteps.{Input, Times, was_admitted}
+use Rattle.run_laws.specs.Runs.{ports_of, card_at}
+use Rattle.packet_times.specs.NotingSteps.{Input, Times}
 use Rattle.packet_times.specs.Rows.{row_text, packet_rows}
 use Rattle.packet_times.specs.WalkingSteps.{IsCounted, HasGone, IsOutcome}
 use Rattle.packet_times.proofs.Walked.{gone-first, gone-more, gone-same, planned-is, own-packets, few-own, own-outcome}

@@ -1,4 +1,4 @@
-use Rattle.std.proofs.Common.{◌≡◌, ◌++◌, ℕ, take, length, string_bytes}
+use Rattle.std.proofs.Common.{◌≡◌, ◌++◌, ℕ, take, string_bytes}
 use Rattle.std.specs.List.{flat_map, enumerate_from}
 use Rattle.eslip_rounds.specs.Schedulers.{Scheduler}
 use Rattle.switch_plan.specs.GoodPlans.{SwitchPlan}

@@ -1,4 +1,3 @@
-use Rattle.std.proofs.Common.{◌≡◌}
 use Rattle.packet_times.proofs.times.PacketTimes.put_packet.Goals as goal
 
 pub returns-else-is_empty : goal.returns-else-is_empty

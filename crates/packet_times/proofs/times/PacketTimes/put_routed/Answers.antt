@@ -1,4 +1,4 @@
-use Rattle.std.proofs.Common.{◌≡◌, ◌∙◌, ◌<◌, ◌+◌, ◌++◌, ℕ, List, sym, ap, subst, arith, string_bytes}
+use Rattle.std.proofs.Common.{◌≡◌, ◌∙◌, ◌+◌, ◌++◌, ℕ, List, ap, arith, string_bytes}
 use Rattle.std.specs.List.{flat_map}
 use Rattle.run_laws.specs.Runs.{ports_of, card_at, parts_under}
 use Rattle.packet_times.specs.Rows.{row_text}

@@ -1,7 +1,6 @@
-use Rattle.std.proofs.Common.{◌≡◌, ◌≢◌, ◌≤◌, ◌++◌, ℕ, length, map, filter, string_bytes}
-use Rattle.std.specs.List.{flat_map, range_with_len}
+use Rattle.std.proofs.Common.{◌≡◌, ◌++◌, ℕ, string_bytes}
+use Rattle.std.specs.List.{flat_map}
 use Rattle.eslip_rounds.specs.Schedulers.{Scheduler}
-use Rattle.slot_histories.specs.Tests.{has}
 use Rattle.switch_plan.specs.GoodPlans.{SwitchPlan}
 use Rattle.packet_times.specs.NotingSteps.{HasNoted}
 use Rattle.packet_times.specs.Rows.{row_text}
