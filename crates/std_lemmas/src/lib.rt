@@ -1,2 +1,2 @@
-//! Lemmas on words of the standard library alone that more than one crate cites.
+//! Lemmas on words of the standard library alone, for the crates above.
 #![tactic(auto)]
