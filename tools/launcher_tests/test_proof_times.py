@@ -139,16 +139,16 @@ class Gate(unittest.TestCase):
         self.assertEqual(tool("proof_times").of_gate(log, {"some_tests"}), {"low": (1500, 7), "some_tests": (8, 5)})
 
     def test_run(self):
-        """What the command prints is passed on, its status too; what looks like a prover is seen."""
+        """What the command prints is passed on, its status too; what looks like a prover of a crate is seen."""
         with tempfile.TemporaryDirectory(prefix="gate-") as room:
             edits = Path(room) / "rt-edit-1"
             edits.mkdir()
-            prover = f"exec -a rattle bash -c '{BUSY}' rattle check --crate-name low"
-            script = f"echo '== low'; (cd '{edits}'; {prover}); echo 'logic=proved functions=7 sum=0'; exit 3"
+            prover = f"exec -a rattle bash -c '{BUSY}' rattle"
+            script = f"echo '== low'; (cd '{edits}'; {prover} check --crate-name low); ({prover} fmt); echo 'logic=proved functions=7 sum=0'; exit 3"
             words = [sys.executable, str(TOP / "tools/gate_times"), "bash", "-c", script]
             ended = subprocess.run(words, stdout=subprocess.PIPE, universal_newlines=True, cwd=room)
         lines = ended.stdout.splitlines()
-        self.assertEqual((ended.returncode, lines[:2]), (3, ["== low", "logic=proved functions=7 sum=0"]))
+        self.assertEqual((ended.returncode, len(lines), lines[:2]), (3, 7, ["== low", "logic=proved functions=7 sum=0"]))
         self.assertRegex(lines[-3], r"^\| `low` \| 0 \| 0 \| \d+ \| 7 \| 0 \|$")
         self.assertRegex(lines[-2], r"^tools/gate_times: processor minutes: proofs 0.0, tests 0.0, edits \d.*, the rest \d.*; \d.* minutes by the clock$")
         self.assertRegex(lines[-1], r"^tools/gate_times: \| `bash -c .*`, \w.* \| \d.* \| 0.0 \| 0.0 \| \d.* \| \d.* \| - \| .* \| \d+, at most \d+ \|$")
