@@ -127,9 +127,9 @@ class Gate(unittest.TestCase):
         """The seconds of crates by what a process was for, as tools/proof_times reads them in the log."""
         times = tool("gate_times")
         said = times.Said()
-        for line in ("== low", "logic=proved functions=7 sum=0", "== low: its tests", "logic=proved functions=9 sum=0 tests=2"):
+        for line in ("== low", "logic=proved functions=7 sum=0", "== low: its tests", "logic=proved tests=2 functions=9 sum=0"):
             said.read(line)
-        for line in ("== some_tests: its tests", "logic=proved functions=5 sum=0 tests=4"):
+        for line in ("== some_tests: its tests", "logic=proved tests=4 functions=5 sum=0"):
             said.read(line)
         seen = {1: ("low", "proofs", 1500.4), 2: ("low", "edits", 3), 3: ("low", "edits", 4), 4: ("low", "tests", 2), 5: ("some_tests", "tests", 8)}
         seen[6] = "kept", "tests", 5
