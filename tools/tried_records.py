@@ -1,7 +1,7 @@
 """What tools/wrong_bodies writes of a crate into its file `wrong/tried.txt`, and whether that is still so.
 
-A record has the kit, a sum of the crate's own text, a sum of what is stated in each crate below (its `specs/` and its
-sources without bodies), and for each edit a sum of its file, the function that it changes and what refused it.
+A record has the kit, a sum of the crate's own text, a sum of what is stated in each crate below (its `specs/` and the
+contracts of its sources), and for each edit a sum of its file, the function that it changes and what refused it.
 """
 
 import hashlib
@@ -9,7 +9,7 @@ from pathlib import Path
 from typing import NamedTuple
 
 from proved_archive import all_below, read_crates
-from source_functions import COMMENT, without_bodies
+from source_functions import COMMENT, stated
 from wrong_edits import crates_with_edits, edits_of
 
 HEADING = "# What refused each wrong body; written by tools/wrong_bodies. The sums are of the texts that were tried.\n"
@@ -56,7 +56,7 @@ def own_sum(folder):
 def stated_sum(folder):
     """A sum of what the crates above can know of a crate: its definitions and its contracts."""
     specs = [(name, "\n".join(it for it in text.split("\n") if not COMMENT.match(it))) for name, text in texts_of(folder, ("specs",))]
-    return sum_of(specs + [(name, without_bodies(text)) for name, text in texts_of(folder, ("src",))])
+    return sum_of(specs + [(name, stated(text)) for name, text in texts_of(folder, ("src",))])
 
 
 def below_sums(top, name):

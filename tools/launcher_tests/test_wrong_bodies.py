@@ -8,7 +8,7 @@ from unittest import mock
 import tried_records as records
 import wrong_checks
 import wrong_edits
-from source_functions import functions_of, without_bodies
+from source_functions import functions_of, stated
 from tried_records import Record, Row
 
 from .test_proof_times import tool
@@ -60,14 +60,17 @@ class Sources(unittest.TestCase):
         self.assertEqual(found["less"], ["        self.x - 1"])
 
     def test_empty_body(self):
-        self.assertEqual(functions_of(["pub fn law()", "    ensures { ⊤ }", "{}"]), [("law", 3, 3)])
+        self.assertEqual(functions_of(["pub fn law()", "    ensures { ⊤ }", "{}"]), [("law", 0, 3, 2, False)])
 
-    def test_without_bodies(self):
-        """A body and a comment are not stated; a constant and a contract are."""
-        stated = without_bodies(SOURCE)
-        self.assertEqual(stated, without_bodies(SOURCE.replace("x + 1\n    }", "x + 2\n    }").replace("/// One more.", "/// More.")))
+    def test_what_is_stated(self):
+        """A body, a comment and what is private are not stated; a constant and a contract are."""
+        private = SOURCE.replace("pub fn more", "fn more")
+        self.assertNotIn("result ≡ x + 1", stated(private))
+        self.assertEqual(stated(private), stated(private.replace("fn more", "pub(crate) fn more")))
+        same = SOURCE.replace("x + 1\n    }", "x + 2\n    }").replace("/// One more.", "/// More.")
+        self.assertEqual(stated(SOURCE), stated(same))
         for old, new in (("result ≡ x + 1", "result ≡ x"), ("MOST: u32 = 4", "MOST: u32 = 5"), ("result < 4", "result < 5")):
-            self.assertNotEqual(stated, without_bodies(SOURCE.replace(old, new)))
+            self.assertNotEqual(stated(SOURCE), stated(SOURCE.replace(old, new)))
 
 
 class InARepository(unittest.TestCase):
