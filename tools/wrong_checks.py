@@ -1,4 +1,4 @@
-"""Checks of copies of crates: the libraries below, proved and built by `rt ci` in a folder of its own, and what a check says of each function."""
+"""Checks of copies of crates: the crates as they stand, proved by `rt ci` in a folder of its own, and what a check with a wrong body says."""
 
 import os
 import re
@@ -9,6 +9,7 @@ from typing import NamedTuple
 from proved_archive import all_below, kit_of_path, read_crates
 
 PARTS = ("src", "specs", "proofs")
+OF_RUNS = ("args", "stdin", "stdout", "status", "data")
 FUNCTION = re.compile(r"^fn (\S+): (.*)$")
 # A line that says where something is not proved, and of which goal.
 GOAL = re.compile(r"^(?:note: )?(?:\./)?(\S+?):\d+:\d+: (?:error: |it is not proved that )(.*)$")
@@ -25,55 +26,54 @@ class Fault(Exception):
 
 
 def copy_parts(source, to, parts=PARTS):
-    """Copies what a check of a crate reads."""
+    """Copies these parts of a crate's folder."""
+    to.mkdir(parents=True, exist_ok=True)
     for part in parts:
         if (source / part).is_dir():
             shutil.copytree(source / part, to / part)
+        elif (source / part).is_file():
+            shutil.copy(source / part, to / part)
 
 
 class Room:
-    """A folder in which the crates below those that are to be tried are proved and built, as the gate does, in a
-    repository of their own. What was proved before, here or by the gate, is taken and not proved again."""
+    """A folder in which crates and those below them are proved as they stand, as the gate does, in a repository of their
+    own without wrong bodies. What was proved before, here or by the gate, is taken and not proved again."""
 
     def __init__(self, top, folder, names):
         self.top, self.folder, self.crates = top, folder, read_crates()
         self.kit = kit_of_path()
         if self.kit is None:
             raise Fault("the toolchain's rt is not in the path")
-        below = {it for name in names for it in all_below(self.crates, name)}
+        needed = {it for name in names for it in (name, *all_below(self.crates, name))}
+        self.lines = {re.split("[ :]", line)[0]: line for line in (top / "crates.txt").read_text().splitlines()}
         self.libraries = folder / "repository/crates"
-        self.build([name for name in self.crates if name in below])
+        self.prove([name for name in self.crates if name in needed])
 
-    def build(self, names):
-        """Proves and builds these libraries."""
+    def prove(self, names):
+        """Proves these crates, and builds the libraries among them."""
         repository = self.libraries.parent
         (repository / ".git").mkdir(parents=True)
-        lines = [line for line in (self.top / "crates.txt").read_text().splitlines() if re.split(r"[ :]", line)[0] in names]
-        (repository / "crates.txt").write_text("".join(f"{line}\n" for line in lines))
+        (repository / "crates.txt").write_text("".join(f"{self.lines[name]}\n" for name in names))
         shutil.copy(self.top / "HANDLES", repository / "HANDLES")
         for name in names:
-            copy_parts(self.top / "crates" / name, self.libraries / name)
+            copy_parts(self.top / "crates" / name, self.libraries / name, (*PARTS, *OF_RUNS))
         ran = subprocess.run(["rt", "ci"], cwd=repository, stdout=subprocess.PIPE, stderr=subprocess.STDOUT, text=True, errors="replace")
-        if names and ran.returncode:
-            raise Fault("the crates below are not proved:\n" + "\n".join(ran.stdout.splitlines()[-20:]))
+        if ran.returncode:
+            raise Fault("the crates are not proved as they stand:\n" + "\n".join(ran.stdout.splitlines()[-20:]))
 
     def words(self, name):
         """The words of the prover that check the crate of this name in the folder that it is started in."""
         def library(it):
             return f"{it}={self.libraries}/{it}/out/rlib/{it}.rlib" if it in self.crates else f"{it}={self.kit}/rlibs/{it}.rlib"
 
-        folder = self.top / "crates" / name
-        root = "src/main.rt" if (folder / "src/main.rt").exists() else "src/lib.rt"
+        root = "src/main.rt" if (self.top / "crates" / name / "src/main.rt").exists() else "src/lib.rt"
         words = [f"{self.kit}/bin/rattle", "check", "--crate-name", name, root]
         words += [word for it in ("core", "std", *self.crates[name]) for word in ("--extern", library(it))]
         words += [word for it in all_below(self.crates, name) for word in ("-L", f"dependency={self.libraries}/{it}/out/rlib")]
         words += ["-L", f"dependency={self.kit}/rlibs", "--antt-project", f"{self.kit}/rattle/logic/antt-project.json"]
         words += ["--logic-built", f"{self.kit}/logic_built", "--jobs", "1", "--links", f"{name}="]
-        return words + (["--crate-type", "staticlib"] if self.is_static(name) else [])
-
-    def is_static(self, name):
-        """Whether crates.txt has the crate as a static library."""
-        return re.search(rf"^{name} staticlib:", (self.top / "crates.txt").read_text(), re.M) is not None
+        is_static = self.lines[name].startswith(f"{name} staticlib:")
+        return words + (["--crate-type", "staticlib"] if is_static else [])
 
 
 class Check(NamedTuple):
@@ -85,7 +85,7 @@ class Check(NamedTuple):
 
     def reached_functions(self):
         """Whether the check judged functions."""
-        return self.status == PROVED or self.status == NOT_PROVED and self.lines[-1].startswith("logic=not-proved")
+        return self.status == PROVED or self.status == NOT_PROVED and self.lines[-1].startswith(("logic=not-proved", "only="))
 
     def statuses(self):
         """What is said of each function, by its path."""
@@ -109,21 +109,16 @@ def goal_in(said):
     return (named[1] if named else said[:80]) + weak
 
 
-def link_or_copy(source, to):
-    """Gives what was proved a second name: a check replaces such a file and never writes into it. Other files are copied."""
-    (os.link if source.endswith(".oantt") else shutil.copy2)(source, to)
-
-
-def check(room, name, texts, folder, kept=None):
-    """Checks a copy of the crate with these texts in the place of its own, in a new folder, over what an earlier check kept there."""
+def check(room, name, texts, only, folder):
+    """Checks a copy of the crate with these texts in the place of its own, the modules and functions of these paths alone
+    where there are some, over what earlier checks in the folder kept."""
+    for part in PARTS:
+        shutil.rmtree(folder / part, ignore_errors=True)
     copy_parts(room.top / "crates" / name, folder)
     for path, text in texts.items():
         (folder / path).write_text(text, encoding="utf-8")
-    if kept is None or not kept.is_dir():
-        (folder / "kept").mkdir()
-    else:
-        shutil.copytree(kept, folder / "kept", copy_function=link_or_copy)
-    words = [*room.words(name), "--incremental", "kept"]
+    (folder / "kept").mkdir(exist_ok=True)
+    words = [*room.words(name), "--incremental", "kept", *(word for it in only for word in ("--only", it))]
     with open(folder / "said", "w", encoding="utf-8") as said:
         ran = subprocess.Popen(words, cwd=folder, stdin=subprocess.DEVNULL, stdout=said, stderr=subprocess.STDOUT)
         _, status, used = os.wait4(ran.pid, 0)

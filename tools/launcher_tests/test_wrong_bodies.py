@@ -122,9 +122,8 @@ class Tries(InARepository):
     """The tries of a crate over checks that are made up."""
 
     def tried(self, checks):
-        """The crate after its tries, whose checks say one after the other what is given, the first that all is proved."""
-        proved = wrong_checks.Check(0, ["logic=proved"], 1)
-        said = [proved, *(wrong_checks.Check(1 if "not-proved" in it else 0, it.split("\n"), 1) for it in checks)]
+        """The crate after its tries, whose checks say one after the other what is given."""
+        said = [wrong_checks.Check(1 if "not-proved" in it else 0, it.split("\n"), 1) for it in checks]
         module = tool("wrong_bodies")
         with mock.patch.object(module, "check", side_effect=said), mock.patch.object(module, "kit_line", return_value="kit"), \
                 mock.patch.object(records, "below_sums", return_value={}):
@@ -138,15 +137,22 @@ class Tries(InARepository):
         rows = {row.name: (row.function, row.refusal) for row in crate.record.rows}
         self.assertEqual(rows["must-fail/two_more"], ("more", "`returns-else`"))
         self.assertEqual(rows["wrong/none_less"], ("Thing::less", "`sub-fits`"))
-        self.assertEqual((len(rows), crate.checks), (4, 4))
+        self.assertEqual((len(rows), crate.checks), (4, 3))
 
     def test_one_is_let_through(self):
-        """A function that is proved with its edit is tried alone; one that only calls another again, without that."""
-        said = SAID.replace("low", "high").replace("high::more: not proved", "high::more: proved")
-        alone = "fn high::more: proved\nlogic=proved"
-        crate = self.tried([said, alone, SAID.replace("low", "high"), SAID.replace("low", "high")])
+        """A function that is proved with its edit is tried in a round again, and then alone."""
+        said = SAID.replace("low", "high")
+        proved = said.replace("more: not proved", "more: proved")
+        crate = self.tried([proved, said, proved, "fn high::more: proved\nlogic=proved", said])
         self.assertEqual(crate.faults, ["must-fail/two_more: LET THROUGH: the crate is proved with it"])
         self.assertNotIn("must-fail/two_more", [row.name for row in crate.record.rows])
+
+    def test_one_that_calls_another(self):
+        """A function that only calls one that is not proved is tried again, without that."""
+        said = SAID.replace("low", "high")
+        shadowed = said.replace("high::more: not proved", "high::more: no proof: it calls `high::Thing::less`, which is not proved")
+        crate = self.tried([shadowed, said, said, said])
+        self.assertEqual((crate.faults, len(crate.record.rows)), ([], 4))
 
     def test_text_that_cannot_be_read(self):
         said = "./src/lib.rt:3:1: error: expected an expression\nlogic=not-proved"
