@@ -1,8 +1,9 @@
 //! Rows of the unicast queues of an input, in blocks: `case NAME`, `make N DEPTH`,
 //! `room OUTPUT LEVEL PACKETS` and `admit OUTPUT LEVEL PACKET CELLS` set the queues up; then
-//! `fits OUTPUT LEVEL CELLS -> true`, `spare OUTPUT LEVEL -> PACKETS`, `cells OUTPUT LEVEL -> CELLS`,
-//! `mask LEVEL -> SET` and `pop OUTPUT LEVEL -> PACKET NUMBER last` state what a call answers.
-ghost use Rattle.std.specs.Prelude.{◌≡◌, ◌<◌, IfOk};
+//! `offer OUTPUT LEVEL PACKET CELLS -> true`, `fits OUTPUT LEVEL CELLS -> true`,
+//! `spare OUTPUT LEVEL -> PACKETS`, `cells OUTPUT LEVEL -> CELLS`, `mask LEVEL -> SET` and
+//! `pop OUTPUT LEVEL -> PACKET NUMBER last` state what a call answers.
+ghost use Rattle.std.specs.Prelude.{◌≡◌, ◌<◌, ◌≤◌, IfOk};
 
 use crate::fields::{cell_name_text, level};
 use cell_cutter::MAX_FORWARDED_CELLS;
@@ -36,6 +37,15 @@ struct Queues {
 struct QueueName {
     output: u32,
     level: u8,
+}
+
+// A packet that is to enter a queue.
+#[derive(Clone, Copy)]
+struct Entry {
+    output: u32,
+    level: u8,
+    packet: u32,
+    cells: u32,
 }
 
 impl Block {
@@ -125,15 +135,12 @@ impl Block {
 
 impl Queues {
     fn admit(&mut self, words: &[&str]) -> Result<(), NoAnswer> {
-        let [output, level, packet, cells] = words else {
-            return Err(NoAnswer);
-        };
-        let QueueName { output, level } = queue_name(self.ports, output, level)?;
-        let packet = number(packet)?;
-        let cells = number(cells)?;
-        if cells == 0 || cells > MAX_FORWARDED_CELLS {
-            return Err(NoAnswer);
-        }
+        let Entry {
+            output,
+            level,
+            packet,
+            cells,
+        } = self.entry(words)?;
         if !self.banks.fits(output, level, cells) || self.banks.spare(output, level) == 0 {
             return Err(NoAnswer);
         }
@@ -143,6 +150,7 @@ impl Queues {
 
     fn answer(&mut self, alloc: Global, key: &str, words: &[&str]) -> Result<String, NoAnswer> {
         match key {
+            "offer" => self.offer_text(alloc, words),
             "fits" => self.fits_text(alloc, words),
             "spare" => self.spare_text(alloc, words),
             "cells" => self.cells_text(alloc, words),
@@ -150,6 +158,20 @@ impl Queues {
             "pop" => self.pop_text(alloc, words),
             _ => Err(NoAnswer),
         }
+    }
+
+    fn offer_text(&mut self, alloc: Global, words: &[&str]) -> Result<String, NoAnswer> {
+        let Entry {
+            output,
+            level,
+            packet,
+            cells,
+        } = self.entry(words)?;
+        if self.banks.spare(output, level) == 0 {
+            return Err(NoAnswer);
+        }
+        let fits = self.banks.offer(output, level, packet, cells);
+        Ok(format!(in alloc; "{fits}")?)
     }
 
     fn fits_text(&self, alloc: Global, words: &[&str]) -> Result<String, NoAnswer> {
@@ -190,6 +212,30 @@ impl Queues {
         Ok(cell_name_text(alloc, name)?)
     }
 
+    // The packet that four words name, of 1 to 1,171 cells, and its queue.
+    fn entry(&self, words: &[&str]) -> Result<Entry, NoAnswer>
+        ensures output { IfOk result (λ entry. entry.output < self.now.ports) }
+        ensures level { IfOk result (λ entry. entry.level < LEVELS) }
+        ensures some { IfOk result (λ entry. 0 < entry.cells) }
+        ensures few { IfOk result (λ entry. entry.cells ≤ MAX_FORWARDED_CELLS) }
+    {
+        let [output, level, packet, cells] = words else {
+            return Err(NoAnswer);
+        };
+        let QueueName { output, level } = queue_name(self.ports, output, level)?;
+        let packet = number(packet)?;
+        let cells = number(cells)?;
+        if cells == 0 || cells > MAX_FORWARDED_CELLS {
+            return Err(NoAnswer);
+        }
+        Ok(Entry {
+            output,
+            level,
+            packet,
+            cells,
+        })
+    }
+
     // The queue that two words name.
     fn queue_name(&self, words: &[&str]) -> Result<QueueName, NoAnswer>
         ensures output { IfOk result (λ name. name.output < self.now.ports) }
@@ -224,7 +270,7 @@ fn made(alloc: Global, ports: u32, depth: u32, room: &[u32]) -> Result<Queues, N
         return Err(NoAnswer);
     }
     match Banks::make(alloc, ports, depth, room) {
-        Ok(banks) => Ok(Queues { ports, banks }),
-        Err(_) => Err(NoAnswer),
+        Ok(banks) if banks.depth() == depth => Ok(Queues { ports, banks }),
+        _ => Err(NoAnswer),
     }
 }

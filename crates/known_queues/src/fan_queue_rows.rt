@@ -1,9 +1,9 @@
 //! Rows of the multicast queues of an input, in blocks: `case NAME`, `make N DEPTH ROOM ROOM ROOM ROOM`
-//! and `admit LEVEL PACKET CELLS SET` set the queues up; then `fits LEVEL CELLS -> true`,
-//! `spare LEVEL -> PACKETS`, `fan LEVEL -> SET`, `head LEVEL -> PACKET NUMBER last` and
-//! `served LEVEL SET -> true` state what a call answers.
+//! and `admit LEVEL PACKET CELLS SET` set the queues up; then `offer LEVEL PACKET CELLS SET -> true`,
+//! `fits LEVEL CELLS -> true`, `spare LEVEL -> PACKETS`, `fan LEVEL -> SET`,
+//! `head LEVEL -> PACKET NUMBER last` and `served LEVEL SET -> true` state what a call answers.
 ghost use Rattle.std.specs.Prelude.{◌≡◌, ◌<◌, ◌≤◌, IsTrue, IfOk};
-ghost use Rattle.rotating_pick.specs.PortSets.{HasSeveral};
+ghost use Rattle.rotating_pick.specs.PortSets.{HasSeveral, IsAmong};
 
 use crate::fields::{cell_name_text, level};
 use cell_cutter::MAX_FORWARDED_CELLS;
@@ -28,6 +28,15 @@ struct Queues {
     ghost some: { 0 < ports },
     ghost few: { ports ≤ 64 },
     ghost of_ports: { queues.ports ≡ ports },
+}
+
+// A packet that is to enter a queue.
+#[derive(Clone, Copy)]
+struct Entry {
+    level: u8,
+    packet: u32,
+    cells: u32,
+    fan: Ports,
 }
 
 impl Block {
@@ -74,6 +83,27 @@ impl Block {
 
 impl Queues {
     fn admit(&mut self, words: &[&str]) -> Result<(), NoAnswer> {
+        let Entry {
+            level,
+            packet,
+            cells,
+            fan,
+        } = self.entry(words)?;
+        if !self.queues.fits(level, cells) || self.queues.spare(level) == 0 {
+            return Err(NoAnswer);
+        }
+        self.queues.admit(level, packet, cells, fan);
+        Ok(())
+    }
+
+    // The packet that four words name, of 1 to 1,171 cells and for two outputs at least, and its queue.
+    fn entry(&self, words: &[&str]) -> Result<Entry, NoAnswer>
+        ensures level { IfOk result (λ entry. entry.level < LEVELS) }
+        ensures some { IfOk result (λ entry. 0 < entry.cells) }
+        ensures few { IfOk result (λ entry. entry.cells ≤ MAX_FORWARDED_CELLS) }
+        ensures several { IfOk result (λ entry. HasSeveral entry.fan) }
+        ensures among { IfOk result (λ entry. IsAmong self.now.ports entry.fan) }
+    {
         let [level_word, packet, cells, fan] = words else {
             return Err(NoAnswer);
         };
@@ -88,15 +118,17 @@ impl Queues {
         {
             return Err(NoAnswer);
         }
-        if !self.queues.fits(level, cells) || self.queues.spare(level) == 0 {
-            return Err(NoAnswer);
-        }
-        self.queues.admit(level, packet, cells, fan);
-        Ok(())
+        Ok(Entry {
+            level,
+            packet,
+            cells,
+            fan,
+        })
     }
 
     fn answer(&mut self, alloc: Global, key: &str, words: &[&str]) -> Result<String, NoAnswer> {
         match key {
+            "offer" => self.offer_text(alloc, words),
             "fits" => self.fits_text(alloc, words),
             "spare" => self.spare_text(alloc, words),
             "fan" => self.fan_text(alloc, words),
@@ -104,6 +136,20 @@ impl Queues {
             "served" => self.served_text(alloc, words),
             _ => Err(NoAnswer),
         }
+    }
+
+    fn offer_text(&mut self, alloc: Global, words: &[&str]) -> Result<String, NoAnswer> {
+        let Entry {
+            level,
+            packet,
+            cells,
+            fan,
+        } = self.entry(words)?;
+        if self.queues.spare(level) == 0 {
+            return Err(NoAnswer);
+        }
+        let fits = self.queues.offer(level, packet, cells, fan);
+        Ok(format!(in alloc; "{fits}")?)
     }
 
     fn fits_text(&self, alloc: Global, words: &[&str]) -> Result<String, NoAnswer> {
@@ -200,7 +246,7 @@ fn with_room(
         return Err(NoAnswer);
     }
     match FanQueues::make(alloc, ports, depth, &room) {
-        Ok(queues) => Ok(Queues { ports, queues }),
-        Err(_) => Err(NoAnswer),
+        Ok(queues) if queues.depth() == depth => Ok(Queues { ports, queues }),
+        _ => Err(NoAnswer),
     }
 }

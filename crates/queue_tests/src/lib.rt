@@ -1,16 +1,12 @@
-//! Tests of packets, cells and queues: captures, the forwarding table, the queues of a port, and messages made again.
+//! Tests of packets, cells and queues: captures, the forwarding table, and messages made again.
 #![tactic(auto)]
 
-#[cfg(test)]
-mod banks;
 #[cfg(test)]
 mod captures;
 #[cfg(test)]
 mod cells;
 #[cfg(test)]
 mod destinations;
-#[cfg(test)]
-mod fan_queues;
 #[cfg(test)]
 mod flows;
 #[cfg(test)]
