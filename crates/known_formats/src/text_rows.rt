@@ -1,11 +1,14 @@
 //! Rows of the texts of a run, in blocks. `case NAME` begins a block; `summary ..`, `outputs ..` for a
 //! report, and `slot_lines` with `slot USED FIRST MATCH` for each slot say what the text tells of; `text`
-//! makes it. After that each row `> LINE` states its next line.
+//! makes it, and `journal` one whose only line is the bytes of the journal of these slots. After that each
+//! row `> LINE` states its next line.
 ghost use Rattle.std.specs.Prelude.{IfOk};
 ghost use Rattle.known_formats.specs.Formats.{StatesAnswer};
 
 use crate::fields::{outputs, summary};
 use crate::slots::Slots;
+use journal_check::laws::finished_journals_are_lawful;
+use journal_check::{MAX_JOURNAL_BYTES, journal_bytes, journal_len};
 use rotating_pick::{MAX_PORTS, OutOfMemory};
 use slot_report::{OutLine, Summary, report_text, summary_text};
 use std::alloc::{AllocError, Global};
@@ -60,6 +63,7 @@ impl Block {
             }
             "slot" => self.decide(alloc, value)?,
             "text" => self.text = self.make_text(alloc)?,
+            "journal" => self.text = self.make_journal(alloc)?,
             _ => return Err(NoAnswer),
         }
         Ok(())
@@ -94,6 +98,25 @@ impl Block {
             None => None,
         };
         made(report_text(alloc, &summary, outputs, "", journal.as_ref()))
+    }
+
+    // The bytes of the journal of the slots, in hexadecimal. Its law goes over the slots, too.
+    fn make_journal(&mut self, alloc: Global) -> Result<String, NoAnswer> {
+        let journal = self.slots.take().ok_or(NoAnswer)?.journal();
+        finished_journals_are_lawful(&journal);
+        let len = journal_len(&journal);
+        if journal.slots() == 0 || len > MAX_JOURNAL_BYTES as u64 {
+            return Err(NoAnswer);
+        }
+        let Ok(bytes) = journal_bytes(alloc, &journal) else {
+            return Err(NoAnswer);
+        };
+        if bytes.len() as u64 != len {
+            return Err(NoAnswer);
+        }
+        let mut line = hex::encode(alloc, bytes.as_slice())?;
+        line.push('\n')?;
+        Ok(line)
     }
 
     // The next line of the text, which a line feed ends.
