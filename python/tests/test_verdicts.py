@@ -31,7 +31,7 @@ def test_known_journals():
     lines = [line for line in ROWS.read_text().splitlines() if line and not line.startswith("#")]
     for data, answer in zip(lines[::2], lines[1::2]):
         assert check_journal(bytes.fromhex(data.replace("-", ""))) == stated(answer), data
-    assert len(lines) == 2 * 219
+    assert len(lines) == 2 * 221
 
 
 def test_too_many_bytes():

@@ -1,10 +1,8 @@
-//! Tests of the command: files on a disk and in memory, a journal checked, and what is printed where a job fails.
+//! Tests of the command: files on a disk and in memory, a check whose output fails, and lines that no job shows.
 #![tactic(auto)]
 
 #[cfg(test)]
 mod checks;
-#[cfg(test)]
-mod commands;
 #[cfg(test)]
 mod disk_files;
 #[cfg(test)]

@@ -1,7 +1,7 @@
 //! Runs test vectors from outside against the formats that users read and write: the words of the command line,
 //! the texts of a run, and journal files. What each row asks for is computed, and compared with what it states.
 //!
-//! `known_formats FILE..` prints a line for each file, as `words.txt: 306 rows, 0 wrong`, and names each wrong
+//! `known_formats FILE..` prints a line for each file, as `words.txt: 309 rows, 0 wrong`, and names each wrong
 //! row on standard error. A line that cannot be read is a wrong row, and so is the first line of a block of
 //! texts where the text before it has lines that were not stated. The status is 0 where nothing is wrong,
 //! else 1.

@@ -1,27 +1,14 @@
-//! Tests of plans and runs: words, plans, jobs with workers and without, reports, journals and reference switches.
+//! Tests of line cards and plans: a card, slot by slot, how many cells wait in its queues, what is made and planned,
+//! and what the reference switch may note.
 #![tactic(auto)]
 
 #[cfg(test)]
-mod alone;
+mod cards;
 #[cfg(test)]
-mod growing_journals;
-#[cfg(test)]
-mod journals;
-#[cfg(test)]
-mod notes;
+mod lengths;
 #[cfg(test)]
 mod plans;
 #[cfg(test)]
-mod reference_runs;
-#[cfg(test)]
 mod references;
-#[cfg(test)]
-mod reports;
-#[cfg(test)]
-mod runs;
-#[cfg(test)]
-mod slot_lines;
-#[cfg(test)]
-mod times;
 #[cfg(test)]
 mod words;

@@ -1,14 +1,13 @@
 ghost use Rattle.std.specs.Prelude.{◌≤◌};
 ghost use Rattle.switch_words.specs.Limits.{IsUpTo};
 
-mod planning;
-
 use card_core::{CardPlan, Planned};
 use pcap_records::Link;
-use rotating_pick::{MAX_PORTS, OutOfMemory};
+use rotating_pick::{MAX_FILE_BYTES, MAX_PORTS, OutOfMemory};
 use scheduler_names::SchedulerName;
 use std::alloc::Global;
 use std::test::Fail;
+use switch_plan::jobs::plan;
 use switch_plan::{Made, Plan, made_input};
 use switch_words::{GenJob, MAX_COUNT, Settings};
 
@@ -53,18 +52,6 @@ fn made_from_1(alloc: Global, count: u32, ports: u32) -> Result<Made, OutOfMemor
 }
 
 #[test]
-fn makes_two_packets_for_each_of_two_ports(rt: HostRuntime) -> Result<(), Fail> {
-    let made = made_from_1(rt.alloc(), 2, 2)?;
-    assert_eq!(rt; made.table.as_slice(), TWO_PORTS);
-    assert_eq!(rt; made.captures.len(), 2);
-    let first = made.captures[0].as_slice();
-    assert_eq!(rt; first.len(), 24 + 16 + 209 + 16 + 579);
-    assert!(rt; first.starts_with(FIRST_BYTES));
-    assert_eq!(rt; made.captures[1].len(), 24 + 16 + 1184 + 16 + 113);
-    Ok(())
-}
-
-#[test]
 fn makes_one_packet_for_one_port(rt: HostRuntime) -> Result<(), Fail> {
     let made = made_from_1(rt.alloc(), 1, 1)?;
     assert_eq!(rt; made.table.as_slice(), ONE_PORT);
@@ -72,6 +59,36 @@ fn makes_one_packet_for_one_port(rt: HostRuntime) -> Result<(), Fail> {
     let only = made.captures[0].as_slice();
     assert_eq!(rt; only.len(), 24 + 16 + 209);
     assert!(rt; only.starts_with(FIRST_BYTES));
+    Ok(())
+}
+
+// Two packets for each of two ports are made, and planned.
+#[test]
+fn plans_a_made_job(rt: HostRuntime) -> Result<(), Fail> {
+    let Made { table, captures } = made_from_1(rt.alloc(), 2, 2)?;
+    assert_eq!(rt; table.as_slice(), TWO_PORTS);
+    assert_eq!(rt; captures.len(), 2);
+    assert_eq!(rt; captures[0].len(), 24 + 16 + 209 + 16 + 579);
+    assert!(rt; captures[0].as_slice().starts_with(FIRST_BYTES));
+    assert_eq!(rt; captures[1].len(), 24 + 16 + 1184 + 16 + 113);
+    assert!(rt; table.len() <= MAX_FILE_BYTES);
+    assert!(rt; captures.iter().all(|file| file.len() <= MAX_FILE_BYTES));
+    let plan = plan(&rt, rt.alloc(), &SETTINGS, table, captures)?;
+    assert!(rt; plan.is_good());
+    assert_eq!(rt;
+        (plan.max_slots, plan.oversize, plan.unrouted),
+        (25 + 41 + 1, 0, 0)
+    );
+    assert_eq!(rt; plan.cards.len(), 2);
+    let (first, second) = (&plan.cards[0], &plan.cards[1]);
+    let slots: [u32; 2] = [4, 15];
+    assert!(rt; first.packets.iter().map(|packet| packet.arrival).eq(slots));
+    let slots: [u32; 2] = [21, 24];
+    assert!(rt; second.packets.iter().map(|packet| packet.arrival).eq(slots));
+    assert_eq!(rt; (first.body_room, first.packet_room), (225 + 1200, 2));
+    assert_eq!(rt; (second.body_room, second.packet_room), (595 + 129, 2));
+    let sizes: [u32; 16] = [0, 0, 225, 0, 0, 0, 0, 0, 1200, 0, 0, 0, 0, 0, 0, 0];
+    assert_eq!(rt; first.sizes.as_slice(), sizes.as_slice());
     Ok(())
 }
 

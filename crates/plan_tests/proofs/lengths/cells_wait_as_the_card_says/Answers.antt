@@ -7,7 +7,7 @@ use Rattle.card_core.specs.Plans.{Plan}
 use Rattle.card_core.specs.Posts.{row_at, post_at, IsServable}
 use Rattle.card_core.specs.Cards.{CardState, IsAfter, served_in}
 use Rattle.queue_lengths.specs.Counters.{Counters, CountBefore}
-use Rattle.card_tests.proofs.lengths.cells_wait_as_the_card_says.Goals as goal
+use Rattle.plan_tests.proofs.lengths.cells_wait_as_the_card_says.Goals as goal
 
 -- the row that a card posts is that of its slot
 row_posted : (plan : Plan) (takings : List Taken) (post : Post) → post ≡ post_at plan (served_in takings) (length takings)

@@ -3,7 +3,7 @@ use Rattle.std.proofs.Common.{◌≡◌, List, false}
 use Rattle.crossbar.specs.declared.cards.Taken.{Taken}
 use Rattle.card_core.specs.Cards.{IsAfter, served_in}
 use Rattle.queue_lengths.specs.Counters.{CountBefore}
-use Rattle.card_tests.proofs.lengths.cells_wait_as_the_card_says.Given as goal
+use Rattle.plan_tests.proofs.lengths.cells_wait_as_the_card_says.Given as goal
 
 abbrev pub invariant-loop-want : goal.invariant-loop-want
 invariant-loop-want g l =
