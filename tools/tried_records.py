@@ -8,7 +8,7 @@ import hashlib
 from pathlib import Path
 from typing import NamedTuple
 
-from proved_archive import all_below, read_crates
+from proved_archive import Crates
 from source_functions import COMMENT, stated
 from wrong_edits import crates_with_edits, edits_of
 
@@ -61,7 +61,7 @@ def stated_sum(folder):
 
 def below_sums(top, name):
     """For each crate below one the sum of what is stated in it."""
-    return {it: stated_sum(top / "crates" / it) for it in sorted(all_below(read_crates(), name))}
+    return {it: stated_sum(top / "crates" / it) for it in sorted(Crates(top).all_below(name))}
 
 
 def file_of(folder):

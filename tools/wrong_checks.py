@@ -6,7 +6,7 @@ import shutil
 import subprocess
 from typing import NamedTuple
 
-from proved_archive import all_below, kit_of_path, read_crates
+from proved_archive import Crates, kit_of_path
 
 PARTS = ("src", "specs", "proofs")
 OF_RUNS = ("args", "stdin", "stdout", "status", "data")
@@ -40,40 +40,26 @@ class Room:
     own without wrong bodies. What was proved before, here or by the gate, is taken and not proved again."""
 
     def __init__(self, top, folder, names):
-        self.top, self.folder, self.crates = top, folder, read_crates()
+        self.top, self.folder = top, folder
         self.kit = kit_of_path()
         if self.kit is None:
             raise Fault("the toolchain's rt is not in the path")
-        needed = {it for name in names for it in (name, *all_below(self.crates, name))}
-        self.lines = {re.split("[ :]", line)[0]: line for line in (top / "crates.txt").read_text().splitlines()}
-        self.libraries = folder / "repository/crates"
-        self.prove([name for name in self.crates if name in needed])
+        crates = Crates(top)
+        needed = {it for name in names for it in (name, *crates.all_below(name))}
+        self.prove([name for name in crates.named if name in needed], folder / "repository")
+        self.crates = Crates(folder / "repository")
 
-    def prove(self, names):
+    def prove(self, names, repository):
         """Proves these crates, and builds the libraries among them."""
-        repository = self.libraries.parent
         (repository / ".git").mkdir(parents=True)
-        (repository / "crates.txt").write_text("".join(f"{self.lines[name]}\n" for name in names))
+        lines = {re.split("[ :]", line)[0]: line for line in (self.top / "crates.txt").read_text().splitlines()}
+        (repository / "crates.txt").write_text("".join(f"{lines[name]}\n" for name in names))
         shutil.copy(self.top / "HANDLES", repository / "HANDLES")
         for name in names:
-            copy_parts(self.top / "crates" / name, self.libraries / name, (*PARTS, *OF_RUNS))
+            copy_parts(self.top / "crates" / name, repository / "crates" / name, (*PARTS, *OF_RUNS))
         ran = subprocess.run(["rt", "ci"], cwd=repository, stdout=subprocess.PIPE, stderr=subprocess.STDOUT, text=True, errors="replace")
         if ran.returncode:
             raise Fault("the crates are not proved as they stand:\n" + "\n".join(ran.stdout.splitlines()[-20:]))
-
-    def words(self, name):
-        """The words of the prover that check the crate of this name in the folder that it is started in."""
-        def library(it):
-            return f"{it}={self.libraries}/{it}/out/rlib/{it}.rlib" if it in self.crates else f"{it}={self.kit}/rlibs/{it}.rlib"
-
-        root = "src/main.rt" if (self.top / "crates" / name / "src/main.rt").exists() else "src/lib.rt"
-        words = [f"{self.kit}/bin/rattle", "check", "--crate-name", name, root]
-        words += [word for it in ("core", "std", *self.crates[name]) for word in ("--extern", library(it))]
-        words += [word for it in all_below(self.crates, name) for word in ("-L", f"dependency={self.libraries}/{it}/out/rlib")]
-        words += ["-L", f"dependency={self.kit}/rlibs", "--antt-project", f"{self.kit}/rattle/logic/antt-project.json"]
-        words += ["--logic-built", f"{self.kit}/logic_built", "--jobs", "1", "--links", f"{name}="]
-        is_static = self.lines[name].startswith(f"{name} staticlib:")
-        return words + (["--crate-type", "staticlib"] if is_static else [])
 
 
 class Check(NamedTuple):
@@ -118,7 +104,7 @@ def check(room, name, texts, only, folder):
     for path, text in texts.items():
         (folder / path).write_text(text, encoding="utf-8")
     (folder / "kept").mkdir(exist_ok=True)
-    words = [*room.words(name), "--incremental", "kept", *(word for it in only for word in ("--only", it))]
+    words = [*room.crates.words(room.kit, "check", name), "--incremental", "kept", *(word for it in only for word in ("--only", it))]
     with open(folder / "said", "w", encoding="utf-8") as said:
         ran = subprocess.Popen(words, cwd=folder, stdin=subprocess.DEVNULL, stdout=said, stderr=subprocess.STDOUT)
         _, status, used = os.wait4(ran.pid, 0)

@@ -4,6 +4,7 @@ from __future__ import annotations
 
 import ctypes
 import os
+import subprocess
 from functools import lru_cache
 from pathlib import Path
 
@@ -46,12 +47,20 @@ class Refused(ValueError):
 
 def places() -> list[str]:
     """Where the shared object is looked for: the variable TINY_TERA_LIBRARY alone, if it is set; else beside this
-    package, in out/ of the repository that this package stands in, and where the system's loader looks."""
+    package, in the repository that this package stands in, and where the system's loader looks."""
     if os.environ.get(VARIABLE):
         return [os.environ[VARIABLE]]
     package = Path(__file__).resolve().parent
-    files = [package / NAME, package.parent.parent / "out" / NAME]
+    files = [package / NAME, *_of_repository(package.parent.parent)]
     return [*(str(file) for file in files if file.is_file()), f"{NAME}.{VERSION}", NAME]
+
+
+def _of_repository(top: Path) -> list[Path]:
+    """The one that was built there, else the stored one, of the sources as they are: its launcher says where."""
+    if not (top / "crates.txt").is_file() or not (top / "tiny_tera").is_file():
+        return []
+    ran = subprocess.run([top / "tiny_tera", "--library"], stdin=subprocess.DEVNULL, stdout=subprocess.PIPE, text=True)
+    return [Path(ran.stdout.rstrip("\n"), NAME)] if ran.returncode == 0 else []
 
 
 @lru_cache(maxsize=None)

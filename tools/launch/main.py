@@ -3,15 +3,18 @@
 import os
 import sys
 
-from . import sources
+from . import there
+from .builds import LIBRARY, PROGRAM
 from .place import Place, say, tell, tell_error
 from .ports import lines_of_job, lines_of_ports, refusal
 from .words import COMMANDS, DRY_RUN, OVERWRITE, OWN, Fault, read_words
 
 USAGE_FAULT = 2
 HELP = ("--help", "-h")
-# For the gate, which builds the program itself: the sums of the sources as it begins, and that they were proved.
-SUMS, RECORD = "--sums-of-sources", "--record-build"
+# Words of their own, without a command.
+VERSION, WHERE, PROVE, ALL = "--version", "--library", "--prove", "all"
+# For the gate, which builds itself: the sums of the sources as it begins, and that what was built was proved from them.
+SUMS, RECORDS = "--sums-of-sources", {"--record-build": PROGRAM, "--record-library": LIBRARY}
 HINTED = (2, 3, 4, 6)
 WAITS = "such packets wait before the switch, and no number of the report shows it"
 
@@ -41,12 +44,18 @@ def _own_answer(place, words):
     before = words[:words.index("--")] if "--" in words else words
     if any(it in before for it in HELP):
         return _help(place, words)
-    if words == ["--version"]:
+    if words == [VERSION]:
         return tell(_version(place))
+    if words == [WHERE]:
+        return _library(place)
+    if words in ([PROVE], [PROVE, ALL]):
+        return _prove(place, words[-1] == ALL)
     if words == [SUMS]:
-        return tell(f"{entry[0]}  {name}" for name, entry in sources.noted_sources(place.top).items())
-    if len(words) == 2 and words[0] == RECORD:
-        return _record(place, words[1])
+        from .noting import sums_of
+        return tell(sums_of(place.top))
+    if len(words) == 2 and words[0] in RECORDS:
+        from .noting import note_and_tell
+        return note_and_tell(place, RECORDS[words[0]], words[1])
     return None
 
 
@@ -67,29 +76,37 @@ def _help(place, words):
 
 
 def _version(place):
-    from .place import read_record
-    changed, record = sources.changes(place), read_record(place.record)
-    found = [f"tiny_tera {place.version()}"]
-    if changed is None:
-        return [*found, "not built yet, and so not proved"]
-    found += [f"proved with {record.get('kit')}", f"sha256 {record['program'][0]}  {place.program}"]
-    return found + [f"{name} changed since: it is proved again before it runs" for name in changed[:1]]
+    found = there.find(place, PROGRAM)
+    lines = [f"tiny_tera {place.version()}"]
+    if found.build is None:
+        why = f"{found.changed[0]} changed since it was proved" if found.changed else str(found.fault)
+        return [*lines, f"no program is there of these sources: {why}; it is proved before it runs"]
+    kit = found.build.said()["kit"]
+    told = f"proved with {kit}" if place.is_installed else f"proved and built here with {kit}"
+    if found.is_stored:
+        told = f"stored in release/, proved elsewhere with {kit} from these sources; to prove it here: ./tiny_tera {PROVE}"
+    return [*lines, told, f"sha256 {found.build.sum()}  {found.build.path}"]
 
 
-def _record(place, name):
-    """Notes that the built program was proved from the sources whose sums a file has, one in a line."""
-    from .building import kit_line
-    try:
-        with open(name, encoding="utf-8") as file:
-            lines = [line.rstrip("\n").partition("  ") for line in file]
-        sources.note_build(place, {source: [found, None] for found, _, source in lines}, kit_line())
-    except OSError as fault:
-        say(f"the build is not noted: {fault}")
-        return 1
-    changed = sources.changes(place)
-    for source in changed or []:
-        say(f"{source} was changed since its sum was noted, so the program will be proved again")
-    return 0
+def _library(place):
+    """Tells the folder in which the library for C and Python is."""
+    if place.is_installed:
+        say(f"{WHERE} is a word of a clone's launcher")
+        return USAGE_FAULT
+    found = there.find(place, LIBRARY)
+    if found.build:
+        return tell([found.build.folder])
+    changed = f"{found.changed[0]} changed since the library was built; " if found.changed else ""
+    say(f"{changed}{found.fault}: tools/make_library builds it, with the toolchain")
+    return 1
+
+
+def _prove(place, is_all):
+    if place.is_installed:
+        say(f"{PROVE} is a word of a clone's launcher: nothing is installed that could be proved")
+        return USAGE_FAULT
+    from .proving import prove
+    return 0 if prove(place, is_all) else 1
 
 
 def _dry_run(job, fault):
@@ -103,19 +120,20 @@ def _dry_run(job, fault):
 
 
 def _start(place, words, job, fault):
-    changed = sources.changes(place)
-    if changed is None or changed:
-        if fault:
-            # The words would be refused after half an hour of proofs.
-            say(f"{fault}")
-            return USAGE_FAULT
-        if not _build(place):
-            return 1
+    program = _program(place, fault)
+    if isinstance(program, int):
+        return program
     if job and job.inputs and os.isatty(2):
         for line in lines_of_ports(job):
             tell_error(line)
-    from .running import run
-    status, said = run(place.program, words)
+    from .running import OLD_LIBRARY, needs_line, run
+    try:
+        status, said = run(program, words)
+    except OSError as fault:
+        say(needs_line(fault.strerror))
+        return 1
+    if status == 1 and OLD_LIBRARY in said:
+        say(needs_line("its C library is older"))
     if status in HINTED:
         from .hints import hint
         text = hint(words, status, said)
@@ -126,12 +144,20 @@ def _start(place, words, job, fault):
     return status
 
 
-def _build(place):
+def _program(place, fault):
+    """The program to start, or the status where there is none."""
+    found = there.find(place, PROGRAM)
+    if found.build:
+        return found.build.path
     if place.is_installed:
-        say(f"{place.program} is not the program that was installed, so it is not started")
-        return False
-    from .building import build
-    return build(place)
+        say(f"{place.path('program')} is not the program that was installed, so it is not started")
+        return 1
+    if fault:
+        # The words would be refused after half an hour of proofs.
+        say(f"{fault}")
+        return USAGE_FAULT
+    from .proving import build
+    return there.find(place, PROGRAM).build.path if build(place, found) else 1
 
 
 def _warn_of_late(job):

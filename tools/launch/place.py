@@ -5,6 +5,7 @@ import os
 import subprocess
 
 
+RECORD = "launcher.json"  # Of what the program was made, beside it.
 # From the folder PREFIX/lib/tiny_tera.
 INSTALLED_MANUAL = ("..", "..", "share", "man", "man1", "tiny_tera.1")
 
@@ -15,9 +16,6 @@ class Place:
     def __init__(self, top):
         self.top = top
         self.is_installed = not os.path.exists(self.path("crates.txt"))
-        self.made = top if self.is_installed else self.path("crates", "tiny_tera", "out")
-        self.program = os.path.join(self.made, "program" if self.is_installed else "tiny_tera")
-        self.record = os.path.join(self.made, "launcher.json")
         self.usage = self.path("docs", "USAGE.md")
         self.manual = os.path.normpath(self.path(*INSTALLED_MANUAL if self.is_installed else ("docs", "tiny_tera.1")))
 
@@ -27,7 +25,7 @@ class Place:
     def version(self):
         """The tag or the commit: of an installed program the one that was installed."""
         if self.is_installed:
-            return read_record(self.record).get("version", "unknown")
+            return read_record(self.path(RECORD)).get("version", "unknown")
         words = ["git", "-C", self.top, "describe", "--tags", "--always", "--dirty"]
         try:
             ended = subprocess.run(words, stdout=subprocess.PIPE, stderr=subprocess.DEVNULL, universal_newlines=True)
@@ -36,8 +34,14 @@ class Place:
         return ended.stdout.strip() or "unknown"
 
 
+def cache_folder():
+    """Where the user's machine keeps what can be made again."""
+    base = os.environ.get("XDG_CACHE_HOME", "")
+    return os.path.join(base if os.path.isabs(base) else os.path.expanduser("~/.cache"), "nakufisi")
+
+
 def read_record(path):
-    """What is noted of the built program, empty where nothing is."""
+    """What is noted of what was made, empty where nothing is."""
     try:
         with open(path, encoding="utf-8") as file:
             found = json.load(file)
@@ -47,7 +51,7 @@ def read_record(path):
 
 
 def write_record(path, record):
-    """Notes what the program was built from, at once or not at all."""
+    """Notes what something was made from, at once or not at all."""
     new = f"{path}.{os.getpid()}"
     with open(new, "w", encoding="utf-8") as file:
         json.dump(record, file)

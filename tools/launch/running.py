@@ -8,6 +8,8 @@ from .place import write_all
 
 # The program asks for large pages: fewer of them are touched for the first time, so a run takes less.
 TUNABLES, LARGE_PAGES = "GLIBC_TUNABLES", "glibc.malloc.hugetlb=1"
+NEEDS = "Linux on x86-64 with GNU's C library 2.34 or later"
+OLD_LIBRARY = "version `GLIBC_"  # The loader says so, and ends with 1.
 HANDED_ON = (signal.SIGTERM, signal.SIGHUP, signal.SIGUSR1, signal.SIGUSR2)
 KEPT = 1 << 16
 
@@ -15,6 +17,16 @@ KEPT = 1 << 16
 def environment():
     """The variables of the program: those of the user, who may have set the one for large pages otherwise."""
     return {**os.environ, TUNABLES: os.environ.get(TUNABLES, LARGE_PAGES)}
+
+
+def needs_line(why):
+    """What is said where the program could not be started."""
+    here = os.uname()
+    try:
+        library = os.confstr("CS_GNU_LIBC_VERSION")
+    except (OSError, ValueError):
+        library = None
+    return f"the program cannot be started here ({why}): it needs {NEEDS}, and here is {here.sysname} on {here.machine} with {library or 'another'}"
 
 
 def run(program, words):

@@ -1,60 +1,108 @@
-"""What the program is proved from: the sources of the crates that it needs, and whether they are those of the proof.
+"""What a build is made from: the sources of the crates that it needs, and whether they are those of a record.
 
-Beside the program is noted, when it is built, the sum of each source, as it was when the proof began, and of the
-program. Times decide nothing: a file is read again only where its size or one of its times is not as noted, or where
-it had just been written when it was noted.
+A record has, for each source, its sum, and the size and times that its file had. Times decide nothing: a file is read
+again only where its size or one of its times is not as noted, or where it had just been written when it was noted. Of
+crates.txt the lines of these crates count, each by itself, and stand in the record as they are.
 """
 
 import os
 import stat
 import time
 
-from .place import read_record, write_record
-
 PARTS = ("src", "specs", "proofs")
 SUFFIXES = (".rt", ".antt")
-LISTS = ("crates.txt", "HANDLES")
+HANDLES = "HANDLES"
+LINE = "crates.txt:"  # Before a crate's name, the name of its line.
 JUST_WRITTEN_NS = 2_000_000_000  # A file system may round times to this.
 
 
-def libraries_below(top):
-    """For each crate of crates.txt the libraries that it names."""
-    below = {}
+def lines_of_crates(top):
+    """The line of each crate in crates.txt, without comment and needless blanks."""
+    found = {}
     try:
         with open(os.path.join(top, "crates.txt"), encoding="utf-8") as file:
-            for line in file:
-                head, colon, names = line.partition("#")[0].partition(":")
+            for text in file:
+                line = " ".join(text.partition("#")[0].split())
+                head, colon, _ = line.partition(":")
                 if colon and head.split():
-                    below[head.split()[0]] = names.split()
+                    found[head.split()[0]] = line
     except OSError:
         pass
-    return below
-
-
-def needed_crates(top):
-    """The crates that the program needs with those of the repository below each, in an order in which they can be proved."""
-    below = libraries_below(top)
-    found = {}
-
-    def put(name):
-        if name in below and name not in found:
-            for other in below[name]:
-                put(other)
-            found[name] = [it for it in below[name] if it in below]
-
-    put("tiny_tera")
     return found
 
 
-def source_names(top):
-    """The names of all sources of the program, from the top of the repository."""
-    found = [name for name in LISTS if os.path.exists(os.path.join(top, name))]
-    for crate in needed_crates(top):
-        for part in PARTS:
-            for at, _, names in os.walk(os.path.join(top, "crates", crate, part)):
-                place = at[len(top):].strip("/")
-                found += [f"{place}/{name}" for name in names if name.endswith(SUFFIXES)]
-    return found
+class Sources:
+    """The sources of some crates of a checkout and of all crates below them, and further files that count as such."""
+
+    def __init__(self, top, roots, more=()):
+        self.top, self.more = top, more
+        self.lines = lines_of_crates(top)
+        self.below = self._in_order(roots)
+
+    def _in_order(self, roots):
+        """The crates, each after those below it, with the crates of the repository that it names."""
+        named = {name: line.partition(":")[2].split() for name, line in self.lines.items()}
+        found = {}
+
+        def put(name):
+            if name in named and name not in found:
+                for other in named[name]:
+                    put(other)
+                found[name] = [it for it in named[name] if it in named]
+
+        for root in roots:
+            put(root)
+        return found
+
+    def names(self):
+        """The names of all sources, from the top of the repository."""
+        found = [name for name in (HANDLES, *self.more) if os.path.exists(os.path.join(self.top, name))]
+        for crate in self.below:
+            found.append(LINE + crate)
+            for part in PARTS:
+                for at, _, names in os.walk(os.path.join(self.top, "crates", crate, part)):
+                    place = at[len(self.top):].strip("/")
+                    found += [f"{place}/{name}" for name in names if name.endswith(SUFFIXES)]
+        return found
+
+    def noted(self):
+        """Each source as it is noted now."""
+        return {name: self._noted(name) for name in self.names()}
+
+    def _noted(self, name):
+        if name.startswith(LINE):
+            return [self.lines[name[len(LINE):]], None]
+        return noted(os.path.join(self.top, name))
+
+    def of_these(self, entries):
+        """Of noted sources, those of these crates."""
+        names = set(self.names())
+        return {name: entry for name, entry in entries.items() if name in names}
+
+    def compare(self, entries):
+        """The names of the sources that are not as noted; entries of others get the stamps that they have now."""
+        names = self.names()
+        changed = sorted(set(entries) - set(names))
+        for name in names:
+            is_other = name not in entries
+            if not is_other and name.startswith(LINE):
+                is_other = entries[name] != self._noted(name)
+            elif not is_other:
+                is_other, entries[name] = moved(os.path.join(self.top, name), entries[name])
+            if is_other:
+                changed.append(name)
+        return changed
+
+    def sums_by_crate(self, entries):
+        """One sum for each crate, of its line and its noted sources in the order of their names; and that of HANDLES."""
+        import hashlib
+        found = {HANDLES: entries[HANDLES][0]} if HANDLES in entries else {}
+        texts = {f"crates/{crate}": self.lines[crate] + "\n" for crate in self.below}
+        for name in sorted(entries):
+            crate = "/".join(name.split("/")[:2])
+            if crate in texts:
+                texts[crate] += f"{entries[name][0]}  {name}\n"
+        return {**found, **{crate: hashlib.sha256(text.encode()).hexdigest() for crate, text in texts.items()}}
 
 
 def stamp_of(path):
@@ -84,12 +132,7 @@ def noted(path):
     return [sum_of(path), stamp if keeps else None]
 
 
-def noted_sources(top):
-    """Each source with its sum and stamp."""
-    return {name: noted(os.path.join(top, name)) for name in source_names(top)}
-
-
-def _moved(path, entry):
+def moved(path, entry):
     """Whether the bytes of a file are not the noted ones, and the entry as it should be noted from now on."""
     if entry[1] and stamp_of(path) == entry[1]:
         return False, entry
@@ -98,46 +141,3 @@ def _moved(path, entry):
     except OSError:
         return True, entry
     return new[0] != entry[0], new
-
-
-def _compare(top, entries):
-    """The names of the sources that are not as noted; entries of others get the stamps that they have now."""
-    names = source_names(top)
-    changed = sorted(set(entries) - set(names))
-    for name in names:
-        moved = name not in entries
-        if not moved:
-            moved, entries[name] = _moved(os.path.join(top, name), entries[name])
-        if moved:
-            changed.append(name)
-    return changed
-
-
-def changes(place):
-    """The names of the sources that are not as they were when the program was proved, none where all are; None where
-    nothing is noted of this program. An installed program has no sources."""
-    record = read_record(place.record)
-    if "program" not in record or not os.access(place.program, os.X_OK):
-        return None
-    is_other, program = _moved(place.program, record["program"])
-    if is_other:
-        return None
-    sources = dict(record.get("sources", {}))
-    changed = [] if place.is_installed else _compare(place.top, sources)
-    if not changed and (program, sources) != (record["program"], record.get("sources", {})):
-        _keep(place, {**record, "program": program, "sources": sources})
-    return changed
-
-
-def _keep(place, record):
-    """Notes stamps anew; where the folder may not be written, files are read again at each start."""
-    try:
-        write_record(place.record, record)
-    except OSError:
-        pass
-
-
-def note_build(place, sources, kit):
-    """Notes that the program was proved from these sources, by this kit."""
-    entry = noted(place.program)
-    write_record(place.record, {"kit": kit, "version": place.version(), "program": entry, "sources": sources})

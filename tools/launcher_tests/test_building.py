@@ -7,28 +7,37 @@ import subprocess
 import unittest
 from unittest import mock
 
-from launch import sources
-from launch.building import Progress
-from launch.estimate import READS_FIRST, WRITES_DOWN, Estimate, seconds_by_crate
+from launch import sources, there
+from launch.builds import PROGRAM
+from launch.estimate import BY_THE_CLOCK, GAIN, Estimate, seconds_by_crate
 from launch.place import Place
+from launch.proving import Progress
 
-from .scene import TOP, Scene
+from .scene import CRATES, NO_TOOLCHAIN, SOURCES, TOP, Scene
 
 
 class Building(Scene):
     def test_first_build(self):
+        """A copy of what the program stands on is proved by plain rt ci, and nothing else is there."""
         first = self.launch("gen", "1", "2", "2")
         self.assertEqual((first.returncode, first.stdout), (0, "summary\n"))
-        calls = self.calls()
-        self.assertEqual(calls[-1], "run -- gen 0 0 1")
-        self.assertIn("it is proved first, 3 crates, which takes some", first.stderr)
-        self.assertIn(f"cd '{self.top}/crates/tiny_tera' && rt try -- gen 1 2 2", first.stderr)
-        self.assertIn("proved=no", first.stderr)
-        if len(calls) == 2:  # With more than one processor.
-            self.assertIn("proved upper, 2 of 3 crates; 1 left, some 1 minute\n", first.stderr)
+        self.assertEqual(self.calls(), ["ci"])
+        self.assertIn("tiny_tera: nothing is stored in release/\ntiny_tera: the program is proved first: 3 crates, some ", first.stderr)
+        self.assertIn("proved upper, 2 of 3 crates; 1 left, some ", first.stderr)
+        self.assertIn("proved tiny_tera, 3 of 3 crates; tests and runs are left\ntiny_tera: 3 crates proved\n", first.stderr)
+        names = self.room.joinpath("files").read_text().split()
+        kept = [f"./{name}" for name in SOURCES if re.match("crates/(lower|upper|tiny_tera)/|HANDLES|crates.txt", name) and "must-fail" not in name]
+        self.assertEqual(sorted(names), sorted(kept))
         second = self.launch("gen", "1", "2", "2")
         self.assertEqual((second.returncode, second.stdout, second.stderr), (0, "summary\n", ""))
         self.assertEqual(self.calls(), [])
+
+    def test_kept_proofs(self):
+        """Crates that were proved before are only counted."""
+        told = self.launch("gen", "1", "2", "2", RT_KEPT="lower tiny_tera").stderr
+        self.assertNotIn("proved lower", told)
+        self.assertIn("proved upper, 2 of 3 crates; 1 left", told)
+        self.assertIn("3 crates proved, 2 of them by earlier runs on this machine\n", told)
 
     def test_copy_without_times(self):
         self.build()
@@ -48,19 +57,26 @@ class Building(Scene):
             "crates/lower/proofs/walk/Proof.antt": "-- another\n",
             "crates/upper/specs/Lib.antt": "-- another definition\n",
             "HANDLES": "Handles allowed: none.\n",
-            "crates.txt": "lower:\nupper: lower\ntiny_tera: upper lower\n",
         }
+        self.build()
         for name, text in changes.items():
             with self.subTest(name):
-                self.build() if not self.top.joinpath("crates/tiny_tera/out").exists() else None
                 path = self.top / name
                 times = (path.stat().st_atime_ns, path.stat().st_mtime_ns) if path.exists() else None
                 path.write_text(text)
                 if times:
                     os.utime(path, ns=times)
                 told = self.launch("gen", "1", "2", "2").stderr
-                self.assertIn(f"{name} changed since the program was proved, so it is proved again", told)
-                self.assertEqual(self.calls(), ["run -- gen 0 0 1"])
+                self.assertIn(f"{name} changed since the program was proved\ntiny_tera: the program is proved first", told)
+                self.assertEqual(self.calls(), ["ci"])
+
+    def test_line_of_a_crate(self):
+        self.build()
+        path = self.top / "crates.txt"
+        path.write_text(CRATES.replace("beside: lower\n", "beside:\nnew: upper\n").replace("upper: lower hex", "upper:  lower hex # Same."))
+        self.assertEqual(self.launch("gen", "1", "2", "2").stderr, "")
+        path.write_text(CRATES.replace("tiny_tera: upper", "tiny_tera: upper lower"))
+        self.assertIn("crates.txt:tiny_tera changed since the program was proved", self.launch("gen", "1", "2", "2").stderr)
 
     def test_source_that_is_gone(self):
         self.build()
@@ -79,10 +95,8 @@ class Building(Scene):
         self.build()
         program = self.top / "crates/tiny_tera/out/tiny_tera"
         program.write_text("#!/bin/sh\necho not the proved one\n")
-        again = self.launch("gen", "1", "2", "2")
-        self.assertEqual(again.stdout, "summary\n")
-        self.assertIn("it is not noted from which sources it was proved", again.stderr)
-        self.assertEqual(self.calls(), ["run -- gen 0 0 1"])
+        self.assertEqual(self.launch("gen", "1", "2", "2").stdout, "summary\n")
+        self.assertEqual(self.calls(), ["ci"])
 
     def test_edit_during_a_build(self):
         code = f"echo '// edited' >>'{self.top}/crates/lower/src/lib.rt'"
@@ -91,7 +105,7 @@ class Building(Scene):
         self.assertIn("crates/lower/src/lib.rt was changed while the program was proved: run this again", first.stderr)
         self.calls()
         self.assertEqual(self.launch("gen", "1", "2", "2").stdout, "summary\n")
-        self.assertEqual(self.calls(), ["run -- gen 0 0 1"])
+        self.assertEqual(self.calls(), ["ci"])
 
     def test_two_launchers(self):
         """The second waits for the first, and finds the program built."""
@@ -100,19 +114,22 @@ class Building(Scene):
         both = [subprocess.Popen(words, env=variables, stdout=subprocess.PIPE, stderr=subprocess.PIPE) for _ in range(2)]
         told = [it.communicate(timeout=60) for it in both]
         self.assertEqual([out for out, _ in told], [b"summary\n"] * 2)
-        self.assertEqual(self.calls().count("run -- gen 0 0 1"), 1)
+        self.assertEqual(self.calls(), ["ci"])
 
     def test_build_that_fails(self):
         failed = self.launch("gen", "1", "2", "2", RT_CODE="echo 'error: no proof'; exit 1")
-        log = self.top / "crates/tiny_tera/out/launcher.log"
+        log = self.room / "home/.cache/nakufisi/proving.log"
         self.assertEqual((failed.returncode, failed.stdout), (1, ""))
         self.assertTrue(failed.stderr.endswith(f"error: no proof\ntiny_tera: the program could not be built; all that was said is in {log}\n"))
         self.assertEqual(log.read_text(), "error: no proof\n")
 
     def test_no_toolchain(self):
-        missing = self.launch("gen", "1", "2", "2", PATH="/usr/bin:/bin")
+        missing = self.launch("gen", "1", "2", "2", PATH=NO_TOOLCHAIN)
         self.assertEqual((missing.returncode, missing.stdout), (1, ""))
-        self.assertEqual(missing.stderr, "tiny_tera: the program is to be built, and the toolchain's rt is not in the path\n")
+        self.assertEqual(missing.stderr, (
+            "tiny_tera: nothing is stored in release/\n"
+            "tiny_tera: it is to be proved and built, and the toolchain's rt is not in the path\n"
+        ))
 
     def test_wrong_words_build_nothing(self):
         wrong = self.launch("run", "--rounds", "65", "t", "out", "a")
@@ -129,7 +146,6 @@ class Building(Scene):
         self.write("began", sums)
         self.assertEqual(self.launch("--record-build", "began").returncode, 1)
         made = self.top / "crates/tiny_tera/out/tiny_tera"
-        made.parent.mkdir()
         shutil.copy(self.room / "fake", made)
         self.assertEqual(self.launch("--record-build", "began").returncode, 0)
         self.assertEqual(self.launch("gen", "1", "2", "2").stderr, "")
@@ -148,11 +164,11 @@ class Sums(Scene):
         self.build()
         for path in self.top.rglob("*"):
             os.utime(path, (1_000_000_000, 1_000_000_000))
-        place = Place(str(self.top))
+        build = there.built(Place(str(self.top)), PROGRAM)[0]
         with mock.patch.object(sources, "JUST_WRITTEN_NS", -10**12):  # As if written long ago.
-            self.assertEqual(sources.changes(place), [])
+            self.assertEqual(build.changes(), [])
             with mock.patch.object(sources, "sum_of", side_effect=AssertionError("a file is read")):
-                self.assertEqual(sources.changes(place), [])
+                self.assertEqual(build.changes(), [])
 
     def test_just_written_is_read_again(self):
         path = self.jobs / "just"
@@ -161,7 +177,7 @@ class Sums(Scene):
 
     def test_real_crates(self):
         """The crates that the program needs, each after those below it, all with their seconds."""
-        order = sources.needed_crates(str(TOP))
+        order = sources.Sources(str(TOP), PROGRAM.roots).below
         self.assertEqual(list(order)[-1], "tiny_tera")
         self.assertIn("switch_run", order)
         self.assertNotIn("known_answers", order)
@@ -175,37 +191,51 @@ class Estimates(unittest.TestCase):
     BELOW = {"a": [], "b": [], "c": ["a"], "d": ["b", "c"]}
     SECONDS = {"a": 10, "b": 40, "c": 20, "d": 30}
 
-    def estimate(self, jobs):
+    def estimate(self, processors):
         with mock.patch("launch.estimate.seconds_by_crate", return_value=self.SECONDS):
-            return Estimate(self.BELOW, jobs)
+            return Estimate(self.BELOW, processors)
+
+    def left(self, processors, done=()):
+        return self.estimate(processors).left(done) / BY_THE_CLOCK
 
     def test_schedule(self):
-        # Side by side: a 0 to 10, b 0 to 40, c 10 to 30, d 40 to 70.
-        self.assertEqual((self.estimate(1).left(()), self.estimate(2).left(())), (100, 70))
-        self.assertEqual((self.estimate(2).left(("a",)), self.estimate(2).left(("a", "b", "c"))), (70, 30))
+        """One after the other; side by side, b 0 to 40, a 0 to 10, c 10 to 30, d with two jobs from 40 on."""
+        self.assertAlmostEqual(self.left(1), 100)
+        self.assertAlmostEqual(self.left(2), 40 + 30 / (1 + GAIN))
+        self.assertAlmostEqual(self.left(2, ("a", "b", "c")), 30 / (1 + GAIN))
+
+    def test_longest_chain_first(self):
+        """Of three that can begin, those come first behind which most is left: short, then the others side by side."""
+        below = {"alone": [], "short": [], "long": ["short"], "other": []}
+        seconds = {"alone": 30, "short": 10, "long": 60, "other": 20}
+        with mock.patch("launch.estimate.seconds_by_crate", return_value=seconds):
+            whole = Estimate(below, 2)
+        self.assertEqual(sorted(below, key=lambda name: -whole.chain[name]), ["short", "long", "alone", "other"])
+        self.assertAlmostEqual(whole.left(()) / BY_THE_CLOCK, 70)
 
     def test_slow_machine(self):
-        """Where all so far took twice as long as it should, so does most of the rest."""
+        """Where all so far took twice as long as it should, so does most of the rest; what was kept tells nothing."""
         whole = self.estimate(2)
-        done = ("a", "b", "c")
-        expected = whole.expected - WRITES_DOWN * 30
-        usual, slow = (whole.minutes_left(done, factor * expected) for factor in (1, 20))
+        expected = whole.left(("b",)) - whole.left(("a", "b", "c"))
+        usual, slow = (whole.minutes_left(("a", "c"), ("b",), factor * expected) for factor in (1, 20))
         self.assertEqual(usual, 1)
-        self.assertGreater(slow, 5)
-        self.assertLessEqual(slow, 20 * 30 * WRITES_DOWN / 60)
+        self.assertGreater(slow, 3)
+        self.assertLessEqual(slow, 20 * whole.left(("a", "b", "c")) / 60)
 
     def test_nothing_done(self):
-        """At the start all that is expected is left, and no more is known while sources are read."""
-        whole = self.estimate(2)
-        self.assertEqual(whole.minutes_left((), 0), round(whole.expected / 60))
-        self.assertEqual(whole.minutes_left((), READS_FIRST), round((whole.expected - READS_FIRST) / 60))
-        self.assertGreater(whole.minutes_left((), 20 * READS_FIRST), 5)
+        """At the start all that is expected is left, and no more is known before the first crate."""
+        whole = self.estimate(1)
+        self.assertEqual(whole.minutes_left((), (), 0), round(whole.left(()) / 60))
+        self.assertEqual(whole.minutes_left((), (), 60), round((whole.left(()) - 60) / 60))
+        self.assertEqual(whole.minutes_left((), tuple(self.BELOW), 5), 1)
 
     def test_progress(self):
         said = []
-        with mock.patch("launch.estimate.seconds_by_crate", return_value=self.SECONDS), mock.patch("launch.building.say", said.append):
+        with mock.patch("launch.estimate.seconds_by_crate", return_value=self.SECONDS), mock.patch("launch.proving.say", said.append):
             progress = Progress(self.BELOW, 2, clock=lambda: 0)
-            for line in ("== a", "fn x: proved", "logic=proved functions=2 sum=0", "logic=proved", "== summary", "rt: chose --jobs 1 for b"):
+            for line in ("== a", "fn x: proved", "logic=proved functions=2 sum=0", "rt: a: its tests are proved", "rt: b NOT PROVED",
+                         "rt: a proved", "rt: a proved", "rt: c is kept: an earlier run proved the same", "rt: x proved", "rt: b proved", "rt: d proved"):
                 progress.line(line)
         self.assertRegex(said[0], re.compile(r"proved a, 1 of 4 crates; 3 left, some \d+ minutes?$"))
-        self.assertEqual(said[1:], ["proving b, crate 2 of 4"])
+        self.assertRegex(said[1], re.compile(r"proved b, 3 of 4 crates; 1 left, some \d+ minutes?$"))
+        self.assertEqual(said[2:], ["proved d, 4 of 4 crates; tests and runs are left"])

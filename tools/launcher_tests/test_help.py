@@ -51,19 +51,20 @@ class Help(Scene):
         self.assertEqual(self.launch("run", "--rounds", "2", "-h").stdout, self.launch("run", "--help").stdout)
 
     def test_version(self):
-        self.assertEqual(self.launch("--version").stdout, "tiny_tera unknown\nnot built yet, and so not proved\n")
+        none = "no program is there of these sources: {}; it is proved before it runs"
+        self.assertEqual(self.launch("--version").stdout, f"tiny_tera unknown\n{none.format('nothing is stored in release/')}\n")
         self.build()
         for words in (["init", "-q"], ["add", "-A"], ["-c", "user.name=x", "-c", "user.email=x@y", "commit", "-qm", "x"], ["tag", "v7"]):
             subprocess.run(["git", "-C", self.top, *words], check=True)
         lines = self.launch("--version").stdout.splitlines()
-        self.assertEqual(lines[:2], ["tiny_tera v7", f"proved with {KIT}"])
+        self.assertEqual(lines[:2], ["tiny_tera v7", f"proved and built here with {KIT}"])
         self.assertEqual(len(lines), 3)
         self.assertRegex(lines[2], rf"sha256 [0-9a-f]{{64}}  {re.escape(str(self.top))}/crates/tiny_tera/out/tiny_tera$")
         (self.top / "crates/lower/src/lib.rt").write_text("// changed\n")
         lines = self.launch("--version").stdout.splitlines()
-        self.assertEqual((lines[0], lines[3:]), ("tiny_tera v7-dirty", ["crates/lower/src/lib.rt changed since: it is proved again before it runs"]))
+        self.assertEqual(lines, ["tiny_tera v7-dirty", none.format("crates/lower/src/lib.rt changed since it was proved")])
         (self.top / "crates/tiny_tera/out/tiny_tera").write_text("another")
-        self.assertEqual(self.launch("--version").stdout, "tiny_tera v7-dirty\nnot built yet, and so not proved\n")
+        self.assertEqual(self.launch("--version").stdout, f"tiny_tera v7-dirty\n{none.format('nothing is stored in release/')}\n")
 
 
 class Words(unittest.TestCase):
@@ -118,7 +119,7 @@ class Counts(unittest.TestCase):
         for ports in (1, 2, 4, 8, 32, 33, 64):
             self.assertEqual(self.COUNTS[ports - 1], least_of_all_seeds(ports), ports)
 
-    @unittest.skipUnless(PROGRAM.is_file(), "the program is not built")
+    @unittest.skipUnless(PROGRAM.is_file(), "no program is there")
     def test_program(self):
         for ports in (2, 4, 33):
             count = largest_count(1, ports, MAX_COUNT)

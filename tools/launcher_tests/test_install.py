@@ -5,11 +5,11 @@ import os
 import shutil
 import subprocess
 
-from .scene import KIT, Scene, python
+from .scene import KIT, NO_TOOLCHAIN, Scene, python
 
 
 class Install(Scene):
-    PATH = "/usr/bin:/bin"
+    PATH = NO_TOOLCHAIN
 
     def setUp(self):
         super().setUp()
@@ -42,6 +42,16 @@ class Install(Scene):
         for name in ("share/man/man1/tiny_tera.1", "share/tiny_tera/viewer/index.html", "share/tiny_tera/viewer/lib/LICENSE", "share/tiny_tera/LICENSE"):
             self.assertTrue((self.prefix / name).is_file(), name)
 
+    def test_stored_program(self):
+        """Where nothing is built, the stored program is installed, without a toolchain."""
+        self.store()
+        self.assertEqual(self.install(PATH=self.PATH).returncode, 0)
+        shutil.rmtree(self.top)
+        self.assertEqual(self.started("gen", "1", "2", "2").stdout, "summary\n")
+        self.assertEqual(self.started("--version").stdout.splitlines()[1], f"proved with {KIT}")
+        for word in ("--prove", "--library"):
+            self.assertEqual(self.started(word).returncode, 2)
+
     def test_copied(self):
         """The installed folder is copied to another place, with new times."""
         self.build()
@@ -63,7 +73,7 @@ class Install(Scene):
 
     def test_what_is_not_proved_is_not_installed(self):
         told = self.install()
-        self.assertEqual((told.returncode, told.stderr), (1, "tools/install: the program is not built: run ./tiny_tera gen 0 0 1 first\n"))
+        self.assertEqual((told.returncode, told.stderr), (1, "tools/install: nothing is stored in release/: run ./tiny_tera --prove first\n"))
         self.build()
         (self.top / "crates/lower/src/lib.rt").write_text("// changed\n")
         told = self.install()

@@ -164,9 +164,6 @@ class Tries(InARepository):
 class Records(InARepository):
     def setUp(self):
         super().setUp()
-        crates = mock.patch.object(records, "read_crates", return_value={"low": [], "high": ["low"]})
-        crates.start()
-        self.addCleanup(crates.stop)
         rows = [Row(it.name, it.sum, "more", "`returns-else` of it") for it in wrong_edits.edits_of(self.folder)]
         self.record = Record("kit 1", records.own_sum(self.folder), records.below_sums(self.top, "high"), sorted(rows))
         records.write_record(self.folder, self.record)
