@@ -1,6 +1,5 @@
 """Tests of the viewer: reports and journals, good and faulty, small and large."""
 
-import os
 import pathlib
 import subprocess
 import tempfile
@@ -8,12 +7,13 @@ import time
 
 import viewer_files as files
 from disk.sixteen_ports import WORDS, job_files
+from launch import there
 from viewer_browser import LEFT, RIGHT, expect
 from viewer_test_rules import judge
 from viewer_test_steps import choose_rule
 
 ROOT = pathlib.Path(__file__).resolve().parent.parent
-PROGRAM = pathlib.Path(os.environ.get("TINY_TERA", ROOT / "crates/tiny_tera/out/tiny_tera"))
+PROGRAM = there.program(ROOT)
 # The most processor time that one drawing of a slot of 64 ports may take, in milliseconds.
 MOST_DRAWING_MS = 250
 MOST_LINES = 100  # Of a table of the page.
@@ -150,7 +150,7 @@ return Array.from({ length: run.slots }, (_, slot) => {
 def test_program(viewer):
     """Files that the program writes now, of 16 ports with unicast and multicast of all levels."""
     if not PROGRAM.is_file():
-        return "skipped, the program is not built"
+        return "skipped, no program is there"
     with tempfile.TemporaryDirectory() as folder:
         for name, data in job_files().items():
             pathlib.Path(folder, name).write_bytes(data)
@@ -182,7 +182,7 @@ def test_program(viewer):
 def test_program_schedulers(viewer):
     """Journals that the program writes of the same job under FIRM and RRM: found to be of these, with the waits that it prints."""
     if not PROGRAM.is_file():
-        return "skipped, the program is not built"
+        return "skipped, no program is there"
     with tempfile.TemporaryDirectory() as folder:
         for name, data in job_files().items():
             pathlib.Path(folder, name).write_bytes(data)

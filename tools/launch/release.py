@@ -1,6 +1,5 @@
 """What is stored in release/: the program and the library, packed, with the statement of what they were made from."""
 
-import hashlib
 import os
 from typing import NamedTuple
 
@@ -71,6 +70,7 @@ def unpacked(top, name, statement):
     """The bytes of a stored file; Fault where they are not those that are stated."""
     place = f"{FOLDER}/{packed(name)}"
     try:
+        import hashlib
         import lzma
         with open(os.path.join(top, place), "rb") as file:
             data = lzma.decompress(file.read())

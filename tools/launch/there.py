@@ -3,7 +3,6 @@ first, else the one that is stored in release/, which is unpacked once."""
 
 import os
 import zlib
-from pathlib import Path
 from typing import NamedTuple
 
 from .builds import INSTALLED, LIBRARY, PROGRAM, Build
@@ -92,6 +91,7 @@ def to_write(folder):
 def program(top):
     """The program that tools run: that of the variable TINY_TERA, else the one that is there; where none is made from the
     sources as they are, the one that was built last."""
+    from pathlib import Path  # A start does without.
     if os.environ.get(VARIABLE):
         return Path(os.environ[VARIABLE]).resolve()
     place = Place(str(top))

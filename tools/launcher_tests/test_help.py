@@ -174,7 +174,7 @@ class Manual(unittest.TestCase):
 class Readme(unittest.TestCase):
     def test_who_only_wants_to_run_it(self):
         text = (TOP / "README.md").read_text()
-        for word in ("tools/install", "sha256sum", "rt try -- gen 1 2 2"):
+        for word in ("examples/run", "tests/run", "--prove", "tools/install"):
             self.assertTrue(word in text, f"README.md does not speak of {word}")
 
 

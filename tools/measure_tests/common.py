@@ -1,14 +1,15 @@
 """What the tests share: the run of a tool, the program that sweeps run, and a small run with all that it wrote."""
 
 import importlib.util
-import os
 import subprocess
 import sys
 from pathlib import Path
 
+from launch import there
+
 TOOLS = Path(__file__).resolve().parent.parent
 DATA = TOOLS / "measure_tests/data"
-PROGRAM = Path(os.environ.get("TINY_TERA", TOOLS.parent / "crates/tiny_tera/out/tiny_tera")).resolve()
+PROGRAM = there.program(TOOLS.parent)
 
 # Three ports and two rounds: a multicast packet of three cells at input 0 for outputs 1 and 2, and
 # unicast at input 1, two cells for output 2 and one for output 0.

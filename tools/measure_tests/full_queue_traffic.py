@@ -119,7 +119,7 @@ class FullQueues(unittest.TestCase):
                 found, told = run(TOOLS / "full_queues", *words, cwd=folder)
                 self.assertEqual((found, "Traceback" in told), (status, False), words)
 
-    @unittest.skipUnless(PROGRAM.is_file(), "the program is not built")
+    @unittest.skipUnless(PROGRAM.is_file(), "no program is there")
     def test_program(self):
         """The commands that are printed make the slots that are printed, and under RRM one pair in each of them."""
         for ports in (2, 4, 16):

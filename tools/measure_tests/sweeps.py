@@ -85,7 +85,7 @@ class Words(unittest.TestCase):
 
 
 @unittest.skipIf(lacks(*MODULES), lacks(*MODULES))
-@unittest.skipUnless(PROGRAM.exists(), "the program is not built")
+@unittest.skipUnless(PROGRAM.exists(), "no program is there")
 class Sweeps(unittest.TestCase):
     def setUp(self):
         room = tempfile.TemporaryDirectory()
