@@ -218,6 +218,9 @@ def capture(*frames, link=1, order="<", magic=0xA1B2C3D4, version=(2, 4), times=
 
 def python(*words, **more):
     """Runs a Python tool."""
-    return subprocess.run(
-        [sys.executable, *map(str, words)], stdout=subprocess.PIPE, stderr=subprocess.PIPE, universal_newlines=True, **more
-    )
+    return run_here([sys.executable, *words], **more)
+
+
+def run_here(words, **more):
+    """Runs a command, and keeps what it says."""
+    return subprocess.run(list(map(str, words)), stdout=subprocess.PIPE, stderr=subprocess.PIPE, universal_newlines=True, **more)
