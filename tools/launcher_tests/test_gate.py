@@ -48,7 +48,8 @@ class Gate(Stored):
     def test_changed_source(self):
         self.append("crates/lower/src/lib.rt")
         status, lines = self.gate()
-        self.assertEqual((status, lines[1:]), (1, ["tools/make_release: FAILED: other sources than those that are stated: crates/lower: run tools/make_release"]))
+        self.assertEqual((status, len(lines)), (1, 2))
+        self.assertIn("tools/make_release: FAILED: other sources than those that are stated: crates/lower: ", lines[1])
 
     def test_stops(self):
         for name, code in (("RT_CODE", "exit 7"), ("MODULE_STATUS", "8"), ("TESTS_STATUS", "9")):
