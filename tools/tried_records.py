@@ -110,7 +110,12 @@ def fault_of(top, name, kit):
     return f"what is stated in {', '.join(other)} changed since they were tried" if other else ""
 
 
+def untried(top):
+    """The crates that have edits and no record."""
+    return [name for name in crates_with_edits(top) if read_record(Path(top) / "crates" / name) is None]
+
+
 def faults(top, kit):
     """A line for each crate whose record is not of the present texts."""
-    found = {name: fault_of(Path(top), name, kit) for name in crates_with_edits(top)}
+    found = {name: fault_of(Path(top), name, kit) for name in crates_with_edits(top) if name not in untried(top)}
     return [f"crates/{name}: {fault}: tools/wrong_bodies {name}" for name, fault in found.items() if fault]

@@ -194,8 +194,10 @@ class Records(InARepository):
         self.assertEqual(self.fault(), "other wrong bodies were tried than it has")
 
     def test_no_record(self):
+        self.assertEqual((records.untried(self.top), records.faults(self.top, "kit 1")), ([], []))
+        self.assertEqual(len(records.faults(self.top, "kit 2")), 1)
         (self.folder / "wrong/tried.txt").unlink()
-        self.assertEqual(records.faults(self.top, "kit 1"), ["crates/high: its wrong bodies were never tried: tools/wrong_bodies high"])
+        self.assertEqual((records.untried(self.top), records.faults(self.top, "kit 2")), (["high"], []))
 
 
 if __name__ == "__main__":
