@@ -1,17 +1,23 @@
 //! Rows of decisions of a slot, in blocks: `case`, `n`, `rounds`, `slot`, `rows`, `grant`, `accept` and
 //! `shared` set up the slot; then `match`, `numbers`, `maximal`, `grant_after`, `accept_after` and
-//! `shared_after` state what it gives.
-ghost use Rattle.std.specs.Prelude.{◌<◌, ◌≤◌};
+//! `shared_after` state what it gives, and `refused` which unicast grants of the first round were not
+//! accepted. From a line `by NAME` on the scheduler of this name decides; before the first such line it is
+//! iSLIP.
+ghost use Rattle.std.specs.Prelude.{◌≡◌, ◌<◌, ◌≤◌};
 
 use crate::fields::numbers;
 use crate::slot_fields::{
-    Stated, accepts_text, grants_text, level_tables, match_text, pointers, posted_rows,
-    rounds_text, shared_text,
+    AT_ZERO, level_tables, level_tables_text, match_text, pointers, posted_rows, refused_text,
+    rounds_text, scheduler_named,
 };
-use eslip_rounds::decide;
+use crate::texts::numbers_text;
+use eslip_rounds::{Scratch, decide_in, decide_with_refused};
+use firm_rounds::decide_firm;
 use islip_rounds::RoundsUsed;
-use pointer_state::Pointers;
-use rotating_pick::{LEVEL_COUNT, MAX_PORTS, MAX_ROUNDS, PORT_COUNT};
+use pointer_state::PointerTables;
+use rotating_pick::{LEVEL_COUNT, MAX_PORTS, MAX_ROUNDS};
+use rrm_rounds::decide_rrm;
+use scheduler_names::SchedulerName;
 use slot_match::{Match, are_within};
 use std::alloc::{AllocError, Global};
 use test_vectors::{NoAnswer, Row, number, set_up_row};
@@ -19,11 +25,14 @@ use test_vectors::{NoAnswer, Row, number, set_up_row};
 /// The block that is being read.
 #[derive(Drop)]
 pub struct Block {
+    scheduler: SchedulerName,
+    // What all slots are decided in.
+    scratch: Scratch,
     n: u32,
     rounds: u32,
     slot: u32,
     rows: Vec<slot_match::Row>,
-    stated: Stated,
+    stated: PointerTables,
     // What the slot gave, once it was asked.
     decided: Option<Decided>,
 }
@@ -33,22 +42,20 @@ pub struct Block {
 struct Decided {
     matched: Match,
     numbers: RoundsUsed,
-    pointers: Pointers,
+    pointers: PointerTables,
 }
 
 impl Block {
     /// Before the first block.
     pub fn new(alloc: Global) -> Block {
         Block {
+            scheduler: SchedulerName::Islip,
+            scratch: Scratch::new(),
             n: 0,
             rounds: 0,
             slot: 0,
             rows: Vec::new(alloc),
-            stated: Stated {
-                grant: [[0; PORT_COUNT]; LEVEL_COUNT],
-                accept: [[0; PORT_COUNT]; LEVEL_COUNT],
-                shared: [0; LEVEL_COUNT],
-            },
+            stated: AT_ZERO,
             decided: None,
         }
     }
@@ -59,7 +66,7 @@ impl Block {
             return Ok(Some(Row::unread(alloc, line)?));
         };
         match key {
-            "case" | "n" | "rounds" | "slot" | "rows" | "grant" | "accept" | "shared" => {
+            "by" | "case" | "n" | "rounds" | "slot" | "rows" | "grant" | "accept" | "shared" => {
                 let set_up = self.set(alloc, key, value);
                 set_up_row(alloc, line, set_up)
             }
@@ -70,6 +77,7 @@ impl Block {
     fn set(&mut self, alloc: Global, key: &str, value: &str) -> Result<(), NoAnswer> {
         self.decided = None;
         match key {
+            "by" => self.scheduler = scheduler_named(value)?,
             "case" => self.n = 0,
             "n" => self.n = number(value)?,
             "rounds" => self.rounds = number(value)?,
@@ -94,6 +102,9 @@ impl Block {
     }
 
     fn answer(&mut self, alloc: Global, key: &str) -> Result<String, NoAnswer> {
+        if key == "refused" {
+            return self.refused(alloc);
+        }
         if self.decided.is_none() {
             self.decided = Some(self.decide()?);
         }
@@ -103,36 +114,54 @@ impl Block {
         }
     }
 
-    fn decide(&self) -> Result<Decided, NoAnswer> {
-        let n = self.n;
-        if n == 0 || n > MAX_PORTS {
+    // Decides the slot by the scheduler of the name.
+    fn decide(&mut self) -> Result<Decided, NoAnswer> {
+        let (n, rounds, slot) = (self.n, self.rounds, self.slot);
+        let rows = self.rows.as_slice();
+        let p = &mut pointers(n, &self.stated)?;
+        if n == 0 || n > MAX_PORTS || rounds == 0 || rounds > MAX_ROUNDS || !are_within(n, rows) {
             return Err(NoAnswer);
         }
-        let pointers = pointers(n, &self.stated)?;
-        decision(n, self.rounds, self.slot, self.rows.as_slice(), pointers)
+        let mut matched = Match::new(n);
+        let out = &mut matched;
+        let numbers = match self.scheduler {
+            SchedulerName::Islip => decide_in(n, rounds, slot, rows, p, out, &mut self.scratch),
+            SchedulerName::Firm => decide_firm(n, rounds, slot, rows, p, out),
+            SchedulerName::Rrm => decide_rrm(n, rounds, slot, rows, p, out),
+        };
+        let mut after = AT_ZERO;
+        p.put_tables(&mut after);
+        Ok(Decided {
+            matched,
+            numbers,
+            pointers: after,
+        })
     }
-}
 
-fn decision(
-    n: u32,
-    rounds: u32,
-    slot: u32,
-    rows: &[slot_match::Row],
-    mut pointers: Pointers,
-) -> Result<Decided, NoAnswer>
-    requires some { 0 < n }
-    requires size { n ≤ MAX_PORTS }
-{
-    if rounds == 0 || rounds > MAX_ROUNDS || !are_within(n, rows) || pointers.ports() != n {
-        return Err(NoAnswer);
+    // The unicast grants of the first round that were not accepted, which are the same by each scheduler.
+    fn refused(&self, alloc: Global) -> Result<String, NoAnswer> {
+        let n = self.n;
+        let rows = self.rows.as_slice();
+        let mut p = pointers(n, &self.stated)?;
+        if n == 0
+            || n > MAX_PORTS
+            || self.rounds == 0
+            || self.rounds > MAX_ROUNDS
+            || !are_within(n, rows)
+        {
+            return Err(NoAnswer);
+        }
+        let mut matched = Match::new(n);
+        let (_, refused) = decide_with_refused(
+            n,
+            self.rounds,
+            self.slot,
+            rows,
+            &mut p,
+            &mut matched,
+        );
+        Ok(refused_text(alloc, &refused)?)
     }
-    let mut matched = Match::new(n);
-    let numbers = decide(n, rounds, slot, rows, &mut pointers, &mut matched);
-    Ok(Decided {
-        matched,
-        numbers,
-        pointers,
-    })
 }
 
 impl Decided {
@@ -142,13 +171,14 @@ impl Decided {
         key: &str,
         rows: &[slot_match::Row],
     ) -> Result<String, NoAnswer> {
+        let n = self.matched.ports();
         match key {
             "match" => Ok(match_text(alloc, &self.matched)?),
             "numbers" => Ok(rounds_text(alloc, self.numbers)?),
             "maximal" => maximal_text(alloc, &self.matched, rows),
-            "grant_after" => Ok(grants_text(alloc, &self.pointers)?),
-            "accept_after" => Ok(accepts_text(alloc, &self.pointers)?),
-            "shared_after" => Ok(shared_text(alloc, &self.pointers)?),
+            "grant_after" => Ok(level_tables_text(alloc, n, &self.pointers.grant)?),
+            "accept_after" => Ok(level_tables_text(alloc, n, &self.pointers.accept)?),
+            "shared_after" => Ok(numbers_text(alloc, &self.pointers.shared)?),
             _ => Err(NoAnswer),
         }
     }

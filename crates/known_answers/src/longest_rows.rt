@@ -2,29 +2,30 @@
 //! `pointers GRANT ACCEPT..`, the grant pointer of output 0 and the accept pointer of each input, and for
 //! one slot after the other `rows SET..`, the outputs that each input posts at level 0.
 //!
-//! A case states how many slots the longest service takes; under the second scheduler it states some slots that
-//! are no more than that. A slot states that no queue has waited longer than since slot 0, which input 0 has
+//! A case states how many slots the longest service takes, or the longest at line rate; under the second scheduler it
+//! states some slots that are no more than that. A slot states that no queue has waited longer than since slot 0, which input 0 has
 //! for output 0, and that it is served in the last slot alone.
 ghost use Rattle.std.specs.Prelude.{◌≡◌, ◌<◌, ◌≤◌, length};
 ghost use Rattle.pointer_state.specs.Places.{AreAtPorts};
 ghost use Rattle.slot_match.specs.Rows.{AreWithin};
 ghost use Rattle.slot_match.specs.Matches.{IsMatch};
 
-use crate::slot_fields::{Stated, pointers};
+use crate::slot_fields::{AT_ZERO, pointers};
 use eslip_rounds::decide;
 use firm_rounds::decide_firm;
 use islip_rounds::RoundsUsed;
-use pointer_state::Pointers;
-use rotating_pick::{Kind, LEVEL_COUNT, MAX_PORTS, MAX_ROUNDS, PORT_COUNT, Ports};
-use service_bound::{MAX_NOTED, WaitMeter, longest_service};
+use pointer_state::{PointerTables, Pointers};
+use rotating_pick::{Kind, MAX_PORTS, MAX_ROUNDS, Ports};
+use service_bound::{MAX_NOTED, WaitMeter, longest_service, longest_service_at_line_rate};
 use slot_match::{Fed, Match, Row, are_within};
 use std::alloc::{AllocError, Global};
 use test_vectors::{NoAnswer, Row as VectorRow, number, set_up_row};
 
-/// What decides the slots.
+/// What decides the slots, and which bound the cases state.
 #[derive(Clone, Copy)]
 pub enum Scheduler {
     Islip,
+    IslipAtLineRate,
     Firm,
 }
 
@@ -100,6 +101,7 @@ impl Block {
         }
         let longest = match self.scheduler {
             Scheduler::Islip => longest_service(self.n, self.rounds),
+            Scheduler::IslipAtLineRate => longest_service_at_line_rate(self.n, self.rounds),
             Scheduler::Firm => self.slots.min(self.n * self.n),
         };
         Ok(format!(in alloc; "{longest}")?)
@@ -167,7 +169,9 @@ impl Scheduler {
         ensures at_ports { AreAtPorts p.new }
     {
         match self {
-            Scheduler::Islip => decide(n, rounds, slot, rows, p, out),
+            Scheduler::Islip | Scheduler::IslipAtLineRate => {
+                decide(n, rounds, slot, rows, p, out)
+            }
             Scheduler::Firm => decide_firm(n, rounds, slot, rows, p, out),
         }
     }
@@ -247,12 +251,8 @@ impl Course {
 }
 
 // `GRANT ACCEPT..`: all pointers but these are at port 0.
-fn stated_pointers(alloc: Global, n: u32, value: &str) -> Result<Stated, NoAnswer> {
-    let mut stated = Stated {
-        grant: [[0; PORT_COUNT]; LEVEL_COUNT],
-        accept: [[0; PORT_COUNT]; LEVEL_COUNT],
-        shared: [0; LEVEL_COUNT],
-    };
+fn stated_pointers(alloc: Global, n: u32, value: &str) -> Result<PointerTables, NoAnswer> {
+    let mut stated = AT_ZERO;
     let numbers: Vec<&str> = value.split(' ').collect(alloc)?;
     let [grant, accepts @ ..] = numbers.as_slice() else {
         return Err(NoAnswer);

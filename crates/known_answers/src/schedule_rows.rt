@@ -1,9 +1,11 @@
 //! Rows of schedules, in blocks: `case NAME`, `n N`, `rounds R`, then for one slot after the other
-//! `slot ROWS -> MATCH USED FIRST LAST_ADDED SHARED`.
-use crate::slot_fields::{match_text, posted_rows, rounds_text, shared_text};
-use eslip_rounds::decide;
+//! `slot ROWS -> MATCH USED FIRST LAST_ADDED SHARED`. From a line `by NAME` on the scheduler of this name
+//! decides; before the first such line it is iSLIP.
+use crate::slot_fields::{match_text, posted_rows, rounds_text, scheduler_named, shared_text};
+use named_schedulers::NamedScheduler;
 use pointer_state::Pointers;
 use rotating_pick::{MAX_PORTS, MAX_ROUNDS};
+use scheduler_names::SchedulerName;
 use slot_match::Match;
 use std::alloc::{AllocError, Global};
 use test_vectors::{NoAnswer, Row, number, set_up_row};
@@ -11,6 +13,7 @@ use test_vectors::{NoAnswer, Row, number, set_up_row};
 /// The block that is being read.
 #[derive(Drop)]
 pub struct Block {
+    scheduler: NamedScheduler,
     n: u32,
     rounds: u32,
     // The number of the slot that comes next.
@@ -23,6 +26,7 @@ impl Block {
     /// Before the first block.
     pub fn new() -> Block {
         Block {
+            scheduler: NamedScheduler::new(SchedulerName::Islip),
             n: 0,
             rounds: 0,
             slot: 0,
@@ -33,6 +37,7 @@ impl Block {
     /// The row that a line is; None where it sets up the schedule.
     pub fn row(&mut self, alloc: Global, line: &str) -> Result<Option<Row>, AllocError> {
         let set_up = match line.split_once(' ') {
+            Some(("by", name)) => self.set_scheduler(name),
             Some(("case", _)) => self.begin(),
             Some(("n", value)) => self.set_ports(value),
             Some(("rounds", value)) => self.set_rounds(value),
@@ -40,6 +45,11 @@ impl Block {
             _ => Err(NoAnswer),
         };
         set_up_row(alloc, line, set_up)
+    }
+
+    fn set_scheduler(&mut self, name: &str) -> Result<(), NoAnswer> {
+        self.scheduler = NamedScheduler::new(scheduler_named(name)?);
+        Ok(())
     }
 
     fn begin(&mut self) -> Result<(), NoAnswer> {
@@ -72,7 +82,15 @@ impl Block {
             Some(pointers) => pointers,
             None => first_pointers(self.n)?,
         };
-        let answer = slot_text(alloc, self.rounds, self.slot, rows, &mut pointers)?;
+        let scheduler = &mut self.scheduler;
+        let answer = slot_text(
+            alloc,
+            scheduler,
+            self.rounds,
+            self.slot,
+            rows,
+            &mut pointers,
+        )?;
         self.pointers = Some(pointers);
         self.slot = self.slot.saturating_add(1);
         Ok(answer)
@@ -88,6 +106,7 @@ fn first_pointers(n: u32) -> Result<Pointers, NoAnswer> {
 
 fn slot_text(
     alloc: Global,
+    scheduler: &mut NamedScheduler,
     rounds: u32,
     slot: u32,
     rows: &str,
@@ -99,7 +118,7 @@ fn slot_text(
     }
     let rows = posted_rows(alloc, n, rows)?;
     let mut matched = Match::new(n);
-    let numbers = decide(n, rounds, slot, rows.as_slice(), pointers, &mut matched);
+    let numbers = scheduler.decide(n, rounds, slot, rows.as_slice(), pointers, &mut matched);
     let fed = match_text(alloc, &matched)?;
     let used = rounds_text(alloc, numbers)?;
     let shared = shared_text(alloc, pointers)?;

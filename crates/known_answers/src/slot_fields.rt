@@ -4,23 +4,21 @@ ghost use Rattle.slot_match.specs.Rows.{AreWithin};
 
 use crate::fields::port_table;
 use crate::texts::{add_item, kind_letter, numbers_text};
+use eslip_rounds::Refused;
 use islip_rounds::RoundsUsed;
-use pointer_state::Pointers;
-use rotating_pick::{Kind, LEVEL_COUNT, LEVELS, MAX_PORTS, PORT_COUNT, with};
+use pointer_state::{PointerTables, Pointers};
+use rotating_pick::{Kind, LEVEL_COUNT, LEVELS, MAX_PORTS, PORT_COUNT, contains, with};
+use scheduler_names::SchedulerName;
 use slot_match::{Fed, Match, Row, are_within};
 use std::alloc::{AllocError, Global};
 use test_vectors::{NoAnswer, byte, number, port_set};
 
-/// Pointers of four levels, as a row states them.
-#[derive(Clone, Copy)]
-pub struct Stated {
-    /// For each level the grant pointers of the outputs.
-    pub grant: [[u32; PORT_COUNT]; LEVEL_COUNT],
-    /// For each level the accept pointers of the inputs.
-    pub accept: [[u32; PORT_COUNT]; LEVEL_COUNT],
-    /// The shared pointer of each level.
-    pub shared: [u32; LEVEL_COUNT],
-}
+/// Tables of pointers that are all at port 0.
+pub const AT_ZERO: PointerTables = PointerTables {
+    grant: [[0; PORT_COUNT]; LEVEL_COUNT],
+    accept: [[0; PORT_COUNT]; LEVEL_COUNT],
+    shared: [0; LEVEL_COUNT],
+};
 
 /// The rows of `n` inputs, parted by `;`: each is `.` for an empty one, or sets parted by `+`, as
 /// `u2=0x5` for unicast of level 2.
@@ -84,63 +82,23 @@ pub fn level_tables(
     ])
 }
 
-/// The pointers that are stated. Those of the accepts are aimed first, since that moves the grants.
-pub fn pointers(n: u32, stated: &Stated) -> Result<Pointers, NoAnswer>
-    requires some { 0 < n }
-    requires size { n ≤ MAX_PORTS }
+/// The pointers of `n` ports that are where the tables say.
+pub fn pointers(n: u32, tables: &PointerTables) -> Result<Pointers, NoAnswer>
+    ensures { IfOk result (λ p. p.ports ≡ n) }
 {
-    let mut pointers = Pointers::new(n);
-    for level in 0..4u8 {
-        let at = usize::from(level);
-        aim_accepts(&mut pointers, level, &stated.accept[at])?;
-        aim_grants(&mut pointers, level, &stated.grant[at])?;
-        aim_shared(&mut pointers, level, stated.shared[at])?;
+    if tables.is_in_range(n) {
+        Ok(Pointers::at_tables(n, tables))
+    } else {
+        Err(NoAnswer)
     }
-    Ok(pointers)
 }
 
-fn aim_accepts(p: &mut Pointers, level: u8, accept: &[u32]) -> Result<(), NoAnswer> {
-    for input in 0..p.ports() {
-        let Some(at) = accept.get(input as usize) else {
-            return Err(NoAnswer);
-        };
-        let n = p.ports();
-        let output = before(n, *at);
-        if input >= n || output >= n || u32::from(level) >= LEVELS {
-            return Err(NoAnswer);
-        }
-        p.met(input, output, level);
+/// The scheduler of the name.
+pub fn scheduler_named(name: &str) -> Result<SchedulerName, NoAnswer> {
+    match SchedulerName::named(name) {
+        Some(scheduler) => Ok(scheduler),
+        None => Err(NoAnswer),
     }
-    Ok(())
-}
-
-fn aim_grants(p: &mut Pointers, level: u8, grant: &[u32]) -> Result<(), NoAnswer> {
-    for output in 0..p.ports() {
-        let Some(at) = grant.get(output as usize) else {
-            return Err(NoAnswer);
-        };
-        let n = p.ports();
-        if *at >= n || output >= n || u32::from(level) >= LEVELS {
-            return Err(NoAnswer);
-        }
-        p.held(*at, output, level);
-    }
-    Ok(())
-}
-
-fn aim_shared(p: &mut Pointers, level: u8, at: u32) -> Result<(), NoAnswer> {
-    let n = p.ports();
-    let input = before(n, at);
-    if input >= n || u32::from(level) >= LEVELS {
-        return Err(NoAnswer);
-    }
-    p.passed(level, input);
-    Ok(())
-}
-
-// The port before port `x`.
-fn before(n: u32, x: u32) -> u32 {
-    if x == 0 { n.saturating_sub(1) } else { x - 1 }
 }
 
 /// The match of a switch of `n` ports that is stated: for each output what feeds it, as `1:0u`, or `-`.
@@ -208,6 +166,23 @@ fn fed_text(alloc: Global, fed: Option<Fed>) -> Result<String, AllocError> {
     }
 }
 
+/// The grants that were refused, as `OUTPUT:INPUT:LEVEL`, parted by commas; `-` for none.
+pub fn refused_text(alloc: Global, refused: &Refused) -> Result<String, AllocError> {
+    if refused.outputs == 0 {
+        return String::from_str(alloc, "-");
+    }
+    let mut list = String::new(alloc);
+    for output in 0..PORT_COUNT {
+        if contains(refused.outputs, output as u32) {
+            let input = refused.inputs[output];
+            let level = refused.levels[output];
+            let item = format!(in alloc; "{output}:{input}:{level}")?;
+            add_item(&mut list, item.as_str())?;
+        }
+    }
+    Ok(list)
+}
+
 /// `USED FIRST LAST_ADDED`.
 pub fn rounds_text(alloc: Global, numbers: RoundsUsed) -> Result<String, AllocError> {
     let used = numbers.used;
@@ -216,42 +191,20 @@ pub fn rounds_text(alloc: Global, numbers: RoundsUsed) -> Result<String, AllocEr
     format!(in alloc; "{used} {first} {last_added}")
 }
 
-/// The grant pointers of four levels, parted by `/`.
-pub fn grants_text(alloc: Global, pointers: &Pointers) -> Result<String, AllocError> {
-    let first = level_grants(alloc, pointers, 0)?;
-    let second = level_grants(alloc, pointers, 1)?;
-    let third = level_grants(alloc, pointers, 2)?;
-    let fourth = level_grants(alloc, pointers, 3)?;
-    format!(in alloc; "{first}/{second}/{third}/{fourth}")
-}
-
-fn level_grants(alloc: Global, pointers: &Pointers, level: u8) -> Result<String, AllocError>
-    requires { level < LEVELS }
+/// A table of `n` ports for each of four levels, parted by `/`.
+pub fn level_tables_text(
+    alloc: Global,
+    n: u32,
+    tables: &[[u32; PORT_COUNT]; LEVEL_COUNT],
+) -> Result<String, AllocError>
+    requires { n ≤ MAX_PORTS }
 {
-    let mut places = Vec::new(alloc);
-    for output in 0..pointers.ports() {
-        places.push(pointers.grant(output, level))?;
-    }
-    numbers_text(alloc, places.as_slice())
-}
-
-/// The accept pointers of four levels, parted by `/`.
-pub fn accepts_text(alloc: Global, pointers: &Pointers) -> Result<String, AllocError> {
-    let first = level_accepts(alloc, pointers, 0)?;
-    let second = level_accepts(alloc, pointers, 1)?;
-    let third = level_accepts(alloc, pointers, 2)?;
-    let fourth = level_accepts(alloc, pointers, 3)?;
+    let ports = n as usize;
+    let first = numbers_text(alloc, &tables[0][..ports])?;
+    let second = numbers_text(alloc, &tables[1][..ports])?;
+    let third = numbers_text(alloc, &tables[2][..ports])?;
+    let fourth = numbers_text(alloc, &tables[3][..ports])?;
     format!(in alloc; "{first}/{second}/{third}/{fourth}")
-}
-
-fn level_accepts(alloc: Global, pointers: &Pointers, level: u8) -> Result<String, AllocError>
-    requires { level < LEVELS }
-{
-    let mut places = Vec::new(alloc);
-    for input in 0..pointers.ports() {
-        places.push(pointers.accept(input, level))?;
-    }
-    numbers_text(alloc, places.as_slice())
 }
 
 /// The shared pointers of four levels, parted by commas.

@@ -47,14 +47,20 @@ impl RowReader for Reader {
             "reassembly.txt" => Reader::Reassembly(reassembly_rows::Block::new(alloc)),
             "captures.txt" | "captures_changed.txt" => Reader::Captures,
             "messages.txt" => Reader::Messages,
-            "decide_refuses.txt" | "decide_random.txt" | "decide_many_ports.txt" => {
-                Reader::Decisions(decision_rows::Block::new(alloc))
+            "decide_refuses.txt"
+            | "decide_random.txt"
+            | "decide_many_ports.txt"
+            | "decide_by_scheduler.txt" => Reader::Decisions(decision_rows::Block::new(alloc)),
+            "schedules.txt" | "schedules_by_scheduler.txt" => {
+                Reader::Schedules(schedule_rows::Block::new())
             }
-            "schedules.txt" => Reader::Schedules(schedule_rows::Block::new()),
             "destinations.txt" => Reader::Destinations,
             "waits.txt" => Reader::Waits(wait_rows::Block::new()),
             "longest_waits.txt" => {
                 Reader::LongestWaits(longest_rows::Block::new(Scheduler::Islip))
+            }
+            "longest_waits_at_line_rate.txt" => {
+                Reader::LongestWaits(longest_rows::Block::new(Scheduler::IslipAtLineRate))
             }
             "longest_waits_firm.txt" => {
                 Reader::LongestWaits(longest_rows::Block::new(Scheduler::Firm))

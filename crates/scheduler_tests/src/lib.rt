@@ -1,18 +1,9 @@
-//! Tests of the schedulers: rows, matches and pointers, the slots of each scheduler, and the meter of waits.
+//! Tests of what the schedulers work on: rows, matches, pointers, squares of ports, and their names. What they decide
+//! are rows of the stored run of `known_answers`.
 #![tactic(auto)]
 
 #[cfg(test)]
-mod eslip_slots;
-#[cfg(test)]
-mod firm_slots;
-#[cfg(test)]
-mod islip_slots;
-#[cfg(test)]
-mod longest_waits;
-#[cfg(test)]
 mod matches;
-#[cfg(test)]
-mod named_slots;
 #[cfg(test)]
 mod names;
 #[cfg(test)]
@@ -20,8 +11,4 @@ mod pointers;
 #[cfg(test)]
 mod rows;
 #[cfg(test)]
-mod rrm_slots;
-#[cfg(test)]
 mod squares;
-#[cfg(test)]
-mod waits;

@@ -2,16 +2,11 @@ use rotating_pick::{Kind, PORT_COUNT};
 use slot_match::{Fed, Match, Row, Served, are_within};
 
 // Input 0 has a multicast head for outputs 1 and 2, input 1 unicast cells for outputs 0 and 2.
-fn rows() -> [Row; 3] {
+#[test]
+fn head_goes_on(rt: HostRuntime) {
     let mut rows = [Row::empty(); 3];
     rows[0].multi[0] = 0b110;
     rows[1].uni[0] = 0b101;
-    rows
-}
-
-#[test]
-fn head_goes_on(rt: HostRuntime) {
-    let rows = rows();
     let mut matched = Match::new(3);
     assert_eq!(rt; matched.ports(), 3);
     assert!(rt; are_within(matched.ports(), &rows));

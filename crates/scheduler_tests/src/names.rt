@@ -1,8 +1,7 @@
 use scheduler_names::SchedulerName;
-use std::test::Fail;
 
 #[test]
-fn names_are_read_letter_for_letter(rt: HostRuntime) -> Result<(), Fail> {
+fn names_are_read_letter_for_letter(rt: HostRuntime) {
     let names = [
         ("islip", SchedulerName::Islip),
         ("firm", SchedulerName::Firm),
@@ -15,5 +14,4 @@ fn names_are_read_letter_for_letter(rt: HostRuntime) -> Result<(), Fail> {
     for word in ["", "ISLIP", "islip ", "rr", "eslip"] {
         assert_eq!(rt; SchedulerName::named(word), None);
     }
-    Ok(())
 }

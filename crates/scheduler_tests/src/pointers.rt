@@ -67,41 +67,35 @@ fn tables_are_lent(rt: HostRuntime) {
     assert!(rt; after == tables);
 }
 
-#[test]
-fn tables_out_of_range_are_refused(rt: HostRuntime) {
-    let mut tables = AT_ZERO;
-    assert!(rt; Pointers::from_tables(0, &tables).is_none());
-    assert!(rt; Pointers::from_tables(64, &tables).is_some());
-    assert!(rt; Pointers::from_tables(65, &tables).is_none());
-    tables.accept[1][2] = 3;
-    assert!(rt; Pointers::from_tables(2, &tables).is_some());
-    assert!(rt; Pointers::from_tables(3, &tables).is_none());
-    assert!(rt; Pointers::from_tables(4, &tables).is_some());
-    tables.shared[3] = 4;
-    assert!(rt; Pointers::from_tables(4, &tables).is_none());
-}
-
 // Tables of 1 to 64 ports give the pointers where the places of these ports are in range.
 #[test]
-fn tables_in_range_give_pointers(rt: HostRuntime) {
-    let mut tables = AT_ZERO;
-    assert!(rt; tables.is_in_range(1) && tables.is_in_range(64));
-    assert!(rt; !tables.is_in_range(0) && !tables.is_in_range(65));
-    tables.grant[0][3] = 3;
-    tables.accept[3][1] = 1;
-    tables.shared[2] = 1;
-    assert!(rt; !tables.is_in_range(1));
-    if !tables.is_in_range(4) {
-        return assert!(rt; false, "four ports");
+fn tables_out_of_range_are_refused(rt: HostRuntime) {
+    let mut low = AT_ZERO;
+    low.grant[0][3] = 3;
+    low.accept[3][1] = 1;
+    low.shared[2] = 1;
+    let mut accepts = AT_ZERO;
+    accepts.accept[1][2] = 3;
+    let mut all = accepts;
+    all.shared[3] = 4;
+    let cases = [
+        (&AT_ZERO, 0, false),
+        (&AT_ZERO, 1, true),
+        (&AT_ZERO, 64, true),
+        (&AT_ZERO, 65, false),
+        (&low, 1, false),
+        (&low, 4, true),
+        (&accepts, 2, true),
+        (&accepts, 3, false),
+        (&accepts, 4, true),
+        (&all, 4, false),
+    ];
+    for (tables, n, is_in_range) in cases {
+        assert_eq!(rt; tables.is_in_range(n), is_in_range, "{n} ports");
+        assert_eq!(rt;
+            Pointers::from_tables(n, tables).is_some(),
+            is_in_range,
+            "{n} ports"
+        );
     }
-    let pointers = Pointers::at_tables(4, &tables);
-    assert_eq!(rt; pointers.ports(), 4);
-    assert_eq!(rt;
-        [
-            pointers.grant(3, 0),
-            pointers.accept(1, 3),
-            pointers.shared(2)
-        ],
-        [3, 1, 1]
-    );
 }

@@ -24,73 +24,37 @@ fn rows_name_outputs(rt: HostRuntime) {
     assert!(rt; !are_within(3, &[row, nothing]));
 }
 
-// A served part, and whether the next row keeps the first.
-#[derive(Clone, Copy)]
-struct Next {
-    served: Option<Served>,
-    uni: u64,
-    multi: u64,
-    keeps: bool,
-}
-
 #[test]
 fn next_rows_keep(rt: HostRuntime) {
     let old = Row {
         uni: [0b01, 0, 0, 0],
         multi: [0b110, 0, 0, 0],
     };
-    let part = Some(Served {
+    let part = Served {
         outputs: 0b010,
         level: 0,
         kind: Kind::Multi,
-    });
-    let all = Some(Served {
+    };
+    let all = Served {
         outputs: 0b110,
-        level: 0,
-        kind: Kind::Multi,
-    });
-    if let Some(served) = part {
-        assert_eq!(rt; served.given(0, Kind::Multi), 0b010);
-        assert_eq!(rt; served.given(1, Kind::Multi), 0);
-        assert_eq!(rt; served.given(0, Kind::Uni), 0);
-    }
+        ..part
+    };
+    assert_eq!(rt; part.given(0, Kind::Multi), 0b010);
+    assert_eq!(rt; part.given(1, Kind::Multi), 0);
+    assert_eq!(rt; part.given(0, Kind::Uni), 0);
+    // What was served, the unicast and the multicast of the next row, and whether that keeps the first.
     let cases = [
-        Next {
-            served: None,
-            uni: 0b11,
-            multi: 0b110,
-            keeps: true,
-        },
-        Next {
-            served: None,
-            uni: 0b10,
-            multi: 0b110,
-            keeps: false,
-        },
-        Next {
-            served: part,
-            uni: 0b01,
-            multi: 0b100,
-            keeps: true,
-        },
-        Next {
-            served: part,
-            uni: 0b01,
-            multi: 0b110,
-            keeps: false,
-        },
-        Next {
-            served: all,
-            uni: 0b01,
-            multi: 0b011,
-            keeps: true,
-        },
+        (None, 0b11, 0b110, true),
+        (None, 0b10, 0b110, false),
+        (Some(part), 0b01, 0b100, true),
+        (Some(part), 0b01, 0b110, false),
+        (Some(all), 0b01, 0b011, true),
     ];
-    for next in cases {
+    for (served, uni, multi, keeps) in cases {
         let row = Row {
-            uni: [next.uni, 0, 0, 0],
-            multi: [next.multi, 0, 0, 0],
+            uni: [uni, 0, 0, 0],
+            multi: [multi, 0, 0, 0],
         };
-        assert_eq!(rt; row.keeps(&old, next.served), next.keeps, "{row:?}");
+        assert_eq!(rt; row.keeps(&old, served), keeps, "{row:?}");
     }
 }
