@@ -4,8 +4,14 @@ use line_pace::PaceFault;
 use outside::Failed;
 use pcap_records::PcapFault;
 use rotating_pick::OutOfMemory;
-use std::alloc::AllocError;
+use std::alloc::{AllocError, Global};
+use std::fmt::Display;
 use switch_plan::PlanFault;
+
+// Whether this is what a fault prints.
+fn prints(alloc: Global, fault: &impl Display, text: &str) -> Result<bool, AllocError> {
+    Ok(format!(in alloc; "{fault}")?.as_str() == text)
+}
 
 #[test]
 fn refusals_of_a_plan_say_what_is_wrong(rt: HostRuntime) -> Result<(), AllocError> {
@@ -41,32 +47,27 @@ fn refusals_of_a_plan_say_what_is_wrong(rt: HostRuntime) -> Result<(), AllocErro
         ),
         (PlanFault::OutOfMemory, "out of memory"),
     ];
-    for (fault, text) in rows {
-        assert_eq!(rt; format!(in rt.alloc(); "{fault}")?.as_str(), text);
+    for (fault, text) in &rows {
+        assert!(rt; prints(rt.alloc(), fault, text)?, "{text}");
     }
     Ok(())
 }
 
 #[test]
 fn other_faults_say_what_is_wrong(rt: HostRuntime) -> Result<(), AllocError> {
-    let texts = [
-        format!(in rt.alloc(); "{}", PaceFault::TooLong { slots: 131_073 })?,
-        format!(in rt.alloc(); "{}", PaceFault::OutOfMemory)?,
-        format!(in rt.alloc(); "{}", JournalFault::Bad { at: 12 })?,
-        format!(in rt.alloc(); "{}", JournalFault::OutOfMemory)?,
-        format!(in rt.alloc(); "{Failed}")?,
-        format!(in rt.alloc(); "{OutOfMemory}")?,
-    ];
-    let stated = [
-        "too many arrival slots: 131073",
-        "out of memory",
-        "bad at 12",
-        "out of memory",
-        "the call failed",
-        "out of memory",
-    ];
-    for (text, expected) in texts.iter().zip(stated) {
-        assert_eq!(rt; text.as_str(), expected);
-    }
+    let alloc = rt.alloc();
+    let slots = 131_073;
+    assert!(rt;
+        prints(
+            alloc,
+            &PaceFault::TooLong { slots },
+            "too many arrival slots: 131073"
+        )?
+    );
+    assert!(rt; prints(alloc, &PaceFault::OutOfMemory, "out of memory")?);
+    assert!(rt; prints(alloc, &JournalFault::Bad { at: 12 }, "bad at 12")?);
+    assert!(rt; prints(alloc, &JournalFault::OutOfMemory, "out of memory")?);
+    assert!(rt; prints(alloc, &Failed, "the call failed")?);
+    assert!(rt; prints(alloc, &OutOfMemory, "out of memory")?);
     Ok(())
 }

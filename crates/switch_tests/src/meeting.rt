@@ -1,8 +1,9 @@
 use crate::captures::{ETHERNET, ONE_FRAME};
-use crate::commands::{PIECE, command, compare_file, files_of, give};
+use crate::commands::{Calls, compare_file, given_of, run};
+use crate::one_packet::FILES;
 use card_worker::Gate;
+use rotating_pick::OutOfMemory;
 use std::sync::atomic::{AtomicU32, Ordering};
-use std::test::Fail;
 use std::thread;
 
 // For how many looks at a word a worker is held at most.
@@ -53,17 +54,16 @@ impl Gate for Meeting {
 }
 
 #[test]
-fn two_workers_meet(rt: HostRuntime) -> Result<(), Fail> {
-    let words = ["run", "--workers", "2", "t", "out", "one", "none"];
-    let table = b"10.0.0.0/24 0\n10.0.1.0/24 1\n".to_vec(rt.alloc())?;
-    let mut given = Vec::new(rt.alloc());
-    give(rt.alloc(), &mut given, "t", table)?;
-    give(rt.alloc(), &mut given, "one", ONE_FRAME.to_vec(rt.alloc())?)?;
-    give(rt.alloc(), &mut given, "none", ETHERNET.to_vec(rt.alloc())?)?;
-    let mut files = files_of(&rt, rt.alloc(), given, PIECE, &[])?;
+fn two_workers_meet(rt: HostRuntime) -> Result<(), OutOfMemory> {
+    let words = ["run", "--workers", "2", "t", "out", "a", "b"];
+    let given = given_of(rt.alloc(), &FILES)?;
+    let calls = Calls {
+        piece: 4_096,
+        fails: &[],
+    };
     let gate = Meeting::new();
-    assert_eq!(rt; command(&rt, rt.alloc(), &words, &mut files, &gate)?, 0);
-    assert_eq!(rt; gate.met.load(Ordering::SeqCst), 2);
+    let (files, status) = run(&rt, rt.alloc(), &words, given, calls, &gate)?;
+    assert!(rt; status == 0 && gate.met.load(Ordering::SeqCst) == 2);
     compare_file(&rt, &files, "out.0.pcap", Some(ETHERNET), &words);
     compare_file(&rt, &files, "out.1.pcap", Some(ONE_FRAME), &words);
     Ok(())
