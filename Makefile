@@ -1,7 +1,7 @@
 # The library for C and other languages, and what is installed.
 #
 #   make                  builds the library into out/: archive and shared object
-#   make check            builds it and runs its tests, as tools/test_library does
+#   make check            builds it and runs its tests, as tests/run_library does
 #   make install          installs the program, where tools/install is there, and the library
 #   make install-library  installs header, archive, shared object and pkg-config file alone
 #
@@ -20,10 +20,10 @@ VERSION = 1
 all: library
 
 library:
-	tools/make_library
+	dev/make_library
 
 check: library
-	tools/test_library
+	tests/run_library
 
 install: install-program install-library
 

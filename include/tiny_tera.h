@@ -9,7 +9,7 @@
  *
  * A switch has n ports, 1 to 64. Port i is input i and output i. A set of ports is a uint64_t, in which bit j stands
  * for port j. Levels are 0 to 3, and level 0 is the best. A slot is the time of one cell. A length counts elements,
- * not bytes. tools/check_header compares this file with the source. */
+ * not bytes. dev/check_header compares this file with the source. */
 #ifndef TINY_TERA_H
 #define TINY_TERA_H
 

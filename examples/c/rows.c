@@ -1,5 +1,5 @@
 /* Answers calls in text: each line of standard input has a call's name and its numbers, and the line that answers it the
- * status and what was written. It is how tools/test_library runs the test vectors through C.
+ * status and what was written. It is how tests/run_library runs the test vectors through C.
  *
  *     islip n rounds asks.. grant.. accept..                 -> status fed.. used grant.. accept..
  *     decide n rounds slot rows.. grant.. accept.. shared..  -> status feeds.. used grant.. accept.. shared..

@@ -13,7 +13,7 @@ from tiny_tera.report import BadReport  # noqa: E402
 TOP = Path(__file__).resolve().parents[2]
 EXAMPLES = sorted(TOP.glob("examples/*/expected/*.journal"))
 PACKETS = sorted(TOP.glob("tests/jobs/*/expected/out.packets.csv"))
-DATA = TOP / "tools/measure_tests/data"
+DATA = TOP / "tests/measures/data"
 
 
 def test_two_inputs():

@@ -7,8 +7,9 @@ after the other. The last ones come in the first slot that has nothing of level 
 all pointers of level 1 are at port 0.
 """
 
+from launcher.captures import CELL_PAYLOAD, LONGEST_FORWARDED, MESSAGE_HEADER, Arrival
+
 from . import traffic
-from .captures import CELL_PAYLOAD, LONGEST_FORWARDED, MESSAGE_HEADER, Arrival
 
 LEAST_PORTS = 2
 CELLS = 8  # Of a queue, where nothing else is asked for: the most with 64 ports.

@@ -6,7 +6,7 @@ and pointers at port 0. docs/WAITING.md says why no request of so many ports wai
 each slot, for which one packet comes to it in each slot.
 """
 
-from .captures import Arrival
+from launcher.captures import Arrival
 
 LEAST_PORTS = 3
 MOST_PORTS = 64

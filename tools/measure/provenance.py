@@ -8,6 +8,8 @@ from typing import NamedTuple
 TOP = Path(__file__).resolve().parent.parent.parent
 UNKNOWN = "unknown"
 LINE = 150  # The most letters of a line under a figure.
+# What a result can depend on.
+CODE = ("crates", "launcher", "tools", "python/tiny_tera", "crates.txt")
 
 
 class Provenance(NamedTuple):
@@ -46,7 +48,7 @@ def commit():
     """The commit of the repository, with a + where tracked code differs from it; `unknown` without git."""
     try:
         name = _git("rev-parse", "--short=12", "HEAD")
-        changed = _git("status", "--porcelain", "--untracked-files=no", "--", "crates", "tools", "python/tiny_tera", "crates.txt")
+        changed = _git("status", "--porcelain", "--untracked-files=no", "--", *CODE)
     except (OSError, subprocess.CalledProcessError):
         return UNKNOWN
     return name + "+" if changed else name

@@ -10,7 +10,9 @@ import random
 from pathlib import Path
 from typing import NamedTuple
 
-from . import captures, traffic
+from launcher import captures
+
+from . import traffic
 
 MOST_ROUTES = 4096
 MOST_SLOTS = 131_072

@@ -19,7 +19,7 @@ from functools import lru_cache
 from itertools import accumulate
 from pathlib import Path
 
-from .captures import Arrival
+from launcher.captures import Arrival
 
 KINDS = ("uniform", "bursty", "diagonal", "log-diagonal", "hot-spot")
 PACE_US = 1  # Microseconds of a slot: the time stamps count slots.

@@ -1,4 +1,4 @@
-// The module scheduler_c.wasm as text, since a page from the disk may load a script and no other file. By tools/make_module.
+// The module scheduler_c.wasm as text, since a page from the disk may load a script and no other file. By dev/make_module.
 (function (viewer) {
     "use strict";
 

@@ -1,0 +1,181 @@
+"""What the launcher does with its words: its own it answers, and with all others it starts the program."""
+
+import os
+import sys
+
+from . import there
+from .builds import LIBRARY, PROGRAM
+from .place import Place, say, tell, tell_error
+from .ports import lines_of_job, lines_of_ports, refusal
+from .words import COMMANDS, DRY_RUN, OVERWRITE, OWN, Fault, read_words
+
+USAGE_FAULT = 2
+HELP = ("--help", "-h")
+# Words of their own, without a command.
+VERSION, WHERE, PROVE, ALL = "--version", "--library", "--prove", "all"
+# For the gate, which builds itself: the sums of the sources as it begins, and that what was built was proved from them.
+SUMS, RECORDS = "--sums-of-sources", {"--record-build": PROGRAM, "--record-library": LIBRARY}
+HINTED = (2, 3, 4, 6)
+WAITS = "such packets wait before the switch, and no number of the report shows it"
+
+
+def main(top, words):
+    """The status of the launcher, negative where a signal ended the program."""
+    place = Place(top)
+    own = []
+    while words and words[0] in OWN:
+        own.append(words[0])
+        words = words[1:]
+    answer = _own_answer(place, words)
+    if answer is not None:
+        return answer
+    job, fault = _job_of(words)
+    refused = job and refusal(job, OVERWRITE in own)
+    if refused:
+        say(refused)
+        return USAGE_FAULT
+    if DRY_RUN in own:
+        return _dry_run(job, fault)
+    return _start(place, words, job, fault)
+
+
+def _own_answer(place, words):
+    """The status where the words ask the launcher alone, else None."""
+    before = words[:words.index("--")] if "--" in words else words
+    if any(it in before for it in HELP):
+        return _help(place, words)
+    if words == [VERSION]:
+        return tell(_version(place))
+    if words == [WHERE]:
+        return _library(place)
+    if words in ([PROVE], [PROVE, ALL]):
+        return _prove(place, words[-1] == ALL)
+    if words == [SUMS]:
+        from .noting import sums_of
+        return tell(sums_of(place.top))
+    if len(words) == 2 and words[0] in RECORDS:
+        from .noting import note_and_tell
+        return note_and_tell(place, RECORDS[words[0]], words[1])
+    return None
+
+
+def _job_of(words):
+    try:
+        return read_words(words), None
+    except Fault as fault:
+        return None, fault
+
+
+def _help(place, words):
+    from .page import help_lines, help_of_command
+    with open(place.usage, encoding="utf-8") as file:
+        text = file.read()
+    if words[0] in COMMANDS:
+        return tell(help_of_command(text, words[0]))
+    return tell([*help_lines(text), f"{place.usage} has every option, file and status; so has: man {place.manual}"])
+
+
+def _version(place):
+    found = there.find(place, PROGRAM)
+    lines = [f"tiny_tera {place.version()}"]
+    if found.build is None:
+        why = f"{found.changed[0]} changed since it was proved" if found.changed else str(found.fault)
+        return [*lines, f"no program is there of these sources: {why}; it is proved before it runs"]
+    kit = found.build.said()["kit"]
+    told = f"proved with {kit}" if place.is_installed else f"proved and built here with {kit}"
+    if found.is_stored:
+        told = f"stored in release/, proved elsewhere with {kit} from these sources; to prove it here: ./tiny_tera {PROVE}"
+    return [*lines, told, f"sha256 {found.build.sum()}  {found.build.path}"]
+
+
+def _library(place):
+    """Tells the folder in which the library for C and Python is."""
+    if place.is_installed:
+        say(f"{WHERE} is a word of a clone's launcher")
+        return USAGE_FAULT
+    found = there.find(place, LIBRARY)
+    if found.build:
+        return tell([found.build.folder])
+    changed = f"{found.changed[0]} changed since the library was built; " if found.changed else ""
+    say(f"{changed}{found.fault}: dev/make_library builds it, with the toolchain")
+    return 1
+
+
+def _prove(place, is_all):
+    if place.is_installed:
+        say(f"{PROVE} is a word of a clone's launcher: nothing is installed that could be proved")
+        return USAGE_FAULT
+    from .proving import prove
+    return 0 if prove(place, is_all) else 1
+
+
+def _dry_run(job, fault):
+    if fault:
+        say(f"{fault}")
+        return USAGE_FAULT
+    status = tell(lines_of_job(job))
+    if job.pace_us and job.inputs:
+        _warn_of_late(job)
+    return status
+
+
+def _start(place, words, job, fault):
+    program = _program(place, fault)
+    if isinstance(program, int):
+        return program
+    if job and job.inputs and os.isatty(2):
+        for line in lines_of_ports(job):
+            tell_error(line)
+    from .running import OLD_LIBRARY, needs_line, run
+    try:
+        status, said = run(program, words)
+    except OSError as fault:
+        say(needs_line(fault.strerror))
+        return 1
+    if status == 1 and OLD_LIBRARY in said:
+        say(needs_line("its C library is older"))
+    if status in HINTED:
+        from .hints import hint
+        text = hint(words, status, said)
+        if text:
+            tell_error(f"hint: {text}")
+    if status == 0 and job and job.pace_us and job.inputs:
+        _warn_of_late(job)
+    return status
+
+
+def _program(place, fault):
+    """The program to start, or the status where there is none."""
+    found = there.find(place, PROGRAM)
+    if found.build:
+        return found.build.path
+    if place.is_installed:
+        say(f"{place.path('program')} is not the program that was installed, so it is not started")
+        return 1
+    if fault:
+        # The words would be refused after half an hour of proofs.
+        say(f"{fault}")
+        return USAGE_FAULT
+    from .proving import build
+    return there.find(place, PROGRAM).build.path if build(place, found) else 1
+
+
+def _warn_of_late(job):
+    from .late import lines_of_late
+    from .too_many import packets_of_all
+    packets = packets_of_all(job.inputs)
+    lines = lines_of_late(packets, job.inputs, job.pace_us) if packets else []
+    for line in lines:
+        tell_error(f"late: {line}")
+    if lines:
+        tell_error(f"late: --pace-us {job.pace_us} is a slower line than that of the captures; {WAITS}")
+
+
+def start(top):
+    """Ends as the launcher or the program ends."""
+    from .running import end_as
+    try:
+        status = main(top, sys.argv[1:])
+    except KeyboardInterrupt:
+        status = -2
+    sys.exit(end_as(status))

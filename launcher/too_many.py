@@ -1,0 +1,71 @@
+"""Hints on captures with too many packets: how many fit, or at which pace they do."""
+
+import struct
+
+from .capture_hints import converted
+from .captures import first_time, on_line, read_capture
+from .made import most_cells
+from .sources import stamp_of
+from .words import OPTIONS
+
+MOST_BYTES_READ = 64 << 20
+
+
+def packets_of_all(names):
+    """The packets of each capture; None where one cannot be read again, or where all are so large that it would take long."""
+    stamps = [stamp_of(name) for name in names]
+    if not all(stamps) or sum(size for size, *_ in stamps) > MOST_BYTES_READ:
+        return None
+    try:
+        return [_packets_of(name) for name in names]
+    except (OSError, ValueError, struct.error):
+        return None
+
+
+def _packets_of(name):
+    with open(name, "rb") as file:
+        return read_capture(file.read())[1]
+
+
+def on_slots(job, port, _):
+    """A port with too many arrival slots: by its packets alone, or by their times."""
+    found = packets_of_all(job.inputs)
+    if not found:
+        return None
+    name, limit = job.inputs[port], most_cells(len(job.inputs))
+    text = f"a port may have at most {limit:,} arrival slots"
+    cells = [it.cells for it in on_line(found[port], 0, None)]
+    if sum(cells) > limit:
+        fix = converted(f"editcap -F pcap -r IN OUT 1-{_that_fit(cells, limit)}", name)
+        return f"{text}, and the packets of {name} have {sum(cells):,} cells; to keep the first that fit: {fix}"
+    pace = _pace_that_fits(found, limit)
+    fits = f"at --pace-us {pace} the packets fit" if pace <= OPTIONS["--pace-us"].high else "its packets are too far apart in time"
+    return f"{text}, and {name} lasts longer than so many slots of {job.pace_us} us: {fits}"
+
+
+def _that_fit(cells, limit):
+    """How many packets from the first on have at most so many cells together."""
+    count, total = 0, 0
+    while count < len(cells) and total + cells[count] <= limit:
+        total += cells[count]
+        count += 1
+    return count
+
+
+def _pace_that_fits(packets_by_port, limit):
+    """A pace at which each port that has not too many cells in any case has no more arrival slots than the limit."""
+    base, pace = first_time(packets_by_port), 1
+    for packets in packets_by_port:
+        own = sum(it.cells for it in on_line(packets, 0, None))
+        if packets and own <= limit:
+            last_us = (max(packet.time for packet in packets) - base) // 1000
+            # The last slot is at most that of the last time stamp, with all cells behind it.
+            pace = max(pace, last_us // (limit - own + 1) + 1)
+    return pace
+
+
+def on_cells(job, cells):
+    limit = most_cells(len(job.inputs))
+    part = 100 * limit // cells
+    fix = "editcap -F pcap -r IN OUT 1-K keeps the first K of a capture"
+    return f"all packets may have at most {limit:,} cells, a multicast one counted at each output: {part} per cent of them fit, and {fix}"

@@ -1,0 +1,213 @@
+"""The words of the command line: the job that they mean, or which word is wrong and what may stand there.
+
+The rules are those of docs/FORMATS.md. What an option is stands in OPTIONS alone; docs/USAGE.md has the same ranges,
+and tests/run_launcher compares both.
+"""
+
+from typing import NamedTuple
+
+COMMANDS = ("run", "gen", "check", "firm")
+MAX_PORTS = 64
+MAX_SEED, MAX_COUNT = 1_000_000_000, 4_000
+MAX_DIGITS = 10
+
+
+class Option(NamedTuple):
+    """An option: which commands take it, what its value may be (without any it is a flag), and what a run then writes."""
+
+    commands: tuple
+    letter: str = ""  # The value's, in the synopsis.
+    low: int = 0
+    high: int = 0
+    choices: tuple = ()
+    suffix: str = ""  # Of the file that is written, behind PREFIX.
+
+
+OPTIONS = {
+    "--rounds": Option(("run", "gen", "firm"), "R", 1, 64),
+    "--depth": Option(("run", "gen", "firm"), "D", 1, 131_072),
+    "--workers": Option(("run", "gen"), "W", 1, 32),
+    "--pace-us": Option(("run", "firm"), "K", 1, 1_000_000),
+    "--scheduler": Option(("run", "gen", "check"), "NAME", choices=("islip", "firm", "rrm")),
+    "--slots": Option(("run",)),
+    "--journal": Option(("run",), suffix=".journal"),
+    "--reference": Option(("run",)),
+    "--queues": Option(("run",)),
+    "--packets": Option(("run",), suffix=".packets.csv"),
+    "--alone": Option(("run",)),
+}
+
+# Words of the launcher's own, which come before the command.
+OVERWRITE, DRY_RUN = "--overwrite-inputs", "--dry-run"
+OWN = (OVERWRITE, DRY_RUN)
+
+SYNOPSIS = {
+    "run": "run [options] TABLE PREFIX INPUT..",
+    "gen": "gen [options] SEED COUNT PORTS",
+    "check": "check [options] FILE",
+    "firm": "firm [options] TABLE INPUT..",
+}
+
+
+class Fault(ValueError):
+    """Words that specify no job; the text says which word is wrong, and what may stand there."""
+
+
+class Job(NamedTuple):
+    """What the words ask for: the command, the values of the options that are given, and the names."""
+
+    command: str
+    options: dict
+    names: list
+
+    @property
+    def table(self):
+        return self.names[0] if self.command in ("run", "firm") else None
+
+    @property
+    def prefix(self):
+        return self.names[1] if self.command == "run" else None
+
+    @property
+    def inputs(self):
+        """The captures of the ports, port 0 first."""
+        return {"run": self.names[2:], "firm": self.names[1:]}.get(self.command, [])
+
+    @property
+    def pace_us(self):
+        value = self.options.get("--pace-us")
+        return int(value) if value else None
+
+    def outputs(self):
+        """What is written, in its order: each file's name, with what it is."""
+        if self.command != "run":
+            return {}
+        files = {f"{self.prefix}.{port}.pcap": f"output {port}" for port in range(len(self.inputs))}
+        files[f"{self.prefix}.report"] = "the report"
+        for name, option in OPTIONS.items():
+            if option.suffix and name in self.options:
+                files[self.prefix + option.suffix] = f"what {name} writes"
+        return files
+
+
+def read_words(words):
+    """The job of the words, else a Fault."""
+    if not words:
+        raise Fault("the first word is the command: " + one_of(COMMANDS))
+    command, rest = words[0], words[1:]
+    if command not in COMMANDS:
+        raise Fault(_no_command(command))
+    options, names = {}, []
+    at = 0
+    while at < len(rest):
+        word = rest[at]
+        at += 1
+        if word == "--":
+            names += rest[at:]
+            break
+        if word == "-" or not word.startswith("-"):
+            names.append(word)
+        else:
+            at = _read_option(command, options, word, rest, at)
+    job = Job(command, options, names)
+    _test_names(job)
+    return job
+
+
+def _read_option(command, options, word, rest, at):
+    """Reads an option and its value, and answers where the next word is."""
+    name, equals, value = word.partition("=")
+    if name not in OPTIONS or command not in OPTIONS[name].commands:
+        raise Fault(_no_option(command, name))
+    if name in options:
+        raise Fault(f"{name} stands twice")
+    option = OPTIONS[name]
+    if not option.letter:
+        if equals:
+            raise Fault(f"{name} has no value: leave out {equals}{value}")
+        options[name] = ""
+        return at
+    if not equals:
+        if at == len(rest) or rest[at].startswith("-"):
+            raise Fault(f"behind {name} comes {range_of(name)}")
+        value = rest[at]
+        at += 1
+    if not _is_value(option, value):
+        raise Fault(f"{name} {value}: {option.letter} is {range_of(name)}" + _near(value.lower(), option.choices))
+    options[name] = value
+    return at
+
+
+def _is_value(option, value):
+    return value in option.choices if option.choices else is_number(value, option.low, option.high)
+
+
+def range_of(name):
+    """What the value of an option may be."""
+    option = OPTIONS[name]
+    return one_of(option.choices) if option.choices else number_between(option.low, option.high)
+
+
+def is_number(word, low, high):
+    """Whether a word is a number of 1 to 10 decimal digits in a range."""
+    digits = word.isascii() and word.isdigit() and len(word) <= MAX_DIGITS
+    return digits and low <= int(word) <= high
+
+
+def number_between(low, high):
+    return f"a number from {low:,} to {high:,}, written without commas" if high > 999 else f"a number from {low} to {high}"
+
+
+def one_of(words):
+    return ", ".join(words[:-1]) + " or " + words[-1] if len(words) > 1 else words[0]
+
+
+def _near(word, known):
+    """A question after the known word that is most like one that is not known."""
+    import difflib  # Only where a word is wrong.
+    found = difflib.get_close_matches(word, known, 1)
+    return f"; is {found[0]} meant?" if found else ""
+
+
+def _no_command(word):
+    if word in OPTIONS or word.partition("=")[0] in OPTIONS:
+        return f"the command comes before {word}: " + one_of(COMMANDS)
+    return f"{word!r} is no command" + (_near(word, COMMANDS) or ": the first word is " + one_of(COMMANDS))
+
+
+def _no_option(command, name):
+    if name in OWN:
+        return f"{name} is a word of the launcher, and comes before the command: tiny_tera {name} {command} .."
+    if not name.startswith("--"):
+        return f"{name} is no option; a file whose name begins with - is given after a word --"
+    taken = [it for it in OPTIONS if command in OPTIONS[it].commands]
+    if (command, name) == ("firm", "--scheduler"):
+        return "firm has its own scheduler: to choose one, tiny_tera run --scheduler NAME TABLE PREFIX INPUT.."
+    if name in OPTIONS:
+        return f"{command} does not take {name}; it takes " + one_of(taken)
+    return f"{name} is no option" + (_near(name, taken) or ": " + _options_of(command, taken))
+
+
+def _options_of(command, taken):
+    return f"the options of {command} are {one_of(taken)}" if len(taken) > 1 else f"the option of {command} is {taken[0]}"
+
+
+def _test_names(job):
+    """Tests the number of the names, and the numbers of `gen`."""
+    count = len(job.names)
+    line = "tiny_tera " + SYNOPSIS[job.command]
+    if job.command == "gen":
+        if count != 3:
+            raise Fault(f"gen has three numbers, and here are {count}: {line}")
+        given = zip(("SEED", "COUNT", "PORTS"), job.names, ((0, MAX_SEED), (0, MAX_COUNT), (1, MAX_PORTS)))
+        for what, word, (low, high) in given:
+            if not is_number(word, low, high):
+                raise Fault(f"{what} {word}: it is {number_between(low, high)}")
+    elif job.command == "check":
+        if count != 1:
+            raise Fault(f"check has one file, and here are {count}: {line}")
+    elif not job.inputs:
+        told = ", ".join(job.names) or "none"
+        raise Fault(f"a name is missing: {line}, and the names here are {told}")
+    elif len(job.inputs) > MAX_PORTS:
+        raise Fault(f"here are {len(job.inputs)} captures, and a switch has at most {MAX_PORTS} ports: {line}")

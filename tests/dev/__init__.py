@@ -1,0 +1,1 @@
+"""Tests of what a maintainer calls, which tests/run_dev runs."""

@@ -1,0 +1,185 @@
+"""Help, the manual page, and that docs/USAGE.md and the launcher say the same of the words."""
+
+import re
+import shutil
+import subprocess
+import unittest
+from itertools import accumulate
+
+from launcher.made import MODULUS, cells_of_packet, largest_count, most_cells
+from launcher.page import blocks_of, cells_of, section, synopsis
+from launcher.words import COMMANDS, MAX_COUNT, OPTIONS, OWN, Fault, read_words
+
+from .scene import KIT, PROGRAM, TOP, Scene, python
+
+TEXT = (TOP / "docs/USAGE.md").read_text()
+BLOCKS = blocks_of(TEXT)[1]
+VECTORS = sorted((TOP / "crates/known_formats/data").glob("*words.txt"))
+
+
+def rows_of(title):
+    return [cells_of(row) for lines in section(BLOCKS, title) if lines[0].startswith("|") for row in lines[2:]]
+
+
+class Help(Scene):
+    def test_help(self):
+        for words in (["--help"], ["-h"]):
+            told = self.launch(*words)
+            self.assertEqual((told.returncode, told.stderr), (0, ""))
+            for line in synopsis(BLOCKS):
+                self.assertIn(f"  {line}\n", told.stdout)
+            for word in OWN:
+                self.assertIn(word, told.stdout)
+        self.assertEqual(self.calls(), [])
+
+    def test_help_of_commands(self):
+        for command in COMMANDS:
+            with self.subTest(command):
+                told = self.launch(command, "--help").stdout
+                taken = [name for name, option in OPTIONS.items() if command in option.commands]
+                self.assertEqual(re.findall(r"^  (--[a-z-]+)", told, re.M), taken)
+                for name in taken:
+                    if OPTIONS[name].high:
+                        self.assertRegex(told, rf"{OPTIONS[name].low:,} to\s+{OPTIONS[name].high:,}")
+                    for choice in OPTIONS[name].choices:
+                        self.assertRegex(told, rf"\b{choice}\b")
+                self.assertTrue(told.startswith(f"usage:\n  tiny_tera {command} "))
+                self.assertRegex(told, f"\nexample:\n  tiny_tera {command} ")
+                example = re.search("\nexample:\n  tiny_tera (.*)\n", told)[1]
+                self.assertEqual(read_words(example.split()).command, command)
+        self.assertEqual(self.launch("run", "--rounds", "2", "-h").stdout, self.launch("run", "--help").stdout)
+
+    def test_version(self):
+        none = "no program is there of these sources: {}; it is proved before it runs"
+        self.assertEqual(self.launch("--version").stdout, f"tiny_tera unknown\n{none.format('nothing is stored in release/')}\n")
+        self.build()
+        for words in (["init", "-q"], ["add", "-A"], ["-c", "user.name=x", "-c", "user.email=x@y", "commit", "-qm", "x"], ["tag", "v7"]):
+            subprocess.run(["git", "-C", self.top, *words], check=True)
+        lines = self.launch("--version").stdout.splitlines()
+        self.assertEqual(lines[:2], ["tiny_tera v7", f"proved and built here with {KIT}"])
+        self.assertEqual(len(lines), 3)
+        self.assertRegex(lines[2], rf"sha256 [0-9a-f]{{64}}  {re.escape(str(self.top))}/crates/tiny_tera/out/tiny_tera$")
+        (self.top / "crates/lower/src/lib.rt").write_text("// changed\n")
+        lines = self.launch("--version").stdout.splitlines()
+        self.assertEqual(lines, ["tiny_tera v7-dirty", none.format("crates/lower/src/lib.rt changed since it was proved")])
+        (self.top / "crates/tiny_tera/out/tiny_tera").write_text("another")
+        self.assertEqual(self.launch("--version").stdout, f"tiny_tera v7-dirty\n{none.format('nothing is stored in release/')}\n")
+
+
+class Words(unittest.TestCase):
+    def test_table_of_options(self):
+        """docs/USAGE.md has the options of the launcher's table, with their ranges and who takes them, and no other."""
+        rows = {row[0].strip("`").split(" ")[0]: row for row in rows_of("Options")}
+        self.assertEqual(list(rows), list(OPTIONS))
+        lines = " ".join(synopsis(BLOCKS)).split("tiny_tera ")[1:]
+        taken = {line.split()[0]: set(re.findall(r"--[a-z-]+", line)) for line in lines}
+        for name, option in OPTIONS.items():
+            self.assertEqual({command for command in taken if name in taken[command]}, set(option.commands), name)
+            self.assertEqual(rows[name][0], f"`{name} {option.letter}`" if option.letter else f"`{name}`")
+            if option.high:
+                self.assertIn(f", {option.low:,} to {option.high:,}", rows[name][1])
+            for choice in option.choices:
+                self.assertIn(f"`{choice}`", rows[name][1])
+
+    def test_vectors(self):
+        """The launcher takes the words that the program takes: rows of an independent model."""
+        count = 0
+        for line in "".join(path.read_text() for path in VECTORS).splitlines():
+            found = re.match(r'\?? ?((?:"(?:[^"\\]|\\.)*" ?)*)=> (.*)$', line)
+            if not found:
+                continue
+            words = [it.encode().decode("unicode_escape").encode("latin-1").decode() for it in re.findall(r'"((?:[^"\\]|\\.)*)"', found[1])]
+            count += 1
+            with self.subTest(line):
+                self.assertEqual(job_of(words), found[2].split(" ")[0] if found[2] != "usage" else None)
+        self.assertGreater(count, 340)
+
+
+def job_of(words):
+    """The command that words mean, None where they specify no job."""
+    try:
+        return read_words(words).command
+    except Fault:
+        return None
+
+
+class Counts(unittest.TestCase):
+    """The largest COUNT of `gen` for each number of ports."""
+
+    COUNTS = [int(word) for line in re.search(r"PORTS +largest COUNT\n(.*?)\n```", TEXT, re.S)[1].splitlines() for word in line.split()[3:]]
+
+    def test_each_number_of_ports(self):
+        self.assertEqual(len(self.COUNTS), 64)
+        for ports, count in enumerate(self.COUNTS, 1):
+            found = [largest_count(seed, ports, MAX_COUNT) for seed in (0, 1, 7, 65_536, 999_999_937)]
+            self.assertTrue(count <= min(found) <= max(found) <= count + 34, (ports, count, found))
+
+    def test_all_seeds(self):
+        for ports in (1, 2, 4, 8, 32, 33, 64):
+            self.assertEqual(self.COUNTS[ports - 1], least_of_all_seeds(ports), ports)
+
+    @unittest.skipUnless(PROGRAM.is_file(), "no program is there")
+    def test_program(self):
+        for ports in (2, 4, 33):
+            count = largest_count(1, ports, MAX_COUNT)
+            for given, status in ((count, 0), (count + 1, 4)):
+                words = [PROGRAM, "gen", "--workers", "1", "1", str(given), str(ports)]
+                self.assertEqual(subprocess.run(words, stdout=subprocess.DEVNULL, stderr=subprocess.DEVNULL).returncode, status)
+
+
+def least_of_all_seeds(ports):
+    """The largest COUNT with which no seed has too many cells. Packet K of all ports has the cells at SEED + 101 K."""
+    cells = [cells_of_packet((75 * at + 74) % MODULUS, ports) for at in range(MODULUS)]
+    columns = [0] * MODULUS
+    for port in range(ports):
+        turn = 13 * port
+        columns = [one + other for one, other in zip(columns, cells[turn:] + cells[:turn])]
+    in_steps = [columns[101 * at % MODULUS] for at in range(MODULUS)]
+    sums = list(accumulate(in_steps + in_steps[:MAX_COUNT + 1], initial=0))
+    least = MAX_COUNT
+    for at in range(MODULUS):
+        # A seed can only lower the count.
+        while sums[at + least] - sums[at] > most_cells(ports):
+            least -= 1
+    return least
+
+
+class Paces(unittest.TestCase):
+    def test_line_rates(self):
+        """The numbers of the table, by hand: a cell is 512 bits; on the line a frame has 24 bytes beside its captured ones."""
+        rows = rows_of("Paces")
+        self.assertGreaterEqual(len(rows), 8)
+        worst = min((captured + 24) * 8 / -(-(captured + 16) // 56) for captured in range(60, 1515))
+        for row in rows:
+            pace = int(row[0])
+            exact = [512 / pace, worst / pace, (1514 + 24) * 8 / 28 / pace]
+            for told, rate in zip(map(float, row[1:4]), exact):
+                self.assertTrue(told <= rate + 0.05 and told > rate * 0.96 - 1e-9, (pace, told, rate))
+            self.assertAlmostEqual(float(row[5]), 131_072 * pace / 1e6, delta=0.03 * 131_072 * pace / 1e6)
+
+
+class Manual(unittest.TestCase):
+    def test_is_of_the_page(self):
+        told = python(TOP / "dev/make_man", "--check")
+        self.assertEqual((told.returncode, told.stdout), (0, ""))
+
+    @unittest.skipUnless(shutil.which("man") and shutil.which("groff"), "there is no man or groff here")
+    def test_warnings(self):
+        told = subprocess.run(["man", "--warnings", "-l", TOP / "docs/tiny_tera.1"], stdout=subprocess.PIPE, stderr=subprocess.PIPE, universal_newlines=True)
+        self.assertEqual((told.returncode, told.stderr), (0, ""))
+        self.assertIn("tiny_tera", told.stdout)
+
+
+class Readme(unittest.TestCase):
+    def test_who_only_wants_to_run_it(self):
+        text = (TOP / "README.md").read_text()
+        for word in ("examples/run", "tests/run", "--prove", "tools/install"):
+            self.assertTrue(word in text, f"README.md does not speak of {word}")
+
+
+class Files(unittest.TestCase):
+    def test_lengths(self):
+        """Files of the launcher stay short."""
+        for path in [TOP / "tiny_tera", TOP / "tools/install", *TOP.glob("launcher/*.py"), *TOP.glob("tests/launcher/*.py")]:
+            lines = path.read_text().splitlines()
+            self.assertTrue(len(lines) < 400 and max(map(len, lines)) < 160, path)

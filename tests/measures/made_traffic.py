@@ -1,0 +1,109 @@
+"""Tests of the traffic that is made: its loads, its bursts, where it goes, and the captures that have it."""
+
+import tempfile
+import unittest
+from collections import Counter
+from pathlib import Path
+
+from launcher import captures
+from measure import trace, traffic
+
+from .common import TOOLS, TOP, run
+
+class Traffic(unittest.TestCase):
+    def test_load_and_bursts(self):
+        for kind, burst in (("uniform", 1), ("bursty", 16)):
+            with self.subTest(kind):
+                made = traffic.make_arrivals(kind, 0.5, 16, 0.05, 16, 2000, 1)
+                self.assertEqual(made, traffic.make_arrivals(kind, 0.5, 16, 0.05, 16, 2000, 1))
+                self.assertNotEqual(made, traffic.make_arrivals(kind, 0.5, 16, 0.05, 16, 2000, 2))
+                self.assertAlmostEqual(len(made) / (16 * 2000), 0.5, delta=0.05)
+                self.assertAlmostEqual(mean_run(made), burst, delta=burst / 5)
+
+    def test_captures_have_the_arrivals(self):
+        made = traffic.make_arrivals("bursty", 0.7, 4, 0.05, 5, 200, 3)
+        with tempfile.TemporaryDirectory() as folder:
+            traffic.write_traffic(folder, made, 5)
+            read = [Path(folder, name).read_bytes() for name in traffic.capture_names(5)]
+            table = Path(folder, "table.txt").read_text()
+            self.assertEqual(captures.arrivals_of(table, read, traffic.PACE_US), made)
+
+    def test_where_packets_go(self):
+        """The shares of the outputs, worked by hand for four ports, and how often packets go there."""
+        expected = {
+            ("diagonal", 3): [1 / 3, 0, 0, 2 / 3],
+            ("log-diagonal", 0): [8 / 15, 4 / 15, 2 / 15, 1 / 15],
+            ("log-diagonal", 2): [2 / 15, 1 / 15, 8 / 15, 4 / 15],
+            ("hot-spot", 1): [0.4, 0.2, 0.2, 0.2],
+        }
+        for (kind, card), shares in expected.items():
+            with self.subTest(kind):
+                for found, share in zip(traffic.shares(kind, card, 0.2, 4), shares):
+                    self.assertAlmostEqual(found, share)
+                made = traffic.make_arrivals(kind, 0.5, 1, 0.2, 4, 4000, 1)
+                self.assertAlmostEqual(len(made) / (4 * 4000), 0.5, delta=0.02)
+                own = Counter(packet.outputs[0] for packet in made if packet.input == card)
+                for output, share in enumerate(shares):
+                    self.assertAlmostEqual(own[output] / own.total(), share, delta=0.05)
+        # With 0.2 for the hot spot and four ports it gets 1.6 cells for each cell of a port.
+        self.assertAlmostEqual(traffic.most_load("hot-spot", 4, 0.2), 1 / 1.6)
+
+    def test_one_port(self):
+        for kind in traffic.KINDS:
+            made = traffic.make_arrivals(kind, 0.5, 4, 0.2, 1, 50, 1)
+            self.assertEqual({packet.outputs for packet in made}, {(0,)})
+
+    def test_trace(self):
+        """The packets of a trace keep their bytes and their order, and each address has one port."""
+        example = TOP / "examples/two_inputs"
+        names = [example / "a.pcap", example / "b.pcap"]
+        link, frames = trace.read_trace(names)
+        with tempfile.TemporaryDirectory() as name:
+            folder = Path(name, "made")
+            words = [folder, "--kind", "trace", "--ports", "2", "--load", "0.5", "--trace", *names]
+            self.assertEqual(run(TOOLS / "traffic", *words), (0, ""))
+            read = [captures.read_capture((folder / f"0{card}.pcap").read_bytes()) for card in range(2)]
+            self.assertEqual(sorted(packet.frame for _, found in read for packet in found), sorted(frame.data for frame in frames))
+            ports = trace.ports_of(frames, 2, 1)
+            for card, (found, packets) in enumerate(read):
+                self.assertEqual(found, link)
+                for packet in packets:
+                    self.assertEqual(ports[captures.addresses(link, packet.frame)[0]], card)
+            files = [path.read_bytes() for path in sorted(folder.glob("*.pcap"))]
+            listed = captures.arrivals_of((folder / "table.txt").read_text(), files, traffic.PACE_US)
+            self.assertEqual(len(listed), len(frames))
+            self.assertEqual(sum(packet.cells for packet in listed), sum(captures.cells_of(frame.data) for frame in frames))
+
+    def test_stretched(self):
+        """Four packets of one cell, two ports, half load: four slots; the times keep their proportions."""
+        frames = [trace.Frame(time, 1, 2, bytes(40)) for time in (100, 200, 300, 500)]
+        self.assertEqual([slot for slot, _ in trace.stretched(frames, 0.5, 2)], [0, 1, 2, 4])
+
+    def test_traces_that_are_refused(self):
+        with tempfile.TemporaryDirectory() as name:
+            bad = Path(name, "bad.pcap")
+            for data, told in ((b"short", "unpack"), (traffic.capture_bytes(101, []), "no packet with IPv4 addresses")):
+                bad.write_bytes(data)
+                status, said = run(TOOLS / "traffic", Path(name, "made"), "--kind", "trace", "--trace", bad)
+                self.assertEqual((status, said.count("\n")), (1, 1))
+                self.assertIn(told, said)
+            self.assertEqual(run(TOOLS / "traffic", "--kind", "trace", Path(name, "made"))[0], 2)
+
+    def test_words_of_traffic(self):
+        for words, told in ((["--load", "1.5"], "over 0 and at most 1"), (["--ports", "65"], "from 1 to 64"), (["--slots", "9000"], "1 to 8192")):
+            status, said = run(TOOLS / "traffic", *words, "made")
+            self.assertEqual(status, 2)
+            self.assertIn(told, said)
+
+    def test_arrivals_of_an_example(self):
+        folder = TOP / "examples/two_inputs"
+        read = [(folder / name).read_bytes() for name in ("a.pcap", "b.pcap")]
+        found = captures.arrivals_of((folder / "table.txt").read_text(), read, None)
+        self.assertEqual([(packet.slot, packet.input, packet.cells) for packet in found], [(2, 0, 3), (2, 1, 3), (4, 0, 2)])
+
+
+def mean_run(made):
+    """The mean number of packets that come in slots in a row to an input for one output."""
+    seen = {(packet.slot, packet.input): packet.outputs for packet in made}
+    starts = sum(seen.get((slot - 1, card)) != outputs for (slot, card), outputs in seen.items())
+    return len(made) / starts
