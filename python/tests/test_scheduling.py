@@ -62,7 +62,7 @@ def test_schedules():
             found = scheduler.decide().tolist(), list(scheduler.rounds_used()), scheduler.pointers.shared.tolist()
             assert found == (feeds, used, shared), (case.name, scheduler.slot)
             count += 1
-    assert count == 124
+    assert count == 145
 
 
 def test_maximal_rows():
