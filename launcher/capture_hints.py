@@ -78,33 +78,41 @@ def named(link):
     return f"link type {link}" + (f" ({LINKS[link]})" if link in LINKS else "")
 
 
-def on_short_header(port, name, count):
+def hint_on(name, said):
+    """What helps where the program says this of a capture, to be read behind its name; None where that is not known."""
+    for pattern, make in FAULTS:
+        found = re.fullmatch(pattern, said)
+        if found:
+            return make(name, *found.groups())
+    return None
+
+
+def on_short_header(name, count):
     if count == "0":
-        return f"{name}, the capture of port {port}, is empty; a capture without packets has a header of 24 bytes"
-    return f"{name}, the capture of port {port}, ends within its header of 24 bytes"
+        return "is empty; a capture without packets has a header of 24 bytes"
+    return "ends within its header of 24 bytes"
 
 
-def on_magic(port, name, magic):
+def on_magic(name, magic):
     found = kind_of(name)
     if not found:
         begin = bytes.fromhex(magic)
         found = next(((what, None) for known, what, _ in MAGICS if begin.startswith(known[:4])), None)
     if not found:
-        return f"{name}, the capture of port {port}, is no capture"
+        return "is no capture"
     what, command = found
-    return f"{name}, the capture of port {port}, {what}" + (f": {converted(command, name)}" if command else "")
+    return what + (f": {converted(command, name)}" if command else "")
 
 
-def on_version(port, name, major, minor):
+def on_version(name, major, minor):
     if (int(major), int(minor)) == VERSION_SWAPPED:
-        return _other_order(port, name)
-    fix = converted("editcap -F pcap IN OUT", name)
-    return f"{name}, the capture of port {port}, is not of version 2.4: {fix}"
+        return _other_order(name)
+    return f"is not of version 2.4: {converted('editcap -F pcap IN OUT', name)}"
 
 
-def _other_order(port, name):
+def _other_order(name):
     """A header whose magic is in one byte order and the rest in the other."""
-    text = f"{name}, the capture of port {port}, has its magic in one byte order and the rest in the other"
+    text = "has its magic in one byte order and the rest in the other"
     begin = first_bytes(name)
     if not begin:
         return text
@@ -112,25 +120,36 @@ def _other_order(port, name):
     return text + ": " + converted(f"(printf '{magic}'; tail -c +5 IN) > OUT", name)
 
 
-def on_link(port, name, link):
+def on_link(name, link):
     link = int(link)
     if link > HIGHEST_LINK and link & HIGHEST_LINK in (ETHERNET, RAW_IP):
         fix = converted("editcap -F pcap IN OUT", name)
-        return f"{name}, the capture of port {port}, has more in the field of its link type than {named(link & HIGHEST_LINK)}: {fix}"
-    text = f"{name}, the capture of port {port}, is of {named(link)}, and the switch takes Ethernet (1) and raw IP (101)"
+        return f"has more in the field of its link type than {named(link & HIGHEST_LINK)}: {fix}"
+    text = f"is of {named(link)}, and the switch takes Ethernet (1) and raw IP (101)"
     fix = to_raw(name, link)
     return text + (f"; capture on one interface, or make raw IP of it: {fix}" if link in (113, 276) else f": {fix}" if fix else "")
 
 
-def on_cut(port, name, at):
+def on_cut(name, at):
     fix = converted("tcpdump -r IN -w OUT", name)
-    return f"{name}, the capture of port {port}, ends within a packet, as one that is still written; to keep the whole packets: {fix}"
+    return f"ends within a packet, as one that is still written; to keep the whole packets: {fix}"
 
 
-def on_long(port, name, at, count):
+def on_long(name, at, count):
     as_swapped = int.from_bytes(int(count).to_bytes(4, "little"), "big")
     why = "its length may be in the wrong byte order" if as_swapped <= LONGEST_RECORD else "the file may be damaged there"
-    return f"{name}, the capture of port {port}, has a packet of more than 262,144 bytes at byte {int(at):,}; {why}"
+    return f"has a packet of more than 262,144 bytes at byte {int(at):,}; {why}"
+
+
+# What the program says of a capture, with the hint.
+FAULTS = (
+    (r"short header, (\d+) bytes", on_short_header),
+    (r"bad magic ([0-9a-f]{8})", on_magic),
+    (r"version (\d+)\.(\d+)", on_version),
+    (r"link type (\d+)", on_link),
+    (r"cut record at (\d+)", on_cut),
+    (r"long record at (\d+), (\d+) bytes", on_long),
+)
 
 
 def on_two_links(job, first, second):

@@ -1,19 +1,27 @@
-"""The arrivals of the packets of captures, by the rules of the switch for files that it accepts.
+"""Reads captures, by the rules of the switch: what it refuses is refused here, by the same text; and the arrivals of packets.
 
-Files that the switch refuses are not told apart here: run the switch on them first.
+`read_file` reads one from its file, `read_capture` from its bytes; `records_of` goes through the records of a long one
+without a copy.
 """
 
+import os
 import struct
-from typing import NamedTuple
+from typing import Iterator, List, NamedTuple, Union
+
+from .capture_hints import ETHERNET, LONGEST_RECORD, RAW_IP, hint_on
 
 MICROSECONDS, NANOSECONDS = 0xA1B2C3D4, 0xA1B23C4D
 FILE_HEADER, RECORD_HEADER = 24, 16
-ETHERNET, RAW_IP = 1, 101
+VERSION = 2, 4
 TAGGED, IPV4 = 0x8100, 0x0800
 IP_HEADER = 20
 MESSAGE_HEADER, CELL_PAYLOAD = 16, 56
 LONGEST_FORWARDED = 65_535
 SECOND = 1_000_000_000
+
+
+class BadCapture(ValueError):
+    """A file is no capture; the message is what the program says of it behind `capture P: `."""
 
 
 class Arrival(NamedTuple):
@@ -26,31 +34,96 @@ class Arrival(NamedTuple):
     cells: int
 
 
-class Packet(NamedTuple):
-    """A record: its time in nanoseconds and its captured bytes."""
+class Header(NamedTuple):
+    """What the header of a capture says: the byte order for `struct`, whether fractions are nanoseconds, the link type."""
+
+    order: str
+    is_nano: bool
+    link: int
+
+
+class Record(NamedTuple):
+    """A record: its time in nanoseconds, how many bytes the packet had on the line, and where its captured ones stand."""
 
     time: int
+    original: int
+    start: int
+    length: int
+
+
+class Packet(NamedTuple):
+    """A record with its bytes: its time in nanoseconds, how many bytes the packet had on the line, and the captured ones."""
+
+    time: int
+    original: int
     frame: bytes
 
-
-def read_capture(data):
-    """The link type of a capture and its packets, in their order; ValueError where it has no such form."""
-    for order in "<>":
-        magic, _, _, _, _, _, link = struct.unpack(order + "IHHIIII", data[:FILE_HEADER])
-        if magic in (MICROSECONDS, NANOSECONDS) and link in (ETHERNET, RAW_IP):
-            unit = 1000 if magic == MICROSECONDS else 1
-            return link, list(_records(data, order, unit))
-    raise ValueError("a file is no capture of Ethernet or raw IP")
+    @property
+    def length(self) -> int:
+        return len(self.frame)
 
 
-def _records(data, order, unit):
-    at = FILE_HEADER
-    while at < len(data):
-        seconds, fraction, length, _ = struct.unpack_from(order + "IIII", data, at)
-        at += RECORD_HEADER
-        within = min(fraction * unit, SECOND - unit)
-        yield Packet(seconds * SECOND + within, data[at:at + length])
-        at += length
+class Capture(NamedTuple):
+    """The link type of a capture, whether its times are in nanoseconds, and its packets in their order."""
+
+    link: int
+    is_nano: bool
+    packets: List[Packet]
+
+
+def read_file(name: Union[str, "os.PathLike[str]"]) -> Capture:
+    """Reads a capture from its file; where it is refused, BadCapture with its name and with what helps."""
+    with open(name, "rb") as file:
+        data = file.read()
+    try:
+        return read_capture(data)
+    except BadCapture as fault:
+        hint = hint_on(os.fspath(name), str(fault))
+        raise BadCapture(f"{name}: {fault}" + (f"; hint: {name} {hint}" if hint else "")) from None
+
+
+def read_capture(data: bytes) -> Capture:
+    """Reads a capture from its bytes; BadCapture where they are none."""
+    header = read_header(data)
+    found = [Packet(it.time, it.original, data[it.start:it.start + it.length]) for it in records_of(data)]
+    return Capture(header.link, header.is_nano, found)
+
+
+def read_header(data: bytes) -> Header:
+    """The header at the front of a capture; BadCapture with the first fault in it."""
+    if len(data) < FILE_HEADER:
+        raise BadCapture(f"short header, {len(data)} bytes")
+    magic = {order: struct.unpack_from(order + "I", data)[0] for order in "><"}
+    order = next((it for it in magic if magic[it] in (MICROSECONDS, NANOSECONDS)), None)
+    if order is None:
+        raise BadCapture(f"bad magic {magic['>']:08x}")
+    major, minor, _, _, _, link = struct.unpack_from(order + "HHIIII", data, 4)
+    if (major, minor) != VERSION:
+        raise BadCapture(f"version {major}.{minor}")
+    if link not in (ETHERNET, RAW_IP):
+        raise BadCapture(f"link type {link}")
+    return Header(order, magic[order] == NANOSECONDS, link)
+
+
+def records_of(data: bytes) -> Iterator[Record]:
+    """The records of a capture, in their order; BadCapture where the next one is none, or the header."""
+    order, is_nano, _ = read_header(data)
+    numbers = struct.Struct(order + "IIII").unpack_from
+    unit = 1 if is_nano else 1000
+    last = SECOND // unit - 1
+    at, end = FILE_HEADER, len(data)
+    while at < end:
+        start = at + RECORD_HEADER
+        if start > end:
+            raise BadCapture(f"cut record at {at}")
+        seconds, fraction, length, original = numbers(data, at)
+        if length > LONGEST_RECORD:
+            raise BadCapture(f"long record at {at}, {length} bytes")
+        if start + length > end:
+            raise BadCapture(f"cut record at {at}")
+        # A fraction beyond the second is the last one of that second.
+        yield Record(seconds * SECOND + min(fraction, last) * unit, original, start, length)
+        at = start + length
 
 
 def addresses(link, frame):
@@ -104,16 +177,16 @@ def route(routes, address):
     return routes.get(None)
 
 
-def cells_of(frame):
-    """The number of cells of a packet with this frame."""
-    return -(-(MESSAGE_HEADER + len(frame)) // CELL_PAYLOAD)
+def cells_of(length: int) -> int:
+    """The number of cells of a packet of so many captured bytes."""
+    return -(-(MESSAGE_HEADER + length) // CELL_PAYLOAD)
 
 
 class OnLine(NamedTuple):
-    """A packet on the line of its port: its capture's record, the slot of its time stamp, that of its first cell, and
+    """A packet on the line of its port: itself or its record, the slot of its time stamp, that of its first cell, and
     its cells. At line pace each time stamp counts as the first slot."""
 
-    packet: Packet
+    packet: Union[Packet, Record]
     due: int
     first: int
     cells: int
@@ -123,7 +196,7 @@ def on_line(packets, base, pace_us):
     """The packets of one port as its line brings them, at a pace counted from a time in nanoseconds."""
     free = 0
     for packet in packets:
-        cells = cells_of(packet.frame)
+        cells = cells_of(packet.length)
         due = (packet.time - base) // (1000 * pace_us) if pace_us else 0
         first = max(free, due)
         free = first + cells
@@ -139,11 +212,11 @@ def arrivals_of(table, captures, pace_us):
     """The packets that are offered to queues, in the order of slots; pace_us None is line pace."""
     routes = read_table(table)
     read = [read_capture(data) for data in captures]
-    base = first_time(packets for _, packets in read)
+    base = first_time(capture.packets for capture in read)
     found = []
-    for card, (link, packets) in enumerate(read):
-        for packet, _, first, cells in on_line(packets, base, pace_us):
-            served = route(routes, destination(link, packet.frame))
-            if served and len(packet.frame) <= LONGEST_FORWARDED:
+    for card, capture in enumerate(read):
+        for packet, _, first, cells in on_line(capture.packets, base, pace_us):
+            served = route(routes, destination(capture.link, packet.frame))
+            if served and packet.length <= LONGEST_FORWARDED:
                 found.append(Arrival(first + cells - 1, card, served[0], served[1], cells))
     return sorted(found)

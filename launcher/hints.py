@@ -84,12 +84,10 @@ def _on_too_long(job, name):
     return text
 
 
-def _of_capture(make):
-    """A hint on one capture, with its port and its name in place of the job."""
-    def made(job, port, *groups):
-        return make(int(port), job.inputs[int(port)], *groups) if int(port) < len(job.inputs) else None
-
-    return made
+def _on_capture(job, port, said):
+    port = int(port)
+    text = capture_hints.hint_on(job.inputs[port], said) if port < len(job.inputs) else None
+    return f"{job.inputs[port]}, the capture of port {port}, {text}" if text else None
 
 
 def _of_line(make):
@@ -128,7 +126,6 @@ def _on_journal(job, at):
     return None
 
 
-CAPTURE = r"capture (\d+): "
 LINE = r"table line (\d+): "
 HINTS = (
     (3, r"read fault: (.*)", _on_read),
@@ -141,12 +138,7 @@ HINTS = (
     (4, LINE + "level", _of_line(table_hints.on_level)),
     (4, LINE + r"repeats line (\d+)", _of_line(table_hints.on_repeats)),
     (4, r"table: (\d+) lines", lambda job, _: f"{job.table} may have at most 4,096 lines with routes"),
-    (4, CAPTURE + r"short header, (\d+) bytes", _of_capture(capture_hints.on_short_header)),
-    (4, CAPTURE + r"bad magic ([0-9a-f]{8})", _of_capture(capture_hints.on_magic)),
-    (4, CAPTURE + r"version (\d+)\.(\d+)", _of_capture(capture_hints.on_version)),
-    (4, CAPTURE + r"link type (\d+)", _of_capture(capture_hints.on_link)),
-    (4, CAPTURE + r"cut record at (\d+)", _of_capture(capture_hints.on_cut)),
-    (4, CAPTURE + r"long record at (\d+), (\d+) bytes", _of_capture(capture_hints.on_long)),
+    (4, r"capture (\d+): (.*)", _on_capture),
     (4, r"link types (\d+) and (\d+)", capture_hints.on_two_links),
     (4, r"too many slots: port (\d+) has (\d+)", _of_line(on_slots)),
     (4, r"too many cells: (\d+)", _on_all_cells),

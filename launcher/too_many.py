@@ -1,7 +1,5 @@
 """Hints on captures with too many packets: how many fit, or at which pace they do."""
 
-import struct
-
 from .capture_hints import converted
 from .captures import first_time, on_line, read_capture
 from .made import most_cells
@@ -18,13 +16,13 @@ def packets_of_all(names):
         return None
     try:
         return [_packets_of(name) for name in names]
-    except (OSError, ValueError, struct.error):
+    except (OSError, ValueError):
         return None
 
 
 def _packets_of(name):
     with open(name, "rb") as file:
-        return read_capture(file.read())[1]
+        return read_capture(file.read()).packets
 
 
 def on_slots(job, port, _):

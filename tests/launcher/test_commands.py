@@ -9,7 +9,7 @@ import subprocess
 import unittest
 from pathlib import Path
 
-from launcher.captures import destination, read_capture
+from launcher.captures import destination, read_file
 
 from .scene import PROGRAM, Scene, capture, frame
 
@@ -67,7 +67,7 @@ class Commands(Scene):
             self.skipTest(f"there is no {first_word(command)} here")
         subprocess.run(["sh", "-c", command], cwd=self.jobs, stdout=subprocess.DEVNULL, stderr=subprocess.DEVNULL)
         made = Path(self.jobs, "a.classic.pcap")
-        link, packets = read_capture(made.read_bytes())
+        link, _, packets = read_file(made)
         if PROGRAM.is_file():
             words = [PROGRAM, "firm", "table.txt", made]
             self.assertEqual(subprocess.run(words, cwd=self.jobs, stdout=subprocess.DEVNULL, stderr=subprocess.PIPE).stderr, b"")

@@ -14,7 +14,7 @@ LATE = "port 0 (a.pcap): 1 of 3 packets came late, by 2 slots (10 us) at most"
 def line(megabits, captured, count):
     """The packets of a full Ethernet line, of frames without their check sequence."""
     each = (captured + 24) * 8 * 1000 / megabits
-    return [Packet(int(each * at), bytes(captured)) for at in range(count)]
+    return [Packet(int(each * at), captured, bytes(captured)) for at in range(count)]
 
 
 class Late(Scene):
@@ -57,7 +57,7 @@ class Late(Scene):
 
     def test_example_of_the_page(self):
         """Frames of 64 bytes at 100 Mbit/s, one every 6.72 microseconds, of two slots of 5 each."""
-        packets = [Packet(at * 6720 // 1000 * 1000, bytes(60)) for at in range(1000)]
+        packets = [Packet(at * 6720 // 1000 * 1000, 60, bytes(60)) for at in range(1000)]
         found = late_ports([packets], 5)[0]
         told = f"late: port 0 (a.pcap): {found.late:,} of 1,000 packets came late, by {found.slots:,} slots ({found.slots * 5:,} us) at most"
         self.assertIn(told, (TOP / "docs/USAGE.md").read_text())

@@ -1,5 +1,7 @@
 """Tests of the traffic that is made: its loads, its bursts, where it goes, and the captures that have it."""
 
+import struct
+import subprocess
 import tempfile
 import unittest
 from collections import Counter
@@ -8,7 +10,8 @@ from pathlib import Path
 from launcher import captures
 from measure import trace, traffic
 
-from .common import TOOLS, TOP, run
+from .common import PROGRAM, TOOLS, TOP, run
+
 
 class Traffic(unittest.TestCase):
     def test_load_and_bursts(self):
@@ -62,17 +65,17 @@ class Traffic(unittest.TestCase):
             folder = Path(name, "made")
             words = [folder, "--kind", "trace", "--ports", "2", "--load", "0.5", "--trace", *names]
             self.assertEqual(run(TOOLS / "traffic", *words), (0, ""))
-            read = [captures.read_capture((folder / f"0{card}.pcap").read_bytes()) for card in range(2)]
-            self.assertEqual(sorted(packet.frame for _, found in read for packet in found), sorted(frame.data for frame in frames))
+            read = [captures.read_file(folder / f"0{card}.pcap") for card in range(2)]
+            self.assertEqual(sorted(packet.frame for found in read for packet in found.packets), sorted(frame.data for frame in frames))
             ports = trace.ports_of(frames, 2, 1)
-            for card, (found, packets) in enumerate(read):
-                self.assertEqual(found, link)
-                for packet in packets:
+            for card, found in enumerate(read):
+                self.assertEqual(found.link, link)
+                for packet in found.packets:
                     self.assertEqual(ports[captures.addresses(link, packet.frame)[0]], card)
             files = [path.read_bytes() for path in sorted(folder.glob("*.pcap"))]
             listed = captures.arrivals_of((folder / "table.txt").read_text(), files, traffic.PACE_US)
             self.assertEqual(len(listed), len(frames))
-            self.assertEqual(sum(packet.cells for packet in listed), sum(captures.cells_of(frame.data) for frame in frames))
+            self.assertEqual(sum(packet.cells for packet in listed), sum(captures.cells_of(len(frame.data)) for frame in frames))
 
     def test_stretched(self):
         """Four packets of one cell, two ports, half load: four slots; the times keep their proportions."""
@@ -80,13 +83,38 @@ class Traffic(unittest.TestCase):
         self.assertEqual([slot for slot, _ in trace.stretched(frames, 0.5, 2)], [0, 1, 2, 4])
 
     def test_traces_that_are_refused(self):
+        """A capture is refused by the program's text, with what helps; no packet is made of what is left of one."""
+        two = traffic.capture_bytes(101, [(0, bytes(20)), (1, bytes(20))])
+        longer = two[:60] + struct.pack("<4I", 0, 0, 2**31, 20) + two[76:]
+        refused = {
+            "short header, 5 bytes": (b"short", "ends within its header of 24 bytes"),
+            "short header, 0 bytes": (b"", "is empty; a capture without packets has a header of 24 bytes"),
+            "bad magic 0a0d0d0a": (b"\x0a\x0d\x0d\x0a" + bytes(28), "is a pcapng file: editcap -F pcap "),
+            "version 1.4": (two[:4] + b"\1" + two[5:], "is not of version 2.4: editcap -F pcap "),
+            "link type 228": (two[:20] + struct.pack("<I", 228) + two[24:], "is of link type 228 (raw IPv4), "),
+            "cut record at 60": (two[:-1], "ends within a packet, "),
+            "cut record at 96": (two + bytes(15), "ends within a packet, "),
+            "long record at 60, 2147483648 bytes": (longer, "has a packet of more than 262,144 bytes at byte 60; "),
+        }
         with tempfile.TemporaryDirectory() as name:
-            bad = Path(name, "bad.pcap")
-            for data, told in ((b"short", "unpack"), (traffic.capture_bytes(101, []), "no packet with IPv4 addresses")):
-                bad.write_bytes(data)
-                status, said = run(TOOLS / "traffic", Path(name, "made"), "--kind", "trace", "--trace", bad)
-                self.assertEqual((status, said.count("\n")), (1, 1))
-                self.assertIn(told, said)
+            folder, bad = Path(name), Path(name, "bad.pcap")
+            for said, (data, hint) in refused.items():
+                with self.subTest(said):
+                    bad.write_bytes(data)
+                    if PROGRAM.exists():
+                        ended = subprocess.run([PROGRAM, "firm", "/dev/null", bad], stdout=subprocess.PIPE, stderr=subprocess.PIPE, text=True)
+                        self.assertEqual((ended.returncode, ended.stderr), (4, f"capture 0: {said}\n"))
+                    status, told = run(TOOLS / "traffic", folder / "made", "--kind", "trace", "--trace", bad)
+                    self.assertEqual((status, told.count("\n"), (folder / "made").exists()), (1, 1, False))
+                    self.assertTrue(told.startswith(f"tools/traffic: {bad}: {said}; hint: {bad} {hint}"), told)
+
+    def test_traces_without_packets_of_use(self):
+        with tempfile.TemporaryDirectory() as name:
+            raw, ethernet = Path(name, "raw.pcap"), TOP / "examples/two_inputs/a.pcap"
+            raw.write_bytes(traffic.capture_bytes(101, []))
+            for names, told in (([raw], "the trace has no packet with IPv4 addresses"), ([raw, ethernet], f"link types 101 and 1: {raw} and {ethernet}")):
+                said = run(TOOLS / "traffic", Path(name, "made"), "--kind", "trace", "--trace", *names)
+                self.assertEqual(said, (1, f"tools/traffic: {told}\n"))
             self.assertEqual(run(TOOLS / "traffic", "--kind", "trace", Path(name, "made"))[0], 2)
 
     def test_words_of_traffic(self):

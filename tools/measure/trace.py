@@ -7,7 +7,6 @@ per input and slot, and the packets of the first slots are taken. Packets withou
 """
 
 import random
-from pathlib import Path
 from typing import NamedTuple
 
 from launcher import captures
@@ -30,19 +29,19 @@ class Frame(NamedTuple):
 
 def read_trace(names):
     """The link type and the packets of captures, in the order of their times; ValueError where there are none."""
-    links, found = set(), []
+    links, found = {}, []
     for name in names:
-        link, packets = captures.read_capture(Path(name).read_bytes())
-        links.add(link)
-        for packet in packets:
-            ends = captures.addresses(link, packet.frame)
-            if ends and len(packet.frame) <= captures.LONGEST_FORWARDED:
+        capture = captures.read_file(name)
+        links.setdefault(capture.link, name)
+        for packet in capture.packets:
+            ends = captures.addresses(capture.link, packet.frame)
+            if ends and packet.length <= captures.LONGEST_FORWARDED:
                 found.append(Frame(packet.time, *ends, packet.frame))
     if not found:
         raise ValueError("the trace has no packet with IPv4 addresses")
     if len(links) > 1:
-        raise ValueError("the captures of the trace have different link types")
-    return links.pop(), sorted(found, key=lambda frame: frame.time)
+        raise ValueError("link types {} and {}: {} and {}".format(*links, *links.values()))
+    return next(iter(links)), sorted(found, key=lambda frame: frame.time)
 
 
 def write_trace(folder, names, load, ports, slots, seed):
@@ -68,7 +67,7 @@ def ports_of(frames, ports, seed):
 
 def stretched(frames, load, ports):
     """Each packet with the slot that it gets, so that all of them make the load."""
-    cells = sum(captures.cells_of(frame.data) for frame in frames)
+    cells = sum(captures.cells_of(len(frame.data)) for frame in frames)
     begin, span = frames[0].time, max(1, frames[-1].time - frames[0].time)
     slots = cells / (ports * load)
     return [(int((frame.time - begin) / span * slots), frame) for frame in frames]
