@@ -117,6 +117,21 @@ class Traffic(unittest.TestCase):
                 self.assertEqual(said, (1, f"tools/traffic: {told}\n"))
             self.assertEqual(run(TOOLS / "traffic", "--kind", "trace", Path(name, "made"))[0], 2)
 
+    def test_files_of_the_user_stay(self):
+        """A folder that is not empty is refused, as a file is, and one that is there and empty is taken."""
+        example = TOP / "examples/two_inputs"
+        with tempfile.TemporaryDirectory() as name:
+            folder, table, empty = Path(name, "mine"), Path(name, "mine/table.txt"), Path(name, "empty")
+            folder.mkdir()
+            empty.mkdir()
+            table.write_text("my own")
+            for words in ((), ("--kind", "trace", "--trace", example / "a.pcap", example / "b.pcap")):
+                words = ("--ports", 2, "--slots", 10, *words)
+                self.assertEqual(run(TOOLS / "traffic", folder, *words), (1, f"tools/traffic: {folder} is not empty\n"))
+                status, told = run(TOOLS / "traffic", table, *words)
+                self.assertEqual((status, told.count("\n"), list(folder.iterdir()), table.read_text()), (1, 1, [table], "my own"))
+            self.assertEqual(run(TOOLS / "traffic", empty, *words), (0, ""))
+
     def test_words_of_traffic(self):
         for words, told in ((["--load", "1.5"], "over 0 and at most 1"), (["--ports", "65"], "from 1 to 64"), (["--slots", "9000"], "1 to 8192")):
             status, said = run(TOOLS / "traffic", *words, "made")

@@ -122,7 +122,7 @@ def _bursty(numbers, load, burst, ports):
 
 
 def write_traffic(folder, arrivals, ports):
-    """Writes a folder: the captures 00.pcap and so on of the ports, and table.txt."""
+    """Writes an empty folder: the captures 00.pcap and so on of the ports, and table.txt."""
     by_input = [[] for _ in range(ports)]
     for packet in arrivals:
         by_input[packet.input].append(packet)
@@ -131,9 +131,11 @@ def write_traffic(folder, arrivals, ports):
 
 
 def write_folder(folder, captures, table):
-    """Writes captures, in the order of ports, and a table to a folder, which is made."""
+    """Writes captures, in the order of ports, and a table to a folder, which is made, or empty; OSError where it is not."""
     folder = Path(folder)
     folder.mkdir(parents=True, exist_ok=True)
+    if any(folder.iterdir()):
+        raise FileExistsError(f"{folder} is not empty")
     for name, data in zip(capture_names(len(captures)), captures):
         (folder / name).write_bytes(data)
     (folder / "table.txt").write_text(table)
