@@ -132,6 +132,20 @@ class Traffic(unittest.TestCase):
                 self.assertEqual((status, told.count("\n"), list(folder.iterdir()), table.read_text()), (1, 1, [table], "my own"))
             self.assertEqual(run(TOOLS / "traffic", empty, *words), (0, ""))
 
+    def test_folder_behind_the_captures(self):
+        """The folder is the last word wherever --trace stands, and a capture is never taken for it."""
+        example = TOP / "examples/two_inputs"
+        names = [example / "a.pcap", example / "b.pcap"]
+        with tempfile.TemporaryDirectory() as name:
+            rest = ["--kind", "trace", "--ports", "2"]
+            for number, words in enumerate((["--trace", *names], ["--trace", *names, "--seed", "1"], ["--trace", *names, "--"], ["--trace", names[0]])):
+                folder = Path(name, str(number))
+                self.assertEqual(run(TOOLS / "traffic", *rest, *words, folder), (0, ""), words)
+                self.assertEqual(len(list(folder.iterdir())), 3)
+            for words in (names, names[:1], [Path(name, "alone")]):
+                status, told = run(TOOLS / "traffic", *rest, "--trace", *words)
+                self.assertEqual((status, told.splitlines()[-1]), (2, "traffic: error: the following arguments are required: folder"))
+
     def test_words_of_traffic(self):
         for words, told in ((["--load", "1.5"], "over 0 and at most 1"), (["--ports", "65"], "from 1 to 64"), (["--slots", "9000"], "1 to 8192")):
             status, said = run(TOOLS / "traffic", *words, "made")
