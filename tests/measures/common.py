@@ -1,6 +1,7 @@
 """What the tests share: the run of a tool, the program that sweeps run, and a small run with all that it wrote."""
 
 import importlib.util
+import shlex
 import subprocess
 import sys
 from pathlib import Path
@@ -66,6 +67,13 @@ def lacks(*modules):
     """Which of these modules Python does not have, as the reason to skip a test; empty where it has all."""
     missing = [name for name in modules if importlib.util.find_spec(name) is None]
     return "Python has no " + ", ".join(missing) if missing else ""
+
+
+def with_program(command, folder):
+    """A command that a tool prints for a shell in a folder, with the program of the tests in the place of the launcher."""
+    word = shlex.split(command)[0]
+    assert (Path(folder) / word).samefile(TOP / "tiny_tera"), command
+    return command.replace(shlex.quote(word), shlex.quote(str(PROGRAM.resolve())), 1)
 
 
 def run(*words, **more):

@@ -9,7 +9,7 @@ from pathlib import Path
 from launcher import captures
 from measure import full_queues, report, traffic
 
-from .common import PROGRAM, TOOLS, run
+from .common import PROGRAM, TOOLS, run, with_program
 
 KINDS = [(2, 8), (3, 1), (4, 4), (5, 7)]  # Ports, and cells of a queue.
 
@@ -126,10 +126,10 @@ class FullQueues(unittest.TestCase):
         for ports in (2, 4, 16):
             with tempfile.TemporaryDirectory() as room, self.subTest(ports=ports):
                 folder = Path(room, "its traffic")
-                lines = run(TOOLS / "full_queues", ports, folder)[1].splitlines()
+                lines = run(TOOLS / "full_queues", ports, folder.name, cwd=room)[1].splitlines()
                 for line in lines[1:3]:
-                    command = line.strip().replace("./tiny_tera", str(PROGRAM), 1)
-                    ended = subprocess.run(command, shell=True, stdout=subprocess.PIPE, stderr=subprocess.PIPE, text=True)
+                    command = with_program(line.strip(), room)
+                    ended = subprocess.run(command, cwd=room, shell=True, stdout=subprocess.PIPE, stderr=subprocess.PIPE, text=True)
                     if ended.returncode == 2:
                         self.skipTest("the program does not take --scheduler")
                     scheduler = command.split("--scheduler ")[1].split()[0]

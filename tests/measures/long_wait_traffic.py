@@ -10,13 +10,12 @@ import unittest
 from collections import Counter
 from pathlib import Path
 
-from launcher import captures, there
+from launcher import captures
 from measure import long_waits
 
-TOP = Path(__file__).resolve().parents[2]
-TOOLS = TOP / "tools"
+from .common import PROGRAM, TOOLS, TOP, with_program
+
 JOBS = TOP / "tests/jobs"
-PROGRAM = there.program(TOP)
 
 KINDS = [(1, False), (2, False), (3, False), (1, True), (2, True), (3, True)]  # Rounds, and whether FIRM.
 
@@ -136,8 +135,8 @@ class Jobs(unittest.TestCase):
 
 
 class Command(unittest.TestCase):
-    def make(self, *words):
-        return subprocess.run([sys.executable, TOOLS / "longest_wait", *words],
+    def make(self, *words, cwd=None):
+        return subprocess.run([sys.executable, TOOLS / "longest_wait", *words], cwd=cwd,
                               stdout=subprocess.PIPE, stderr=subprocess.PIPE, text=True)
 
     def test_refusals(self):
@@ -153,11 +152,15 @@ class Command(unittest.TestCase):
 
     @unittest.skipUnless(PROGRAM.is_file(), "no program is there")
     def test_program_waits_so_long(self):
-        """The command that is printed prints the line that is printed."""
+        """The command that is printed prints the line that is printed, in the folder in which it is."""
         for ports in ("3", "4", "8", "16"):
             for words in ((ports, "1"), (ports, "4"), (ports, "1", "--scheduler=firm"), (ports, "4", "--scheduler=firm")):
                 with tempfile.TemporaryDirectory() as folder, self.subTest(words=words):
-                    _, command, _, line = self.make(*words, f"{folder}/its traffic").stdout.splitlines()
-                    command = command.strip().replace("./tiny_tera", str(PROGRAM.resolve()), 1)
-                    ran = subprocess.run(command, shell=True, stdout=subprocess.PIPE, text=True)
-                    self.assertEqual((ran.returncode, ran.stdout.splitlines()[-1:]), (0, [line.strip()]))
+                    self.check_command(folder, words, "its traffic")
+        with tempfile.TemporaryDirectory() as folder:
+            self.check_command(TOP, ("3", "1"), f"{folder}/its traffic")
+
+    def check_command(self, folder, words, made):
+        _, command, _, line = self.make(*words, made, cwd=folder).stdout.splitlines()
+        ran = subprocess.run(with_program(command.strip(), folder), cwd=folder, shell=True, stdout=subprocess.PIPE, text=True)
+        self.assertEqual((ran.returncode, ran.stdout.splitlines()[-1:]), (0, [line.strip()]))

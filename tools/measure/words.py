@@ -4,8 +4,11 @@ A word that is refused is told with what it may be.
 """
 
 import argparse
+import shlex
+from pathlib import Path
 from typing import NamedTuple
 
+TOP = Path(__file__).resolve().parents[2]
 MOST_NUMBERS = 10_000  # Of one list.
 
 
@@ -19,6 +22,11 @@ class Words(NamedTuple):
     rounds: int
     seed: int
     commit: str
+
+
+def launcher():
+    """The word that starts the switch in a shell in the current folder."""
+    return "./tiny_tera" if Path.cwd() == TOP else shlex.quote(str(TOP / "tiny_tera"))
 
 
 def whole(low, high):
