@@ -1,8 +1,10 @@
 """Tests of the words, the tables with their intervals and where they come from, and the figures."""
 
 import argparse
+import json
 import math
 import os
+import re
 import tempfile
 import unittest
 from contextlib import redirect_stdout
@@ -117,6 +119,39 @@ class Figures(unittest.TestCase):
             drawn = Path(name, "figures/out.queues.svg").read_text()
             for text in ("level 0, unicast", "level 3, multicast", "dropped packets", "1&gt;1:0u", "2&gt;*:3m"):
                 self.assertIn(text, drawn)
+
+    def test_file_of_the_user_beside_a_report(self):
+        """PREFIX.json is read where it is the result of a run of a sweep, and nothing is said of any other."""
+        words = {name: f"its {name}" for name in ("kind", "ports", "load", "scheduler", "rounds", "seed", "commit")}
+        told = "run " + " ".join(f"{name} {word}" for name, word in words.items())
+        others = [b"[]", b"7", b'{"mine": 1}', b"no json", b"\xff\xfe", b"", b"[" * 100_000, None]
+        for data in (json.dumps({**words, "cells": 9}).encode(), *others):
+            with self.subTest(data), tempfile.TemporaryDirectory() as name:
+                report_file, beside = Path(name, "one.report"), Path(name, "one.json")
+                report_file.write_text(REPORT[:REPORT.index("slot 0")] + QUEUES)
+                beside.write_bytes(data) if data is not None else beside.mkdir()
+                status, said = run(TOOLS / "plot", report_file)
+                self.assertEqual((status, "Traceback" in said), (0, False), said)
+                drawn = " ".join(Path(name, "one.queues.svg").read_text().split())
+                self.assertEqual(told in drawn, data not in others)
+
+    def test_names_are_plain_text(self):
+        """A title has the letters of a name, also those that mark formulas, and of a name that is no text what there is."""
+        for folder, stem, shown in (
+            ("x$y", "$o", "x$y/$o"), ("mine", "a$b^$c", "mine/a$b^$c"), ("mine", "$\\foo$", "mine/$\\foo$"),
+            ("mine", b"\xff", "mine/\N{REPLACEMENT CHARACTER}"),
+        ):
+            with self.subTest(stem), tempfile.TemporaryDirectory() as name:
+                room = Path(name, folder)
+                room.mkdir()
+                report_file = room / f"{os.fsdecode(stem)}.report"
+                report_file.write_text(REPORT)
+                status, told = run(TOOLS / "plot", report_file, errors="surrogateescape")
+                self.assertEqual((status, report_file.with_suffix(".matched.png").exists()), (0, True), told)
+                drawn = report_file.with_suffix(".matched.svg").read_text()
+                comments = re.findall("<!-- (.*?) -->", drawn)  # Of each text as it was given.
+                self.assertIn(f"{shown}: 3 ports, 2 rounds", comments)
+                self.assertIn(f"{shown}.report", "".join(drawn.split("<metadata>")[1].split("</metadata>")[0].split("\n")))
 
     def test_queues_without_packets(self):
         """A report with queue lines alone: the peaks are drawn, of more queues than have names, and of none at all nothing."""

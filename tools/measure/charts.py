@@ -24,6 +24,7 @@ BARS = "bars: 95 per cent intervals of the mean over the seeds, by Student's t"
 WINDOWS = 200  # Slots are averaged over so many windows.
 NAMES = {"u": "unicast", "m": "multicast"}
 MOST_NAMED = 32  # So many queues stand below the axis by name.
+AS_IT_IS = {"parse_math": False}  # Of texts with names of files, in which a $ is a letter.
 
 
 def save(figure, folder, name, told):
@@ -31,7 +32,8 @@ def save(figure, folder, name, told):
 
     What `told` says of where the figure comes from stands under it and in the files' descriptions.
     """
-    figure.supxlabel(told.text(int(figure.get_figwidth() * LETTERS_OF_AN_INCH)), x=0.01, horizontalalignment="left", fontsize=6)
+    under = told.text(int(figure.get_figwidth() * LETTERS_OF_AN_INCH))
+    figure.supxlabel(under, x=0.01, horizontalalignment="left", fontsize=6, **AS_IT_IS)
     Path(folder).mkdir(parents=True, exist_ok=True)
     for form in FORMATS:
         file = Path(folder) / f"{name}.{form}"
@@ -44,7 +46,7 @@ def save(figure, folder, name, told):
 
 def _one(title, across, up):
     figure, axes = pyplot.subplots(figsize=(7, 4.5), layout="constrained")
-    axes.set_title(title)
+    axes.set_title(title, **AS_IT_IS)
     axes.set_xlabel(across)
     axes.set_ylabel(up)
     axes.grid(alpha=0.3)
