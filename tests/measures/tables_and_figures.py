@@ -16,6 +16,7 @@ from measure.provenance import Provenance, read_lines
 from .common import DATA, JOURNAL, PACKETS, QUEUES, REPORT, TOOLS, lacks, run
 
 TOLD = Provenance(("abc",), ("tools/sweep --small",), ("seeds 1-3",))
+WORDS_OF_RUN = {name: f"its {name}" for name in ("kind", "ports", "load", "scheduler", "rounds", "seed", "commit")}
 
 
 class Words(unittest.TestCase):
@@ -30,6 +31,18 @@ class Words(unittest.TestCase):
         self.assertEqual((words.share("1"), words.share("0.05")), (1.0, 0.05))
         for wrong in ("0", "1.5", "-0.5", "nan", "x"):
             self.assertRaises(argparse.ArgumentTypeError, words.share, wrong)
+
+    def test_words_of_a_run(self):
+        """A result has them; any other file may be the user's own."""
+        with tempfile.TemporaryDirectory() as name:
+            path = Path(name, "one.json")
+            path.write_text(json.dumps({**WORDS_OF_RUN, "cells": 9}))
+            self.assertEqual(words.words_of_run(path), WORDS_OF_RUN)
+            for data in (b"[]", b"7", b'{"mine": 1}', b"no json", b"\xff\xfe", b"", b"[" * 100_000):
+                path.write_bytes(data)
+                self.assertIsNone(words.words_of_run(path), data[:9])
+            self.assertIsNone(words.words_of_run(Path(name)))
+            self.assertIsNone(words.words_of_run(Path(name, "none")))
 
     def test_lines(self):
         self.assertEqual(read_lines(TOLD.lines()), TOLD)
@@ -121,34 +134,28 @@ class Figures(unittest.TestCase):
                 self.assertIn(text, drawn)
 
     def test_file_of_the_user_beside_a_report(self):
-        """PREFIX.json is read where it is the result of a run of a sweep, and nothing is said of any other."""
-        words = {name: f"its {name}" for name in ("kind", "ports", "load", "scheduler", "rounds", "seed", "commit")}
-        told = "run " + " ".join(f"{name} {word}" for name, word in words.items())
-        others = [b"[]", b"7", b'{"mine": 1}', b"no json", b"\xff\xfe", b"", b"[" * 100_000, None]
-        for data in (json.dumps({**words, "cells": 9}).encode(), *others):
-            with self.subTest(data), tempfile.TemporaryDirectory() as name:
-                report_file, beside = Path(name, "one.report"), Path(name, "one.json")
-                report_file.write_text(REPORT[:REPORT.index("slot 0")] + QUEUES)
-                beside.write_bytes(data) if data is not None else beside.mkdir()
+        """PREFIX.json is the result of a run of a sweep, or nothing is said of it."""
+        with tempfile.TemporaryDirectory() as name:
+            report_file = Path(name, "one.report")
+            report_file.write_text(REPORT[:REPORT.index("slot 0")] + QUEUES)
+            for text, told in (('{"mine": 1}', ""), (json.dumps({**WORDS_OF_RUN, "cells": 9}), "run kind its kind ports its ports load its load")):
+                report_file.with_suffix(".json").write_text(text)
                 status, said = run(TOOLS / "plot", report_file)
                 self.assertEqual((status, "Traceback" in said), (0, False), said)
                 drawn = " ".join(Path(name, "one.queues.svg").read_text().split())
-                self.assertEqual(told in drawn, data not in others)
+                self.assertEqual(("run kind" in drawn, told in drawn), (bool(told), True))
 
     def test_names_are_plain_text(self):
         """A title has the letters of a name, also those that mark formulas, and of a name that is no text what there is."""
-        for folder, stem, shown in (
-            ("x$y", "$o", "x$y/$o"), ("mine", "a$b^$c", "mine/a$b^$c"), ("mine", "$\\foo$", "mine/$\\foo$"),
-            ("mine", b"\xff", "mine/\N{REPLACEMENT CHARACTER}"),
-        ):
+        for folder, stem, shown in (("x$y", "$\\foo$", "x$y/$\\foo$"), ("mine", b"\xff", "mine/\N{REPLACEMENT CHARACTER}")):
             with self.subTest(stem), tempfile.TemporaryDirectory() as name:
                 room = Path(name, folder)
                 room.mkdir()
                 report_file = room / f"{os.fsdecode(stem)}.report"
-                report_file.write_text(REPORT)
+                report_file.write_text(REPORT[:REPORT.index("slot 0")] + QUEUES)
                 status, told = run(TOOLS / "plot", report_file, errors="surrogateescape")
-                self.assertEqual((status, report_file.with_suffix(".matched.png").exists()), (0, True), told)
-                drawn = report_file.with_suffix(".matched.svg").read_text()
+                self.assertEqual((status, report_file.with_suffix(".queues.png").exists()), (0, True), told)
+                drawn = report_file.with_suffix(".queues.svg").read_text()
                 comments = re.findall("<!-- (.*?) -->", drawn)  # Of each text as it was given.
                 self.assertIn(f"{shown}: 3 ports, 2 rounds", comments)
                 self.assertIn(f"{shown}.report", "".join(drawn.split("<metadata>")[1].split("</metadata>")[0].split("\n")))

@@ -4,6 +4,7 @@ A word that is refused is told with what it may be.
 """
 
 import argparse
+import json
 import shlex
 from pathlib import Path
 from typing import NamedTuple
@@ -22,6 +23,15 @@ class Words(NamedTuple):
     rounds: int
     seed: int
     commit: str
+
+
+def words_of_run(path):
+    """The words of a run, from its result; None where the file is none, and may be one of the user's own."""
+    try:
+        result = json.loads(path.read_text())
+        return {name: result[name] for name in Words._fields}
+    except (OSError, ValueError, KeyError, TypeError, RecursionError):
+        return None
 
 
 def launcher():
