@@ -9,6 +9,7 @@ import struct
 from typing import Iterator, List, NamedTuple, Union
 
 from .capture_hints import ETHERNET, LONGEST_RECORD, RAW_IP, hint_on
+from .tables import read_table, route
 
 MICROSECONDS, NANOSECONDS = 0xA1B2C3D4, 0xA1B23C4D
 FILE_HEADER, RECORD_HEADER = 24, 16
@@ -146,37 +147,6 @@ def destination(link, frame):
     return found[1] if found else None
 
 
-def read_table(text):
-    """The routes of a table by prefix length and prefix, and that of the line `*` by None."""
-    routes = {}
-    for line in text.split("\n"):
-        words = line.split()
-        if not words or words[0].startswith("#"):
-            continue
-        outputs = tuple(sorted({int(port) for port in words[1].split(",")}))
-        level = int(words[2]) if len(words) > 2 else 0
-        routes[_target(words[0])] = (outputs, level)
-    return routes
-
-
-def _target(word):
-    if word == "*":
-        return None
-    address, _, length = word.partition("/")
-    number = int.from_bytes(bytes(map(int, address.split("."))), "big")
-    return int(length), number >> (32 - int(length))
-
-
-def route(routes, address):
-    """The outputs and the level of an address (None: a packet without one), or None."""
-    if address is not None:
-        for length in range(32, -1, -1):
-            found = routes.get((length, address >> (32 - length)))
-            if found:
-                return found
-    return routes.get(None)
-
-
 def cells_of(length: int) -> int:
     """The number of cells of a packet of so many captured bytes."""
     return -(-(MESSAGE_HEADER + length) // CELL_PAYLOAD)
@@ -210,7 +180,7 @@ def first_time(packets_by_port):
 
 def arrivals_of(table, captures, pace_us):
     """The packets that are offered to queues, in the order of slots; pace_us None is line pace."""
-    routes = read_table(table)
+    routes = read_table(table, len(captures))
     read = [read_capture(data) for data in captures]
     base = first_time(capture.packets for capture in read)
     found = []
