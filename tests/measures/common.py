@@ -1,10 +1,15 @@
 """What the tests share: the run of a tool, the program that sweeps run, and a small run with all that it wrote."""
 
 import importlib.util
+import io
+import runpy
 import shlex
+import signal
 import subprocess
 import sys
+from contextlib import redirect_stderr, redirect_stdout
 from pathlib import Path
+from unittest import mock
 
 from launcher import there
 
@@ -82,3 +87,17 @@ def run(*words, **more):
         [sys.executable, *map(str, words)], stdout=subprocess.PIPE, stderr=subprocess.STDOUT, text=True, **more
     )
     return ended.returncode, ended.stdout
+
+
+def run_here(name, *words):
+    """The same of a tool by its name, in this process, which spares the start of another."""
+    main = runpy.run_path(str(TOOLS / name))["main"]
+    said, before = io.StringIO(), signal.getsignal(signal.SIGPIPE)
+    with mock.patch("sys.argv", [name, *map(str, words)]), redirect_stdout(said), redirect_stderr(said):
+        try:
+            status = main()
+        except SystemExit as ended:
+            status = ended.code
+        finally:
+            signal.signal(signal.SIGPIPE, before)
+    return status, said.getvalue()

@@ -8,7 +8,7 @@ from pathlib import Path
 
 from measure import journal, report, waits
 
-from .common import DATA, JOURNAL, PACKETS, REPORT, TOOLS, TOP, lacks, run
+from .common import DATA, JOURNAL, PACKETS, REPORT, TOP, lacks, run
 
 # Journals of one slot, and the offset of the first field that is wrong or cut.
 BAD_JOURNALS = [
@@ -23,6 +23,7 @@ BAD_JOURNALS = [
 ]
 
 JOBS = TOP / "tests/jobs"
+RESULT = TOP / "tools/measure/run_result.py"
 
 
 class Files(unittest.TestCase):
@@ -179,12 +180,12 @@ class Packets(unittest.TestCase):
     def test_result_of_a_run(self):
         """Of 17 packets one is dropped; those that come in slots 4 to 14 are measured. The file of another run is refused."""
         words = ["--kind", "trace", "--load", "0.5", "--seed", "1"]
-        status, result = run(TOOLS / "delays", DATA / "all_flags_islip.report", DATA / "all_flags_islip.packets.csv", *words)
+        status, result = run(RESULT, DATA / "all_flags_islip.report", DATA / "all_flags_islip.packets.csv", *words)
         self.assertEqual(status, 0, result)
         found = json.loads(result)
         self.assertEqual((found["dropped"], found["came_load"], found["output_queued"]), (1, round(38 / (3 * 16), 4), None))
         self.assertEqual((found["measured"], found["mean_delay"], found["longest_delay"]), (13, round(102 / 13, 4), 19))
-        status, told = run(TOOLS / "delays", DATA / "all_flags_islip.report", DATA / "packets_of_all_states.packets.csv", *words)
+        status, told = run(RESULT, DATA / "all_flags_islip.report", DATA / "packets_of_all_states.packets.csv", *words)
         self.assertEqual((status, told.count("\n")), (1, 1))
         self.assertIn("the packets file is of another run", told)
 
