@@ -6,8 +6,9 @@ port j. Levels are 0 to 3, and level 0 is the best. A slot is the time of one ce
 
 from __future__ import annotations
 
+import copy
 import itertools
-from typing import NamedTuple
+from typing import Any, NamedTuple
 
 import numpy
 from numpy.typing import ArrayLike, DTypeLike, NDArray
@@ -30,6 +31,7 @@ RULES = tuple(_CALLS)
 
 _SLOT_NUMBERS = 1 << 32
 _BITS = numpy.arange(MAX_PORTS, dtype=numpy.uint64)
+_TABLE = LEVELS * MAX_PORTS
 
 
 class RoundsUsed(NamedTuple):
@@ -46,7 +48,8 @@ def sets(wanted: ArrayLike) -> NDArray[numpy.uint64]:
     if flags.ndim == 0 or flags.shape[-1] > MAX_PORTS:
         raise ValueError(f"the last axis has at most {MAX_PORTS} ports")
     bits = flags.astype(numpy.uint64) << _BITS[: flags.shape[-1]]
-    return numpy.bitwise_or.reduce(bits, axis=-1)
+    joined: NDArray[numpy.uint64] = numpy.bitwise_or.reduce(bits, axis=-1)
+    return joined
 
 
 def members(port_sets: ArrayLike, ports: int) -> NDArray[numpy.bool_]:
@@ -69,22 +72,63 @@ class Pointers:
     grant   uint32 of shape (4, 64): grant[level, output] is the input from which the output grants unicast
     accept  uint32 of shape (4, 64): accept[level, input] is the output from which the input accepts unicast
     shared  uint32 of shape (4,): shared[level] is the input from which all outputs grant multicast
+    words   uint32 of shape (516,): all of them, which a call changes in place
 
-    The three are views of `words`, uint32 of shape (516,), which a call changes in place.
+    The first three are views of `words`, made anew each time. Setting one of the four copies the numbers into `words`;
+    ValueError where they are of another shape, or no words of 32 bits. Copies, also unpickled ones, are pointers of
+    their own.
     """
 
     def __init__(self) -> None:
-        table = LEVELS * MAX_PORTS
-        self.words: NDArray[numpy.uint32] = numpy.zeros(2 * table + LEVELS, dtype=numpy.uint32)
-        self.grant = self.words[:table].reshape(LEVELS, MAX_PORTS)
-        self.accept = self.words[table : 2 * table].reshape(LEVELS, MAX_PORTS)
-        self.shared = self.words[2 * table :]
+        self._words: NDArray[numpy.uint32] = numpy.zeros(2 * _TABLE + LEVELS, dtype=numpy.uint32)
+
+    @property
+    def words(self) -> NDArray[numpy.uint32]:
+        return self._words
+
+    @words.setter
+    def words(self, numbers: ArrayLike) -> None:
+        _fill(self._words, numbers)
+
+    @property
+    def grant(self) -> NDArray[numpy.uint32]:
+        return self._words[:_TABLE].reshape(LEVELS, MAX_PORTS)
+
+    @grant.setter
+    def grant(self, numbers: ArrayLike) -> None:
+        _fill(self.grant, numbers)
+
+    @property
+    def accept(self) -> NDArray[numpy.uint32]:
+        return self._words[_TABLE : 2 * _TABLE].reshape(LEVELS, MAX_PORTS)
+
+    @accept.setter
+    def accept(self, numbers: ArrayLike) -> None:
+        _fill(self.accept, numbers)
+
+    @property
+    def shared(self) -> NDArray[numpy.uint32]:
+        return self._words[2 * _TABLE :]
+
+    @shared.setter
+    def shared(self, numbers: ArrayLike) -> None:
+        _fill(self.shared, numbers)
 
     def copy(self) -> Pointers:
         """Pointers of their own at the same ports."""
         made = Pointers()
-        made.words[:] = self.words
+        made.words = self._words
         return made
+
+    __copy__ = copy
+
+    def __getstate__(self) -> dict[str, Any]:
+        return {"words": self._words}
+
+    def __setstate__(self, state: dict[str, Any]) -> None:
+        # An array that is unpickled may be one that cannot be written.
+        Pointers.__init__(self)
+        self.words = state["words"]
 
 
 class Decision(NamedTuple):
@@ -149,6 +193,11 @@ class Scheduler:
     pointers  where the pointers are before the next slot
     feeds     FEED of shape (ports,): what feeds each output in the slot that was decided last
     slot      the number of the next slot, which `decide` counts up
+    rounds    how many rounds a slot has; it may be set from slot to slot
+    ports, rule    those that it was made with
+
+    It can be copied and pickled; a copy has arrays of its own, and shares the pointers with none but what was copied
+    or pickled together with it.
     """
 
     def __init__(self, ports: int, rounds: int = 4, rule: str = "islip", pointers: Pointers | None = None) -> None:
@@ -156,7 +205,7 @@ class Scheduler:
             raise ValueError(f"the rule is one of {', '.join(RULES)}, and not {rule!r}")
         if not 1 <= ports <= MAX_PORTS:
             raise ValueError(f"ports are 1 to {MAX_PORTS}, and not {ports}")
-        self.ports, self.rounds, self.rule, self.slot = ports, rounds, rule, 0
+        self._ports, self._rule, self.rounds, self.slot = ports, rule, rounds, 0
         self._rows = new_rows(ports)
         self._pointers = Pointers() if pointers is None else pointers
         self._feeds = numpy.full(ports, NONE, dtype=FEED)
@@ -166,6 +215,30 @@ class Scheduler:
         self._words = self._pointers.words
         rows, feeds = self._rows.ctypes.data, self._feeds.ctypes.data
         self._arguments = (rows, ports, self._words.ctypes.data, feeds, ports, self._used.ctypes.data)
+
+    def copy(self) -> Scheduler:
+        """A scheduler in the same state, with arrays and pointers of its own."""
+        return copy.deepcopy(self)
+
+    __copy__ = copy
+
+    def __getstate__(self) -> dict[str, Any]:
+        names = ("ports", "rounds", "rule", "slot", "rows", "pointers", "feeds")
+        return {**{name: getattr(self, name) for name in names}, "used": self._used}
+
+    def __setstate__(self, state: dict[str, Any]) -> None:
+        # The library is looked for anew, since it may stand elsewhere in the process that unpickles.
+        Scheduler.__init__(self, state["ports"], state["rounds"], state["rule"], state["pointers"])
+        self.slot = state["slot"]
+        self._rows[:], self._feeds[:], self._used[:] = state["rows"], state["feeds"], state["used"]
+
+    @property
+    def ports(self) -> int:
+        return self._ports
+
+    @property
+    def rule(self) -> str:
+        return self._rule
 
     @property
     def rows(self) -> NDArray[numpy.uint64]:
@@ -181,7 +254,7 @@ class Scheduler:
 
     def decide(self) -> NDArray[numpy.void]:
         """Decides the next slot and answers `feeds`; Refused where a number is out of range, and then nothing has changed."""
-        check(self._call(_word(self.ports), _word(self.rounds), self.slot % _SLOT_NUMBERS, *self._arguments))
+        check(self._call(self._ports, _word(self.rounds), self.slot % _SLOT_NUMBERS, *self._arguments))
         self.slot += 1
         return self._feeds
 
@@ -248,7 +321,7 @@ def _rows(rows: ArrayLike) -> NDArray[numpy.uint64]:
     return found
 
 
-def _read(name: str, given: ArrayLike, kind: DTypeLike, axes: int) -> NDArray:
+def _read(name: str, given: ArrayLike, kind: DTypeLike, axes: int) -> NDArray[Any]:
     """The array as the library reads it, a copy only where the given one is of another type or order."""
     wanted = numpy.dtype(kind)
     # A list of large and small numbers would become one of floating-point numbers.
@@ -262,11 +335,21 @@ def _read(name: str, given: ArrayLike, kind: DTypeLike, axes: int) -> NDArray:
     return numpy.ascontiguousarray(found)
 
 
-def _is_word(number: object) -> bool:
-    return isinstance(number, (int, numpy.integer)) and 0 <= int(number) < 1 << 64
+def _is_word(number: object, bits: int = 64) -> bool:
+    return isinstance(number, (int, numpy.integer)) and 0 <= int(number) < 1 << bits
 
 
-def _changed(name: str, given: NDArray) -> NDArray[numpy.uint32]:
+def _fill(place: NDArray[numpy.uint32], numbers: ArrayLike) -> None:
+    """Copies numbers into an array of the same shape, where each of them is a word of 32 bits."""
+    found = numbers if isinstance(numbers, numpy.ndarray) else numpy.array(numbers, dtype=object)
+    if found.shape != place.shape:
+        raise ValueError(f"pointers of the shape {place.shape} are set, and not of {found.shape}")
+    if found.dtype != place.dtype and not all(_is_word(number, 32) for number in found.flat):
+        raise ValueError("a pointer is a number of 32 bits")
+    place[...] = found
+
+
+def _changed(name: str, given: NDArray[Any]) -> NDArray[numpy.uint32]:
     """The array, which the library is to change in place."""
     if not isinstance(given, numpy.ndarray) or given.dtype != numpy.uint32:
         raise ValueError(f"{name} is an array of uint32, which the call changes")
@@ -275,7 +358,7 @@ def _changed(name: str, given: NDArray) -> NDArray[numpy.uint32]:
     return given
 
 
-def _apart(*arrays: NDArray) -> None:
+def _apart(*arrays: NDArray[Any]) -> None:
     """Refuses arrays that overlap, of which a call writes some."""
     for one, other in itertools.combinations(arrays, 2):
         if numpy.may_share_memory(one, other):
