@@ -3,15 +3,19 @@
 from __future__ import annotations
 
 import re
-from typing import NamedTuple, Optional
+from typing import Dict, List, NamedTuple, Optional, Sequence, Tuple
 
 SUMMARY = (
     "ports", "rounds", "depth", "slots", "packets", "oversize",
     "unrouted", "dropped", "forwarded", "copies", "cells",
 )
 LEVELS = 4
-PAIR = re.compile(r"([0-9]+)>([0-9]+):([0-3])([um])")
-QUEUE = re.compile(r"queue ([0-9]+)>([0-9]+|\*):([0-3])([um])")
+MAX_PORTS = 64
+MAX_ROUNDS = 64
+# As it is printed, without leading zeros, and no longer than the greatest number of 64 bits.
+NUMBER = re.compile(r"0|[1-9][0-9]{0,19}")
+PAIR = re.compile(r"([0-9]{1,2})>([0-9]{1,2}):([0-3])([um])")
+QUEUE = re.compile(r"queue ([0-9]{1,2})>([0-9]{1,2}|\*):([0-3])([um])")
 
 
 class BadReport(ValueError):
@@ -32,7 +36,7 @@ class Slot(NamedTuple):
 
     used: int
     first: int
-    pairs: list
+    pairs: List[Pair]
 
 
 class Reference(NamedTuple):
@@ -74,12 +78,12 @@ class Queue(NamedTuple):
 class Report(NamedTuple):
     """A report; `queues`, `slots` and `reference` are None where it has no such lines."""
 
-    summary: dict
-    longest: tuple
-    outputs: list
-    slots: Optional[list]
-    reference: Optional[list]
-    queues: Optional[list] = None
+    summary: Dict[str, int]
+    longest: Tuple[int, ...]
+    outputs: List[Tuple[int, int]]
+    slots: Optional[List[Slot]]
+    reference: Optional[List[Reference]]
+    queues: Optional[List[Queue]] = None
 
     @property
     def deepest(self) -> Optional[int]:
@@ -87,11 +91,13 @@ class Report(NamedTuple):
         return None if self.queues is None else max((queue.peak for queue in self.queues), default=0)
 
 
-def read_report(text):
+def read_report(text: str) -> Report:
     """The report that a text is, else BadReport."""
-    lines = text.splitlines()
+    lines = text.split("\n")
+    if lines.pop():
+        raise BadReport(f"line {len(lines) + 1}: the report ends within a line")
     reader = _Lines(lines)
-    summary = {name: reader.numbers(name, 1)[0] for name in SUMMARY}
+    summary = reader.summary()
     longest = tuple(reader.numbers("longest", LEVELS))
     outputs = [reader.output(number) for number in range(summary["ports"])]
     queues = reader.queues() if reader.next_is("queue") or reader.next_is("deepest") else None
@@ -109,73 +115,95 @@ def read_report(text):
 class _Lines:
     """The lines of a report and the place of the next one."""
 
-    def __init__(self, lines):
+    def __init__(self, lines: List[str]) -> None:
         self.lines = lines
         self.at = 0
-        self.pairs = {}
+        self.ports = MAX_PORTS
+        self.pairs: Dict[str, Pair] = {}
 
-    def fault(self, what):
+    def fault(self, what: str) -> BadReport:
         return BadReport(f"line {self.at}: {what}")
 
-    def next_is(self, name):
+    def next_is(self, name: str) -> bool:
         return self.at < len(self.lines) and self.lines[self.at].startswith(name + " ")
 
-    def words(self):
+    def words(self) -> List[str]:
         if self.at == len(self.lines):
             raise BadReport(f"line {self.at + 1}: the report ends early")
         self.at += 1
         return self.lines[self.at - 1].split(" ")
 
-    def number(self, word):
-        if not (word.isascii() and word.isdigit()):
-            raise self.fault(f"{word!r} is no number")
+    def number(self, word: str) -> int:
+        if not NUMBER.fullmatch(word):
+            raise self.fault(f"{word[:24]!r} is no number")
         return int(word)
 
-    def numbers(self, name, count):
+    def port(self, word: str) -> int:
+        number = self.number(word)
+        if number >= self.ports:
+            raise self.fault(f"there is no port {number}")
+        return number
+
+    def numbers(self, name: str, count: int) -> List[int]:
         """The numbers of the line `name` and so many numbers."""
         words = self.words()
         if words[0] != name or len(words) != count + 1:
             raise self.fault(f"expected {name} with {count} numbers")
         return [self.number(word) for word in words[1:]]
 
-    def named(self, words, names):
+    def named(self, words: Sequence[str], names: Tuple[str, ...]) -> List[int]:
         """The numbers of words of the form name, number, name, number."""
         if tuple(words[::2]) != names or len(words) != 2 * len(names):
             raise self.fault("expected " + ", ".join(names))
         return [self.number(word) for word in words[1::2]]
 
-    def output(self, number):
+    def summary(self) -> Dict[str, int]:
+        """The first lines, which say how many ports and rounds there are."""
+        found = {}
+        for name in SUMMARY:
+            found[name] = self.numbers(name, 1)[0]
+            most = {"ports": MAX_PORTS, "rounds": MAX_ROUNDS}.get(name)
+            if most and not 1 <= found[name] <= most:
+                raise self.fault(f"{name} are 1 to {most}")
+        self.ports = found["ports"]
+        return found
+
+    def output(self, number: int) -> Tuple[int, int]:
         found, packets, cells = self.named(self.words(), ("output", "packets", "cells"))
         if found != number:
             raise self.fault(f"expected output {number}")
         return packets, cells
 
-    def reference(self, number):
+    def reference(self, number: int) -> Reference:
         found, *numbers = self.named(self.words(), ("reference", *Reference._fields))
         if found != number:
             raise self.fault(f"expected reference {number}")
         return Reference(*numbers)
 
-    def slot(self, number):
+    def slot(self, number: int) -> Slot:
         words = self.words()
         found, used, first = self.named(words[:6], ("slot", "used", "first"))
         if found != number:
             raise self.fault(f"expected slot {number}")
-        return Slot(used, first, [self.known_pair(word) for word in words[6:]])
+        pairs = [self.known_pair(word) for word in words[6:]]
+        outputs = [pair.output for pair in pairs]
+        if outputs != sorted(set(outputs)):
+            raise self.fault("the outputs do not rise")
+        return Slot(used, first, pairs)
 
-    def known_pair(self, word):
+    def known_pair(self, word: str) -> Pair:
         """A pair, whose word is taken apart the first time only, since the same ones come in many slots."""
         if word not in self.pairs:
             self.pairs[word] = self.pair(word)
         return self.pairs[word]
 
-    def pair(self, word):
+    def pair(self, word: str) -> Pair:
         found = PAIR.fullmatch(word)
         if not found:
-            raise self.fault(f"{word!r} is no pair")
-        return Pair(int(found[1]), int(found[2]), int(found[3]), found[4] == "m")
+            raise self.fault(f"{word[:24]!r} is no pair")
+        return Pair(self.port(found[1]), self.port(found[2]), int(found[3]), found[4] == "m")
 
-    def queues(self):
+    def queues(self) -> List[Queue]:
         """The lines of the queues, up to the one that tells the greatest peak."""
         found = []
         while self.next_is("queue"):
@@ -184,10 +212,10 @@ class _Lines:
             raise self.fault("not the greatest peak")
         return found
 
-    def queue(self):
+    def queue(self) -> Queue:
         words = self.words()
         name = QUEUE.fullmatch(" ".join(words[:2]))
         if not name or (name[2] == "*") != (name[4] == "m"):
             raise self.fault("expected a queue")
-        output = None if name[2] == "*" else int(name[2])
-        return Queue(int(name[1]), output, int(name[3]), *self.named(words[2:], Queue._fields[3:]))
+        output = None if name[2] == "*" else self.port(name[2])
+        return Queue(self.port(name[1]), output, int(name[3]), *self.named(words[2:], Queue._fields[3:]))
