@@ -8,6 +8,7 @@ import pytest
 
 needs.library()
 
+from tiny_tera.journal import read_journal  # noqa: E402
 from tiny_tera.library import Refused  # noqa: E402
 from tiny_tera.verdicts import MAX_JOURNAL_BYTES, Lawful, NoJournal, Unlawful, check_journal  # noqa: E402
 
@@ -37,3 +38,19 @@ def test_known_journals():
 def test_too_many_bytes():
     with pytest.raises(Refused):
         check_journal(bytes(MAX_JOURNAL_BYTES + 1))
+
+
+def test_buffers():
+    """All bytes of a buffer are judged, whatever its items are; what has no bytes is refused."""
+    file = bytes.fromhex("54544a31020400000000000100000000ff00ff00")
+    assert check_journal(file) == Lawful(1, (0, 0, 0, 0))
+    words = memoryview(file).cast("I")
+    assert check_journal(words) == check_journal(bytearray(file)) == Lawful(1, (0, 0, 0, 0))
+    assert list(read_journal(words).slots()) == list(read_journal(file).slots())
+    with pytest.raises(Refused):
+        check_journal(memoryview(bytes(MAX_JOURNAL_BYTES + 8)).cast("Q"))
+    for wrong in (20, [84], "TTJ1", None):
+        with pytest.raises(TypeError):
+            check_journal(wrong)
+        with pytest.raises(TypeError):
+            read_journal(wrong)

@@ -4,7 +4,9 @@ All numbers are big-endian. A file is a header (the magic, ports, rounds, two ze
 for each slot a post for each input and two bytes for each output.
 """
 
-from typing import NamedTuple
+from __future__ import annotations
+
+from typing import Callable, Iterator, List, NamedTuple, Optional, Tuple, Union
 
 MAGIC = b"TTJ1"
 MAX_PORTS = 64
@@ -19,7 +21,7 @@ FREE = 0xFF
 class BadJournal(ValueError):
     """Bytes that are no journal; `at` is the offset of the first field that is wrong or cut."""
 
-    def __init__(self, at):
+    def __init__(self, at: int) -> None:
         super().__init__(f"bad at {at}")
         self.at = at
 
@@ -27,8 +29,8 @@ class BadJournal(ValueError):
 class Post(NamedTuple):
     """What a card posts: for each level the set of outputs, as bits, with unicast and with multicast."""
 
-    unicast: tuple
-    multicast: tuple
+    unicast: Tuple[int, ...]
+    multicast: Tuple[int, ...]
     more: bool
 
 
@@ -43,8 +45,8 @@ class Fed(NamedTuple):
 class JournalSlot(NamedTuple):
     """A slot: the post of each input, and for each output a Fed, or None where it is free."""
 
-    posts: list
-    outputs: list
+    posts: List[Post]
+    outputs: List[Optional[Fed]]
 
 
 class Journal(NamedTuple):
@@ -55,7 +57,7 @@ class Journal(NamedTuple):
     slot_count: int
     data: bytes
 
-    def slots(self):
+    def slots(self) -> Iterator[JournalSlot]:
         """The slots in order; raises BadJournal where the bytes end or a value is outside its table."""
         fields = _Fields(self.data, 12)
         for _ in range(self.slot_count):
@@ -66,8 +68,9 @@ class Journal(NamedTuple):
             raise BadJournal(fields.at)
 
 
-def read_journal(data):
+def read_journal(data: Union[bytes, bytearray, memoryview]) -> Journal:
     """The journal that begins with this header; its slots are checked when they are read."""
+    data = bytes(memoryview(data))
     fields = _Fields(data, 0)
     fields.take(4, lambda value: value == int.from_bytes(MAGIC, "big"))
     ports = fields.take(1, lambda value: 1 <= value <= MAX_PORTS)
@@ -81,11 +84,11 @@ def read_journal(data):
 class _Fields:
     """The fields of a file from an offset on."""
 
-    def __init__(self, data, at):
+    def __init__(self, data: bytes, at: int) -> None:
         self.data = data
         self.at = at
 
-    def take(self, size, is_good):
+    def take(self, size: int, is_good: Callable[[int], bool]) -> int:
         """The next field's number, where it is whole and good."""
         field = self.data[self.at:self.at + size]
         value = int.from_bytes(field, "big")
@@ -94,16 +97,16 @@ class _Fields:
         self.at += size
         return value
 
-    def post(self, ports):
+    def post(self, ports: int) -> Post:
         present = self.take(1, lambda value: True)
         more = self.take(1, lambda value: value <= 1)
         sets = [self.set(ports) if present >> bit & 1 else 0 for bit in range(2 * LEVELS)]
         return Post(tuple(sets[:LEVELS]), tuple(sets[LEVELS:]), more == 1)
 
-    def set(self, ports):
+    def set(self, ports: int) -> int:
         return self.take(8, lambda value: 0 < value < 1 << ports)
 
-    def fed(self, ports):
+    def fed(self, ports: int) -> Optional[Fed]:
         input_port = self.take(1, lambda value: value < ports or value == FREE)
         if input_port == FREE:
             self.take(1, lambda value: value == 0)

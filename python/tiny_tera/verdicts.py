@@ -45,12 +45,13 @@ class _Words(ctypes.Structure):
     ]
 
 
-def check_journal(data: bytes) -> Verdict:
-    """The verdict on the bytes of a journal file; Refused where they are more than MAX_JOURNAL_BYTES."""
-    if len(data) > MAX_JOURNAL_BYTES:
+def check_journal(data: Union[bytes, bytearray, memoryview]) -> Verdict:
+    """The verdict on the bytes of a journal file, in any buffer; Refused where they are more than MAX_JOURNAL_BYTES."""
+    view = memoryview(data)
+    if view.nbytes > MAX_JOURNAL_BYTES:
         raise Refused(f"a journal has at most {MAX_JOURNAL_BYTES} bytes")
-    words = _Words()
-    check(load().tiny_tera_check_journal(bytes(data), len(data), ctypes.addressof(words)))
+    file, words = bytes(view), _Words()
+    check(load().tiny_tera_check_journal(file, len(file), ctypes.addressof(words)))
     if words.answer == 0:
         return Lawful(words.number, tuple(words.longest))
     if words.answer == 1:
