@@ -7,7 +7,7 @@ is a uint64 in which bit j stands for port j.
 from __future__ import annotations
 
 from pathlib import Path
-from typing import NamedTuple, Optional, Union
+from typing import Iterable, List, NamedTuple, Optional, Tuple, Union
 
 import pandas
 
@@ -54,7 +54,7 @@ class JournalFrames(NamedTuple):
 
 def read_report(path: PathLike) -> ReportFrames:
     """The tables of a report, `PREFIX.report`; report.BadReport, a ValueError, where it has another form."""
-    found = report.read_report(Path(path).read_text(encoding="ascii", errors="replace"))
+    found = report.read_report(Path(path).read_bytes().decode("ascii", "replace"))
     longest = {f"longest_{level}": wait for level, wait in enumerate(found.longest)}
     outputs = pandas.DataFrame(found.outputs, columns=["packets", "cells"], dtype="int64").rename_axis("output")
     slots = matches = reference = None
@@ -85,13 +85,13 @@ def read_packets(path: PathLike) -> pandas.DataFrame:
     return packets.read_packets(path)
 
 
-def _matches(fed) -> pandas.DataFrame:
+def _matches(fed: Iterable[Tuple[int, int, Union[report.Pair, journal.Fed]]]) -> pandas.DataFrame:
     rows = [(at, output, feed.input, feed.level, "um"[feed.multicast]) for at, output, feed in fed]
     columns = ["slot", "output", "input", "level", "kind"]
     return pandas.DataFrame(rows, columns=columns).astype({name: "int64" for name in columns[:4]})
 
 
-def _queues(found: Optional[list]) -> Optional[pandas.DataFrame]:
+def _queues(found: Optional[List[report.Queue]]) -> Optional[pandas.DataFrame]:
     if found is None:
         return None
     table = pandas.DataFrame(found, columns=report.Queue._fields)

@@ -2,6 +2,11 @@
 left each of its outputs. The form is that of docs/FORMATS.md.
 """
 
+from __future__ import annotations
+
+from pathlib import Path
+from typing import IO, Dict, Union
+
 import pandas
 
 COLUMNS = [
@@ -12,11 +17,12 @@ NUMBERS = [name for name in COLUMNS if name not in TEXTS]
 STATES = ("forwarded", "dropped", "unrouted", "oversize")
 
 
-def read_packets(path):
+def read_packets(path: Union[str, Path, IO[str]]) -> pandas.DataFrame:
     """The rows of a packets file; ValueError where it has another form. Fields that are empty are NA."""
     try:
         # Floating-point numbers hold these exactly, and pandas reads Int64 from text several times slower.
-        found = pandas.read_csv(path, dtype={**dict.fromkeys(NUMBERS, "float64"), **dict.fromkeys(TEXTS, str)})
+        kinds: Dict[str, object] = {**dict.fromkeys(NUMBERS, "float64"), **dict.fromkeys(TEXTS, str)}
+        found = pandas.read_csv(path, dtype=kinds)
         if list(found.columns) != COLUMNS:
             raise ValueError("the header is not " + ",".join(COLUMNS))
         found = found.astype(dict.fromkeys(NUMBERS, "Int64"))
