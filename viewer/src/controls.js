@@ -4,6 +4,8 @@
 
     const element = (id) => document.getElementById(id);
 
+    const NUMBER = /^\d{1,9}$/;
+
     /** Puts the levels into a list, before its last entry. */
     function addLevels(list) {
         const options = Array.from({ length: viewer.LEVELS }, (_, level) => new Option(`level ${level}`, level));
@@ -58,10 +60,16 @@
         pane.onGo = (slot) => page.goByUser(slot);
     }
 
+    /** Follows the packet whose input and number were typed, or says why not. */
     function followTyped(page, pane) {
-        const [input, number] = ["follow-input", "follow-packet"].map((name) => pane.element(name).value.trim());
-        const packet = pane.queues.packets.find(Number(input), Number(number));
-        page.tell(packet === null ? `The packets file has no packet ${number} of input ${input}.` : null);
+        const typed = ["follow-input", "follow-packet"].map((name) => pane.element(name).value.trim());
+        const odd = typed.find((text) => !NUMBER.test(text));
+        if (odd !== undefined) {
+            page.tell(`"${odd}" is no number of an input or of a packet.`);
+            return;
+        }
+        const packet = pane.queues.packets.find(...typed.map(Number));
+        page.tell(packet === null ? `The packets file has no packet ${typed[1]} of input ${typed[0]}.` : null);
         if (packet !== null) {
             pane.follow(packet);
         }

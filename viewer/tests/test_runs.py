@@ -289,6 +289,13 @@ def test_followed_packets(viewer):
     viewer.choose("follow-packet", "99")
     viewer.push("follow")
     expect("no packet 99 of input 1" in viewer.text("slot-fault"), viewer.text("slot-fault"))
+    followed = viewer.text("followed")
+    for source, number, odd in (("", "0", ""), ("0", "", ""), ("0", " ", ""), ("0x0", "0", "0x0"), ("0", "-1", "-1"), ("0", "1e0", "1e0")):
+        viewer.choose("follow-input", source)
+        viewer.choose("follow-packet", number)
+        viewer.push("follow")
+        expect(viewer.text("slot-fault") == f'"{odd}" is no number of an input or of a packet.', viewer.text("slot-fault"))
+        expect(viewer.text("followed") == followed, f"{source!r} {number!r}: {viewer.text('followed')}")
     return f"{len(packets)} packets"
 
 
