@@ -1,0 +1,81 @@
+"""What dev/check_repository says of the pages: sentences that are too long, and files that are made by nothing named."""
+
+import unittest
+
+import sentence_lengths as lengths
+
+from tests import TOP
+
+from .test_proof_times import tool
+
+PAGE = """# A heading of four words
+
+One two three (`code here`). Four `a b c` five
+six [seven eight](page.md#here).
+N. McKeown argues so; it holds for n * n slots!
+
+- An item
+  goes on. It ends
+- The next
+
+| a | row. Of. A table |
+|---|---|
+
+```text
+a drawing. No sentence.
+```
+
+<!-- The list: made by dev/make_list, not by hand. -->
+Made words. Many of them.
+<!-- The end of the list. -->
+![a picture](it.svg)
+"""
+
+SENTENCES = (
+    "One two three .", "Four Code five six seven eight.", "N. McKeown argues so; it holds for n * n slots!", "An item goes on.",
+    "It ends", "The next",
+)  # fmt: skip
+
+
+class Sentences(unittest.TestCase):
+    def test_are_found(self):
+        """Without headings, tables, code, pictures and made parts; names alone in parentheses are none."""
+        found = lengths.sentences(PAGE)
+        self.assertEqual([it.rstrip(".!") for it in found], [it.rstrip(".!") for it in SENTENCES])
+        self.assertEqual([lengths.words(it) for it in found], [3, 6, 10, 4, 2, 2])
+        self.assertEqual(lengths.lengths(PAGE)[:3], (6, 27, 10))
+
+    def test_limits(self):
+        """40 words are a sentence and 41 are too many; 18 on average are enough and more are too many."""
+        short, even = "Word" + " word" * 16 + " end.", "Word" + " word" * 34 + " end."
+        self.assertEqual(lengths.faults("page", short), [])
+        self.assertEqual(lengths.faults("page", "One two three.\n" + "Word" + " word" * 31 + " end."), [])
+        self.assertEqual(lengths.faults("page", even), ["page: its sentences have 36.0 words on average, over 18"])
+        most = "Short.\n" * 9
+        self.assertEqual(lengths.faults("page", most + "Word" + " word" * 38 + " end."), [])
+        self.assertIn("page: a sentence has 41 words, over 40: Word", lengths.faults("page", most + "Word" + " word" * 39 + " end.")[0])
+
+    def test_plain_pages(self):
+        """The pages that are to be plain are there, and have sentences."""
+        for name in lengths.PLAIN_PAGES:
+            self.assertGreater(lengths.lengths((TOP / name).read_text()).sentences, 20, name)
+
+
+class MadeFiles(unittest.TestCase):
+    TRACKED = ("docs/tiny_tera.1", "docs/pictures/a.svg", "docs/USAGE.md", "crates/a/wrong/tried.txt", "crates/a/wrong/b.edit",
+               "viewer/module/a.wasm", "viewer/src/a.js", "examples/a/expected/out.report", "examples/a/in.pcap")  # fmt: skip
+
+    def test_table(self):
+        """The names in the first column of the second table, where a cell may have words beside them."""
+        page = "| `tool` | x |\n## What is made\n| file | by |\n|---|---|\n| the map in `docs/A.md` | `maker` |\n| `a/*`, `b.1` | by hand |\n"
+        self.assertEqual(tool("check_repository").made_names(page), ["docs/A.md", "a/*", "b.1"])
+
+    def test_file_without_a_row(self):
+        unlisted = tool("check_repository").unlisted
+        names = ["docs/tiny_tera.1", "docs/pictures/b.svg", "crates/*/wrong/tried.txt", "viewer/module/*"]
+        self.assertEqual(unlisted(self.TRACKED, names), ["docs/pictures/a.svg", "examples/a/expected/out.report"])
+        self.assertEqual(unlisted(self.TRACKED, [*names, "docs/pictures/*", "examples/*/expected/*"]), [])
+
+
+if __name__ == "__main__":
+    unittest.main()
