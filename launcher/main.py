@@ -7,6 +7,7 @@ from . import there
 from .builds import LIBRARY, PROGRAM
 from .place import Place, say, tell, tell_error
 from .ports import lines_of_job, lines_of_ports, refusal
+from .version import told_version
 from .words import COMMANDS, DRY_RUN, OVERWRITE, OWN, Fault, read_words
 
 USAGE_FAULT = 2
@@ -77,7 +78,7 @@ def _help(place, words):
 
 def _version(place):
     found = there.find(place, PROGRAM)
-    lines = [f"tiny_tera {place.version()}"]
+    lines = [told_version(place.version())]
     if found.build is None:
         why = f"{found.changed[0]} changed since it was proved" if found.changed else str(found.fault)
         return [*lines, f"no program is there of these sources: {why}; it is proved before it runs"]

@@ -8,6 +8,7 @@ from itertools import accumulate
 
 from launcher.made import MODULUS, cells_of_packet, largest_count, most_cells
 from launcher.page import blocks_of, cells_of, section, synopsis
+from launcher.version import VERSION
 from launcher.words import COMMANDS, MAX_COUNT, OPTIONS, OWN, Fault, read_words
 
 from .scene import KIT, PROGRAM, TOP, Scene, python
@@ -51,19 +52,19 @@ class Help(Scene):
 
     def test_version(self):
         none = "no program is there of these sources: {}; it is proved before it runs"
-        self.assertEqual(self.launch("--version").stdout, f"tiny_tera unknown\n{none.format('nothing is stored in release/')}\n")
+        self.assertEqual(self.launch("--version").stdout, f"tiny_tera {VERSION}\n{none.format('nothing is stored in release/')}\n")
         self.build()
         for words in (["init", "-q"], ["add", "-A"], ["-c", "user.name=x", "-c", "user.email=x@y", "commit", "-qm", "x"], ["tag", "v7"]):
             subprocess.run(["git", "-C", self.top, *words], check=True)
         lines = self.launch("--version").stdout.splitlines()
-        self.assertEqual(lines[:2], ["tiny_tera v7", f"proved and built here with {KIT}"])
+        self.assertEqual(lines[:2], [f"tiny_tera {VERSION} (v7)", f"proved and built here with {KIT}"])
         self.assertEqual(len(lines), 3)
         self.assertRegex(lines[2], rf"sha256 [0-9a-f]{{64}}  {re.escape(str(self.top))}/crates/tiny_tera/out/tiny_tera$")
         (self.top / "crates/lower/src/lib.rt").write_text("// changed\n")
         lines = self.launch("--version").stdout.splitlines()
-        self.assertEqual(lines, ["tiny_tera v7-dirty", none.format("crates/lower/src/lib.rt changed since it was proved")])
+        self.assertEqual(lines, [f"tiny_tera {VERSION} (v7-dirty)", none.format("crates/lower/src/lib.rt changed since it was proved")])
         (self.top / "crates/tiny_tera/out/tiny_tera").write_text("another")
-        self.assertEqual(self.launch("--version").stdout, f"tiny_tera v7-dirty\n{none.format('nothing is stored in release/')}\n")
+        self.assertEqual(self.launch("--version").stdout, f"tiny_tera {VERSION} (v7-dirty)\n{none.format('nothing is stored in release/')}\n")
 
 
 class Words(unittest.TestCase):
