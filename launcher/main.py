@@ -116,7 +116,7 @@ def _dry_run(job, fault):
         return USAGE_FAULT
     status = tell(lines_of_job(job))
     if job.pace_us and job.inputs:
-        _warn_of_late(job)
+        _warn_of_late(job, True)
     return status
 
 
@@ -141,7 +141,7 @@ def _start(place, words, job, fault):
         if text:
             tell_error(f"hint: {text}")
     if status == 0 and job and job.pace_us and job.inputs:
-        _warn_of_late(job)
+        _warn_of_late(job, False)
     return status
 
 
@@ -161,11 +161,14 @@ def _program(place, fault):
     return there.find(place, PROGRAM).build.path if build(place, found) else 1
 
 
-def _warn_of_late(job):
-    from .late import lines_of_late
-    from .too_many import packets_of_all
-    packets = packets_of_all(job.inputs)
-    lines = lines_of_late(packets, job.inputs, job.pace_us) if packets else []
+def _warn_of_late(job, looks_at_all):
+    """Tells of late packets, or why they are not looked for."""
+    from .late import MOST_PACKETS, Unseen, lines_of_late
+    try:
+        lines = lines_of_late(job.inputs, job.pace_us, None if looks_at_all else MOST_PACKETS)
+    except Unseen as why:
+        lines = []
+        tell_error(f"late: not looked for: {why}")
     for line in lines:
         tell_error(f"late: {line}")
     if lines:

@@ -1,7 +1,9 @@
 """Packets that a line brings later than their time stamps."""
 
+import os
+
 from launcher.captures import Packet
-from launcher.late import late_ports
+from launcher.late import Unseen, late_ports, lines_of_late
 
 from .scene import TOP, Scene, capture, frame
 
@@ -31,12 +33,41 @@ class Late(Scene):
             self.assertIn("--pace-us 5 is a slower line than that of the captures", ended.stderr)
 
     def test_no_line(self):
-        """At the pace of the line, at line pace, after a failure, and where a file cannot be read again."""
+        """At the pace of the line, at line pace, and after a failure."""
         for words in (["--pace-us", "2"], []):
             self.assertEqual(self.launch("run", *words, "table.txt", "out", "a.pcap", "b.pcap").stderr, "")
         failed = self.launch("run", "--pace-us", "5", "table.txt", "out", "a.pcap", STATUS="5", SAID="out of memory")
         self.assertEqual(failed.stderr, "out of memory\n")
-        self.assertEqual(self.launch("run", "--pace-us", "5", "table.txt", "out", "a.pcap", "/dev/null").stderr, "")
+
+    def test_not_looked_for(self):
+        """Where a file cannot be read again, or is another by then, a line says that late packets are not looked for."""
+        write, (ours, theirs) = "printf x >a.pcap", os.pipe()
+        os.close(theirs)
+        for name, why, more in (
+            ("/dev/null", "/dev/null, the capture of port 1, is no file that can be read again", {}),
+            (f"/dev/fd/{ours}", f"/dev/fd/{ours}, the capture of port 1, is no file that can be read again", {"pass_fds": [ours]}),
+            ("gone", "gone, the capture of port 1, is no file that can be read again", {}),
+            ("b.pcap", "a.pcap, the capture of port 0, is not as it was: short header, 1 bytes", {"CODE": write}),
+        ):
+            ended = self.launch("run", "--pace-us", "5", "table.txt", "out", "a.pcap", name, **more)
+            self.assertEqual((ended.returncode, ended.stderr), (0, f"late: not looked for: {why}\n"))
+        os.close(ours)
+
+    def test_long_captures(self):
+        """Captures of 70 MB together, of 107 packets of 1,162 cells each; packet k comes at k microseconds, and late by 1,161 k."""
+        self.files(long_pcap=capture(*[bytes(65_014)] * 107))
+        told = self.launch("run", "--pace-us", "1", "table.txt", "out", *["long.pcap"] * 10).stderr.splitlines()
+        line = "late: port {} (long.pcap): 106 of 107 packets came late, by 123,066 slots (123,066 us) at most"
+        self.assertEqual(told[:-1], [line.format(port) for port in range(10)])
+
+    def test_too_many_packets(self):
+        """A run looks at so many packets at most; without a run all are looked at."""
+        names = [str(self.jobs / name) for name in ("a.pcap", "b.pcap")]
+        with self.assertRaises(Unseen) as why:
+            lines_of_late(names, 5, 3)
+        told = "the captures have more than 3 packets; --dry-run before the command looks at all of them"
+        self.assertEqual(str(why.exception), told)
+        self.assertEqual([len(lines_of_late(names, 5, most)) for most in (4, None)], [1, 1])
 
     def test_without_a_run(self):
         names = ("table.txt", "out", "a.pcap", "b.pcap")
