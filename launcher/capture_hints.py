@@ -1,5 +1,6 @@
 """Hints on captures that are refused: which file it is, and the command that makes one of it that is not."""
 
+import os
 import re
 import shlex
 
@@ -28,6 +29,7 @@ MAGICS = (
 LITTLE, BIG = (b"\xd4\xc3\xb2\xa1", b"\x4d\x3c\xb2\xa1"), (b"\xa1\xb2\xc3\xd4", b"\xa1\xb2\x3c\x4d")
 VERSION_SWAPPED = (512, 1024)
 HIGHEST_LINK = 0xFFFF
+TEMPORARY = "/tmp"
 LONGEST_RECORD = 262_144
 
 
@@ -55,14 +57,35 @@ def is_capture(name):
 
 
 def converted(command, name):
-    """A command with the name of a file for IN, and one for what it makes for OUT."""
-    new = name
-    for end in (".gz", ".xz", ".zst", ".bz2"):
-        new = new[:-len(end)] if new.endswith(end) else new
-    base = new[:-5] if new.endswith(".pcap") else new[:-7] if new.endswith(".pcapng") else new
-    made = new if new != name else f"{base}.classic.pcap"
-    names = {"IN": shlex.quote(name), "OUT": shlex.quote(made)}
-    return re.sub(r"\b(IN|OUT)\b", lambda it: names[it[0]], command)
+    """A command with the name of a file for IN, and for OUT a name that no file has, in a folder that may be written."""
+    names = {"IN": name, "OUT": _new_name(name)}
+    return re.sub(r"\b(IN|OUT)\b", lambda it: shlex.quote(as_file(names[it[0]])), command)
+
+
+def with_fix(text, command, name):
+    """A text with the command for a file behind it; nothing where the file cannot be read again."""
+    return text + converted(command, name) if stamp_of(name) else ""
+
+
+def as_file(name):
+    """A name that no command takes for an option."""
+    return f"./{name}" if name.startswith("-") else name
+
+
+def _new_name(name):
+    """A name for what is made of a file: beside it, or else in the current folder or that for temporary files."""
+    folder, own = os.path.split(name)
+    unpacked = re.sub(r"\.(gz|xz|zst|bz2)$", "", own)
+    stem, end = os.path.splitext(unpacked)
+    if unpacked == own or not unpacked:
+        stem, end = (stem if end in (".pcap", ".pcapng") else own) + ".classic", ".pcap"
+    place = next((it for it in (folder, "", TEMPORARY) if os.access(it or ".", os.W_OK)), folder)
+    made = os.path.join(place, stem + end)
+    number = 1
+    while os.path.lexists(made):
+        number += 1
+        made = os.path.join(place, f"{stem}.{number}{end}")
+    return made
 
 
 def to_raw(name, link):
@@ -71,7 +94,7 @@ def to_raw(name, link):
     if before is None:
         return None
     chop = f"-L -C {before} " if before else ""
-    return converted(f"editcap -F pcap {chop}-T rawip IN OUT", name)
+    return with_fix("", f"editcap -F pcap {chop}-T rawip IN OUT", name) or None
 
 
 def named(link):
@@ -107,7 +130,7 @@ def on_magic(name, magic):
 def on_version(name, major, minor):
     if (int(major), int(minor)) == VERSION_SWAPPED:
         return _other_order(name)
-    return f"is not of version 2.4: {converted('editcap -F pcap IN OUT', name)}"
+    return "is not of version 2.4" + with_fix(": ", "editcap -F pcap IN OUT", name)
 
 
 def _other_order(name):
@@ -123,16 +146,16 @@ def _other_order(name):
 def on_link(name, link):
     link = int(link)
     if link > HIGHEST_LINK and link & HIGHEST_LINK in (ETHERNET, RAW_IP):
-        fix = converted("editcap -F pcap IN OUT", name)
-        return f"has more in the field of its link type than {named(link & HIGHEST_LINK)}: {fix}"
+        return f"has more in the field of its link type than {named(link & HIGHEST_LINK)}" + with_fix(": ", "editcap -F pcap IN OUT", name)
     text = f"is of {named(link)}, and the switch takes Ethernet (1) and raw IP (101)"
     fix = to_raw(name, link)
-    return text + (f"; capture on one interface, or make raw IP of it: {fix}" if link in (113, 276) else f": {fix}" if fix else "")
+    if link in (113, 276):
+        text += "; capture on one interface" + (", or make raw IP of it" if fix else "")
+    return text + (f": {fix}" if fix else "")
 
 
 def on_cut(name, at):
-    fix = converted("tcpdump -r IN -w OUT", name)
-    return f"ends within a packet, as one that is still written; to keep the whole packets: {fix}"
+    return "ends within a packet, as one that is still written" + with_fix("; to keep the whole packets: ", "tcpdump -r IN -w OUT", name)
 
 
 def on_long(name, at, count):

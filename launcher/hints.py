@@ -7,7 +7,7 @@ import re
 from . import capture_hints, table_hints
 from .capture_hints import converted, first_bytes, is_capture
 from .made import largest_count
-from .too_many import on_cells, on_slots
+from .too_many import on_bytes, on_cells, on_slots
 from .words import MAX_COUNT, Fault, read_words
 
 TOO_LONG = {"check": "134,217,728"}
@@ -76,12 +76,9 @@ def _on_standard_output(job):
 
 
 def _on_too_long(job, name):
-    most = TOO_LONG.get(job.command, "16,777,216")
-    text = f"{_part_of(job, name)} may have at most {most} bytes"
     if name in job.inputs:
-        fix = converted("editcap -F pcap -r IN OUT 1-1000", name)
-        return f"{text}; to keep its first 1,000 packets: {fix}"
-    return text
+        return f"{_part_of(job, name)} {on_bytes(job, name)}"
+    return f"{_part_of(job, name)} may have at most {TOO_LONG.get(job.command, '16,777,216')} bytes"
 
 
 def _on_capture(job, port, said):

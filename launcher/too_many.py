@@ -1,7 +1,9 @@
 """Hints on captures with too many packets: how many fit, or at which pace they do."""
 
+from itertools import takewhile
+
 from .capture_hints import converted
-from .captures import first_time, on_line, read_capture
+from .captures import CELL_PAYLOAD, FILE_HEADER, BadCapture, first_time, on_line, read_capture, read_header, records_of
 from .made import most_cells
 from .sources import stamp_of
 from .words import OPTIONS
@@ -60,6 +62,39 @@ def _pace_that_fits(packets_by_port, limit):
             # The last slot is at most that of the last time stamp, with all cells behind it.
             pace = max(pace, last_us // (limit - own + 1) + 1)
     return pace
+
+
+def on_bytes(job, name):
+    """A capture with more bytes than are read, and so with too many cells: how many of its packets fit."""
+    limit = most_cells(len(job.inputs))
+    most = FILE_HEADER + CELL_PAYLOAD * limit  # A cell has at most so many bytes of a record.
+    text = f"may have at most {limit:,} cells, so at most {most:,} bytes"
+    if not stamp_of(name):
+        return text
+    count = _first_that_fit(name, most, limit, job.pace_us)
+    if count is None:
+        return text + "; to keep its first 1,000 packets: " + converted("editcap -F pcap -r IN OUT 1-1000", name)
+    return text + "; to keep its first packets that fit: " + converted(f"editcap -F pcap -r IN OUT 1-{count}", name)
+
+
+def _first_that_fit(name, most, limit, pace_us):
+    """How many packets from the first on have no more arrival slots than the limit; None where the file is no capture."""
+    try:
+        with open(name, "rb") as file:
+            records = list(_whole_records(file.read(most)))
+    except (OSError, BadCapture):
+        return None
+    ends = (it.first + it.cells for it in on_line(records, first_time([records[:1]]), pace_us))
+    return sum(1 for _ in takewhile(lambda end: end <= limit, ends))
+
+
+def _whole_records(data):
+    """The records of the first part of a capture, up to one that is cut off there."""
+    read_header(data)
+    try:
+        yield from records_of(data)
+    except BadCapture:
+        pass
 
 
 def on_cells(job, cells):

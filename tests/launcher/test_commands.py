@@ -3,12 +3,15 @@
 import bz2
 import gzip
 import lzma
+import shlex
 import shutil
 import struct
 import subprocess
 import unittest
+import unittest.mock
 from pathlib import Path
 
+from launcher.capture_hints import converted
 from launcher.captures import destination, read_file
 
 from .scene import PROGRAM, Scene, capture, frame
@@ -84,6 +87,37 @@ class Commands(Scene):
         for said, data, count in JOBS:
             with self.subTest(said):
                 self.check(said, data, count)
+
+    def test_no_file_is_replaced(self):
+        """The command makes a new file, whatever files are there, also of a name that begins with -."""
+        self.files(table_txt="* 0\n")
+        for name, (said, data, count), there in (
+            ("-m.pcap", JOBS[-1], ["-m.classic.pcap", "-m.classic.2.pcap"]), ("a b.pcap", JOBS[5], ["a b.classic.pcap"]),
+            ("-c.pcap.gz", JOBS[0], ["-c.pcap"]), ("d.pcapng", JOBS[4], ["d.classic.pcap"]), ("-e.pcap", JOBS[3], []),
+        ):
+            with self.subTest(name):
+                for one in there:
+                    self.write(one, "my own")
+                self.write(name, data)
+                told = self.launch("firm", "table.txt", "--", name, SAID=f"capture 0: {said}", STATUS="4").stderr.splitlines()[1]
+                self.check_new_file(told.rsplit(": ", 1)[1], count)
+
+    def check_new_file(self, command, count):
+        if not shutil.which(first_word(command)):
+            self.skipTest(f"there is no {first_word(command)} here")
+        before = {path: path.read_bytes() for path in self.jobs.iterdir()}
+        ended = subprocess.run(["sh", "-c", command], cwd=self.jobs, stdout=subprocess.PIPE, stderr=subprocess.STDOUT)
+        after = {path: path.read_bytes() for path in self.jobs.iterdir()}
+        self.assertEqual({path: after[path] for path in before}, before)
+        self.assertEqual(len(set(after) - set(before)), 1, (command, ended.stdout))
+        (made,) = set(after) - set(before)
+        self.assertEqual(len(read_file(made).packets), count, command)
+
+    def test_folders_that_may_not_be_written(self):
+        """What is made goes to the current folder or to that for temporary files."""
+        for writable, made in (("/in", "/in/x y.classic.pcap"), (".", "x y.classic.pcap"), ("/tmp", "/tmp/x y.classic.pcap"), ("", "/in/x y.classic.pcap")):
+            with unittest.mock.patch("os.access", lambda path, mode, writable=writable: path == writable):
+                self.assertEqual(converted("editcap IN OUT", "/in/x y.pcap"), f"editcap '/in/x y.pcap' {shlex.quote(made)}")
 
     @unittest.skipUnless(shutil.which("editcap"), "there is no editcap here")
     def test_pcapng(self):

@@ -214,10 +214,20 @@ class Hints(Scene):
         self.assertEqual(told.splitlines()[1], "hint: standard output is closed or full, or its reader has ended, as head does; all files are written")
 
     def test_too_long(self):
-        long = capture() + bytes(16_777_216 - 23)
-        fix = "to keep its first 1,000 packets: editcap -F pcap -r a.pcap a.classic.pcap 1-1000"
-        hint = f"the capture of port 0 may have at most 16,777,216 bytes; {fix}"
-        self.check(RUN, 4, "too long: a.pcap", hint, {**GOOD, "a.pcap": long})
+        """The hint on a capture says how many packets fit, and not how many bytes are read."""
+        zeros, most = bytes(16_777_216 - 23), "may have at most 131,072 cells, so at most 7,340,056 bytes"
+        large = [bytes(65_520)] * 260  # 111 of 1,171 cells fit.
+        for data, fix in (
+            (capture() + zeros, "its first packets that fit: editcap -F pcap -r a.pcap a.classic.pcap 1-131072"),
+            (capture(*large), "its first packets that fit: editcap -F pcap -r a.pcap a.classic.pcap 1-111"),
+            (b"\x0a\x0d\x0d\x0a" + bytes(20) + zeros, "its first 1,000 packets: editcap -F pcap -r a.pcap a.classic.pcap 1-1000"),
+        ):
+            hint = f"the capture of port 0 {most}; to keep {fix}"
+            self.check(RUN, 4, "too long: a.pcap", hint, {**GOOD, "a.pcap": data})
+        # Three packets of one cell, of which the last comes after the last slot.
+        files = {**GOOD, "a.pcap": capture(bytes(9), bytes(9), bytes(9), times=[0, 131_071, 131_072]) + zeros}
+        hint = f"the capture of port 0 {most}; to keep its first packets that fit: editcap -F pcap -r a.pcap a.classic.pcap 1-2"
+        self.check(["run", "--pace-us", "1", *RUN[1:]], 4, "too long: a.pcap", hint, files)
         self.check(RUN, 4, "too long: table.txt", "TABLE may have at most 16,777,216 bytes", {**GOOD, "table.txt": b"#" * 16_777_217})
 
     def test_too_many_slots(self):
@@ -265,6 +275,17 @@ class Hints(Scene):
             (journal[:13] + b"\x02" + journal[14:], 13, None),
         ):
             self.check(["check", "j"], 4, f"journal: bad at {at}", hint, {"j": data})
+
+    def test_captures_that_cannot_be_read_again(self):
+        """No command is given for what the shell has opened."""
+        self.files(table_txt="* 0\n")
+        for said, hint in (
+            ("cut record at 24", "ends within a packet, as one that is still written"),
+            ("version 2.3", "is not of version 2.4"),
+            ("link type 113", f"is of link type 113 (tcpdump -i any), {LINK}; capture on one interface"),
+        ):
+            told = self.launch("firm", "table.txt", "/dev/null", SAID=f"capture 0: {said}", STATUS="4").stderr
+            self.assertEqual(told, f"capture 0: {said}\nhint: /dev/null, the capture of port 0, {hint}\n")
 
     def test_no_hint(self):
         """Where nothing is known, nothing is said: pipes are not read, and other statuses have no hint."""
