@@ -142,6 +142,11 @@ def _start(place, words, job, fault):
             tell_error(f"hint: {text}")
     if status == 0 and job and job.pace_us and job.inputs:
         _warn_of_late(job, False)
+    if status == 0 and job and job.prefix and os.isatty(2):
+        from .unrouted import line_of_unrouted
+        text = line_of_unrouted(place, job)
+        if text:
+            tell_error(f"hint: {text}")
     return status
 
 
