@@ -58,6 +58,7 @@
         part("save-png").addEventListener("click", () => viewer.savePng(pane));
         pane.onRule = (name) => page.chooseScheduler(pane, name);
         pane.onGo = (slot) => page.goByUser(slot);
+        pane.onRestart = () => page.onRestart(pane);
     }
 
     /** Follows the packet whose input and number were typed, or says why not. */

@@ -298,7 +298,7 @@
     }
 
     /** What is shown of a file until the user chooses otherwise. */
-    viewer.defaultSettings = () => ({ rowLevel: "all", pointerLevel: "0", squares: "waits", scheduler: "islip" });
+    viewer.defaultSettings = () => ({ rowLevel: "all", pointerLevel: "0", squares: "waits", scheduler: "islip", isSchedulerChosen: false });
     viewer.crossbarLook = { MARGIN, LEAST_TEXT_CELL, FONT };
     viewer.Crossbar = Crossbar;
 })(globalThis.SlotViewer = globalThis.SlotViewer || {});

@@ -1,4 +1,4 @@
-// Which of the schedulers makes the matches of a journal; the file does not say.
+// Which of the schedulers makes the matches of a journal; the file does not say, so the pass over its slots finds it.
 (function (viewer) {
     "use strict";
 
@@ -48,5 +48,26 @@
         return found;
     }
 
-    viewer.findFitting = findFitting;
+    /**
+     * A generator that fills the analysis of a journal, and at the first match that is not its scheduler's finds the other
+     * schedulers that make all matches. It returns their names: null where there was no need to look for them. With `isOpen`
+     * it ends there where it finds one.
+     */
+    function* analyseFitting(analysis, isOpen) {
+        const pass = viewer.analyse(analysis);
+        let found = null;
+        for (let step = { done: false }; !step.done;) {
+            step = pass.next();
+            if (found === null && analysis.run.form === "journal" && analysis.differing.length > 0) {
+                found = yield* findFitting(analysis.run, analysis.rule);
+                if (isOpen && found.length > 0) {
+                    break;
+                }
+            }
+            yield analysis.done / analysis.run.slots;
+        }
+        return found;
+    }
+
+    viewer.analyseFitting = analyseFitting;
 })(globalThis.SlotViewer = globalThis.SlotViewer || {});

@@ -152,23 +152,24 @@
             this.onAnalysed();
         },
 
-        /** Decides the slots of a run by another scheduler. */
+        /** Decides the slots of a run by the scheduler that the user, or the address, names. */
         async chooseScheduler(pane, name) {
-            pane.set("scheduler", name);
-            pane.restart();
+            await pane.chooseScheduler(name, () => this.progress.later());
+            this.progress.now();
+        },
+
+        /** After the pass over the slots of a run has begun anew. */
+        onRestart(pane) {
             if (pane === this.first) {
                 this.timeline.analysis = pane.analysis;
             }
             this.go(this.slot);
             this.ask("timeline");
-            await pane.analyse(() => this.progress.later());
-            this.progress.now();
         },
 
         /** Shows how far the passes over all slots are. */
         onAnalysed() {
-            const passes = this.openPanes.map(({ analysis, run }) => analysis.done / run.slots);
-            const done = passes.length === 0 ? 1 : d3.min(passes);
+            const done = this.hasSlots ? d3.min(this.openPanes, ({ progress }) => progress) : 1;
             this.showNotice(done < 1 ? `Going through all slots: ${percent(done)}.` : noticeOf(this.panes));
             if (!this.hasSlots) {
                 return;

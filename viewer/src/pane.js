@@ -3,6 +3,7 @@
     "use strict";
 
     const MOST_SPOKEN = 8;
+    const MOST_OF_A_PASS = 0.99;
 
     /** What was chosen for a file, by its name and size, so that it is as before when it is opened again. */
     const keptSettings = new Map();
@@ -45,12 +46,15 @@
             this.run = null;
             this.name = null;
             this.analysis = null;
+            this.isPassing = false;
             this.walker = null;
             this.queues = null;
             /** The packet that is followed, or null. */
             this.followed = null;
             /** The other schedulers that make the run's matches; null while that is not known. */
             this.fitting = null;
+            /** The scheduler whose place another took, since it makes all matches, and the first slot that was not its own; or null. */
+            this.left = null;
             /** What is drawn of the slot; null before the first drawing of a run. */
             this.view = null;
             this.steps = [];
@@ -94,21 +98,52 @@
             this.drawSummary();
         }
 
-        /** Makes the pass over all slots, tells how far it is, and stops where another begins. */
+        /**
+         * Makes the pass over all slots, tells how far it is, and stops where another begins. Where the user chose no scheduler
+         * and another one makes all matches, that one takes its place.
+         */
         async analyse(onProgress) {
             const { analysis } = this;
             if (analysis === null) {
                 return;
             }
+            const isOpen = !this.crossbar.settings.isSchedulerChosen;
+            this.isPassing = true;
             const isCancelled = () => this.analysis !== analysis;
-            await viewer.runInSlices(viewer.analyse(analysis), onProgress, isCancelled);
-            onProgress();
-            if (this.isJournal && analysis.differing.length > 0) {
-                const found = await viewer.runInSlices(viewer.findFitting(this.run, analysis.rule), () => {}, isCancelled);
-                this.fitting = found;
-                this.drawRules();
+            const found = await viewer.runInSlices(viewer.analyseFitting(analysis, isOpen), onProgress, isCancelled);
+            if (isOpen && found !== null && found.length > 0) {
+                this.left = { rule: analysis.rule, slot: analysis.differing[0], fitting: found };
+                await this.decideBy(found[0], onProgress);
+                return;
             }
+            this.fitting = found;
+            this.isPassing = false;
+            onProgress();
+            this.drawRules();
         }
+
+        /** How far the pass over all slots is, from 0 to 1; below 1 while it is sought which schedulers make the matches. */
+        get progress() {
+            return this.isPassing ? Math.min(MOST_OF_A_PASS, this.analysis.done / this.run.slots) : 1;
+        }
+
+        /** Decides the slots by another scheduler. */
+        async decideBy(name, onProgress) {
+            this.set("scheduler", name);
+            this.restart();
+            this.onRestart();
+            await this.analyse(onProgress);
+        }
+
+        /** The user chose a scheduler. */
+        async chooseScheduler(name, onProgress) {
+            this.left = null;
+            this.crossbar.settings.isSchedulerChosen = true;
+            await this.decideBy(name, onProgress);
+        }
+
+        /** Set by the page: the pass over all slots begins anew. */
+        onRestart() {}
 
         /** Puts what the packets file says of the queues beside the run. */
         attach(queues) {
@@ -246,7 +281,7 @@
         /** Whose matches the journal has, with a button for each other scheduler that makes all of them. */
         drawRules() {
             const line = d3.select(this.element("rules-line"));
-            line.text(this.isJournal ? viewer.rulesLine(this.run, this.analysis, this.fitting) : "");
+            line.text(this.isJournal ? viewer.rulesLine(this) : "");
             line.classed("alarm", this.isJournal && this.analysis.differing.length > 0);
             (this.fitting || []).forEach((name) => {
                 line.append("button").attr("type", "button").text(`Choose ${viewer.schedulerTitle(name)}`)

@@ -84,10 +84,17 @@
         viewer.appendTable(root, "Summary", ["what", "number"], journalRows(run, analysis));
     }
 
-    /** Whose matches a journal has, in one line; `fitting` names the other schedulers, or is null while that is open. */
-    function rulesLine(run, analysis, fitting) {
+    function titles(names) {
+        return names.map(viewer.schedulerTitle).join(" and of ");
+    }
+
+    /** Whose matches a journal has, in one line: that of a pane. */
+    function rulesLine({ run, analysis, fitting, left }) {
         const title = viewer.schedulerTitle(analysis.rule);
         const { differing, done } = analysis;
+        if (left !== null) {
+            return `Each match is that of ${titles(left.fitting)}. By ${viewer.schedulerTitle(left.rule)} slot ${left.slot} has another.`;
+        }
         if (differing.length === 0) {
             return done === run.slots ? `Each match is that of ${title}.` : `So far each match is that of ${title}.`;
         }
@@ -97,7 +104,7 @@
         }
         return fitting.length === 0
             ? `${found} No other scheduler makes all these matches.`
-            : `${found} All matches are those of ${fitting.map(viewer.schedulerTitle).join(" and of ")}.`;
+            : `${found} All matches are those of ${titles(fitting)}.`;
     }
 
     viewer.rulesLine = rulesLine;

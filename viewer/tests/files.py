@@ -16,6 +16,8 @@ FREE = b"\xff\x00"
 HEAVY_PORTS = 64
 HEAVY_SLOTS = 100_000
 HEAVY_SENDERS = 12
+# Of late_rrm(): the first slot whose match is not that of iSLIP.
+LATE_SLOT = 20_001
 
 
 def journal_bytes(ports, rounds, slots):
@@ -114,6 +116,15 @@ def full_load_rrm(ports=4, cells=4):
     """Full load under RRM, one round. All outputs grant the same input, input t mod ports in slot t, which takes
     the outputs in turn: one pair in each slot."""
     return full_load_journal(ports, cells, [[(slot % ports, slot // ports % ports)] for slot in range(cells * ports * ports)])
+
+
+def late_rrm():
+    """Two ports with nothing to send for LATE_SLOT - 1 slots, and then full load under RRM: input 0 gets output 0 first under
+    each scheduler, and in the next slot RRM has one pair and iSLIP two."""
+    idle = slot_bytes(([{}] * 2, [1] * 2, [None] * 2))
+    load = full_load_rrm(2, 3)
+    slots = LATE_SLOT - 1 + struct.unpack(">I", load[8:12])[0]
+    return load[:8] + struct.pack(">I", slots) + idle * (LATE_SLOT - 1) + load[12:]
 
 
 def one_slot_journal():

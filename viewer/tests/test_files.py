@@ -11,7 +11,7 @@ from tests.disk.sixteen_ports import WORDS, job_files
 from . import files
 from .browser import LEFT, RIGHT, expect
 from .test_rules import judge
-from .test_steps import choose_rule
+from .test_steps import found_rule
 
 ROOT = pathlib.Path(__file__).resolve().parents[2]
 PROGRAM = there.program(ROOT)
@@ -130,7 +130,7 @@ def test_examples(viewer):
         expect(not viewer.is_shown("fault") and viewer.is_shown("run"), f"{file}: {viewer.text('fault')}")
         if file.suffix == ".journal":
             if file.stem == "rrm":
-                choose_rule(viewer, "RRM")
+                found_rule(viewer, "RRM")
             expect("The journal is lawful" in viewer.text("summary"), f"{file}: {viewer.text('summary')}")
         else:
             lines = [line for line in file.read_text().splitlines() if line.startswith("slot ")]
@@ -195,7 +195,7 @@ def test_program_schedulers(viewer):
             expect(ended.returncode == 0, ended.stderr)
             viewer.load()
             viewer.open(pathlib.Path(folder, "out.journal"))
-            choose_rule(viewer, title)
+            found_rule(viewer, title)
             expect(f"The journal is lawful by {title}" in viewer.text("summary"), viewer.text("summary"))
             rows = [[f"longest wait of level {level}", wait] for level, wait in enumerate(ended.stdout.splitlines()[-1].split()[1:])]
             expect(viewer.table("Summary")[-4:] == rows, f"{viewer.table('Summary')[-4:]} and not {rows}")

@@ -1,5 +1,7 @@
 """Tests of the viewer: the steps of a slot, and what the lecture of docs/VIEWER.md shows."""
 
+import re
+
 from . import files
 from .browser import ESCAPE, RIGHT, expect
 
@@ -112,28 +114,48 @@ def test_who_decides(viewer):
     expect(viewer.text("rules-line") == "Each match is that of iSLIP.", viewer.text("rules-line"))
 
 
-def choose_rule(viewer, title):
-    viewer.wait("document.querySelector('#rules-line button')", "a button for a scheduler that fits")
-    expect(viewer.lines("#rules-line button") == [f"Choose {title}"], f"{viewer.text('rules-line')}")
-    viewer.run("document.querySelector('#rules-line button').click()")
-    viewer.wait(f"document.getElementById('rules-line').innerText === 'Each match is that of {title}.'", title)
+def found_rule(viewer, title, suffix=""):
+    """The page has found that another scheduler than iSLIP makes all matches, and decides by it."""
+    said = viewer.text(f"rules-line{suffix}")
+    expect(re.fullmatch(rf"Each match is that of {title}\. By iSLIP slot \d+ has another\.", said), said)
+    chosen = viewer.run("return document.getElementById(arguments[0]).selectedOptions[0].text", f"scheduler{suffix}")
+    expect(chosen == title, f"the list has {chosen} and not {title}")
 
 
 def test_choice_of_scheduler(viewer):
-    """A journal of another scheduler is found, and the page names whose matches they are."""
+    """A journal of another scheduler is decided by that one at once, unless the user chose one; then the page names it."""
     for name, title in (("firm", "FIRM"), ("rrm", "RRM")):
-        viewer.load()
+        viewer.load("#slot=3&step=pointers")
         viewer.open(files.DATA / f"check_{name}.journal")
+        found_rule(viewer, title)
+        expect(viewer.text("rules-line").endswith("By iSLIP slot 3 has another."), viewer.text("rules-line"))
+        expect("The journal is lawful by " + title in viewer.text("summary"), viewer.text("summary"))
+        expect(not viewer.is_shown("next-difference") and "is not that of" not in viewer.text("slot-text"), viewer.text("slot-text"))
+        viewer.choose("scheduler", "islip")
         viewer.wait("SlotViewer.page.first.fitting !== null", "which scheduler fits")
         said = viewer.text("rules-line")
         expect("the match is not that of iSLIP, the first is slot 3. All matches are those of " + title in said, said)
-        choose_rule(viewer, title)
-        expect("The journal is lawful by " + title in viewer.text("summary"), viewer.text("summary"))
+        expect(viewer.lines("#rules-line button") == [f"Choose {title}"], said)
+        viewer.run("document.querySelector('#rules-line button').click()")
+        viewer.wait(f"document.getElementById('rules-line').innerText === 'Each match is that of {title}.'", title)
+        viewer.choose("scheduler", "islip")
+        viewer.open(files.DATA / "islip.journal")
+        viewer.open(files.DATA / f"check_{name}.journal")
+        expect("not that of iSLIP" in viewer.text("rules-line"), "what was chosen for a file stays")
     changed = bytearray((files.DATA / "check_rrm.journal").read_bytes())
     changed[0x1a:0x1e] = b"\xff\x00\x00\x00"
     viewer.open_bytes("nobody.journal", bytes(changed))
-    viewer.wait("SlotViewer.page.first.fitting !== null", "which scheduler fits")
+    expect("that of iSLIP" in viewer.text("rules-line"), viewer.text("rules-line"))
     expect("No other scheduler makes all these matches." in viewer.text("rules-line"), viewer.text("rules-line"))
+
+
+def test_scheduler_of_a_long_run(viewer):
+    """A long run whose last slot alone is not that of iSLIP: the pass over its slots ends by RRM."""
+    viewer.load()
+    viewer.open_bytes("long.journal", files.late_rrm())
+    found_rule(viewer, "RRM")
+    expect(viewer.text("rules-line").endswith(f"By iSLIP slot {files.LATE_SLOT} has another."), viewer.text("rules-line"))
+    expect(viewer.run("return SlotViewer.page.timeline.analysis === SlotViewer.page.first.analysis"), "the time line is of the same pass")
 
 
 def pointers_of(viewer, port):
@@ -146,7 +168,7 @@ def test_lecture_of_full_load(viewer):
         expect((LECTURE / f"full_load_{name}.journal").read_bytes() == made(), f"full_load_{name}.journal is another")
     viewer.load("#slot=1&step=grant")
     viewer.open(LECTURE / "full_load_rrm.journal")
-    choose_rule(viewer, "RRM")
+    found_rule(viewer, "RRM")
     want = [f"output {output} grants input 1: the first asking input from its pointer 1 (level 0, unicast; inputs 0, 1, 2 and 3 ask)" for output in range(4)]
     expect(sentences(viewer) == want, f"{sentences(viewer)}")
     for slot in range(8):
@@ -184,10 +206,7 @@ def test_synchronised(viewer):
     viewer.open(SYNCHRONISED / "islip.journal")
     viewer.open(SYNCHRONISED / "rrm.journal", field="file-2")
     expect(viewer.text("rules-line") == "Each match is that of iSLIP.", viewer.text("rules-line"))
-    viewer.wait("SlotViewer.page.second.fitting !== null", "which scheduler fits")
-    expect("All matches are those of RRM" in viewer.text("rules-line-2"), viewer.text("rules-line-2"))
-    viewer.run("document.querySelector('#rules-line-2 button').click()")
-    viewer.wait("document.getElementById('rules-line-2').innerText === 'Each match is that of RRM.'", "RRM")
+    found_rule(viewer, "RRM", "-2")
     for slot in range(31, 47):
         islip, rrm = viewer.run(SEEN, slot)
         since = slot - 31
