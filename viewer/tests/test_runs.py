@@ -100,6 +100,25 @@ def test_waits_of_two_runs(viewer):
     expect(viewer.text("crossbar-title") == "rrm.journal (first run)", "of a report and a journal of one run the journal is shown")
 
 
+def test_heights_of_two_runs(viewer):
+    """Both crossbars stand at one height, also where what is said above one of them takes more lines."""
+    for width in (1400, 1100, 1000):
+        viewer.load("#slot=3")
+        viewer.view_port(width, 900)
+        viewer.open(files.ROOT / "viewer/lecture/full_load_islip.journal", files.ROOT / "viewer/lecture/full_load_rrm.journal")
+        viewer.choose("scheduler-2", "islip")
+        viewer.wait("SlotViewer.page.second.fitting !== null && document.querySelector('#rules-line-2 button')", "the longer line")
+        bars = [viewer.run("return document.querySelector(arguments[0]).firstElementChild.offsetHeight", f"#{name} .title") for name in ("pane", "pane-2")]
+        frames = [viewer.place(name) for name in ("crossbar", "crossbar-2")]
+        lines = [viewer.place(name) for name in ("rules-line", "rules-line-2")]
+        expect(lines[1][3] - lines[1][1] > lines[0][3] - lines[0][1], f"{width}: the lines above are as high, {lines}, {bars}")
+        expect(frames[0][1] == frames[1][1] and frames[0][3] == frames[1][3], f"{width}: the crossbars stand at {frames}")
+        expect(viewer.place("step-line")[1] == viewer.place("step-line-2")[1], f"{width}: the steps stand at different heights")
+        expect(frames[1][3] <= 900, f"{width}: the crossbars end at {frames[1][3]}")
+    viewer.shoot("one_height")
+    viewer.view_port(0, 0)
+
+
 def test_rounds_of_two_runs(viewer):
     """The same requests with two rounds and with one: a step that one run does not have, and what differs."""
     viewer.load("#slot=0&step=accept")
