@@ -20,6 +20,10 @@
             schedulers: ["islip", "rrm"],
             pointers: "1",
         },
+        {
+            title: "starving: RRM beside iSLIP",
+            files: { file: pathOf("starving", "rrm"), beside: pathOf("starving", "islip") },
+        },
         { title: "full load: RRM", files: { file: `${LECTURE}/full_load_rrm.journal` } },
         { title: "full load: iSLIP", files: { file: `${LECTURE}/full_load_islip.journal` } },
         {

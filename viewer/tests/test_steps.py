@@ -8,6 +8,7 @@ from .browser import ESCAPE, RIGHT, expect
 LECTURE = files.ROOT / "viewer/lecture"
 LONG_WAIT = files.ROOT / "examples/long_wait"
 SYNCHRONISED = files.ROOT / "examples/synchronised/expected"
+STARVING = files.ROOT / "examples/starving/expected"
 
 # The steps of slot 0 of steps_journal(): the name, the step in one line, and its sentences.
 STEPS = (
@@ -215,6 +216,23 @@ def test_synchronised(viewer):
     for name in ("pointer-level", "pointer-level-2"):
         viewer.choose(name, "1")
     viewer.shoot("synchronised")
+
+
+def test_starving(viewer):
+    """An example in which the queue from input 0 to output 0 waits from slot 1 on under RRM, as long as input 0 has others to serve."""
+    viewer.load()
+    viewer.open(STARVING / "rrm.journal", STARVING / "islip.journal")
+    found_rule(viewer, "RRM")
+    expect(viewer.text("rules-line-2") == "Each match is that of iSLIP.", viewer.text("rules-line-2"))
+    for slot in range(1, 27):
+        viewer.run("SlotViewer.page.goByUser(arguments[0]); SlotViewer.page.frame()", slot)
+        wait = viewer.run("return SlotViewer.page.panes.map(({ view }) => view.wait(0, 0, 0, 0))")
+        expect(wait == [slot % 26, {1: 1, 2: 2}.get(slot, 0)], f"slot {slot}: the queue waits {wait}")
+    for slot in range(2, 26, 2):
+        viewer.run("location.hash = `#slot=${arguments[0]}&step=accept`", slot)
+        viewer.wait(f"document.getElementById('step-line').innerText.startsWith('Slot {slot}. Round 1, accept')", "a step")
+        refused = viewer.lines("#slot-text .step-lines li")
+        expect("input 0 refuses output 0" in refused, f"slot {slot}: {refused}")
 
 
 def test_lecture_of_long_waits(viewer):
