@@ -35,7 +35,7 @@ def _part_of(job, name):
     return "the journal"
 
 
-def _fault_of_path(name, for_writing):
+def fault_of_path(name, for_writing):
     """What stands against reading or writing a file, None where nothing is seen."""
     folder = os.path.dirname(name) or "."
     if not os.path.isdir(folder):
@@ -54,12 +54,12 @@ def _fault_of_path(name, for_writing):
 
 
 def _on_read(job, name):
-    why = _fault_of_path(name, False)
+    why = fault_of_path(name, False)
     return f"{_part_of(job, name)}: {why}" if why else None
 
 
 def _on_write(job, name):
-    why = _fault_of_path(name, True)
+    why = fault_of_path(name, True)
     if why is None:
         folder = os.path.dirname(name) or "."
         try:

@@ -21,13 +21,21 @@ def cells_of_packet(number, ports):
     return 2 * cells if is_for_two else cells
 
 
+def cells_in_turn(seed, count, ports):
+    """The cells of the packets of a number of all ports, counted for each output."""
+    return sum(cells_of_packet((75 * (seed + 101 * count + 13 * port) + 74) % MODULUS, ports) for port in range(ports))
+
+
+def cells_of_gen(seed, count, ports):
+    """The cells of all packets of `gen`, counted for each output."""
+    return sum(cells_in_turn(seed, number, ports) for number in range(count))
+
+
 def largest_count(seed, ports, limit):
     """The largest COUNT, at most the limit, with which `gen` has no more cells than a run may have."""
     cells = 0
     for count in range(limit):
-        for port in range(ports):
-            number = (75 * (seed + 101 * count + 13 * port) + 74) % MODULUS
-            cells += cells_of_packet(number, ports)
+        cells += cells_in_turn(seed, count, ports)
         if cells > most_cells(ports):
             return count
     return limit

@@ -36,7 +36,7 @@ def main(top, words):
         say(refused)
         return USAGE_FAULT
     if DRY_RUN in own:
-        return _dry_run(job, fault)
+        return _dry_run(job, words, fault)
     return _start(place, words, job, fault)
 
 
@@ -110,14 +110,29 @@ def _prove(place, is_all):
     return 0 if prove(place, is_all) else 1
 
 
-def _dry_run(job, fault):
+def _dry_run(job, words, fault):
+    """The status that a run would end with, as far as that is seen without one."""
     if fault:
         say(f"{fault}")
         return USAGE_FAULT
-    status = tell(lines_of_job(job))
+    from .dry_run import look
+    found = look(job)
+    status = tell([*lines_of_job(job), *(f"not looked at: {what}" for what in found.unseen)])
+    if found.status:
+        tell_error(found.said)
+        _tell_hint(words, found.status, found.said)
+        return found.status
     if job.pace_us and job.inputs:
         _warn_of_late(job, True)
     return status
+
+
+def _tell_hint(words, status, said):
+    """Adds to the program's line what helps, where that is known."""
+    from .hints import hint
+    text = hint(words, status, said)
+    if text:
+        tell_error(f"hint: {text}")
 
 
 def _start(place, words, job, fault):
@@ -136,10 +151,7 @@ def _start(place, words, job, fault):
     if status == 1 and OLD_LIBRARY in said:
         say(needs_line("its C library is older"))
     if status in HINTED:
-        from .hints import hint
-        text = hint(words, status, said)
-        if text:
-            tell_error(f"hint: {text}")
+        _tell_hint(words, status, said)
     if status == 0 and job and job.pace_us and job.inputs:
         _warn_of_late(job, False)
     if status == 0 and job and job.prefix and os.isatty(2):

@@ -102,13 +102,17 @@ class Ports(Scene):
 
     def test_dry_run(self):
         self.write("out.report", "old\n")
-        ended = self.launch("--dry-run", "run", "--packets", "--journal", "table.txt", "out", "a.pcap", "b.pcap", "two words.pcap", "missing")
-        self.assertEqual((ended.returncode, ended.stderr), (0, ""))
-        self.assertEqual(ended.stdout.splitlines(), [
-            "table: table.txt", "port 0: a.pcap, 2 packets", "port 1: b.pcap, 1 packet", "port 2: two words.pcap, 0 packets", "port 3: missing",
-            "writes out.0.pcap", "writes out.1.pcap", "writes out.2.pcap", "writes out.3.pcap", "writes out.report, which is there", "writes out.journal",
-            "writes out.packets.csv",
-        ])
+        names = ("a.pcap", "b.pcap", "two words.pcap")
+        for last, status, said in (((), 0, ""), (("missing",), 3, "read fault: missing\nhint: the capture of port 3: there is no file missing\n")):
+            ended = self.launch("--dry-run", "run", "--packets", "--journal", "table.txt", "out", *names, *last)
+            self.assertEqual((ended.returncode, ended.stderr), (status, said))
+            ports = ["port 0: a.pcap, 2 packets", "port 1: b.pcap, 1 packet", "port 2: two words.pcap, 0 packets", "port 3: missing"]
+            self.assertEqual(ended.stdout.splitlines(), [
+                "table: table.txt", *ports[:3 + len(last)], *(f"writes out.{port}.pcap" for port in range(3 + len(last))),
+                "writes out.report, which is there", "writes out.journal", "writes out.packets.csv",
+                "not looked at: whether the journal file would be too long", "not looked at: whether the packets file would be too long",
+                "not looked at: whether there is room in memory and on the disk",
+            ])
         self.assertEqual(self.calls(), [])
 
     def test_numbers_that_sort(self):
@@ -121,7 +125,8 @@ class Ports(Scene):
         for words, name in ((command, "out.{}.pcap"), ("tiny_tera --dry-run run table.txt next lan.*.pcap", "lan.{:02}.pcap")):
             path = f"{self.top}:{self.variables['PATH']}"
             told = subprocess.run(
-                ["sh", "-c", words], cwd=self.jobs, env={**self.variables, "PATH": path}, stdout=subprocess.PIPE, universal_newlines=True
+                ["sh", "-c", words], cwd=self.jobs, env={**self.variables, "PATH": path},
+                stdout=subprocess.PIPE, stderr=subprocess.PIPE, universal_newlines=True,
             )
             found = [line for line in told.stdout.splitlines() if line.startswith("port ")]
             self.assertEqual(found, [f"port {port}: {name.format(port)}" for port in range(12)])
@@ -129,8 +134,10 @@ class Ports(Scene):
     def test_dry_run_refuses_what_a_run_would(self):
         for words in (["run", "table.txt", "a", "a.pcap", "--slots=1"], ["run", "table.txt", "", "a.pcap"]):
             self.assertEqual(self.launch("--dry-run", *words).returncode, 2)
-        self.assertEqual(self.launch("--dry-run", "gen", "1", "2", "3").stdout, "no file is read or written\n")
-        self.assertEqual(self.launch("--dry-run", "check", "j").stdout, "journal: j\n")
+        room = "whether there is room in memory\n"
+        self.assertEqual(self.launch("--dry-run", "gen", "1", "2", "3").stdout, f"no file is read or written\nnot looked at: {room}")
+        told = f"journal: j\nnot looked at: what the journal has behind its header, and {room}"
+        self.assertEqual(self.launch("--dry-run", "check", "j").stdout, told)
 
     def test_terminal(self):
         """Ports are told where standard error is a terminal, and nowhere else."""
