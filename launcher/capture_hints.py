@@ -72,6 +72,12 @@ def as_file(name):
     return f"./{name}" if name.startswith("-") else name
 
 
+def shell_word(word):
+    """A word that is not UTF-8, as a shell takes it."""
+    letters = (chr(byte) if 0x20 <= byte < 0x7F and byte not in b"'\\" else f"\\x{byte:02x}" for byte in os.fsencode(word))
+    return f"$'{''.join(letters)}'"
+
+
 def _new_name(name):
     """A name for what is made of a file: beside it, or else in the current folder or that for temporary files."""
     folder, own = os.path.split(name)

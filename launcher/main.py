@@ -36,7 +36,7 @@ def main(top, words):
         say(refused)
         return USAGE_FAULT
     if DRY_RUN in own:
-        return _dry_run(job, words, fault)
+        return _no_text(words) or _dry_run(job, words, fault)
     return _start(place, words, job, fault)
 
 
@@ -79,6 +79,8 @@ def _help(place, words):
 def _version(place):
     found = there.find(place, PROGRAM)
     lines = [told_version(place.version())]
+    if found.build is None and place.is_installed:
+        return [*lines, _not_installed(place)]
     if found.build is None:
         why = f"{found.changed[0]} changed since it was proved" if found.changed else str(found.fault)
         return [*lines, f"no program is there of these sources: {why}; it is proved before it runs"]
@@ -87,6 +89,13 @@ def _version(place):
     if found.is_stored:
         told = f"stored in release/, proved elsewhere with {kit} from these sources; to prove it here: ./tiny_tera {PROVE}"
     return [*lines, told, f"sha256 {found.build.sum()}  {found.build.path}"]
+
+
+def _not_installed(place):
+    """Why an installed program is not started."""
+    program = place.path("program")
+    what = "is not the program that was installed" if os.path.exists(program) else "is not there"
+    return f"{program} {what}, so it is not started"
 
 
 def _library(place):
@@ -152,6 +161,8 @@ def _start(place, words, job, fault):
         say(needs_line("its C library is older"))
     if status in HINTED:
         _tell_hint(words, status, said)
+    if status == 1 and not said:
+        _no_text(words)
     if status == 0 and job and job.pace_us and job.inputs:
         _warn_of_late(job, False)
     if status == 0 and job and job.prefix and os.isatty(2):
@@ -162,13 +173,24 @@ def _start(place, words, job, fault):
     return status
 
 
+def _no_text(words):
+    """The status of the program where a word is not UTF-8, of which it says nothing, so this tells it; else 0."""
+    word = next((it for it in words if any("\ud800" <= letter <= "\udfff" for letter in it)), None)
+    if word is None:
+        return 0
+    from .capture_hints import shell_word
+    say(f"{shell_word(word)} is not UTF-8, and the program takes no such word")
+    tell_error(f"hint: give the file another name, as by: ln -s -- {shell_word(word)} NAME")
+    return 1
+
+
 def _program(place, fault):
     """The program to start, or the status where there is none."""
     found = there.find(place, PROGRAM)
     if found.build:
         return found.build.path
     if place.is_installed:
-        say(f"{place.path('program')} is not the program that was installed, so it is not started")
+        say(_not_installed(place))
         return 1
     if fault:
         # The words would be refused after half an hour of proofs.

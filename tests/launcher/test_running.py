@@ -1,11 +1,13 @@
 """How the program is started: its words, variables, files and streams, and how it ends."""
 
 import os
+import shutil
 import signal
 import subprocess
 import time
+import unittest
 
-from .scene import Scene
+from .scene import PROGRAM, Scene
 
 
 class Running(Scene):
@@ -27,6 +29,31 @@ class Running(Scene):
         variables = {**self.variables, "CODE": 'printf %s "$2"'}
         ended = subprocess.run([bytes(self.top / "tiny_tera"), b"check", b"\xff\xfe"], env=variables, stdout=subprocess.PIPE)
         self.assertEqual(ended.stdout, b"\xff\xfesummary\n")
+
+    def test_word_that_the_program_does_not_take(self):
+        """A name that is not UTF-8 ends with status 1, of which the program says nothing."""
+        self.write("a.pcap", "")
+        name = os.fsdecode(b"b'\xff\\d.pcap")
+        told = (
+            "tiny_tera: $'b\\x27\\xff\\x5cd.pcap' is not UTF-8, and the program takes no such word\n"
+            "hint: give the file another name, as by: ln -s -- $'b\\x27\\xff\\x5cd.pcap' NAME\n"
+        )
+        words = ("firm", "t", "a.pcap", name)
+        for more in ((), ("--dry-run",)):
+            ended = self.launch(*more, *words, STATUS="1")
+            self.assertEqual((ended.returncode, ended.stderr), (1, told))
+        self.assertEqual(self.launch("firm", "t", "a.pcap", STATUS="1").stderr, "")
+        self.assertEqual(self.launch(*words, STATUS="1", SAID="killed").stderr, "killed\n")
+        # The command makes a file of the other name, in a shell that has such words.
+        self.write(name, "its bytes")
+        if shutil.which("bash"):
+            subprocess.run(["bash", "-c", told.rstrip("\n").rpartition(": ")[2]], cwd=self.jobs, check=True)
+            self.assertEqual((self.jobs / "NAME").read_text(), "its bytes")
+
+    @unittest.skipUnless(PROGRAM.is_file(), "no program is there")
+    def test_program_says_nothing_of_such_a_word(self):
+        ended = subprocess.run([PROGRAM, b"check", b"\xff"], stdout=subprocess.PIPE, stderr=subprocess.PIPE)
+        self.assertEqual((ended.returncode, ended.stdout, ended.stderr), (1, b"", b""))
 
     def test_link_and_folder(self):
         os.symlink(self.top / "tiny_tera", self.jobs / "switch")
