@@ -23,15 +23,25 @@ class Place:
         return os.path.join(self.top, *parts)
 
     def version(self):
-        """The tag or the commit: of an installed program the one that was installed."""
+        """The tag or the commit, or why it is unknown: of an installed program the one that was installed."""
         if self.is_installed:
             return read_record(self.path(RECORD)).get("version", "unknown")
-        words = ["git", "-C", self.top, "describe", "--tags", "--always", "--dirty"]
-        try:
-            ended = subprocess.run(words, stdout=subprocess.PIPE, stderr=subprocess.DEVNULL, universal_newlines=True)
-        except OSError:
+        if not os.path.exists(self.path(".git")):
             return "unknown"
-        return ended.stdout.strip() or "unknown"
+        try:
+            ended = subprocess.run(
+                git_words(self.top, "describe", "--tags", "--always", "--dirty"),
+                stdout=subprocess.PIPE, stderr=subprocess.PIPE, universal_newlines=True, env={**os.environ, "LC_ALL": "C"},
+            )
+        except OSError as fault:
+            return f"unknown (git: {fault.strerror})"
+        said = (ended.stderr.splitlines() or ["it says nothing"])[0]
+        return ended.stdout.strip() or f"unknown (git: {said})"
+
+
+def git_words(top, *words):
+    """The command of git in a clone, of whatever owner: who calls this runs the clone's own files in any case."""
+    return ["git", "-C", top, "-c", f"safe.directory={top}", *words]
 
 
 def cache_folder():

@@ -5,4 +5,6 @@ VERSION = "1.0"
 
 def told_version(commit):
     """The version with the tag or the commit, where that is known."""
-    return f"tiny_tera {VERSION}" if commit == "unknown" else f"tiny_tera {VERSION} ({commit})"
+    if commit == "unknown":
+        return f"tiny_tera {VERSION}"
+    return f"tiny_tera {VERSION}, commit {commit}" if commit.startswith("unknown") else f"tiny_tera {VERSION} ({commit})"

@@ -28,7 +28,8 @@ class Install(Scene):
         self.build()
         proved = hashlib.sha256((self.room / "fake").read_bytes()).hexdigest()
         installed = self.install()
-        self.assertEqual((installed.returncode, installed.stderr), (0, ""))
+        self.assertEqual(installed.returncode, 0)
+        self.assertRegex(installed.stderr, r"^tools/install: the version of the clone is unknown \(git: fatal: not a git repository.*\)\n$")
         self.assertEqual(installed.stdout, f"{proved}  {self.prefix}/lib/tiny_tera/program\n")
         shutil.rmtree(self.top)
         ended = self.started("gen", "1", "2", "2")
@@ -70,7 +71,22 @@ class Install(Scene):
         program.write_text("#!/bin/sh\necho another\n")
         ended = self.started("gen", "1", "2", "2")
         self.assertEqual((ended.returncode, ended.stdout), (1, ""))
-        self.assertEqual(ended.stderr, f"tiny_tera: {program} is not the program that was installed, so it is not started\n")
+        why = f"{program} is not the program that was installed, so it is not started"
+        self.assertEqual(ended.stderr, f"tiny_tera: {why}\n")
+        self.assertEqual(self.started("--version").stdout.splitlines()[1:], [why])
+        program.unlink()
+        self.assertEqual(self.started("--version").stdout.splitlines()[1:], [f"{program} is not there, so it is not started"])
+
+    def test_clone_of_another_user(self):
+        """The version is that of the clone, whoever owns it."""
+        self.build()
+        for words in (["init", "-q"], ["add", "-A"], ["-c", "user.name=x", "-c", "user.email=x@y", "commit", "-qm", "x"], ["tag", "v7"]):
+            subprocess.run(["git", "-C", self.top, *words], check=True)
+        other = {"GIT_TEST_ASSUME_DIFFERENT_OWNER": "1"}
+        told = subprocess.run(["git", "-C", self.top, "describe"], env={**self.variables, **other}, stdout=subprocess.PIPE, stderr=subprocess.PIPE)
+        self.assertIn(b"dubious ownership", told.stderr)
+        self.assertEqual(self.launch("--version", **other).stdout.splitlines()[0], "tiny_tera v7")
+        self.assertEqual((self.install(**other).stderr, self.started("--version").stdout.splitlines()[0]), ("", "tiny_tera v7"))
 
     def test_what_is_not_proved_is_not_installed(self):
         told = self.install()

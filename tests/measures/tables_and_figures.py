@@ -7,11 +7,12 @@ import os
 import re
 import tempfile
 import unittest
+import unittest.mock
 from contextlib import redirect_stdout
 from pathlib import Path
 
 from measure import words
-from measure.provenance import Provenance, read_lines
+from measure.provenance import Provenance, commit, read_lines
 
 from .common import DATA, JOURNAL, PACKETS, QUEUES, REPORT, TOOLS, lacks, run
 
@@ -43,6 +44,12 @@ class Words(unittest.TestCase):
                 self.assertIsNone(words.words_of_run(path), data[:9])
             self.assertIsNone(words.words_of_run(Path(name)))
             self.assertIsNone(words.words_of_run(Path(name, "none")))
+
+    def test_commit(self):
+        """Whoever owns the clone, its commit is told."""
+        with unittest.mock.patch.dict(os.environ, GIT_TEST_ASSUME_DIFFERENT_OWNER="1"):
+            told = commit()
+        self.assertRegex(told, "^[0-9a-f]{12}\\+?$" if (TOOLS.parent / ".git").exists() else "^unknown$")
 
     def test_lines(self):
         self.assertEqual(read_lines(TOLD.lines()), TOLD)

@@ -5,6 +5,8 @@ import textwrap
 from pathlib import Path
 from typing import NamedTuple
 
+from launcher.place import git_words
+
 TOP = Path(__file__).resolve().parent.parent.parent
 UNKNOWN = "unknown"
 LINE = 150  # The most letters of a line under a figure.
@@ -55,5 +57,5 @@ def commit():
 
 
 def _git(*words):
-    ended = subprocess.run(["git", "-C", str(TOP), *words], capture_output=True, text=True, check=True)
+    ended = subprocess.run(git_words(str(TOP), *words), capture_output=True, text=True, check=True)
     return ended.stdout.strip()
