@@ -1,12 +1,15 @@
 """Tests of tools/sweep: its words, its folder, its tables, and how it fails, stops and goes on."""
 
+import io
 import os
+import runpy
 import signal
 import subprocess
 import sys
 import tempfile
 import time
 import unittest
+from contextlib import redirect_stderr
 from pathlib import Path
 
 from measure import report
@@ -82,6 +85,19 @@ class Words(unittest.TestCase):
         self.assertEqual([progress.read(line) for line in lines], [None] * len(lines))
         self.assertEqual((progress.done, progress.total), (1, 2))
         self.assertEqual(progress.read("Trying to restart job 1."), "a/x.json")
+        self.assertEqual((progress.has_failed, progress.causes), (False, {}))
+        for line in ("tools/delays: a/x.report: no packet came\n", "Error in rule run:", "tools/delays: a/x.report: no packet came\n"):
+            self.assertIsNone(progress.read(line))
+        self.assertEqual((progress.has_failed, list(progress.causes)), (True, ["tools/delays: a/x.report: no packet came"]))
+
+    @unittest.skipIf(lacks("tqdm"), lacks("tqdm"))
+    def test_end_without_a_failed_job_is_that_of_snakemake(self):
+        from measure.engine import Outcome
+
+        with redirect_stderr(io.StringIO()) as told:
+            sweep = runpy.run_path(str(TOOLS / "sweep"))
+            self.assertEqual(sweep["tell_failure"](Outcome(7, False, 1, 2, False, ()), "its/log"), 1)
+        self.assertEqual(told.getvalue(), "tools/sweep: Snakemake ended with status 7: its/log\n")
 
 
 @unittest.skipIf(lacks(*MODULES), lacks(*MODULES))
@@ -130,6 +146,17 @@ class Sweeps(unittest.TestCase):
         self.assertEqual((points["seeds"].tolist(), same), (["1,5", "1,5"], provenance))
         self.assertTrue(points["half_width"].gt(0).all())
         self.check_refusals()
+
+    def test_causes_of_the_user_are_told(self):
+        """Too few packets come, at a load that is written with an exponent elsewhere: the screen says so, and names the log."""
+        few = ["--kinds", "uniform", "--loads", "0.00001", "--rounds", "1", "--seeds", "1-5", "--slots", "20", "--cores", "2"]
+        status, told = run(*self.words, *few)
+        lines = [line for line in told.splitlines() if "is tried again" not in line]
+        cause = "tools/sweep: a job failed: tools/delays: uniform-ports-4-load-0.00001-seed-{}/islip-rounds-1.report: no packet came in the measured slots"
+        self.assertEqual((status, len(lines)), (1, 5), told)
+        self.assertTrue(set(lines[:3]) <= {cause.format(seed) for seed in range(1, 6)}, told)
+        last = f"tools/sweep: 0 of 5 runs are done, and a job failed twice: {self.folder / 'snakemake.log'}; the same command goes on"
+        self.assertEqual(lines[3:], ["tools/sweep: so did 2 more", last])
 
     def check_refusals(self):
         """Runs that cannot stand in the folder's tables are refused, and a scheduler that the program does not have."""

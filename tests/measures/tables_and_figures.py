@@ -51,6 +51,11 @@ class Words(unittest.TestCase):
             told = commit()
         self.assertRegex(told, "^[0-9a-f]{12}\\+?$" if (TOOLS.parent / ".git").exists() else "^unknown$")
 
+    def test_decimals(self):
+        """Loads have no exponent in names of files, and the names that they had."""
+        for number, text in ((0.00001, "0.00001"), (1e-9, "0.000000001"), (0.1, "0.1"), (0.95, "0.95"), (1.0, "1"), (0.123456789, "0.123457")):
+            self.assertEqual((words.decimal(number), words.share(words.decimal(number))), (text, float(f"{number:g}")))
+
     def test_lines(self):
         self.assertEqual(read_lines(TOLD.lines()), TOLD)
 

@@ -14,17 +14,22 @@ RULE = re.compile(r"(?:local)?(?:rule|checkpoint) (\w+):")
 JOB = re.compile(r"    (jobid|output): (.*)")
 FINISHED = re.compile(r"Finished job (\d+)\.")
 AGAIN = re.compile(r"Trying to restart job (\d+)\.")
+FAILED = re.compile(r"Error in (?:rule|group) ")
+CAUSE = re.compile(r"tools/\w+: |tiny_tera: ")
 COUNT = re.compile(r"run +(\d+)\b")
 PATIENCE = 60  # Seconds in which the jobs under way may end after an interrupt.
 
 
 class Outcome(NamedTuple):
-    """How Snakemake ended: its status, whether it was interrupted, and how many of how many runs it made."""
+    """How Snakemake ended: its status, whether it was interrupted, how many of how many runs it made, whether a job failed,
+    and what the tools said of jobs that failed."""
 
     status: int
     interrupted: bool
     done: int
     total: int
+    has_failed: bool
+    causes: tuple
 
 
 class Progress:
@@ -36,6 +41,8 @@ class Progress:
         self.rule = None
         self.output = None
         self.jobs = {}
+        self.has_failed = False
+        self.causes = {}  # In the order in which they came.
 
     def read(self, line):
         """Takes a line; the output of a job that failed and is tried again, else None."""
@@ -47,6 +54,10 @@ class Progress:
             self._job(found[1], found[2])
         elif found := FINISHED.match(line):
             self.done += self.jobs.get(found[1], (None, None))[0] == "run"
+        elif FAILED.match(line):
+            self.has_failed = True
+        elif CAUSE.match(line):
+            self.causes[line.rstrip("\n")] = None
         elif found := AGAIN.match(line):
             return self.jobs.get(found[1], (None, "a job"))[1]
         return None
@@ -76,7 +87,7 @@ def run(command, folder, handle):
             status, interrupted = process.wait(), False
         except KeyboardInterrupt:
             status, interrupted = _stop(process), True
-    return Outcome(status, interrupted, progress.done, progress.total)
+    return Outcome(status, interrupted, progress.done, progress.total, progress.has_failed, tuple(progress.causes))
 
 
 def _show(bar, progress, again):

@@ -6,6 +6,7 @@ A word that is refused is told with what it may be.
 import argparse
 import json
 import shlex
+from decimal import Decimal
 from pathlib import Path
 from typing import NamedTuple
 
@@ -59,6 +60,11 @@ def share(word):
     if not 0 < number <= 1:
         raise argparse.ArgumentTypeError(f"{word!r} is not a number over 0 and at most 1")
     return number
+
+
+def decimal(number):
+    """A number of at most six digits beyond leading zeros, as text without an exponent: names of files have it."""
+    return format(Decimal(f"{number:g}"), "f")
 
 
 def numbers(low, high):
