@@ -15,6 +15,6 @@ def test_strict(tmp_path):
     command = [sys.executable, "-m", "mypy"] if importlib.util.find_spec("mypy") else [shutil.which("mypy")]
     if command == [None]:
         pytest.skip("there is no mypy")
-    words = [*command, "--strict", "--cache-dir", tmp_path, "tiny_tera"]
+    words = [*command, "--strict", "--cache-dir", tmp_path, "tiny_tera", "examples/own_islip.py"]
     ran = subprocess.run(words, cwd=PACKAGE, stdout=subprocess.PIPE, stderr=subprocess.STDOUT, text=True)
     assert ran.returncode == 0, ran.stdout
