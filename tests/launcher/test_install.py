@@ -5,6 +5,8 @@ import os
 import shutil
 import subprocess
 
+from launcher.version import VERSION
+
 from .scene import KIT, NO_TOOLCHAIN, Scene, python
 
 
@@ -28,8 +30,7 @@ class Install(Scene):
         self.build()
         proved = hashlib.sha256((self.room / "fake").read_bytes()).hexdigest()
         installed = self.install()
-        self.assertEqual(installed.returncode, 0)
-        self.assertRegex(installed.stderr, r"^tools/install: the version of the clone is unknown \(git: fatal: not a git repository.*\)\n$")
+        self.assertEqual((installed.returncode, installed.stderr), (0, ""))
         self.assertEqual(installed.stdout, f"{proved}  {self.prefix}/lib/tiny_tera/program\n")
         shutil.rmtree(self.top)
         ended = self.started("gen", "1", "2", "2")
@@ -85,8 +86,8 @@ class Install(Scene):
         other = {"GIT_TEST_ASSUME_DIFFERENT_OWNER": "1"}
         told = subprocess.run(["git", "-C", self.top, "describe"], env={**self.variables, **other}, stdout=subprocess.PIPE, stderr=subprocess.PIPE)
         self.assertIn(b"dubious ownership", told.stderr)
-        self.assertEqual(self.launch("--version", **other).stdout.splitlines()[0], "tiny_tera v7")
-        self.assertEqual((self.install(**other).stderr, self.started("--version").stdout.splitlines()[0]), ("", "tiny_tera v7"))
+        self.assertEqual(self.launch("--version", **other).stdout.splitlines()[0], f"tiny_tera {VERSION} (v7)")
+        self.assertEqual((self.install(**other).stderr, self.started("--version").stdout.splitlines()[0]), ("", f"tiny_tera {VERSION} (v7)"))
 
     def test_what_is_not_proved_is_not_installed(self):
         told = self.install()
