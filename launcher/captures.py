@@ -6,9 +6,11 @@ without a copy.
 
 import os
 import struct
+from itertools import chain
 from typing import Iterator, List, NamedTuple, Union
 
 from .capture_hints import ETHERNET, LONGEST_RECORD, RAW_IP, hint_on
+from .sources import stamp_of
 from .tables import read_table, route
 
 MICROSECONDS, NANOSECONDS = 0xA1B2C3D4, 0xA1B23C4D
@@ -19,10 +21,15 @@ IP_HEADER = 20
 MESSAGE_HEADER, CELL_PAYLOAD = 16, 56
 LONGEST_FORWARDED = 65_535
 SECOND = 1_000_000_000
+MOST_PACKETS = 1_000_000  # So many are looked at again after a run, in some seconds.
 
 
 class BadCapture(ValueError):
     """A file is no capture; the message is what the program says of it behind `capture P: `."""
+
+
+class Unseen(Exception):
+    """Why captures are not looked at again."""
 
 
 class Arrival(NamedTuple):
@@ -127,6 +134,25 @@ def records_of(data: bytes) -> Iterator[Record]:
         at = start + length
 
 
+class Records:
+    """The records of the capture of a port, whose file is read anew each time that one goes through them."""
+
+    def __init__(self, port, name):
+        self.name, self.told = name, f"{name}, the capture of port {port},"
+
+    def __iter__(self):
+        if not stamp_of(self.name):
+            raise Unseen(f"{self.told} is no file that can be read again")
+        try:
+            with open(self.name, "rb") as file:
+                data = file.read()
+            yield from records_of(data)
+        except OSError as fault:
+            raise Unseen(f"{self.told} cannot be read again: {fault.strerror}") from None
+        except BadCapture as fault:
+            raise Unseen(f"{self.told} is not as it was: {fault}") from None
+
+
 def addresses(link, frame):
     """The addresses that a frame comes from and goes to, as numbers, or None where it has none."""
     at = 0
@@ -173,9 +199,14 @@ def on_line(packets, base, pace_us):
         yield OnLine(packet, due, first, cells)
 
 
-def first_time(packets_by_port):
-    """The earliest time of all packets of all ports."""
-    return min((packet.time for packets in packets_by_port for packet in packets), default=0)
+def first_time(packets_by_port, most=None):
+    """The earliest time of all packets of all ports; Unseen where there are more packets than the most."""
+    first = None
+    for count, packet in enumerate(chain.from_iterable(packets_by_port), 1):
+        if most and count > most:
+            raise Unseen(f"the captures have more than {most:,} packets; --dry-run before the command looks at all of them")
+        first = packet.time if first is None else min(first, packet.time)
+    return first or 0
 
 
 def arrivals_of(table, captures, pace_us):

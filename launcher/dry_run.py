@@ -5,7 +5,7 @@ import stat
 from typing import NamedTuple, Tuple
 
 from .capture_hints import first_bytes
-from .captures import CELL_PAYLOAD, LONGEST_FORWARDED, BadCapture, destination, first_time, on_line, read_header, records_of
+from .captures import CELL_PAYLOAD, LONGEST_FORWARDED, BadCapture, destination, on_line, read_header, records_of
 from .hints import fault_of_path
 from .made import HALVED_ABOVE, cells_of_gen, most_cells
 from .tables import MAX_PORTS, BadTable, read_table, route

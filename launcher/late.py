@@ -4,18 +4,11 @@ At a pace a packet waits for the packets before it on its line. Where a capture 
 for, this wait grows, and no number of the report has it.
 """
 
-from itertools import chain
 from typing import NamedTuple
 
-from .captures import BadCapture, first_time, on_line, records_of
-from .sources import stamp_of
+from .captures import Records, first_time, on_line
 
 MOST_SLOTS = 1  # A packet that comes so many slots late is no late one.
-MOST_PACKETS = 1_000_000  # So many are looked at after a run, in some seconds.
-
-
-class Unseen(Exception):
-    """Why late packets are not looked for."""
 
 
 class Late(NamedTuple):
@@ -27,36 +20,9 @@ class Late(NamedTuple):
     slots: int
 
 
-class Records:
-    """The records of the capture of a port, whose file is read anew each time that one goes through them."""
-
-    def __init__(self, port, name):
-        self.name, self.told = name, f"{name}, the capture of port {port},"
-
-    def __iter__(self):
-        if not stamp_of(self.name):
-            raise Unseen(f"{self.told} is no file that can be read again")
-        try:
-            with open(self.name, "rb") as file:
-                data = file.read()
-            yield from records_of(data)
-        except OSError as fault:
-            raise Unseen(f"{self.told} cannot be read again: {fault.strerror}") from None
-        except BadCapture as fault:
-            raise Unseen(f"{self.told} is not as it was: {fault}") from None
-
-
-def _at_most(packets, most):
-    """The packets; Unseen where there are more than the most."""
-    for count, packet in enumerate(packets, 1):
-        if most and count > most:
-            raise Unseen(f"the captures have more than {most:,} packets; --dry-run before the command looks at all of them")
-        yield packet
-
-
 def late_ports(packets_by_port, pace_us, most=None):
-    """The ports that have late packets, in order."""
-    base = first_time([_at_most(chain.from_iterable(packets_by_port), most)])
+    """The ports that have late packets, in order; Unseen where there are more packets than the most."""
+    base = first_time(packets_by_port, most)
     found = []
     for port, packets in enumerate(packets_by_port):
         waits = [it.first - it.due for it in on_line(packets, base, pace_us)]

@@ -202,7 +202,8 @@ def _program(place, fault):
 
 def _warn_of_late(job, looks_at_all):
     """Tells of late packets, or why they are not looked for."""
-    from .late import MOST_PACKETS, Unseen, lines_of_late
+    from .captures import MOST_PACKETS, Unseen
+    from .late import lines_of_late
     try:
         lines = lines_of_late(job.inputs, job.pace_us, None if looks_at_all else MOST_PACKETS)
     except Unseen as why:

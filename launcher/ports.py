@@ -58,7 +58,7 @@ def lines_of_ports(job):
     is_cheap = sum(map(_size, job.inputs)) <= MOST_BYTES_COUNTED
     found = []
     for port, name in enumerate(job.inputs):
-        packets = packets_of(name) if is_cheap else None
+        packets = packets_of(port, name) if is_cheap else None
         more = "" if packets is None else ", 1 packet" if packets == 1 else f", {packets:,} packets"
         found.append(f"port {port}: {name}{more}")
     return found
@@ -71,11 +71,13 @@ def _size(name):
         return 0
 
 
-def packets_of(name):
+def packets_of(port, name):
     """The packets of a capture, None where it is no regular file or cannot be counted."""
-    from .too_many import packets_of_all  # Only where ports are told.
-    found = packets_of_all([name])
-    return len(found[0]) if found else None
+    from .captures import Records, Unseen  # Only where ports are told.
+    try:
+        return sum(1 for _ in Records(port, name))
+    except Unseen:
+        return None
 
 
 def lines_of_job(job):

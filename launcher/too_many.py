@@ -3,35 +3,21 @@
 from itertools import takewhile
 
 from .capture_hints import converted
-from .captures import CELL_PAYLOAD, FILE_HEADER, BadCapture, first_time, on_line, read_capture, read_header, records_of
+from .captures import CELL_PAYLOAD, FILE_HEADER, MOST_PACKETS, BadCapture, Records, Unseen, first_time, on_line, read_header, records_of
 from .made import most_cells
 from .sources import stamp_of
 from .words import OPTIONS
 
-MOST_BYTES_READ = 64 << 20
-
-
-def packets_of_all(names):
-    """The packets of each capture; None where one cannot be read again, or where all are so large that it would take long."""
-    stamps = [stamp_of(name) for name in names]
-    if not all(stamps) or sum(size for size, *_ in stamps) > MOST_BYTES_READ:
-        return None
-    try:
-        return [_packets_of(name) for name in names]
-    except (OSError, ValueError):
-        return None
-
-
-def _packets_of(name):
-    with open(name, "rb") as file:
-        return read_capture(file.read()).packets
-
 
 def on_slots(job, port, _):
     """A port with too many arrival slots: by its packets alone, or by their times."""
-    found = packets_of_all(job.inputs)
-    if not found:
+    try:
+        return _on_slots(job, port, [Records(*it) for it in enumerate(job.inputs)])
+    except Unseen:
         return None
+
+
+def _on_slots(job, port, found):
     name, limit = job.inputs[port], most_cells(len(job.inputs))
     text = f"a port may have at most {limit:,} arrival slots"
     cells = [it.cells for it in on_line(found[port], 0, None)]
@@ -54,11 +40,11 @@ def _that_fit(cells, limit):
 
 def _pace_that_fits(packets_by_port, limit):
     """A pace at which each port that has not too many cells in any case has no more arrival slots than the limit."""
-    base, pace = first_time(packets_by_port), 1
+    base, pace = first_time(packets_by_port, MOST_PACKETS), 1
     for packets in packets_by_port:
         own = sum(it.cells for it in on_line(packets, 0, None))
-        if packets and own <= limit:
-            last_us = (max(packet.time for packet in packets) - base) // 1000
+        if own <= limit:
+            last_us = (max((packet.time for packet in packets), default=base) - base) // 1000
             # The last slot is at most that of the last time stamp, with all cells behind it.
             pace = max(pace, last_us // (limit - own + 1) + 1)
     return pace

@@ -244,6 +244,16 @@ class Hints(Scene):
         words = ["run", "--pace-us", "2", "table.txt", "out", "a.pcap", "b.pcap"]
         self.check(words, 4, "too many slots: port 1 has 200002", hint, files)
 
+    def test_too_many_slots_of_large_captures(self):
+        """The hint comes whatever size the captures have together, here 73 MB."""
+        self.files(table_txt="* 0\n", a_pcap=capture(*[bytes(65_520)] * 112))
+        told = self.launch("run", "table.txt", "out", *["a.pcap"] * 10, SAID="too many slots: port 7 has 131152", STATUS="4").stderr
+        self.assertTrue(told.endswith("; to keep the first that fit: editcap -F pcap -r a.pcap a.classic.pcap 1-111\n"), told)
+        files = {**GOOD, "b.pcap": capture(frame(), frame(), times=[0, 400_000]), "a.pcap": capture()}
+        hint = "a port may have at most 131,072 arrival slots, and b.pcap lasts longer than so many slots of 2 us: at --pace-us 4 the packets fit"
+        words = ["run", "--pace-us", "2", "table.txt", "out", "a.pcap", "b.pcap"]
+        self.check(words, 4, "too many slots: port 1 has 200002", hint, files)
+
     def test_too_many_cells(self):
         # Twice 111 packets of 1,171 cells.
         files = {"table.txt": "* 0\n", "a.pcap": capture(*[bytes(65_520)] * 111)}

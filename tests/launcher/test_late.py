@@ -2,8 +2,8 @@
 
 import os
 
-from launcher.captures import Packet
-from launcher.late import Unseen, late_ports, lines_of_late
+from launcher.captures import Packet, Unseen
+from launcher.late import late_ports, lines_of_late
 
 from .scene import TOP, Scene, capture, frame
 
