@@ -31,7 +31,8 @@ class Unrouted(Scene):
 
     def test_command(self):
         tool = f"'{self.top}/tools/unrouted'"
-        self.assertEqual(self.told("table.txt", "out", "a.pcap"), f"2 packets are unrouted; to see why: {tool} table.txt a.pcap")
+        told = self.told("table.txt", "out", "a.pcap")
+        self.assertEqual(told, f"2 packets are unrouted; to see why: {tool} table.txt a.pcap")
         told = self.told("--", "table.txt", "out", "a.pcap", "-b c.pcap", CODE=WRITES_REPORT % 1)
         self.assertEqual(told, f"1 packet is unrouted; to see why: {tool} -- table.txt a.pcap '-b c.pcap'")
         words = (f"../jobs/{name}" for name in ("table.txt", "out", "a.pcap"))
@@ -40,7 +41,7 @@ class Unrouted(Scene):
         self.assertEqual(told, "3 packets are unrouted; to see why: tools/unrouted ../jobs/table.txt ../jobs/a.pcap")
 
     def test_none(self):
-        """Nothing where all packets have a line, on no terminal, after a failure, of a pipe, and where the tool is not there."""
+        """Where all packets have a line, on no terminal, after a failure, of a device, and where the tool is not there."""
         words = ("table.txt", "out", "a.pcap")
         self.assertIsNone(self.told(*words, CODE=WRITES_REPORT % 0))
         self.assertIsNone(self.told(*words, is_terminal=False))

@@ -23,6 +23,7 @@ PARTS_OF_A_ROW = 3
 BARS = "bars: 95 per cent intervals of the mean over the seeds, by Student's t"
 WINDOWS = 200  # Slots are averaged over so many windows.
 NAMES = {"u": "unicast", "m": "multicast"}
+ROOM_FOR_LEGEND = 1.3  # Above the highest point.
 MOST_NAMED = 32  # So many queues stand below the axis by name.
 AS_IT_IS = {"parse_math": False}  # Of texts with names of files, in which a $ is a letter.
 
@@ -122,6 +123,26 @@ def waiting_figure(title, waiting):
     axes.plot(range(len(waiting)), waiting, color=COLOURS[0], linewidth=1)
     axes.set_xlim(0, max(1, len(waiting) - 1))
     axes.set_ylim(bottom=0)
+    return figure
+
+
+def fill_figure(title, fill):
+    """The packets and the cells in one queue in each slot; a cross marks each slot that dropped a packet."""
+    figure, axes = _one(title, "slot", "in the queue, before the slot serves it")
+    # The line behind is broader, since they are the same where packets have one cell.
+    lines = (("cells", fill.cells, 2.5), ("packets", fill.packets, 1))
+    for colour, (name, counts, width) in zip(COLOURS, lines):
+        if counts is not None:
+            label = f"{name}, at most {max(counts)} (slot {counts.index(max(counts))})"
+            axes.plot(counts, color=colour, linewidth=width, drawstyle="steps-mid", label=label)
+    highest = fill.packets if fill.cells is None else fill.cells
+    if fill.dropped:
+        heights = [highest[slot] for slot in fill.dropped]
+        axes.plot(fill.dropped, heights, "x", color="black", label=f"dropped packets, {len(fill.dropped)}")
+    axes.set_xlim(0, max(1, len(fill.packets) - 1))
+    axes.set_ylim(0, max(1, *highest) * ROOM_FOR_LEGEND)
+    axes.yaxis.set_major_locator(MaxNLocator(integer=True))
+    axes.legend(loc="upper right")
     return figure
 
 
