@@ -4,7 +4,9 @@ from __future__ import annotations
 
 import ctypes
 import os
+import shutil
 import subprocess
+import sys
 from functools import lru_cache
 from pathlib import Path
 
@@ -46,21 +48,35 @@ class Refused(ValueError):
 
 
 def places() -> list[str]:
-    """Where the shared object is looked for: the variable TINY_TERA_LIBRARY alone, if it is set; else beside this
-    package, in the repository that this package stands in, and where the system's loader looks."""
+    """Where the shared object is looked for: the variable TINY_TERA_LIBRARY alone, if it is set; else beside this package,
+    in the repository that this package stands in, where the system's loader looks, and in the prefixes below."""
     if os.environ.get(VARIABLE):
         return [os.environ[VARIABLE]]
     package = Path(__file__).resolve().parent
-    files = [package / NAME, *_of_repository(package.parent.parent)]
-    return [*(str(file) for file in files if file.is_file()), f"{NAME}.{VERSION}", NAME]
+    installed = f"{NAME}.{VERSION}"
+    here = [package / NAME, *of_repository(package.parent.parent)]
+    below = [prefix / "lib" / installed for prefix in _prefixes(package)]
+    return [*_there(here), installed, NAME, *_there(below)]
 
 
-def _of_repository(top: Path) -> list[Path]:
+def of_repository(top: Path) -> list[Path]:
     """The one that was built there, else the stored one, of the sources as they are: its launcher says where."""
     if not (top / "crates.txt").is_file() or not (top / "tiny_tera").is_file():
         return []
     ran = subprocess.run([top / "tiny_tera", "--library"], stdin=subprocess.DEVNULL, stdout=subprocess.PIPE, text=True)
     return [Path(ran.stdout.rstrip("\n"), NAME)] if ran.returncode == 0 else []
+
+
+def _prefixes(package: Path) -> list[Path]:
+    """What `make install-library` may have been given as PREFIX: where Python stands, where this package was installed to
+    (PREFIX/lib/pythonX/site-packages), where the program is that a shell finds, and what it takes if none is given."""
+    program = shutil.which("tiny_tera")
+    found = [Path(sys.prefix), *package.parents[3:4], *([Path(program).parent.parent] if program else []), Path("/usr/local")]
+    return list(dict.fromkeys(found))
+
+
+def _there(files: list[Path]) -> list[str]:
+    return [str(file) for file in files if file.is_file()]
 
 
 @lru_cache(maxsize=None)
@@ -85,7 +101,7 @@ def _first() -> ctypes.CDLL:
             return ctypes.CDLL(place)
         except OSError as fault:
             faults.append(str(fault))
-    raise NoLibrary("; ".join(faults))
+    raise NoLibrary("; ".join([*faults, f"{VARIABLE} may name the file, and `make install-library` installs it"]))
 
 
 def check(status: int) -> None:
