@@ -1,0 +1,141 @@
+"""What comes to a switch: the arrival slots of packets, their routes, and the plan of a job."""
+
+from __future__ import annotations
+
+from functools import lru_cache
+from typing import Callable, Iterable, List, NamedTuple, Optional, Sequence, Tuple
+
+from . import captures, table
+from .captures import Capture, Packet
+from .faults import Fault, Refusal
+from .messages import cells_of
+from .ports import NO_PORTS, Ports
+from .rows import MULTICAST, UNICAST
+from .table import Line, Route, destination, read_table, route_of
+
+MOST_FORWARDED = 65_535  # Captured bytes of a packet that is forwarded.
+MOST_SLOTS = MOST_CELLS = 131_072  # Of the arrivals of a port, of all cells at their outputs; half of it over 32 ports.
+MOST_DEPTH = 131_072
+OVERSIZE, UNROUTED, ROUTED = "oversize", "unrouted", "routed"
+Router = Callable[[Optional[int]], Optional[Route]]  # The route of an address.
+
+
+class Settings(NamedTuple):
+    """The numbers that a job is given."""
+
+    rounds: int = 4
+    depth: int = MOST_DEPTH
+    workers: int = 4
+    pace: Optional[int] = None  # Microseconds of a slot; at line pace where it is None.
+
+
+class Planned(NamedTuple):
+    """A packet of a port's plan: its cells, its arrival slot, what it is, its fan-out and its level."""
+
+    packet: Packet
+    cells: int
+    arrival: int
+    what: str
+    fan: Ports
+    level: int
+
+    def kind(self) -> int:
+        """Unicast or multicast, of a packet that has a route."""
+        return UNICAST if len(self.fan) == 1 else MULTICAST
+
+
+class Plan(NamedTuple):
+    """What a run is made of. The cards have the packets of each port; `slots` are the most arrival slots of a port, and
+    `cells` the cells of all routed packets, counted at each output."""
+
+    ports: int
+    rounds: int
+    depth: int
+    is_nano: bool
+    link: int
+    cards: List[List[Planned]]
+    slots: int
+    cells: int
+
+
+def arrivals_of(stamps: Iterable[Tuple[int, int]], pace: Optional[int] = None, base: int = 0) -> List[int]:
+    """The arrival slots of a port's packets, given as times and cells: a packet comes one cell a slot, after the packet
+    before it, and at a pace not before the slot of its time."""
+    arrivals: List[int] = []
+    free = 0  # The slot after the last arrival.
+    for time, cells in stamps:
+        start = free if pace is None else max((time - base) // (1_000 * pace), free)
+        free = start + cells
+        arrivals.append(free - 1)
+    return arrivals
+
+
+def slots_of(arrivals: Sequence[int]) -> int:
+    """How many arrival slots a port has."""
+    return arrivals[-1] + 1 if arrivals else 0
+
+
+def most_for(ports: int, most: int) -> int:
+    """A limit for a switch of so many ports."""
+    return most // 2 if ports > 32 else most
+
+
+def plan_files(settings: Settings, text: bytes, files: Sequence[bytes]) -> Plan:
+    """The plan of a table and captures, as files; or the first refusal, raised."""
+    try:
+        lines = read_table(text, len(files))
+    except Fault as fault:
+        raise Refusal(4, fault.text(table.FAULT_LINES)) from None
+    read = [read_input(port, data) for port, data in enumerate(files)]
+    for capture in read:
+        if capture.link != read[0].link:
+            raise Refusal(4, f"link types {read[0].link} and {capture.link}")
+    return plan(settings, lines, read)
+
+
+def read_input(port: int, data: bytes) -> Capture:
+    """The capture of a port."""
+    try:
+        return captures.read_capture(data)
+    except Fault as fault:
+        raise Refusal(4, fault.text(captures.FAULT_LINES, port=port)) from None
+
+
+def plan(settings: Settings, lines: List[Line], read: Sequence[Capture]) -> Plan:
+    """The plan of a table and captures; or the refusal of too many slots or cells, raised."""
+    ports = len(read)
+    base = min((packet.time() for capture in read for packet in capture.packets), default=0)
+    arrivals = [arrivals_at(settings, capture, base) for capture in read]
+    for port, slots in enumerate(map(slots_of, arrivals)):
+        if slots > most_for(ports, MOST_SLOTS):
+            raise Refusal(4, f"too many slots: port {port} has {slots}")
+    route = lru_cache(maxsize=None)(lambda address: route_of(lines, address))  # Many packets have the same address.
+    cards = [plan_card(route, capture, slots) for capture, slots in zip(read, arrivals)]
+    cells = sum(planned.cells * len(planned.fan) for card in cards for planned in card)
+    if cells > most_for(ports, MOST_CELLS):
+        raise Refusal(4, f"too many cells: {cells}")
+    is_nano = any(capture.is_nano for capture in read)
+    most = max(map(slots_of, arrivals))
+    return Plan(ports, settings.rounds, settings.depth, is_nano, read[0].link, cards, most, cells)
+
+
+def arrivals_at(settings: Settings, capture: Capture, base: int) -> List[int]:
+    """The arrival slots of a capture; oversize packets and those without a route count too."""
+    stamps = [(packet.time(), cells_of(len(packet.data))) for packet in capture.packets]
+    return arrivals_of(stamps, settings.pace, base)
+
+
+def plan_card(route: Router, capture: Capture, arrivals: Sequence[int]) -> List[Planned]:
+    """The planned packets of a port."""
+    return [plan_packet(route, capture.link, packet, slot) for packet, slot in zip(capture.packets, arrivals)]
+
+
+def plan_packet(route: Router, link: int, packet: Packet, arrival: int) -> Planned:
+    """A packet with its route."""
+    cells = cells_of(len(packet.data))
+    if len(packet.data) > MOST_FORWARDED:
+        return Planned(packet, cells, arrival, OVERSIZE, NO_PORTS, 0)
+    found = route(destination(link, packet.data))
+    if found is None:
+        return Planned(packet, cells, arrival, UNROUTED, NO_PORTS, 0)
+    return Planned(packet, cells, arrival, ROUTED, found.fan, found.level)
