@@ -8,9 +8,10 @@ WIDTH = 100
 
 
 def blocks_of(text):
-    """The title, and the blocks of a page in order: each a heading, a paragraph, a table or a block of text."""
+    """The title, and the blocks of a page in order: each a heading, a paragraph, a table or a block of text, in its lines;
+    those of a paragraph, which end where a sentence does, are one."""
     title, *blocks = re.split(r"\n\n(?=\S)", text.strip())
-    return title, [block.split("\n") for block in blocks]
+    return title, [block.split("\n") if block.startswith(("#", "|", "```")) else [block.replace("\n", " ")] for block in blocks]
 
 
 def section(blocks, title):

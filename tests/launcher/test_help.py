@@ -67,6 +67,14 @@ class Help(Scene):
         self.assertEqual(self.launch("--version").stdout, f"tiny_tera {VERSION} (v7-dirty)\n{none.format('nothing is stored in release/')}\n")
 
 
+class Page(unittest.TestCase):
+    def test_lines_of_blocks(self):
+        """Lines end where sentences do; a paragraph is one, and tables and blocks of text keep theirs."""
+        title, blocks = blocks_of("# a: b\n\nOne.\nTwo.\n\n| c |\n|---|\n\n```text\nd\ne\n```\n\n## F\n\nThree.\n")
+        self.assertEqual((title, blocks[:2]), ("# a: b", [["One. Two."], ["| c |", "|---|"]]))
+        self.assertEqual(blocks[2:], [["```text", "d", "e", "```"], ["## F"], ["Three."]])
+
+
 class Words(unittest.TestCase):
     def test_table_of_options(self):
         """docs/USAGE.md has the options of the launcher's table, with their ranges and who takes them, and no other."""
