@@ -7,7 +7,7 @@ from typing import NamedTuple
 
 from .builds import INSTALLED, LIBRARY, PROGRAM, Build
 from .place import Place, cache_folder
-from .release import FOLDER, STATEMENT, Fault, OtherSources, unpack
+from .release import FOLDER, STATEMENT, Fault, unpack
 
 # Where each kind is built in a checkout, and where the stored ones are unpacked.
 MADE = {PROGRAM: ("crates", "tiny_tera", "out"), LIBRARY: ("out",)}
