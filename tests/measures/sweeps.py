@@ -86,9 +86,10 @@ class Words(unittest.TestCase):
         self.assertEqual((progress.done, progress.total), (1, 2))
         self.assertEqual(progress.read("Trying to restart job 1."), "a/x.json")
         self.assertEqual((progress.has_failed, progress.causes), (False, {}))
-        for line in ("tools/delays: a/x.report: no packet came\n", "Error in rule run:", "tools/delays: a/x.report: no packet came\n"):
+        causes = ["run_result: a/x.report: no packet came\n", "tools/traffic: b/traffic is not empty\n", "tiny_tera: it is not built\n"]
+        for line in (*causes, "Error in rule run:", *causes):
             self.assertIsNone(progress.read(line))
-        self.assertEqual((progress.has_failed, list(progress.causes)), (True, ["tools/delays: a/x.report: no packet came"]))
+        self.assertEqual((progress.has_failed, list(progress.causes)), (True, [it.partition(": ")[2].rstrip("\n") for it in causes]))
 
     @unittest.skipIf(lacks("tqdm"), lacks("tqdm"))
     def test_end_without_a_failed_job_is_that_of_snakemake(self):
@@ -152,7 +153,7 @@ class Sweeps(unittest.TestCase):
         few = ["--kinds", "uniform", "--loads", "0.00001", "--rounds", "1", "--seeds", "1-5", "--slots", "20", "--cores", "2"]
         status, told = run(*self.words, *few)
         lines = [line for line in told.splitlines() if "is tried again" not in line]
-        cause = "tools/sweep: a job failed: tools/delays: uniform-ports-4-load-0.00001-seed-{}/islip-rounds-1.report: no packet came in the measured slots"
+        cause = "tools/sweep: a job failed: uniform-ports-4-load-0.00001-seed-{}/islip-rounds-1.report: no packet came in the measured slots"
         self.assertEqual((status, len(lines)), (1, 5), told)
         self.assertTrue(set(lines[:3]) <= {cause.format(seed) for seed in range(1, 6)}, told)
         last = f"tools/sweep: 0 of 5 runs are done, and a job failed twice: {self.folder / 'snakemake.log'}; the same command goes on"

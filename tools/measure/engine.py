@@ -15,7 +15,7 @@ JOB = re.compile(r"    (jobid|output): (.*)")
 FINISHED = re.compile(r"Finished job (\d+)\.")
 AGAIN = re.compile(r"Trying to restart job (\d+)\.")
 FAILED = re.compile(r"Error in (?:rule|group) ")
-CAUSE = re.compile(r"tools/\w+: |tiny_tera: ")
+CAUSE = re.compile(r"(?:tools/\w+|run_result|tiny_tera): (.*)")
 COUNT = re.compile(r"run +(\d+)\b")
 PATIENCE = 60  # Seconds in which the jobs under way may end after an interrupt.
 
@@ -56,8 +56,8 @@ class Progress:
             self.done += self.jobs.get(found[1], (None, None))[0] == "run"
         elif FAILED.match(line):
             self.has_failed = True
-        elif CAUSE.match(line):
-            self.causes[line.rstrip("\n")] = None
+        elif found := CAUSE.match(line):
+            self.causes[found[1]] = None
         elif found := AGAIN.match(line):
             return self.jobs.get(found[1], (None, "a job"))[1]
         return None
