@@ -177,7 +177,8 @@ class Figures(unittest.TestCase):
         with tempfile.TemporaryDirectory() as name:
             report_file = Path(name, "one.report")
             bare = REPORT[:REPORT.index("slot 0")]
-            queues = "".join(f"queue 0>{output}:{level}u packets 1 dropped 0 cells 1 peak 1 slot 0\n" for output in range(9) for level in range(4))
+            names = [f"{card}>{output}:{level}u" for card in range(3) for output in range(3) for level in range(4)]
+            queues = "".join(f"queue {queue} packets 1 dropped 0 cells 1 peak 1 slot 0\n" for queue in names)
             report_file.write_text(f"{bare}{queues}deepest 1\n")
             status, told = run(TOOLS / "plot", report_file)
             self.assertEqual((status, sorted(path.name for path in Path(name).glob("*.png"))), (0, ["one.queues.png"]), told)
