@@ -2,12 +2,16 @@
 
 import hashlib
 import os
+import re
+import shlex
 import shutil
 import subprocess
+import sys
+from pathlib import Path
 
 from launcher.version import VERSION
 
-from .scene import KIT, NO_TOOLCHAIN, Scene, python
+from .scene import KIT, LIBRARY, NO_TOOLCHAIN, TOP, Scene, python, run_here
 
 
 class Install(Scene):
@@ -16,6 +20,23 @@ class Install(Scene):
     def setUp(self):
         super().setUp()
         self.prefix = self.room / "pre fix"
+
+    def copy_all(self):
+        """Has in the clone what is installed beside the program."""
+        ignored = shutil.ignore_patterns("__pycache__")
+        for name in ("tools", "python", "examples"):
+            shutil.copytree(TOP / name, self.top / name, ignore=ignored, dirs_exist_ok=True)
+
+    def run_tool(self, name, *words):
+        """An installed tool, by its name in bin, without a toolchain, in another folder."""
+        variables = {**self.variables, "PATH": self.PATH}
+        ended = run_here([self.prefix / f"bin/tiny_tera-{name}", *words], cwd=self.jobs, env=variables)
+        self.assertEqual((ended.returncode, ended.stderr), (0, ""))
+        return ended.stdout
+
+    def installed_files(self):
+        """The names of all that is in the prefix but folders."""
+        return {str(it.relative_to(self.prefix)) for it in self.prefix.rglob("*") if it.is_symlink() or not it.is_dir()}
 
     def install(self, **variables):
         return python(self.top / "tools/install", self.prefix, env={**self.variables, **variables})
@@ -54,6 +75,69 @@ class Install(Scene):
         self.assertEqual(self.started("--version").stdout.splitlines()[1], f"proved with {KIT}")
         for word in ("--prove", "--library"):
             self.assertEqual(self.started(word).returncode, 2)
+
+    def test_tools(self):
+        """The tools for users are there by names of their own, and find their modules through the links."""
+        self.build()
+        self.copy_all()
+        self.assertEqual(self.install().returncode, 0)
+        tools = {it.name for it in (TOP / "tools").iterdir() if it.is_file()} - {"install", "README.md"}
+        shutil.rmtree(self.top)
+        programs = self.prefix / "bin"
+        names = {"tiny_tera", *(f"tiny_tera-{name}" for name in tools)}
+        self.assertEqual({it.name for it in programs.iterdir()}, names)
+        for link in programs.iterdir():
+            self.assertTrue(os.access(link, os.X_OK) and not os.path.isabs(os.readlink(link)), link)
+        self.run_tool("traffic", "made", "--ports", "2", "--slots", "4", "--load", "1")
+        told = self.run_tool("unrouted", "made/table.txt", "made/00.pcap", "made/01.pcap")
+        self.assertEqual(told, "unrouted 0 of 8 packets\n")
+        told = self.run_tool("split", "made/00.pcap", "parts", "10.1.0.0/24").splitlines()
+        self.assertEqual(told[0], "port 0: 4 packets, 10.1.0.0/24: parts/00.pcap")
+        self.assertIn(f"{self.prefix}/lib/tiny_tera/tiny_tera' run parts/table.txt", told[-1])
+
+    def test_package_and_examples(self):
+        """The package has the library beside it where one is there, and the examples run the program there."""
+        self.store()
+        self.copy_all()
+        self.assertEqual(self.install(PATH=self.PATH).returncode, 0)
+        shutil.rmtree(self.top)
+        package = self.prefix / "lib/tiny_tera/python"
+        words = [sys.executable, "-c", "import tiny_tera.report; print(tiny_tera.report.__file__)"]
+        told = run_here(words, cwd=self.jobs, env={**self.variables, "PYTHONPATH": str(package)}).stdout
+        self.assertEqual(told, f"{package}/tiny_tera/report.py\n")
+        self.assertEqual((package / "tiny_tera/libtiny_tera.so").read_bytes(), LIBRARY["libtiny_tera.so"])
+        examples = self.prefix / "share/tiny_tera/examples"
+        self.assertTrue(os.access(examples / "run", os.X_OK))
+        name = "small_network/a.pcap"
+        self.assertEqual((examples / name).read_bytes(), (TOP / "examples" / name).read_bytes())
+        variables = {**self.variables, "PATH": self.PATH}
+        ended = run_here([examples / "small_network/../../tiny_tera", "gen", "1", "2", "2"], env=variables)
+        self.assertEqual((ended.returncode, ended.stdout), (0, "summary\n"))
+        self.assertFalse([name for name in self.installed_files() if "tests" in Path(name).parts])
+
+    def test_again_and_removed(self):
+        """What an older version left goes, other files stay; the page's command removes all, which is below 3 MB."""
+        self.build()
+        self.copy_all()
+        self.install()
+        known = self.installed_files()
+        self.write_there("lib/tiny_tera/tools/old", "lib/tiny_tera/python/tiny_tera/old.py")
+        self.write_there("share/tiny_tera/examples/old/a.pcap", "bin/tiny_tera-mine")
+        (self.prefix / "bin/tiny_tera-old").symlink_to("../lib/tiny_tera/tools/old")
+        self.install()
+        self.assertEqual(self.installed_files(), {*known, "bin/tiny_tera-mine"})
+        (self.prefix / "bin/tiny_tera-mine").unlink()
+        self.assertLess(sum((self.prefix / name).lstat().st_size for name in known), 3_000_000)
+        command = re.search(r"`(rm -r PREFIX/.*?)`", (TOP / "docs/USAGE.md").read_text())[1]
+        quoted = command.replace("PREFIX", shlex.quote(str(self.prefix)))
+        self.assertEqual(subprocess.run(["sh", "-c", quoted]).returncode, 0)
+        self.assertEqual(self.installed_files(), set())
+
+    def write_there(self, *names):
+        """Files that are not of this installation."""
+        for name in names:
+            (self.prefix / name).parent.mkdir(parents=True, exist_ok=True)
+            (self.prefix / name).write_text("another\n")
 
     def test_copied(self):
         """The installed folder is copied to another place, with new times."""

@@ -5,7 +5,7 @@ import textwrap
 from pathlib import Path
 from typing import NamedTuple
 
-from launcher.place import git_words
+from launcher.place import Place, git_words
 
 TOP = Path(__file__).resolve().parent.parent.parent
 UNKNOWN = "unknown"
@@ -47,7 +47,11 @@ def read_lines(lines):
 
 
 def commit():
-    """The commit of the repository, with a + where tracked code differs from it; `unknown` without git."""
+    """The commit of the repository, with a + where tracked code differs from it; `unknown` without git. What is
+    installed has its version, whatever repository it may stand in."""
+    place = Place(str(TOP))
+    if place.is_installed:
+        return place.version()
     try:
         name = _git("rev-parse", "--short=12", "HEAD")
         changed = _git("status", "--porcelain", "--untracked-files=no", "--", *CODE)
