@@ -55,6 +55,8 @@ class Delays(unittest.TestCase):
         Path(f"{self.prefix}.report").write_text(REPORT)
         for name in (self.prefix, f"{self.prefix}.report", f"{self.prefix}.packets.csv"):
             self.assertEqual(run_here("delays", name), (0, TOLD))
+        Path(f"{self.prefix}.report.packets.csv").write_text(PACKETS[:PACKETS.index("1,0")])
+        self.assertIn("all          2 ", run_here("delays", f"{self.prefix}.report")[1])
 
     def test_shares(self):
         """Of the delays 1 to 1,000 half are at most 500, and 99 and 99.9 per cent at most 990 and 999."""

@@ -12,10 +12,9 @@ LONG_LINES = ("queue ", "deepest ", "slot ", "reference ")  # Of a report, behin
 
 def prefix_of(name):
     """The PREFIX of a run, by itself or by one of its two files."""
-    for suffix in (REPORT, PACKETS):
-        if name.endswith(suffix):
-            return name[:-len(suffix)]
-    return name
+    is_prefix = any(Path(f"{name}{suffix}").exists() for suffix in (REPORT, PACKETS))
+    suffix = next((it for it in (REPORT, PACKETS) if name.endswith(it)), "")
+    return name if is_prefix or not suffix else name[:-len(suffix)]
 
 
 def packets_of_run(name):
