@@ -30,7 +30,7 @@ class Page(Viewer):
     def only(self, *pairs):
         """Asks for these pairs alone."""
         self.set("pattern", "none")
-        self.run("arguments[0].forEach(([input, output]) => SlotViewer.playground.toggle(input, output))", pairs)
+        self.run("arguments[0].forEach(([input, output]) => SlotViewer.playground.click(input, output))", pairs)
 
     def slots(self):
         """The matches so far, the first slot first, as the page lists them."""
@@ -51,7 +51,7 @@ def test_full_load(page):
     page.push("many")
     expect(len(page.slots()) == 24 and page.text("history-line").startswith("24 decided"), page.text("history-line"))
     page.push("again")
-    expect(page.slots() == [] and page.text("slot-title") == "No slot yet", "begun again")
+    expect(page.slots() == [] and page.text("slot-title") == "Slot 0, not decided yet: 9 requests", page.text("slot-title"))
     page.shoot("full_load")
 
 
@@ -83,7 +83,7 @@ def test_rules(page):
 def test_requests(page):
     """Patterns, clicks and keys; and requests that go off when they are served."""
     page.load()
-    count = "return SlotViewer.playground.model.requests.reduce((sum, one) => sum + one, 0)"
+    count = "return SlotViewer.playground.model.cells.reduce((sum, one) => sum + one, 0)"
     page.set("ports", 5)
     for pattern, wanted in (("full", 25), ("diagonal", 5), ("hot", 5), ("none", 0)):
         page.set("pattern", pattern)
@@ -93,11 +93,11 @@ def test_requests(page):
     cell = (width - 36) / 5
     offset = [round(34 + port * cell + cell / 2 - width / 2) for port in (3, 1)]
     page.actions(page.driver).move_to_element_with_offset(frame, *offset).click().perform()
-    expect(page.text("crosspoint") == "Input 1, output 3: is asked.", page.text("crosspoint"))
+    expect(page.text("crosspoint") == "Input 1, output 3, slot 0: asked.", page.text("crosspoint"))
     for key in (RIGHT, DOWN, " "):
         page.press("crossbar", key)
-    expect(page.text("crosspoint") == "Input 2, output 4: is asked.", page.text("crosspoint"))
-    page.run("document.getElementById('goes-off').click()")
+    expect(page.text("crosspoint") == "Input 2, output 4, slot 0: asked.", page.text("crosspoint"))
+    page.set("queues", "cells")
     page.push("step")
     page.push("step")
     expect(page.slots() == ["1>3, 2>4", "none"] and page.run(count) == 0, f"{page.slots()}")
@@ -128,23 +128,19 @@ def test_page(page):
 # The same requests, clicked from slot to slot at random, decided by both.
 BOTH = """
 const [module, kinds] = [SlotViewer.playground.model.module, SlotViewer.Playground];
-const told = (model) => JSON.stringify(model.history.map(({ rounds, inputs, after }) =>
-    [rounds, [...inputs], [...after.grant], [...after.accept]]));
+const finish = (generator) => { let step; do { step = generator.next(); } while (!step.done); return step.value; };
+const told = (model) => JSON.stringify(model.history.map((done) =>
+    [finish(SlotViewer.findRounds(model, done)), done.used, [...done.inputs], [...done.after.grant], [...done.after.accept]]));
 const differing = [];
 for (let run = 0; run < 40; run += 1) {
-    const models = [new kinds(module), new kinds(null)];
     const rules = SlotViewer.SCHEDULERS.map(({ name }) => name);
-    models.forEach((model) => {
-        model.resize(1 + run % 9);
-        model.setRounds(1 + run % 4);
-        model.setRule(rules[run % rules.length]);
-        model.load("none");
-    });
+    const settings = { ports: 1 + run % 9, rounds: 1 + run % 4, rule: rules[run % rules.length] };
+    const models = [module, null].map((decider) => new kinds(decider, settings));
     for (let slot = 0; slot < 10; slot += 1) {
         const { ports } = models[0];
         for (let click = 0; click < ports * ports / 2; click += 1) {
             const [input, output] = [Math.random(), Math.random()].map((share) => Math.floor(share * ports));
-            models.forEach((model) => model.toggle(input, output));
+            models.forEach((model) => model.click(input, output));
         }
         models.forEach((model) => model.step());
     }

@@ -2,24 +2,37 @@
 (function (viewer) {
     "use strict";
 
-    const MOST_PIXELS = 640;
-    const MOST_CELL = 60;
+    const MOST_CELL = 180;
     const LEAST_CELL = 11;
+    const LEAST_HEIGHT = 280;
     const MARGIN = 34;
-    /** From so many pixels on a crosspoint has room for the number of a round. */
+    /** Below the crossbar stands what is told of a crosspoint. */
+    const FOOT = 56;
+    /** From so many pixels on a crosspoint has room for the number of a round, and for those of its queue. */
     const TEXT_CELL = 22;
+    const QUEUE_CELL = 34;
+    const MOST_FONT = 20;
+    const LEAST_FONT = 11;
+    const ROUND_FONT = 14;
+    /** The tint of a request is the strongest from so many slots on. */
+    const LONG_WAIT = 64;
 
     class Grid {
-        /** `onToggle` is told the input and output of a crosspoint that is clicked, or chosen by the keyboard. */
-        constructor(frame, onToggle, onLook) {
-            this.onToggle = onToggle;
+        /**
+         * `onClick` is told the input and output of a crosspoint that is clicked, or chosen by the keyboard, and whether a cell is
+         * taken, with the shift or the delete key; `onLook` where the mouse or the keyboard is.
+         */
+        constructor(frame, onClick, onLook) {
+            this.frame = frame;
+            this.onClick = onClick;
             this.onLook = onLook;
             this.cursor = { input: 0, output: 0 };
             this.svg = d3.select(frame).append("svg").attr("id", "crossbar").attr("tabindex", 0)
                 .attr("role", "application").attr("aria-roledescription", "crossbar").attr("aria-describedby", "crosspoint");
-            this.layers = ["cells", "labels", "grants", "pairs", "pointers", "cursor"]
+            this.layers = ["cells", "labels", "queues", "grants", "pairs", "pointers", "cursor"]
                 .reduce((layers, name) => ({ ...layers, [name]: this.svg.append("g").attr("class", name) }), {});
-            this.svg.on("click", () => this.click(d3.mouse(this.svg.node())));
+            this.svg.on("click", () => this.click(this.pointed(), d3.event.shiftKey));
+            this.svg.on("mousemove", () => this.look(this.pointed()));
             this.svg.on("keydown", () => this.press(d3.event));
         }
 
@@ -32,12 +45,22 @@
             return this.edge(port) + this.cell / 2;
         }
 
-        click([x, y]) {
-            const at = (pixel) => Math.floor((pixel - MARGIN) / this.cell);
-            const [output, input] = [at(x), at(y)];
-            if (Math.min(input, output) >= 0 && Math.max(input, output) < this.ports) {
-                this.cursor = { input, output };
-                this.onToggle(input, output);
+        /** The crosspoint at the mouse pointer, or null. */
+        pointed() {
+            const [output, input] = d3.mouse(this.svg.node()).map((pixel) => Math.floor((pixel - MARGIN) / this.cell));
+            return Math.min(input, output) >= 0 && Math.max(input, output) < this.ports ? { input, output } : null;
+        }
+
+        click(crosspoint, isLess) {
+            if (crosspoint !== null) {
+                this.cursor = crosspoint;
+                this.onClick(crosspoint.input, crosspoint.output, isLess);
+            }
+        }
+
+        look(crosspoint) {
+            if (crosspoint !== null) {
+                this.onLook(crosspoint.input, crosspoint.output);
             }
         }
 
@@ -49,8 +72,8 @@
                 this.cursor = { input: within(this.cursor.input + down), output: within(this.cursor.output + right) };
                 this.drawCursor();
                 this.onLook(this.cursor.input, this.cursor.output);
-            } else if (event.key === " " || event.key === "Enter") {
-                this.onToggle(this.cursor.input, this.cursor.output);
+            } else if ([" ", "Enter", "Delete", "Backspace"].includes(event.key)) {
+                this.click(this.cursor, event.shiftKey || event.key === "Delete" || event.key === "Backspace");
             } else {
                 return;
             }
@@ -58,23 +81,38 @@
             event.stopPropagation();
         }
 
-        /** Draws the requests, what was done in a slot or null, and pointers or null. */
-        draw({ ports, requests, done, pointers }) {
+        /** The side of a crosspoint, from the width of the frame and the height that is left of the window. */
+        side(ports) {
+            const top = this.frame.getBoundingClientRect().top + window.scrollY;
+            const isNarrow = window.matchMedia("(max-width: 60rem)").matches;
+            const height = isNarrow ? window.innerHeight : window.innerHeight - top - FOOT;
+            const room = Math.min(this.frame.clientWidth, Math.max(LEAST_HEIGHT, height)) - MARGIN - 2;
+            return Math.max(LEAST_CELL, Math.min(MOST_CELL, Math.floor(room / ports)));
+        }
+
+        /**
+         * Draws the queues of a slot, by place with their cells and waits, what was done in it or null, and pointers or null;
+         * `isCounted` says whether the cells are told.
+         */
+        draw({ ports, queues, isCounted, done, pointers }) {
             this.ports = ports;
-            this.cell = Math.max(LEAST_CELL, Math.min(MOST_CELL, Math.floor(MOST_PIXELS / ports)));
+            this.cell = this.side(ports);
             const size = MARGIN + ports * this.cell + 2;
             this.svg.attr("width", size).attr("height", size).attr("aria-label", `Crossbar of ${ports} inputs and ${ports} outputs`);
-            this.drawCells(requests);
+            this.drawCells(queues);
             this.drawLabels();
+            this.drawQueues(queues, isCounted);
             this.drawGrants(done === null ? [] : refusedGrants(done));
             this.drawPairs(done === null ? [] : matchedPairs(done));
             this.drawPointers(pointers);
             this.drawCursor();
         }
 
-        drawCells(requests) {
-            this.layers.cells.selectAll("rect").data(requests).join("rect")
-                .attr("class", (asked) => (asked ? "asked" : "idle"))
+        drawCells(queues) {
+            const age = d3.scaleSymlog().domain([0, LONG_WAIT]).clamp(true);
+            this.layers.cells.selectAll("rect").data(queues).join("rect")
+                .attr("class", ({ cells }) => (cells > 0 ? "asked" : "idle"))
+                .style("--age", ({ wait }) => age(wait))
                 .attr("x", (_, at) => this.edge(at % this.ports)).attr("y", (_, at) => this.edge(Math.floor(at / this.ports)))
                 .attr("width", this.cell).attr("height", this.cell);
         }
@@ -89,16 +127,37 @@
                 .attr("text-anchor", ({ anchor }) => anchor).text(({ text }) => text);
         }
 
+        /** Beside a crosspoint: above for how many slots its queue has waited, below how many cells are in it. */
+        drawQueues(queues, isCounted) {
+            const font = Math.max(LEAST_FONT, Math.min(MOST_FONT, Math.round(0.2 * this.cell)));
+            const told = queues.flatMap(({ cells, wait }, at) => {
+                const [input, output] = [Math.floor(at / this.ports), at % this.ports];
+                const x = this.edge(output) + 3;
+                return [
+                    { kind: "wait", text: wait, x, y: this.edge(input) + font, isTold: wait > 0 },
+                    { kind: "cells", text: `${cells}▮`, x, y: this.edge(input) + this.cell - 4, isTold: isCounted && cells > 0 },
+                ].filter(({ isTold }) => isTold);
+            });
+            this.layers.queues.selectAll("text").data(this.cell >= QUEUE_CELL ? told : []).join("text")
+                .attr("class", ({ kind }) => kind).attr("x", ({ x }) => x).attr("y", ({ y }) => y).attr("font-size", font)
+                .text(({ text }) => text);
+        }
+
         drawGrants(grants) {
             this.layers.grants.selectAll("circle").data(grants).join("circle")
-                .attr("cx", ({ output }) => this.middle(output)).attr("cy", ({ input }) => this.middle(input)).attr("r", 0.36 * this.cell);
+                .attr("cx", ({ output }) => this.middle(output)).attr("cy", ({ input }) => this.middle(input)).attr("r", this.radius);
+        }
+
+        get radius() {
+            return (this.cell >= QUEUE_CELL ? 0.27 : 0.36) * this.cell;
         }
 
         drawPairs(pairs) {
             this.layers.pairs.selectAll("circle").data(pairs).join("circle")
-                .attr("cx", ({ output }) => this.middle(output)).attr("cy", ({ input }) => this.middle(input)).attr("r", 0.36 * this.cell);
+                .attr("cx", ({ output }) => this.middle(output)).attr("cy", ({ input }) => this.middle(input)).attr("r", this.radius);
             this.layers.pairs.selectAll("text").data(this.cell >= TEXT_CELL ? pairs : []).join("text")
-                .attr("x", ({ output }) => this.middle(output)).attr("y", ({ input }) => this.middle(input) + 5)
+                .attr("x", ({ output }) => this.middle(output)).attr("y", ({ input }) => this.middle(input))
+                .attr("dominant-baseline", "central").attr("font-size", Math.max(ROUND_FONT, Math.round(0.22 * this.cell)))
                 .attr("text-anchor", "middle").text(({ round }) => round);
         }
 
@@ -124,14 +183,17 @@
         }
     }
 
-    /** The matched pairs of a slot, each with the number of its round. */
-    function matchedPairs({ rounds }) {
+    /** The matched pairs of a slot, each with the number of its round, "" while that is not known. */
+    function matchedPairs({ rounds, inputs }) {
+        if (rounds === null) {
+            return viewer.pairsOfInputs(inputs).map((pair) => ({ ...pair, round: "" }));
+        }
         return rounds.flatMap(({ accepts }, at) => accepts.map((pair) => ({ ...pair, round: at + 1 })));
     }
 
-    /** The grants of a slot that no input accepted. */
+    /** The grants of a slot that no input accepted, as far as they are known. */
     function refusedGrants({ rounds, inputs }) {
-        return rounds.flatMap(({ grants }) => grants).filter(({ input, output }) => inputs[output] !== input);
+        return (rounds || []).flatMap(({ grants }) => grants).filter(({ input, output }) => inputs[output] !== input);
     }
 
     viewer.matchedPairs = matchedPairs;

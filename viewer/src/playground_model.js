@@ -4,146 +4,220 @@
 
     const { Rows, Pointers, UNICAST, FREE, MAX_PORTS, MAX_ROUNDS, makeScheduler } = viewer;
 
-    /** Which requests a pattern has, by input and output. */
-    const PATTERNS = {
-        full: { title: "all queues full", asks: () => true },
-        diagonal: { title: "diagonal", asks: (input, output) => input === output },
-        hot: { title: "one hot output", asks: (input, output) => output === 0 },
-        random: { title: "random, one half", asks: () => Math.random() < 0.5 },
-        none: { title: "none", asks: () => false },
-    };
+    /** So many slots are kept at most, and so many cells in a queue. */
+    const MOST_SLOTS = 2000;
+    const MOST_CELLS = 9999;
+
+    /** What a queue does when it is served: it never runs empty, or it gives one of its cells. */
+    const QUEUES = [
+        { name: "endless", title: "never run empty" },
+        { name: "cells", title: "hold cells" },
+    ];
+
+    const NO_SCRIPT = { lines: [], again: null };
 
     function clamp(number, most) {
         return Math.min(most, Math.max(1, Math.trunc(number) || 1));
     }
 
+    function pointersOf(ports, { grant, accept }) {
+        const pointers = new Pointers(ports);
+        pointers.grant.set(grant);
+        pointers.accept.set(accept);
+        return pointers;
+    }
+
     class Playground {
-        /** `module` is what loadModule() gave. */
-        constructor(module) {
+        /**
+         * `module` is what loadModule() gave. The settings: ports, rounds, the name `rule` of a scheduler, the name `queues` of
+         * what a queue does, the pointers `begin` of level 0 before slot 0, and `script`: the requests of the first slots, each a
+         * list of places, and the line from which they come again, or null.
+         */
+        constructor(module, { ports = 4, rounds = 1, rule = "islip", queues = "endless", begin = null, script = NO_SCRIPT } = {}) {
             this.module = module;
-            this.rule = "islip";
-            this.rounds = 1;
-            /** Whether a request goes off when it is served; else its queue never runs empty. */
-            this.goesOff = false;
-            this.resize(4);
-            this.load("full");
-        }
-
-        resize(ports) {
             this.ports = clamp(ports, MAX_PORTS);
-            /** By input and output: 1 where the input asks the output. */
-            this.requests = new Uint8Array(this.ports * this.ports);
-            this.restart();
-        }
-
-        setRounds(rounds) {
             this.rounds = clamp(rounds, MAX_ROUNDS);
-            this.restart();
-        }
-
-        setRule(rule) {
             this.rule = rule;
-            this.restart();
-        }
-
-        /** All pointers at port 0, before slot 0. */
-        restart() {
-            this.pointers = new Pointers(this.ports);
+            this.queues = queues;
+            const zeros = new Array(this.ports).fill(0);
+            this.begin = begin === null ? { grant: zeros, accept: zeros } : begin;
+            this.script = script;
+            this.scheduler = makeScheduler(module, this.ports, this.rounds, rule);
+            this.pointers = pointersOf(this.ports, this.begin);
             /** What each slot did, as step() answers it. */
             this.history = [];
+            /** By place the cells that wait before the next slot; of a queue that never runs empty 1, if it asks. */
+            this.cells = new Uint16Array(this.ports * this.ports);
+            this.beginSlot();
+        }
+
+        /** One with other settings and no slots. */
+        like(changes) {
+            const { ports, rounds, rule, queues, begin, script } = this;
+            return new Playground(this.module, { ports, rounds, rule, queues, begin, script, ...changes });
+        }
+
+        get slot() {
+            return this.history.length;
+        }
+
+        /** The slot that was decided last, or null. */
+        get last() {
+            return this.history.length === 0 ? null : this.history[this.history.length - 1];
+        }
+
+        get isFull() {
+            return this.history.length >= MOST_SLOTS;
+        }
+
+        place(input, output) {
+            return input * this.ports + output;
         }
 
         asks(input, output) {
-            return this.requests[input * this.ports + output] === 1;
+            return this.cells[this.place(input, output)] > 0;
         }
 
-        toggle(input, output) {
-            this.requests[input * this.ports + output] ^= 1;
+        /** For how many slots in a row, up to the last one, a queue that asks has waited. */
+        waited(place) {
+            return this.last === null || this.cells[place] === 0 ? 0 : this.last.waits[place];
         }
 
-        load(name) {
-            this.requests.forEach((_, at) => {
-                this.requests[at] = PATTERNS[name].asks(Math.floor(at / this.ports), at % this.ports) ? 1 : 0;
+        /** The line of the script for a slot, or null. */
+        lineOf(slot) {
+            const { lines, again } = this.script;
+            if (slot < lines.length) {
+                return lines[slot];
+            }
+            return again === null ? null : lines[again + (slot - again) % (lines.length - again)];
+        }
+
+        /** Begins the next slot: what its line of the script asks. Cells come on top of those that wait. */
+        beginSlot() {
+            const line = this.lineOf(this.slot);
+            /** By place what was changed by hand since. */
+            this.edits = new Map();
+            if (line === null) {
+                return;
+            }
+            if (this.queues === "endless") {
+                this.cells.fill(0);
+            }
+            line.forEach((place) => {
+                this.cells[place] = Math.min(MOST_CELLS, this.cells[place] + 1);
             });
         }
 
-        /** The rows of the requests that `isAsked` keeps. */
-        rows(isAsked = () => true) {
+        /** Adds cells to a queue, or takes some; for a queue that never runs empty it is asked, or not. */
+        change(place, by) {
+            const most = this.queues === "endless" ? 1 : MOST_CELLS;
+            const to = Math.max(0, Math.min(most, this.cells[place] + by));
+            const edit = (this.edits.get(place) || 0) + to - this.cells[place];
+            this.cells[place] = to;
+            if (edit === 0) {
+                this.edits.delete(place);
+            } else {
+                this.edits.set(place, edit);
+            }
+        }
+
+        /** What a click does: it turns a request, or puts a cell into the queue; `isLess` takes one. */
+        click(input, output, isLess = false) {
+            const place = this.place(input, output);
+            const isAsked = this.cells[place] > 0;
+            this.change(place, isLess || (this.queues === "endless" && isAsked) ? -1 : 1);
+        }
+
+        /** Asks for the places that `isAsked` names, and for no others; where queues hold cells each of them gets one. */
+        ask(isAsked) {
+            for (let place = 0; place < this.cells.length; place += 1) {
+                const more = isAsked(Math.floor(place / this.ports), place % this.ports) ? 1 : 0;
+                this.change(place, this.queues === "endless" ? more - this.cells[place] : more);
+            }
+        }
+
+        clear() {
+            this.cells.forEach((count, place) => this.change(place, -count));
+        }
+
+        /** The rows of what is asked. */
+        rowsOf(cells) {
             const rows = new Rows(this.ports);
             for (let input = 0; input < this.ports; input += 1) {
-                const place = rows.place(input, UNICAST, 0);
+                const start = rows.place(input, UNICAST, 0);
                 for (let output = 0; output < this.ports; output += 1) {
-                    if (this.asks(input, output) && isAsked(input, output)) {
-                        rows.words[place + (output >> 5)] |= 1 << (output & 31);
+                    if (cells[this.place(input, output)] > 0) {
+                        rows.words[start + (output >> 5)] |= 1 << (output & 31);
                     }
                 }
             }
             return rows;
         }
 
-        /** What the scheduler makes of these rows in so many rounds, from the pointers as they are; they stay. */
-        tried(rows, rounds) {
-            const made = makeScheduler(this.module, this.ports, rounds, this.rule);
+        /** Decides the next slot. What its rounds grant and accept is found by viewer.findRounds(), where it is asked for. */
+        step() {
+            const { scheduler, cells, slot } = this;
             const after = new Pointers(this.ports);
             after.copyFrom(this.pointers);
-            made.decide(this.history.length, rows, after);
-            return { made, after };
-        }
-
-        /** Decides the next slot. */
-        step() {
-            const { made, after } = this.tried(this.rows(), this.rounds);
+            scheduler.decide(slot, this.rowsOf(cells), after);
+            const inputs = scheduler.inputs.slice();
             const done = {
-                slot: this.history.length,
-                requests: this.requests.slice(),
-                rounds: this.roundsOf(),
-                inputs: made.inputs.slice(),
-                count: made.inputs.filter((input) => input !== FREE).length,
+                slot,
+                cells,
+                edits: this.edits,
+                inputs,
+                used: scheduler.used,
+                rounds: null,
+                count: inputs.filter((input) => input !== FREE).length,
+                waits: this.waitsAfter(inputs),
                 before: this.pointers,
                 after,
             };
             this.pointers = after;
             this.history.push(done);
-            if (this.goesOff) {
-                done.inputs.forEach((input, output) => {
-                    if (input !== FREE) {
-                        this.requests[input * this.ports + output] = 0;
-                    }
-                });
-            }
+            this.cells = this.cellsAfter(done);
+            this.beginSlot();
             return done;
         }
 
-        /**
-         * What each round of the next slot grants and accepts, up to the last that adds a pair. The match
-         * after a round is that of a slot with so many rounds.
-         */
-        roundsOf() {
-            const found = [];
-            let matched = new Uint8Array(this.ports).fill(FREE);
-            for (let round = 1; round <= this.rounds; round += 1) {
-                const inputs = this.tried(this.rows(), round).made.inputs;
-                const accepts = pairs(inputs).filter(({ output }) => matched[output] === FREE);
-                if (accepts.length === 0) {
-                    break;
-                }
-                found.push({ grants: this.grantsOf(matched), accepts });
-                matched = inputs;
-            }
-            return found;
+        waitsAfter(inputs) {
+            return this.cells.map((count, place) => {
+                const isServed = inputs[place % this.ports] === Math.floor(place / this.ports);
+                return count === 0 || isServed ? 0 : this.waited(place) + 1;
+            });
         }
 
-        /** What the free outputs grant. One that is asked alone, by the free inputs, feeds from the input that it grants. */
-        grantsOf(matched) {
-            const isFree = (input) => !matched.includes(input);
-            const grants = [];
-            for (let output = 0; output < this.ports; output += 1) {
-                if (matched[output] === FREE) {
-                    const alone = this.rows((input, other) => other === output && isFree(input));
-                    grants.push(...pairs(this.tried(alone, 1).made.inputs));
+        cellsAfter({ cells, inputs }) {
+            const left = cells.slice();
+            if (this.queues === "cells") {
+                pairs(inputs).forEach(({ input, output }) => {
+                    left[this.place(input, output)] -= 1;
+                });
+            }
+            return left;
+        }
+
+        /** Goes back to before the slot that was decided last, with what was asked in it. */
+        back() {
+            const { cells, edits, before } = this.history.pop();
+            Object.assign(this, { cells, edits, pointers: before });
+        }
+
+        /** A generator that decides slots with what was changed by hand before each, and then makes the last of these changes. */
+        * replay(edits) {
+            for (const [slot, changes] of edits.entries()) {
+                changes.forEach((by, place) => this.change(place, by));
+                if (slot < edits.length - 1) {
+                    this.step();
+                    yield slot / edits.length;
                 }
             }
-            return grants;
+            return this;
+        }
+
+        /** What was changed by hand before each slot, the next one too. */
+        allEdits() {
+            return this.history.map(({ edits }) => edits).concat(this.edits);
         }
     }
 
@@ -152,7 +226,5 @@
         return Array.from(inputs, (input, output) => ({ input, output })).filter(({ input }) => input !== FREE);
     }
 
-    viewer.PATTERNS = PATTERNS;
-    viewer.pairsOfInputs = pairs;
-    viewer.Playground = Playground;
+    Object.assign(viewer, { QUEUES, MOST_SLOTS, NO_SCRIPT, pairsOfInputs: pairs, Playground });
 })(globalThis.SlotViewer = globalThis.SlotViewer || {});

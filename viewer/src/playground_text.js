@@ -2,7 +2,7 @@
 (function (viewer) {
     "use strict";
 
-    const MOST_SLOTS = 200;
+    const MOST_SHOWN = 200;
 
     /** Fills an element with a table; a row is a list of texts. */
     function fillTable(id, name, heads, rows) {
@@ -11,6 +11,10 @@
             .selectAll("th").data(heads).join("th").attr("scope", "col").attr("class", "text").text((head) => head);
         table.selectAll("tbody").data([null]).join("tbody").selectAll("tr").data(rows).join("tr")
             .selectAll("td").data((row) => row).join("td").attr("class", "text").text((text) => text);
+    }
+
+    function counted(count, noun) {
+        return `${count} ${noun}${count === 1 ? "" : "s"}`;
     }
 
     function grantText({ input, output }) {
@@ -29,9 +33,9 @@
         return found.length === 0 ? "none" : found.map(text).join(", ");
     }
 
-    /** The rounds of a slot: which output grants which input, and which input takes which output. */
-    function showRounds(done) {
-        const rows = done.rounds.map(({ grants, accepts }, at) => [at + 1, listed(grants, grantText), listed(accepts, acceptText)]);
+    /** The rounds of a slot, null while they are not known: which output grants which input, and which input takes which output. */
+    function showRounds(rounds) {
+        const rows = (rounds || []).map(({ grants, accepts }, at) => [at + 1, listed(grants, grantText), listed(accepts, acceptText)]);
         fillTable("rounds-table", "Rounds", ["round", "outputs grant inputs", "inputs accept outputs"], rows);
     }
 
@@ -47,27 +51,41 @@
     }
 
     /** The slots so far, the last one first, and how many pairs a slot had. */
-    function showHistory(ports, history) {
-        const shown = history.slice(-MOST_SLOTS).reverse();
-        const rows = shown.map((done) => [done.slot, done.count, done.rounds.length, listed(viewer.pairsOfInputs(done.inputs), pairText)]);
-        fillTable("history-table", "Slots", ["slot", "pairs", "rounds used", "input>output"], rows);
+    function showHistory({ ports, history }) {
+        const shown = history.slice(-MOST_SHOWN).reverse();
+        const rows = shown.map((done) => [done.slot, done.count, done.used, listed(viewer.pairsOfInputs(done.inputs), pairText), d3.max(done.waits)]);
+        fillTable("history-table", "Slots", ["slot", "pairs", "rounds used", "input>output", "longest wait"], rows);
         const mean = d3.mean(history, ({ count }) => count);
-        const text = history.length === 0 ? "No slot is decided yet." : `${history.length} decided, ${mean.toFixed(2)} pairs a slot, of at most ${ports}.`;
+        const longest = d3.max(history, ({ waits }) => d3.max(waits));
+        const text = history.length === 0 ? "No slot is decided yet."
+            : `${history.length} decided, ${mean.toFixed(2)} pairs a slot, of at most ${ports}; the longest wait is ${counted(longest, "slot")}.`;
         d3.select("#history-line").text(text);
     }
 
-    /** A crosspoint in words, after a slot or before all. */
-    function crosspointText(model, input, output) {
-        const parts = [model.asks(input, output) ? "is asked" : "is not asked"];
-        const done = model.history[model.history.length - 1];
-        if (done !== undefined) {
-            const pair = viewer.matchedPairs(done).find((one) => one.input === input && one.output === output);
-            const granted = done.rounds.findIndex(({ grants }) => grants.some((one) => one.input === input && one.output === output));
-            parts.push(pair !== undefined ? `matched in round ${pair.round} of slot ${done.slot}` : "");
-            parts.push(pair === undefined && granted >= 0 ? `granted and refused in round ${granted + 1} of slot ${done.slot}` : "");
-        }
-        return `Input ${input}, output ${output}: ${parts.filter(Boolean).join("; ")}.`;
+    /** Of a queue in a slot: whether it asks, with its cells where they count, and its wait. */
+    function queueText(model, count, wait) {
+        const cells = model.queues === "cells" && count > 0 ? [`${counted(count, "cell")} in its queue`] : [];
+        const waits = wait > 0 ? [`has waited ${counted(wait, "slot")}`] : [];
+        return [count > 0 ? "asked" : "not asked", ...cells, ...waits].join(", ");
     }
 
-    Object.assign(viewer, { showRounds, showPointers, showHistory, crosspointText });
+    /** What became of a crosspoint in a slot, in words; "" for nothing. */
+    function fateText({ rounds, inputs }, input, output) {
+        const isPair = inputs[output] === input;
+        const isHere = (one) => one.input === input && one.output === output;
+        const at = (rounds || []).findIndex(({ grants }) => grants.some(isHere));
+        const round = at < 0 ? "" : ` in round ${(isPair ? rounds.findIndex(({ accepts }) => accepts.some(isHere)) : at) + 1}`;
+        return isPair ? `matched${round}` : at < 0 ? "" : `granted and refused${round}`;
+    }
+
+    /** A crosspoint in words: in a slot that is decided, or in the next one. */
+    function crosspointText(model, done, input, output) {
+        const place = model.place(input, output);
+        const [count, wait] = done === null ? [model.cells[place], model.waited(place)] : [done.cells[place], done.waits[place]];
+        const fate = done === null ? "" : fateText(done, input, output);
+        const told = [queueText(model, count, wait), fate].filter(Boolean).join(", ");
+        return `Input ${input}, output ${output}, slot ${done === null ? model.slot : done.slot}: ${told}.`;
+    }
+
+    Object.assign(viewer, { counted, showRounds, showPointers, showHistory, crosspointText });
 })(globalThis.SlotViewer = globalThis.SlotViewer || {});

@@ -1,0 +1,169 @@
+"""Tests of the playground's scripts under node: links, slots back, requests as text, other settings, random requests."""
+
+import json
+import shutil
+import struct
+import subprocess
+
+from . import files
+from .browser import expect
+
+STARVING = files.ROOT / "examples/starving/expected"
+SCRIPT = files.ROOT / "viewer/tests/playground_node.js"
+FREE = 255
+MOST_LETTERS = 8000
+
+
+def ask(asks, **given):
+    """What the scripts answer; Failed where there is no node."""
+    ran = subprocess.run([shutil.which("node"), SCRIPT], input=json.dumps({"asks": asks, **given}), text=True, capture_output=True)
+    expect(ran.returncode == 0, ran.stderr)
+    return json.loads(ran.stdout)
+
+
+def no_node():
+    return "skipped, there is no node" if shutil.which("node") is None else None
+
+
+def test_playground_links(_):
+    """A link holds the whole state, and each change and each cut of one is refused; one that is too long is not made."""
+    if no_node():
+        return no_node()
+    found = ask("links", count=200)
+    expect(found["wrong"] == 0, f"{found['wrong']} links give another state")
+    for seed in (3, 4):
+        damage = ask("damage", seed=seed)
+        expect(damage["taken"] == [], f"damaged links that are taken: {damage['taken'][:3]}")
+    faults = ask("linkFaults", links=["#slot=3", "#" + "a" * 8000, "#ports=2&sum=00000000"])
+    expect(faults == ["the link is damaged: its end is missing", "the link is damaged: it has more than 8000 letters",
+                      "the link is damaged: its sum is another"], f"{faults}")
+    lengths = ask("longLinks", slots=8)
+    expect(0 < lengths[0] < 1000 and 0 < lengths[5] <= MOST_LETTERS and lengths[7] == 0, f"{lengths}")
+    return f"200 links of {found['slots']} slots"
+
+
+def test_playground_back(_):
+    """Slots back lead to the states of before, and the same clicks on again to the same slots."""
+    return no_node() or expect(ask("back", count=200) == [], "states that differ")
+
+
+def test_playground_anew(_):
+    """Another scheduler or other rounds: all slots are decided anew, with the same requests."""
+    return no_node() or expect(ask("anew", count=200) == [], "playgrounds that differ")
+
+
+def test_playground_random(_):
+    """A seed gives the same requests again."""
+    if no_node():
+        return no_node()
+    found = ask("random", seeds=list(range(50)))
+    return expect(found == {"same": True, "kinds": 50, "none": 0, "all": True}, f"{found}")
+
+
+def slots_of(data):
+    """The slots of a journal of unicast of level 0: for each the outputs that each input asks, and the input of each output."""
+    ports, rounds = data[4], data[5]
+    at = 12
+    slots = []
+    for _ in range(struct.unpack(">I", data[8:12])[0]):
+        asked = []
+        for _ in range(ports):
+            sets = data[at]
+            mask = struct.unpack(">Q", data[at + 2:at + 10])[0] if sets else 0
+            expect(sets in (0, 1), f"sets {sets}")
+            asked.append([output for output in range(ports) if mask >> output & 1])
+            at += 2 + 8 * sets
+        slots.append((asked, list(data[at:at + 2 * ports:2])))
+        at += 2 * ports
+    return ports, rounds, slots
+
+
+def text_of(ports, rounds, slots, with_matches=True):
+    """The text of docs/FORMATS.md of such a journal."""
+    lines = [f"journal ports {ports} rounds {rounds}"]
+    for slot, (asked, match) in enumerate(slots):
+        words = [f"{source}>{','.join(map(str, outputs))}:0u" for source, outputs in enumerate(asked) if outputs]
+        pairs = [f"{source}>{output}:0u" for output, source in enumerate(match) if source != FREE]
+        lines.append(" ".join(["slot", str(slot), "requests", *words] + (["matches", *pairs] if with_matches else [])))
+    return "".join(f"{line}\n" for line in lines)
+
+
+def test_playground_slots(_):
+    """The requests of journals of an independent model, as text: the playground makes their matches, and writes the same text."""
+    if no_node():
+        return no_node()
+    count = 0
+    for rule in ("islip", "rrm"):
+        ports, rounds, slots = slots_of((STARVING / f"{rule}.journal").read_bytes())
+        text = text_of(ports, rounds, slots)
+        found = ask("decided", text=text, settings={"rule": rule}, slots=len(slots))
+        expect(found["matches"] == [match for _, match in slots] and found["unlike"] == -1, f"{rule}: {found['matches']}")
+        expect(found["text"] == text, f"{rule}: {found['text']}")
+        waits = [wait[0] for wait in found["waits"]]
+        expect(waits[:27] == ([*range(26), 0] if rule == "rrm" else [0, 1, 2] + [0] * 24), f"{rule}: the waits of 0>0 are {waits}")
+        other = ask("decided", text=text, settings={"rule": "firm" if rule == "rrm" else "rrm"}, slots=len(slots))
+        expect(other["unlike"] == next(slot for slot, made in enumerate(other["matches"]) if made != slots[slot][1]), f"{other['unlike']}")
+        count += len(slots)
+    return f"{count} slots"
+
+
+def test_playground_pointers(_):
+    """Schedules of the vector files with pointers of their own: the request waits for as many slots as it can."""
+    if no_node():
+        return no_node()
+    cases, names = [], []
+    for name, rule in (("longest_waits.txt", "islip"), ("longest_waits_firm.txt", "firm")):
+        for lines in files.read_cases(name):
+            case = dict(line for line in lines if line[0] != "rows")
+            ports, rounds, slots = (int(word) for word in case["case"].split())
+            grant, *accept = (int(word) for word in case["pointers"].split())
+            rows = [[int(mask) for mask in text.split()] for word, text in lines if word == "rows"]
+            asked = [([[output for output in range(ports) if mask >> output & 1] for mask in masks], [FREE] * ports) for masks in rows]
+            begin = {"grant": [grant] + [0] * (ports - 1), "accept": accept}
+            cases.append({"text": text_of(ports, rounds, asked, False), "settings": {"rule": rule, "begin": begin}, "slots": slots})
+            names.append(f"{name}, {case['case']}")
+    for name, case, found in zip(names, cases, ask("decidedAll", cases=cases)):
+        served = [match[0] == 0 for match in found["matches"]]
+        expect(served == [False] * (case["slots"] - 1) + [True], f"{name}: {served}")
+    return f"{len(cases)} schedules"
+
+
+def test_playground_cells(_):
+    """Queues that hold cells: each line of a text puts cells into them, and a queue that is served gives one."""
+    if no_node():
+        return no_node()
+    text = "slot 0 requests 0>0:0u 1>0:0u\nslot 1 requests 0>0:0u\nslot 2 requests\n"
+    found = ask("decided", text="journal ports 2 rounds 1\n" + text, settings={"queues": "cells"}, slots=4)
+    # Output 0 serves input 0 first, then its pointer is at input 1; the cells before each slot are of 0>0 and 1>0.
+    expect([[cells[0], cells[2]] for cells in found["cells"]] == [[1, 1], [1, 1], [1, 0], [0, 0]], f"{found['cells']}")
+    return expect([match[0] for match in found["matches"]] == [0, 1, 0, FREE], f"{found['matches']}")
+
+
+# Texts of three ports, and what is read of them: the places of each slot and the matches, or why they are refused.
+TEXTS = (
+    ("slot 0 requests 0>1,2:0u 2>*:0u more * matches 0>1:0u\n\n# a note\r\n  slot 1   requests\t1>0:0u more 0\n",
+     {"ports": 3, "rounds": None, "lines": [[1, 2, 6, 7, 8], [3]], "matches": [[FREE, 0, FREE], None]}),
+    ("journal ports 2 rounds 5\nslot 0 requests matches", {"ports": 2, "rounds": 5, "lines": [[]], "matches": [[FREE, FREE]]}),
+    ("", "there is no line of a slot"),
+    ("slot 1 requests", 'line 1: "slot 1 requests" is not the line of slot 0, such as: slot 0 requests 0>1,2:0u 1>0:0u'),
+    ("slot 0 requests\nslot 0 requests", 'line 2: "slot 0 requests" is not the line of slot 1, such as: slot 1 requests 0>1,2:0u 1>0:0u'),
+    ("slot 0 requests matches more", 'line 1: "slot 0 requests matches more" is not the line of slot 0, such as: slot 0 requests 0>1,2:0u 1>0:0u'),
+    ("slot 0 requests 0>3:0u", "line 1: there is no port 3"),
+    ("slot 0 requests 3>0:0u", "line 1: there is no port 3"),
+    ("slot 0 requests 0>1:1u", 'line 1: "0>1:1u" is no request of the playground, such as 0>1,2:0u'),
+    ("slot 0 requests 0>1:0m", 'line 1: "0>1:0m" is no request of the playground, such as 0>1,2:0u'),
+    ("slot 0 requests 0>01:0u", 'line 1: "0>01:0u" is no request of the playground, such as 0>1,2:0u'),
+    ("slot 0 requests 0>1,1:0u", "line 1: an output is asked twice by one input"),
+    ("slot 0 requests matches 0>*:0u", 'line 1: "0>*:0u" is no pair of the playground, such as 0>1:0u'),
+    ("journal ports 65 rounds 1\nslot 0 requests", 'line 1: "journal ports 65 rounds 1" is not of the form: journal ports 4 rounds 1'),
+    ("journal ports 2\nslot 0 requests", 'line 1: "journal ports 2" is not of the form: journal ports 4 rounds 1'),
+)
+
+
+def test_playground_texts(_):
+    """Texts that are read, and lines that are refused."""
+    if no_node():
+        return no_node()
+    for (text, want), found in zip(TEXTS, ask("scripts", texts=[text for text, _ in TEXTS])):
+        expect(found == want, f"{text!r}: {found}")
+    return f"{len(TEXTS)} texts"
