@@ -25,6 +25,7 @@
             } else if (dirty.slot) {
                 this.timeline.drawCursor();
             }
+            this.drawQueue();
         },
 
         layOut() {

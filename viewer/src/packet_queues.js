@@ -94,8 +94,9 @@
             this.multicast = new Map();
             packets.list.filter((one) => one.state === "forwarded").sort((a, b) => a.arrival - b.arrival)
                 .forEach((packet) => this.make(packet.input, packet.kind, packet.level, packet.outputs[0]).admit(packet));
-            /** The greatest length of a queue in any slot. */
+            /** The greatest length of a queue in any slot, and the place of the first queue that reaches it, or null. */
             this.deepest = 0;
+            this.deepestPlace = null;
         }
 
         key(input, kind, level, output) {
@@ -137,6 +138,14 @@
             heads.forEach((outputs, queue) => queue.serve(slot, outputs));
         }
 
+        /** Notes the length of a queue in the slot in which a packet comes to it. */
+        noteLength({ input, outputs, level, kind }, length) {
+            if (length > this.deepest) {
+                this.deepest = length;
+                this.deepestPlace = { input, output: outputs[0], level, kind };
+            }
+        }
+
         needEmpty() {
             for (const map of [this.unicast, this.multicast]) {
                 for (const queue of map.values()) {
@@ -144,9 +153,7 @@
                         const { packet } = queue.packetOf(queue.servedIn.length);
                         throw new FileFault(`packet ${packet.packet} of input ${packet.input} does not depart in the run`);
                     }
-                    queue.packets.forEach(({ packet }) => {
-                        this.deepest = Math.max(this.deepest, queue.length(packet.arrival));
-                    });
+                    queue.packets.forEach(({ packet }) => this.noteLength(packet, queue.length(packet.arrival)));
                 }
             }
         }

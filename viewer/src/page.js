@@ -28,11 +28,13 @@
             this.isFramePending = false;
             this.timeline = new viewer.Timeline(element("timeline"), (slot) => this.goByUser(slot));
             this.timeline.onChange = () => this.ask("timeline");
+            this.queueChart = new viewer.QueueChart(element("queue-chart"), (slot) => this.goByUser(slot));
             this.player = new viewer.Player((steps) => this.advance(steps), () => this.onPlayerChange());
             this.texts = throttled(TEXT_MS, () => this.drawTexts());
             this.address = throttled(ADDRESS_MS, () => viewer.putIntoAddress(this));
             this.progress = throttled(PROGRESS_MS, () => this.onAnalysed());
             viewer.watchPage(this);
+            viewer.watchQueue(this);
             this.openAddress();
         }
 
@@ -157,6 +159,7 @@
             this.openPanes.filter(({ run }) => input < run.ports && output < run.ports).forEach((pane) => {
                 pane.crossbar.selected = { input, output };
             });
+            this.showQueueAt(input, output);
             this.ask("slot");
         }
 

@@ -5,7 +5,7 @@ import csv
 import re
 
 from . import files
-from .browser import END, LEFT, RIGHT, expect
+from .browser import DOWN, END, LEFT, RIGHT, expect
 
 SCHEDULERS = ("islip", "firm", "rrm")
 LECTURE = files.ROOT / "viewer/lecture"
@@ -192,6 +192,57 @@ def test_queues(viewer):
     # Without a queue the line stands alone.
     alone = re.sub(r"queue .*\n", "", report).replace("deepest 8", "deepest 0")
     expect(viewer.run(READ_REPORTS, [alone]) == [0], "a report without queues")
+    return f"{count} queues"
+
+
+def choose_queue(viewer, source, output, level, kind):
+    for name, value in (("input", source), ("output", output), ("level", level), ("kind", "um".index(kind))):
+        viewer.choose(f"queue-{name}", str(value))
+    return viewer.text("queue-line")
+
+
+def test_one_queue(viewer):
+    """One queue over time: its greatest length, with the slot, is that of the report; in two runs, and of a report with a packets file."""
+    count = 0
+    viewer.load("#slot=11")
+    viewer.open(files.DATA / "firm.journal")
+    expect(not viewer.is_shown("queue-part"), "a journal alone has no lengths of queues")
+    for name in SCHEDULERS:
+        viewer.load("#slot=11")
+        viewer.open(files.DATA / f"{name}.report", files.DATA / f"{name}.packets.csv")
+        lines = {queue: words for queue, words in queue_lines(name).items() if words["cells"] > 0}
+        deepest = max(words["peak"] for words in lines.values())
+        expect(f"holds at most {deepest} cell" in viewer.text("queue-line"), f"{name}, at first: {viewer.text('queue-line')}")
+        for queue, words in lines.items():
+            source, output, level, kind = re.fullmatch(r"(\d+)>(\d+|\*):(\d)([um])", queue).groups()
+            said = choose_queue(viewer, source, 0 if output == "*" else output, level, kind)
+            cells = f"{words['peak']} cell{'' if words['peak'] == 1 else 's'}"
+            expect(said.startswith(f"Here the queue holds at most {cells}, first in slot {words['slot']}; in slot 11 it holds "), f"{name}, {queue}: {said}")
+            count += 1
+    # The queue from input 1 to output 1 of firm.packets.csv holds 8 cells in slot 11, and none before its first packet.
+    viewer.open(files.DATA / "firm.journal", files.DATA / "firm.packets.csv")
+    for key in (RIGHT, RIGHT, DOWN):
+        viewer.press("crossbar", key)
+    expect([viewer.run("return document.getElementById(arguments[0]).value", f"queue-{name}") for name in ("input", "output")] == ["1", "1"], "a crosspoint")
+    expect(viewer.text("queue-line").endswith("in slot 11 it holds 8."), viewer.text("queue-line"))
+    inked = viewer.run("""const { canvas } = SlotViewer.page.queueChart; const { timeline } = SlotViewer.page;
+        const density = canvas.width / canvas.clientWidth;
+        const row = canvas.getContext("2d").getImageData(0, Math.round(30 * density), canvas.width, 1).data;
+        return [2.5, 11.5].map((slot) => row[4 * Math.round(density * timeline.scale(slot)) + 3])""")
+    expect(inked[0] == 0 and inked[1] > 0, f"the chart has {inked} in slots 2 and 11")
+    viewer.open(files.DATA / "rrm.journal", field="file-2")
+    viewer.open(files.DATA / "rrm.packets.csv")
+    peaks = [queue_lines(name)["1>1:0u"]["peak"] for name in ("firm", "rrm")]
+    said = viewer.text("queue-line")
+    expect(said.startswith(f"In the first run (filled) the queue holds at most {peaks[0]} cells") and f"In the second run (dashed) the queue holds at most {peaks[1]} cells" in said, said)
+    viewer.shoot("one_queue")
+    viewer.choose("queue-level", "2")
+    expect(viewer.text("queue-line") == "In the first run (filled) no cell comes to this queue. In the second run (dashed) no cell comes to this queue.", viewer.text("queue-line"))
+    for odd in ("3", "", "x"):
+        viewer.choose("queue-input", odd)
+        expect(viewer.text("slot-fault") == "A queue has an input and an output from 0 to 2.", viewer.text("slot-fault"))
+    viewer.click("queue-chart", viewer.run("return SlotViewer.page.timeline.scale(4.5)"))
+    expect(viewer.slot() == 4, f"a click on the chart leads to slot {viewer.slot()}")
     return f"{count} queues"
 
 
