@@ -3,7 +3,7 @@
     "use strict";
 
     const MOST_CELL = 180;
-    const LEAST_CELL = 11;
+    const LEAST_CELL = 9;
     const LEAST_HEIGHT = 280;
     const MARGIN = 34;
     /** Below the crossbar stands what is told of a crosspoint. */
@@ -99,6 +99,7 @@
             this.cell = this.side(ports);
             const size = MARGIN + ports * this.cell + 2;
             this.svg.attr("width", size).attr("height", size).attr("aria-label", `Crossbar of ${ports} inputs and ${ports} outputs`);
+            this.svg.classed("small", this.cell < TEXT_CELL);
             this.drawCells(queues);
             this.drawLabels();
             this.drawQueues(queues, isCounted);
