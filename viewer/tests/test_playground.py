@@ -1,9 +1,11 @@
 """Tests of the playground's scripts under node: links, slots back, requests as text, other settings, random requests."""
 
 import json
+import pathlib
 import shutil
 import struct
 import subprocess
+import tempfile
 
 from . import files
 from .browser import expect
@@ -105,6 +107,21 @@ def test_playground_slots(_):
         expect(other["unlike"] == next(slot for slot, made in enumerate(other["matches"]) if made != slots[slot][1]), f"{other['unlike']}")
         count += len(slots)
     return f"{count} slots"
+
+
+def test_playground_journal(_):
+    """The text of slots that the playground writes makes the journal of an independent model, byte for byte."""
+    if no_node():
+        return no_node()
+    for rule in ("islip", "rrm"):
+        journal = STARVING / f"{rule}.journal"
+        slots = slots_of(journal.read_bytes())
+        found = ask("decided", text=text_of(*slots), settings={"rule": rule}, slots=len(slots[2]))
+        with tempfile.TemporaryDirectory() as folder:
+            made = pathlib.Path(folder, "made.journal")
+            ran = subprocess.run([files.ROOT / "tools/journal", "make", "-", made], input=found["text"], text=True, capture_output=True)
+            expect(ran.returncode == 0 and made.read_bytes() == journal.read_bytes(), f"{rule}: {ran.stderr}")
+    return None
 
 
 def test_playground_pointers(_):
