@@ -58,7 +58,8 @@ class Differences(unittest.TestCase):
         self.kept = Kept("jobs", "some", False, self.there, lambda: self.made)
 
     def there(self):
-        return {path.relative_to(self.top).as_posix(): path.read_bytes() for path in self.top.rglob("*") if path.is_file()}
+        files = (path for path in self.top.rglob("*") if path.is_file())
+        return {path.relative_to(self.top).as_posix(): path.read_bytes() for path in files}
 
     def remake(self, is_check):
         with contextlib.redirect_stdout(io.StringIO()) as printed:
@@ -68,10 +69,11 @@ class Differences(unittest.TestCase):
     def test_check_writes_nothing(self):
         before = self.there()
         same, differing, lines = self.remake(True)
-        self.assertEqual((same, differing, self.there()), ({"jobs": 0}, ["bytes", "differs", "left", "new/file"], before))
+        self.assertEqual((same, differing), ({"jobs": 0}, ["bytes", "differs", "left", "new/file"]))
+        self.assertEqual(self.there(), before)
         for line in (
-            "bytes: differs from byte 1 on; 2 bytes are there, 3 are made", "differs: differs (- there, + made)", "    -old",
-            "    +new", "left: is not made by the model", "new/file: is missing",
+            "bytes: differs from byte 1 on; 2 bytes are there, 3 are made", "differs: differs (- there, + made)",
+            "    -old", "    +new", "left: is not made by the model", "new/file: is missing",
         ):
             self.assertIn(line, lines)
 
@@ -79,3 +81,19 @@ class Differences(unittest.TestCase):
         self.remake(False)
         self.assertEqual(self.there(), self.made)
         self.assertEqual(self.remake(True)[:2], ({"jobs": 1}, []))
+
+    def test_copies_are_made_anew(self):
+        """A copy goes with its file, where all files that were like it became alike."""
+        self.script.COPIES = ("copies",)
+        (self.top / "copies").mkdir()
+        for name, data in (("clear", b"old\n"), ("same", b"a\n"), ("doubtful", b"twice")):
+            (self.top / "copies" / name).write_bytes(data)
+        for name, data in (("one", b"1"), ("two", b"2")):
+            (self.top / name).write_bytes(b"twice")
+            self.made[name] = data
+        before = {"copies/clear": b"new\n", "copies/same": b"a\n", "copies/doubtful": b"twice"}
+        self.kept = self.kept._replace(there=lambda: {path: it for path, it in self.there().items() if "/" not in path})
+        _, differing, lines = self.remake(False)
+        self.assertTrue("copies/clear" in differing and "copies/same" not in differing)
+        self.assertEqual({path: data for path, data in self.there().items() if path in before}, before)
+        self.assertIn("copies/doubtful: is a copy of files that differ now; copy the one that is meant", lines)

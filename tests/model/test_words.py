@@ -8,8 +8,10 @@ from .words import CheckJob, FirmJob, GenJob, RunJob, job_of
 
 USAGE = """
 run t out | run | run t | run --rounds 0 t out a | run --rounds 2 --rounds 2 t out a | run --round 2 t out a
-run -x t out a | run --rounds +2 t out a | run --workers 33 t out a | gen 1 2 65 | Run t p a | --slots run t p a
-run --slots= t p a | run --slots --slots t p a | run --=1 t p a | run --- t p a | run --rounds= t p a | run t p a --rounds
+run -x t out a | run --rounds +2 t out a | run --workers 33 t out a | gen 1 2 65
+Run t p a | --slots run t p a
+run --slots= t p a | run --slots --slots t p a
+run --=1 t p a | run --- t p a | run --rounds= t p a | run t p a --rounds
 run --rounds -- 2 t p a | run --rounds -2 t p a | run --rounds=2=2 t p a | run --rounds 2 --rounds=2 t p a
 run --depth 131073 t p a | run --depth 0 t p a | run --pace-us 1000001 t p a | run --pace-us=0 t p a
 run --rounds 00000000002 t p a | run --rounds \u0662 t p a | run --rounds 2_0 t p a | run --Rounds 2 t p a

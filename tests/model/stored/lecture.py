@@ -1,4 +1,5 @@
-"""The journals of the viewer's lecture: full load, which no captures make, since packets come one after another on a line."""
+"""The journals of the viewer's lecture: full load, which no captures make, since on a line one packet comes after
+another."""
 
 from __future__ import annotations
 
@@ -14,7 +15,8 @@ Queue = Tuple[int, int]  # An input and an output.
 
 
 def full_load(name: str) -> bytes:
-    """The journal under a scheduler in which each queue of level 0 has some cells from slot 0 on, and none comes later."""
+    """The journal under a scheduler in which each queue of level 0 has some cells from slot 0 on, and none comes
+    later."""
     ports, pointers = range(PORTS), Pointers(PORTS)
     waiting: List[Queue] = [(port, output) for port in ports for output in ports] * CELLS
     slots: List[JournalSlot] = []
