@@ -2,11 +2,13 @@
 
 from __future__ import annotations
 
-from typing import Dict, Iterable, List, NamedTuple, Tuple
+from typing import Dict, Iterable, List, Literal, NamedTuple, Tuple
 
 from .faults import Fault
 
 ETHERNET, RAW_IP = 1, 101
+Order = Literal["big", "little"]  # Of the bytes of a number.
+ORDERS: Tuple[Order, ...] = ("big", "little")
 MOST_CAPTURED = 262_144  # Bytes of a record, and the snap length that is written.
 HEADER_BYTES, RECORD_BYTES = 24, 16
 MICROSECONDS, NANOSECONDS = 0xA1B2C3D4, 0xA1B23C4D
@@ -41,15 +43,15 @@ class Capture(NamedTuple):
     packets: List[Packet]
 
 
-def byte_order(data: bytes) -> str:
+def byte_order(data: bytes) -> Order:
     """The order of a file's bytes, by its magic."""
-    for order in ("big", "little"):
+    for order in ORDERS:
         if int.from_bytes(data[:4], order) in (MICROSECONDS, NANOSECONDS):
             return order
     raise Fault("bad_magic", found=int.from_bytes(data[:4], "big"))
 
 
-def read_header(data: bytes) -> Tuple[str, bool, int]:
+def read_header(data: bytes) -> Tuple[Order, bool, int]:
     """The order of a file's bytes, whether its unit is the nanosecond, and its link type."""
     if len(data) < HEADER_BYTES:
         raise Fault("short_header", length=len(data))
@@ -63,7 +65,7 @@ def read_header(data: bytes) -> Tuple[str, bool, int]:
     return order, int.from_bytes(data[:4], order) == NANOSECONDS, link
 
 
-def read_record(data: bytes, at: int, order: str, is_nano: bool) -> Packet:
+def read_record(data: bytes, at: int, order: Order, is_nano: bool) -> Packet:
     """The record at a place. A fraction beyond the second is the last one of that second."""
     if len(data) - at < RECORD_BYTES:
         raise Fault("cut_record", at=at)

@@ -2,12 +2,21 @@
 
 from __future__ import annotations
 
-from typing import List, Optional
+from typing import List, NamedTuple, Optional
 
 from .messages import Cell, cut
 from .plans import ROUTED, Planned
 from .queues import Queues
-from .rows import Post, Served
+from .rows import Row, Served
+
+
+class Post(NamedTuple):
+    """What a line card posts for a slot: its row, the cell that it was granted in the slot before, and whether more
+    comes."""
+
+    row: Row
+    cell: Optional[Cell]
+    more: bool
 
 
 class Card:

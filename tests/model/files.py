@@ -4,7 +4,7 @@ from __future__ import annotations
 
 import os
 from pathlib import Path
-from typing import BinaryIO, Dict, Iterable, Optional, Set, Tuple
+from typing import IO, Dict, Iterable, Optional, Set, Tuple
 
 
 class Failed(Exception):
@@ -61,13 +61,12 @@ class FolderFiles:
         self.folder, self.device = folder, device
         self.printed = {"stdout": b"", "stderr": b""}
         self.begun: Set[str] = set()
-        self.file: Optional[BinaryIO] = None
+        self.file: Optional[IO[bytes]] = None
 
-    def reopen(self, name: str, mode: str) -> BinaryIO:
+    def reopen(self, name: str, mode: str) -> None:
         """Opens a file in place of the one before."""
         self.close()
         self.file = open(os.path.join(str(self.folder), name), mode, buffering=0)
-        return self.file
 
     def close(self) -> None:
         """Closes the file that was opened last."""
@@ -78,8 +77,10 @@ class FolderFiles:
     def read(self, name: str, at: int, size: int) -> bytes:
         """Bytes of a file from a place on, none at its end."""
         try:
-            file = self.reopen(name, "rb") if at == 0 else self.file
-            return file.read(size)
+            if at == 0:
+                self.reopen(name, "rb")
+            assert self.file is not None
+            return self.file.read(size)
         except (OSError, ValueError):
             raise Failed from None
 
@@ -93,6 +94,7 @@ class FolderFiles:
 
     def write(self, name: str, piece: bytes) -> int:
         """Writes to the end of the file that was begun, and says how many bytes were taken."""
+        assert self.file is not None
         return put_all(self.file, piece)
 
     def put(self, stream: str, piece: bytes) -> int:
@@ -104,7 +106,7 @@ class FolderFiles:
         return len(piece)
 
 
-def put_all(file: BinaryIO, piece: bytes) -> int:
+def put_all(file: IO[bytes], piece: bytes) -> int:
     """Writes to a file, and says how many bytes were taken."""
     try:
         taken = file.write(piece)

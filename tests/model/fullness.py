@@ -91,7 +91,7 @@ def queue_lines(run: Run) -> Dict[Place, QueueLine]:
                 added = (1, int(not is_in), packet.cells * is_in)
                 place = place_of(run, port, number)
                 counts[place] = [count + more for count, more in zip(counts[place], added)]
-    return {place: QueueLine(*counts[place], *peaks.get(place, (0, 0))) for place in sorted(counts)}
+    return {place: QueueLine._make([*counts[place], *peaks.get(place, (0, 0))]) for place in sorted(counts)}
 
 
 def deepest(lines: Dict[Place, QueueLine]) -> int:

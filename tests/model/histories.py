@@ -4,10 +4,11 @@ from __future__ import annotations
 
 from typing import List, NamedTuple, Optional
 
+from .cards import Post
 from .messages import Cell, is_cell
 from .ports import Ports
 from .rounds import Pointers
-from .rows import Post, Row, Served, feed_of, keeps, served_part
+from .rows import Row, Served, feed_of, keeps, served_part
 from .schedulers import Decision, Scheduler, islip
 
 
@@ -26,11 +27,10 @@ def is_accepted(ports: int, card: int, post: Post, before: Optional[Row], served
     that was granted, and says that more is to come where its row asks."""
     if not post.row.is_within(ports) or before is not None and not keeps(before, served, post.row):
         return False
-    if (post.cell is None) != (served is None):
+    granted = None if served is None else (card, served.level, served.kind)
+    if granted != (None if post.cell is None else post.cell.flow()):
         return False
-    if post.cell is not None and not (is_cell(post.cell) and post.cell.flow() == (card, *served[1:])):
-        return False
-    return post.more or post.row.is_empty()
+    return (post.cell is None or is_cell(post.cell)) and (post.more or post.row.is_empty())
 
 
 class History:

@@ -2,7 +2,7 @@
 
 from __future__ import annotations
 
-from typing import Callable, List, Sequence, Tuple, Union
+from typing import Any, Callable, Dict, List, Sequence, Tuple, Union
 
 from .captures import capture_bytes
 from .departures import packets_text
@@ -26,7 +26,8 @@ Files = Union[MemoryFiles, FolderFiles]
 
 def read_whole(files: Files, name: str, most: int) -> bytes:
     """The bytes of a file, of which there may be so many."""
-    parts, total = [], 0
+    parts: List[bytes] = []
+    total = 0
     while total <= most:
         try:
             part = files.read(name, total, PIECE)
@@ -118,7 +119,7 @@ def run_job(job: RunJob, files: Files) -> None:
 
 def gen_job(job: GenJob, files: Files) -> None:
     """The command `gen`."""
-    made = made_input(job.seed, job.count, job.ports)
+    made = made_input(job.seed, job.packets, job.ports)
     plan = plan_files(job.settings, made.table, made.captures)
     print_lines(files, summary_lines(summary_of(outcome_of(run_plan(plan, SCHEDULERS[job.scheduler])))))
 
@@ -142,7 +143,9 @@ def check_job(job: CheckJob, files: Files) -> None:
     print_lines(files, ["yes", f"slots {verdict.slots}", "longest " + " ".join(map(str, verdict.longest))])
 
 
-COMMANDS = {RunJob: run_job, GenJob: gen_job, CheckJob: check_job, FirmJob: firm_job}
+COMMANDS: Dict[type, Callable[[Any, Files], None]] = {
+    RunJob: run_job, GenJob: gen_job, CheckJob: check_job, FirmJob: firm_job
+}
 
 
 def run_words(words: Sequence[str], files: Files) -> int:

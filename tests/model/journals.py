@@ -175,6 +175,6 @@ def verdict_of(journal: Journal, scheduler: Scheduler = islip) -> Verdict:
             return Verdict(len(journal.slots), None, number, reason, port)
         pointers, before = decision.pointers, Before(slot.rows, slot.mores, decision.match)
         made.append((slot.rows, decision.match))
-    if any(before.mores):
+    if any(journal.slots[-1].mores):
         return Verdict(len(journal.slots), None, len(journal.slots) - 1, NO_END)
     return Verdict(len(journal.slots), longest_waits(made))

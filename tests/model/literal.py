@@ -6,12 +6,13 @@ from functools import cached_property, lru_cache
 from itertools import product
 from typing import FrozenSet, Iterable, List, Optional, Sequence, Set, Tuple
 
-from .messages import cut
+from .cards import Post
+from .messages import Cell, cut
 from .plans import ROUTED, Plan, Planned
 from .ports import LEVELS, NO_PORTS, Ports, distance
 from .queues import QueueName, queue_for
 from .rounds import Pointers, preferred_kind
-from .rows import KINDS, MULTICAST, UNICAST, Entry, Post, Row, Served, served_part
+from .rows import KINDS, MULTICAST, UNICAST, Entry, Row, Served, served_part
 from .schedulers import Scheduler, islip
 
 
@@ -136,7 +137,7 @@ class LiteralCard:
         rest = self.remaining(level, slot)
         return bool(rest) and rest <= self.part(level, slot)
 
-    def cell(self, slot: int) -> Optional[object]:
+    def cell(self, slot: int) -> Optional[Cell]:
         """The cell that was granted in the slot before."""
         served = self.served[slot - 1] if slot > 0 else None
         if served is None:
@@ -163,7 +164,8 @@ def literal_run(plan: Plan, scheduler: Scheduler = islip) -> Tuple[List[LiteralS
     """The slots of a run over such cards, as posts and matches, and the packets that were admitted."""
     served: List[List[Optional[Served]]] = [[] for _ in range(plan.ports)]
     cards = [LiteralCard(port, plan.depth, plan.cards[port], served[port]) for port in range(plan.ports)]
-    pointers, slots = Pointers(plan.ports), []
+    pointers = Pointers(plan.ports)
+    slots: List[LiteralSlot] = []
     while not slots or any(post.more for post in slots[-1][0]):
         posts = [card.post(plan.ports, len(slots)) for card in cards]
         decision = scheduler(plan.ports, plan.rounds, len(slots), [post.row for post in posts], pointers)

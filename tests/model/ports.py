@@ -23,7 +23,8 @@ def next_port(ports: int, port: int) -> int:
 
 def first_from(ports: int, pointer: int, members: Iterable[int]) -> Optional[int]:
     """The rotating choice: the member of least distance from a pointer, None where there is no member."""
-    return min(members, key=lambda port: (port - pointer) % ports, default=None)
+    members = list(members)
+    return min(members, key=lambda port: distance(ports, pointer, port)) if members else None
 
 
 @lru_cache(maxsize=100_000)

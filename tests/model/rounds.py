@@ -89,18 +89,25 @@ def asks_after(row: Row, entry: Optional[Entry]) -> Iterable[Ask]:
     return ()
 
 
+def choose(ports: int, pointer: int, members: Sequence[int]) -> int:
+    """The rotating choice where there is a member."""
+    chosen = first_from(ports, pointer, members)
+    assert chosen is not None
+    return chosen
+
+
 def grant(ports: int, slot: int, pointers: Pointers, output: int, asked: List[Feed]) -> Feed:
     """What an output grants of its requests."""
     level, kind, inputs = best(slot, asked)
     pointer = pointers.grant[output, level] if kind == UNICAST else pointers.shared[level]
-    return Feed(first_from(ports, pointer, inputs), level, kind)
+    return Feed(choose(ports, pointer, inputs), level, kind)
 
 
 def accept(ports: int, slot: int, pointers: Pointers, port: int, granted: List[Ask]) -> List[Entry]:
     """What an input accepts of its grants: all multicast ones of the level and kind, but one unicast one."""
     level, kind, outputs = best(slot, granted)
     if kind == UNICAST:
-        outputs = [first_from(ports, pointers.accept[port, level], outputs)]
+        outputs = [choose(ports, pointers.accept[port, level], outputs)]
     return [Entry(port, output, level, kind) for output in outputs]
 
 

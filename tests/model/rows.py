@@ -3,15 +3,15 @@
 from __future__ import annotations
 
 from functools import lru_cache
-from typing import Dict, FrozenSet, Iterable, List, NamedTuple, Optional, Tuple
+from typing import FrozenSet, Iterable, List, Mapping, NamedTuple, Optional, Tuple
 
 from .ports import LEVELS, NO_PORTS, Ports
 
 UNICAST, MULTICAST = 0, 1
 KINDS = (UNICAST, MULTICAST)
 LETTERS = "um"  # Of the kinds, in texts.
-Sets = Tuple[Ports, Ports, Ports, Ports]  # One for each level.
-Named = Dict[int, Iterable[int]]  # Outputs by their level.
+Sets = Tuple[Ports, ...]  # One for each level.
+Named = Mapping[int, Iterable[int]]  # Outputs by their level.
 
 
 class Row(NamedTuple):
@@ -74,15 +74,6 @@ class Feed(NamedTuple):
     input: int
     level: int
     kind: int
-
-
-class Post(NamedTuple):
-    """What a line card posts for a slot: its row, the cell that it was granted in the slot before, and whether more
-    comes."""
-
-    row: Row
-    cell: Optional[object]
-    more: bool
 
 
 def served_part(match: Iterable[Entry], port: int) -> Optional[Served]:

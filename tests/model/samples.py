@@ -3,7 +3,7 @@
 from __future__ import annotations
 
 import random
-from typing import Dict, Iterable, List, Optional, Sequence, Tuple
+from typing import Any, Dict, Iterable, List, Optional, Sequence, Tuple
 
 from .captures import ETHERNET, RAW_IP
 from .files import MemoryFiles
@@ -84,7 +84,7 @@ class Ended:
         return self.files["out.report"].decode().splitlines()[12:]
 
 
-def run(table: bytes, inputs: Sequence[bytes], options: str = "", command: str = "run", **how: object) -> Ended:
+def run(table: bytes, inputs: Sequence[bytes], options: str = "", command: str = "run", **how: Any) -> Ended:
     """A job over a table and captures."""
     names = [f"in{port}" for port in range(len(inputs))]
     files = MemoryFiles({"table": table, **dict(zip(names, inputs))}, **how)
@@ -92,7 +92,7 @@ def run(table: bytes, inputs: Sequence[bytes], options: str = "", command: str =
     return Ended(run_words([command, *options.split(), "table", *outputs, *names], files), files)
 
 
-def do(words: str, files: Optional[Dict[str, bytes]] = None, **how: object) -> Ended:
+def do(words: str, files: Optional[Dict[str, bytes]] = None, **how: Any) -> Ended:
     """A job of any words."""
     memory = MemoryFiles(files or {}, **how)
     return Ended(run_words(words.split(), memory), memory)
@@ -179,9 +179,9 @@ def random_row(rng: random.Random, ports: int, best: int = 0, density: float = 0
 def random_pointers(rng: random.Random, ports: int) -> Pointers:
     """Pointers at any ports."""
     pointers = Pointers(ports)
-    for table in (pointers.grant, pointers.accept, pointers.shared):
-        for key in table:
-            table[key] = rng.randrange(ports)
+    for table in (pointers.grant, pointers.accept):
+        table.update((key, rng.randrange(ports)) for key in table)
+    pointers.shared.update((level, rng.randrange(ports)) for level in pointers.shared)
     return pointers
 
 

@@ -16,17 +16,23 @@ FAULT_LINES: Dict[str, str] = {
 }
 
 
+class Prefix(NamedTuple):
+    """The first bits of addresses."""
+
+    address: int
+    length: int
+
+    def covers(self, address: Optional[int]) -> bool:
+        """Whether an address begins with it."""
+        return address is not None and (address ^ self.address) >> (32 - self.length) == 0
+
+
 class Line(NamedTuple):
     """A line of the table: its prefix, None for `*`, its fan-out and its level."""
 
-    address: Optional[int]
-    length: Optional[int]
+    prefix: Optional[Prefix]
     fan: Ports
     level: int
-
-    def covers(self, address: int) -> bool:
-        """Whether an address begins with its prefix."""
-        return self.address is not None and (address ^ self.address) >> (32 - self.length) == 0
 
 
 class Route(NamedTuple):
@@ -51,8 +57,8 @@ def is_number(word: bytes) -> bool:
     return 1 <= len(word) <= 3 and all(48 <= byte <= 57 for byte in word) and (word[:1] != b"0" or word == b"0")
 
 
-def read_prefix(target: bytes) -> Optional[Tuple[int, int]]:
-    """The address and the length of a target that is not `*`, None where it is none."""
+def read_prefix(target: bytes) -> Optional[Prefix]:
+    """The prefix that a target is, None where it is none."""
     if target.count(b"/") != 1:
         return None
     dotted, length = target.split(b"/")
@@ -61,14 +67,13 @@ def read_prefix(target: bytes) -> Optional[Tuple[int, int]]:
         return None
     if not is_number(length) or int(length) > 32:
         return None
-    return int.from_bytes(bytes(map(int, octets)), "big"), int(length)
+    return Prefix(int.from_bytes(bytes(map(int, octets)), "big"), int(length))
 
 
 class Fields(NamedTuple):
-    """The fields of a line, as they stand there."""
+    """The fields of a line, as they stand there; the prefix is None for `*`."""
 
-    address: Optional[int]
-    length: Optional[int]
+    prefix: Optional[Prefix]
     outputs: List[int]
     level: int
 
@@ -79,19 +84,19 @@ def read_fields(line: bytes) -> Optional[Fields]:
     if len(words) not in (2, 3):
         return None
     outputs, level = words[1].split(b","), words[2] if len(words) == 3 else b"0"
-    prefix = (None, None) if words[0] == b"*" else read_prefix(words[0])
-    if prefix is None or not all(map(is_number, [*outputs, level])):
+    prefix = read_prefix(words[0])
+    if prefix is None and words[0] != b"*" or not all(map(is_number, [*outputs, level])):
         return None
-    return Fields(*prefix, [int(output) for output in outputs], int(level))
+    return Fields(prefix, [int(output) for output in outputs], int(level))
 
 
-def read_line(number: int, line: bytes, ports: int, seen: Dict[Tuple[Optional[int], Optional[int]], int]) -> Line:
+def read_line(number: int, line: bytes, ports: int, seen: Dict[Optional[Prefix], int]) -> Line:
     """A line of the table; its first fault is raised. `seen` has the numbers of the lines before, by their prefixes."""
     fields = read_fields(line)
     if fields is None:
         raise Fault("bad_line", line=number)
-    prefix = fields[:2]
-    if fields.address is not None and fields.address & ((1 << (32 - fields.length)) - 1):
+    prefix = fields.prefix
+    if prefix is not None and prefix.address & ((1 << (32 - prefix.length)) - 1):
         raise Fault("host_bits", line=number)
     for output in fields.outputs:
         if output >= ports:
@@ -101,7 +106,7 @@ def read_line(number: int, line: bytes, ports: int, seen: Dict[Tuple[Optional[in
     if prefix in seen:
         raise Fault("repeated", line=number, first=seen[prefix])
     seen[prefix] = number
-    return Line(*prefix, frozenset(fields.outputs), fields.level)
+    return Line(prefix, frozenset(fields.outputs), fields.level)
 
 
 def read_table(text: bytes, ports: int) -> List[Line]:
@@ -109,15 +114,15 @@ def read_table(text: bytes, ports: int) -> List[Line]:
     lines = [(number, line) for number, line in lines_of(text) if line and not line.startswith(b"#")]
     if len(lines) > MOST_LINES:
         raise Fault("too_many_lines", count=len(lines))
-    seen: Dict[Tuple[Optional[int], Optional[int]], int] = {}
+    seen: Dict[Optional[Prefix], int] = {}
     return [read_line(number, line, ports, seen) for number, line in lines]
 
 
 def route_of(table: List[Line], address: Optional[int]) -> Optional[Route]:
     """The route of an address, or of a packet that has none: by the longest prefix that covers it, else by `*`."""
-    covering = [line for line in table if address is not None and line.covers(address)]
-    stars = [line for line in table if line.address is None]
-    best = max(covering, key=lambda line: line.length) if covering else stars[0] if stars else None
+    prefixes = {line.prefix: line for line in table}
+    covering = [prefix for prefix in prefixes if prefix is not None and prefix.covers(address)]
+    best = prefixes.get(max(covering, key=lambda prefix: prefix.length, default=None))
     return None if best is None else Route(best.fan, best.level)
 
 

@@ -11,7 +11,7 @@ from .rows import MULTICAST, UNICAST
 from .samples import (
     BIG_ENDIAN_NANO, FRAME, NANO_HEADER, ONE_FRAME, address, capture, header, plan_of, raw, record, unhex
 )
-from .table import Line, Route, destination, read_table, route_of
+from .table import Prefix, Route, destination, read_table, route_of
 
 
 def fault_of(call, *arguments):
@@ -122,11 +122,9 @@ class Tables(unittest.TestCase):
         self.assertEqual(destination(RAW_IP, packet), 0x0A000001)
         self.assertIsNone(destination(RAW_IP, b"\x60" + packet[1:]))
 
-    def test_covering_lines(self):
-        line = Line(0x0A000000, 8, frozenset({0}), 0)
-        self.assertTrue(line.covers(0x0AFFFFFF) and not line.covers(0x0B000000))
-        self.assertTrue(Line(0, 0, frozenset({0}), 0).covers(0xFFFFFFFF))
-        self.assertFalse(Line(None, None, frozenset({0}), 0).covers(0))
+    def test_prefixes(self):
+        self.assertTrue(Prefix(0x0A000000, 8).covers(0x0AFFFFFF) and not Prefix(0x0A000000, 8).covers(0x0B000000))
+        self.assertTrue(Prefix(0, 0).covers(0xFFFFFFFF) and not Prefix(0, 0).covers(None))
 
 
 class Messages(unittest.TestCase):

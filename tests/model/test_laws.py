@@ -5,7 +5,7 @@ import random
 import unittest
 
 from .captures import capture_bytes, read_capture
-from .cards import Card
+from .cards import Card, Post
 from .departures import HEADER, packets_text
 from .fullness import deepest, queue_lines, waiting_cells
 from .histories import History
@@ -15,7 +15,7 @@ from .messages import cell_bytes, message_of, read_cell
 from .plans import MOST_DEPTH, ROUTED, Settings, plan_files
 from .queues import QueueName, queue_for
 from .reference import reference_line, tracks_of
-from .rows import EMPTY_ROW, LETTERS, MULTICAST, UNICAST, Post, served_part
+from .rows import EMPTY_ROW, LETTERS, MULTICAST, UNICAST, served_part
 from .runs import crossings, outcome_of, run_plan
 from .samples import (
     FILLING, HEAD, HEAD_TABLE, HEADS, HEADS_TABLE, TO_1, busy_job, capture, plan_of, random_job, raw, run, run_of

@@ -11,8 +11,8 @@ from . import ports
 HERE = Path(__file__).resolve().parent
 # What Python 3.8, which does not say itself, has and the model may import.
 LIBRARY = set(getattr(sys, "stdlib_module_names", ())) or {
-    "__future__", "argparse", "ast", "collections", "dataclasses", "functools", "itertools", "math", "os", "pathlib",
-    "random", "subprocess", "sys", "tempfile", "typing", "unittest",
+    "__future__", "argparse", "ast", "collections", "contextlib", "dataclasses", "functools", "importlib", "io",
+    "itertools", "math", "os", "pathlib", "random", "re", "subprocess", "sys", "tempfile", "typing", "unittest",
 }
 
 

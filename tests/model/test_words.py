@@ -70,7 +70,7 @@ class Words(unittest.TestCase):
         self.assertEqual(job_of(["run", "", "-", "a"]).table, "")
         self.assertEqual((job("check -- -a").file, job("check -").file), ("-a", "-"))
         self.assertEqual(job("gen -- 0 0000 01"), GenJob(Settings(), "islip", 0, 0, 1))
-        self.assertEqual(job("gen 1000000000 4000 64").count, 4_000)
+        self.assertEqual(job("gen 1000000000 4000 64").packets, 4_000)
         for words, most in (("run t p", 64), ("firm t", 64)):
             self.assertIsNotNone(job(words + " a" * most))
             self.assertIsNone(job(words + " a" * (most + 1)))

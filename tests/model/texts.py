@@ -49,8 +49,8 @@ def joined(lines: Iterable[str]) -> str:
 
 def summary_lines(summary: Summary) -> List[str]:
     """The lines of a summary."""
-    numbers = summary._replace(longest=" ".join(map(str, summary.longest)))
-    return [f"{name} {number}" for name, number in zip(Summary._fields, numbers)]
+    numbers = [f"{name} {number}" for name, number in zip(Summary._fields[:-1], summary[:-1])]
+    return [*numbers, "longest " + " ".join(map(str, summary.longest))]
 
 
 def output_lines(counts: Iterable[Tuple[int, int]]) -> List[str]:

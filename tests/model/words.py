@@ -45,7 +45,7 @@ class GenJob(NamedTuple):
     settings: Settings
     scheduler: str
     seed: int
-    count: int
+    packets: int
     ports: int
 
 
@@ -148,8 +148,8 @@ def read_words(words: Sequence[str]) -> Job:
     if words[0] == "run" and 1 <= len(names) - 2 <= MOST_INPUTS:
         return RunJob(settings, {flag[2:] for flag in flags}, scheduler, names[0], names[1], names[2:])
     if words[0] == "gen" and len(names) == 3:
-        numbers = (number_of(name, *limits) for name, limits in zip(names, MADE_RANGES))
-        return GenJob(settings, scheduler, *numbers)
+        seed, packets, ports = (number_of(name, *limits) for name, limits in zip(names, MADE_RANGES))
+        return GenJob(settings, scheduler, seed, packets, ports)
     if words[0] == "check" and len(names) == 1:
         return CheckJob(scheduler, names[0])
     if words[0] == "firm" and 1 <= len(names) - 1 <= MOST_INPUTS:

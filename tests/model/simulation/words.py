@@ -3,7 +3,7 @@
 from __future__ import annotations
 
 from dataclasses import dataclass
-from typing import Dict, List, NamedTuple, Sequence, Tuple
+from typing import Any, Dict, List, NamedTuple, Sequence, Tuple
 
 SCHEDULERS = ("islip", "firm", "rrm", "pim", "fifo", "ideal")
 PATTERNS = ("uniform", "diagonal", "log-diagonal", "hot-spot", "unbalanced")
@@ -62,7 +62,7 @@ class Parts(NamedTuple):
     """The names, and the values of the options and flags that are given."""
 
     names: List[str]
-    given: Dict[str, object]
+    given: Dict[str, Any]
 
 
 def parts_of(words: Sequence[str]) -> Parts:
@@ -80,7 +80,7 @@ def parts_of(words: Sequence[str]) -> Parts:
     return parts
 
 
-def read_option(word: str, rest: List[str], given: Dict[str, object]) -> None:
+def read_option(word: str, rest: List[str], given: Dict[str, Any]) -> None:
     """Adds the option of a word; its value may be the first of the other words."""
     name, equals, value = word[2:].partition("=")
     if name in given:
@@ -106,8 +106,8 @@ def read_words(words: Sequence[str]) -> Job:
     names, given = parts_of(words)
     if len(names) != len(NAMES):
         raise Usage
-    numbers = (number(*NAMES[name], word) for name, word in zip(NAMES, names))
-    job = Job(*numbers, **{FIELDS.get(name, name): value for name, value in given.items()})
+    seed, slots, ports = (number(*NAMES[name], word) for name, word in zip(NAMES, names))
+    job = Job(seed, slots, ports, **{FIELDS.get(name, name): value for name, value in given.items()})
     if "warm-up" not in given:
         job.warm_up = job.slots // 10
     if (job.pattern in WEIGHED) != ("weight-ppm" in given) or job.warm_up >= job.slots:

@@ -5,7 +5,7 @@ from __future__ import annotations
 import re
 from typing import Dict, Iterable, List, Optional, Sequence, Tuple
 
-from ..ports import LEVELS, mask_of, ports_of
+from ..ports import LEVELS, Ports, mask_of, ports_of
 from ..rounds import Pointers
 from ..rows import LETTERS, Entry, Feed, Match, Row, row_of
 
@@ -17,7 +17,7 @@ def mask(members: Iterable[int]) -> str:
     return f"{mask_of(members):#x}"
 
 
-def ports(text: str) -> frozenset:
+def ports(text: str) -> Ports:
     """The set of a mask."""
     return ports_of(int(text, 16))
 
@@ -49,7 +49,7 @@ def rows(text: str) -> List[Row]:
 
 def read_row(text: str) -> Row:
     """One of them."""
-    sets: Dict[str, Dict[int, frozenset]] = {"u": {}, "m": {}}
+    sets: Dict[str, Dict[int, Ports]] = {"u": {}, "m": {}}
     for part in text.split("+") if text != "." else ():
         name, members = part.split("=")
         sets[name[0]][int(name[1])] = ports(members)
@@ -64,8 +64,13 @@ def match(entries: Match, count: int) -> str:
 
 def read_match(text: str) -> Match:
     """The match of such a text."""
-    parts = ((output, *part.split(":")) for output, part in enumerate(text.split(",")) if part != NONE)
-    return frozenset(Entry(int(port), output, int(rank[0]), LETTERS.index(rank[1])) for output, port, rank in parts)
+    return frozenset(read_entry(output, part) for output, part in enumerate(text.split(",")) if part != NONE)
+
+
+def read_entry(output: int, text: str) -> Entry:
+    """What feeds an output."""
+    port, rank = text.split(":")
+    return Entry(int(port), output, int(rank[0]), LETTERS.index(rank[1]))
 
 
 def table(pointers: Dict[Tuple[int, int], int], count: int) -> str:

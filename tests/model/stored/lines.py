@@ -20,6 +20,7 @@ def by_lines(make: Callable[[], Rows]) -> Remake:
     """Makes a text anew, line by line."""
 
     def remake(text: str) -> str:
+        """The text with each line made anew; comments and empty lines stay."""
         rows = make()
         lines: List[str] = []
         for line in text.split("\n"):
@@ -36,6 +37,7 @@ class Arrowed(Rows):
         self.answer, self.arrow = answer, arrow
 
     def remade(self, line: str) -> List[str]:
+        """The line with its answer."""
         question = line.split(self.arrow)[0]
         return [question + self.arrow + self.answer(question)]
 

@@ -27,7 +27,8 @@ TABLE_FAULTS = {
 def arrivals(question: str) -> str:
     """`NAME PACE PACKETS`: the arrival slots."""
     _, pace, packets = question.split()
-    stamps = [tuple(map(int, it.split(":"))) for it in packets.split(",")] if packets != forms.NONE else []
+    parts = (it.split(":") for it in packets.split(",")) if packets != forms.NONE else ()
+    stamps = [(int(time), int(cells)) for time, cells in parts]
     slots = arrivals_of(stamps, *([] if pace == "line" else map(int, pace.split(":"))))
     return f"too_long {slots_of(slots)}" if slots_of(slots) > MOST_SLOTS else forms.numbers(slots) or forms.NONE
 
@@ -49,6 +50,7 @@ class CaptureRows(Rows):
     """Lines `NAME BYTES ANSWER`."""
 
     def remade(self, line: str) -> List[str]:
+        """The line with its answer, where it has one."""
         name, data = line.split()[:2]
         return [f"{name} {data} {capture(forms.unhexed(data))}"]
 
@@ -62,6 +64,7 @@ class DestinationRows(Rows):
     """Lines `NAME LINK ANSWER FRAME`."""
 
     def remade(self, line: str) -> List[str]:
+        """The line with its answer, where it has one."""
         name, link, _, frame = line.split()
         found = destination(int(link), forms.unhexed(frame))
         return [f"{name} {link} {forms.NONE if found is None else dotted(found)} {frame}"]
@@ -74,6 +77,7 @@ class TableRows(Rows):
         self.case: Dict[str, str] = {}
 
     def remade(self, line: str) -> List[str]:
+        """The line with its answer, where it has one."""
         key, _, value = line.partition(" ")
         if key == "answer":
             return [f"answer {self.answer()}"]
@@ -105,6 +109,7 @@ class CellRows(Rows):
     """Lines `cells_of`, `cut`, `cut_long` and `form`."""
 
     def remade(self, line: str) -> List[str]:
+        """The line with its answer, where it has one."""
         words = line.split()
         if words[0] == "cells_of":
             return [f"cells_of {words[1]} {cells_of(int(words[1]))}"]
@@ -134,6 +139,7 @@ class ReassemblyRows(Rows):
         self.output = Reassembly(0, {})
 
     def remade(self, line: str) -> List[str]:
+        """The line with its answer, where it has one."""
         key, *words = line.split()
         if key == "n":
             self.output = Reassembly(int(words[0]), {})
@@ -149,6 +155,7 @@ class ReassemblyRows(Rows):
     def put(self, data: str) -> str:
         """The message that ends with a cell."""
         cell = read_cell(bytes.fromhex(data))
+        assert cell is not None
         message = self.output.put(cell)
         return forms.NONE if message is None else f"{cell.input} {cell.level} {LETTERS[cell.kind]} {message.hex()}"
 

@@ -27,6 +27,7 @@ class RefusedWords(Rows):
     """Lines `WORDS => STATUS LINE`."""
 
     def remade(self, line: str) -> List[str]:
+        """The line with its answer."""
         words = line.split(ARROW)[0]
         ended = run_words(words.split())
         return [f"{words}{ARROW}{ended.status} {' '.join(ended.error)}"]

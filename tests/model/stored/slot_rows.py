@@ -2,7 +2,7 @@
 
 from __future__ import annotations
 
-from typing import Callable, Dict, Iterator, List, Optional
+from typing import Callable, Dict, Iterator, List
 
 from ..ports import distance, first_from, lowest, next_port, ports_of, rotated
 from ..rounds import Pointers, is_maximal
@@ -17,23 +17,29 @@ class ChoiceRows(Rows):
     """Lines of a call with its answer as the last word."""
 
     def remade(self, line: str) -> List[str]:
+        """The line with its answer."""
         call, *words = line.split()
         question = words[:-1]
         return [" ".join([call, *question, getattr(self, call)(*question)])]
 
     def dist(self, ports: str, start: str, port: str) -> str:
+        """The distance from a pointer to a port."""
         return str(distance(int(ports), int(start), int(port)))
 
     def next(self, ports: str, port: str) -> str:
+        """The port one beyond."""
         return str(next_port(int(ports), int(port)))
 
     def pick(self, ports: str, start: str, members: str) -> str:
+        """The rotating choice."""
         return forms.numbers([first_from(int(ports), int(start), forms.ports(members))])
 
     def rotate(self, ports: str, members: str, by: str) -> str:
+        """A mask, rotated."""
         return f"{rotated(int(ports), int(members, 16), int(by)):#x}"
 
     def lowest(self, members: str) -> str:
+        """The least member."""
         return forms.numbers([lowest(int(members, 16))])
 
 
@@ -62,9 +68,11 @@ class ScheduledRows(Rows):
     """Rows that a scheduler answers: from a line `by NAME` on the one of this name, before the first such line
     iSLIP."""
 
-    scheduler: Scheduler = staticmethod(islip)
+    def __init__(self) -> None:
+        self.scheduler: Scheduler = islip
 
     def remade(self, line: str) -> List[str]:
+        """The line with its answer."""
         key, _, value = line.partition(" ")
         if key == "by":
             self.scheduler = SCHEDULERS[value]
@@ -80,10 +88,12 @@ class DecisionRows(ScheduledRows):
     """Blocks of one slot: ports, rounds, slot, rows and pointers, and then the answers."""
 
     def __init__(self) -> None:
+        super().__init__()
         self.case: Dict[str, str] = {}
         self.answers: Dict[str, str] = {}
 
     def scheduled(self, line: str, key: str, value: str) -> List[str]:
+        """The line, or the one of its answer."""
         if key == "case":
             self.case = {}
         elif key == "shared":
@@ -114,10 +124,12 @@ class ScheduleRows(ScheduledRows):
     """Blocks of slots one after the other."""
 
     def __init__(self) -> None:
+        super().__init__()
         self.ports = self.rounds = self.slot = 0
-        self.pointers: Optional[Pointers] = None
+        self.pointers = Pointers(0)
 
     def scheduled(self, line: str, key: str, value: str) -> List[str]:
+        """The line, or the one of its answer."""
         if key == "n":
             self.ports, self.slot, self.pointers = int(value), 0, Pointers(int(value))
         elif key == "rounds":
@@ -141,6 +153,7 @@ class WaitRows(Rows):
         self.slots: list = []
 
     def remade(self, line: str) -> List[str]:
+        """The line with its answer."""
         key, *words = line.split()
         if key == "case":
             self.slots = []
@@ -155,6 +168,7 @@ def longest(scheduler: Scheduler) -> Remake:
     input 0, from the pointers and over the rows that follow."""
 
     def remake(text: str) -> str:
+        """The text with the numbers of slots made anew."""
         head, *blocks = text.split("\ncase ")
         return "\ncase ".join([head, *(counted(block, scheduler) for block in blocks)])
 

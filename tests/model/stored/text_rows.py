@@ -23,6 +23,7 @@ class WordRows(Rows):
     """Lines of words in quotes with the job that they mean."""
 
     def remade(self, line: str) -> List[str]:
+        """The line with its answer."""
         question = f" {line}".split(ARROW)[0][1:]
         job = job_of([forms.unquoted(word[0]) for word in forms.QUOTED.finditer(question)])
         return [f"{question}{ARROW}{job_text(job)}".lstrip()]
@@ -57,7 +58,7 @@ def job_text(job: Optional[Job]) -> str:
         names = f"table={forms.quoted(job.table)} prefix={forms.quoted(job.prefix)} inputs={names_text(job.inputs)}"
         return f"run {settings_text(job.settings)} {flags_text(job)} {names}"
     if isinstance(job, GenJob):
-        numbers = f"seed={job.seed} count={job.count} ports={job.ports}"
+        numbers = f"seed={job.seed} count={job.packets} ports={job.ports}"
         return " ".join(["gen", settings_text(job.settings), numbers, *scheduler_text(job.scheduler)])
     if isinstance(job, CheckJob):
         return " ".join(["check", f"file={forms.quoted(job.file)}", *scheduler_text(job.scheduler)])
@@ -75,6 +76,7 @@ class TextRows(Rows):
         self.slots: List[str] = []
 
     def remade(self, line: str) -> List[str]:
+        """The line, and the text in the place of the lines of one."""
         key, _, value = line.partition(" ")
         if key == ">":
             return []
@@ -90,13 +92,14 @@ class TextRows(Rows):
     def summary(self) -> Summary:
         """The numbers of the summary."""
         numbers = list(map(int, self.case["summary"].split()))
-        return Summary(*numbers[:-LEVELS], numbers[-LEVELS:])
+        return Summary._make([*numbers[:-LEVELS], numbers[-LEVELS:]])
 
     def text(self) -> List[str]:
         """The lines of the summary or of the report."""
         if "outputs" not in self.case:
             return summary_lines(self.summary())
-        outputs = [tuple(map(int, part.split(":"))) for part in self.case["outputs"].split(",")]
+        counts = (part.split(":") for part in self.case["outputs"].split(","))
+        outputs = [(int(packets), int(cells)) for packets, cells in counts]
         lines = None
         if "slot_lines" in self.case:
             slots = [slot.split() for slot in self.slots]
@@ -131,6 +134,7 @@ class JournalRows(ScheduledRows):
     """Lines of the bytes of a journal, each with a line of the answer."""
 
     def scheduled(self, line: str, key: str, value: str) -> List[str]:
+        """The line, and the one of the answer behind it."""
         return [] if key == ">" else [line, f"> {self.answer(forms.unhexed(line))}"]
 
     def answer(self, data: bytes) -> str:

@@ -22,6 +22,7 @@ def traffic(question: str) -> str:
     job = job_of(words[:5])
     if kind == "traffic":
         return "none" if job is None else f"{job.pattern} {job.weight} {job.load} {job.burst} {job.ports}"
+    assert job is not None
     job.seed = int(words[5])
     return source(job, int(words[6]), int(words[7]))
 
