@@ -77,5 +77,33 @@ class MadeFiles(unittest.TestCase):
         self.assertEqual(unlisted(self.TRACKED, [*names, "docs/pictures/*", "examples/*/expected/*"]), [])
 
 
+class Bounds(unittest.TestCase):
+    """The numbers of slots in the tables of README.md and docs/WAITING.md, by the formulas beside them."""
+
+    WINDOWS = {"one": lambda n: 2 * n * n - 3 * n + 2, "more": lambda n: 3 if n == 2 else n * (n * n - n + 2) // 2, "firm": lambda n: n * n}
+
+    def rows(self, name, head):
+        """The columns of the first table whose head begins so, as numbers."""
+        lines = (TOP / name).read_text().splitlines()
+        at = next(number for number, line in enumerate(lines) if line.startswith(f"| {head}"))
+        ends = next(number for number, line in enumerate(lines[at:], at) if not line.startswith("|"))
+        rows = [[int(cell.replace(",", "")) for cell in line.strip("|").split("|")[1:]] for line in (lines[at], *lines[at + 2: ends])]
+        self.assertGreater(len(rows[0]), 4)
+        return rows
+
+    def bound(self, kind, ports, is_run):
+        """A run of three ports or more needs one slot less, except under FIRM."""
+        return self.WINDOWS[kind](ports) - (is_run and ports > 2 and kind != "firm")
+
+    def test_readme(self):
+        ports, *rows = self.rows("README.md", "N ports, three or more |")
+        self.assertEqual(rows, [[self.bound(kind, n, True) for n in ports] for kind in ("one", "more", "firm")])
+
+    def test_waiting(self):
+        ports, *rows = self.rows("docs/WAITING.md", "slots until served")
+        kinds = (("one", False), ("one", True), ("more", False), ("more", True), ("firm", False))
+        self.assertEqual(rows, [[self.bound(kind, n, is_run) for n in ports] for kind, is_run in kinds])
+
+
 if __name__ == "__main__":
     unittest.main()
