@@ -21,6 +21,12 @@ class Install(Scene):
         super().setUp()
         self.prefix = self.room / "pre fix"
 
+    def in_git(self, folder, tag):
+        """Has all of a folder in a repository of its own, with a tag."""
+        name = ("-c", "user.name=x", "-c", "user.email=x@y")
+        for words in (["init", "-q"], ["add", "-A"], [*name, "commit", "-qm", "x"], ["tag", tag]):
+            subprocess.run(["git", "-C", folder, *words], check=True)
+
     def copy_all(self):
         """Has in the clone what is installed beside the program."""
         ignored = shutil.ignore_patterns("__pycache__")
@@ -95,6 +101,17 @@ class Install(Scene):
         self.assertEqual(told[0], "port 0: 4 packets, 10.1.0.0/24: parts/00.pcap")
         self.assertIn(f"{self.prefix}/lib/tiny_tera/tiny_tera' run parts/table.txt", told[-1])
 
+    def test_provenance(self):
+        """What the installed tools make is of the version that was installed, also within a repository of the user's own."""
+        self.build()
+        self.copy_all()
+        self.in_git(self.top, "v7")
+        self.install()
+        self.in_git(self.prefix, "v8")
+        words = [sys.executable, "-c", "from measure.provenance import commit; print(commit())"]
+        told = run_here(words, env={**self.variables, "PYTHONPATH": str(self.prefix / "lib/tiny_tera/tools")})
+        self.assertEqual(told.stdout, "v7\n")
+
     def test_package_and_examples(self):
         """The package has the library beside it where one is there, and the examples run the program there."""
         self.store()
@@ -165,8 +182,7 @@ class Install(Scene):
     def test_clone_of_another_user(self):
         """The version is that of the clone, whoever owns it."""
         self.build()
-        for words in (["init", "-q"], ["add", "-A"], ["-c", "user.name=x", "-c", "user.email=x@y", "commit", "-qm", "x"], ["tag", "v7"]):
-            subprocess.run(["git", "-C", self.top, *words], check=True)
+        self.in_git(self.top, "v7")
         other = {"GIT_TEST_ASSUME_DIFFERENT_OWNER": "1"}
         told = subprocess.run(["git", "-C", self.top, "describe"], env={**self.variables, **other}, stdout=subprocess.PIPE, stderr=subprocess.PIPE)
         self.assertIn(b"dubious ownership", told.stderr)
