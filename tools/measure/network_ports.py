@@ -39,21 +39,17 @@ def read_ports(words):
     """The ports of words; ValueError where one is wrong."""
     if len(words) > MAX_PORTS:
         raise ValueError(f"here are {len(words)} ports, and a switch has at most {MAX_PORTS}")
-    kinds, items, rest = set(), {}, None
-    for port, word in enumerate(words):
-        if word == REST:
-            if rest is not None:
-                raise ValueError("* stands twice")
-            rest = port
-            continue
-        for item in word.split(","):
-            kind, value = _read_item(item)
-            kinds.add(kind)
-            if items.setdefault(value, port) != port:
-                raise ValueError(f"{item} stands for two ports, {items[value]} and {port}")
+    kinds, items = set(), {}
+    for port, item in [(port, item) for port, word in enumerate(words) if word != REST for item in word.split(",")]:
+        kind, value = _read_item(item)
+        kinds.add(kind)
+        if items.setdefault(value, port) != port:
+            raise ValueError(f"{item} stands for two ports, {items[value]} and {port}")
     if len(kinds) > 1:
         raise ValueError(f"ports are of one kind, and here are {' and '.join(sorted(kinds))}")
-    return Ports(words, kinds.pop() if kinds else None, items, rest)
+    if words.count(REST) > 1:
+        raise ValueError(f"{REST} stands twice")
+    return Ports(words, kinds.pop() if kinds else None, items, words.index(REST) if REST in words else None)
 
 
 def _read_item(item):

@@ -78,12 +78,11 @@ def cells_waiting(rows, report, name):
 
 def slots_that_feed(report, name):
     """For each output the slots that feed it from a queue."""
-    found = defaultdict(list)
-    for number, slot in enumerate(report.slots):
-        for pair in slot.pairs:
-            if (pair.input, pair.level) == (name.input, name.level) and pair.multicast == (name.output is None):
-                if name.output in (None, pair.output):
-                    found[pair.output].append(number)
+    found, is_multicast = defaultdict(list), name.output is None
+    for number, pair in ((number, pair) for number, slot in enumerate(report.slots) for pair in slot.pairs):
+        if (pair.input, pair.level, pair.multicast) == (name.input, name.level, is_multicast):
+            if is_multicast or pair.output == name.output:
+                found[pair.output].append(number)
     return found
 
 
