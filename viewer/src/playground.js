@@ -178,7 +178,7 @@
         /** Shows what the address of the page holds, if it holds anything. */
         openAddress() {
             if (window.location.hash.length > 1) {
-                this.openLink(window.location.hash);
+                this.act(() => this.openLink(window.location.hash));
             }
         }
 

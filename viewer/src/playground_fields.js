@@ -5,6 +5,9 @@
     const { SCHEDULERS, QUEUES, PATTERNS, MAX_PORTS, FileFault } = viewer;
 
     const MOST_SEED = 999999999;
+    /** So many slots of random requests are written as text, and no longer text is taken from a file. */
+    const RANDOM_SLOTS = 100;
+    const MOST_TEXT_BYTES = 33554432;
     const NUMBER = /^\d{1,9}$/;
 
     const by = (id) => document.getElementById(id);
@@ -31,6 +34,13 @@
     function loadChosen(page) {
         viewer.loadPattern(page.model, chosenPattern());
         page.isNext = true;
+    }
+
+    /** Loads random requests anew with another seed or share, where they are chosen. */
+    function loadRandom(page) {
+        if (chosenPattern().name === "random") {
+            loadChosen(page);
+        }
     }
 
     function otherPorts(page, text) {
@@ -72,8 +82,8 @@
         rule: (page, { value }) => page.change({ rule: value }, `by ${viewer.schedulerTitle(value)}`),
         queues: (page, { value }) => page.change({ queues: value }, QUEUES.find(({ name }) => name === value).title),
         pattern: loadChosen,
-        seed: loadChosen,
-        share: loadChosen,
+        seed: loadRandom,
+        share: loadRandom,
         shown: () => {},
         "begin-grant": changeBegin,
         "begin-accept": changeBegin,
@@ -98,10 +108,22 @@
             page.replace(page.model.like({ script: viewer.NO_SCRIPT }), "No requests come from a text any more.");
         },
         "script-write": (page) => { by("script").value = viewer.writeScript(page.model); },
+        "script-random": (page) => { by("script").value = viewer.randomScript(page.model, RANDOM_SLOTS, chosenPattern()); },
     };
 
     function readAgain() {
         return by("again-from").value.trim() === "" ? null : within(by("again-from").value, 0, viewer.MOST_SLOTS, 0);
+    }
+
+    /** Puts a text file that is dropped on the page where the requests stand as text. */
+    async function showDropped(page, file) {
+        if (file.size > MOST_TEXT_BYTES) {
+            page.tell(`${file.name} is too long for requests as text.`);
+            return;
+        }
+        by("script").value = await file.text();
+        by("script-part").open = true;
+        page.tell(`The text of ${file.name} stands under "Requests as text".`);
     }
 
     function watchPlayground(page) {
@@ -113,6 +135,8 @@
                 page.job.isStopped = true;
             }
         });
+        viewer.watchDrops(([file]) => showDropped(page, file));
+        by("script-part").addEventListener("toggle", () => showFields(page));
         window.addEventListener("resize", () => page.draw());
         window.addEventListener("hashchange", () => page.openAddress());
         viewer.watchTheme(by("theme"), () => {});
@@ -129,7 +153,7 @@
             by(`begin-${side}`).value = model.begin[side].join(" ");
         });
         document.querySelectorAll(".of-random").forEach((part) => {
-            part.hidden = by("pattern").value !== "random";
+            part.hidden = by("pattern").value !== "random" && !by("script-part").open;
         });
         by("back").disabled = model.slot === 0;
         by("script-end").disabled = model.script.lines.length === 0;

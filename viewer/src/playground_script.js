@@ -136,6 +136,19 @@
         return [`journal ports ${ports} rounds ${rounds}`, ...lines].map((line) => `${line}\n`).join("");
     }
 
+    /** The text of so many slots of random requests, each queue with the share. */
+    function randomScript({ ports, rounds }, slots, { seed, share }) {
+        const next = viewer.randomNumbers(seed);
+        const lines = d3.range(slots).map((slot) => {
+            const asked = d3.range(ports).flatMap((input) => {
+                const outputs = d3.range(ports).filter(() => next() < share / 100);
+                return outputs.length === 0 ? [] : [`${input}>${outputs.join(",")}:0u`];
+            });
+            return ["slot", slot, "requests", ...asked].join(" ");
+        });
+        return [`journal ports ${ports} rounds ${rounds}`, ...lines].map((line) => `${line}\n`).join("");
+    }
+
     /** The first slot whose match is another than that of the text, or -1. */
     function firstUnlike(model, matches) {
         return model.history.findIndex(({ inputs, slot }) => {
@@ -144,5 +157,5 @@
         });
     }
 
-    Object.assign(viewer, { readScript, writeScript, firstUnlike });
+    Object.assign(viewer, { readScript, writeScript, randomScript, firstUnlike });
 })(globalThis.SlotViewer = globalThis.SlotViewer || {});

@@ -246,6 +246,40 @@ def test_random_requests(viewer):
     expect(not page.is_shown("seed"), "the seed stands beside other requests")
 
 
+# Drops a text file on the page.
+DROP = """
+const transfer = new DataTransfer();
+transfer.items.add(new File([arguments[0]], "requests.txt"));
+document.body.dispatchEvent(new DragEvent("drop", { dataTransfer: transfer, bubbles: true, cancelable: true }));
+"""
+
+
+def test_random_script(viewer):
+    """100 slots of random requests put cells into queues: what came is what was served and what is left. A text that is dropped is shown."""
+    page = Playground(viewer)
+    page.run("document.getElementById('script-part').open = true")
+    page.wait("document.getElementById('share').checkVisibility()", "the share beside the text")
+    page.set("queues", "cells")
+    page.set("pattern", "none")
+    page.set("share", 24)
+    page.set("seed", 7)
+    page.push("script-random")
+    text = page.run("return document.getElementById('script').value")
+    came = sum(len(word.split(">")[1].split(",")) for word in text.split() if word.endswith(":0u"))
+    page.push("script-use")
+    page.many(5, "many")
+    served = page.run("return SlotViewer.playground.model.history.reduce((sum, { count }) => sum + count, 0)")
+    left = page.run("return SlotViewer.playground.model.cells.reduce((sum, count) => sum + count, 0)")
+    expect(300 < came < 470 and served + left == came and served > 250, f"{came} came, {served} served, {left} left")
+    page.push("script-random")
+    expect(page.run("return document.getElementById('script').value") == text, "the same seed gives another text")
+    page.run(DROP, "slot 0 requests 1>1:0u\n")
+    page.wait("document.getElementById('script').value === 'slot 0 requests 1>1:0u\\n'", "the text that was dropped")
+    page.push("script-use")
+    page.many(1)
+    expect(page.slots() == ["1>1"], f"{page.slots()}")
+
+
 def test_playground_room(viewer):
     """The crossbar takes the width that it has, and nothing scrolls sideways, in light and dark and on a phone."""
     sizes = []

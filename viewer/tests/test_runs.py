@@ -234,10 +234,11 @@ def test_one_queue(viewer):
     viewer.open(files.DATA / "rrm.packets.csv")
     peaks = [queue_lines(name)["1>1:0u"]["peak"] for name in ("firm", "rrm")]
     said = viewer.text("queue-line")
-    expect(said.startswith(f"In the first run (filled) the queue holds at most {peaks[0]} cells") and f"In the second run (dashed) the queue holds at most {peaks[1]} cells" in said, said)
+    runs = ("In the first run (filled)", "In the second run (dashed)")
+    expect(all(f"{run} the queue holds at most {peak} cells" in said for run, peak in zip(runs, peaks)), said)
     viewer.shoot("one_queue")
     viewer.choose("queue-level", "2")
-    expect(viewer.text("queue-line") == "In the first run (filled) no cell comes to this queue. In the second run (dashed) no cell comes to this queue.", viewer.text("queue-line"))
+    expect(viewer.text("queue-line") == " ".join(f"{run} no cell comes to this queue." for run in runs), viewer.text("queue-line"))
     for odd in ("3", "", "x"):
         viewer.choose("queue-input", odd)
         expect(viewer.text("slot-fault") == "A queue has an input and an output from 0 to 2.", viewer.text("slot-fault"))
