@@ -84,10 +84,7 @@
             const { model } = this;
             await this.work(stepMany(model, count), "Deciding slots");
             this.isNext = model.slot === 0;
-            if (model.isFull) {
-                this.tell(`Here are ${viewer.MOST_SLOTS} slots, the most that the page keeps.`);
-            }
-            this.tellUnlike();
+            this.tell([model.isFull ? `Here are ${viewer.MOST_SLOTS} slots, the most that the page keeps.` : "", this.unlikeText()].join(" ").trim());
             this.draw();
         }
 
@@ -106,7 +103,7 @@
                 this.tell("Stopped: nothing has changed.");
             } else {
                 this.model = made;
-                this.tell(slot > 0 ? `${counted(slot, "slot")} decided anew, with the same requests: ${what}.` : null);
+                this.tell(slot > 0 ? `${counted(slot, "slot")} decided anew, with the same requests: ${what}. ${this.unlikeText()}`.trim() : null);
             }
             this.draw();
         }
@@ -153,12 +150,10 @@
             }
         }
 
-        /** Says where a match is another than that of the text. */
-        tellUnlike() {
+        /** Where the first match is that is another than that of the text, in a sentence; "" where there is none. */
+        unlikeText() {
             const slot = viewer.firstUnlike(this.model, this.matches);
-            if (slot >= 0) {
-                this.tell(`In slot ${slot} the match is another than that of the text.`);
-            }
+            return slot < 0 ? "" : `In slot ${slot} the match is another than that of the text.`;
         }
 
         /** Shows what a link holds, or says why not. */

@@ -141,6 +141,9 @@ def test_script_of_requests(viewer):
     page.push("script-use")
     page.many(5)
     expect(page.text("told-text") == "In slot 3 the match is another than that of the text.", page.text("told-text"))
+    page.set("rule", "firm")
+    said = "5 slots decided anew, with the same requests: by FIRM. In slot 3 the match is another than that of the text."
+    expect(page.text("told-text") == said, page.text("told-text"))
     page.set("rule", "rrm")
     page.many(2, "many")
     expect("another" not in page.text("told-text"), page.text("told-text"))
@@ -231,6 +234,11 @@ def test_long_work_stops(viewer):
     page.push("many")
     page.settled()
     expect(len(page.table("Rounds")) == 64, f"{len(page.table('Rounds'))} rounds")
+    page.run("const { model } = SlotViewer.playground; while (model.slot < 1995) { model.step(); }")
+    page.push("many")
+    page.settled()
+    expect(page.run("return SlotViewer.playground.model.slot") == 2000, "more slots than the page keeps")
+    expect(page.text("told-text") == "Here are 2000 slots, the most that the page keeps.", page.text("told-text"))
 
 
 def test_random_requests(viewer):
