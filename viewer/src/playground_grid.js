@@ -109,13 +109,22 @@
             this.drawCursor();
         }
 
+        /** Draws the crosspoints: of many ports only those that are other than before, so that a click is seen at once. */
         drawCells(queues) {
             const age = d3.scaleSymlog().domain([0, LONG_WAIT]).clamp(true);
-            this.layers.cells.selectAll("rect").data(queues).join("rect")
+            const rects = this.layers.cells.selectAll("rect").data(queues).join("rect");
+            const shape = `${this.ports} ${this.cell}`;
+            const looks = queues.map(({ cells, wait }) => (cells > 0 ? age(wait) : -1));
+            if (shape !== this.shape) {
+                rects.attr("x", (_, at) => this.edge(at % this.ports)).attr("y", (_, at) => this.edge(Math.floor(at / this.ports)))
+                    .attr("width", this.cell).attr("height", this.cell);
+                this.looks = [];
+            }
+            rects.filter((_, at) => looks[at] !== this.looks[at])
                 .attr("class", ({ cells }) => (cells > 0 ? "asked" : "idle"))
-                .style("--age", ({ wait }) => age(wait))
-                .attr("x", (_, at) => this.edge(at % this.ports)).attr("y", (_, at) => this.edge(Math.floor(at / this.ports)))
-                .attr("width", this.cell).attr("height", this.cell);
+                .style("--age", ({ wait }) => age(wait));
+            this.shape = shape;
+            this.looks = looks;
         }
 
         drawLabels() {
