@@ -1,6 +1,8 @@
 """What dev/check_repository says of the pages: sentences that are too long, and files that are made by nothing named."""
 
+import tempfile
 import unittest
+from pathlib import Path
 
 import sentence_lengths as lengths
 
@@ -103,6 +105,25 @@ class Bounds(unittest.TestCase):
         ports, *rows = self.rows("docs/WAITING.md", "slots until served")
         kinds = (("one", False), ("one", True), ("more", False), ("more", True), ("firm", False))
         self.assertEqual(rows, [[self.bound(kind, n, is_run) for n in ports] for kind, is_run in kinds])
+
+
+class Versions(unittest.TestCase):
+    def faults(self, changes, launcher, package):
+        """What is said of three files with these texts."""
+        with tempfile.TemporaryDirectory() as room:
+            names = {"CHANGELOG.md": changes, "launcher/version.py": launcher, "python/pyproject.toml": package}
+            for name, text in names.items():
+                Path(room, name).parent.mkdir(exist_ok=True)
+                Path(room, name).write_text(text)
+            return tool("check_repository").version_faults(Path(room))
+
+    def test_three_places(self):
+        """The newest version of the change log is the first, below what is not released."""
+        changes, launcher, package = "# Changes\n\n## Unreleased\n\n## 2.1\n\n## 2.0\n", 'VERSION = "2.1"\n', '[project]\nversion = "2.1"\n'
+        self.assertEqual(self.faults(changes, launcher, package), [])
+        told = "versions differ: CHANGELOG.md has 2.1, launcher/version.py has 2.0, python/pyproject.toml has 2.1"
+        self.assertEqual(self.faults(changes, 'VERSION = "2.0"\n', package), [told])
+        self.assertEqual(len(self.faults("# Changes\n\n## Unreleased\n", launcher, package)), 1)
 
 
 if __name__ == "__main__":
