@@ -7,6 +7,8 @@ from ..rounds import Pointers
 from ..rows import row_of
 from ..schedulers import SCHEDULERS
 from .arbiters import Random, Rotating
+from .queues import Queues
+from .words import Job
 
 
 class Arbiters(unittest.TestCase):
@@ -41,3 +43,15 @@ class Arbiters(unittest.TestCase):
             self.assertTrue(all(output in rows[port] for output, port in match.fed.items()))
             free = [port for port in range(5) if port not in match.fed.values()]
             self.assertFalse(any(rows[port] - set(match.fed) for port in free))
+
+
+class Waits(unittest.TestCase):
+    def test_wait_is_counted_from_its_first_slot(self):
+        """Two inputs ask output 0 in slot 0: one is served then, the other, which has waited one slot, in slot 1."""
+        queues = Queues(Job(1, 4, 2, rounds=1))
+        for port in (0, 1):
+            self.assertTrue(queues.enter(0, port, 0))
+        self.assertEqual([cell.input for cell in queues.serve(0).cells], [0])
+        self.assertEqual((queues.longest, queues.count(), queues.age(1)), (1, 1, 1))
+        self.assertEqual([cell.input for cell in queues.serve(1).cells], [1])
+        self.assertEqual((queues.longest, queues.peak), (1, 1))

@@ -96,9 +96,13 @@ def row_files() -> List[Path]:
 
 
 def all_kept() -> List[Kept]:
-    """All that is kept and that the model makes."""
+    """All that is kept and that the model makes; ValueError where there are rows of which it knows nothing."""
     jobs, runs = (sorted(path for path in (TOP / folder).iterdir() if path.is_dir()) for folder in (JOBS, SIMULATIONS))
     rows = [file for file in row_files() if row_name(file) not in OTHERS]
+    unread = [row_name(file) for file in rows if file.stem not in ROWS]
+    if unread:
+        names = ", ".join(unread)
+        raise ValueError(f"tests/model/stored has no reader of {names}; what others make is named in OTHERS there")
     shown = sorted(path.parent for path in (TOP / EXAMPLES).glob(f"*/{EXPECTED}"))
     journals = sorted((TOP / LECTURE).glob("*.journal"))
     return [
