@@ -5,6 +5,9 @@
 //! row on standard error. A row that cannot be read is wrong. The status is 0 where nothing is wrong, else 1.
 #![tactic(auto)]
 
+mod delay_rows;
+mod items;
+mod queue_rows;
 mod traffic_rows;
 mod vector_file;
 

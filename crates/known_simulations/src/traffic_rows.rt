@@ -5,6 +5,7 @@
 //! the other, and `-` where no cell comes.
 ghost use Rattle.std.specs.Prelude.{◌≡◌, ◌<◌, IfOk};
 
+use crate::items::add_item;
 use made_traffic::{Pattern, Source, Traffic, stream};
 use rand_core::utils::NextWord;
 use std::alloc::{AllocError, Global};
@@ -114,12 +115,4 @@ fn add_outputs(
         None => format!(in alloc; "-*{count}")?,
     };
     add_item(text, item.as_str())
-}
-
-// Adds an item to a list that is parted by blanks.
-fn add_item(text: &mut String, item: &str) -> Result<(), AllocError> {
-    if !text.is_empty() {
-        text.push(' ')?;
-    }
-    text.push_str(item)
 }

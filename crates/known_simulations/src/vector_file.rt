@@ -1,6 +1,6 @@
 ghost use Rattle.std.specs.Prelude.{◌≡◌, true, IsSomeAnd};
 
-use crate::traffic_rows;
+use crate::{delay_rows, queue_rows, traffic_rows};
 use std::alloc::{AllocError, Global};
 use test_vectors::{Row, RowReader};
 
@@ -8,6 +8,8 @@ use test_vectors::{Row, RowReader};
 #[derive(Drop)]
 pub enum Reader {
     Traffic,
+    Queues(queue_rows::Block),
+    Delays,
     // No file of this name is known: no line of it can be read.
     Unknown,
 }
@@ -22,6 +24,8 @@ impl RowReader for Reader {
     fn at(_alloc: Global, name: &str) -> Reader {
         match name {
             "traffic.txt" => Reader::Traffic,
+            "queues.txt" => Reader::Queues(queue_rows::Block::new()),
+            "delays.txt" => Reader::Delays,
             _ => Reader::Unknown,
         }
     }
@@ -29,6 +33,8 @@ impl RowReader for Reader {
     fn row(&mut self, alloc: Global, line: &str) -> Result<Option<Row>, AllocError> {
         match self {
             Reader::Traffic => Ok(Some(traffic_rows::row(alloc, line)?)),
+            Reader::Queues(block) => block.row(alloc, line),
+            Reader::Delays => Ok(Some(delay_rows::row(alloc, line)?)),
             Reader::Unknown => Ok(Some(Row::unread(alloc, line)?)),
         }
     }
