@@ -7,7 +7,8 @@ import tempfile
 import unittest
 from pathlib import Path
 
-from measure.frame_headers import ETHERNET, RAW_IP, Flow, flow_of
+from launcher.captures import ETHERNET, RAW_IP
+from measure.frame_headers import Flow, flow_of
 
 from .common import PACKETS, REPORT, TOP, lacks, run_here
 

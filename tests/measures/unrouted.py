@@ -4,9 +4,9 @@ import tempfile
 import unittest
 from pathlib import Path
 
+from launcher.captures import ETHERNET, RAW_IP
 from launcher.words import Fault, read_words
 from measure import unrouted
-from measure.frame_headers import ETHERNET, RAW_IP
 from measure.traffic import capture_bytes
 
 from .common import TOP, run_here

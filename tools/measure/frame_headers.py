@@ -6,8 +6,9 @@ The switch looks at less: it routes by IPv4 behind at most one tag. What it make
 import socket
 from typing import NamedTuple, Optional
 
-ETHERNET, RAW_IP = 1, 101
-IPV4, IPV6 = 0x0800, 0x86DD
+from launcher.captures import ETHERNET, IPV4
+
+IPV6 = 0x86DD
 TAGS = (0x8100, 0x88A8, 0x9100)
 MPLS = (0x8847, 0x8848)
 PPPOE_SESSION = 0x8864

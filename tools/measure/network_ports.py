@@ -11,7 +11,7 @@ or it is * : all the rest. All words but * are of one of these kinds.
 """
 
 import re
-from ipaddress import IPv4Network
+from ipaddress import IPv4Address, IPv4Network
 from typing import NamedTuple, Optional
 
 from launcher.captures import ETHERNET, addresses
@@ -108,7 +108,7 @@ class Places:
         kind = self.ports.kind
         if kind == NETWORK:
             ends = addresses(self.link, frame)
-            return f"from {dotted(ends[0])}" if ends else f"without IPv4 addresses: {kind_of(self.link, frame)}"
+            return f"from {IPv4Address(ends[0])}" if ends else f"without IPv4 addresses: {kind_of(self.link, frame)}"
         if kind == INTERFACE:
             return f"of interface {interface} {self.interfaces[interface]}".rstrip()
         if kind == MAC:
@@ -121,7 +121,3 @@ def _vlan(frame):
     """The number of the first tag, None without one."""
     has_tag = len(frame) >= 16 and int.from_bytes(frame[12:14], "big") in TAGS
     return int.from_bytes(frame[14:16], "big") & 0xFFF if has_tag else None
-
-
-def dotted(address):
-    return ".".join(map(str, address.to_bytes(4, "big")))

@@ -3,6 +3,7 @@
 import struct
 from bisect import bisect_left
 from collections import Counter
+from ipaddress import IPv4Address
 from pathlib import Path
 from typing import NamedTuple
 
@@ -11,7 +12,7 @@ from launcher.captures import MICROSECONDS, NANOSECONDS, SECOND, BadCapture, add
 from launcher.tables import MAX_LINES
 
 from . import pcapng, traffic
-from .network_ports import NETWORK, Places, dotted, interface_ports, read_ports
+from .network_ports import NETWORK, Places, interface_ports, read_ports
 
 TABLE = "table.txt"
 MULTICAST = 224 << 24  # The first address that is no host's.
@@ -99,7 +100,7 @@ def table_lines(ports, sources):
         known = sorted(address for address, port in routes.items() if port != ports.rest)
         room = MAX_LINES - (ports.rest is not None)
         found = [(it, 32, routes[it]) for it in known] if len(known) <= room else together(sorted(routes), routes)
-    lines = [f"{dotted(address)}/{length} {port}" for address, length, port in found if port != ports.rest]
+    lines = [f"{IPv4Address(address)}/{length} {port}" for address, length, port in found if port != ports.rest]
     return lines if ports.rest is None else [*lines, f"* {ports.rest}"]
 
 

@@ -7,6 +7,7 @@ per input and slot, and the packets of the first slots are taken. Packets withou
 """
 
 import random
+from ipaddress import IPv4Address
 from typing import NamedTuple
 
 from launcher import captures
@@ -77,7 +78,7 @@ def table_text(destinations, routes):
     """The table that sends each destination to its port; ValueError where it has too many lines."""
     if len(destinations) > MOST_ROUTES:
         raise ValueError(f"the trace has {len(destinations)} destinations, and a table at most {MOST_ROUTES} lines")
-    names = (".".join(map(str, address.to_bytes(4, "big"))) for address in destinations)
+    names = map(IPv4Address, destinations)
     return "".join(f"{name}/32 {routes[address]}\n" for name, address in zip(names, destinations))
 
 

@@ -7,10 +7,10 @@ from collections import Counter
 from pathlib import Path
 from typing import NamedTuple, Optional
 
-from launcher.captures import IP_HEADER, IPV4, LONGEST_FORWARDED, TAGGED, destination, read_file
+from launcher.captures import ETHERNET, IP_HEADER, IPV4, LONGEST_FORWARDED, TAGGED, destination, read_file
 from launcher.tables import BadTable, read_table, route
 
-from .frame_headers import ETHERNET, IPV6, TAGS, type_name
+from .frame_headers import IPV6, TAGS, type_name
 
 NO_LINE = "no line for the address"
 TWO_TAGS, OTHER_TAG = "two tags", "tag of 802.1ad"

@@ -40,6 +40,11 @@ def launcher():
     return "./tiny_tera" if Path.cwd() == TOP else shlex.quote(str(TOP / "tiny_tera"))
 
 
+def folder_word(folder):
+    """A folder as the shell takes it, for `/` and a name behind it."""
+    return shlex.quote(folder.rstrip("/") or "/")
+
+
 def whole(low, high):
     """The type of a whole number from `low` to `high`."""
 
