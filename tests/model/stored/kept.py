@@ -19,7 +19,11 @@ ROWS: Dict[str, Remake] = {
 # What takes the model some seconds each.
 SLOW = ("gen_32_ports", "gen_32_ports_workers_1", "gen_too_many_cells", "last_slot", "known_simulations/traffic")
 # Files of rows whose answers are not the model's.
-OTHERS: Dict[str, str] = {"known_answers/longest_waits_at_line_rate": "numbers by the formulas of docs/WAITING.md"}
+OTHERS: Dict[str, str] = {
+    "known_answers/longest_waits_at_line_rate": "numbers by the formulas of docs/WAITING.md",
+    "known_simulations/delays": "rows of another model, which is not kept here",
+    "known_simulations/queues": "rows of another model, which is not kept here",
+}
 Files = Dict[str, bytes]
 
 
