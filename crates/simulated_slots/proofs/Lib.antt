@@ -1,0 +1,4 @@
+pub mod Tables
+pub mod Appends
+pub mod TakingIn
+pub mod Serving
