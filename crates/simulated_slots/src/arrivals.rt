@@ -15,9 +15,13 @@ use std::alloc::Global;
 /// The queues of a switch, and what was counted of the cells that came.
 #[derive(Drop)]
 pub struct Arrivals {
+    /// The queues.
     pub queues: ArrivalQueues,
+    /// The inputs of the cells that came in measured slots.
     pub arrived: CountTable,
+    /// The inputs of those of them that were dropped.
     pub dropped: CountTable,
+    /// The most cells that a queue had, in all slots.
     pub peak: u32,
 }
 

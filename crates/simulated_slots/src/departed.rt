@@ -19,9 +19,13 @@ use std::alloc::Global;
 /// What was counted of the cells that departed.
 #[derive(Drop)]
 pub struct Departed {
+    /// The inputs that the cells left.
     pub left: CountTable,
+    /// The outputs for which they left.
     pub fed: CountTable,
+    /// The delays of each batch, in slots.
     pub batches: BatchTable,
+    /// All delays, in slots.
     pub delays: DelayCounts,
 }
 
