@@ -134,6 +134,21 @@ uint32_t tiny_tera_decide_rrm(
     struct tiny_tera_feed *feeds, size_t feeds_len,
     struct tiny_tera_rounds *used);
 
+/* Decides slots that follow each other, from slot number `slot` on, as many as there are elements of `used`: the same as so
+ * many calls of tiny_tera_decide.
+ *   rows      n rows for each slot: those of the first one, then those of the second, and so on
+ *   pointers  before the first slot, and then after the last
+ *   feeds     n elements for each slot, in the same order, written
+ *   used      an element for each slot, written */
+uint32_t tiny_tera_decide_many(
+    uint32_t n,
+    uint32_t rounds,
+    uint32_t slot,
+    const struct tiny_tera_row *rows, size_t rows_len,
+    struct tiny_tera_pointers *pointers,
+    struct tiny_tera_feed *feeds, size_t feeds_len,
+    struct tiny_tera_rounds *used, size_t used_len);
+
 /* Whether a match is maximal for these rows: no free input asks a free output, and no input that is matched as
  * multicast asks a free output as multicast of the same level. The match may come from any scheduler; words that are no
  * match are refused: an input that is matched twice, but for several outputs of one multicast head.

@@ -3,3 +3,4 @@ pub mod Again
 pub mod Pairs
 pub mod Longest
 pub mod Levels
+pub mod ManySlots

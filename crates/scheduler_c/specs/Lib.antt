@@ -3,6 +3,7 @@ pub mod Numbers
 pub mod OneLevel
 pub mod Feeds
 pub mod FourLevels
+pub mod ManySlots
 pub mod SchedulerSteps
 pub mod Matches
 pub mod Waits

@@ -8,6 +8,7 @@
 mod decisions;
 mod feeds;
 mod four_levels;
+mod many_slots;
 mod matches;
 mod one_level;
 mod rows;
@@ -20,6 +21,7 @@ mod words;
 
 pub use feeds::FeedWords;
 pub use four_levels::{tiny_tera_decide, tiny_tera_decide_firm, tiny_tera_decide_rrm};
+pub use many_slots::tiny_tera_decide_many;
 pub use matches::tiny_tera_is_maximal;
 pub use one_level::tiny_tera_islip_slot;
 pub use status::tiny_tera_version;
