@@ -1,17 +1,18 @@
-//! How long a slot of a whole run is, where each line card always has cells.
+//! How long a slot of a whole run is, where each line card always has cells, and how many slots the workers make.
 ghost use Rattle.std.specs.Prelude.{IfOk, IfSome, ◌≤◌};
 ghost use Rattle.switch_words.specs.Limits.{IsUpTo};
 ghost use Rattle.switch_plan.specs.GoodPlans.{switch_plan_of, IsGood};
 
 use crate::captures::{Load, captures_of, table_of};
 use crate::planning::planned;
-use card_worker::OpenGate;
+use card_worker::{Gate, OpenGate};
 use rotating_pick::MAX_PORTS;
 use std::alloc::Global;
 use std::io;
+use std::sync::atomic::{AtomicU64, Ordering};
 use std::thread::Threads;
 use std::time::{Clock, Instant};
-use switch_jobs::{jobs, run_ready};
+use switch_jobs::{jobs, run_ready, run_ready_with};
 use switch_plan::Plan;
 use switch_words::MAX_WORKERS;
 
@@ -23,6 +24,9 @@ const PACKET_BYTES: u32 = 1_000;
 
 /// How many runs are timed. The least time counts, since it was disturbed least.
 const RUNS: u32 = 3;
+
+/// How often a card is refused before it gives up.
+const PATIENCE: u32 = 64;
 
 /// A run that was timed.
 #[derive(Clone, Copy)]
@@ -101,7 +105,49 @@ fn least_run<R: Threads + Sync + Clock + AllocGlobal>(
     Ok(least)
 }
 
-// Tells the time of a slot with `ports` ports and `workers` workers.
+// Counts the tries of the workers.
+#[derive(Drop)]
+struct Counting {
+    tries: AtomicU64,
+}
+
+impl Gate for Counting {
+    fn before(&self, _worker: u32) {
+        self.tries.fetch_add(1, Ordering::SeqCst);
+    }
+}
+
+// How many slots the cards made in so many tries, where each was refused as often as its patience lasts: a post and a
+// take in each slot.
+fn slots_in(tries: u64, ports: u32) -> u64 {
+    let refused = u64::from(PATIENCE) * u64::from(ports);
+    tries.saturating_sub(refused) / (2 * u64::from(ports.max(1)))
+}
+
+// How many slots of a run its workers made, or None where there was no plan or no memory for it.
+fn slots_by_workers<R: Threads + Sync + AllocGlobal>(
+    rt: &R,
+    ports: u32,
+    workers: u32,
+) -> Option<u64>
+    requires ports { ports ≤ MAX_PORTS }
+    requires workers { IsUpTo MAX_WORKERS workers }
+{
+    let plan = plan_of(rt, rt.alloc(), ports, workers)?;
+    let ready = jobs::ready(rt.alloc(), plan).ok()?;
+    let gate = Counting {
+        tries: AtomicU64::new(0),
+    };
+    let outcome = run_ready_with(rt, ready, &gate, PATIENCE);
+    let tries = gate.tries.load(Ordering::SeqCst);
+    if outcome.journal.least_refused() == u64::from(PATIENCE) {
+        Some(slots_in(tries, ports))
+    } else {
+        Some(u64::from(outcome.summary.slots))
+    }
+}
+
+// Tells the time of a slot with `ports` ports and `workers` workers, and how many of the slots the workers made.
 fn tell_slots<R: Threads + Sync + Clock + Eprint + AllocGlobal>(
     rt: &R,
     ports: u32,
@@ -114,8 +160,9 @@ fn tell_slots<R: Threads + Sync + Clock + Eprint + AllocGlobal>(
         return eprintln!(rt; "{ports} ports, {workers} workers: no plan or no memory");
     };
     let nanos = run.slot_nanos();
+    let made = slots_by_workers(rt, ports, workers).unwrap_or(0);
     eprintln!(rt;
-        "{ports} ports, {workers} workers: {nanos} ns a slot, {} cells in {} slots",
+        "{ports} ports, {workers} workers: {nanos} ns a slot, {} cells in {} slots, {made} of them by workers",
         run.cells, run.slots
     )
 }

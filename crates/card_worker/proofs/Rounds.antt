@@ -1,5 +1,5 @@
 -- Rounds of the cards' turns at a board's state.
-use Rattle.std.proofs.Common.{◌≡◌, ◌∙◌, ℕ, ◌+◌, ◌*◌, ◌<◌, ◌≤◌, Bool, List, [], ◌++◌, length, set, get_or, refl, sym, ap, subst, arith, inl, inr}
+use Rattle.std.proofs.Common.{◌≡◌, ◌∙◌, ℕ, ◌+◌, ◌*◌, ◌<◌, ◌≤◌, Bool, true, false, List, [], ◌++◌, length, set, get_or, refl, sym, ap, subst, arith, inl, inr}
 use Rattle.std.specs.Prelude.{slice_get}
 use Rattle.std.proofs.lemmas.Bool.{cases_eq, cases_lt, both_ways}
 use Rattle.std.proofs.lemmas.List.{length-set, map-set, get_or-map, set-get_or, append-nil, append_assoc}
@@ -23,7 +23,10 @@ use Rattle.card_worker.specs.TryingSteps.{one_if}
 use Rattle.card_worker.specs.Alone.{IsHandOf, AreHandsOf, GoesOn, IsOver}
 use Rattle.card_worker.specs.AloneSteps.{with_event, plans_of, IsStill, AfterAct, AfterRound}
 use Rattle.card_worker.proofs.Columns.{column-decide}
-use Rattle.card_worker.proofs.Passes.{one_none}
+
+one_none : (acted : Bool) → one_if acted ≡ 0 → acted ≡ false
+one_none true none = absurd (omega (arith, none))
+one_none false none = refl
 
 -- a hand whose card keeps its plan
 pub plans_of-set : (hands : List Hand) (i : ℕ) (new old : Hand) → i < length hands → new.card.sends.plan ≡ (get_or hands i old).card.sends.plan

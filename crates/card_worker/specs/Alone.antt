@@ -1,5 +1,5 @@
 -- Hands that agree with a board's state, and what one event of a card makes of them.
-use Rattle.std.specs.Prelude.{◌≡◌, ◌⊎◌, ◌≤◌, ◌+◌, ℕ, true, List, ◌++◌, length, slice_get, Some}
+use Rattle.std.specs.Prelude.{◌≡◌, ◌⊎◌, ◌≤◌, ℕ, true, List, ◌++◌, length, slice_get, Some}
 use Rattle.slot_histories.specs.declared.events.Event.{Event}
 use Rattle.slot_histories.specs.Events.{Setup, posts_of, takes_of, posted}
 use Rattle.slot_histories.specs.Slots.{is_done_before}

@@ -1,34 +1,61 @@
--- What the turns of a pass make of the members.
-use Rattle.std.specs.Prelude.{◌≡◌, ◌<◌, ◌≤◌, ◌+◌, ℕ, Bool, true, false, List, length, slice_get, Some}
+-- What the turns of a pass make of the members, with counts of how often each was refused.
+use Rattle.std.specs.Prelude.{◌≡◌, ◌<◌, ◌≤◌, ◌+◌, ◌&&◌, ℕ, Bool, true, false, nat_lt, List, length, slice_get, slice_index, Some}
 use Rattle.slot_histories.specs.declared.events.Event.{Event}
 use Rattle.turn_lock.specs.Seats.{TurnValue}
 use Rattle.slot_board.specs.Seats.{is_due, refusals}
 use Rattle.card_worker.specs.declared.hands.Member.{Member}
 use Rattle.card_worker.specs.Trying.{IsSound, acts_of, tries_of}
 use Rattle.card_worker.specs.TryingSteps.{one_if}
-use Rattle.card_worker.specs.Driving.{all_acts, IsSameMember, HasTried}
+use Rattle.card_worker.specs.Driving.{all_acts, IsSameMember, ArePasses}
 
--- a member's turn in a pass: it made one try where it was due, and else nothing happened
-pub record AfterTurn (board : TurnValue Event) (old new : Member) (acted : Bool) : Type 0 where
+-- whether a member goes on that was refused so often
+abbrev pub is_patient : ℕ → Member → ℕ → Bool
+is_patient patience member refused = is_due member.seat && nat_lt refused patience
+
+-- one of the members does
+pub record SomeIsPatient (patience : ℕ) (members : List Member) (refused : List ℕ) : Type 0 where
+  pub place : ℕ
+  pub member : Member
+  pub is : slice_get members place ≡ Some member
+  pub on : is_patient patience member (slice_index refused place) ≡ true
+
+-- a member that was refused `before` times had its turn, and has then been refused `after` times
+pub record HadTurn (patience : ℕ) (old : Member) (before : ℕ) (new : Member) (after : ℕ) : Type 0 where
+  pub same : IsSameMember old new
+  pub tries : is_patient patience old before ≡ true → tries_of new ≡ tries_of old + 1
+  pub rests : is_patient patience old before ≡ false → new ≡ old
+  pub counted : refusals new.seat + before ≡ refusals old.seat + after
+  pub most : before ≤ patience → after ≤ patience
+
+-- in a turn the member made a post or a take, or not
+pub record AfterTurn (board : TurnValue Event) (patience : ℕ) (old : Member) (before : ℕ) (new : Member) (after : ℕ) (acted : Bool) : Type 0 where
   pub sound : IsSound board new
-  pub plan : new.hand.card.sends.plan ≡ old.hand.card.sends.plan
-  pub number : new.seat.number ≡ old.seat.number
   pub acts : acts_of new ≡ acts_of old + one_if acted
-  pub tries : is_due old.seat ≡ true → tries_of new ≡ tries_of old + 1
-  pub free : is_due old.seat ≡ false → new ≡ old
-  pub due : acted ≡ false → is_due new.seat ≡ is_due old.seat
-
--- as due as before, and refused once at least where it was due
-pub record HasWaited (old new : Member) : Type 0 where
-  pub due : is_due new.seat ≡ is_due old.seat
-  pub tries : is_due old.seat ≡ true → refusals old.seat + 1 ≤ refusals new.seat
+  pub turn : HadTurn patience old before new after
 
 -- the first k members had their turns, in which they made `made` posts and takes
-pub record AfterTurns (board : TurnValue Event) (olds news : List Member) (k made : ℕ) : Type 0 where
+pub record AfterTurns (board : TurnValue Event) (patience : ℕ) (olds : List Member) (befores : List ℕ) (news : List Member) (afters : List ℕ) (k made : ℕ)
+    : Type 0 where
   pub count : length news ≡ length olds
   pub acts : all_acts news ≡ all_acts olds + made
   pub sound : (j : ℕ) (new : Member) → slice_get news j ≡ Some new → IsSound board new
   pub later : (j : ℕ) → k ≤ j → slice_get news j ≡ slice_get olds j
-  pub same : (j : ℕ) (old new : Member) → slice_get olds j ≡ Some old → slice_get news j ≡ Some new → IsSameMember old new
-  pub tried : (j : ℕ) (old new : Member) → j < k → slice_get olds j ≡ Some old → slice_get news j ≡ Some new → HasTried 1 old new
-  pub idle : made ≡ 0 → (j : ℕ) (old new : Member) → j < k → slice_get olds j ≡ Some old → slice_get news j ≡ Some new → HasWaited old new
+  pub later_counts : (j : ℕ) → k ≤ j → slice_index afters j ≡ slice_index befores j
+  pub turns : (j : ℕ) (old new : Member) → j < k → slice_get olds j ≡ Some old → slice_get news j ≡ Some new
+      → HadTurn patience old (slice_index befores j) new (slice_index afters j)
+
+-- so many passes made this of the member, which was refused so often in them
+pub record HasGone (patience passes : ℕ) (old new : Member) (refused : ℕ) : Type 0 where
+  pub same : IsSameMember old new
+  pub counted : refusals new.seat ≡ refusals old.seat + refused
+  pub most : refused ≤ patience
+  pub on : is_patient patience new refused ≡ true → tries_of new ≡ tries_of old + passes
+  pub free : is_due old.seat ≡ false → new ≡ old
+
+-- so many passes were made, and `made` posts and takes in them
+pub record AfterSome (board : TurnValue Event) (patience : ℕ) (olds news : List Member) (refused : List ℕ) (passes made : ℕ) : Type 0 where
+  pub are_passes : ArePasses patience olds passes news
+  pub count : length news ≡ length olds
+  pub acts : all_acts news ≡ all_acts olds + made
+  pub sound : (j : ℕ) (new : Member) → slice_get news j ≡ Some new → IsSound board new
+  pub gone : (j : ℕ) (old new : Member) → slice_get olds j ≡ Some old → slice_get news j ≡ Some new → HasGone patience passes old new (slice_index refused j)

@@ -1,29 +1,26 @@
-ghost use Rattle.std.specs.Prelude.{◌≡◌, ◌<◌, ◌≤◌, ◌+◌, ◌-◌, ◌^◌, ℕ, true, false, min, Some, length, slice_get};
-ghost use Rattle.slot_board.specs.Seats.{is_due};
+ghost use Rattle.std.specs.Prelude.{◌≡◌, ◌<◌, ◌≤◌, ◌+◌, ◌-◌, ◌^◌, ℕ, true, false, min, Some, length, slice_get, slice_index};
 ghost use Rattle.slot_board.specs.Calls.{IsSeat};
 ghost use Rattle.card_worker.specs.declared.hands.Member.{Member};
 ghost use Rattle.card_worker.specs.Trying.{IsMember, IsSound};
 ghost use Rattle.card_worker.specs.Driving.{AfterPasses};
-ghost use Rattle.card_worker.specs.DrivingSteps.{AfterTurn, AfterTurns};
+ghost use Rattle.card_worker.specs.DrivingSteps.{AfterTurn, AfterTurns, SomeIsPatient, is_patient};
 
 use crate::hands::{Gate, Group, Member};
-use crate::order::{cards_of, wait_for_others};
 use crate::tries::try_member;
-use rotating_pick::{MAX_PORTS, Ports};
+use rotating_pick::MAX_PORTS;
 use slot_board::Board;
 use std::hint::spin_loop;
-use std::thread::yield_now;
 
-// How many spin hints a worker gives after a pass without a post or a take, doubled with each further one.
-const PAUSE_HINTS: u32 = 16;
+// How many spin hints a worker gives after a pass without a post or a take.
+const PAUSE_HINTS: u32 = 64;
 
-// After how many such passes in a row a worker leaves the processor to other threads instead.
-const SPINNING_PASSES: u32 = 4;
+// How often each member was refused since the passes began.
+type Refusals = [u32; MAX_PORTS as usize];
 
-/// Drives the members until none is due, or after `patience` passes in a row without a post or a take.
-/// In each pass each due member makes one try: a member that is due at the end made as many tries as there were
-/// passes, its posts, takes and refused tries together, and one that was not due is as it was. Answers how many
-/// posts and takes the members made.
+/// Drives the members pass by pass, until none goes on. A member goes on while it is due, until it was refused
+/// `patience` times here, in all and not in a row; each that goes on makes one try in each pass. So one that is due at
+/// the end was refused exactly `patience` times, and one that was not due is as it was. Answers how many posts and
+/// takes the members made.
 pub fn drive<G: Gate>(group: &mut Group, board: &Board, gate: &G, patience: u32) -> u64
     requires few { length group.old.members.items ≤ MAX_PORTS }
     requires members { (j : ℕ) (m : Member) → slice_get group.old.members.items j ≡ Some m → IsMember board.now m }
@@ -59,89 +56,98 @@ fn drive_all<G: Gate>(
     ensures passes { AfterPasses board.now members.old members.new patience result }
     ensures none { patience ≡ 0 → members.new ≡ members.old }
 {
+    let mut refused = [0; MAX_PORTS as usize];
     let mut made: u64 = 0;
-    let mut idle: u32 = 0;
-    let cards = cards_of(members);
-    while goes_on(members, board, idle, patience) {
-        let acts = pass(members, board, gate, worker, cards);
-        if acts == 0 {
-            idle += 1;
-            pause(idle);
-        } else {
-            idle = 0;
-            made += acts;
+    for _passes in 0..u64::MAX {
+        if !some_go_on(members, &refused, board, patience) {
+            return made;
         }
+        let acts = pass(members, &mut refused, board, gate, worker, patience);
+        if acts == 0 {
+            pause();
+        }
+        made += acts;
     }
-    board.pass_on(Ports::MAX);
-    made
+    unreachable!()
 }
 
-// Leaves the board to the other workers for a while, after as many passes in a row without a post or a
-// take: a worker that waits for one that does not run must not give up before that one can.
-fn pause(idle: u32) {
-    if idle > SPINNING_PASSES {
-        yield_now();
-        return;
-    }
-    for _ in 0..PAUSE_HINTS << idle {
+// Leaves the board to the other workers for a moment.
+fn pause() {
+    for _ in 0..PAUSE_HINTS {
         spin_loop();
     }
 }
 
-// Whether a member is due, and patience is left.
-fn goes_on(members: &[Member], board: &Board, idle: u32, patience: u32) -> bool
-    requires { (j : ℕ) (m : Member) → slice_get members.now j ≡ Some m → m.seat.turn ≡ board.now }
-    ensures on { result ≡ true → idle < patience }
-    ensures ends { result ≡ false → (j : ℕ) (m : Member) → slice_get members.now j ≡ Some m → is_due m.seat ≡ true → patience ≤ idle }
+// Whether a member goes on.
+fn some_go_on(members: &[Member], refused: &Refusals, board: &Board, patience: u32) -> bool
+    requires few { length members.now ≤ MAX_PORTS }
+    requires turns { (j : ℕ) (m : Member) → slice_get members.now j ≡ Some m → m.seat.turn ≡ board.now }
+    ensures some { result ≡ true → SomeIsPatient patience members.now refused.now }
+    ensures none { result ≡ false → (j : ℕ) (m : Member) → slice_get members.now j ≡ Some m → is_patient patience m (slice_index refused.now j) ≡ false }
 {
-    idle < patience && some_due(members, board)
-}
-
-fn some_due(members: &[Member], board: &Board) -> bool
-    requires { (j : ℕ) (m : Member) → slice_get members.now j ≡ Some m → m.seat.turn ≡ board.now }
-    ensures { result ≡ false → (j : ℕ) (m : Member) → slice_get members.now j ≡ Some m → is_due m.seat ≡ false }
-{
-    for member in members {
-        if member.seat.is_due(board) {
+    for (place, member) in members.iter().enumerate() {
+        if goes_on(member, refused[place], board, patience) {
             return true;
         }
     }
     false
 }
 
-// One pass: each due member makes one try. Where all then wait for posts of other cards, their worker waits for
-// a while.
-fn pass<G: Gate>(members: &mut [Member], board: &Board, gate: &G, worker: u32, cards: Ports) -> u64
-    requires { (j : ℕ) (m : Member) → slice_get members.old j ≡ Some m → IsSound board.now m }
-    ensures { AfterTurns board.now members.old members.new (length members.old) result }
+// Whether the member is due, and was not refused too often.
+fn goes_on(member: &Member, refused: u32, board: &Board, patience: u32) -> bool
+    requires { member.now.seat.turn ≡ board.now }
+    ensures { result ≡ is_patient patience member.now refused }
 {
-    let acts = try_each(members, board, gate, worker);
-    wait_for_others(members, board, cards);
-    acts
+    member.seat.is_due(board) && refused < patience
 }
 
-// One try of each due member.
-fn try_each<G: Gate>(members: &mut [Member], board: &Board, gate: &G, worker: u32) -> u64
-    requires { (j : ℕ) (m : Member) → slice_get members.old j ≡ Some m → IsSound board.now m }
-    ensures { AfterTurns board.now members.old members.new (length members.old) result }
+// One pass: each member that goes on makes one try. Answers how many of these were posts and takes.
+fn pass<G: Gate>(
+    members: &mut [Member],
+    refused: &mut Refusals,
+    board: &Board,
+    gate: &G,
+    worker: u32,
+    patience: u32,
+) -> u64
+    requires few { length members.old ≤ MAX_PORTS }
+    requires sound { (j : ℕ) (m : Member) → slice_get members.old j ≡ Some m → IsSound board.now m }
+    ensures { AfterTurns board.now patience members.old refused.old members.new refused.new (length members.old) result }
 {
     let mut acts: u64 = 0;
-    for member in members.iter_mut() {
-        if take_turn(member, board, gate, worker) {
+    for place in 0..members.len() {
+        if take_turn(
+            &mut members[place],
+            &mut refused[place],
+            board,
+            gate,
+            worker,
+            patience,
+        ) {
             acts += 1;
         }
     }
     acts
 }
 
-// A member's turn in a pass: a try, where it is due.
-fn take_turn<G: Gate>(member: &mut Member, board: &Board, gate: &G, worker: u32) -> bool
+// A member's turn in a pass: a try, where it goes on. Whether that was a post or a take.
+fn take_turn<G: Gate>(
+    member: &mut Member,
+    refused: &mut u32,
+    board: &Board,
+    gate: &G,
+    worker: u32,
+    patience: u32,
+) -> bool
     requires sound { IsSound board.now member.old }
-    ensures { AfterTurn board.now member.old member.new result }
+    ensures { AfterTurn board.now patience member.old refused.old member.new refused.new result }
 {
-    if member.seat.is_due(board) {
-        try_member(member, board, gate, worker)
-    } else {
-        false
+    if !goes_on(member, *refused, board, patience) {
+        return false;
     }
+    let acted = try_member(member, board, gate, worker);
+    if !acted {
+        *refused += 1;
+    }
+    acted
 }

@@ -7,7 +7,6 @@ mod disbanding;
 mod driving;
 mod hands;
 pub mod laws;
-mod order;
 #[cfg(test)]
 mod tests;
 mod tries;

@@ -1,8 +1,7 @@
 -- What a seat keeps of its card, beside the events that it has seen.
-use Rattle.std.specs.Prelude.{◌≡◌, ℕ, ◌+◌, ◌-◌, Bool, [], if◌then◌else◌}
+use Rattle.std.specs.Prelude.{◌≡◌, ℕ, ◌+◌, Bool, [], if◌then◌else◌}
 use Rattle.board_state.specs.Boards.{IsSetup}
 use Rattle.slot_histories.specs.declared.events.Event.{Event}
-use Rattle.slot_histories.specs.Events.{posted}
 use Rattle.turn_lock.specs.Seats.{TurnValue}
 use Rattle.slot_board.specs.Turns.{numbers_of, setup_of}
 

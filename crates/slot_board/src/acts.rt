@@ -41,15 +41,14 @@ pub(crate) struct PostAct<'a> {
 impl<'a> Act<KeptState> for PostAct<'a> {
     ghost use Rattle.slot_board.specs.Turns.{setup_of, post_adds, StayLegal};
 
-    // The cards that have then posted the slot, none where it is decided.
-    type Out = Ports;
+    type Out = ();
 
     ghost adds = { λ act numbers events. post_adds act.card act.post.now numbers events };
 
     ghost answers = { λ act numbers events out. StayLegal (setup_of numbers) events (post_adds act.card act.post.now numbers events) };
 
-    fn apply(self, kept: &mut KeptState) -> Ports {
-        add_post(&mut kept.state, self.card, self.post)
+    fn apply(self, kept: &mut KeptState) {
+        add_post(&mut kept.state, self.card, self.post);
     }
 }
 
@@ -84,9 +83,8 @@ impl Act<KeptState> for TakeAct {
     }
 }
 
-// Notes the card's post where it may come, and decides the slot where that was its last post. Answers which
-// cards have then posted the slot, none where it is decided.
-fn add_post(state: &mut BoardState, card: u32, post: &Post) -> Ports
+// Notes the card's post where it may come, and decides the slot where that was its last post.
+fn add_post(state: &mut BoardState, card: u32, post: &Post)
     requires { MayDecide state.old.setup state.old.events → ⊥ }
     ensures setup { state.new.setup ≡ state.old.setup }
     ensures events { state.new.events ≡ state.old.events ++ post_adds card post.now (numbers_of state.old.setup) state.old.events }
@@ -99,7 +97,6 @@ fn add_post(state: &mut BoardState, card: u32, post: &Post) -> Ports
         decide_if_full(state);
     }
     state.legal();
-    state.posted()
 }
 
 // Decides the next slot where all cards have posted it.

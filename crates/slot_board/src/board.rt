@@ -8,12 +8,11 @@ ghost use Rattle.slot_board.specs.Calls.{AfterPost, AfterTaking, AfterRefusal};
 
 use crate::acts::{KeptState, PostAct, TakeAct};
 use crate::making::card_seats;
-use crate::order::NextCards;
 use crate::seat::{CardSeat, Seats};
 use crate::waits::TakeWait;
 use board_state::{BoardState, MAX_SLOTS, MAX_SLOTS_WIDE};
 use crossbar::{Post, Taken};
-use rotating_pick::{MAX_PORTS, MAX_ROUNDS, OutOfMemory, Ports};
+use rotating_pick::{MAX_PORTS, MAX_ROUNDS, OutOfMemory};
 use std::alloc::Global;
 use std::marker::Model;
 use turn_lock::{Busy, Turn};
@@ -24,7 +23,6 @@ use turn_lock::{Busy, Turn};
 pub struct Board {
     pub(crate) turn: Turn<KeptState>,
     pub(crate) max_slots: u32,
-    pub(crate) next: NextCards,
 }
 
 impl Model for Board {
@@ -65,11 +63,7 @@ impl Board {
         let boxed = Box::new(alloc, state)?;
         let (turn, turn_seats) = Turn::make(alloc, KeptState { state: boxed }, n)?;
         let seats = card_seats(alloc, turn_seats, n)?;
-        let board = Board {
-            turn,
-            max_slots,
-            next: NextCards::all(),
-        };
+        let board = Board { turn, max_slots };
         Ok((board, seats))
     }
 
@@ -86,18 +80,6 @@ impl Board {
         ensures { result ≡ (setup_of self.now.numbers).max_slots }
     {
         self.max_slots
-    }
-
-    /// Tells the workers that those of them that drive these cards are to go on next. It is a hint: it
-    /// changes no answer of any call.
-    pub fn pass_on(&self, cards: Ports) {
-        self.next.tell(cards);
-    }
-
-    /// Whether one of these cards was among those that [`Board::pass_on`] was given last. Before the first
-    /// call of that all are.
-    pub fn is_next(&self, cards: Ports) -> bool {
-        self.next.has_any(cards)
     }
 
     /// A try to post for the card's slot. Where this is the slot's last post, the slot is decided with it.
@@ -124,10 +106,9 @@ impl Board {
             post: &post,
         };
         match self.turn.try_turn(&mut seat.seat, act) {
-            Ok(posted) => {
+            Ok(()) => {
                 seat.posted = true;
                 seat.last = post.row;
-                seat.told = posted;
                 Ok(())
             }
             Err(_) => {
@@ -162,10 +143,8 @@ impl Board {
                     seat.posted = false;
                     seat.done = drawn.taken.done;
                     seat.served = drawn.taken.served;
-                    seat.told = 0;
                     Ok(drawn.taken)
                 } else {
-                    seat.told = drawn.posted;
                     seat.refused = seat.refused.saturating_add(1);
                     Err(TakeWait::NotYet {
                         posted: drawn.posted,

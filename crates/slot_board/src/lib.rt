@@ -12,7 +12,6 @@ mod closing;
 mod journal;
 pub mod laws;
 mod making;
-mod order;
 mod seat;
 mod state;
 mod waits;

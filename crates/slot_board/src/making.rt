@@ -62,7 +62,6 @@ fn card_seat(
         last: Row::empty(),
         served: None,
         refused: 0,
-        told: 0,
         room,
     }
 }

@@ -8,7 +8,6 @@ use crate::acts::KeptState;
 use crate::board::Board;
 use board_state::is_accepted;
 use crossbar::Post;
-use rotating_pick::Ports;
 use slot_match::{Row, Served};
 use std::marker::Model;
 use turn_lock::{TurnSeat, TurnSeats};
@@ -35,8 +34,6 @@ pub struct CardSeat {
     pub(crate) served: Option<Served>,
     // How many tries were refused, up to the last value of a `u64`.
     pub(crate) refused: u64,
-    // Which cards had posted the slot when the seat was told last.
-    pub(crate) told: Ports,
     // In the first seat the room for the list of all seats that the close hands to the turn lock.
     pub(crate) room: TurnSeats<KeptState>,
 }
@@ -98,13 +95,6 @@ impl CardSeat {
         ensures { result ≡ is_due self.now }
     {
         self.posted || (!self.done && self.slot < board.max_slots)
-    }
-
-    /// The cards that had posted the slot which the card has posted, as the seat was told by its last
-    /// call. None where the card has not posted it, or where the seat was told that it is decided. It is a
-    /// hint: others may have posted since.
-    pub fn told(&self) -> Ports {
-        self.told
     }
 
     /// The number of turns of all seats that this seat has seen. After a turn of its own these are all

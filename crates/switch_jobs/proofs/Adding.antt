@@ -1,8 +1,9 @@
 -- Sums over the outputs of a run, what bounds them, and the least of some numbers.
-use Rattle.std.proofs.Common.{◌≡◌, ℕ, suc, ◌^◌, ◌<◌, ◌≤◌, Bool, true, false, cond, List, [], ◌∷◌, ◌++◌, length, get_or, map, refl, arith}
+use Rattle.std.proofs.Common.{◌≡◌, ◌⊎◌, ℕ, suc, ◌-◌, ◌^◌, ◌<◌, ◌≤◌, Bool, true, false, cond, List, [], ◌∷◌, ◌++◌, length, get_or, map, refl, arith, inl, inr}
 use Rattle.std.specs.Prelude.{Some, Option, None, slice_get, All}
 use Rattle.std.specs.List.{sum_by, filter, range_with_len, flat_map}
 use Rattle.std.specs.Option.{option_to_list}
+use Rattle.std.proofs.lemmas.Bool.{cases_lt}
 use Rattle.std.proofs.lemmas.List.{length-append}
 use Rattle.std.proofs.lemmas.List.FromFn.{length-range_with_len}
 use Rattle.std.proofs.lemmas.List.Sums.{sum_by-le}
@@ -53,14 +54,24 @@ pub cells-le : {X : Type 0} (f : ℕ → Option X) (n : ℕ) → length (flat_ma
 cells-le f n = let most = one_each-le f (range_with_len 0 n) in let long = length-range_with_len 0 n in omega arith
 
 -- ---- the least of some numbers
-least_more : {X : Type 0} (b : Bool) (f : X → ℕ) (x : X) (rest : List X) (n : ℕ) → n ≤ least_of (map f rest) → (b ≡ true → n ≤ f x)
-    → n ≤ least_of (map f (cond b (x ∷ rest) rest))
-least_more true f x rest n more own = let here = own refl in omega (arith, more, here)
+least_small : (ns : List ℕ) → least_of ns ≤ 2 ^ 64 - 1
+least_small [] = omega arith
+least_small (n ∷ ns) = let rest = least_small ns in omega arith
+
+least_more : {X : Type 0} (b : Bool) (f : X → ℕ) (x : X) (rest : List X) (n : ℕ)
+    → (least_of (map f rest) ≡ n) ⊎ (least_of (map f rest) ≡ 2 ^ 64 - 1) → (b ≡ true → f x ≡ n)
+    → (least_of (map f (cond b (x ∷ rest) rest)) ≡ n) ⊎ (least_of (map f (cond b (x ∷ rest) rest)) ≡ 2 ^ 64 - 1)
+least_more true f x rest n more own =
+    let here = own refl in
+    elim (cases_lt n (2 ^ 64)) [
+      | inl small ↦ inl (elim more [ inl is ↦ omega (arith, is, here) | inr is ↦ omega (arith, is, here) ])
+      | inr great ↦ inr (elim more [ inl is ↦ omega (arith, is, here, least_small (map f rest)) | inr is ↦ omega (arith, is, here) ])
+    ]
 least_more false f x rest n more own = more
 
--- a number that none of those that count is below
-pub least-from : {X : Type 0} (p : X → Bool) (f : X → ℕ) (xs : List X) (n : ℕ) → n < 2 ^ 64
-    → ((i : ℕ) (x : X) → slice_get xs i ≡ Some x → p x ≡ true → n ≤ f x) → n ≤ least_of (map f (filter p xs))
-least-from p f [] n small each = omega arith
-least-from p f (x ∷ xs) n small each =
-    least_more (p x) f x (filter p xs) n (least-from p f xs n small (λ i y at passes. each (suc i) y at passes)) (each 0 x refl)
+-- of those that count, which are all one number
+pub least-exact : {X : Type 0} (p : X → Bool) (f : X → ℕ) (xs : List X) (n : ℕ)
+    → ((i : ℕ) (x : X) → slice_get xs i ≡ Some x → p x ≡ true → f x ≡ n)
+    → (least_of (map f (filter p xs)) ≡ n) ⊎ (least_of (map f (filter p xs)) ≡ 2 ^ 64 - 1)
+least-exact p f [] n each = inr refl
+least-exact p f (x ∷ xs) n each = least_more (p x) f x (filter p xs) n (least-exact p f xs n (λ i y at passes. each (suc i) y at passes)) (each 0 x refl)

@@ -1,5 +1,5 @@
 -- Hands and seats of groups that were disbanded, and what the hands' cards leave.
-use Rattle.std.proofs.Common.{◌≡◌, ◌∙◌, ℕ, ◌^◌, ◌<◌, ◌≤◌, List, [], ◌∷◌, ◌++◌, sym, ap, subst, arith, inl, inr}
+use Rattle.std.proofs.Common.{◌≡◌, ◌∙◌, ◌⊎◌, ℕ, ◌-◌, ◌^◌, List, [], ◌∷◌, ◌++◌, sym, ap, subst, arith, inl, inr}
 use Rattle.std.specs.Prelude.{Some, slice_get}
 use Rattle.std.specs.Option.{option_map}
 use Rattle.std.proofs.lemmas.List.{length-map, length_push}
@@ -16,9 +16,10 @@ use Rattle.card_worker.specs.declared.hands.Hand.{Hand}
 use Rattle.card_worker.specs.declared.hands.Group.{Group}
 use Rattle.card_worker.specs.AloneSteps.{plans_of}
 use Rattle.card_worker.specs.Disbanding.{AreFrom}
-use Rattle.switch_jobs.specs.SharingSteps.{ArePlanned, HaveWaited}
+use Rattle.switch_jobs.specs.OneJournal.{HaveWaited}
+use Rattle.switch_jobs.specs.SharingSteps.{ArePlanned}
 use Rattle.switch_jobs.specs.EndingSteps.{Leaves, AreLeft, AreOfPlans}
-use Rattle.switch_jobs.proofs.Adding.{least-from}
+use Rattle.switch_jobs.proofs.Adding.{least-exact}
 
 module _ (groups : List Group) (seats : List (SeatValue Event)) (hands : List Hand) (count : ℕ) (from : AreFrom groups seats hands count) where
   -- the hands are of the plans, and so are hands of the same plans
@@ -38,10 +39,10 @@ module _ (groups : List Group) (seats : List (SeatValue Event)) (hands : List Ha
       let each = from.each i old seat was too in
       ap (slice_get plans) (sym each.0) ∙ (planned (record { hand = old; seat = seat }) each.1 ∙ ap Some is)
 
-  -- no due seat was refused less often
-  pub waited_left : (patience : ℕ) → patience < 2 ^ 64 → HaveWaited patience groups → patience ≤ least_refused seats
-  waited_left patience small waited =
-      least-from is_due refusals seats patience small (λ i seat at due.
+  -- each due seat was refused as often
+  pub waited_left : (patience : ℕ) → HaveWaited patience groups → (least_refused seats ≡ patience) ⊎ (least_refused seats ≡ 2 ^ 64 - 1)
+  waited_left patience waited =
+      least-exact is_due refusals seats patience (λ i seat at due.
       let inside = slice_get_within seats i seat at in
       let seats_are = from.seats_are in
       let hands_are = from.hands_are in

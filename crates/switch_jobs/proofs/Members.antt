@@ -5,11 +5,23 @@ use Rattle.std.proofs.lemmas.List.{map_push}
 use Rattle.std_lemmas.proofs.Lists.{get-snoc}
 use Rattle.slot_histories.specs.declared.events.Event.{Event}
 use Rattle.turn_lock.specs.Seats.{TurnValue}
+use Rattle.slot_board.specs.Seats.{refusals}
 use Rattle.card_core.specs.declared.plan.CardPlan.{CardPlan}
 use Rattle.card_core.specs.Plans.{plan_of}
 use Rattle.card_worker.specs.declared.hands.Member.{Member}
 use Rattle.card_worker.specs.Trying.{IsMember}
 use Rattle.switch_jobs.specs.ReadinessSteps.{plans_in}
+
+-- members that were not refused
+abbrev pub AreFresh : List Member → Type 0
+AreFresh members = (i : ℕ) (member : Member) → slice_get members i ≡ Some member → refusals member.seat ≡ 0
+
+pub AreFresh-more : (members : List Member) (member : Member) → AreFresh members → refusals member.seat ≡ 0 → AreFresh (members ++ member ∷ [])
+AreFresh-more members member each own i m at =
+    elim (get-snoc members member m i at) [
+      | inl early ↦ each i m early
+      | inr last ↦ subst (λ (x : Member). refusals x.seat ≡ 0) last.1 own
+    ]
 
 -- members of a board, by card
 abbrev pub AreInPlace : TurnValue Event → List Member → Type 0

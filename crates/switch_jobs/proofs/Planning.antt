@@ -1,5 +1,5 @@
 -- Members among groups: a group that gets a member more, and groups that were driven.
-use Rattle.std.proofs.Common.{◌≡◌, ◌∙◌, ℕ, ◌+◌, ◌<◌, ◌≤◌, true, List, [], ◌∷◌, ◌++◌, length, set, get_or, sym, ap, subst, arith, inl, inr}
+use Rattle.std.proofs.Common.{◌≡◌, ◌∙◌, ℕ, ◌+◌, ◌<◌, true, List, [], ◌∷◌, ◌++◌, length, set, get_or, sym, ap, subst, arith, inl, inr}
 use Rattle.std.specs.Prelude.{Some, slice_get, vec_capacity}
 use Rattle.std.proofs.lemmas.Bool.{cases_eq}
 use Rattle.std.proofs.lemmas.Option.{slice_get_within, get_or_from_slice_get}
@@ -15,14 +15,21 @@ use Rattle.card_worker.specs.Disbanding.{IsAmong}
 use Rattle.card_worker.specs.Driving.{IsSameMember}
 use Rattle.card_worker.specs.Groups.{IsDrivenGroup}
 use Rattle.switch_jobs.specs.ReadinessSteps.{AreEmptyGroups, HaveRoomFor}
-use Rattle.switch_jobs.specs.SharingSteps.{ArePlanned, HaveWaited}
+use Rattle.switch_jobs.specs.OneJournal.{HaveWaited}
+use Rattle.switch_jobs.specs.SharingSteps.{ArePlanned, AreUnrefused}
 
 -- groups without members
-pub ArePlanned-none : (plans : List CardPlan) (groups : List Group) → AreEmptyGroups groups → ArePlanned plans groups
-ArePlanned-none plans groups empty m among =
+no_member : (groups : List Group) → AreEmptyGroups groups → (m : Member) → IsAmong m groups → ⊥
+no_member groups empty m among =
     let none : length among.group.members.items ≡ 0 = ap length (empty among.place among.group among.found) in
     let inside : among.within < length among.group.members.items = slice_get_within among.group.members.items among.within m among.at in
-    absurd (omega arith)
+    omega arith
+
+pub ArePlanned-none : (plans : List CardPlan) (groups : List Group) → AreEmptyGroups groups → ArePlanned plans groups
+ArePlanned-none plans groups empty m among = absurd (no_member groups empty m among)
+
+pub AreUnrefused-none : (groups : List Group) → AreEmptyGroups groups → AreUnrefused groups
+AreUnrefused-none groups empty m among = absurd (no_member groups empty m among)
 
 -- ---- a member more
 module _ (groups : List Group) (p : ℕ) (group new : Group) (member : Member) (found : slice_get groups p ≡ Some group)
@@ -55,6 +62,9 @@ module _ (groups : List Group) (p : ℕ) (group new : Group) (member : Member) (
       → ArePlanned plans (set groups p new)
   ArePlanned-more plans planned own = each_more (λ m. slice_get plans m.seat.number ≡ Some m.hand.card.sends.plan) planned own
 
+  pub AreUnrefused-more : AreUnrefused groups → refusals member.seat ≡ 0 → AreUnrefused (set groups p new)
+  AreUnrefused-more unrefused own = each_more (λ m. refusals m.seat ≡ 0) unrefused own
+
 -- a group that gets a member keeps its room
 pub HaveRoomFor-set : (groups : List Group) (p : ℕ) (group new : Group) (room : ℕ) → slice_get groups p ≡ Some group
     → vec_capacity new.members ≡ vec_capacity group.members → HaveRoomFor room groups → HaveRoomFor room (set groups p new)
@@ -85,7 +95,7 @@ pub record WasAmong (patience : ℕ) (olds : List Group) (new : Member) : Type 0
   pub old : Member
   pub among : IsAmong old olds
   pub same : IsSameMember old new
-  pub waited : is_due new.seat ≡ true → refusals old.seat + patience ≤ refusals new.seat
+  pub waited : is_due new.seat ≡ true → refusals new.seat ≡ refusals old.seat + patience
 
 module _ (board : TurnValue Event) (patience : ℕ) (olds news : List Group) (long : length news ≡ length olds)
     (driven : (p : ℕ) (old new : Group) → slice_get olds p ≡ Some old → slice_get news p ≡ Some new → IsDrivenGroup board patience old new) where
@@ -101,7 +111,7 @@ module _ (board : TurnValue Event) (patience : ℕ) (olds news : List Group) (lo
         old = was.0;
         among = record { place = among.place; group = old.0; within = among.within; found = old.1; at = was.1 };
         same = passes.same among.within was.0 m was.1 among.at;
-        waited = passes.waited among.within was.0 m was.1 among.at;
+        waited = (passes.ended among.within was.0 m was.1 among.at).waited;
       }
 
   pub ArePlanned-driven : (plans : List CardPlan) → ArePlanned plans olds → ArePlanned plans news
@@ -109,5 +119,9 @@ module _ (board : TurnValue Event) (patience : ℕ) (olds news : List Group) (lo
       let was = was_among m among in
       ap (slice_get plans) was.same.number ∙ planned was.old was.among ∙ ap Some (sym was.same.plan)
 
-  pub HaveWaited-driven : HaveWaited patience news
-  HaveWaited-driven m among due = let was = was_among m among in let waited = was.waited due in omega arith
+  pub HaveWaited-driven : AreUnrefused olds → HaveWaited patience news
+  HaveWaited-driven unrefused m among due =
+      let was = was_among m among in
+      let waited = was.waited due in
+      let none = unrefused was.old was.among in
+      omega arith

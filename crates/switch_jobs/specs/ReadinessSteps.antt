@@ -5,6 +5,7 @@ use Rattle.slot_histories.specs.declared.events.Event.{Event}
 use Rattle.turn_lock.specs.Seats.{TurnValue}
 use Rattle.service_bound.specs.MeterSteps.{HasNoted}
 use Rattle.slot_board.specs.Turns.{setup_of}
+use Rattle.slot_board.specs.Seats.{refusals}
 use Rattle.card_core.specs.Plans.{Plan as CardPlan}
 use Rattle.card_worker.specs.declared.hands.Member.{Member}
 use Rattle.card_worker.specs.declared.hands.Group.{Group}
@@ -32,10 +33,11 @@ plan_with terms cards = record {
   cards = cards;
 }
 
--- all members of a board, by card
+-- all members of a board, by card, of which none was refused yet
 pub record AreMembers (board : TurnValue Event) (members : List Member) : Type 0 where
   pub count : length members ≡ board.seats
   pub each : (i : ℕ) (member : Member) → slice_get members i ≡ Some member → IsMember board member × (member.seat.number ≡ i)
+  pub unrefused : (i : ℕ) (member : Member) → slice_get members i ≡ Some member → refusals member.seat ≡ 0
 
 -- groups without members
 abbrev pub AreEmptyGroups : List Group → Type 0

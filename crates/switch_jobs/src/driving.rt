@@ -2,15 +2,16 @@ ghost use Rattle.std.specs.Prelude.{◌<◌, ℕ, List, All, length, slice_index
 ghost use Rattle.card_core.specs.Plans.{Plan as CardPlan};
 ghost use Rattle.card_worker.specs.declared.hands.Group.{Group};
 ghost use Rattle.card_worker.specs.Groups.{AreGroups, IsGroup, IsDrivenGroup};
-ghost use Rattle.switch_jobs.specs.SharingSteps.{ArePlanned, HaveWaited};
+ghost use Rattle.switch_jobs.specs.OneJournal.{HaveWaited};
+ghost use Rattle.switch_jobs.specs.SharingSteps.{ArePlanned, AreUnrefused};
 
 use card_worker::{Gate, Group, drive, laws};
 use slot_board::Board;
 use std::thread;
 use std::thread::Threads;
 
-/// Drives the groups of the board, each on a thread of its own, again and again until a round makes no post
-/// and no take. Then each member that is due was refused at least `patience` times. It takes no memory.
+/// Drives the groups of the board, each on a thread of its own, until no member goes on. Then each member that is due
+/// was refused exactly `patience` times, where none had been refused before. It takes no memory.
 pub(crate) fn drive_all<R: Threads + Sync, G: Gate + Sync>(
     rt: &R,
     board: &Board,
@@ -22,45 +23,11 @@ pub(crate) fn drive_all<R: Threads + Sync, G: Gate + Sync>(
     requires some { 0 < length groups.old }
     ensures groups { AreGroups board.now board.now.seats groups.new }
     ensures planned { (plans : List CardPlan) → ArePlanned plans groups.old → ArePlanned plans groups.new }
-    ensures waited { HaveWaited patience groups.new }
-{
-    let mut goes_on = drive_round(rt, board, groups, gate, patience);
-    for _ in 0..u64::MAX {
-        if !goes_on {
-            break;
-        }
-        goes_on = drive_round(rt, board, groups, gate, patience);
-    }
-}
-
-// Drives each group once. Whether a post or a take was made.
-fn drive_round<R: Threads + Sync, G: Gate + Sync>(
-    rt: &R,
-    board: &Board,
-    groups: &mut [Group],
-    gate: &G,
-    patience: u32,
-) -> bool
-    requires groups { AreGroups board.now board.now.seats groups.old }
-    requires some { 0 < length groups.old }
-    ensures groups { AreGroups board.now board.now.seats groups.new }
-    ensures planned { (plans : List CardPlan) → ArePlanned plans groups.old → ArePlanned plans groups.new }
-    ensures waited { HaveWaited patience groups.new }
+    ensures waited { AreUnrefused groups.old → HaveWaited patience groups.new }
 {
     board.legal();
     laws::driven_groups_stay();
-    let before = events_of(groups);
     drive_each(rt, board, groups, gate, patience);
-    events_of(groups) != before
-}
-
-// How many posts and takes all groups made, up to the last value of a u64.
-fn events_of(groups: &[Group]) -> u64 {
-    let mut events: u64 = 0;
-    for group in groups {
-        events = events.saturating_add(group.events);
-    }
-    events
 }
 
 // Drives each group, all at once.

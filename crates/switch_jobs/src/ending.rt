@@ -1,13 +1,13 @@
-ghost use Rattle.std.specs.Prelude.{◌≡◌, ◌<◌, ◌≤◌, ◌^◌, ℕ, List, [], length, vec_capacity};
+ghost use Rattle.std.specs.Prelude.{◌≡◌, ◌⊎◌, ◌-◌, ◌<◌, ◌≤◌, ◌^◌, ℕ, List, [], length, vec_capacity};
 ghost use Rattle.slot_board.specs.Turns.{setup_of};
 ghost use Rattle.card_core.specs.Plans.{Plan as CardPlan};
 ghost use Rattle.card_worker.specs.Groups.{AreGroups};
 ghost use Rattle.card_worker.specs.Alone.{AreHandsOf, IsOver};
 ghost use Rattle.switch_plan.specs.GoodPlans.{SwitchPlan, IsGood};
 ghost use Rattle.run_laws.specs.Runs.{setup_for};
-ghost use Rattle.switch_jobs.specs.SharingSteps.{ArePlanned, HaveWaited};
+ghost use Rattle.switch_jobs.specs.SharingSteps.{ArePlanned};
 ghost use Rattle.switch_jobs.specs.EndingSteps.{AreLeft, AreOfPlans, IsRunOf};
-ghost use Rattle.switch_jobs.specs.OneJournal.{GoesOnFrom};
+ghost use Rattle.switch_jobs.specs.OneJournal.{GoesOnFrom, HaveWaited};
 
 use card_core::CardOut;
 use card_worker::{Group, Hand, Hands, close_with, disband, finish_alone, laws};
@@ -32,7 +32,7 @@ pub(crate) fn end_run(
     ensures journal { GoesOnFrom board groups.items result.0 }
     ensures over { (i : ℕ) → i < result.0.setup.ports → IsOver result.0.setup i result.0.events }
     ensures planned { (plans : List CardPlan) → ArePlanned plans groups.items → AreOfPlans plans result.1.items }
-    ensures refused { (patience : ℕ) → patience < 2 ^ 64 → HaveWaited patience groups.items → patience ≤ result.0.refused }
+    ensures refused { (patience : ℕ) → HaveWaited patience groups.items → (result.0.refused ≡ patience) ⊎ (result.0.refused ≡ 2 ^ 64 - 1) }
 {
     board.legal();
     laws::disbanded_groups_agree();

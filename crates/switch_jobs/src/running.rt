@@ -1,8 +1,8 @@
-ghost use Rattle.std.specs.Prelude.{◌≤◌, IfOk, length};
+ghost use Rattle.std.specs.Prelude.{IfOk, length};
 ghost use Rattle.switch_plan.specs.GoodPlans.{switch_plan_of, IsGood};
 ghost use Rattle.run_laws.specs.Promises.{CompletesMulticast, ServesWaiting, WaitsAreShort};
 ghost use Rattle.run_outcomes.specs.Outcomes.{IsOutcome};
-ghost use Rattle.switch_jobs.specs.OneJournal.{IsOneJournal};
+ghost use Rattle.switch_jobs.specs.OneJournal.{IsOneJournal, WasTried};
 
 use crate::driving::drive_all;
 use crate::ending::{end_run, finish_cards, run_is_made};
@@ -17,7 +17,7 @@ use std::alloc::Global;
 use std::thread::Threads;
 use switch_plan::Plan;
 
-// After how many passes without a post or a take a worker leaves the board.
+// How often a card is refused before it gives up.
 const PATIENCE: u32 = 64;
 
 /// Runs the plan: takes all memory that this needs, and then makes all slots with a patience of 64. The only
@@ -34,8 +34,8 @@ pub fn run_job<R: Threads + Sync, G: Gate + Sync>(
 ) -> Result<Outcome, OutOfMemory>
     requires { IsGood (switch_plan_of plan) }
     ensures run { IfOk result (λ outcome. IsOutcome (switch_plan_of plan) outcome) }
-    ensures tried { IfOk result (λ outcome. 64 ≤ outcome.journal.refused) }
-    ensures journal { IfOk result (λ outcome. IsOneJournal outcome.journal) }
+    ensures tried { IfOk result (λ outcome. WasTried 64 outcome.journal) }
+    ensures journal { IfOk result (λ outcome. IsOneJournal 64 outcome.journal) }
     ensures serves { IfOk result (λ outcome. ServesWaiting (switch_plan_of plan) (length outcome.journal.slots)) }
     ensures waits { IfOk result (λ outcome. WaitsAreShort (switch_plan_of plan) (length outcome.journal.slots)) }
     ensures completes { IfOk result (λ outcome. CompletesMulticast (switch_plan_of plan) (length outcome.journal.slots)) }
@@ -48,8 +48,8 @@ pub fn run_job<R: Threads + Sync, G: Gate + Sync>(
 /// complete, as soon as [`run_job`] says.
 pub fn run_ready<R: Threads + Sync, G: Gate + Sync>(rt: &R, ready: Ready, gate: &G) -> Outcome
     ensures run { IsOutcome ready result }
-    ensures tried { 64 ≤ result.journal.refused }
-    ensures journal { IsOneJournal result.journal }
+    ensures tried { WasTried 64 result.journal }
+    ensures journal { IsOneJournal 64 result.journal }
     ensures serves { ServesWaiting ready (length result.journal.slots) }
     ensures waits { WaitsAreShort ready (length result.journal.slots) }
     ensures completes { CompletesMulticast ready (length result.journal.slots) }
@@ -57,10 +57,10 @@ pub fn run_ready<R: Threads + Sync, G: Gate + Sync>(rt: &R, ready: Ready, gate: 
     run_ready_with(rt, ready, gate, PATIENCE)
 }
 
-/// Makes all slots of the run: workers drive their cards, each on a thread of its own, then the board is closed, and
-/// what is left is made on this thread. How the slots are shared between the two is not promised, but that each card
-/// that was due when the board was closed had been refused at least `patience` times. There are no more workers than
-/// processors, but two where two are asked for. The gate is called before each try of a worker. It takes no memory.
+/// Makes all slots of the run: workers drive their cards, each on a thread of its own, until each card is done or was
+/// refused `patience` times, in all and not in a row; then the board is closed, and what is left is made on this
+/// thread. How many slots that is depends on how the threads meet. There are no more workers than processors, but two
+/// where two are asked for. The gate is called before each try of a worker. It takes no memory.
 ///
 /// Queues are served, and multicast heads complete, as soon as [`run_job`] says.
 pub fn run_ready_with<R: Threads + Sync, G: Gate + Sync>(
@@ -70,8 +70,8 @@ pub fn run_ready_with<R: Threads + Sync, G: Gate + Sync>(
     patience: u32,
 ) -> Outcome
     ensures run { IsOutcome ready result }
-    ensures tried { patience ≤ result.journal.refused }
-    ensures journal { IsOneJournal result.journal }
+    ensures tried { WasTried patience result.journal }
+    ensures journal { IsOneJournal patience result.journal }
     ensures serves { ServesWaiting ready (length result.journal.slots) }
     ensures waits { WaitsAreShort ready (length result.journal.slots) }
     ensures completes { CompletesMulticast ready (length result.journal.slots) }

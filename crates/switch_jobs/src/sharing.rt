@@ -1,9 +1,10 @@
 ghost use Rattle.std.specs.Prelude.{◌≡◌, ◌+◌, ◌<◌, ℕ, List, Some, length, slice_get};
+ghost use Rattle.slot_board.specs.Seats.{refusals};
 ghost use Rattle.card_core.specs.Plans.{Plan as CardPlan};
 ghost use Rattle.card_worker.specs.Trying.{IsMember};
 ghost use Rattle.card_worker.specs.Groups.{AreGroups};
 ghost use Rattle.switch_jobs.specs.ReadinessSteps.{plans_in, AreMembers, AreEmptyGroups, HaveRoomFor};
-ghost use Rattle.switch_jobs.specs.SharingSteps.{ArePlanned, AreShared};
+ghost use Rattle.switch_jobs.specs.SharingSteps.{ArePlanned, AreUnrefused, AreShared};
 
 use card_worker::{Group, Member, laws};
 use slot_board::Board;
@@ -72,6 +73,7 @@ fn join(board: &Board, groups: &mut Vec<Group>, place: usize, card: usize, membe
     ensures groups { AreGroups board.now (card + 1) groups.new.items }
     ensures planned { (plans : List CardPlan) → ArePlanned plans groups.old.items → slice_get plans card ≡ Some member.hand.card.sends.plan
         → ArePlanned plans groups.new.items }
+    ensures unrefused { AreUnrefused groups.old.items → refusals member.seat ≡ 0 → AreUnrefused groups.new.items }
     ensures room { (room : ℕ) → HaveRoomFor room groups.old.items → HaveRoomFor room groups.new.items }
     ensures count { length groups.new.items ≡ length groups.old.items }
 {

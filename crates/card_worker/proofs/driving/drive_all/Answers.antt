@@ -1,79 +1,64 @@
-use Rattle.std.proofs.Common.{◌*◌, length, refl, ap, arith}
-use Rattle.card_worker.specs.Driving.{all_acts}
-use Rattle.card_worker.proofs.Passes.{AfterPasses-none, AfterPasses-acted, AfterPasses-idle, all_acts-few, room_falls, patience_falls}
+use Rattle.std.proofs.Common.{◌≡◌, suc, ◌+◌, subst, arith}
+use Rattle.std_lemmas.proofs.Lists.{get_or-same}
+use Rattle.card_worker.specs.DrivingSteps.{AfterSome}
+use Rattle.card_worker.proofs.Passes.{AfterSome-none, AfterSome-more, AfterPasses-ends, ArePasses-none, all_acts-few, passes_few}
 use Rattle.card_worker.proofs.driving.drive_all.Goals as goal
 
-pub goes_on-requires : goal.goes_on-requires
-goes_on-requires g c = λ j m at. (c.loop-members.invariant.passes.sound j m at).agrees.turn
-
-pub loop-members-init : goal.loop-members-init
-loop-members-init g c = record {
-  passes = AfterPasses-none c.args.board.now c.args.members.now c.requires.sound;
-  left = omega arith;
-  none = λ zero_patience. refl;
+pub loop-passes-init : goal.loop-passes-init
+loop-passes-init g c = record {
+  some = AfterSome-none c.args.board.now c.args.patience c.args.members.now _ c.requires.sound (λ j. get_or-same 0 64 j);
+  few = omega arith;
 }
 
-pub loop-members-preserved-then-acts-eq0 : goal.loop-members-preserved-then-acts-eq0
-loop-members-preserved-then-acts-eq0 g c =
-    let at = c.loop-members in
-    let left = c.goes_on.ensures.on c.loop-members-test.true in
-    record {
-      passes = AfterPasses-idle c.args.board.now c.args.members.now at.members c.pass-acts.new.members at.idle at.made c.pass-acts.result at.invariant.passes
-          c.pass-acts.ensures c.if-acts-eq0.true;
-      left = omega arith;
-      none = λ zero_patience. absurd (omega arith);
-    }
+pub some_go_on-requires-clause-turns : goal.some_go_on-requires-clause-turns
+some_go_on-requires-clause-turns g c = λ j m at. (c.loop-passes.invariant.some.sound j m at).agrees.turn
+
+pub pass-acts-requires-clause-sound : goal.pass-acts-requires-clause-sound
+pass-acts-requires-clause-sound g c = c.loop-passes.invariant.some.sound
 
 pub overflow_add-made : goal.overflow_add-made
 overflow_add-made g c =
-    let at = c.loop-members in
-    let next = AfterPasses-acted c.args.board.now c.args.members.now at.members c.pass-acts.new.members at.idle at.made c.pass-acts.result at.invariant.passes
-    c.pass-acts.ensures in
+    let at = c.loop-passes in
+    let news = c.pass-acts.new.members in
+    let some = c.some_go_on.ensures.some c.if-not-some_go_on.false in
+    let next = AfterSome-more c.args.board.now c.args.patience c.args.members.now at.members at.refused at._passes at.made at.invariant.some news
+    c.pass-acts.new.refused c.pass-acts.result some c.pass-acts.ensures in
     let acts = next.acts in
     let count = next.count in
-    let few = all_acts-few c.args.board.now c.pass-acts.new.members next.sound in
+    let few = all_acts-few c.args.board.now news next.sound in
     let ports = c.requires.few in
     omega arith
 
-pub loop-members-smaller : goal.loop-members-smaller
-loop-members-smaller g c =
-    let at = c.loop-members in
-    let turns = c.pass-acts.ensures in
-    room_falls (length c.pass-acts.new.members * 524290) (length at.members * 524290) (all_acts at.members)
-    (all_acts c.pass-acts.new.members) c.args.patience at.idle c.pass-acts.result (ap (λ n. n * 524290) turns.count)
-    (all_acts-few c.args.board.now c.pass-acts.new.members turns.sound) turns.acts c.if-acts-eq0.false
-
-pub loop-members-smaller-then-acts-eq0 : goal.loop-members-smaller-then-acts-eq0
-loop-members-smaller-then-acts-eq0 g c =
-    let at = c.loop-members in
-    let turns = c.pass-acts.ensures in
-    patience_falls (length c.pass-acts.new.members * 524290) (length at.members * 524290) (all_acts at.members)
-    (all_acts c.pass-acts.new.members) c.args.patience at.idle c.pass-acts.result (ap (λ n. n * 524290) turns.count) turns.acts c.if-acts-eq0.true
-    (c.goes_on.ensures.on c.loop-members-test.true)
-
-pub loop-members-preserved : goal.loop-members-preserved
-loop-members-preserved g c =
-    let at = c.loop-members in
+pub loop-passes-preserved : goal.loop-passes-preserved
+loop-passes-preserved g c =
+    let at = c.loop-passes in
+    let some = c.some_go_on.ensures.some c.if-not-some_go_on.false in
+    let one : suc at._passes ≡ at._passes + 1 = omega arith in
     record {
-      passes = AfterPasses-acted c.args.board.now c.args.members.now at.members c.pass-acts.new.members at.idle at.made c.pass-acts.result at.invariant.passes
-          c.pass-acts.ensures;
-      left = omega arith;
-      none = λ zero_patience. let left = c.goes_on.ensures.on c.loop-members-test.true in absurd (omega arith);
-    }
-
-pub returns-clause-passes : goal.returns-clause-passes
-returns-clause-passes g c =
-    let at = c.loop-members in
-    let passes = at.invariant.passes in
-    record {
-      passes = passes.passes;
-      count = passes.count;
-      acts = passes.acts;
-      sound = passes.sound;
-      same = passes.same;
-      tried = passes.tried;
-      waited = λ j old new was is due.
-          let end = c.goes_on.ensures.ends c.loop-members-test.false j new is due in
-          let tries = passes.waited j old new was is due in
+      some = subst (λ n. AfterSome c.args.board.now c.args.patience c.args.members.now c.pass-acts.new.members c.pass-acts.new.refused n
+          (at.made + c.pass-acts.result)) one
+          (AfterSome-more c.args.board.now c.args.patience c.args.members.now at.members at.refused at._passes at.made at.invariant.some
+          c.pass-acts.new.members c.pass-acts.new.refused c.pass-acts.result some c.pass-acts.ensures);
+      few =
+          let few = passes_few c.args.board.now c.args.patience c.args.members.now at.members at.refused at._passes at.made at.invariant.some some in
           omega arith;
     }
+
+pub returns-then-not-some_go_on-clause-passes : goal.returns-then-not-some_go_on-clause-passes
+returns-then-not-some_go_on-clause-passes g c =
+    let at = c.loop-passes in
+    AfterPasses-ends c.args.board.now c.args.patience c.args.members.now at.members at.refused at._passes at.made at.invariant.some
+    (c.some_go_on.ensures.none c.if-not-some_go_on.true)
+
+pub returns-then-not-some_go_on-clause-none : goal.returns-then-not-some_go_on-clause-none
+returns-then-not-some_go_on-clause-none g c = λ zero_patience.
+    let at = c.loop-passes in
+    ArePasses-none c.args.patience at._passes c.args.members.now at.members zero_patience at.invariant.some.are_passes
+
+pub unreachable-requires : goal.unreachable-requires
+unreachable-requires g c =
+    let at = c.loop-passes in
+    let few = at.invariant.few in
+    let fits = c.ranges.patience.fits in
+    let end = c.loop-passes-test.false in
+    omega arith

@@ -1,4 +1,4 @@
-use Rattle.std.proofs.Common.{◌≤◌, ◌∙◌, ap, sym, subst}
+use Rattle.std.proofs.Common.{◌≡◌, ◌⊎◌, ◌-◌, ◌^◌, ◌∙◌, ap, sym, subst}
 use Rattle.std.specs.Prelude.{slice_get}
 use Rattle.switch_jobs.proofs.Disbanded.{planned_left, waited_left}
 use Rattle.switch_jobs.proofs.ending.end_run.Goals as goal
@@ -19,9 +19,9 @@ returns-clause-planned c = λ plans planned.
     c.finish_alone.new.hands.items planned c.finish_alone.ensures.plans
 
 pub returns-clause-refused : goal.returns-clause-refused
-returns-clause-refused c = λ patience small waited.
-    subst (λ n. patience ≤ n) (sym (c.finish_alone.ensures.refused ∙ c.close_with-state.ensures.closed.refused))
-    (waited_left c.args.groups.items c.disband-seats.result.0.items c.disband-seats.result.1.items _ c.disband-seats.ensures patience small waited)
+returns-clause-refused c = λ patience waited.
+    subst (λ n. (n ≡ patience) ⊎ (n ≡ 2 ^ 64 - 1)) (sym (c.finish_alone.ensures.refused ∙ c.close_with-state.ensures.closed.refused))
+    (waited_left c.args.groups.items c.disband-seats.result.0.items c.disband-seats.result.1.items _ c.disband-seats.ensures patience waited)
 
 pub returns-clause-journal : goal.returns-clause-journal
 returns-clause-journal c =

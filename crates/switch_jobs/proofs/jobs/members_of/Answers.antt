@@ -1,4 +1,4 @@
-use Rattle.std.proofs.Common.{◌≡◌, ◌∙◌, suc, ◌+◌, ◌<◌, ◌∷◌, [], ◌++◌, length, ap, sym, subst, arith}
+use Rattle.std.proofs.Common.{◌≡◌, ◌∙◌, suc, ◌+◌, ◌<◌, ◌∷◌, [], ◌++◌, length, refl, ap, sym, subst, arith}
 use Rattle.std.specs.Prelude.{Some, slice_get}
 use Rattle.std.specs.Vec.Iter.{into_iter_items}
 use Rattle.std.proofs.lemmas.List.{length-map, length_push}
@@ -7,11 +7,12 @@ use Rattle.std.proofs.lemmas.List.Edits.{length-remove}
 use Rattle.std_lemmas.proofs.Lists.{slice_get-remove_first, gone_more, here_of}
 use Rattle.slot_histories.specs.declared.events.Event.{Event}
 use Rattle.turn_lock.specs.Seats.{SeatValue, new_seat}
+use Rattle.slot_board.specs.Seats.{refusals}
 use Rattle.card_core.specs.Plans.{Plan, plan_of}
 use Rattle.card_worker.specs.declared.hands.Member.{Member}
 use Rattle.card_worker.specs.Trying.{IsMember}
 use Rattle.switch_jobs.specs.ReadinessSteps.{plans_in}
-use Rattle.switch_jobs.proofs.Members.{AreInPlace, AreInPlace-more, plans_more}
+use Rattle.switch_jobs.proofs.Members.{AreInPlace, AreInPlace-more, AreFresh, AreFresh-more, plans_more}
 use Rattle.switch_jobs.proofs.jobs.members_of.Goals as goal
 
 pub hand_of-requires : goal.hand_of-requires
@@ -70,12 +71,14 @@ loop-card-preserved c =
     let made : length at.members.items ≡ done = sym (length-map at.members.items (λ (m : Member). m.hand.card.sends.plan))
     ∙ (ap length at.invariant.plans ∙ length-map at.yielded plan_of) in
     let in_place : seat.number ≡ length at.members.items = ap (λ (s : SeatValue Event). s.number) (sym is) ∙ (number ∙ sym made) in
+    let unrefused : refusals seat ≡ 0 = subst (λ (s : SeatValue Event). refusals s ≡ 0) is refl in
     let more = length_push at.yielded x in
     record {
       rest = gone_more at.yielded rest (into_iter_items c.next.new.self) _ x at.invariant.rest steps;
       left = let was = at.invariant.left in let gone = c.in-Some.ensures.steps.1 in let short = ap length steps in omega arith;
       plans = ap plans_in c.push_reserved.ensures.items ∙ plans_more at.members.items member at.yielded x at.invariant.plans plan;
       each = subst (AreInPlace board) (sym c.push_reserved.ensures.items) (AreInPlace-more board at.members.items member at.invariant.each sound in_place);
+      fresh = subst AreFresh (sym c.push_reserved.ensures.items) (AreFresh-more at.members.items member at.invariant.fresh unrefused);
       room = let room = at.invariant.room in let same = c.push_reserved.ensures.capacity in omega arith;
       seats_left = omega arith;
       seats_new = λ i s mine.

@@ -1,4 +1,4 @@
-use Rattle.std.proofs.Common.{◌≡◌, ◌∙◌, ℕ, ◌≤◌, List, ◌++◌, length, take, drop, ap, sym, subst, arith}
+use Rattle.std.proofs.Common.{◌≡◌, ◌∙◌, ℕ, List, ◌++◌, length, take, drop, ap, sym, subst, arith}
 use Rattle.std.proofs.lemmas.List.{length-map}
 use Rattle.std_lemmas.proofs.Lists.{whole_back}
 use Rattle.slot_histories.specs.Events.{decides}
@@ -15,7 +15,8 @@ use Rattle.run_laws.proofs.RunCompletes.{heads-complete}
 use Rattle.run_outcomes.specs.declared.outcome.Outcome.{Outcome}
 use Rattle.run_outcomes.specs.Outcomes.{IsOutcome}
 use Rattle.switch_jobs.specs.ReadinessSteps.{plan_with, plans_in}
-use Rattle.switch_jobs.specs.SharingSteps.{ArePlanned, HaveWaited}
+use Rattle.switch_jobs.specs.OneJournal.{HaveWaited, WasTried}
+use Rattle.switch_jobs.specs.SharingSteps.{ArePlanned, AreUnrefused}
 use Rattle.switch_jobs.specs.JournalSteps.{HaveSums, summary_in}
 use Rattle.switch_jobs.specs.EndingSteps.{AreOfPlans, IsRunOf}
 use Rattle.switch_jobs.proofs.Finishing.{journal_few, ports_left, output_is, sums_fit, summary_is}
@@ -113,12 +114,11 @@ returns-clause-run g c =
 
 pub returns-clause-tried : goal.returns-clause-tried
 returns-clause-tried g c =
-    let small = c.ranges.patience.fits in
+    let unrefused : AreUnrefused c.deref_mut.result.now = subst AreUnrefused (sym c.deref_mut.ensures.value) c.share-groups.ensures.shared.unrefused in
     let waited : HaveWaited c.args.patience _ =
     back (HaveWaited c.args.patience) c.share-groups.result.len c.drive_all.new.groups c.share-groups.result.items _ c.share-groups.result.ok.0
-    c.drive_all.auto.groups c.deref_mut.ensures.value c.drive_all.ensures.waited in
-    subst (λ (j : JournalValue). c.args.patience ≤ j.refused) (sym c.journal-journal.ensures.journal)
-    (c.end_run-state.ensures.refused c.args.patience (omega arith) waited)
+    c.drive_all.auto.groups c.deref_mut.ensures.value (c.drive_all.ensures.waited unrefused) in
+    subst (WasTried c.args.patience) (sym c.journal-journal.ensures.journal) (c.end_run-state.ensures.refused c.args.patience waited)
 
 pub returns-clause-serves : goal.returns-clause-serves
 returns-clause-serves g c =
@@ -143,10 +143,13 @@ returns-clause-completes g c =
 
 pub returns-clause-journal : goal.returns-clause-journal
 returns-clause-journal g c =
+    let unrefused : AreUnrefused c.deref_mut.result.now = subst AreUnrefused (sym c.deref_mut.ensures.value) c.share-groups.ensures.shared.unrefused in
     record {
       board = c.ready.inside.board;
       groups = _;
       state = c.end_run-state.result.0;
       goes_on = c.end_run-state.ensures.journal;
+      waited = back (HaveWaited c.args.patience) c.share-groups.result.len c.drive_all.new.groups c.share-groups.result.items _ c.share-groups.result.ok.0
+          c.drive_all.auto.groups c.deref_mut.ensures.value (c.drive_all.ensures.waited unrefused);
       is = c.journal-journal.ensures.journal;
     }

@@ -2,7 +2,7 @@ use Rattle.std.proofs.Common.{◌≡◌, ◌∙◌, ◌+◌, ◌≤◌, ap, arit
 use Rattle.std.specs.Prelude.{Some, slice_get, vec_capacity}
 use Rattle.std.proofs.lemmas.Option.{slice_get-get_or}
 use Rattle.card_worker.proofs.Grouping.{few_members}
-use Rattle.switch_jobs.proofs.Planning.{ArePlanned-more, HaveRoomFor-set}
+use Rattle.switch_jobs.proofs.Planning.{ArePlanned-more, AreUnrefused-more, HaveRoomFor-set}
 use Rattle.switch_jobs.proofs.sharing.join.Goals as goal
 
 pub push_reserved-requires : goal.push_reserved-requires
@@ -33,6 +33,14 @@ returns-clause-planned c = λ plans planned own.
     let found : slice_get groups c.args.place ≡ Some group = slice_get-get_or groups c.args.place group c.requires.place
     ∙ ap Some (let is = c.index_mut-group.ensures.value in cc) in
     ArePlanned-more groups c.args.place group _ c.args.member found c.push_reserved.ensures.items plans planned (ap (slice_get plans) c.requires.number ∙ own)
+
+pub returns-clause-unrefused : goal.returns-clause-unrefused
+returns-clause-unrefused c = λ unrefused own.
+    let groups = c.args.groups.now.items in
+    let group = c.index_mut-group.result.now in
+    let found : slice_get groups c.args.place ≡ Some group = slice_get-get_or groups c.args.place group c.requires.place
+    ∙ ap Some (let is = c.index_mut-group.ensures.value in cc) in
+    AreUnrefused-more groups c.args.place group _ c.args.member found c.push_reserved.ensures.items unrefused own
 
 pub returns-clause-room : goal.returns-clause-room
 returns-clause-room c = λ room have.

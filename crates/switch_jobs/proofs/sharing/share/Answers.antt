@@ -9,7 +9,7 @@ use Rattle.card_worker.specs.declared.hands.Member.{Member}
 use Rattle.card_worker.specs.Groups.{AreGroups}
 use Rattle.card_worker.proofs.Grouping.{AreGroups-none}
 use Rattle.switch_jobs.specs.ReadinessSteps.{plans_in}
-use Rattle.switch_jobs.proofs.Planning.{ArePlanned-none}
+use Rattle.switch_jobs.proofs.Planning.{ArePlanned-none, AreUnrefused-none}
 use Rattle.switch_jobs.proofs.sharing.share.Goals as goal
 
 pub loop-member-init : goal.loop-member-init
@@ -21,6 +21,7 @@ loop-member-init c =
       card = refl;
       groups = AreGroups-none c.args.board.now groups c.requires.empty;
       planned = ArePlanned-none (plans_in c.args.members.items) groups c.requires.empty;
+      unrefused = AreUnrefused-none groups c.requires.empty;
       room = c.requires.room;
       count = refl;
     }
@@ -43,6 +44,7 @@ loop-member-preserved c =
       card = let card = at.invariant.card in let long = length_push at.yielded x in omega arith;
       groups = c.join.ensures.groups;
       planned = c.join.ensures.planned (plans_in members) at.invariant.planned own;
+      unrefused = c.join.ensures.unrefused at.invariant.unrefused (c.requires.members.unrefused (length at.yielded) x here);
       room = c.join.ensures.room (length members) at.invariant.room;
       count = c.join.ensures.count ∙ at.invariant.count;
     }
@@ -90,4 +92,4 @@ returns-clause-shared c =
     let card = at.invariant.card in
     let count = c.requires.members.count in
     let all : at.card ≡ c.args.board.now.seats = omega arith in
-    record { groups_are = subst (λ k. AreGroups c.args.board.now k at.groups.items) all at.invariant.groups; planned = at.invariant.planned }
+    record { groups_are = subst (λ k. AreGroups c.args.board.now k at.groups.items) all at.invariant.groups; planned = at.invariant.planned; unrefused = at.invariant.unrefused }

@@ -3,7 +3,7 @@ use Rattle.std.proofs.lemmas.Option.{slice_get-get_or}
 use Rattle.card_worker.specs.Groups.{IsDrivenGroup}
 use Rattle.card_worker.proofs.Grouping.{few_members}
 use Rattle.switch_jobs.proofs.Planning.{driven_at, ArePlanned-driven, HaveWaited-driven}
-use Rattle.switch_jobs.proofs.driving.drive_round.Goals as goal
+use Rattle.switch_jobs.proofs.driving.drive_all.Goals as goal
 
 pub drive_each-requires-clause-groups : goal.drive_each-requires-clause-groups
 drive_each-requires-clause-groups g c κs within = λ k d inside.
