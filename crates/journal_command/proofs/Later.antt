@@ -1,5 +1,5 @@
 -- What is told of a check from a later state on holds from an earlier one that was told the same.
-use Rattle.std.proofs.Common.{◌≡◌, ◌≤◌, ℕ, List, Option, None, Some, length}
+use Rattle.std.proofs.Common.{◌≡◌, ◌≤◌, ℕ, List, Option, Some, length}
 use Rattle.std.specs.Prelude.{Result, IfSome}
 use Rattle.eslip_rounds.specs.Schedulers.{Scheduler}
 use Rattle.outside.specs.Contents.{Contents}
@@ -11,14 +11,13 @@ use Rattle.journal_check.specs.declared.verdict.JournalFault.{JournalFault}
 use Rattle.journal_check.specs.Verdicts.{answer_under}
 use Rattle.journal_command.specs.declared.ending.CheckEnding.{CheckEnding}
 use Rattle.journal_command.specs.declared.ending.CheckEnding.TheVariants.{Yes, No, Bad, TooLong, ReadFault, OutOfMemory, OutFault}
-use Rattle.journal_command.specs.Checks.{HasAnswer, MeansCheck}
+use Rattle.journal_command.specs.Checks.{IsAnswered, MeansCheck}
 
--- the bytes of the file have the answer
-pub has_answer : (scheduler : Scheduler) (name bytes : List ℕ) (answer : Result Verdict JournalFault) (old : Option Contents)
+-- the bytes that were read have the answer
+pub is_answered : (scheduler : Scheduler) (name bytes : List ℕ) (answer : Result Verdict JournalFault) (old : Option Contents)
     → IfSome old (λ c. c.file name ≡ Some bytes) → length bytes ≤ MAX_JOURNAL_BYTES → answer_under scheduler bytes ≡ answer
-    → IfSome old (HasAnswer scheduler name answer)
-has_answer scheduler name bytes answer None there fits is = tt
-has_answer scheduler name bytes answer (Some c) there fits is = (bytes, there, fits, is)
+    → IsAnswered scheduler name old answer
+is_answered scheduler name bytes answer old there fits is = record { bytes = bytes; fits = fits; answered = is; known = there }
 
 module _ (scheduler : Scheduler) (name : List ℕ) (old : Option Contents) (was then now : Place → ℕ) (kept : NeverFall was then) where
   pub later_check : (ending : CheckEnding) (new : Option Contents) → MeansCheck scheduler name old new then now ending

@@ -27,18 +27,26 @@ HasAnswer scheduler name answer c = (bytes : List ℕ) × (c.file name ≡ Some 
 abbrev pub yes_text : ℕ → List ℕ → List ℕ
 yes_text slots longest = lines_text ((codes "yes" ∷ []) ∷ (codes "slots" ∷ decimal slots ∷ []) ∷ (codes "longest" ∷ map decimal longest) ∷ [])
 
+-- Bytes of an allowed length have this answer where matches are those of the scheduler; where it is known what files hold,
+-- they are those of the file.
+pub record IsAnswered (scheduler : Scheduler) (name : List ℕ) (old : Option Contents) (answer : Result Verdict JournalFault) : Type 0 where
+  pub bytes : List ℕ
+  pub fits : length bytes ≤ MAX_JOURNAL_BYTES
+  pub answered : answer_under scheduler bytes ≡ answer
+  pub known : IfSome old (λ c. c.file name ≡ Some bytes)
+
 -- The file is lawful under the scheduler, with this text for yes.
 pub record IsYes (scheduler : Scheduler) (name : List ℕ) (old : Option Contents) (text : List ℕ) : Type 0 where
   pub slots : ℕ
   pub longest : List ℕ
-  pub answer : IfSome old (HasAnswer scheduler name (Ok (verdict.Yes slots longest)))
+  pub answer : IsAnswered scheduler name old (Ok (verdict.Yes slots longest))
   pub text_is : text ≡ yes_text slots longest
 
 -- what each ending means, and what it leaves
 abbrev pub MeansCheck : Scheduler → List ℕ → Option Contents → Option Contents → (Place → ℕ) → (Place → ℕ) → CheckEnding → Type 0
 MeansCheck scheduler name old new was now Yes = (text : List ℕ) × IsYes scheduler name old text × (new ≡ option_map (append_out text) old)
-MeansCheck scheduler name old new was now (No slot reason) = IfSome old (HasAnswer scheduler name (Ok (verdict.No slot reason))) × (new ≡ old)
-MeansCheck scheduler name old new was now (Bad at) = IfSome old (HasAnswer scheduler name (Err (fault.Bad at))) × (new ≡ old)
+MeansCheck scheduler name old new was now (No slot reason) = IsAnswered scheduler name old (Ok (verdict.No slot reason)) × (new ≡ old)
+MeansCheck scheduler name old new was now (Bad at) = IsAnswered scheduler name old (Err (fault.Bad at)) × (new ≡ old)
 MeansCheck scheduler name old new was now TooLong = IfSome old (λ c. IsTooLong c name) × (new ≡ old)
 MeansCheck scheduler name old new was now ReadFault = Rose (was (ReadOf name)) (now (ReadOf name)) × (new ≡ old)
 MeansCheck scheduler name old new was now OutOfMemory = new ≡ old

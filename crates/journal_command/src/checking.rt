@@ -1,10 +1,10 @@
-ghost use Rattle.std.specs.Prelude.{◌≡◌, ℕ, List, Ok, IfSome};
+ghost use Rattle.std.specs.Prelude.{◌≡◌, ℕ, List, Ok};
 ghost use Rattle.eslip_rounds.specs.Schedulers.{Scheduler};
 ghost use Rattle.named_schedulers.specs.Named.{decision_named};
 ghost use Rattle.outside.specs.Faults.{NeverFall, NoneRose};
 ghost use Rattle.journal_check.specs.declared.verdict.Verdict.TheVariants as verdict;
 ghost use Rattle.journal_command.specs.declared.ending.CheckEnding.TheVariants.{Yes};
-ghost use Rattle.journal_command.specs.Checks.{HasAnswer, MeansCheck};
+ghost use Rattle.journal_command.specs.Checks.{IsAnswered, MeansCheck};
 
 use crate::ending::CheckEnding;
 use crate::reading::read_journal;
@@ -48,7 +48,7 @@ fn tell_yes<F: Files>(
     longest: &[u32; LEVEL_COUNT],
     files: &mut F,
 ) -> CheckEnding
-    ensures meaning { (scheduler : Scheduler) → IfSome (F.told files.old) (HasAnswer scheduler name.now (Ok (verdict.Yes slots longest.now)))
+    ensures meaning { (scheduler : Scheduler) → IsAnswered scheduler name.now (F.told files.old) (Ok (verdict.Yes slots longest.now))
         → MeansCheck scheduler name.now (F.told files.old) (F.told files.new) (F.faults files.old) (F.faults files.new) result }
     ensures no_fault { result ≡ Yes → NoneRose (F.faults files.old) (F.faults files.new) }
     ensures never_fall { NeverFall (F.faults files.old) (F.faults files.new) }

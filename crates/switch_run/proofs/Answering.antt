@@ -14,7 +14,7 @@ use Rattle.run_laws.specs.Ends.{IsLengthUnder}
 use Rattle.named_schedulers.specs.Named.{decision_named}
 use Rattle.switch_run.specs.Causes.{Answers, IsReadable, IsRunFor, TooLongIsExact, UsageIsExact, scheduler_in}
 use Rattle.switch_run.specs.Endings.{Command, IsFirstTooLong, IsMade, IsStopped, Stops}
-use Rattle.job_files.specs.Statuses.{check_status}
+use Rattle.job_files.specs.Statuses.{check_status, status_of}
 use Rattle.job_files.specs.Inputs.{AreFilesRead, AreInputs, CapturesRead, EarlierFit}
 use Rattle.job_files.specs.Jobs.{ReadWords, reads_of, IsInput, input_name}
 use Rattle.job_files.specs.OutputFiles.{Texts}
@@ -129,21 +129,23 @@ check_is_no_usage check_ending.ReadFault two = omega arith
 check_is_no_usage check_ending.OutOfMemory two = omega arith
 check_is_no_usage check_ending.OutFault two = omega arith
 
-pub usage_exact : (c : Command) (status : ℕ) (ending : Ending) → Answers c status ending → UsageIsExact c status
-usage_exact c status Done a = record { only = λ two. absurd (omega (arith, a.0, two)); every = λ none. absurd (no_job c a.1.0 a.1.1 none) }
-usage_exact c status Usage a = record { only = λ two. a.1.0; every = λ none. inl a.0 }
-usage_exact c status (ReadFault input) a = record { only = λ two. absurd (omega (arith, a.0, two)); every = λ none. absurd (no_job c a.1.job a.1.words none) }
-usage_exact c status (TooLong input) a = record { only = λ two. absurd (omega (arith, a.0, two)); every = λ none. absurd (no_job c a.1.job a.1.words none) }
-usage_exact c status (Refused fault) a = record { only = λ two. absurd (omega (arith, a.0, two)); every = λ none. absurd (no_job c a.1.job a.1.words none) }
-usage_exact c status (JournalTooLong size) a =
-    record { only = λ two. absurd (omega (arith, a.0, two)); every = λ none. absurd (no_job c a.1.job a.1.words none) }
-usage_exact c status (PacketsTooLong size) a =
-    record { only = λ two. absurd (omega (arith, a.0, two)); every = λ none. absurd (no_job c a.1.job a.1.words none) }
-usage_exact c status OutOfMemory a = record { only = λ two. absurd (omega (arith, a.0, two)); every = λ none. inr a.0 }
-usage_exact c status (WriteFault written) a =
-    record { only = λ two. absurd (omega (arith, a.0, two)); every = λ none. absurd (no_job c a.1.job a.1.words none) }
-usage_exact c status (Checked e) a =
-    record { only = λ two. absurd (check_is_no_usage e (sym a.0 ∙ two)); every = λ none. absurd (no_job c a.1.job a.1.words none) }
+-- status 2 has no job, and no job has status 2 or 5
+usage_words : (c : Command) (status : ℕ) (ending : Ending) → Answers c status ending → (status ≡ 2 → c.job ≡ None) × (c.job ≡ None → (status ≡ 2) ⊎ (status ≡ 5))
+usage_words c status Done a = (λ two. absurd (omega (arith, a.0, two)), λ none. absurd (no_job c a.1.0 a.1.1 none))
+usage_words c status Usage a = (λ two. a.1.0, λ none. inl a.0)
+usage_words c status (ReadFault input) a = (λ two. absurd (omega (arith, a.0, two)), λ none. absurd (no_job c a.1.job a.1.words none))
+usage_words c status (TooLong input) a = (λ two. absurd (omega (arith, a.0, two)), λ none. absurd (no_job c a.1.job a.1.words none))
+usage_words c status (Refused fault) a = (λ two. absurd (omega (arith, a.0, two)), λ none. absurd (no_job c a.1.job a.1.words none))
+usage_words c status (JournalTooLong size) a = (λ two. absurd (omega (arith, a.0, two)), λ none. absurd (no_job c a.1.job a.1.words none))
+usage_words c status (PacketsTooLong size) a = (λ two. absurd (omega (arith, a.0, two)), λ none. absurd (no_job c a.1.job a.1.words none))
+usage_words c status OutOfMemory a = (λ two. absurd (omega (arith, a.0, two)), λ none. inr a.0)
+usage_words c status (WriteFault written) a = (λ two. absurd (omega (arith, a.0, two)), λ none. absurd (no_job c a.1.job a.1.words none))
+usage_words c status (Checked e) a = (λ two. absurd (check_is_no_usage e (sym a.0 ∙ two)), λ none. absurd (no_job c a.1.job a.1.words none))
+
+pub usage_exact : (c : Command) (status : ℕ) (ending : Ending) → Answers c status ending → (c.named ≡ None → ending ≡ Usage) → UsageIsExact c status
+usage_exact c status ending a unnamed =
+    let words = usage_words c status ending a in
+    record { only = words.0; every = words.1; unnamed = λ none. a.0 ∙ ap status_of (unnamed none) }
 
 -- In the following the job and the contents are those of the command, told once
 

@@ -9,7 +9,7 @@ use Rattle.journal_check.specs.declared.verdict.Verdict.TheVariants as verdict
 use Rattle.journal_check.specs.declared.verdict.JournalFault.{JournalFault}
 use Rattle.journal_check.specs.declared.verdict.JournalFault.TheVariants as journal_fault
 use Rattle.journal_check.specs.declared.verdict.Reason.{Reason}
-use Rattle.journal_command.specs.Checks.{HasAnswer, IsTooLong, MeansCheck}
+use Rattle.journal_command.specs.Checks.{HasAnswer, IsAnswered, IsTooLong, MeansCheck}
 use Rattle.journal_command.specs.declared.ending.CheckEnding.{CheckEnding}
 use Rattle.journal_command.specs.declared.ending.CheckEnding.TheVariants as check_ending
 use Rattle.eslip_rounds.specs.Schedulers.{Scheduler}
@@ -31,6 +31,11 @@ check_is_yes check_ending.Yes same = refl
 check_is_yes _ same = absurd (omega (arith, same))
 
 -- ---- the file has one answer
+
+-- what is answered where the contents are known is the answer of the file
+of_file : {scheduler : Scheduler} {name : List ℕ} {c : Contents} {answer : Result Verdict JournalFault} → IsAnswered scheduler name (Some c) answer
+    → HasAnswer scheduler name answer c
+of_file is = (is.bytes, is.known, is.fits, is.answered)
 
 answers_once : (scheduler : Scheduler) (name : List ℕ) (c : Contents) (a b : Result Verdict JournalFault) → HasAnswer scheduler name a c
     → HasAnswer scheduler name b c → a ≡ b
@@ -111,56 +116,56 @@ module _ (c : Command) (words : CheckWords) (contents : Contents) (is : IsChecka
 
   too_long_end : (status : ℕ) → IsTooLong contents words.file → (e : CheckEnding) → Answers c status (Checked e)
       → AnswersUnlessOut c status (Checked check_ending.TooLong)
-  too_long_end status long check_ending.Yes a = let m = means check_ending.Yes a.1 in absurd (long_has_none by words.file contents _ m.1.answer long)
+  too_long_end status long check_ending.Yes a = let m = means check_ending.Yes a.1 in absurd (long_has_none by words.file contents _ (of_file m.1.answer) long)
   too_long_end status long (check_ending.No slot reason) a = let m = means (check_ending.No slot reason) a.1 in
-      absurd (long_has_none by words.file contents _ m.0 long)
-  too_long_end status long (check_ending.Bad at) a = let m = means (check_ending.Bad at) a.1 in absurd (long_has_none by words.file contents _ m.0 long)
+      absurd (long_has_none by words.file contents _ (of_file m.0) long)
+  too_long_end status long (check_ending.Bad at) a = let m = means (check_ending.Bad at) a.1 in absurd (long_has_none by words.file contents _ (of_file m.0) long)
   too_long_end status long check_ending.TooLong a = inl a
   too_long_end status long check_ending.ReadFault a = let m = means check_ending.ReadFault a.1 in absurd (is.reads m.0)
   too_long_end status long check_ending.OutOfMemory a = inr (out status a)
-  too_long_end status long check_ending.OutFault a = let m = means check_ending.OutFault a.1 in absurd (long_has_none by words.file contents _ m.2.answer long)
+  too_long_end status long check_ending.OutFault a = let m = means check_ending.OutFault a.1 in absurd (long_has_none by words.file contents _ (of_file m.2.answer) long)
 
   bad_end : (status at : ℕ) → HasAnswer by words.file (Err (journal_fault.Bad at)) contents → (e : CheckEnding) → Answers c status (Checked e)
       → AnswersUnlessOut c status (Checked (check_ending.Bad at))
   bad_end status at has check_ending.Yes a = let m = means check_ending.Yes a.1 in
-      absurd (yes_is_no_bad _ _ _ (answers_once by words.file contents _ _ m.1.answer has))
+      absurd (yes_is_no_bad _ _ _ (answers_once by words.file contents _ _ (of_file m.1.answer) has))
   bad_end status at has (check_ending.No slot reason) a = let m = means (check_ending.No slot reason) a.1 in
-      absurd (no_is_no_bad _ _ _ (answers_once by words.file contents _ _ m.0 has))
+      absurd (no_is_no_bad _ _ _ (answers_once by words.file contents _ _ (of_file m.0) has))
   bad_end status at has (check_ending.Bad found) a =
       let m = means (check_ending.Bad found) a.1 in
-      inl (subst (λ (n : ℕ). Answers c status (Checked (check_ending.Bad n))) (bad_once found at (answers_once by words.file contents _ _ m.0 has)) a)
+      inl (subst (λ (n : ℕ). Answers c status (Checked (check_ending.Bad n))) (bad_once found at (answers_once by words.file contents _ _ (of_file m.0) has)) a)
   bad_end status at has check_ending.TooLong a = let m = means check_ending.TooLong a.1 in absurd (long_has_none by words.file contents _ has m.0)
   bad_end status at has check_ending.ReadFault a = let m = means check_ending.ReadFault a.1 in absurd (is.reads m.0)
   bad_end status at has check_ending.OutOfMemory a = inr (out status a)
   bad_end status at has check_ending.OutFault a = let m = means check_ending.OutFault a.1 in
-      absurd (yes_is_no_bad _ _ _ (answers_once by words.file contents _ _ m.2.answer has))
+      absurd (yes_is_no_bad _ _ _ (answers_once by words.file contents _ _ (of_file m.2.answer) has))
 
   no_end : (status slot : ℕ) (reason : Reason) → HasAnswer by words.file (Ok (verdict.No slot reason)) contents
       → (e : CheckEnding) → Answers c status (Checked e)
       → AnswersUnlessOut c status (Checked (check_ending.No slot reason))
   no_end status slot reason has check_ending.Yes a = let m = means check_ending.Yes a.1 in
-      absurd (yes_is_no_no _ _ _ _ (answers_once by words.file contents _ _ m.1.answer has))
+      absurd (yes_is_no_no _ _ _ _ (answers_once by words.file contents _ _ (of_file m.1.answer) has))
   no_end status slot reason has (check_ending.No other why) a =
       let m = means (check_ending.No other why) a.1 in
-      let same = no_once other slot why reason (answers_once by words.file contents _ _ m.0 has) in
+      let same = no_once other slot why reason (answers_once by words.file contents _ _ (of_file m.0) has) in
       inl (subst (λ (r : Reason). Answers c status (Checked (check_ending.No slot r))) same.1
       (subst (λ (n : ℕ). Answers c status (Checked (check_ending.No n why))) same.0 a))
   no_end status slot reason has (check_ending.Bad at) a = let m = means (check_ending.Bad at) a.1 in
-      absurd (no_is_no_bad _ _ _ (answers_once by words.file contents _ _ has m.0))
+      absurd (no_is_no_bad _ _ _ (answers_once by words.file contents _ _ has (of_file m.0)))
   no_end status slot reason has check_ending.TooLong a = let m = means check_ending.TooLong a.1 in absurd (long_has_none by words.file contents _ has m.0)
   no_end status slot reason has check_ending.ReadFault a = let m = means check_ending.ReadFault a.1 in absurd (is.reads m.0)
   no_end status slot reason has check_ending.OutOfMemory a = inr (out status a)
   no_end status slot reason has check_ending.OutFault a = let m = means check_ending.OutFault a.1 in
-      absurd (yes_is_no_no _ _ _ _ (answers_once by words.file contents _ _ m.2.answer has))
+      absurd (yes_is_no_no _ _ _ _ (answers_once by words.file contents _ _ (of_file m.2.answer) has))
 
   yes_end : (status slots : ℕ) (longest : List ℕ) → HasAnswer by words.file (Ok (verdict.Yes slots longest)) contents → (Rose (c.was ToOut) (c.now ToOut) → ⊥)
       → (e : CheckEnding) → Answers c status (Checked e)
       → AnswersUnlessOut c status (Checked check_ending.Yes)
   yes_end status slots longest has free check_ending.Yes a = inl a
   yes_end status slots longest has free (check_ending.No slot reason) a = let m = means (check_ending.No slot reason) a.1 in
-      absurd (yes_is_no_no _ _ _ _ (answers_once by words.file contents _ _ has m.0))
+      absurd (yes_is_no_no _ _ _ _ (answers_once by words.file contents _ _ has (of_file m.0)))
   yes_end status slots longest has free (check_ending.Bad at) a = let m = means (check_ending.Bad at) a.1 in
-      absurd (yes_is_no_bad _ _ _ (answers_once by words.file contents _ _ has m.0))
+      absurd (yes_is_no_bad _ _ _ (answers_once by words.file contents _ _ has (of_file m.0)))
   yes_end status slots longest has free check_ending.TooLong a = let m = means check_ending.TooLong a.1 in
       absurd (long_has_none by words.file contents _ has m.0)
   yes_end status slots longest has free check_ending.ReadFault a = let m = means check_ending.ReadFault a.1 in absurd (is.reads m.0)

@@ -79,10 +79,12 @@ pub record IsCheckable (c : Command) (job : CheckWords) (contents : Contents) : 
   pub told : c.old ≡ Some contents
   pub reads : Rose (c.was (ReadOf job.file)) (c.now (ReadOf job.file)) → ⊥
 
--- Status 2 comes exactly where the words mean no job, want of memory aside.
+-- Status 2 comes exactly where the words mean no job, want of memory aside; where the first word names no command, or there is
+-- none, memory is not asked for.
 pub record UsageIsExact (c : Command) (status : ℕ) : Type 0 where
   pub only : status ≡ 2 → c.job ≡ None
   pub every : c.job ≡ None → (status ≡ 2) ⊎ (status ≡ 5)
+  pub unnamed : c.named ≡ None → status ≡ 2
 
 -- where a file is too long and those before it are not, the answer says so, or memory ran out
 abbrev pub TooLongIsExact : Command → ℕ → Type 0

@@ -1,13 +1,16 @@
-ghost use Rattle.std.specs.Prelude.{◌≡◌, ◌≤◌, ◌+◌, ℕ, Option, Some, length, map, string_bytes, IfOk};
+ghost use Rattle.std.specs.Prelude.{◌≡◌, ◌≤◌, ◌+◌, ℕ, Option, None, Some, length, map, string_bytes, IfOk};
 ghost use Rattle.outside.specs.Contents.{Contents};
 ghost use Rattle.outside.specs.Faults.{NeverFall, NoneRose, Place};
 ghost use Rattle.job_files.specs.Statuses.{status_of};
 ghost use Rattle.switch_words.specs.Limits.{IsWithinLimits};
+ghost use Rattle.switch_words.specs.Options.{command_in};
+ghost use Rattle.switch_words.specs.declared.options.Command.{Command as CommandName};
 ghost use Rattle.switch_words.specs.Reading.{JobWords, job_words};
 ghost use Rattle.switch_run.specs.Causes.{SwitchTheorem};
 ghost use Rattle.switch_run.specs.Endings.{Means, command_of};
 ghost use Rattle.switch_run.specs.MakingSteps.{IsEndOf, Makes};
 ghost use Rattle.job_files.specs.declared.ending.Ending.{Ending};
+ghost use Rattle.job_files.specs.declared.ending.Ending.TheVariants.{Usage};
 
 use crate::job_texts::{end_of_check, texts_of_firm, texts_of_gen, texts_of_run};
 use buffer_sizing::laws as sizes;
@@ -76,7 +79,8 @@ fn run<R: Threads + Sync, F: Files, G: Gate + Sync>(
     gate: &G,
 ) -> Ending
     requires { IsWithinLimits job.now }
-    ensures meaning { Means (record {
+    ensures meaning { (named : Option CommandName) → Means (record {
+      named = named;
       job = Some (job_words job.now);
       old = F.told files.old;
       new = F.told files.new;
@@ -100,6 +104,7 @@ fn end_of<R: Threads + Sync, F: Files, G: Gate + Sync>(
     gate: &G,
 ) -> Ending
     ensures meaning { Means (command_of (map string_bytes words.now) (F.told files.old) (F.told files.new) (F.faults files.old) (F.faults files.new)) result }
+    ensures unnamed { command_in (map string_bytes words.now) ≡ None → result ≡ Usage }
     ensures no_fault { status_of result ≡ 0 → NoneRose (F.faults files.old) (F.faults files.new) }
     ensures never_fall { NeverFall (F.faults files.old) (F.faults files.new) }
 {
@@ -131,7 +136,7 @@ fn end_of<R: Threads + Sync, F: Files, G: Gate + Sync>(
 /// it names none.
 ///
 /// - 0: all is written, and nothing else changed; or the journal file is lawful. No count of refused calls rose.
-/// - 2: the words are not those of a job.
+/// - 2: the words are not those of a job. Where there are none, or the first names no command, no memory is asked for.
 /// - 3: a read of the table, of a capture or of the journal file was refused.
 /// - 4: the table or a capture has more than 16,777,216 bytes, or what they hold is refused; or a journal that is to be
 ///   written or checked has more than 134,217,728 bytes, or a packets file that is to be written has; or what is to be

@@ -4,8 +4,8 @@ use Rattle.named_schedulers.specs.Named.{decision_named}
 use Rattle.outside.specs.Contents.{Contents}
 use Rattle.journal_check.specs.declared.verdict.Verdict.TheVariants as verdict
 use Rattle.journal_check.specs.Verdicts.{answer_under}
-use Rattle.journal_command.specs.Checks.{HasAnswer, MeansCheck}
-use Rattle.journal_command.proofs.Later.{later_check, has_answer}
+use Rattle.journal_command.specs.Checks.{IsAnswered, MeansCheck}
+use Rattle.journal_command.proofs.Later.{later_check, is_answered}
 use Rattle.journal_command.proofs.checking.check_file.Goals as goal
 
 pub returns-in-Err-clause-meaning : goal.returns-in-Err-clause-meaning
@@ -22,8 +22,8 @@ returns-in-Ok-Yes-clause-meaning g c =
       | inl none ↦ absurd (let is = c.in-Ok-Yes.is in cc)
       | inr is ↦ sym is ∙ c.in-Ok-Yes.is ∙ ap Ok c.in-Ok-Yes.field-0-is
     ] in
-    let lawful : IfSome (told c.read_journal.new.files) (HasAnswer s name (Ok (verdict.Yes c.in-Ok-Yes.slots c.in-Ok-Yes.longest))) =
-    has_answer s name c.in-Ok.bytes.items (Ok (verdict.Yes c.in-Ok-Yes.slots c.in-Ok-Yes.longest)) (told c.read_journal.new.files)
+    let lawful : IsAnswered s name (told c.read_journal.new.files) (Ok (verdict.Yes c.in-Ok-Yes.slots c.in-Ok-Yes.longest)) =
+    is_answered s name c.in-Ok.bytes.items (Ok (verdict.Yes c.in-Ok-Yes.slots c.in-Ok-Yes.longest)) (told c.read_journal.new.files)
     (subst (λ (o : Option Contents). IfSome o (λ (x : Contents). x.file name ≡ Some c.in-Ok.bytes.items)) (sym same) c.in-Ok.ensures.bytes)
     c.in-Ok.ensures.fits (ap (answer_under s) (sym bytes) ∙ answer) in
     later_check s name (told c.args.files.now) (g.F.Files.faults c.args.files.now) (g.F.Files.faults c.read_journal.new.files)

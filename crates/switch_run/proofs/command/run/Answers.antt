@@ -4,7 +4,7 @@ use Rattle.switch_run.proofs.Stopping.{ended}
 use Rattle.switch_run.proofs.command.run.Goals as goal
 
 pub returns-clause-meaning : goal.returns-clause-meaning
-returns-clause-meaning g c =
+returns-clause-meaning g c named =
     let counts = g.F.Files.faults in
     ended _ (job_words c.args.job.now) (g.F.Files.told c.attempt-ending.new.files) (counts c.attempt-ending.new.files) c.attempt-ending.result refl
     c.attempt-ending.ensures.never_fall c.print_line.ensures.never_fall c.attempt-ending.ensures.meaning c.print_line.ensures.line
