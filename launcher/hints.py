@@ -5,7 +5,7 @@ import os
 import re
 
 from . import capture_hints, table_hints
-from .capture_hints import converted, first_bytes, is_capture
+from .journal_hints import on_journal
 from .made import largest_count
 from .too_many import on_bytes, on_cells, on_slots
 from .words import MAX_COUNT, Fault, read_words
@@ -105,22 +105,7 @@ def _on_output_too_long(job, what):
 
 
 def _on_journal(job, at):
-    name = job.names[0]
-    begin = first_bytes(name, 16)
-    if is_capture(name):
-        kind = capture_hints.kind_of(name)
-        if kind and kind[1].endswith("> OUT"):
-            return f"{name} {kind[0]}: {converted(kind[1], name)}"
-        return f"{name} is a capture; check reads a journal, as run --journal writes it"
-    if begin.startswith(b"ports "):
-        return f"{name} is a report; check reads a journal, as run --journal writes it"
-    if begin.startswith(b"input,packet,"):
-        return f"{name} is a packets file; check reads a journal, as run --journal writes it"
-    if not begin:
-        return f"{name} is empty" if os.path.isfile(name) else None
-    if begin.startswith(b"TTJ1") and int(at) == os.path.getsize(name):
-        return f"{name} ends at byte {at}, before its last slot does"
-    return None
+    return on_journal(job.names[0], int(at))
 
 
 LINE = r"table line (\d+): "

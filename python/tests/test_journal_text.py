@@ -137,6 +137,6 @@ def test_tool_refuses(tmp_path):
     told = f"tools/journal: {text}: line 3: expected: slot 1 requests .. more .. matches ..\n"
     assert run("make", text, made) == (1, b"", told) and not made.exists()
     status, _, told = run("show", text)
-    assert (status, told) == (1, f"tools/journal: {text}: bad at 0\n")
+    assert (status, told) == (1, f"tools/journal: {text}: bad at 0; hint: {text} is the text of a journal; a journal is what run --journal writes\n")
     status, _, told = run("show", tmp_path / "none")
     assert status == 1 and told.count("\n") == 1 and "Traceback" not in told

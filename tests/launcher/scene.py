@@ -191,7 +191,7 @@ def write_repository(top):
     ignored = shutil.ignore_patterns("__pycache__")
     for name in ("launcher", "viewer", "include"):
         shutil.copytree(TOP / name, top / name, ignore=ignored)
-    for name in ("tiny_tera", "tools/install", "dev/make_release", "docs/USAGE.md", "docs/tiny_tera.1", "LICENSE", "Makefile"):
+    for name in ("tiny_tera", "tools/install", "tools/measure/__init__.py", "tools/measure/ends.py", "dev/make_release", "docs/USAGE.md", "docs/tiny_tera.1", "LICENSE", "Makefile"):
         (top / name).parent.mkdir(exist_ok=True)
         shutil.copy(TOP / name, top / name)
     for name, text in SOURCES.items():

@@ -95,7 +95,7 @@ class DryRun(Scene):
 
     def test_other_commands(self):
         self.files(j=b"ports 2\n")
-        told = "j is a report; check reads a journal, as run --journal writes it"
+        told = "j is a report; a journal is what run --journal writes"
         for words, status, said in (
             (["check", "none"], 3, "read fault: none\nhint: the journal: there is no file none\n"),
             (["check", "j"], 4, f"journal: bad at 0\nhint: {told}\n"),

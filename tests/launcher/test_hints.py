@@ -274,13 +274,15 @@ class Hints(Scene):
 
     def test_journals(self):
         journal = bytes.fromhex("54544a31020400000000000100000000ff00ff00")
-        other = "check reads a journal, as run --journal writes it"
+        other = "a journal is what run --journal writes"
         for data, at, hint in (
             (b"", 0, "j is empty"),
             (journal[:-1], 19, "j ends at byte 19, before its last slot does"),
             (capture(), 0, f"j is a capture; {other}"),
             (b"ports 2\nrounds 4\n", 0, f"j is a report; {other}"),
             (b"input,packet,bytes,cells,state\n", 0, f"j is a packets file; {other}"),
+            (b"journal ports 2 rounds 4\n", 0, f"j is the text of a journal; {other}"),
+            (b"TTJ2", 0, f"j does not begin with the bytes TTJ1; {other}"),
             (gzip.compress(journal, mtime=0), 0, "j is compressed by gzip: zcat j > j.classic.pcap"),
             (journal[:13] + b"\x02" + journal[14:], 13, None),
         ):

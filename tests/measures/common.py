@@ -4,7 +4,6 @@ import importlib.util
 import io
 import runpy
 import shlex
-import signal
 import subprocess
 import sys
 from contextlib import redirect_stderr, redirect_stdout
@@ -92,12 +91,10 @@ def run(*words, **more):
 def run_here(name, *words):
     """The same of a tool by its name, in this process, which spares the start of another."""
     main = runpy.run_path(str(TOOLS / name))["main"]
-    said, before = io.StringIO(), signal.getsignal(signal.SIGPIPE)
+    said = io.StringIO()
     with mock.patch("sys.argv", [name, *map(str, words)]), redirect_stdout(said), redirect_stderr(said):
         try:
             status = main()
         except SystemExit as ended:
             status = ended.code
-        finally:
-            signal.signal(signal.SIGPIPE, before)
     return status, said.getvalue()

@@ -227,7 +227,8 @@ class Figures(unittest.TestCase):
             cut = report_file.with_suffix(".journal")
             report_file.write_text(REPORT)
             cut.write_bytes(JOURNAL[:-1])
-            told = f"tools/plot: {cut}: bad at {len(JOURNAL) - 1}\n"
+            end = len(JOURNAL) - 1
+            told = f"tools/plot: {cut}: bad at {end}; hint: {cut} ends at byte {end}, before its last slot does\n"
             self.assertEqual(run(TOOLS / "plot", report_file), (1, told))
             report_file.write_text(REPORT[:40])
             status, told = run(TOOLS / "plot", report_file)

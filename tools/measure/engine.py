@@ -70,7 +70,7 @@ class Progress:
 
 
 def run(command, folder, handle):
-    """Runs the command of Snakemake with a bar; an interrupt lets the jobs under way end."""
+    """Runs the command of Snakemake with a bar; an interrupt, or that nobody reads the bar, lets the jobs under way end."""
     progress = Progress()
     with open(folder / LOG, "w") as log:
         # A group of its own, so that an interrupt at the terminal comes to this process alone.
@@ -79,15 +79,20 @@ def run(command, folder, handle):
             start_new_session=True,
         )
         try:
-            with tqdm(unit="run", desc="tools/sweep", disable=None, dynamic_ncols=True) as bar:
-                for line in process.stdout:
-                    log.write(line)
-                    log.flush()
-                    _show(bar, progress, progress.read(line))
+            _follow(process.stdout, log, progress)
             status, interrupted = process.wait(), False
-        except KeyboardInterrupt:
+        except (KeyboardInterrupt, BrokenPipeError):
             status, interrupted = _stop(process), True
     return Outcome(status, interrupted, progress.done, progress.total, progress.has_failed, tuple(progress.causes))
+
+
+def _follow(lines, log, progress):
+    """Keeps the lines of Snakemake in the log, and shows what they tell."""
+    with tqdm(unit="run", desc="tools/sweep", disable=None, dynamic_ncols=True) as bar:
+        for line in lines:
+            log.write(line)
+            log.flush()
+            _show(bar, progress, progress.read(line))
 
 
 def _show(bar, progress, again):
