@@ -180,6 +180,11 @@ def test_room(viewer):
     return ", ".join(sizes)
 
 
+REPORT_WITH_QUEUES = (files.ROOT / "examples/two_inputs/expected/out.report").read_bytes().replace(
+    b"slot 0 ", b"queue 0>0:0u packets 2 dropped 0 cells 5 peak 4 slot 4\nqueue 1>0:0u packets 1 dropped 0 cells 3 peak 3 slot 2\ndeepest 4\nslot 0 ", 1,
+)
+
+
 def test_phone(viewer):
     """On a phone the controls stay in sight, and share the screen with the crossbar."""
     for width, height in ((390, 844), (360, 640)):
@@ -196,6 +201,10 @@ def test_phone(viewer):
             expect(is_seen, f"{width} by {height}: controls {controls}, crossbar {top} to {bottom}")
             expect(min(crossbar_size(viewer)) >= 0.85 * width, f"{width} by {height}: {crossbar_size(viewer)}")
         viewer.shoot(f"phone_{width}")
+        viewer.load()
+        viewer.view_port(width, height)
+        viewer.open_bytes("out.report", REPORT_WITH_QUEUES)
+        expect("in slot" in viewer.text("summary") and not overflow(viewer), f"{width} by {height}: the table of queues has the page scroll sideways")
     viewer.run("window.scrollTo(0, document.body.scrollHeight)")
     expect(viewer.run("return document.querySelector('.controls').getBoundingClientRect().top") == 0, "the controls are not in sight")
     viewer.view_port(0, 0)
