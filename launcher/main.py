@@ -46,7 +46,7 @@ def _own_answer(place, words):
     if any(it in before for it in HELP):
         return _help(place, words)
     if words == [VERSION]:
-        return tell(_version(place))
+        return _version(place)
     if words == [WHERE]:
         return _library(place)
     if words in ([PROVE], [PROVE, ALL]):
@@ -77,18 +77,23 @@ def _help(place, words):
 
 
 def _version(place):
+    """Tells the version and the program; the status, 1 where an installed program is not what was installed."""
     found = there.find(place, PROGRAM)
-    lines = [told_version(place.version())]
-    if found.build is None and place.is_installed:
-        return [*lines, _not_installed(place)]
+    is_lost = found.build is None and place.is_installed
+    told = [_not_installed(place)] if is_lost else _told_program(place, found)
+    status = tell([told_version(place.version()), *told])
+    return 1 if is_lost else status
+
+
+def _told_program(place, found):
     if found.build is None:
         why = f"{found.changed[0]} changed since it was proved" if found.changed else str(found.fault)
-        return [*lines, f"no program is there of these sources: {why}; it is proved before it runs"]
+        return [f"no program is there of these sources: {why}; it is proved before it runs"]
     kit = found.build.said()["kit"]
     told = f"proved with {kit}" if place.is_installed else f"proved and built here with {kit}"
     if found.is_stored:
         told = f"stored in release/, proved elsewhere with {kit} from these sources; to prove it here: ./tiny_tera {PROVE}"
-    return [*lines, told, f"sha256 {found.build.sum()}  {found.build.path}"]
+    return [told, f"sha256 {found.build.sum()}  {found.build.path}"]
 
 
 def _not_installed(place):

@@ -175,9 +175,11 @@ class Install(Scene):
         self.assertEqual((ended.returncode, ended.stdout), (1, ""))
         why = f"{program} is not the program that was installed, so it is not started"
         self.assertEqual(ended.stderr, f"tiny_tera: {why}\n")
-        self.assertEqual(self.started("--version").stdout.splitlines()[1:], [why])
+        told = self.started("--version")
+        self.assertEqual((told.returncode, told.stdout.splitlines()[1:]), (1, [why]))
         program.unlink()
-        self.assertEqual(self.started("--version").stdout.splitlines()[1:], [f"{program} is not there, so it is not started"])
+        told = self.started("--version")
+        self.assertEqual((told.returncode, told.stdout.splitlines()[1:]), (1, [f"{program} is not there, so it is not started"]))
 
     def test_clone_of_another_user(self):
         """The version is that of the clone, whoever owns it."""
