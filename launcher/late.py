@@ -4,9 +4,11 @@ At a pace a packet waits for the packets before it on its line. Where a capture 
 for, this wait grows, and no number of the report has it.
 """
 
+from array import array
+from itertools import islice
 from typing import NamedTuple
 
-from .captures import Records, first_time, on_line
+from .captures import CELL_PAYLOAD, MESSAGE_HEADER, Records, over
 
 MOST_SLOTS = 1  # A packet that comes so many slots late is no late one.
 
@@ -20,22 +22,62 @@ class Late(NamedTuple):
     slots: int
 
 
+class Line(NamedTuple):
+    """What is kept of the packets of a port, in their order: their times in nanoseconds, and how many bytes each has."""
+
+    times: "array[int]"
+    lengths: "array[int]"
+
+
 def late_ports(packets_by_port, pace_us, most=None):
-    """The ports that have late packets, in order; Unseen where there are more packets than the most."""
-    base = first_time(packets_by_port, most)
-    found = []
-    for port, packets in enumerate(packets_by_port):
-        waits = [it.first - it.due for it in on_line(packets, base, pace_us)]
-        late = sum(wait > MOST_SLOTS for wait in waits)
-        if late:
-            found.append(Late(port, late, len(waits), max(waits)))
-    return found
+    """The ports that have late packets, in order; Unseen where there are more packets than the most.
+
+    Packets have the fields of a captures.Record.
+    """
+    lines = read_lines(packets_by_port, most)
+    base = min((min(line.times) for line in lines if line.times), default=0)
+    found = (Late(port, *_late(line, base, 1000 * pace_us)) for port, line in enumerate(lines))
+    return [it for it in found if it.late]
+
+
+def read_lines(packets_by_port, most):
+    lines, room = [], most
+    for packets in packets_by_port:
+        lines.append(_line(islice(packets, None if most is None else room + 1)))
+        if most is not None:
+            room -= len(lines[-1].times)
+            if room < 0:
+                raise over(most)
+    return lines
+
+
+def _line(packets):
+    line = Line(array("q"), array("L"))
+    for time, _, _, length in packets:
+        line.times.append(time)
+        line.lengths.append(length)
+    return line
+
+
+def _late(line, base, slot):
+    """How many packets are late, of how many, and by how many slots of this length at most. Their first cells
+    come as captures.on_line has them, in less time."""
+    free, late, longest = 0, 0, 0
+    for time, length in zip(line.times, line.lengths):
+        first = (time - base) // slot
+        if first < free:
+            wait = free - first
+            late += wait > MOST_SLOTS
+            longest = wait if wait > longest else longest
+            first = free
+        free = first - -(MESSAGE_HEADER + length) // CELL_PAYLOAD
+    return late, len(line.times), longest
 
 
 def lines_of_late(names, pace_us, most=None):
     """A line for each port that has late packets; Unseen where they cannot be looked for."""
     found = []
-    for port, late, packets, slots in late_ports([Records(*it) for it in enumerate(names)], pace_us, most):
+    for port, late, packets, slots in late_ports((Records(*it).fields() for it in enumerate(names)), pace_us, most):
         time = f"{slots:,} slots ({slots * pace_us:,} us)"
         found.append(f"port {port} ({names[port]}): {late:,} of {packets:,} packets came late, by {time} at most")
     return found

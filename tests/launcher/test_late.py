@@ -1,8 +1,9 @@
 """Packets that a line brings later than their time stamps."""
 
 import os
+import struct
 
-from launcher.captures import Packet, Unseen
+from launcher.captures import Record, Records, Unseen, first_time, on_line
 from launcher.late import late_ports, lines_of_late
 
 from .scene import TOP, Scene, capture, frame
@@ -16,7 +17,7 @@ LATE = "port 0 (a.pcap): 1 of 3 packets came late, by 2 slots (10 us) at most"
 def line(megabits, captured, count):
     """The packets of a full Ethernet line, of frames without their check sequence."""
     each = (captured + 24) * 8 * 1000 / megabits
-    return [Packet(int(each * at), captured, bytes(captured)) for at in range(count)]
+    return [Record(int(each * at), captured, 0, captured) for at in range(count)]
 
 
 class Late(Scene):
@@ -69,6 +70,17 @@ class Late(Scene):
         self.assertEqual(str(why.exception), told)
         self.assertEqual([len(lines_of_late(names, 5, most)) for most in (4, None)], [1, 1])
 
+    def test_first_cells(self):
+        """They come in the slots of captures.on_line."""
+        count = 20_000
+        record = struct.Struct("<IIII").pack
+        times = (3 * at + (at % 7) ** 2 for at in range(count))  # Not in order, and with bursts.
+        data = capture() + b"".join(record(*divmod(time, 10**6), 0, 60) for time in times)
+        self.files(many_pcap=data)
+        records = Records(0, str(self.jobs / "many.pcap"))
+        waits = [it.first - it.due for it in on_line(records, first_time([records]), 3)]
+        self.assertEqual(late_ports([records.fields()], 3, count), [(0, sum(wait > 1 for wait in waits), count, max(waits))])
+
     def test_without_a_run(self):
         names = ("table.txt", "out", "a.pcap", "b.pcap")
         told = self.launch("--dry-run", "run", "--pace-us", "5", *names).stderr.splitlines()
@@ -88,7 +100,7 @@ class Late(Scene):
 
     def test_example_of_the_page(self):
         """Frames of 64 bytes at 100 Mbit/s, one every 6.72 microseconds, of two slots of 5 each."""
-        packets = [Packet(at * 6720 // 1000 * 1000, 60, bytes(60)) for at in range(1000)]
+        packets = [Record(at * 6720 // 1000 * 1000, 60, 0, 60) for at in range(1000)]
         found = late_ports([packets], 5)[0]
         told = f"late: port 0 (a.pcap): {found.late:,} of 1,000 packets came late, by {found.slots:,} slots ({found.slots * 5:,} us) at most"
         self.assertIn(told, (TOP / "docs/USAGE.md").read_text())
