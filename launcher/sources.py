@@ -18,17 +18,13 @@ JUST_WRITTEN_NS = 2_000_000_000  # A file system may round times to this.
 
 def lines_of_crates(top):
     """The line of each crate in crates.txt, without comment and needless blanks."""
-    found = {}
     try:
         with open(os.path.join(top, "crates.txt"), encoding="utf-8") as file:
-            for text in file:
-                line = " ".join(text.partition("#")[0].split())
-                head, colon, _ = line.partition(":")
-                if colon and head.split():
-                    found[head.split()[0]] = line
+            lines = [" ".join(text.partition("#")[0].split()) for text in file]
     except OSError:
-        pass
-    return found
+        return {}
+    heads = ((line.partition(":"), line) for line in lines)
+    return {head.split()[0]: line for (head, colon, _), line in heads if colon and head.split()}
 
 
 class Sources:

@@ -6,6 +6,7 @@ import re
 import shutil
 import threading
 import time
+from pathlib import Path
 
 from .cases import case
 from .files import (
@@ -122,13 +123,10 @@ SHRINK_TRIES = 20
 def bytes_read(process, path):
     """How many bytes of the file a run has read, where it has it open now."""
     try:
-        for entry in os.scandir(f"/proc/{process.pid}/fd"):
-            if os.readlink(entry.path) == str(path):
-                with open(f"/proc/{process.pid}/fdinfo/{entry.name}") as told:
-                    return int(told.readline().split()[1])
+        numbers = [entry.name for entry in os.scandir(f"/proc/{process.pid}/fd") if os.readlink(entry.path) == str(path)]
+        return int(Path(f"/proc/{process.pid}/fdinfo/{numbers[0]}").read_text().split()[1]) if numbers else 0
     except OSError:
-        pass  # It was closed meanwhile, or the run has ended.
-    return 0
+        return 0  # It was closed meanwhile, or the run has ended.
 
 
 def shrink_while_read(place, path, length):

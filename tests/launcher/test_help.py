@@ -39,11 +39,9 @@ class Help(Scene):
                 told = self.launch(command, "--help").stdout
                 taken = [name for name, option in OPTIONS.items() if command in option.commands]
                 self.assertEqual(re.findall(r"^  (--[a-z-]+)", told, re.M), taken)
-                for name in taken:
-                    if OPTIONS[name].high:
-                        self.assertRegex(told, rf"{OPTIONS[name].low:,} to\s+{OPTIONS[name].high:,}")
-                    for choice in OPTIONS[name].choices:
-                        self.assertRegex(told, rf"\b{choice}\b")
+                wanted = [rf"{it.low:,} to\s+{it.high:,}" for it in map(OPTIONS.get, taken) if it.high]
+                wanted += [rf"\b{choice}\b" for name in taken for choice in OPTIONS[name].choices]
+                self.assertEqual([pattern for pattern in wanted if not re.search(pattern, told)], [])
                 self.assertTrue(told.startswith(f"usage:\n  tiny_tera {command} "))
                 self.assertRegex(told, f"\nexample:\n  tiny_tera {command} ")
                 example = re.search("\nexample:\n  tiny_tera (.*)\n", told)[1]

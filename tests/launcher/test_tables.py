@@ -47,17 +47,22 @@ class Tables(unittest.TestCase):
         for name, ports, data, (answer, *numbers), routes in cases():
             with self.subTest(name):
                 seen.add(answer)
-                if answer != "ok":
-                    with self.assertRaises(BadTable) as fault:
-                        read_table(data, ports)
-                    self.assertEqual(str(fault.exception), SAID[answer].format(*numbers))
-                    continue
-                found = read_table(data, ports)
-                self.assertEqual(len(found), int(numbers[0]))
-                for address, *served in routes:
-                    number = None if address == "-" else int.from_bytes(bytes(map(int, re.findall("[0-9]+", address))), "big")
-                    self.assertEqual(told(route(found, number)), served, address)
+                if answer == "ok":
+                    self.check_routes(read_table(data, ports), int(numbers[0]), routes)
+                else:
+                    self.check_fault(data, ports, SAID[answer].format(*numbers))
         self.assertEqual(seen, {"ok", *SAID})
+
+    def check_fault(self, data, ports, said):
+        with self.assertRaises(BadTable) as fault:
+            read_table(data, ports)
+        self.assertEqual(str(fault.exception), said)
+
+    def check_routes(self, found, lines, routes):
+        self.assertEqual(len(found), lines)
+        for address, *served in routes:
+            number = None if address == "-" else int.from_bytes(bytes(map(int, re.findall("[0-9]+", address))), "big")
+            self.assertEqual(told(route(found, number)), served, address)
 
 
 if __name__ == "__main__":

@@ -128,12 +128,14 @@ class FullQueues(unittest.TestCase):
                 folder = Path(room, "its traffic")
                 lines = run(TOOLS / "full_queues", ports, folder.name, cwd=room)[1].splitlines()
                 for line in lines[1:3]:
-                    command = with_program(line.strip(), room)
-                    ended = subprocess.run(command, cwd=room, shell=True, stdout=subprocess.PIPE, stderr=subprocess.PIPE, text=True)
-                    if ended.returncode == 2:
-                        self.skipTest("the program does not take --scheduler")
-                    scheduler = command.split("--scheduler ")[1].split()[0]
-                    self.assertIn(f"    {scheduler}: {ended.stdout.splitlines()[3]}", lines[4:])
-                    found = report.read_report((folder / f"{scheduler}.report").read_text()).slots
-                    begun = full_queues.full_slot(ports, full_queues.CELLS)
-                    self.check_pairs([len(slot.pairs) for slot in found[begun:]], ports, full_queues.CELLS, scheduler)
+                    self.check_command(with_program(line.strip(), room), ports, folder, lines[4:])
+
+    def check_command(self, command, ports, folder, told):
+        ended = subprocess.run(command, cwd=folder.parent, shell=True, stdout=subprocess.PIPE, stderr=subprocess.PIPE, text=True)
+        if ended.returncode == 2:
+            self.skipTest("the program does not take --scheduler")
+        scheduler = command.split("--scheduler ")[1].split()[0]
+        self.assertIn(f"    {scheduler}: {ended.stdout.splitlines()[3]}", told)
+        found = report.read_report((folder / f"{scheduler}.report").read_text()).slots
+        begun = full_queues.full_slot(ports, full_queues.CELLS)
+        self.check_pairs([len(slot.pairs) for slot in found[begun:]], ports, full_queues.CELLS, scheduler)

@@ -8,6 +8,7 @@ import sys
 import tempfile
 import unittest
 from collections import Counter
+from itertools import product
 from pathlib import Path
 
 from launcher import captures
@@ -122,11 +123,10 @@ class Traffic(unittest.TestCase):
 class Jobs(unittest.TestCase):
     def test_packets_are_those_of_jobs(self):
         """The captures of an independent model bring the same packets in the same slots."""
-        for scheduler in ("islip", "firm_command"):
-            for rounds, word in ((1, "one_round"), (2, "two_rounds")):
-                for ports in (3, 4, 5, 6):
-                    with self.subTest(scheduler=scheduler, rounds=rounds, ports=ports):
-                        self.compare(JOBS / f"{scheduler}_{word}_{ports}_ports", ports, rounds)
+        rounds_words = ((1, "one_round"), (2, "two_rounds"))
+        for scheduler, (rounds, word), ports in product(("islip", "firm_command"), rounds_words, (3, 4, 5, 6)):
+            with self.subTest(scheduler=scheduler, rounds=rounds, ports=ports):
+                self.compare(JOBS / f"{scheduler}_{word}_{ports}_ports", ports, rounds)
 
     def compare(self, job, ports, rounds):
         files = [path.read_bytes() for path in sorted(job.glob("*.pcap"))]

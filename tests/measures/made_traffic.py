@@ -101,12 +101,16 @@ class Traffic(unittest.TestCase):
             for said, (data, hint) in refused.items():
                 with self.subTest(said):
                     bad.write_bytes(data)
-                    if PROGRAM.exists():
-                        ended = subprocess.run([PROGRAM, "firm", "/dev/null", bad], stdout=subprocess.PIPE, stderr=subprocess.PIPE, text=True)
-                        self.assertEqual((ended.returncode, ended.stderr), (4, f"capture 0: {said}\n"))
+                    self.check_program(bad, said)
                     status, told = run(TOOLS / "traffic", folder / "made", "--kind", "trace", "--trace", bad)
                     self.assertEqual((status, told.count("\n"), (folder / "made").exists()), (1, 1, False))
                     self.assertTrue(told.startswith(f"tools/traffic: {bad}: {said}; hint: {bad} {hint}"), told)
+
+    def check_program(self, bad, said):
+        """That the program refuses the capture by the same text, where it is there."""
+        if PROGRAM.exists():
+            ended = subprocess.run([PROGRAM, "firm", "/dev/null", bad], stdout=subprocess.PIPE, stderr=subprocess.PIPE, text=True)
+            self.assertEqual((ended.returncode, ended.stderr), (4, f"capture 0: {said}\n"))
 
     def test_traces_without_packets_of_use(self):
         with tempfile.TemporaryDirectory() as name:

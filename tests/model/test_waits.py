@@ -99,12 +99,15 @@ class Bounds(unittest.TestCase):
             window = Window(rng, rng.choice(sorted(SCHEDULERS)))
             for port in range(window.ports):
                 if window.rows[0][port].multicast[window.best]:
-                    done = window.first_completed(port)
-                    self.assertIsNotNone(done)
-                    self.assertLess(done, 2 * window.ports)
-                    far = [distance(window.ports, it.shared[window.best], port) for it in window.pointers[:done + 1]]
-                    for slot, (before, after) in enumerate(zip(far, far[1:])):
-                        self.assertLessEqual(after, before - (window.begin + slot) % 2)
+                    self.check_multicast(window, port)
+
+    def check_multicast(self, window, port):
+        done = window.first_completed(port)
+        self.assertIsNotNone(done)
+        self.assertLess(done, 2 * window.ports)
+        far = [distance(window.ports, it.shared[window.best], port) for it in window.pointers[:done + 1]]
+        for slot, (before, after) in enumerate(zip(far, far[1:])):
+            self.assertLessEqual(after, before - (window.begin + slot) % 2)
 
     def test_all_cases_of_two_ports(self):
         for scheduler, most in ((islip, {1: 4, 2: 3}), (firm, {1: 4, 2: 3}), (rrm, {1: 4, 2: 4})):

@@ -36,12 +36,18 @@ def are_of_one_run(journal, counts, report):
 def _after(slot, waiting, counts):
     """The queues that wait after a slot, with their waits; those that it serves are counted."""
     left = {}
+    for card, output, level in _posted(slot):
+        queue = (card, output, level)
+        if slot.outputs[output] == (card, level, False):
+            counts[level][waiting.get(queue, 0)] += 1
+        else:
+            left[queue] = waiting.get(queue, 0) + 1
+    return left
+
+
+def _posted(slot):
+    """The unicast queues that a slot posts: input, output and level of each."""
     for card, post in enumerate(slot.posts):
         for level, outputs in enumerate(post.unicast):
             for output in members(outputs):
-                queue = (card, output, level)
-                if slot.outputs[output] == (card, level, False):
-                    counts[level][waiting.get(queue, 0)] += 1
-                else:
-                    left[queue] = waiting.get(queue, 0) + 1
-    return left
+                yield card, output, level
