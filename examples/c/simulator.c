@@ -9,6 +9,7 @@
 #include <stdint.h>
 #include <stdio.h>
 #include <stdlib.h>
+#include <string.h>
 #include <tiny_tera.h>
 
 enum { PORTS = 64 };
@@ -92,10 +93,19 @@ static struct totals run(uint32_t n, uint32_t rounds, uint32_t slots, unsigned p
     return totals;
 }
 
+/* The number that a word is; where it is none, the program ends. */
+static uint32_t number(const char *word) {
+    if (!*word || word[strspn(word, "0123456789")]) {
+        fprintf(stderr, "simulator: %s is no whole number\n", word);
+        exit(2);
+    }
+    return strtoul(word, NULL, 10);
+}
+
 int main(int argc, char **argv) {
-    uint32_t n = argc > 1 ? strtoul(argv[1], NULL, 10) : 16;
-    uint32_t rounds = argc > 2 ? strtoul(argv[2], NULL, 10) : 4;
-    uint32_t slots = argc > 3 ? strtoul(argv[3], NULL, 10) : 20000;
+    uint32_t n = argc > 1 ? number(argv[1]) : 16;
+    uint32_t rounds = argc > 2 ? number(argv[2]) : 4;
+    uint32_t slots = argc > 3 ? number(argv[3]) : 20000;
     if (n < 1 || n > PORTS || rounds < 1 || rounds > TINY_TERA_MAX_ROUNDS) {
         fprintf(stderr, "simulator: ports and rounds are each from 1 to 64\n");
         return 2;
@@ -105,7 +115,7 @@ int main(int argc, char **argv) {
     int count = argc > 4 ? argc - 4 : (int)(sizeof usual / sizeof *usual);
     printf("%u ports, %u rounds, %u slots\nload %%  mean delay  left %%\n", n, rounds, slots);
     for (int k = 0; k < count; k++) {
-        unsigned percent = strtoul(loads[k], NULL, 10);
+        unsigned percent = number(loads[k]);
         struct totals totals = run(n, rounds, slots, percent);
         printf("%6u  %10.2f  %6.2f\n", percent, totals.left ? (double)totals.delay / totals.left : 0.0,
                totals.came ? 100.0 * totals.left / totals.came : 100.0);

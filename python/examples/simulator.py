@@ -47,9 +47,18 @@ def run(ports, rounds, slots, percent):
     return came, left, delay
 
 
+def number(word):
+    """The number that a word is."""
+    if not (word.isascii() and word.isdigit()):
+        sys.exit(f"simulator: {word} is no whole number")
+    return int(word)
+
+
 def main(words):
-    ports, rounds, slots = (*map(int, words[:3]), *(16, 4, 20000)[len(words[:3]):])
-    loads = list(map(int, words[3:])) or [50, 80, 90, 95, 99]
+    ports, rounds, slots = (*map(number, words[:3]), *(16, 4, 20000)[len(words[:3]):])
+    loads = list(map(number, words[3:])) or [50, 80, 90, 95, 99]
+    if not (1 <= ports <= 64 and 1 <= rounds <= 64):
+        sys.exit("simulator: ports and rounds are each from 1 to 64")
     print(f"{ports} ports, {rounds} rounds, {slots} slots\nload %  mean delay  left %")
     for percent in loads:
         came, left, delay = run(ports, rounds, slots, percent)

@@ -41,3 +41,8 @@ def test_as_in_c(tmp_path):
     paths = {**os.environ, "LD_LIBRARY_PATH": str(tmp_path)}
     told = subprocess.run([program, *words], env=paths, check=True, stdout=subprocess.PIPE, text=True).stdout
     assert printed(sys.executable, EXAMPLE, *words) == told
+    for wrong, why in ((("4", "x"), "x is no whole number"), (("65",), "ports and rounds are each from 1 to 64")):
+        for example in ([program], [sys.executable, EXAMPLE]):
+            variables = {**paths, "PYTHONPATH": str(TOP / "python")}
+            ended = subprocess.run([*example, *wrong], env=variables, stdout=subprocess.DEVNULL, stderr=subprocess.PIPE, text=True)
+            assert ended.returncode and ended.stderr == f"simulator: {why}\n"
