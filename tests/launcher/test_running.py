@@ -1,13 +1,19 @@
 """How the program is started: its words, variables, files and streams, and how it ends."""
 
 import os
+import re
 import shutil
 import signal
 import subprocess
 import time
 import unittest
+from pathlib import Path
+
+from launcher.running import LARGE_PAGES
 
 from .scene import PROGRAM, Scene
+
+LOADER = Path("/lib64/ld-linux-x86-64.so.2")
 
 
 class Running(Scene):
@@ -62,9 +68,22 @@ class Running(Scene):
         self.assertEqual(self.launch("gen", "1", "2", "2", cwd="/").stdout, "summary\n")
 
     def test_large_pages(self):
-        self.assertEqual(self.noted("gen", "1", "2", "2")[-1], "tunables glibc.malloc.hugetlb=1")
-        self.assertEqual(self.noted("gen", "1", "2", "2", GLIBC_TUNABLES="glibc.malloc.check=1")[-1], "tunables glibc.malloc.check=1")
-        self.assertEqual(self.noted("gen", "1", "2", "2", GLIBC_TUNABLES="")[-1], "tunables ")
+        own = "glibc.malloc.check=1:glibc.malloc.arena_max=8"
+        for users, expected in ((None, LARGE_PAGES), (own, f"{LARGE_PAGES}:{own}"), ("", "")):
+            more = {} if users is None else {"GLIBC_TUNABLES": users}
+            self.assertEqual(self.noted("gen", "1", "2", "2", **more)[-1], f"tunables {expected}")
+
+    @unittest.skipUnless(LOADER.is_file(), "no loader of GNU's C library 2.33 or later is there")
+    def test_large_pages_are_taken(self):
+        """The C library knows each name, and takes the later of two values, so that of the user."""
+        loader = f"{LOADER} --list-tunables >'{self.notes}'"
+        for own, heaps in ((None, 1), ("glibc.malloc.arena_max=8", 8)):
+            more = {} if own is None else {"GLIBC_TUNABLES": own}
+            self.launch("gen", "1", "2", "2", CODE=loader, **more)
+            found = dict(re.findall(r"(glibc\.malloc\.\w+): (\w+)", self.notes.read_text()))
+            wanted = {name: int(value) for name, value in (it.split("=") for it in LARGE_PAGES.split(":"))}
+            wanted["glibc.malloc.arena_max"] = heaps
+            self.assertEqual({name: int(found[name], 0) for name in wanted}, wanted)
 
     def test_files_that_the_shell_has_opened(self):
         """As <(zcat IN.gz) gives them."""
