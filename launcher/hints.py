@@ -119,7 +119,7 @@ HINTS = (
     (4, LINE + r"port (\d+)", _of_line(table_hints.on_port)),
     (4, LINE + "level", _of_line(table_hints.on_level)),
     (4, LINE + r"repeats line (\d+)", _of_line(table_hints.on_repeats)),
-    (4, r"table: (\d+) lines", lambda job, _: f"{job.table} may have at most 4,096 lines with routes"),
+    (4, r"table: (\d+) lines", table_hints.on_lines),
     (4, r"capture (\d+): (.*)", _on_capture),
     (4, r"link types (\d+) and (\d+)", capture_hints.on_two_links),
     (4, r"too many slots: port (\d+) has (\d+)", _of_line(on_slots)),

@@ -26,9 +26,19 @@ def line_of(name, number):
     return line[:-1] if line.endswith("\r") else line
 
 
+def on_capture(job):
+    """A capture in the place of the table."""
+    return f"{job.table} is a capture, and stands where the table is expected: the words are TABLE" + (" PREFIX" if job.prefix else "") + " INPUT.."
+
+
+def on_lines(job, _):
+    """A table with too many lines; that one may be a capture, whose bytes can begin many lines."""
+    return on_capture(job) if is_capture(job.table) else f"{job.table} may have at most 4,096 lines with routes"
+
+
 def on_bad_line(job, number):
     if is_capture(job.table):
-        return f"{job.table} is a capture, and stands where the table is expected: the words are TABLE" + (" PREFIX" if job.prefix else "") + " INPUT.."
+        return on_capture(job)
     line = line_of(job.table, number)
     if line is None:
         return None

@@ -170,6 +170,7 @@ class Hints(Scene):
         """A capture stands where TABLE or PREFIX is expected."""
         hint = "a.pcap is a capture, and stands where the table is expected: the words are TABLE PREFIX INPUT.."
         self.check(["run", "a.pcap", "out", "b.pcap"], 4, "table line 1: bad line", hint)
+        self.check(["run", "a.pcap", "out", "b.pcap"], 4, "table: 5000 lines", hint, {**GOOD, "a.pcap": capture(b"x\n" * 5000)})
         files = {**GOOD, "table.txt": "* 1\n"}
         hint = "a.pcap is a capture, and stands where PREFIX is expected: the words are TABLE PREFIX INPUT.."
         self.check(["run", "table.txt", "a.pcap", "b.pcap"], 4, "table line 1: port 1", hint, files)

@@ -106,6 +106,7 @@ packets  address without a line
         table, capture = self.files(ETHERNET, [], "10.0.0.0/24\n")
         told = f"tools/unrouted: {table}: table line 1: bad line\n"
         self.assertEqual(run_here("unrouted", table, capture), (1, told))
+        self.assertEqual(run_here("unrouted", capture, table), (1, f"tools/unrouted: {capture} is a capture: the words are TABLE INPUT..\n"))
         status, told = run_here("unrouted", self.folder / "none.txt", capture)
         self.assertEqual((status, told.count("\n")), (1, 1), told)
 

@@ -7,6 +7,7 @@ from collections import Counter
 from pathlib import Path
 from typing import NamedTuple, Optional
 
+from launcher.capture_hints import is_capture
 from launcher.captures import ETHERNET, IP_HEADER, IPV4, LONGEST_FORWARDED, TAGGED, destination, read_file
 from launcher.tables import BadTable, read_table, route
 
@@ -52,7 +53,8 @@ def unrouted(table, names):
     try:
         routes = read_table(Path(table).read_bytes(), len(names))
     except BadTable as fault:
-        raise BadTable(f"{table}: {fault}") from None
+        what = " is a capture: the words are TABLE INPUT.." if is_capture(table) else f": {fault}"
+        raise BadTable(f"{table}{what}") from None
     found, packets = [], 0
     for port, name in enumerate(names):
         capture = read_file(name)
