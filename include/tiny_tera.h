@@ -135,12 +135,33 @@ uint32_t tiny_tera_decide_rrm(
     struct tiny_tera_rounds *used);
 
 /* Decides slots that follow each other, from slot number `slot` on, as many as there are elements of `used`: the same as so
- * many calls of tiny_tera_decide.
+ * many calls of tiny_tera_decide, where none of them is refused. Where one would be, nothing is written.
  *   rows      n rows for each slot: those of the first one, then those of the second, and so on
  *   pointers  before the first slot, and then after the last
  *   feeds     n elements for each slot, in the same order, written
- *   used      an element for each slot, written */
+ *   used      an element for each slot, written
+ * A slot number is followed by the next one, and 0xffffffff by 0. */
 uint32_t tiny_tera_decide_many(
+    uint32_t n,
+    uint32_t rounds,
+    uint32_t slot,
+    const struct tiny_tera_row *rows, size_t rows_len,
+    struct tiny_tera_pointers *pointers,
+    struct tiny_tera_feed *feeds, size_t feeds_len,
+    struct tiny_tera_rounds *used, size_t used_len);
+
+/* The same as so many calls of tiny_tera_decide_firm. */
+uint32_t tiny_tera_decide_many_firm(
+    uint32_t n,
+    uint32_t rounds,
+    uint32_t slot,
+    const struct tiny_tera_row *rows, size_t rows_len,
+    struct tiny_tera_pointers *pointers,
+    struct tiny_tera_feed *feeds, size_t feeds_len,
+    struct tiny_tera_rounds *used, size_t used_len);
+
+/* The same as so many calls of tiny_tera_decide_rrm. */
+uint32_t tiny_tera_decide_many_rrm(
     uint32_t n,
     uint32_t rounds,
     uint32_t slot,

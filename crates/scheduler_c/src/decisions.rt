@@ -3,6 +3,8 @@ ghost use Rattle.slot_match.specs.Rows.{AreWithin};
 ghost use Rattle.slot_match.specs.Matches.{IsMatch, IsMaximal};
 ghost use Rattle.pointer_state.specs.Places.{AreAtPorts};
 ghost use Rattle.pointer_state.specs.CallerTables.{AreInRange, places_from};
+ghost use Rattle.scheduler_c.specs.Words.{IsSize};
+ghost use Rattle.scheduler_c.specs.Numbers.{numbers_from};
 ghost use Rattle.scheduler_c.specs.Feeds.{AreFeeds, matched_from};
 ghost use Rattle.scheduler_c.specs.FourLevels.{IsCall, decision_from};
 ghost use Rattle.scheduler_c.specs.SchedulerSteps.{IsSlotUnder};
@@ -11,7 +13,7 @@ use crate::feeds::{FeedWords, put_feeds};
 use crate::rows::are_rows;
 use crate::status::{DONE, REFUSED};
 use crate::words::{RoundsWords, is_size, rounds_words};
-use eslip_rounds::decide;
+use eslip_rounds::{Scratch, decide_in};
 use firm_rounds::decide_firm;
 use islip_rounds::RoundsUsed;
 use pointer_state::{PointerTables, Pointers};
@@ -50,12 +52,39 @@ pub fn decide_by(
         return REFUSED;
     }
     let mut places = Pointers::at_tables(n, pointers);
-    let mut matched = Match::new(n);
-    let numbers = decide_slot(scheduler, n, rounds, slot, rows, &mut places, &mut matched);
+    let scratch = &mut Scratch::new();
+    *used = decide_tested(scheduler, n, rounds, slot, rows, &mut places, scratch, feeds);
     places.put_tables(pointers);
-    put_feeds(&matched, feeds);
-    *used = rounds_words(numbers);
     DONE
+}
+
+/// Decides a slot of which all was tested, over pointers of `n` ports, and answers how its rounds were used. It works in
+/// `scratch`, which goes on from slot to slot.
+pub fn decide_tested(
+    scheduler: SchedulerName,
+    n: u32,
+    rounds: u32,
+    slot: u32,
+    rows: &[Row],
+    p: &mut Pointers,
+    scratch: &mut Scratch,
+    feeds: &mut [FeedWords],
+) -> RoundsWords
+    requires size { IsSize n rounds }
+    requires rows { AreWithin n rows.now }
+    requires pointers { p.old.ports ≡ n }
+    requires outputs { length feeds.old ≡ n }
+    ensures slot { IsSlotUnder scheduler n rounds slot rows.now p.old (record { matched = matched_from feeds.new; numbers = numbers_from result; places = p.new }) }
+    ensures feeds { AreFeeds n feeds.new × IsMatch n (matched_from feeds.new) }
+    ensures at_ports { AreAtPorts p.new }
+    ensures ports { p.new.ports ≡ n }
+    ensures unused { result.last_added ≡ 0 → IsMaximal n rows.now (matched_from feeds.new) }
+    ensures enough { n ≤ rounds → IsMaximal n rows.now (matched_from feeds.new) }
+{
+    let mut matched = Match::new(n);
+    let numbers = decide_slot(scheduler, n, rounds, slot, rows, p, scratch, &mut matched);
+    put_feeds(&matched, feeds);
+    rounds_words(numbers)
 }
 
 // Decides the slot by the scheduler of this name, over pointers and a match of `n` ports.
@@ -66,6 +95,7 @@ fn decide_slot(
     slot: u32,
     rows: &[Row],
     p: &mut Pointers,
+    scratch: &mut Scratch,
     out: &mut Match,
 ) -> RoundsUsed
     requires some { 0 < n }
@@ -83,7 +113,7 @@ fn decide_slot(
     ensures enough { n ≤ rounds → IsMaximal n rows.now out.new }
 {
     match scheduler {
-        SchedulerName::Islip => decide(n, rounds, slot, rows, p, out),
+        SchedulerName::Islip => decide_in(n, rounds, slot, rows, p, out, scratch),
         SchedulerName::Firm => decide_firm(n, rounds, slot, rows, p, out),
         SchedulerName::Rrm => decide_rrm(n, rounds, slot, rows, p, out),
     }

@@ -21,7 +21,9 @@ mod words;
 
 pub use feeds::FeedWords;
 pub use four_levels::{tiny_tera_decide, tiny_tera_decide_firm, tiny_tera_decide_rrm};
-pub use many_slots::tiny_tera_decide_many;
+pub use many_slots::{
+    tiny_tera_decide_many, tiny_tera_decide_many_firm, tiny_tera_decide_many_rrm,
+};
 pub use matches::tiny_tera_is_maximal;
 pub use one_level::tiny_tera_islip_slot;
 pub use status::tiny_tera_version;

@@ -1,21 +1,21 @@
-ghost use Rattle.std.specs.Prelude.{◌≡◌, ℕ, ◌+◌, ◌*◌, ◌%◌, ◌<◌, ◌↔◌, ◌⊎◌, length, IsTrue};
-ghost use Rattle.rotating_pick.specs.declared.limits.TheConstants.{MAX_PORTS};
+ghost use Rattle.std.specs.Prelude.{◌≡◌, ℕ, ◌+◌, ◌*◌, ◌%◌, ◌<◌, ◌≤◌, ◌↔◌, ◌⊎◌, length, IsTrue};
 ghost use Rattle.slot_match.specs.Rows.{AreWithin};
-ghost use Rattle.slot_match.specs.Matches.{IsMatch, IsMaximal};
-ghost use Rattle.pointer_state.specs.CallerTables.{AreInRange};
+ghost use Rattle.pointer_state.specs.Places.{AreAtPorts};
+ghost use Rattle.pointer_state.specs.CallerTables.{AreInRange, tables_of};
 ghost use Rattle.eslip_rounds.specs.Slots.{IsSlot};
+ghost use Rattle.firm_rounds.specs.Slots.{IsFirmSlot};
+ghost use Rattle.rrm_rounds.specs.Slots.{IsRrmSlot};
 ghost use Rattle.scheduler_c.specs.Words.{IsSize};
-ghost use Rattle.scheduler_c.specs.Feeds.{AreFeeds, matched_from};
-ghost use Rattle.scheduler_c.specs.ManySlots.{IsManyCall, AreDecided, of_slot, no_rounds};
+ghost use Rattle.scheduler_c.specs.ManySlots.{IsManyCall, AreDecided, of_slot};
 ghost use Rattle.scheduler_c.specs.SchedulerSteps.{IsSlotUnder};
 
-use crate::decisions::decide_by;
+use crate::decisions::decide_tested;
 use crate::feeds::FeedWords;
 use crate::rows::are_rows;
 use crate::status::{DONE, REFUSED};
 use crate::words::{RoundsWords, is_size};
-use pointer_state::PointerTables;
-use rotating_pick::MAX_PORTS;
+use eslip_rounds::Scratch;
+use pointer_state::{PointerTables, Pointers};
 use scheduler_names::SchedulerName;
 use slot_match::Row;
 
@@ -39,13 +39,7 @@ pub extern "C" fn tiny_tera_decide_many(
     ensures again { result ≡ 0 → AreInRange n pointers.new }
     ensures refused { result ≡ 1 → (pointers.new ≡ pointers.old) × (feeds.new ≡ feeds.old) × (used.new ≡ used.old) }
 {
-    if !is_size(n, rounds) || !are_lengths(n, rows.len(), used.len()) || feeds.len() != rows.len() {
-        return REFUSED;
-    }
-    if !are_many_rows(n, rows, used.len()) || !pointers.is_in_range(n) {
-        return REFUSED;
-    }
-    decide_all(
+    decide_many_by(
         SchedulerName::Islip,
         n,
         rounds,
@@ -54,7 +48,95 @@ pub extern "C" fn tiny_tera_decide_many(
         pointers,
         feeds,
         used,
-    );
+    )
+}
+
+/// The same as so many calls of `tiny_tera_decide_firm`.
+#[unsafe(no_mangle)]
+pub extern "C" fn tiny_tera_decide_many_firm(
+    n: u32,
+    rounds: u32,
+    slot: u32,
+    rows: &[Row],
+    pointers: &mut PointerTables,
+    feeds: &mut [FeedWords],
+    used: &mut [RoundsWords],
+) -> u32
+    // It answers 0 exactly where this may be passed, and else 1.
+    ensures done { (result ≡ 0) ↔ IsManyCall n rounds rows.now pointers.old feeds.old used.old }
+    ensures status { (result ≡ 0) ⊎ (result ≡ 1) }
+    ensures slots { result ≡ 0 → AreDecided IsFirmSlot (length used.new) n rounds slot rows.now pointers.old feeds.new used.new pointers.new }
+    ensures again { result ≡ 0 → AreInRange n pointers.new }
+    ensures refused { result ≡ 1 → (pointers.new ≡ pointers.old) × (feeds.new ≡ feeds.old) × (used.new ≡ used.old) }
+{
+    decide_many_by(
+        SchedulerName::Firm,
+        n,
+        rounds,
+        slot,
+        rows,
+        pointers,
+        feeds,
+        used,
+    )
+}
+
+/// The same as so many calls of `tiny_tera_decide_rrm`.
+#[unsafe(no_mangle)]
+pub extern "C" fn tiny_tera_decide_many_rrm(
+    n: u32,
+    rounds: u32,
+    slot: u32,
+    rows: &[Row],
+    pointers: &mut PointerTables,
+    feeds: &mut [FeedWords],
+    used: &mut [RoundsWords],
+) -> u32
+    // It answers 0 exactly where this may be passed, and else 1.
+    ensures done { (result ≡ 0) ↔ IsManyCall n rounds rows.now pointers.old feeds.old used.old }
+    ensures status { (result ≡ 0) ⊎ (result ≡ 1) }
+    ensures slots { result ≡ 0 → AreDecided IsRrmSlot (length used.new) n rounds slot rows.now pointers.old feeds.new used.new pointers.new }
+    ensures again { result ≡ 0 → AreInRange n pointers.new }
+    ensures refused { result ≡ 1 → (pointers.new ≡ pointers.old) × (feeds.new ≡ feeds.old) × (used.new ≡ used.old) }
+{
+    decide_many_by(
+        SchedulerName::Rrm,
+        n,
+        rounds,
+        slot,
+        rows,
+        pointers,
+        feeds,
+        used,
+    )
+}
+
+// Decides slots by the scheduler of this name. All is tested before the first of them.
+fn decide_many_by(
+    scheduler: SchedulerName,
+    n: u32,
+    rounds: u32,
+    slot: u32,
+    rows: &[Row],
+    pointers: &mut PointerTables,
+    feeds: &mut [FeedWords],
+    used: &mut [RoundsWords],
+) -> u32
+    ensures done { (result ≡ 0) ↔ IsManyCall n rounds rows.now pointers.old feeds.old used.old }
+    ensures status { (result ≡ 0) ⊎ (result ≡ 1) }
+    ensures slots { result ≡ 0 → AreDecided (IsSlotUnder scheduler) (length used.new) n rounds slot rows.now pointers.old feeds.new used.new pointers.new }
+    ensures again { result ≡ 0 → AreInRange n pointers.new }
+    ensures refused { result ≡ 1 → (pointers.new ≡ pointers.old) × (feeds.new ≡ feeds.old) × (used.new ≡ used.old) }
+{
+    if !is_size(n, rounds) || !are_lengths(n, rows.len(), used.len()) || feeds.len() != rows.len() {
+        return REFUSED;
+    }
+    if !are_many_rows(n, rows, used.len()) || !pointers.is_in_range(n) {
+        return REFUSED;
+    }
+    let mut places = Pointers::at_tables(n, pointers);
+    decide_all(scheduler, n, rounds, slot, rows, &mut places, feeds, used);
+    places.put_tables(pointers);
     DONE
 }
 
@@ -84,35 +166,36 @@ fn are_many_rows(n: u32, rows: &[Row], slots: usize) -> bool
     true
 }
 
-// Decides all slots by the scheduler of this name.
+// Decides all slots, of which all was tested, over pointers of `n` ports.
 fn decide_all(
     scheduler: SchedulerName,
     n: u32,
     rounds: u32,
     slot: u32,
     rows: &[Row],
-    pointers: &mut PointerTables,
+    p: &mut Pointers,
     feeds: &mut [FeedWords],
     used: &mut [RoundsWords],
 )
-    requires { IsManyCall n rounds rows.now pointers.old feeds.old used.old }
-    ensures slots { AreDecided (IsSlotUnder scheduler) (length used.new) n rounds slot rows.now pointers.old feeds.new used.new pointers.new }
-    ensures again { AreInRange n pointers.new }
+    requires size { IsSize n rounds }
+    requires row_count { length rows.now ≡ length used.old * n }
+    requires rows { (s : ℕ) → s < length used.old → AreWithin n (of_slot n s rows.now) }
+    requires at_ports { AreAtPorts p.old }
+    requires ports { p.old.ports ≡ n }
+    requires outputs { length feeds.old ≡ length used.old * n }
+    ensures slots { AreDecided (IsSlotUnder scheduler) (length used.new) n rounds slot rows.now (tables_of p.old) feeds.new used.new (tables_of p.new) }
+    ensures at_ports { AreAtPorts p.new }
+    ensures ports { p.new.ports ≡ n }
 {
+    let mut scratch = Scratch::new();
     let mut number = slot;
     let mut at: usize = 0;
     for s in 0..used.len() {
         let end = at + n as usize;
-        decide_by(
-            scheduler,
-            n,
-            rounds,
-            number,
-            &rows[at..end],
-            pointers,
-            &mut feeds[at..end],
-            &mut used[s],
-        );
+        let posted = &rows[at..end];
+        let fed = &mut feeds[at..end];
+        let numbers = decide_tested(scheduler, n, rounds, number, posted, p, &mut scratch, fed);
+        used[s] = numbers;
         number = next_number(number);
         at = end;
     }

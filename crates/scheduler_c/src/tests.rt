@@ -1,5 +1,6 @@
 use crate::{
-    FeedWords, RoundsWords, tiny_tera_decide, tiny_tera_decide_firm, tiny_tera_decide_rrm,
+    FeedWords, RoundsWords, tiny_tera_decide, tiny_tera_decide_firm, tiny_tera_decide_many,
+    tiny_tera_decide_many_firm, tiny_tera_decide_many_rrm, tiny_tera_decide_rrm,
     tiny_tera_is_maximal, tiny_tera_islip_slot, tiny_tera_note_waits, tiny_tera_version,
 };
 use pointer_state::PointerTables;
@@ -255,4 +256,51 @@ fn greatest_wait_stands_still(rt: HostRuntime) {
         0
     );
     assert_eq!(rt; [waits[256], longest[0]], [NO, NO]);
+}
+
+// The inputs that feed the outputs.
+fn inputs_of(feeds: &[FeedWords; 12]) -> [u32; 12] {
+    let mut inputs = [NO; 12];
+    for k in 0..12 {
+        inputs[k] = feeds[k].input;
+    }
+    inputs
+}
+
+// All queues of three ports are full in four slots, which one call decides: as one by one.
+#[test]
+fn many_slots_of_three(rt: HostRuntime) {
+    let rows = [unicast(7); 12];
+    let full = [0, NO, NO, 1, 0, NO, 2, 1, 0, 0, 2, 1];
+    let mut feeds = [FREE; 12];
+    let mut used = [NO_ROUNDS; 4];
+    let mut pointers = AT_ZERO;
+    let status = tiny_tera_decide_many(3, 1, 0, &rows, &mut pointers, &mut feeds, &mut used);
+    assert!(rt; status == 0 && inputs_of(&feeds) == full);
+    assert!(rt; pointers.grant[0][0] == 1 && pointers.grant[0][1] == 0 && used[1].first == 2);
+
+    let mut pointers = AT_ZERO;
+    let status = tiny_tera_decide_many_firm(3, 1, 0, &rows, &mut pointers, &mut feeds, &mut used);
+    assert!(rt; status == 0 && inputs_of(&feeds) == full);
+
+    // The grant pointers stay together, so each slot has one pair.
+    let mut pointers = AT_ZERO;
+    let status = tiny_tera_decide_many_rrm(3, 1, 0, &rows, &mut pointers, &mut feeds, &mut used);
+    let pairs = [0, NO, NO, 1, NO, NO, 2, NO, NO, NO, 0, NO];
+    assert!(rt; status == 0 && inputs_of(&feeds) == pairs);
+}
+
+// A row of the last slot names a port that is not there, and the rows are fewer than those of all slots.
+#[test]
+fn many_slots_are_refused(rt: HostRuntime) {
+    let mut rows = [unicast(7); 12];
+    rows[11] = multicast(8);
+    let mut feeds = [FREE; 12];
+    let mut used = [NO_ROUNDS; 4];
+    let mut pointers = AT_ZERO;
+    let status = tiny_tera_decide_many(3, 1, 0, &rows, &mut pointers, &mut feeds, &mut used);
+    assert!(rt; status == 1);
+    let status = tiny_tera_decide_many(2, 1, 0, &rows, &mut pointers, &mut feeds, &mut used);
+    assert!(rt; status == 1);
+    assert!(rt; pointers == AT_ZERO && feeds == [FREE; 12] && used == [NO_ROUNDS; 4]);
 }

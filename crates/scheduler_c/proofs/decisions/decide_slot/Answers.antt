@@ -2,10 +2,10 @@ use Rattle.std.proofs.Common.{◌∙◌}
 use Rattle.scheduler_c.proofs.decisions.decide_slot.Goals as goal
 
 pub returns-in-Islip-clause-slot : goal.returns-in-Islip-clause-slot
-returns-in-Islip-clause-slot c = rw c.in-Islip.is c.decide.ensures.slot
+returns-in-Islip-clause-slot c = rw c.in-Islip.is c.decide_in.ensures.slot
 
 pub returns-in-Islip-clause-ports : goal.returns-in-Islip-clause-ports
-returns-in-Islip-clause-ports c = c.decide.ensures.slot.moved.ports ∙ c.requires.pointers
+returns-in-Islip-clause-ports c = c.decide_in.ensures.slot.moved.ports ∙ c.requires.pointers
 
 pub returns-in-Firm-clause-slot : goal.returns-in-Firm-clause-slot
 returns-in-Firm-clause-slot c = rw c.in-Firm.is c.decide_firm.ensures.slot
