@@ -65,6 +65,65 @@ def test_schedules():
     assert count == 145
 
 
+def test_schedules_in_one_call():
+    """The slots of each schedule in one call: what is stated of each, and the shared pointers after the last."""
+    for case in known_rows.schedules():
+        scheduler = Scheduler(case.ports, case.rounds)
+        found = scheduler.decide_many([rows_of(sets) for sets, *_ in case.slots])
+        stated = [feeds for _, feeds, *_ in case.slots], [tuple(used) for _, _, used, _ in case.slots]
+        assert (found.feeds.tolist(), found.rounds.tolist()) == stated, case.name
+        assert scheduler.pointers.shared.tolist() == case.slots[-1][-1], case.name
+
+
+@pytest.mark.parametrize("rule", scheduling.RULES)
+@pytest.mark.parametrize("ports", [1, 2, 3, 5, 16, 33, 64])
+def test_many_slots(rule, ports):
+    """Random rows of all levels and kinds, sparse and full, in calls of none, one and many slots: as slot by slot."""
+    random = numpy.random.default_rng(ports)
+    one, many = Scheduler(ports, rounds=1 + ports % 4, rule=rule), Scheduler(ports, rounds=1 + ports % 4, rule=rule)
+    one.slot = many.slot = 2**32 - 7
+    for density, slots in ((0.9, 5), (0.02, 0), (0.1, 1), (0.02, 9), (0.3, 30)):
+        rows = scheduling.sets(random.random((slots, ports, 2, 4, ports)) < density)
+        found = many.decide_many(rows)
+        for at in range(slots):
+            one.rows[:] = rows[at]
+            assert one.decide().tolist() == found.feeds[at].tolist()
+            assert one.rounds_used() == tuple(found.rounds[at].tolist())
+        assert one.slot == many.slot
+        assert (one.pairs(), one.rounds_used()) == (many.pairs(), many.rounds_used())
+        assert one.pointers.words.tolist() == many.pointers.words.tolist()
+
+
+def test_refused_many_slots():
+    """A set beyond the ports in the last slot, a pointer beyond them, and numbers of rounds; nothing changes then."""
+    for rounds, outputs, port in ((1, 4, 0), (1, 3, 2), (0, 3, 0), (65, 3, 0), (-1, 3, 0)):
+        scheduler = Scheduler(2, rounds)
+        scheduler.feeds["input"] = 7
+        scheduler.pointers.accept[1, 1] = port
+        rows = numpy.zeros((3, 2, 2, 4), dtype=numpy.uint64)
+        rows[:2], rows[2, 1, MULTICAST, 3] = 3, outputs
+        before = scheduler.pointers.words.tolist()
+        with pytest.raises(Refused):
+            scheduler.decide_many(rows)
+        assert scheduler.pointers.words.tolist() == before and scheduler.slot == 0
+        assert scheduler.feeds["input"].tolist() == [7, 7] and scheduler.rounds_used() == (0, 0, 0)
+
+
+def test_many_rows_of_another_form():
+    """Lists are taken, and every other order of an array; no other shape, and nothing that the call changes."""
+    scheduler, plain = Scheduler(2), numpy.zeros((3, 2, 2, 4), dtype=numpy.uint64)
+    plain[:, :, UNICAST, 0] = 3
+    wanted = Scheduler(2).decide_many(plain).feeds.tolist()
+    for rows in (plain.tolist(), numpy.asfortranarray(plain), plain.astype(numpy.uint8)):
+        assert Scheduler(2).decide_many(rows).feeds.tolist() == wanted
+    pointers = scheduler.pointers.words[:512].view(numpy.uint64).reshape(16, 2, 2, 4)
+    for rows in ([], plain[0], plain[:, :1], plain.reshape(3, 2, 4, 2), plain.astype(float), -plain.astype(int), pointers):
+        with pytest.raises(ValueError) as fault:
+            scheduler.decide_many(rows)
+        assert not isinstance(fault.value, Refused)
+    assert scheduler.slot == 0
+
+
 def test_maximal_rows():
     for row in known_rows.decision_rows():
         assert scheduling.is_maximal(rows_of(row.rows), feeds_of(row.feeds)) == row.maximal, row.name

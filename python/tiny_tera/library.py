@@ -22,6 +22,7 @@ _ADDRESS = ctypes.c_void_p
 # A slice is passed as the address of its first element and the count of its elements.
 _SLICE = (ctypes.c_void_p, ctypes.c_size_t)
 _SLOT = (_WORD, _WORD, _WORD, *_SLICE, _ADDRESS, *_SLICE, _ADDRESS)
+_SLOTS = (_WORD, _WORD, _WORD, *_SLICE, _ADDRESS, *_SLICE, *_SLICE)
 
 _ARGUMENTS = {
     "tiny_tera_version": (),
@@ -29,6 +30,9 @@ _ARGUMENTS = {
     "tiny_tera_decide": _SLOT,
     "tiny_tera_decide_firm": _SLOT,
     "tiny_tera_decide_rrm": _SLOT,
+    "tiny_tera_decide_many": _SLOTS,
+    "tiny_tera_decide_many_firm": _SLOTS,
+    "tiny_tera_decide_many_rrm": _SLOTS,
     "tiny_tera_is_maximal": (_WORD, *_SLICE, *_SLICE, _ADDRESS),
     "tiny_tera_note_waits": (_WORD, *_SLICE, *_SLICE, *_SLICE, *_SLICE),
     "tiny_tera_check_journal": (*_SLICE, _ADDRESS),

@@ -25,8 +25,15 @@ NONE = 0xFFFFFFFF
 #: What feeds an output: input, level and kind (UNICAST or MULTICAST); all three are NONE where it is free.
 FEED = numpy.dtype([("input", numpy.uint32), ("level", numpy.uint32), ("kind", numpy.uint32)])
 
-# By each rule of the pointers the library's function that decides a slot.
-_CALLS = {"islip": "tiny_tera_decide", "firm": "tiny_tera_decide_firm", "rrm": "tiny_tera_decide_rrm"}
+#: How the rounds of a slot were used, by the names that RoundsUsed has.
+ROUNDS = numpy.dtype([("used", numpy.uint32), ("first", numpy.uint32), ("last_added", numpy.uint32)])
+
+# By each rule of the pointers the library's functions that decide a slot, and many.
+_CALLS = {
+    "islip": ("tiny_tera_decide", "tiny_tera_decide_many"),
+    "firm": ("tiny_tera_decide_firm", "tiny_tera_decide_many_firm"),
+    "rrm": ("tiny_tera_decide_rrm", "tiny_tera_decide_many_rrm"),
+}
 RULES = tuple(_CALLS)
 
 _SLOT_NUMBERS = 1 << 32
@@ -138,6 +145,14 @@ class Decision(NamedTuple):
     rounds: RoundsUsed
 
 
+class Decisions(NamedTuple):
+    """What slots decide that follow each other: `feeds`, FEED of shape (slots, n), has for each slot and output what
+    feeds it, and `rounds`, ROUNDS of shape (slots,), how the rounds of each slot were used."""
+
+    feeds: NDArray[numpy.void]
+    rounds: NDArray[numpy.void]
+
+
 class UnicastDecision(NamedTuple):
     """What a slot of one level decides: `fed`, uint32 of shape (n,), has for each output the input that feeds it, or NONE."""
 
@@ -187,7 +202,8 @@ def decide(rows: ArrayLike, pointers: Pointers, slot: int, rounds: int = 4, rule
 
 class Scheduler:
     """The scheduler of a switch from slot to slot, over arrays that stay the same ones: write `rows` in place, call
-    `decide()`, and read `feeds`. It is for one thread at a time.
+    `decide()`, and read `feeds`. Where the rows of many slots are known before, `decide_many` takes them in one call. It
+    is for one thread at a time.
 
     rows      uint64 of shape (ports, 2, 4), as of `new_rows`: what the inputs post. A call does not change it.
     pointers  where the pointers are before the next slot
@@ -210,7 +226,7 @@ class Scheduler:
         self._pointers = Pointers() if pointers is None else pointers
         self._feeds = numpy.full(ports, NONE, dtype=FEED)
         self._used = numpy.zeros(3, dtype=numpy.uint32)
-        self._call = getattr(load(), _CALLS[rule])
+        self._call, self._call_many = (getattr(load(), name) for name in _CALLS[rule])
         # These arrays stay as long as the scheduler, so their addresses are taken once.
         self._words = self._pointers.words
         rows, feeds = self._rows.ctypes.data, self._feeds.ctypes.data
@@ -257,6 +273,28 @@ class Scheduler:
         check(self._call(self._ports, _word(self.rounds), self.slot % _SLOT_NUMBERS, *self._arguments))
         self.slot += 1
         return self._feeds
+
+    def decide_many(self, rows: ArrayLike) -> Decisions:
+        """Decides the next slots in one call, each as `decide` would, and answers what they decide.
+
+        rows  uint64 of shape (slots, ports, 2, 4): for each slot what the inputs post, as in `new_rows`
+
+        `feeds` and what else tells of the last slot then tell of the last of these; the scheduler's own `rows` are not
+        read. Refused where a number is out of range in any of the slots; then nothing has changed.
+        """
+        posted = _read("rows", rows, numpy.uint64, 4)
+        if posted.shape[1:] != self._rows.shape:
+            raise ValueError(f"rows have the shape (slots, {self._ports}, 2, {LEVELS}), and not {posted.shape}")
+        _apart(posted, self._words)
+        slots = len(posted)
+        feeds, used = numpy.empty((slots, self._ports), dtype=FEED), numpy.empty(slots, dtype=ROUNDS)
+        first = (posted.ctypes.data, slots * self._ports, self._words.ctypes.data)
+        written = (feeds.ctypes.data, feeds.size, used.ctypes.data, slots)
+        check(self._call_many(self._ports, _word(self.rounds), self.slot % _SLOT_NUMBERS, *first, *written))
+        self.slot += slots
+        if slots:
+            self._feeds[:], self._used[:] = feeds[-1], used[-1].tolist()
+        return Decisions(feeds, used)
 
     def rounds_used(self) -> RoundsUsed:
         """How the rounds of the slot that was decided last were used."""
