@@ -4,6 +4,9 @@
  *     islip n rounds asks.. grant.. accept..                 -> status fed.. used grant.. accept..
  *     decide n rounds slot rows.. grant.. accept.. shared..  -> status feeds.. used grant.. accept.. shared..
  *     firm   the same, and so rrm
+ *     many   n rounds slot count rows.. grant.. accept.. shared..
+ *                                                            -> status feeds.. used.. grant.. accept.. shared..
+ *     many_firm  the same, and so many_rrm
  *     maximal n rows.. feeds..                               -> status maximal
  *     waits n rows.. feeds.. waits.. longest..               -> status waits.. longest..
  *     journal count bytes..                                  -> status verdict
@@ -43,6 +46,18 @@ static void print_used(const struct tiny_tera_rounds *used) {
     printf(" %u %u %u", used->used, used->first, used->last_added);
 }
 
+static void read_pointers(struct tiny_tera_pointers *pointers) {
+    read_words(&pointers->grant[0][0], 256);
+    read_words(&pointers->accept[0][0], 256);
+    read_words(pointers->shared, 4);
+}
+
+static void print_pointers(const struct tiny_tera_pointers *pointers) {
+    print_words(&pointers->grant[0][0], 256);
+    print_words(&pointers->accept[0][0], 256);
+    print_words(pointers->shared, 4);
+}
+
 static uint32_t ports(void) {
     uint32_t n = number();
     if (n > PORTS) {
@@ -77,15 +92,34 @@ static void decide(decision *by) {
     struct tiny_tera_rounds used = {0};
     uint32_t n = ports(), rounds = number(), slot = number();
     read_rows(rows, n);
-    read_words(&pointers.grant[0][0], 256);
-    read_words(&pointers.accept[0][0], 256);
-    read_words(pointers.shared, 4);
+    read_pointers(&pointers);
     printf("%u", by(n, rounds, slot, rows, n, &pointers, feeds, n, &used));
     print_words(&feeds[0].input, 3 * n);
     print_used(&used);
-    print_words(&pointers.grant[0][0], 256);
-    print_words(&pointers.accept[0][0], 256);
-    print_words(pointers.shared, 4);
+    print_pointers(&pointers);
+}
+
+typedef uint32_t decisions(uint32_t n, uint32_t rounds, uint32_t slot, const struct tiny_tera_row *rows, size_t rows_len,
+                           struct tiny_tera_pointers *pointers, struct tiny_tera_feed *feeds, size_t feeds_len,
+                           struct tiny_tera_rounds *used, size_t used_len);
+
+static void decide_many(decisions *by) {
+    uint32_t n = ports(), rounds = number(), slot = number();
+    size_t count = number(), all = count * n;
+    struct tiny_tera_pointers pointers;
+    struct tiny_tera_row *rows = calloc(all + 1, sizeof *rows);
+    struct tiny_tera_feed *feeds = calloc(all + 1, sizeof *feeds);
+    struct tiny_tera_rounds *used = calloc(count + 1, sizeof *used);
+    if (!rows || !feeds || !used) exit(1);
+    for (size_t s = 0; s < count; s++) read_rows(rows + s * n, n);
+    read_pointers(&pointers);
+    printf("%u", by(n, rounds, slot, rows, all, &pointers, feeds, all, used, count));
+    print_words(&feeds[0].input, 3 * all);
+    print_words(&used[0].used, 3 * count);
+    print_pointers(&pointers);
+    free(rows);
+    free(feeds);
+    free(used);
 }
 
 static void maximal(void) {
@@ -130,6 +164,9 @@ int main(void) {
         else if (!strcmp(name, "decide")) decide(tiny_tera_decide);
         else if (!strcmp(name, "firm")) decide(tiny_tera_decide_firm);
         else if (!strcmp(name, "rrm")) decide(tiny_tera_decide_rrm);
+        else if (!strcmp(name, "many")) decide_many(tiny_tera_decide_many);
+        else if (!strcmp(name, "many_firm")) decide_many(tiny_tera_decide_many_firm);
+        else if (!strcmp(name, "many_rrm")) decide_many(tiny_tera_decide_many_rrm);
         else if (!strcmp(name, "maximal")) maximal();
         else if (!strcmp(name, "waits")) waits();
         else if (!strcmp(name, "journal")) journal();

@@ -53,6 +53,18 @@ class ByCtypes:
     def rrm(self, *arguments):
         return self.decide(*arguments, function="tiny_tera_decide_rrm")
 
+    def many(self, n, rounds, slot, count, rows, pointers, function="tiny_tera_decide_many"):
+        pointers, feeds, used, size = u32(pointers), u32([0] * 3 * n * count), u32([0] * 3 * count), ctypes.c_size_t(n * count)
+        call = getattr(self.library, function)
+        status = call(n, rounds, slot, u64(rows), size, pointers, feeds, size, used, ctypes.c_size_t(count))
+        return [status, *feeds, *used, *pointers]
+
+    def many_firm(self, *arguments):
+        return self.many(*arguments, function="tiny_tera_decide_many_firm")
+
+    def many_rrm(self, *arguments):
+        return self.many(*arguments, function="tiny_tera_decide_many_rrm")
+
     def maximal(self, n, rows, feeds):
         answer, size = u32([2]), ctypes.c_size_t(n)
         return [self.library.tiny_tera_is_maximal(n, u64(rows), size, u32(feeds), size, answer), *answer]
@@ -155,9 +167,25 @@ def decide_rows(ask, name):
         yield case["case"], [0, int(case["maximal"] == "yes")], ask("maximal", n, rows, feeds)
 
 
+# By each call that decides a slot the one that decides many.
+MANY = {"decide": "many", "firm": "many_firm", "rrm": "many_rrm"}
+
+
+def in_one_call(ask, call, n, rounds, posted, pointers):
+    """What one call for slots 0, 1 and so on answers: for each the status, feeds and used, and then the pointers after all."""
+    count = len(posted)
+    status, *words = ask(MANY[call], n, rounds, 0, count, [word for rows in posted for word in rows], pointers)
+    used = words[3 * n * count : 3 * (n + 1) * count]
+    slots = [[status, *words[3 * n * s : 3 * n * (s + 1)], *used[3 * s : 3 * s + 3]] for s in range(count)]
+    return slots, words[3 * (n + 1) * count :]
+
+
 def schedule_rows(ask, name):
     for block in blocks(name):
         n, rounds, pointers = int(block[1][1]), int(block[2][1]), [0] * 516
+        wanted = [[0, *feeds_of(match), *map(int, rest[:3])] for _, _, _, match, *rest in block[3:]]
+        slots, after = in_one_call(ask, "decide", n, rounds, [rows_of(rows) for _, rows, *_ in block[3:]], pointers)
+        yield f"{block[0][1]}, in one call", [*wanted, numbers(block[-1][-1])], [*slots, after[-4:]]
         for slot, (_, rows, _, match, *rest) in enumerate(block[3:]):
             answer = ask("decide", n, rounds, slot, rows_of(rows), pointers)
             pointers = answer[-516:]
@@ -183,8 +211,11 @@ def longest_rows(ask, name):
         pointers = [0] * 516
         pointers[0] = int(block[1][1])
         pointers[256 : 256 + n] = map(int, block[1][2:])
-        for slot, posted in enumerate(block[2:]):
-            rows = [word for it in posted[1:] for word in (int(it, 0), *[0] * 7)]
+        posted = [[word for it in words[1:] for word in (int(it, 0), *[0] * 7)] for words in block[2:]]
+        found, _ = in_one_call(ask, call, n, rounds, posted, pointers)
+        served = [[0, slot == slots - 1] for slot in range(slots)]
+        yield f"{n} ports, {rounds} rounds, in one call", served, [[words[0], words[1] == 0] for words in found]
+        for slot, rows in enumerate(posted):
             answer = ask(call, n, rounds, slot, rows, pointers)
             pointers = answer[-516:]
             yield f"{n} ports, {rounds} rounds, slot {slot}", [0, slot == slots - 1], [answer[0], answer[1] == 0]
@@ -192,15 +223,18 @@ def longest_rows(ask, name):
 
 def rrm_rows(ask):
     """Two ports with all queues full, one round: the two grant pointers go round together, one pair in each slot."""
-    rows, pointers = [3, *[0] * 7] * 2, [0] * 516
+    rows, pointers, wanted = [3, *[0] * 7] * 2, [0] * 516, []
     for slot, (output, port, accepts) in enumerate([(0, 0, (1, 0)), (0, 1, (1, 1)), (1, 0, (0, 1)), (1, 1, (0, 0)), (0, 0, (1, 0))]):
         feeds, at = [NONE] * 6, (slot + 1) % 2
         feeds[3 * output : 3 * output + 3] = [port, 0, 0]
         after = [0] * 516
         after[:2], after[256:258] = (at, at), accepts
+        wanted.append([0, *feeds, 1, 1, 1])
         answer = ask("rrm", 2, 1, slot, rows, pointers)
         pointers = answer[-516:]
-        yield f"slot {slot}", [0, *feeds, 1, 1, 1, *after], answer
+        yield f"slot {slot}", [*wanted[-1], *after], answer
+    slots, found = in_one_call(ask, "rrm", 2, 1, [rows] * len(wanted), [0] * 516)
+    yield "in one call", [*wanted, after], [*slots, found]
 
 
 def verdict_of(text):
