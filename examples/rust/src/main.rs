@@ -2,7 +2,7 @@
 
 mod tiny_tera;
 
-use tiny_tera::{Row, Switch, NONE};
+use tiny_tera::{Feed, Row, Switch, NONE};
 
 const PORTS: usize = 16;
 const SLOTS: u32 = 20_000;
@@ -48,6 +48,19 @@ fn run(percent: u64, rounds: u32) -> (u64, u64) {
     (came, left)
 }
 
+/// How many outputs each of these slots matches where all queues are full, with one round. All are decided in one call.
+fn full_load(slots: usize) -> Vec<usize> {
+    let full = Row {
+        uni: [(1 << PORTS) - 1, 0, 0, 0],
+        ..Row::default()
+    };
+    let feeds = Switch::new(PORTS, 1)
+        .decide_many(&vec![full; slots * PORTS])
+        .expect("rows of this switch");
+    let matched = |slot: &[Feed]| slot.iter().filter(|feed| feed.input != NONE).count();
+    feeds.chunks(PORTS).map(matched).collect()
+}
+
 fn main() {
     println!("{PORTS} ports, {SLOTS} slots");
     for rounds in [1, 4] {
@@ -59,4 +72,8 @@ fn main() {
             );
         }
     }
+    println!(
+        "all queues full, one round: slots match {:?}",
+        full_load(20)
+    );
 }

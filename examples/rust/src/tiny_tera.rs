@@ -50,6 +50,19 @@ extern "C" {
         feeds_len: usize,
         used: *mut Rounds,
     ) -> u32;
+
+    fn tiny_tera_decide_many(
+        n: u32,
+        rounds: u32,
+        slot: u32,
+        rows: *const Row,
+        rows_len: usize,
+        pointers: *mut Pointers,
+        feeds: *mut Feed,
+        feeds_len: usize,
+        used: *mut Rounds,
+        used_len: usize,
+    ) -> u32;
 }
 
 /// A switch whose slots are decided one after the other.
@@ -99,5 +112,34 @@ impl Switch {
         }
         self.slot = self.slot.wrapping_add(1);
         Some(&self.feeds)
+    }
+
+    /// Decides the next slots in one call, as many as there are rows for: those of the first slot, then those of the
+    /// second, and so on. Answers what feeds each output, in the same order. None as of `decide`, of any of the slots;
+    /// then none is decided.
+    pub fn decide_many(&mut self, rows: &[Row]) -> Option<Vec<Feed>> {
+        let ports = self.feeds.len();
+        let mut feeds = vec![Feed::default(); rows.len()];
+        let mut used = vec![Rounds::default(); rows.len() / ports];
+        // As above.
+        let status = unsafe {
+            tiny_tera_decide_many(
+                ports as u32,
+                self.rounds,
+                self.slot,
+                rows.as_ptr(),
+                rows.len(),
+                &mut self.pointers,
+                feeds.as_mut_ptr(),
+                feeds.len(),
+                used.as_mut_ptr(),
+                used.len(),
+            )
+        };
+        if status != 0 {
+            return None;
+        }
+        self.slot = self.slot.wrapping_add(used.len() as u32);
+        Some(feeds)
     }
 }
