@@ -4,7 +4,8 @@
  *     time_slots [BATCHES]
  *
  * All queues of level 0 are full, and a slot has four rounds. Prints for 4 to 64 ports the least time of a slot over
- * some batches of 1,000, in nanoseconds, and first compares what the plain one and the library decide. */
+ * some batches of 1,000, in nanoseconds, and first compares what the plain one and the library decide. `each` and `many`
+ * are of slots with rows of their own, as of a recording: a call of tiny_tera_decide for each, and one for all. */
 #define _POSIX_C_SOURCE 199309L
 #include <stdint.h>
 #include <stdio.h>
@@ -28,6 +29,14 @@ struct four {
     struct tiny_tera_feed feeds[PORTS];
     struct tiny_tera_rounds used;
     uint32_t waits[256 * PORTS], longest[4], slot;
+};
+
+/* Many slots of four levels, each with rows of its own. */
+struct many {
+    struct tiny_tera_row rows[SLOTS * PORTS];
+    struct tiny_tera_pointers pointers;
+    struct tiny_tera_feed feeds[SLOTS * PORTS];
+    struct tiny_tera_rounds used[SLOTS];
 };
 
 static uint64_t all(uint32_t n) { return ~0ull >> (64 - n); }
@@ -83,6 +92,15 @@ static void firm_slot(struct four *s, uint32_t n) {
     tiny_tera_decide_firm(n, ROUNDS, s->slot++, s->rows, n, &s->pointers, s->feeds, n, &s->used);
 }
 
+static void decide_each(struct many *m, uint32_t n) {
+    for (uint32_t s = 0; s < SLOTS; s++)
+        tiny_tera_decide(n, ROUNDS, s, m->rows + s * n, n, &m->pointers, m->feeds + s * n, n, m->used + s);
+}
+
+static void decide_many(struct many *m, uint32_t n) {
+    tiny_tera_decide_many(n, ROUNDS, 0, m->rows, SLOTS * n, &m->pointers, m->feeds, SLOTS * n, m->used, SLOTS);
+}
+
 static void note_slot(struct four *s, uint32_t n) {
     tiny_tera_note_waits(n, s->rows, n, s->feeds, n, s->waits, 256 * n, s->longest, 4);
 }
@@ -93,13 +111,13 @@ static double now(void) {
     return t.tv_sec * 1e9 + t.tv_nsec;
 }
 
-/* The least time of a slot. */
-#define LEAST(call)                                     \
+/* The least time of a slot, where so many calls decide a batch. */
+#define LEAST(calls, call)                              \
     do {                                                \
         least = 1e18;                                   \
         for (int batch = 0; batch < batches; batch++) { \
             double begin = now();                       \
-            for (int k = 0; k < SLOTS; k++) call;       \
+            for (int k = 0; k < calls; k++) call;       \
             double time = (now() - begin) / SLOTS;      \
             if (time < least) least = time;             \
         }                                               \
@@ -110,6 +128,11 @@ static void fill(struct one *one, struct four *four, uint32_t n) {
     memset(one, 0, sizeof *one);
     memset(four, 0, sizeof *four);
     for (uint32_t i = 0; i < n; i++) one->asks[i] = four->rows[i].uni[0] = all(n);
+}
+
+static void fill_many(struct many *many, uint32_t n) {
+    memset(many, 0, sizeof *many);
+    for (uint32_t k = 0; k < SLOTS * n; k++) many->rows[k].uni[0] = all(n);
 }
 
 /* Whether the plain slots are those of the library, with rows that change. */
@@ -135,9 +158,10 @@ static int agree(uint32_t n) {
 int main(int argc, char **argv) {
     static struct one one;
     static struct four four;
+    static struct many many;
     int batches = argc > 1 ? atoi(argv[1]) : 300;
     double least;
-    printf("ports     plain  islip_slot    decide      firm     waits\n");
+    printf("ports     plain  islip_slot    decide      firm     waits      each      many\n");
     for (uint32_t n = 4; n <= PORTS; n *= 2) {
         if (!agree(n)) {
             printf("%u ports: the plain slots differ from those of the library\n", n);
@@ -145,12 +169,15 @@ int main(int argc, char **argv) {
         }
         printf("%5u", n);
         fill(&one, &four, n);
-        LEAST(plain_slot(&one, n));
+        LEAST(SLOTS, plain_slot(&one, n));
         fill(&one, &four, n);
-        LEAST(islip_slot(&one, n));
-        LEAST(decide_slot(&four, n));
-        LEAST(firm_slot(&four, n));
-        LEAST(note_slot(&four, n));
+        LEAST(SLOTS, islip_slot(&one, n));
+        LEAST(SLOTS, decide_slot(&four, n));
+        LEAST(SLOTS, firm_slot(&four, n));
+        LEAST(SLOTS, note_slot(&four, n));
+        fill_many(&many, n);
+        LEAST(1, decide_each(&many, n));
+        LEAST(1, decide_many(&many, n));
         printf("\n");
         fflush(stdout);
     }
