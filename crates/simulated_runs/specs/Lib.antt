@@ -1,1 +1,6 @@
 pub mod Numbers
+pub mod Faults
+pub mod Simulations
+pub mod SlotSteps
+pub mod SimulationSteps
+pub mod Laws

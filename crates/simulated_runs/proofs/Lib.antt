@@ -1,0 +1,12 @@
+pub mod Waits
+pub mod Starting
+pub mod MeasuredSlots
+pub mod MadeSlots
+pub mod Stepping
+pub mod SlotCalls
+pub mod NextSlots
+pub mod Telling
+pub mod Weighing
+pub mod Coming
+pub mod Ageing
+pub mod Conserving
