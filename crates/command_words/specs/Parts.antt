@@ -1,5 +1,5 @@
 -- What words say: the texts of options, the flags that are given, and the names.
-use Rattle.std.specs.Prelude.{ℕ, Bool, ◌||◌, ◌++◌, if◌then◌else◌, List, [], ◌∷◌, Option, None, Some, option_map, find, is_some, bytes_eq}
+use Rattle.std.specs.Prelude.{ℕ, Bool, ◌++◌, if◌then◌else◌, List, [], ◌∷◌, Option, None, Some, option_map, find, is_some, bytes_eq}
 use Rattle.std.specs.List.{list_any}
 
 -- an option with the text of its value

@@ -13,7 +13,7 @@ mod reading;
 mod words;
 
 pub use fault::WordsFault;
-pub use numbers::{MAX_DIGITS, number_within};
+pub use numbers::{MAX_DIGITS, limits_are, number_within};
 pub use options::OptionNames;
 pub use parts::Parts;
 pub use reading::parts_of;

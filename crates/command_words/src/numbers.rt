@@ -34,3 +34,9 @@ fn are_digits(bytes: &[u8]) -> bool
 {
     bytes.iter().all(|byte| byte.is_ascii_digit())
 }
+
+/// The limit of a number's digits, by its number: ten. It does nothing; its contract says the number, which contracts
+/// elsewhere name by the constant.
+pub fn limits_are()
+    ensures { MAX_DIGITS ≡ 10 }
+{}

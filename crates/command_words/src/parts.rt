@@ -24,9 +24,9 @@ impl<'a> Model for Parts<'a> {
     ghost Value = { PartsValue };
 
     ghost view = { λ p. record {
-        settings = map setting_of p.settings.items;
-        flags = map (λ flag. flag.now) p.flags.items;
-        names = map (λ name. name.now) p.names.items;
+      settings = map setting_of p.settings.items;
+      flags = map (λ flag. flag.now) p.flags.items;
+      names = map (λ name. name.now) p.names.items;
     } };
 }
 
