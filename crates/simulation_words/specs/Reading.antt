@@ -1,5 +1,5 @@
 -- The reading of words: the simulation that they mean.
-use Rattle.std.specs.Prelude.{ℕ, ◌-◌, ◌/◌, ◌≡◌, if◌then◌else◌, List, [], ◌∷◌, Option, None, Some, option_and_then, option_map, unwrap_or, bytes_eq, codes}
+use Rattle.std.specs.Prelude.{ℕ, ◌-◌, ◌/◌, if◌then◌else◌, List, [], ◌∷◌, Option, None, Some, option_and_then, option_map, unwrap_or, bytes_eq, codes}
 use Rattle.rotating_pick.specs.declared.limits.TheConstants.{MAX_PORTS, MAX_ROUNDS}
 use Rattle.scheduler_names.specs.declared.names.SchedulerName.TheVariants.{Islip}
 use Rattle.scheduler_names.specs.Words.{scheduler_named}
