@@ -1,5 +1,6 @@
 -- The words from a place on, of which the next is read or none is left.
-use Rattle.std.proofs.Common.{◌≡◌, ◌∙◌, ◌+◌, ◌<◌, ◌≤◌, ℕ, List, Option, None, Some, String, ap, map, drop, length, get_or, add-one, drop-cons, refl, string_bytes, sym}
+use Rattle.std.proofs.Common.{◌≡◌, ◌∙◌, ◌+◌, ◌<◌, ◌≤◌, ℕ, List, Option, None, Some}
+use Rattle.std.proofs.Common.{String, ap, map, drop, length, get_or, add-one, drop-cons, refl, string_bytes, sym}
 use Rattle.std.specs.Prelude.{option_and_then}
 use Rattle.std.proofs.lemmas.List.{drop_all}
 use Rattle.command_words.specs.Parts.{PartsValue}

@@ -1,5 +1,6 @@
 -- Slots that are decided one after the other, one more at a time.
-use Rattle.std.proofs.Common.{◌≡◌, ◌∙◌, ℕ, ◌+◌, ◌*◌, ◌-◌, ◌<◌, ◌≤◌, ◌==◌, if◌then◌else◌, Bool, List, length, drop, slice_index_or, slice_set, ap, sym, subst, refl, inl, inr, arith}
+use Rattle.std.proofs.Common.{◌≡◌, ◌∙◌, ℕ, ◌+◌, ◌*◌, ◌-◌, ◌<◌, ◌≤◌, ◌==◌, if◌then◌else◌, Bool}
+use Rattle.std.proofs.Common.{List, length, drop, slice_index_or, slice_set, ap, sym, subst, refl, inl, inr, arith}
 use Rattle.std.proofs.Common.{get_or-set_same, get_or-set_other, eq-eqb}
 use Rattle.std.specs.List.{between}
 use Rattle.std.proofs.lemmas.Bool.{cases_eq, ne_eqb}
@@ -50,7 +51,8 @@ module _ (is_slot : ℕ → ℕ → ℕ → List Row → Places → Decision →
       let put : tables (s + 1) ≡ after = ap (λ (b : Bool). if b then after else d.tables (s + 1)) (eq-eqb (s + 1) (s + 1) refl) in
       let words = put_mid at k feeds fs in
       let numbers = slice_set used s u in
-      let here : IsDecided is_slot n rounds (number_of slot s) (of_slot n s rows) (tables s) (of_slot n s words) (slice_index_or numbers s no_rounds) (tables (s + 1)) =
+      let here : IsDecided is_slot n rounds (number_of slot s) (of_slot n s rows) (tables s) (of_slot n s words)
+      (slice_index_or numbers s no_rounds) (tables (s + 1)) =
       rw (kept s (omega arith)) (rw put (rw d.last (rw (of_slot-same n s at k feeds fs place inside count) (rw (get_or-set_same used s u no_rounds there)
       (subst (λ m. IsDecided is_slot n rounds (number_of slot s) (between m (m + n) rows) now fs u after) place decided))))) in
       record {
@@ -58,7 +60,8 @@ module _ (is_slot : ℕ → ℕ → ℕ → List Row → Places → Decision →
         first = kept 0 (omega arith) ∙ d.first;
         last = put;
         each = λ t t_in. elim (cases_eq t s) [
-          | inl same ↦ subst (λ m. IsDecided is_slot n rounds (number_of slot m) (of_slot n m rows) (tables m) (of_slot n m words) (slice_index_or numbers m no_rounds) (tables (m + 1))) (sym same) here
+          | inl same ↦ subst (λ m. IsDecided is_slot n rounds (number_of slot m) (of_slot n m rows) (tables m) (of_slot n m words)
+          (slice_index_or numbers m no_rounds) (tables (m + 1))) (sym same) here
           | inr apart ↦
               let earlier : t < s = omega arith in
               rw (kept t (omega arith)) (rw (kept (t + 1) (omega arith)) (rw (of_slot-other n t s at k feeds fs place earlier inside)

@@ -73,7 +73,8 @@ module _ (job : JobValue) where
 -- the cells that leave were in the queues
 AllBefore-departing : (t : ℕ) (queues : Queues) (qs : List ℕ) → AllCame t queues → AllBefore t (departing queues qs)
 AllBefore-departing t queues [] came = All-nil (λ (c : ArrivedCell). c.arrival < t)
-AllBefore-departing t queues (q ∷ qs) came = All-append (λ (c : ArrivedCell). c.arrival < t) (option_to_list (head_of queues q)) (departing (queues_without_head queues q) qs)
+AllBefore-departing t queues (q ∷ qs) came = All-append (λ (c : ArrivedCell). c.arrival < t) (option_to_list (head_of queues q)) (departing
+    (queues_without_head queues q) qs)
     (one (head_of queues q) refl) (AllBefore-departing t (queues_without_head queues q) qs (AllCame-without t queues q came))
   where
     one : (o : Option ArrivedCell) → head_of queues q ≡ o → AllBefore t (option_to_list o)
@@ -81,4 +82,5 @@ AllBefore-departing t queues (q ∷ qs) came = All-append (λ (c : ArrivedCell).
     one (Some c) is = All-cons (λ (c : ArrivedCell). c.arrival < t) c [] (head-came t queues q c came is) (All-nil (λ (c : ArrivedCell). c.arrival < t))
 
 pub came-departed : (job : JobValue) (t : ℕ) → AllBefore (t + 1) (slot_of job t).departed
-came-departed job t = subst (AllBefore (t + 1)) (sym (departed-is job t)) (AllBefore-departing (t + 1) (slot_of job t).filled (served_in job t) (came-filled job t))
+came-departed job t = subst (AllBefore (t + 1)) (sym (departed-is job t)) (AllBefore-departing (t + 1) (slot_of job t).filled (served_in job t)
+    (came-filled job t))

@@ -15,7 +15,8 @@ use Rattle.arrival_queues.specs.declared.cell.ArrivedCell.{ArrivedCell}
 use Rattle.arrival_queues.specs.Queues.{Queues, rows_of}
 use Rattle.simulated_slots.specs.declared.discipline.Discipline.{Discipline}
 use Rattle.simulated_slots.specs.Jobs.{JobValue}
-use Rattle.simulated_slots.specs.Slots.{Switch, all_entered, all_left, cell_at, coming, decision_by, departing, dropped, lengths, served_queues, slot_from, slot_of, switch_before}
+use Rattle.simulated_slots.specs.Slots.{Switch, all_entered, all_left, cell_at, coming, decision_by}
+use Rattle.simulated_slots.specs.Slots.{departing, dropped, lengths, served_queues, slot_from, slot_of, switch_before}
 use Rattle.simulated_slots.specs.ArrivalSteps.{AreSources, cell_from, cells_from}
 use Rattle.simulated_runs.specs.SimulationSteps.{sources_before}
 
@@ -105,8 +106,10 @@ module _ (job : JobValue) (t : ℕ) where
       ∙ filter_map-map source_of (cell_from t) (range_with_len 0 job.traffic.ports)
 
   -- and the sources after the slot
-  pub sources-next : map next_source (take job.traffic.ports (sources_before job t)) ++ drop job.traffic.ports (sources_before job t) ≡ sources_before job (t + 1)
+  pub sources-next : map next_source (take job.traffic.ports (sources_before job t)) ++ drop job.traffic.ports
+  (sources_before job t) ≡ sources_before job (t + 1)
   unfolding state_before
-  sources-next = rw (take_all job.traffic.ports (sources_before job t) (omega (arith, count-is)), drop_all job.traffic.ports (sources_before job t) (omega (arith, count-is)),
+  sources-next = rw (take_all job.traffic.ports (sources_before job t) (omega (arith, count-is)), drop_all job.traffic.ports
+  (sources_before job t) (omega (arith, count-is)),
       append-nil (map next_source (sources_before job t)), add-one)
       (map-map next_source source_of (range_with_len 0 job.traffic.ports))

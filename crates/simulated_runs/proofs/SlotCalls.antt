@@ -51,7 +51,8 @@ pub record IsFilled (job : JobValue) (t : ℕ) (now : List SourceValue) (old mid
   pub queueing : mid.queues.queueing ≡ queueing_of job.settings.discipline
 
 filled-at : (job : JobValue) (t : ℕ) (now : List SourceValue) (old mid : Arrivals) → HasTakenIn job t old
-    → HaveTold (is_measured job t) t job.traffic.ports (sources_before job t) now old mid → AreArrivals job.traffic.ports (MAX_PORTS * t + job.traffic.ports) mid
+    → HaveTold (is_measured job t) t job.traffic.ports (sources_before job t) now old mid → AreArrivals job.traffic.ports
+    (MAX_PORTS * t + job.traffic.ports) mid
     → IsFilled job t now old mid
 filled-at job t now old mid has told sizes =
     let come = subst (λ (cells : List ArrivedCell). HaveCome (is_measured job t) cells old mid) (cells-are job t) told.come in

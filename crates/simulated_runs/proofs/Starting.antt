@@ -30,7 +30,8 @@ none-measured job =
     rw none refl
 
 AllCame-empty : (t : ℕ) (job : JobValue) → AllCame t (empty_queues (queueing_of job.settings.discipline) job.traffic.ports job.settings.depth)
-AllCame-empty t job = All-replicate (AllBefore t) (queue_count (queueing_of job.settings.discipline) job.traffic.ports) [] (λ k d none. absurd (omega (arith, none)))
+AllCame-empty t job = All-replicate (AllBefore t) (queue_count (queueing_of job.settings.discipline) job.traffic.ports) [] (λ k d none. absurd
+    (omega (arith, none)))
 
 pub before-first : (job : JobValue) → (switch_before job 0).queues ≡ empty_queues (queueing_of job.settings.discipline) job.traffic.ports job.settings.depth
 unfolding switch_before
@@ -53,13 +54,15 @@ none-counted : (job : JobValue) (table : CountTable) {X : Type 0} (f : ℕ → L
     → HasCounted table (map number (flat_map f (measured job 0)))
 none-counted job table f number has = subst (λ (slots : List ℕ). HasCounted table (map number (flat_map f slots))) (sym (none-measured job)) has
 
-pub IsSimulated-first : (job : JobValue) → job.traffic.ports ≤ MAX_PORTS → job.slots ≤ MAX_SLOTS → (sources : List SourceValue) (taken : Arrivals) (arbiter : ArbiterValue) (left : Departed) (counts : SlotCounts)
+pub IsSimulated-first : (job : JobValue) → job.traffic.ports ≤ MAX_PORTS → job.slots ≤ MAX_SLOTS → (sources : List SourceValue) (taken : Arrivals)
+    (arbiter : ArbiterValue) (left : Departed) (counts : SlotCounts)
     → sources ≡ sources_before job 0
     → taken.queues ≡ empty_queues (queueing_of job.settings.discipline) job.traffic.ports job.settings.depth
     → HasCounted taken.arrived [] → HasCounted taken.dropped [] → taken.peak ≡ 0 → AreArrivals job.traffic.ports 0 taken
     → arbiter.discipline ≡ job.settings.discipline → arbiter.rounds ≡ job.settings.rounds → arbiter.places ≡ places_at_first job.traffic.ports
     → arbiter.meter.count ≡ 0 → HasNoted arbiter.meter []
-    → HasCounted left.left [] → HasCounted left.fed [] → HasBatched left.batches [] → HasDelays left.delays [] → AreDeparted job.traffic.ports job.settings.batches 0 left
+    → HasCounted left.left [] → HasCounted left.fed [] → HasBatched left.batches [] → HasDelays left.delays []
+    → AreDeparted job.traffic.ports job.settings.batches 0 left
     → counts ≡ no_counts → IsSimulated job 0 sources taken arbiter left counts
 IsSimulated-first job size few_slots sources taken arbiter left counts told queues arrived dropped peak sizes discipline rounds places few noted from_inputs to_outputs batches delays departed none = record {
   size = size;
@@ -85,9 +88,12 @@ IsSimulated-first job size few_slots sources taken arbiter left counts told queu
   };
   departed = record {
     sizes = subst (λ (most : ℕ). AreDeparted job.traffic.ports job.settings.batches most left) (omega arith) departed;
-    left = subst (λ (slots : List ℕ). HasCounted left.left (inputs (map (λ d. d.cell) (flat_map (departures_in job) slots)))) (sym (none-measured job)) from_inputs;
-    fed = subst (λ (slots : List ℕ). HasCounted left.fed (outputs (map (λ d. d.cell) (flat_map (departures_in job) slots)))) (sym (none-measured job)) to_outputs;
-    batches = subst (λ (slots : List ℕ). HasBatched left.batches (map (λ d. record { batch = batch_of job d.slot; delay = delay_of d }) (flat_map (departures_in job) slots))) (sym (none-measured job)) batches;
+    left = subst (λ (slots : List ℕ). HasCounted left.left (inputs (map (λ d. d.cell) (flat_map (departures_in job) slots)))) (sym
+    (none-measured job)) from_inputs;
+    fed = subst (λ (slots : List ℕ). HasCounted left.fed (outputs (map (λ d. d.cell) (flat_map (departures_in job) slots)))) (sym
+    (none-measured job)) to_outputs;
+    batches = subst (λ (slots : List ℕ). HasBatched left.batches (map (λ d. record { batch = batch_of job d.slot; delay = delay_of d }) (flat_map
+    (departures_in job) slots))) (sym (none-measured job)) batches;
     delays = subst (λ (slots : List ℕ). HasDelays left.delays (map delay_of (flat_map (departures_in job) slots))) (sym (none-measured job)) delays;
   };
   summed = rw none (record {

@@ -14,7 +14,8 @@ use Rattle.simulated_slots.specs.Jobs.{JobValue}
 use Rattle.simulated_slots.specs.Slots.{slot_of}
 use Rattle.simulated_slots.specs.declared.arrivals.Arrivals.{Arrivals}
 use Rattle.simulated_slots.specs.declared.departed.Departed.{Departed}
-use Rattle.simulated_runs.specs.Numbers.{NumbersValue, arrivals, batch_numbers, delay_of, departures, drops, inputs, longest_wait_in, measured, numbers_after, port_of, shares, waiting_before}
+use Rattle.simulated_runs.specs.Numbers.{NumbersValue, arrivals, batch_numbers, delay_of, departures, drops}
+use Rattle.simulated_runs.specs.Numbers.{inputs, longest_wait_in, measured, numbers_after, port_of, shares, waiting_before}
 use Rattle.simulated_runs.specs.SimulationSteps.{HasCountedDeparted, HasTakenIn}
 
 -- each of the numbers is that of the first t slots

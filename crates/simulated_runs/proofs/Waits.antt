@@ -28,14 +28,16 @@ queue_more t a b ages arrivals own count one rest = omega (arith, one, rest)
 age_of_queue : (t : ℕ) (cells : List ArrivedCell) → AllBefore t cells → sum_by (age t) cells + sum_by arrival cells ≡ t * length cells
 age_of_queue t [] all = omega arith
 age_of_queue t (x ∷ xs) all =
-    rw (sum_by-cons (age t) x xs, sum_by-cons arrival x xs, length_cons x xs) (cell_more t x.arrival (sum_by (age t) xs) (sum_by arrival xs) (length xs) (all 0 x (omega arith))
+    rw (sum_by-cons (age t) x xs, sum_by-cons arrival x xs, length_cons x xs) (cell_more t x.arrival (sum_by (age t) xs) (sum_by arrival xs)
+    (length xs) (all 0 x (omega arith))
     (age_of_queue t xs (λ k d inside. all (suc k) d (omega (arith, inside)))))
 
 age_of_queues : (t : ℕ) (queues : List (List ArrivedCell)) → All (AllBefore t) queues
     → sum_by (sum_by (age t)) queues + sum_by (sum_by arrival) queues ≡ t * sum_by length queues
 age_of_queues t [] all = omega arith
 age_of_queues t (q ∷ qs) all =
-    rw (sum_by-cons (sum_by (age t)) q qs, sum_by-cons (sum_by arrival) q qs, sum_by-cons (λ (cells : List ArrivedCell). length cells) q qs) (queue_more t (sum_by (age t) q) (sum_by arrival q) (sum_by (sum_by (age t)) qs) (sum_by (sum_by arrival) qs) (length q) (sum_by length qs)
+    rw (sum_by-cons (sum_by (age t)) q qs, sum_by-cons (sum_by arrival) q qs, sum_by-cons (λ (cells : List ArrivedCell). length cells) q qs)
+    (queue_more t (sum_by (age t) q) (sum_by arrival q) (sum_by (sum_by (age t)) qs) (sum_by (sum_by arrival) qs) (length q) (sum_by length qs)
     (age_of_queue t q (all 0 q (omega arith))) (age_of_queues t qs (λ k d inside. all (suc k) d (omega (arith, inside)))))
 
 -- the age is the slots of all cells that wait, less the sum of those in which they came

@@ -48,7 +48,8 @@ module _ (f : List ArrivedCell → ℕ) (w : ArrivedCell → ℕ) (nil : f [] �
       → weight (queues_with queues c) + sum_by w (dropped_one queues c) ≡ weight queues + w c
   unfolding queues_with
   weight-with queues c inside = elim (cases_Bool (has_room queues c)) [
-    | inl room ↦ rw room (omega (arith, weight-where queues (queue_for queues c.input c.output) (queue_entered queues c ++ c ∷ []) inside, push (queue_entered queues c) c))
+    | inl room ↦ rw room (omega (arith, weight-where queues (queue_for queues c.input c.output) (queue_entered queues c ++ c ∷ []) inside, push
+    (queue_entered queues c) c))
     | inr none ↦ rw none (omega arith)
   ]
 

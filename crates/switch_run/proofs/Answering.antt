@@ -129,8 +129,9 @@ check_is_no_usage check_ending.ReadFault two = omega arith
 check_is_no_usage check_ending.OutOfMemory two = omega arith
 check_is_no_usage check_ending.OutFault two = omega arith
 
--- status 2 has no job, and no job has status 2 or 5
-usage_words : (c : Command) (status : ℕ) (ending : Ending) → Answers c status ending → (status ≡ 2 → c.job ≡ None) × (c.job ≡ None → (status ≡ 2) ⊎ (status ≡ 5))
+-- at status 2 there is no job; without a job the status is 2 or 5
+usage_words : (c : Command) (status : ℕ) (ending : Ending) → Answers c status ending → (status ≡ 2 → c.job ≡ None) × (c.job ≡ None →
+    (status ≡ 2) ⊎ (status ≡ 5))
 usage_words c status Done a = (λ two. absurd (omega (arith, a.0, two)), λ none. absurd (no_job c a.1.0 a.1.1 none))
 usage_words c status Usage a = (λ two. a.1.0, λ none. inl a.0)
 usage_words c status (ReadFault input) a = (λ two. absurd (omega (arith, a.0, two)), λ none. absurd (no_job c a.1.job a.1.words none))

@@ -80,7 +80,7 @@ pub record IsCheckable (c : Command) (job : CheckWords) (contents : Contents) : 
   pub reads : Rose (c.was (ReadOf job.file)) (c.now (ReadOf job.file)) → ⊥
 
 -- Status 2 comes exactly where the words mean no job, want of memory aside; where the first word names no command, or there is
--- none, memory is not asked for.
+-- none, it comes even where memory has run out.
 pub record UsageIsExact (c : Command) (status : ℕ) : Type 0 where
   pub only : status ≡ 2 → c.job ≡ None
   pub every : c.job ≡ None → (status ≡ 2) ⊎ (status ≡ 5)

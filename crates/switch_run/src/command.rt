@@ -136,7 +136,8 @@ fn end_of<R: Threads + Sync, F: Files, G: Gate + Sync>(
 /// it names none.
 ///
 /// - 0: all is written, and nothing else changed; or the journal file is lawful. No count of refused calls rose.
-/// - 2: the words are not those of a job. Where there are none, or the first names no command, no memory is asked for.
+/// - 2: the words are not those of a job. Where there are none, or the first names no command, it comes even where
+///   memory has run out.
 /// - 3: a read of the table, of a capture or of the journal file was refused.
 /// - 4: the table or a capture has more than 16,777,216 bytes, or what they hold is refused; or a journal that is to be
 ///   written or checked has more than 134,217,728 bytes, or a packets file that is to be written has; or what is to be

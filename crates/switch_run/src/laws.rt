@@ -15,7 +15,7 @@ ghost use Rattle.job_files.specs.Jobs.{pace_in, settings_with, with_alone, with_
 ghost use Rattle.job_files.specs.OutputFiles.{Texts};
 ghost use Rattle.switch_run.specs.Switched.{AreTexts, IsJobOutcome, IsLongJournal, IsLongPackets, IsPlanned, IsRunOf};
 
-/// A job has one outcome: no two causes for which it is refused, no cause beside texts, and one list of texts.
+/// A job has at most one outcome: no two causes for which it is refused, no cause beside texts, and one list of texts.
 pub fn one_outcome()
     ensures refusal { (pace_us : Option ℕ) (table : List ℕ) (files : List (List ℕ)) (a b : PlanFault) → IsRefusal pace_us table files a
         → IsRefusal pace_us table files b → a ≡ b }

@@ -15,7 +15,8 @@ loop-s-init c = record {
   place = omega arith;
   at_ports = c.requires.at_ports;
   ports = c.requires.ports;
-  decided = AreDecided-none (IsSlotUnder c.args.scheduler) c.args.n c.args.rounds c.args.slot c.args.rows.now (tables_of c.args.p.now) c.args.feeds.now c.args.used.now;
+  decided = AreDecided-none (IsSlotUnder c.args.scheduler) c.args.n c.args.rounds c.args.slot c.args.rows.now
+  (tables_of c.args.p.now) c.args.feeds.now c.args.used.now;
 }
 
 pub loop-s-preserved : goal.loop-s-preserved
@@ -50,7 +51,8 @@ loop-s-preserved c =
       ports = call.ports;
       decided = AreDecided-next is_slot n c.args.rounds c.args.slot rows (tables_of c.args.p.now) s at _ (tables_of before) (tables_of new.p)
           feeds new.feeds used numbers inv.decided inv.place (omega arith) below call.feeds.0.count
-          (subst (λ m. IsDecided is_slot n c.args.rounds m (between at (at + n) rows) (tables_of before) new.feeds numbers (tables_of new.p)) inv.number decided);
+          (subst (λ m. IsDecided is_slot n c.args.rounds m (between at (at + n) rows) (tables_of before) new.feeds numbers
+          (tables_of new.p)) inv.number decided);
     }
 
 pub decide_tested-numbers-requires-clause-rows : goal.decide_tested-numbers-requires-clause-rows

@@ -31,8 +31,10 @@ returns c =
       peak = was.taken.peak;
       most = was.summed.most;
       longest_wait = subst (λ (s : SimulationValue). c.longest_wait.result ≡ longest_wait_in s.job s.slot) (sym c.self.view_is) c.longest_wait.ensures;
-      ports = subst (λ (n : ℕ). c.in_ok-ports.field-0.items ≡ map (port_of job t) (range_with_len 0 n)) ports (c.in_ok-ports.ensures job t was.taken was.departed);
-      batches = subst (λ (n : ℕ). c.in_ok-batches.field-0.items ≡ map (batch_numbers job t) (range_with_len 0 n)) batches (c.in_ok-batches.ensures job t was.departed);
+      ports = subst (λ (n : ℕ). c.in_ok-ports.field-0.items ≡ map (port_of job t) (range_with_len 0 n)) ports
+      (c.in_ok-ports.ensures job t was.taken was.departed);
+      batches = subst (λ (n : ℕ). c.in_ok-batches.field-0.items ≡ map (batch_numbers job t) (range_with_len 0 n)) batches
+      (c.in_ok-batches.ensures job t was.departed);
       counts = c.in_ok-counts.ensures delays was.departed.delays;
     })
     ∙ ap (λ (s : SimulationValue). numbers_after s.job s.slot) c.self.view_is

@@ -24,7 +24,8 @@ serve-requires-clause-queueing c =
     let job = c.self.inside.job in
     let t = c.self.inside.slot in
     let was = c.self.invariant in
-    let measured : c.is_some.result ≡ is_measured job t = c.is_some.ensures ∙ (ap (λ (b : Option ℕ). is_some b) c.batch-batch.ensures.value ∙ measured-is job t) in
+    let measured : c.is_some.result ≡ is_measured job t = c.is_some.ensures ∙ (ap (λ (b : Option ℕ). is_some b) c.batch-batch.ensures.value
+    ∙ measured-is job t) in
     let come = IsFilled-told job t c.is_some.result c.self.inside.sources.items c.take_in.new.sources.items c.self.inside.arrivals c.take_in.new.arrivals
     was.taken was.told measured c.take_in.ensures.told in
     come.queueing ∙ ap queueing_of (sym (c.decide-used.ensures.kept.0 ∙ was.decided.discipline))
