@@ -1,0 +1,28 @@
+use Rattle.std.proofs.Common.{take, drop, ap, sym, ◌∙◌, arith}
+use Rattle.std.specs.Prelude.{option_map}
+use Rattle.std.proofs.lemmas.List.{length-drop, take-append-drop, take_rest}
+use Rattle.std.proofs.lemmas.Result.{err_from_is_err_and}
+use Rattle.outside.specs.Contents.{append_err}
+use Rattle.outside.proofs.Effects.{err_more}
+use Rattle.simulation_command.proofs.error_lines.give_bytes.Goals as goal
+
+pub returns-in_err-at-clause-told : goal.returns-in_err-at-clause-told
+returns-in_err-at-clause-told g c =
+    let failed = err_from_is_err_and c.from_residual.result c.from_residual.ensures.1 in
+    rw failed.1 (
+      take c.loop-at.at c.args.bytes.now,
+      drop c.loop-at.at c.args.bytes.now,
+      sym (take-append-drop c.loop-at.at c.args.bytes.now),
+      c.in_err-at.ensures.told
+          ∙ c.loop-at.invariant.told,
+    )
+
+pub loop-at-preserved : goal.loop-at-preserved
+loop-at-preserved g c = record {
+  told = (rw take_rest at c.in_ok-at.ensures.told)
+      ∙ ap (option_map (append_err (take c.in_ok-at.field-0 (drop c.loop-at.at c.args.bytes.now)))) c.loop-at.invariant.told
+      ∙ err_more c.args.bytes.now c.loop-at.at c.in_ok-at.field-0 _;
+  no_fault = λ p. c.in_ok-at.ensures.no_fault p ∙ c.loop-at.invariant.no_fault p;
+  never_fall = λ p. omega (arith, c.loop-at.invariant.never_fall p, c.in_ok-at.ensures.never_fall p);
+  within = omega (arith, rw take_rest at c.in_ok-at.ensures.room, length-drop c.loop-at.at c.args.bytes.now, c.loop-at.invariant.within);
+}
