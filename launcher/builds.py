@@ -1,4 +1,4 @@
-"""Builds: the files of the program or of the library in a folder, with the record of what they were made from."""
+"""Builds: the files of a program or of the library in a folder, with the record of what they were made from."""
 
 import os
 from functools import cached_property
@@ -18,9 +18,12 @@ class Kind(NamedTuple):
 
 
 PROGRAM = Kind(("tiny_tera",), ("tiny_tera",), 0o755, RECORD)
+# The program of the command `simulate`.
+SIMULATION = Kind(("simulate",), ("simulate",), 0o755, "simulate.json")
+PROGRAMS = (PROGRAM, SIMULATION)
 LIBRARY = Kind(("scheduler_c", "journal_c"), ("libtiny_tera.a", "libtiny_tera.so"), 0o644, "library.json")
-# Where tools/install has put it, without sources.
-INSTALLED = Kind((), ("program",), 0o755, RECORD)
+# As tools/install has put them, without sources.
+INSTALLED = {PROGRAM: Kind((), ("program",), 0o755, RECORD), SIMULATION: SIMULATION._replace(roots=())}
 
 
 class Build:

@@ -8,7 +8,9 @@ from .capture_hints import first_bytes
 from .captures import CELL_PAYLOAD, LONGEST_FORWARDED, BadCapture, destination, on_line, read_header, records_of
 from .hints import fault_of_path
 from .made import HALVED_ABOVE, cells_of_gen, most_cells
+from .simulation_words import MOST_WAITING, cells_of
 from .tables import MAX_PORTS, BadTable, read_table, route
+from .words import SIMULATE
 
 MOST_BYTES, MOST_BYTES_OF_JOURNAL = 16_777_216, 134_217_728
 JOURNAL, MAX_ROUNDS = int.from_bytes(b"TTJ1", "big"), 64
@@ -36,7 +38,7 @@ class Found(NamedTuple):
 
 def look(job) -> Found:
     """Looks at what a job reads and writes, and in the order in which the program does."""
-    sight = {"run": _Captures, "firm": _Captures, "check": _Journal, "gen": _Made}[job.command](job)
+    sight = {"run": _Captures, "firm": _Captures, "check": _Journal, "gen": _Made, SIMULATE: _Simulated}[job.command](job)
     status, said = 0, ""
     try:
         sight.look()
@@ -56,6 +58,20 @@ class _Made:
         cells = cells_of_gen(seed, count, ports)
         if cells > most_cells(ports):
             raise Refused(REFUSED, f"too many cells: {cells}")
+
+    def unseen(self):
+        return ("whether there is room in memory",)
+
+
+class _Simulated:
+    """What `simulate` makes."""
+
+    def __init__(self, job):
+        self.cells = cells_of(job)
+
+    def look(self):
+        if self.cells > MOST_WAITING:
+            raise Refused(REFUSED, f"too many cells: {self.cells}")
 
     def unseen(self):
         return ("whether there is room in memory",)

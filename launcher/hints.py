@@ -7,8 +7,9 @@ import re
 from . import capture_hints, table_hints
 from .journal_hints import on_journal
 from .made import largest_count
+from .simulation_words import MOST_WAITING, queues_of
 from .too_many import on_bytes, on_cells, on_slots
-from .words import MAX_COUNT, Fault, read_words
+from .words import MAX_COUNT, SIMULATE, Fault, read_words
 
 TOO_LONG = {"check": "134,217,728"}
 
@@ -93,6 +94,9 @@ def _of_line(make):
 
 
 def _on_all_cells(job, cells):
+    if job.command == SIMULATE:
+        queues = queues_of(job.options, int(job.names[2]))
+        return f"{queues:,} queues hold at most {MOST_WAITING:,} cells together: --depth {MOST_WAITING // queues} is the most"
     if job.command != "gen":
         return on_cells(job, int(cells))
     seed, _, ports = map(int, job.names)

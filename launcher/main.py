@@ -4,18 +4,19 @@ import os
 import sys
 
 from . import there
-from .builds import LIBRARY, PROGRAM
+from .builds import INSTALLED, LIBRARY, PROGRAM, PROGRAMS, SIMULATION
 from .place import Place, say, tell, tell_error
 from .ports import lines_of_job, lines_of_ports, refusal
 from .version import told_version
-from .words import COMMANDS, DRY_RUN, OVERWRITE, OWN, Fault, read_words
+from .words import COMMANDS, DRY_RUN, OVERWRITE, OWN, SIMULATE, Fault, read_words
 
 USAGE_FAULT = 2
 HELP = ("--help", "-h")
 # Words of their own, without a command.
 VERSION, WHERE, PROVE, ALL = "--version", "--library", "--prove", "all"
+PROVED = {(PROVE,): PROGRAM, (PROVE, SIMULATE): SIMULATION, (PROVE, ALL): None}
 # For the gate, which builds itself: the sums of the sources as it begins, and that what was built was proved from them.
-SUMS, RECORDS = "--sums-of-sources", {"--record-build": PROGRAM, "--record-library": LIBRARY}
+SUMS, RECORDS = "--sums-of-sources", {"--record-build": PROGRAMS, "--record-library": (LIBRARY,)}
 HINTED = (2, 3, 4, 6)
 WAITS = "such packets wait before the switch, and no number of the report shows it"
 
@@ -49,8 +50,8 @@ def _own_answer(place, words):
         return _version(place)
     if words == [WHERE]:
         return _library(place)
-    if words in ([PROVE], [PROVE, ALL]):
-        return _prove(place, words[-1] == ALL)
+    if tuple(words) in PROVED:
+        return _prove(place, PROVED[tuple(words)])
     if words == [SUMS]:
         from .noting import sums_of
         return tell(sums_of(place.top))
@@ -69,36 +70,44 @@ def _job_of(words):
 
 def _help(place, words):
     from .page import help_lines, help_of_command
-    with open(place.usage, encoding="utf-8") as file:
-        text = file.read()
+    text = _text_of(place.usage)
     if words[0] in COMMANDS:
-        return tell(help_of_command(text, words[0]))
+        return tell(help_of_command(text, words[0], _text_of(place.simulations) if words[0] == SIMULATE else text))
     return tell([*help_lines(text), f"{place.usage} has every option, file and status; so has: man {place.manual}"])
 
 
+def _text_of(page):
+    with open(page, encoding="utf-8") as file:
+        return file.read()
+
+
 def _version(place):
-    """Tells the version and the program; the status, 1 where an installed program is not what was installed."""
-    found = there.find(place, PROGRAM)
-    is_lost = found.build is None and place.is_installed
-    told = [_not_installed(place)] if is_lost else _told_program(place, found)
-    status = tell([told_version(place.version()), *told])
+    """Tells the version and each program; the status, 1 where an installed program is not what was installed."""
+    found, simulation = there.find(place, PROGRAM), there.find(place, SIMULATION)
+    lines = [told_version(place.version()), *_told_of(place, PROGRAM, found, PROVE)]
+    lines += [f"{SIMULATE}: {line}" for line in _told_of(place, SIMULATION, simulation, f"{PROVE} {SIMULATE}")]
+    status = tell(lines)
+    is_lost = place.is_installed and None in (found.build, simulation.build)
     return 1 if is_lost else status
 
 
-def _told_program(place, found):
+def _told_of(place, kind, found, prove):
+    """What is told of a program, which some words prove."""
+    if found.build is None and place.is_installed:
+        return [_not_installed(place, kind)]
     if found.build is None:
         why = f"{found.changed[0]} changed since it was proved" if found.changed else str(found.fault)
         return [f"no program is there of these sources: {why}; it is proved before it runs"]
     kit = found.build.said()["kit"]
     told = f"proved with {kit}" if place.is_installed else f"proved and built here with {kit}"
     if found.is_stored:
-        told = f"stored in release/, proved elsewhere with {kit} from these sources; to prove it here: ./tiny_tera {PROVE}"
+        told = f"stored in release/, proved elsewhere with {kit} from these sources; to prove it here: ./tiny_tera {prove}"
     return [told, f"sha256 {found.build.sum()}  {found.build.path}"]
 
 
-def _not_installed(place):
+def _not_installed(place, kind):
     """Why an installed program is not started."""
-    program = place.path("program")
+    program = place.path(INSTALLED[kind].files[0])
     what = "is not the program that was installed" if os.path.exists(program) else "is not there"
     return f"{program} {what}, so it is not started"
 
@@ -116,12 +125,13 @@ def _library(place):
     return 1
 
 
-def _prove(place, is_all):
+def _prove(place, kind):
+    """The status of proving a program, or all where none is named."""
     if place.is_installed:
         say(f"{PROVE} is a word of a clone's launcher: nothing is installed that could be proved")
         return USAGE_FAULT
     from .proving import prove
-    return 0 if prove(place, is_all) else 1
+    return 0 if prove(place, kind) else 1
 
 
 def _dry_run(job, words, fault):
@@ -150,7 +160,7 @@ def _tell_hint(words, status, said):
 
 
 def _start(place, words, job, fault):
-    program = _program(place, fault)
+    program = _program(place, SIMULATION if words[:1] == [SIMULATE] else PROGRAM, fault)
     if isinstance(program, int):
         return program
     if job and job.inputs and os.isatty(2):
@@ -158,7 +168,7 @@ def _start(place, words, job, fault):
             tell_error(line)
     from .running import OLD_LIBRARY, needs_line, run
     try:
-        status, said = run(program, words)
+        status, said = _simulate(program, job) if job and job.command == SIMULATE else run(program, words)
     except OSError as fault:
         say(needs_line(fault.strerror))
         return 1
@@ -178,6 +188,16 @@ def _start(place, words, job, fault):
     return status
 
 
+def _simulate(program, job):
+    """Runs a simulation; where one looks on, the time that is gone and that of the whole are told."""
+    from .running import run
+    from .simulation_words import words_of
+    if not os.isatty(2):
+        return run(program, words_of(job))
+    from .run_clock import clock_of
+    return run(program, words_of(job), clock_of(program, job))
+
+
 def _no_text(words):
     """The status of the program where a word is not UTF-8, of which it says nothing, so this tells it; else 0."""
     word = next((it for it in words if any("\ud800" <= letter <= "\udfff" for letter in it)), None)
@@ -189,20 +209,20 @@ def _no_text(words):
     return 1
 
 
-def _program(place, fault):
+def _program(place, kind, fault):
     """The program to start, or the status where there is none."""
-    found = there.find(place, PROGRAM)
+    found = there.find(place, kind)
     if found.build:
         return found.build.path
     if place.is_installed:
-        say(_not_installed(place))
+        say(_not_installed(place, kind))
         return 1
     if fault:
         # The words would be refused after half an hour of proofs.
         say(f"{fault}")
         return USAGE_FAULT
     from .proving import build
-    return there.find(place, PROGRAM).build.path if build(place, found) else 1
+    return there.find(place, kind).build.path if build(place, kind, found) else 1
 
 
 def _warn_of_late(job, looks_at_all):

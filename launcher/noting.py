@@ -4,7 +4,7 @@ import os
 import shutil
 import subprocess
 
-from .builds import LIBRARY, PROGRAM
+from .builds import LIBRARY, PROGRAMS
 from .place import say
 from .release import TOOLS
 from .sources import Sources
@@ -15,8 +15,9 @@ UNKNOWN_KIT = "an unknown kit"
 
 
 def sums_of(top):
-    """A line for each source of the program and of the library: its sum and its name."""
-    entries = Sources(top, PROGRAM.roots + LIBRARY.roots).noted()
+    """A line for each source of the programs and of the library: its sum and its name."""
+    roots = [root for kind in (*PROGRAMS, LIBRARY) for root in kind.roots]
+    entries = Sources(top, roots).noted()
     return [f"{entry[0]}  {name}" for name, entry in entries.items()]
 
 
@@ -35,10 +36,13 @@ def note(place, kind, file):
     return changed
 
 
-def note_and_tell(place, kind, file):
-    """The status of noting a build; what has changed meanwhile is told."""
+def note_and_tell(place, kinds, file):
+    """The status of noting builds, but of what has no crate here; what has changed meanwhile is told."""
+    changed = {}
     try:
-        changed = note(place, kind, file)
+        for kind in kinds:
+            if Sources(place.top, kind.roots).below:
+                changed.update(dict.fromkeys(note(place, kind, file)))
     except OSError as fault:
         say(f"the build is not noted: {fault}")
         return 1

@@ -1,4 +1,5 @@
-"""The page of usage, docs/USAGE.md, in its sections: from it come --help and, by dev/make_man, the manual page."""
+"""The page of usage, docs/USAGE.md, in its sections: from it come --help and, by dev/make_man, the manual page; the options
+of `simulate` are those of docs/SIMULATE.md."""
 
 import re
 import textwrap
@@ -71,17 +72,18 @@ def help_lines(text):
     return [*found, "", "tiny_tera COMMAND --help has the options of a command, with their ranges, and an example."]
 
 
-def help_of_command(text, command):
-    """What `COMMAND --help` says: its synopsis, what it does, its options, and an example."""
-    _, blocks = blocks_of(text)
-    used = _of_command(synopsis(blocks), command)
+def help_of_command(text, command, text_of_words):
+    """What `COMMAND --help` says: what it does and an example, by the page of usage; its synopsis and its options, by the
+    page that has its words."""
+    blocks, of_words = blocks_of(text)[1], blocks_of(text_of_words)[1]
+    used = _of_command(synopsis(of_words), command)
     found = ["usage:", *(f"  {line}" for line in used), ""]
     for lines in section(blocks, "Commands"):
         if lines[0].startswith(f"`{command}` "):
             what, _, example = lines[0].partition(" For example ")
             found += [*_filled(what), "", "example:", f"  {words_of(example).rstrip('.')}"]
     taken = set(re.findall(r"--[a-z-]+", " ".join(used)))
-    rows = [row for row in _rows(section(blocks, "Options")) if row[0].strip("`").split(" ")[0] in taken]
+    rows = [row for row in _rows(section(of_words, "Options")) if row[0].strip("`").split(" ")[0] in taken]
     if rows:
         found.append("")
     for row in rows:

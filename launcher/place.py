@@ -17,6 +17,7 @@ class Place:
         self.top = top
         self.is_installed = not os.path.exists(self.path("crates.txt"))
         self.usage = self.path("docs", "USAGE.md")
+        self.simulations = self.path("docs", "SIMULATE.md")
         self.manual = os.path.normpath(self.path(*INSTALLED_MANUAL if self.is_installed else ("docs", "tiny_tera.1")))
 
     def path(self, *parts):

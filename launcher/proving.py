@@ -1,6 +1,6 @@
-"""Proves and builds the program by `rt ci`, outside of the checkout, and tells how far that is.
+"""Proves and builds a program by `rt ci`, outside of the checkout, and tells how far that is.
 
-A folder of the user's cache gets a copy of the crates that the program stands on, without their wrong bodies, and plain
+A folder of the user's cache gets a copy of the crates that it stands on, without their wrong bodies, and plain
 `rt ci` proves there: the longest chain first, as many jobs as processors, its libraries as statements. It keeps each
 proof by sums, so that of a gate on this machine counts here, and one from here in the gate.
 """
@@ -13,7 +13,7 @@ import subprocess
 import time
 
 from . import noting, release, there
-from .builds import LIBRARY, PROGRAM
+from .builds import LIBRARY, PROGRAMS
 from .estimate import Estimate
 from .place import cache_folder, say, tell_error
 from .sources import HANDLES, PARTS, Sources
@@ -71,16 +71,16 @@ class Progress:
 
 
 class Proof:
-    """A proof of the program, or of all programs and libraries, in the folder for it."""
+    """A proof of a program, or of all programs and libraries where none is named, in the folder for it."""
 
-    def __init__(self, place, is_all):
-        self.place, self.is_all = place, is_all
+    def __init__(self, place, kind):
+        self.place, self.is_all = place, kind is None
         self.folder = os.path.join(cache_folder(), FOLDER)
         self.log = self.folder + ".log"
         self.sums = os.path.join(self.folder, ".git", "sums")
-        every = Sources(place.top, PROGRAM.roots).lines
-        roots = [name for name in every if not name.endswith(OF_TESTS)] if is_all else PROGRAM.roots
-        self.sources = Sources(place.top, roots)
+        every = Sources(place.top, ()).lines
+        self.sources = Sources(place.top, [name for name in every if not name.endswith(OF_TESTS)] if self.is_all else kind.roots)
+        self.programs = [it for it in PROGRAMS if it.roots[0] in self.sources.below]
 
     def copy(self):
         """Copies what is proved, with a folder .git so that it is the top of a repository, and notes its sums there."""
@@ -127,14 +127,15 @@ class Proof:
         say(f"the program could not be built; all that was said is in {self.log}")
 
     def take(self):
-        """Takes the program that was built, and builds the library over what was proved where all is. Whether that is
+        """Takes the programs that were built, and builds the library over what was proved where all is. Whether that is
         made from the sources as they are now."""
-        with open(os.path.join(self.folder, *there.MADE[PROGRAM], PROGRAM.files[0]), "rb") as file:
-            there.here(self.place, PROGRAM).put(PROGRAM.files[0], file.read())
-        changed = noting.note(self.place, PROGRAM, self.sums)
-        if changed:
-            say(f"{changed[0]} was changed while the program was proved: run this again")
-            return False
+        for kind in self.programs:
+            with open(os.path.join(self.folder, *there.MADE[kind], kind.files[0]), "rb") as file:
+                there.here(self.place, kind).put(kind.files[0], file.read())
+            changed = noting.note(self.place, kind, self.sums)
+            if changed:
+                say(f"{changed[0]} was changed while the program was proved: run this again")
+                return False
         words = [self.place.path("dev", "make_library"), "--since", self.sums, "--top", self.folder]
         return not self.is_all or subprocess.run(words, stdin=subprocess.DEVNULL).returncode == 0
 
@@ -150,28 +151,28 @@ class Proof:
         return is_taken
 
 
-def build(place, found):
-    """Whether the program is now proved and built from the sources as they are, of which none was found; nothing is proved
+def build(place, kind, found):
+    """Whether a program is now proved and built from the sources as they are, of which none was found; nothing is proved
     where another launcher has done so meanwhile."""
     def call(lock):
-        if there.find(place, PROGRAM).build:
+        if there.find(place, kind).build:
             return True
-        proof = Proof(place, False)
+        proof = Proof(place, kind)
         _announce(proof, "the program is proved first")
         return proof.prove(lock)
     _tell_why(found)
     return _alone(call)
 
 
-def prove(place, is_all):
-    """Whether the program is proved and built, and the library too where all is to be, whatever is there; in the end they
-    are compared with what is stored."""
+def prove(place, kind):
+    """Whether a program is proved and built, and all of them and the library where none is named, whatever is there; in the
+    end they are compared with what is stored."""
     def call(lock):
-        proof = Proof(place, is_all)
-        _announce(proof, "all programs and libraries are proved" if is_all else "the program is proved")
+        proof = Proof(place, kind)
+        _announce(proof, "the program is proved" if kind else "all programs and libraries are proved")
         return proof.prove(lock)
-    kinds = (PROGRAM, LIBRARY) if is_all else (PROGRAM,)
-    return _alone(call) and all([_is_as_stored(place, kind) for kind in kinds])
+    kinds = (kind,) if kind else [it for it in (*PROGRAMS, LIBRARY) if Sources(place.top, it.roots).below]
+    return _alone(call) and all([_is_as_stored(place, it) for it in kinds])
 
 
 def _alone(call):

@@ -1,12 +1,12 @@
-"""What is stored in release/: the program and the library, packed, with the statement of what they were made from."""
+"""What is stored in release/: the programs and the library, packed, with the statement of what they were made from."""
 
 import os
 from typing import NamedTuple
 
-from .builds import LIBRARY, PROGRAM
+from .builds import LIBRARY, PROGRAM, SIMULATION
 
 FOLDER, STATEMENT = "release", "made_from.txt"
-KINDS = (PROGRAM, LIBRARY)
+KINDS = (PROGRAM, SIMULATION, LIBRARY)
 FILES = tuple(name for kind in KINDS for name in kind.files)
 SHARED = LIBRARY.files[1]
 TOOLS = ("cc", "ld")  # What links the shared object, beside the kit.

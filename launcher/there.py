@@ -5,14 +5,15 @@ import os
 import zlib
 from typing import NamedTuple
 
-from .builds import INSTALLED, LIBRARY, PROGRAM, Build
+from .builds import INSTALLED, LIBRARY, PROGRAM, SIMULATION, Build
 from .place import Place, cache_folder
 from .release import FOLDER, STATEMENT, Fault, unpack
 
 # Where each kind is built in a checkout, and where the stored ones are unpacked.
-MADE = {PROGRAM: ("crates", "tiny_tera", "out"), LIBRARY: ("out",)}
+MADE = {PROGRAM: ("crates", "tiny_tera", "out"), SIMULATION: ("crates", "simulate", "out"), LIBRARY: ("out",)}
 UNPACKED = ("out", "stored")
 VARIABLE = "TINY_TERA"
+VARIABLES = {PROGRAM: VARIABLE, SIMULATION: "SIMULATE"}  # That name a program to tools and tests.
 
 
 class Found(NamedTuple):
@@ -33,7 +34,7 @@ def of_clone(place):
 def built(place, kind):
     """What was built here: in the checkout, or, where that cannot be written, outside of it."""
     if place.is_installed:
-        return [Build(INSTALLED, place.top, place.top)]
+        return [Build(INSTALLED[kind], place.top, place.top)]
     return [Build(kind, place.top, folder) for folder in (place.path(*MADE[kind]), os.path.join(of_clone(place), "built"))]
 
 
@@ -88,12 +89,12 @@ def to_write(folder):
     return os.access(folder, os.W_OK)
 
 
-def program(top):
-    """The program that tools run: that of the variable TINY_TERA, else the one that is there; where none is made from the
-    sources as they are, the one that was built last."""
+def program(top, kind=PROGRAM):
+    """The program that tools run: that of its variable, as TINY_TERA, else the one that is there; where none is made from
+    the sources as they are, the one that was built last."""
     from pathlib import Path  # A start does without.
-    if os.environ.get(VARIABLE):
-        return Path(os.environ[VARIABLE]).resolve()
+    if os.environ.get(VARIABLES[kind]):
+        return Path(os.environ[VARIABLES[kind]]).resolve()
     place = Place(str(top))
-    build = find(place, PROGRAM).build
-    return Path(build.path if build else os.path.join(place.path(*MADE[PROGRAM]), PROGRAM.files[0]))
+    build = find(place, kind).build
+    return Path(build.path if build else os.path.join(place.path(*MADE[kind]), kind.files[0]))

@@ -1,27 +1,18 @@
 """The words of the command line: the job that they mean, or which word is wrong and what may stand there.
 
-The rules are those of docs/FORMATS.md. What an option is stands in OPTIONS alone; docs/USAGE.md has the same ranges,
-and tests/run_launcher compares both.
+The rules are those of docs/FORMATS.md. What an option is stands in OPTIONS alone, those of `simulate` in simulation_words;
+docs/USAGE.md has the same ranges, and tests/run_launcher compares both.
 """
 
 from typing import NamedTuple
 
-COMMANDS = ("run", "gen", "check", "firm")
+from . import simulation_words
+from .options import Fault, Option, near, number_of, one_of
+
+SIMULATE = "simulate"  # The command that a program of its own does.
+COMMANDS = ("run", "gen", "check", "firm", SIMULATE)
 MAX_PORTS = 64
 MAX_SEED, MAX_COUNT = 1_000_000_000, 4_000
-MAX_DIGITS = 10
-
-
-class Option(NamedTuple):
-    """An option: which commands take it, what its value may be (without any it is a flag), and what a run then writes."""
-
-    commands: tuple
-    letter: str = ""  # The value's, in the synopsis.
-    low: int = 0
-    high: int = 0
-    choices: tuple = ()
-    suffix: str = ""  # Of the file that is written, behind PREFIX.
-
 
 OPTIONS = {
     "--rounds": Option(("run", "gen", "firm"), "R", 1, 64),
@@ -46,11 +37,8 @@ SYNOPSIS = {
     "gen": "gen [options] SEED COUNT PORTS",
     "check": "check [options] FILE",
     "firm": "firm [options] TABLE INPUT..",
+    SIMULATE: "simulate [options] SEED SLOTS PORTS",
 }
-
-
-class Fault(ValueError):
-    """Words that specify no job; the text says which word is wrong, and what may stand there."""
 
 
 class Job(NamedTuple):
@@ -90,6 +78,13 @@ class Job(NamedTuple):
         return files
 
 
+def options_of(command):
+    """The options that a command takes, by their names."""
+    if command == SIMULATE:
+        return simulation_words.OPTIONS
+    return {name: option for name, option in OPTIONS.items() if command in option.commands}
+
+
 def read_words(words):
     """The job of the words, else a Fault."""
     if not words:
@@ -117,11 +112,12 @@ def read_words(words):
 def _read_option(command, options, word, rest, at):
     """Reads an option and its value, and answers where the next word is."""
     name, equals, value = word.partition("=")
-    if name not in OPTIONS or command not in OPTIONS[name].commands:
+    option = options_of(command).get(name)
+    if option is None:
         raise Fault(_no_option(command, name))
-    if name in options:
-        raise Fault(f"{name} stands twice")
-    option = OPTIONS[name]
+    kept = option.stands_for or name
+    if kept in options:
+        raise Fault(f"{name} stands twice" + (f", since {name} and {kept} are one option" if kept != name else ""))
     if not option.letter:
         if equals:
             raise Fault(f"{name} has no value: leave out {equals}{value}")
@@ -129,50 +125,27 @@ def _read_option(command, options, word, rest, at):
         return at
     if not equals:
         if at == len(rest) or rest[at].startswith("-"):
-            raise Fault(f"behind {name} comes {range_of(name)}")
+            raise Fault(f"behind {name} comes {option.allowed()}")
         value = rest[at]
         at += 1
-    if not _is_value(option, value):
-        raise Fault(f"{name} {value}: {option.letter} is {range_of(name)}" + _near(value.lower(), option.choices))
-    options[name] = value
+    options[kept] = _value(command, name, value)
     return at
 
 
-def _is_value(option, value):
-    return value in option.choices if option.choices else is_number(value, option.low, option.high)
-
-
-def range_of(name):
-    """What the value of an option may be."""
-    option = OPTIONS[name]
-    return one_of(option.choices) if option.choices else number_between(option.low, option.high)
-
-
-def is_number(word, low, high):
-    """Whether a word is a number of 1 to 10 decimal digits in a range."""
-    digits = word.isascii() and word.isdigit() and len(word) <= MAX_DIGITS
-    return digits and low <= int(word) <= high
-
-
-def number_between(low, high):
-    return f"a number from {low:,} to {high:,}, written without commas" if high > 999 else f"a number from {low} to {high}"
-
-
-def one_of(words):
-    return ", ".join(words[:-1]) + " or " + words[-1] if len(words) > 1 else words[0]
-
-
-def _near(word, known):
-    """A question after the known word that is most like one that is not known."""
-    import difflib  # Only where a word is wrong.
-    found = difflib.get_close_matches(word, known, 1)
-    return f"; is {found[0]} meant?" if found else ""
+def _value(command, name, word):
+    """The value of an option as the program takes it, else a Fault."""
+    option = options_of(command)[name]
+    value = option.read(word)
+    if value is not None:
+        return value
+    more = near(word.lower(), option.choices) + simulation_words.in_millionths(command, name, word)
+    raise Fault(f"{name} {word}: {option.letter} is {option.allowed()}{more}")
 
 
 def _no_command(word):
-    if word in OPTIONS or word.partition("=")[0] in OPTIONS:
+    if any(word.partition("=")[0] in options_of(command) for command in COMMANDS):
         return f"the command comes before {word}: " + one_of(COMMANDS)
-    return f"{word!r} is no command" + (_near(word, COMMANDS) or ": the first word is " + one_of(COMMANDS))
+    return f"{word!r} is no command" + (near(word, COMMANDS) or ": the first word is " + one_of(COMMANDS))
 
 
 def _no_option(command, name):
@@ -180,12 +153,12 @@ def _no_option(command, name):
         return f"{name} is a word of the launcher, and comes before the command: tiny_tera {name} {command} .."
     if not name.startswith("--"):
         return f"{name} is no option; a file whose name begins with - is given after a word --"
-    taken = [it for it in OPTIONS if command in OPTIONS[it].commands]
+    taken = list(options_of(command))
     if (command, name) == ("firm", "--scheduler"):
         return "firm has its own scheduler: to choose one, tiny_tera run --scheduler NAME TABLE PREFIX INPUT.."
-    if name in OPTIONS:
+    if any(name in options_of(other) for other in COMMANDS):
         return f"{command} does not take {name}; it takes " + one_of(taken)
-    return f"{name} is no option" + (_near(name, taken) or ": " + _options_of(command, taken))
+    return f"{name} is no option" + (near(name, taken) or ": " + _options_of(command, taken))
 
 
 def _options_of(command, taken):
@@ -201,8 +174,9 @@ def _test_names(job):
             raise Fault(f"gen has three numbers, and here are {count}: {line}")
         given = zip(("SEED", "COUNT", "PORTS"), job.names, ((0, MAX_SEED), (0, MAX_COUNT), (1, MAX_PORTS)))
         for what, word, (low, high) in given:
-            if not is_number(word, low, high):
-                raise Fault(f"{what} {word}: it is {number_between(low, high)}")
+            number_of(what, word, low, high)
+    elif job.command == SIMULATE:
+        simulation_words.test_simulation(job, line)
     elif job.command == "check":
         if count != 1:
             raise Fault(f"check has one file, and here are {count}: {line}")

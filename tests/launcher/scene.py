@@ -25,6 +25,7 @@ CRATES = """\
 lower:
 upper: lower hex
 tiny_tera: upper
+simulate: lower
 scheduler_c staticlib: lower  # For C.
 journal_c staticlib: lower
 beside: lower
@@ -41,6 +42,7 @@ SOURCES = {
     "crates/upper/specs/Lib.antt": "-- a definition\n",
     "crates/tiny_tera/src/main.rt": "fn main\n",
     "crates/tiny_tera/data/a.pcap": "a capture\n",
+    "crates/simulate/src/main.rt": "fn main\n",
     "crates/scheduler_c/src/lib.rt": "// scheduler_c\n",
     "crates/journal_c/src/lib.rt": "// journal_c\n",
     "crates/beside/src/lib.rt": "// beside\n",
@@ -74,8 +76,9 @@ for name in $(sed -e 's/[ :].*//' crates.txt); do
     *) echo "rt: $name proved" ;;
     esac
 done
-mkdir -p crates/tiny_tera/out
-cp "$FAKE_PROGRAM" crates/tiny_tera/out/tiny_tera
+for name in tiny_tera simulate; do
+    if grep -q "^$name:" crates.txt; then mkdir -p crates/$name/out && cp "$FAKE_PROGRAM" crates/$name/out/$name; fi
+done
 echo "9 passed, 0 failed"
 """ % KIT
 # In the place of what builds the library over proved crates.
@@ -191,7 +194,8 @@ def write_repository(top):
     ignored = shutil.ignore_patterns("__pycache__")
     for name in ("launcher", "viewer", "include"):
         shutil.copytree(TOP / name, top / name, ignore=ignored)
-    for name in ("tiny_tera", "tools/install", "tools/measure/__init__.py", "tools/measure/ends.py", "dev/make_release", "docs/USAGE.md", "docs/tiny_tera.1", "LICENSE", "Makefile"):
+    for name in ("tiny_tera", "tools/install", "tools/measure/__init__.py", "tools/measure/ends.py", "dev/make_release", "docs/USAGE.md",
+                 "docs/SIMULATE.md", "docs/tiny_tera.1", "LICENSE", "Makefile"):
         (top / name).parent.mkdir(exist_ok=True)
         shutil.copy(TOP / name, top / name)
     for name, text in SOURCES.items():

@@ -145,8 +145,10 @@ class Building(Scene):
         self.assertEqual([it for it in names if "beside" in it or "must-fail" in it], [])
         self.write("began", sums)
         self.assertEqual(self.launch("--record-build", "began").returncode, 1)
-        made = self.top / "crates/tiny_tera/out/tiny_tera"
-        shutil.copy(self.room / "fake", made)
+        for name in ("tiny_tera", "simulate"):
+            made = self.top / "crates" / name / "out" / name
+            made.parent.mkdir(exist_ok=True)
+            shutil.copy(self.room / "fake", made)
         self.assertEqual(self.launch("--record-build", "began").returncode, 0)
         self.assertEqual(self.launch("gen", "1", "2", "2").stderr, "")
         self.assertEqual(self.calls(), [])

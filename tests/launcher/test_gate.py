@@ -30,10 +30,10 @@ class Gate(Stored):
 
     def test_passes(self):
         status, lines = self.gate()
-        compared = [f"dev/make_release: as stored: {names}" for names in ("tiny_tera", ", ".join(LIBRARY))]
-        self.assertEqual(lines[:3], ["9 passed, 0 failed", *compared])
-        self.assertRegex(lines[3], "^module: --check --since ")
-        self.assertEqual((status, lines[4:]), (0, ["tests:", ".ci/run: passed"]))
+        compared = [f"dev/make_release: as stored: {names}" for names in ("tiny_tera", "simulate", ", ".join(LIBRARY))]
+        self.assertEqual(lines[:4], ["9 passed, 0 failed", *compared])
+        self.assertRegex(lines[4], "^module: --check --since ")
+        self.assertEqual((status, lines[5:]), (0, ["tests:", ".ci/run: passed"]))
         self.assertEqual(self.calls()[0], "ci")
         self.assertIn("proved and built here", self.launch("--version").stdout)
 

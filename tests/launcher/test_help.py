@@ -9,7 +9,7 @@ from itertools import accumulate
 from launcher.made import MODULUS, cells_of_packet, largest_count, most_cells
 from launcher.page import blocks_of, cells_of, section, synopsis
 from launcher.version import VERSION
-from launcher.words import COMMANDS, MAX_COUNT, OPTIONS, OWN, Fault, read_words
+from launcher.words import COMMANDS, MAX_COUNT, OPTIONS, OWN, Fault, options_of, read_words
 
 from .scene import KIT, PROGRAM, TOP, Scene, python
 
@@ -37,10 +37,10 @@ class Help(Scene):
         for command in COMMANDS:
             with self.subTest(command):
                 told = self.launch(command, "--help").stdout
-                taken = [name for name, option in OPTIONS.items() if command in option.commands]
-                self.assertEqual(re.findall(r"^  (--[a-z-]+)", told, re.M), taken)
-                wanted = [rf"{it.low:,} to\s+{it.high:,}" for it in map(OPTIONS.get, taken) if it.high]
-                wanted += [rf"\b{choice}\b" for name in taken for choice in OPTIONS[name].choices]
+                taken = options_of(command)
+                self.assertEqual(re.findall(r"^  (--[a-z-]+)", told, re.M), list(taken))
+                wanted = [rf"{it.low:,} to\s+{it.high:,}" for it in taken.values() if it.high]
+                wanted += [rf"\b{choice}\b" for it in taken.values() for choice in it.choices]
                 self.assertEqual([pattern for pattern in wanted if not re.search(pattern, told)], [])
                 self.assertTrue(told.startswith(f"usage:\n  tiny_tera {command} "))
                 self.assertRegex(told, f"\nexample:\n  tiny_tera {command} ")
@@ -50,19 +50,20 @@ class Help(Scene):
 
     def test_version(self):
         none = "no program is there of these sources: {}; it is proved before it runs"
-        self.assertEqual(self.launch("--version").stdout, f"tiny_tera {VERSION}\n{none.format('nothing is stored in release/')}\n")
+        nothing = none.format("nothing is stored in release/")
+        self.assertEqual(self.launch("--version").stdout, f"tiny_tera {VERSION}\n{nothing}\nsimulate: {nothing}\n")
         self.build()
         for words in (["init", "-q"], ["add", "-A"], ["-c", "user.name=x", "-c", "user.email=x@y", "commit", "-qm", "x"], ["tag", "v7"]):
             subprocess.run(["git", "-C", self.top, *words], check=True)
         lines = self.launch("--version").stdout.splitlines()
         self.assertEqual(lines[:2], [f"tiny_tera {VERSION} (v7)", f"proved and built here with {KIT}"])
-        self.assertEqual(len(lines), 3)
+        self.assertEqual(lines[3:], [f"simulate: {nothing}"])
         self.assertRegex(lines[2], rf"sha256 [0-9a-f]{{64}}  {re.escape(str(self.top))}/crates/tiny_tera/out/tiny_tera$")
         (self.top / "crates/lower/src/lib.rt").write_text("// changed\n")
-        lines = self.launch("--version").stdout.splitlines()
+        lines = self.launch("--version").stdout.splitlines()[:2]
         self.assertEqual(lines, [f"tiny_tera {VERSION} (v7-dirty)", none.format("crates/lower/src/lib.rt changed since it was proved")])
         (self.top / "crates/tiny_tera/out/tiny_tera").write_text("another")
-        self.assertEqual(self.launch("--version").stdout, f"tiny_tera {VERSION} (v7-dirty)\n{none.format('nothing is stored in release/')}\n")
+        self.assertEqual(self.launch("--version").stdout, f"tiny_tera {VERSION} (v7-dirty)\n{nothing}\nsimulate: {nothing}\n")
 
 
 class Page(unittest.TestCase):

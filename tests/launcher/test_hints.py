@@ -19,10 +19,10 @@ ORDER = "tiny_tera run [options] TABLE PREFIX INPUT.."
 
 # The words, and the hint.
 USAGE = [
-    ([], "the first word is the command: run, gen, check or firm"),
+    ([], "the first word is the command: run, gen, check, firm or simulate"),
     (["rum", "t"], "'rum' is no command; is run meant?"),
-    (["table.txt", "out"], "'table.txt' is no command: the first word is run, gen, check or firm"),
-    (["--rounds", "2", "run"], "the command comes before --rounds: run, gen, check or firm"),
+    (["table.txt", "out"], "'table.txt' is no command: the first word is run, gen, check, firm or simulate"),
+    (["--rounds", "2", "run"], "the command comes before --rounds: run, gen, check, firm or simulate"),
     (["run", "--rounds", "65", "t", "out", "a"], "--rounds 65: R is a number from 1 to 64"),
     (["run", "--depth=131073", "t", "out", "a"], "--depth 131073: D is a number from 1 to 131,072, written without commas"),
     (["run", "--workers", "33", "t", "out", "a"], "--workers 33: W is a number from 1 to 32"),

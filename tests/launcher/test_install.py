@@ -56,18 +56,22 @@ class Install(Scene):
     def test_installed(self):
         self.build()
         proved = hashlib.sha256((self.room / "fake").read_bytes()).hexdigest()
+        self.assertEqual(self.launch("simulate", "1", "1", "1").returncode, 0)
         installed = self.install()
         self.assertEqual((installed.returncode, installed.stderr), (0, ""))
-        self.assertEqual(installed.stdout, f"{proved}  {self.prefix}/lib/tiny_tera/program\n")
+        self.assertEqual(installed.stdout, "".join(f"{proved}  {self.prefix}/lib/tiny_tera/{name}\n" for name in ("program", "simulate")))
         shutil.rmtree(self.top)
-        ended = self.started("gen", "1", "2", "2")
-        self.assertEqual((ended.returncode, ended.stdout, ended.stderr), (0, "summary\n", ""))
+        for words in (("gen", "1", "2", "2"), ("simulate", "--load", "0.9", "1", "2", "2")):
+            ended = self.started(*words)
+            self.assertEqual((ended.returncode, ended.stdout, ended.stderr), (0, "summary\n", ""))
         version = self.started("--version").stdout.splitlines()
-        self.assertEqual(version[1:], [f"proved with {KIT}", f"sha256 {proved}  {self.prefix}/lib/tiny_tera/program"])
+        self.assertEqual(version[1:3], [f"proved with {KIT}", f"sha256 {proved}  {self.prefix}/lib/tiny_tera/program"])
+        self.assertEqual(version[3:], [f"simulate: proved with {KIT}", f"simulate: sha256 {proved}  {self.prefix}/lib/tiny_tera/simulate"])
         told = self.started("--help").stdout
         self.assertIn("usage:\n  tiny_tera run", told)
         self.assertTrue(os.path.isfile(told.rstrip("\n").partition("man ")[2]), told)
         self.assertIn("--rounds R", self.started("run", "--help").stdout)
+        self.assertIn("--load SHARE", self.started("simulate", "--help").stdout)
         for name in ("share/man/man1/tiny_tera.1", "share/tiny_tera/viewer/index.html", "share/tiny_tera/viewer/lib/LICENSE", "share/tiny_tera/LICENSE"):
             self.assertTrue((self.prefix / name).is_file(), name)
         self.assertFalse((self.prefix / "share/tiny_tera/viewer/tests").exists())
@@ -184,6 +188,7 @@ class Install(Scene):
     def test_clone_of_another_user(self):
         """The version is that of the clone, whoever owns it."""
         self.build()
+        self.launch("simulate", "1", "1", "1")
         self.in_git(self.top, "v7")
         other = {"GIT_TEST_ASSUME_DIFFERENT_OWNER": "1"}
         told = subprocess.run(["git", "-C", self.top, "describe"], env={**self.variables, **other}, stdout=subprocess.PIPE, stderr=subprocess.PIPE)
@@ -199,6 +204,16 @@ class Install(Scene):
         told = self.install()
         self.assertEqual((told.returncode, self.prefix.exists()), (1, False))
         self.assertIn("crates/lower/src/lib.rt changed since the program was proved", told.stderr)
+
+    def test_without_simulate(self):
+        """Where the program of that command is not there, the other is installed, and it is told."""
+        self.build()
+        told = self.install()
+        why = "tools/install: without simulate: nothing is stored in release/: run ./tiny_tera --prove simulate first\n"
+        self.assertEqual((told.returncode, told.stderr), (0, why))
+        ended = self.started("simulate", "1", "2", "2")
+        why = f"tiny_tera: {self.prefix}/lib/tiny_tera/simulate is not there, so it is not started\n"
+        self.assertEqual((ended.returncode, ended.stderr), (1, why))
 
     def test_staged(self):
         self.build()

@@ -129,7 +129,7 @@ class Launcher(Stored):
         self.assertEqual(told[1], f"stored in release/, proved elsewhere with {KIT} from these sources; to prove it here: ./tiny_tera --prove")
         self.assertRegex(told[2], r"^sha256 [0-9a-f]{64}  .*/out/stored/tiny_tera$")
         self.append("crates/lower/src/lib.rt")
-        told = self.launch("--version").stdout.splitlines()[1:]
+        told = self.launch("--version").stdout.splitlines()[1:2]
         self.assertEqual(told, ["no program is there of these sources: release/ was made from other sources of lower; it is proved before it runs"])
 
 
@@ -158,13 +158,30 @@ class Prove(Stored):
         """All crates but those of tests, and the library over them."""
         told = self.launch("--prove", "all")
         self.assertEqual(told.returncode, 0, told.stderr)
-        self.assertIn("all programs and libraries are proved: 6 crates", told.stderr)
-        for name in ("tiny_tera", *LIBRARY):
+        self.assertIn("all programs and libraries are proved: 7 crates", told.stderr)
+        for name in ("tiny_tera", "simulate", *LIBRARY):
             self.assertIn(f"{name} is, byte for byte, the one that is stored in release/", told.stderr)
         self.assertNotIn("all_tests", self.room.joinpath("files").read_text())
         first, second = self.calls()
         proving = self.room / "home/.cache/nakufisi/proving"
         self.assertEqual((first, second), ("ci", f"--since {proving}/.git/sums --top {proving}"))
+
+
+class Simulate(Stored):
+    def test_stored(self):
+        """Without a toolchain the stored program is unpacked and started, beside the other."""
+        for words in (("simulate", "1", "9", "2"), ("gen", "1", "2", "2")):
+            ended = self.launch(*words, PATH=NO_TOOLCHAIN)
+            self.assertEqual((ended.returncode, ended.stdout, ended.stderr), (0, "summary\n", ""))
+        names = sorted(it.name for it in (self.top / "out/stored").iterdir())
+        self.assertEqual(names, ["launcher.json", "simulate", "simulate.json", "tiny_tera"])
+
+    def test_prove(self):
+        told = self.launch("--prove", "simulate")
+        self.assertEqual(told.returncode, 0, told.stderr)
+        self.assertIn("the program is proved: 2 crates", told.stderr)
+        self.assertTrue(told.stderr.endswith("tiny_tera: simulate is, byte for byte, the one that is stored in release/\n"), told.stderr)
+        self.assertEqual(self.calls(), ["ci"])
 
 
 class Library(Stored):

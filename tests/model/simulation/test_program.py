@@ -1,5 +1,5 @@
 """Compares the program `simulate` with the model on random simulations. It is the one that the variable SIMULATE
-names, else the one that was built here; without one this is skipped."""
+names, else the one that is there; without one this is skipped."""
 
 import os
 import random
@@ -7,17 +7,19 @@ import subprocess
 import unittest
 from pathlib import Path
 
+from launcher import there
+from launcher.builds import SIMULATION
+
 from .command import run_words
 from .words import PATTERNS, SCHEDULERS, WEIGHED
 
 TOP = Path(__file__).resolve().parents[3]
-VARIABLE, BUILT = "SIMULATE", TOP / "crates/simulate/out/simulate"
 JOBS = 60
 
 
 def program():
     """The program, None where there is none."""
-    found = Path(os.environ.get(VARIABLE) or BUILT)
+    found = there.program(TOP, SIMULATION)
     return found if found.is_file() and os.access(found, os.X_OK) else None
 
 
@@ -40,7 +42,7 @@ def random_words(rng):
     return words + (["--histogram"] if rng.random() < 0.5 else [])
 
 
-@unittest.skipUnless(program(), f"there is no program simulate, neither named by {VARIABLE} nor built here")
+@unittest.skipUnless(program(), "there is no program simulate, named by SIMULATE, built here or stored")
 class Program(unittest.TestCase):
     def test_random_simulations(self):
         rng = random.Random(1)
