@@ -147,26 +147,6 @@ class Packets(unittest.TestCase):
             with self.subTest(name):
                 check_run(*packets_of_job(name))
 
-    def test_output_queued(self):
-        """Three packets for output 0 in one slot depart in three; the one that comes then waits for the last of them."""
-        from measure import packets, results
-
-        came = [(0, 0, 0, 1), (1, 0, 0, 2), (2, 0, 0, 4), (0, 1, 0, 3), (1, 1, 1, 2)]  # Input, arrival, output, departure.
-        rows = [f"{card},{slot},20,1,forwarded,0,u,{output},{slot},{left},{left - slot}\n" for card, slot, output, left in came]
-        left = packets.forwarded(packets_of(PACKETS.split("\n")[0] + "\n" + "".join(rows)))
-        self.assertEqual(sorted(packets.output_queued(left)[left["output"] == 0]), [1, 2, 3, 4])
-        self.assertEqual(packets.output_queued(left)[[3, 4]].tolist(), [4, 2])
-        told = report.Report({"ports": 3}, (0,) * 4, [], [], None)
-        # Of slots 1 to 3 all packets come in slot 1, with delays 3 and 1; four cells leave, of nine that three outputs can give out.
-        span = results.Span(0.5, 2, 3.5)
-        self.assertEqual(results.output_queued(told, left, span), (2.0, round(4 / 9, 4)))
-        self.assertEqual(results.output_queued(told, left.assign(cells=2), span), (None, None))
-        # The run departs in slots 1 to 4 too, so it adds no delay.
-        lines = [report.Reference(4, 4, 1, 0), report.Reference(2, 2, 0, 0), report.Reference(0, 0, 0, 0)]
-        self.assertEqual(results.output_queued(told._replace(reference=lines), left, span)[0], 2.0)
-        for wrong in (lines[0]._replace(extra=1), lines[0]._replace(ends=5)):
-            self.assertRaises(ValueError, results.output_queued, told._replace(reference=[wrong, *lines[1:]]), left, span)
-
     def test_delays(self):
         """Delays of all levels and kinds: multicast counts at each output, and dropped packets have none."""
         from measure.packets import delay_counts
@@ -183,8 +163,9 @@ class Packets(unittest.TestCase):
         status, result = run(RESULT, DATA / "all_flags_islip.report", DATA / "all_flags_islip.packets.csv", *words)
         self.assertEqual(status, 0, result)
         found = json.loads(result)
-        self.assertEqual((found["dropped"], found["came_load"], found["output_queued"]), (1, round(38 / (3 * 16), 4), None))
-        self.assertEqual((found["measured"], found["mean_delay"], found["longest_delay"]), (13, round(102 / 13, 4), 19))
+        self.assertEqual((found["dropped"], found["came_load"]), (1, round(38 / (3 * 16), 4)))
+        self.assertEqual((found["departed"], found["delays"], found["mean_delay"]), (13, 102, round(102 / 13, 4)))
+        self.assertEqual((found["p99_9"], found["longest_delay"]), (19, 19))
         status, told = run(RESULT, DATA / "all_flags_islip.report", DATA / "packets_of_all_states.packets.csv", *words)
         self.assertEqual((status, told.count("\n")), (1, 1))
         self.assertIn("the packets file is of another run", told)

@@ -48,8 +48,6 @@ class Traffic(unittest.TestCase):
                 own = Counter(packet.outputs[0] for packet in made if packet.input == card)
                 for output, share in enumerate(shares):
                     self.assertAlmostEqual(own[output] / own.total(), share, delta=0.05)
-        # With 0.2 for the hot spot and four ports it gets 1.6 cells for each cell of a port.
-        self.assertAlmostEqual(traffic.most_load("hot-spot", 4, 0.2), 1 / 1.6)
 
     def test_one_port(self):
         for kind in traffic.KINDS:

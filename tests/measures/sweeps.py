@@ -1,5 +1,6 @@
 """Tests of tools/sweep: its words, its folder, its tables, and how it fails, stops and goes on."""
 
+import argparse
 import io
 import os
 import runpy
@@ -12,12 +13,21 @@ import unittest
 from contextlib import redirect_stderr
 from pathlib import Path
 
-from measure import report
+from launcher.builds import SIMULATION
+from launcher.there import program
+from measure import report, simulations, traffic
+from tiny_tera import read_simulation
 
 from .common import PROGRAM, TOOLS, TOP, lacks, run
 
 MODULES = ("snakemake", "pandas", "scipy", "matplotlib", "tqdm")
-SMALL = ["--kinds", "bursty", "--loads", "0.5", "--rounds", "1,2", "--seeds", "1", "--ports", "4", "--slots", "200"]
+SMALL = ["--kinds", "bursty", "--loads", "0.5", "--rounds", "1,2", "--schedulers", "islip", "--seeds", "1", "--ports", "4", "--slots", "200"]
+TEXT = "bursty-ports-4-load-0.5-burst-16-weight-0/islip-rounds-{}-seed-{}.txt"
+CAPTURES = [TOP / "examples/two_inputs/a.pcap", TOP / "examples/two_inputs/b.pcap"]
+OF_TRACE = ["--kinds", "trace", "--ports", "2", "--rounds", "2", "--trace", *CAPTURES]
+SIMULATE = program(TOP, SIMULATION)
+# In its place where it is not there.
+MODEL = f'#!/bin/sh\nPYTHONPATH="{TOP}" exec "{sys.executable}" -m tests.model.simulation "$@"\n'
 # Words that no job can have, and what is told of them.
 BAD_WORDS = [
     (["--loads", "1.5"], "'1.5' is not a number over 0 and at most 1"),
@@ -25,30 +35,37 @@ BAD_WORDS = [
     (["--rounds", "65"], "'65' is not a whole number from 1 to 64"),
     (["--seeds", "3-1"], "'3-1' falls"),
     (["--ports", "0"], "'0' is not a whole number from 1 to 64"),
-    (["--slots", "8193"], "--slots: 8193 is over 8192, the most with 16 ports"),
-    (["--slots", "1025", "--ports", "2,64"], "--slots: 1025 is over 1024, the most with 64 ports"),
+    (["--slots", "1048577"], "'1048577' is not a whole number from 3 to 1048576"),
     (["--burst", "0"], "'0' is not a whole number from 1"),
+    (["--burst", "4097"], "'4097' is not a whole number from 1 to 4096"),
     (["--cores", "0"], "'0' is not a whole number from 1"),
     (["--schedulers", "islip,"], "'islip,' is no list of names"),
-    (["--slots", "2"], "'2' is not a whole number from 3 to 131072"),
+    (["--schedulers", "islip,wave"], "--schedulers: wave is none of islip, firm, rrm, fifo, ideal"),
+    (["--slots", "2"], "'2' is not a whole number from 3 to 1048576"),
+    (["--loads", "0.0000001"], "--loads: 0.0000001 has more than 6 places"),
+    (["--kinds", "unbalanced", "--weights", "0.0000001"], "--weights: 0.0000001 has more than 6 places"),
+    (["--journals"], "--reports and --journals go with --kinds trace"),
     (["--kinds", "trace"], "--kinds trace and --trace go together"),
     (["--kinds", "trace", "--trace", "/none"], "--trace: [Errno 2] No such file or directory: '/none'"),
     (["--kinds", "trace", "--trace", "/dev/null"], "--trace: "),
-    (["--kinds", "hot-spot", "--loads", "0.7"], "--loads: 0.7 is over 0.571, the most with kind hot-spot"),
 ]
-# The program, but for runs of two rounds, which fail while the file `broken` is there and are slow while `slow` is, and
-# without --alone while `old` is there. It takes that word and the name of a scheduler, makes its own run, and keeps the words in `words`.
+# The programs, but for runs of two rounds, which fail while the file `broken` is there and are slow while `slow` is, and
+# without --alone while `old` is there. It takes that word and, for a run, the name of a scheduler, and keeps the words in `words`.
 SCRIPT = """\
 #!/bin/sh
 echo "$*" >>{folder}/words
 case "$*" in *--alone*) [ -e {folder}/old ] && exit 2;; esac
-set -- $(echo "$*" | sed 's/--scheduler [a-z]*//; s/--alone//')
+program={program}
+case "$1" in
+simulate) program={simulate};;
+*) set -- $(echo "$*" | sed 's/--scheduler [a-z]*//; s/--alone//');;
+esac
 case " $* " in *" --rounds 2 "*)
     [ -e {folder}/broken ] && exit 9
     [ -e {folder}/slow ] && sleep 200;;
 esac
 mkdir {folder}/busy 2>/dev/null || touch {folder}/overlap
-{program} "$@"
+$program "$@"
 status=$?
 rmdir {folder}/busy 2>/dev/null
 exit $status
@@ -70,7 +87,7 @@ class Words(unittest.TestCase):
             program.write_text("#!/bin/sh\necho proved first >&2\nexit 1\n")
             program.chmod(0o755)
             status, said = run(TOOLS / "sweep", "--to", folder, "--program", program)
-            self.assertEqual((status, said), (1, f"proved first\ntools/sweep: {program} gen 0 0 1 ends with status 1\n"))
+            self.assertEqual((status, said), (1, f"proved first\ntools/sweep: {program} simulate 0 1 1 ends with status 1\n"))
             self.assertFalse(folder.exists())
 
     @unittest.skipIf(lacks("tqdm"), lacks("tqdm"))
@@ -79,11 +96,11 @@ class Words(unittest.TestCase):
         from measure.engine import Progress
 
         progress = Progress()
-        lines = ["run  2  1  1", "traffic  1  1  1", "rule traffic:", "    output: a/traffic, b", "    jobid: 4", "Finished job 4."]
+        lines = ["run  2  1  1", "simulate  3  1  1", "traffic  1  1  1", "rule traffic:", "    output: a/traffic, b", "    jobid: 4", "Finished job 4."]
         lines += ["rule run:", "    output: a/x.json, a/x.report", "    jobid: 1", "rule run:", "    output: a/y.json", "    jobid: 2"]
-        lines += ["Finished job 2."]
+        lines += ["Finished job 2.", "rule simulate:", "    output: b/z.txt", "    jobid: 7", "Finished job 7."]
         self.assertEqual([progress.read(line) for line in lines], [None] * len(lines))
-        self.assertEqual((progress.done, progress.total), (1, 2))
+        self.assertEqual((progress.done, progress.total), (2, 5))
         self.assertEqual(progress.read("Trying to restart job 1."), "a/x.json")
         self.assertEqual((progress.has_failed, progress.causes), (False, {}))
         causes = ["run_result: a/x.report: no packet came\n", "tools/traffic: b/traffic is not empty\n", "tiny_tera: it is not built\n"]
@@ -110,8 +127,12 @@ class Sweeps(unittest.TestCase):
         self.room = Path(room.name)
         self.folder = self.room / "sweep"
         script = self.room / "program"
-        script.write_text(SCRIPT.format(folder=self.room, program=PROGRAM))
-        script.chmod(0o755)
+        model = self.room / "model"
+        model.write_text(MODEL)
+        simulate = SIMULATE if os.access(SIMULATE, os.X_OK) else model
+        script.write_text(SCRIPT.format(folder=self.room, program=PROGRAM, simulate=simulate))
+        for path in (script, model):
+            path.chmod(0o755)
         self.words = [TOOLS / "sweep", "--to", self.folder, "--program", script, *SMALL]
 
     def rows(self, name="runs"):
@@ -122,23 +143,22 @@ class Sweeps(unittest.TestCase):
     def test_fails_goes_on_and_grows(self):
         """A job that fails is tried again and told; the same words go on; other words add runs to the same tables."""
         (self.room / "broken").touch()
-        status, told = run(*self.words, "--journals", "--cores", "1")
-        again = "tools/sweep: failed, and is tried again: bursty-ports-4-load-0.5-seed-1/islip-rounds-2.json"
+        status, told = run(*self.words, "--cores", "1")
+        again = f"tools/sweep: failed, and is tried again: {TEXT.format(2, 1)}"
         self.assertEqual((status, told.splitlines()[0]), (1, again))
         self.assertEqual(len(told.splitlines()), 2, told)
-        self.assertIn("Error in rule run", (self.folder / "snakemake.log").read_text())
-        first = self.folder / "bursty-ports-4-load-0.5-seed-1/islip-rounds-1.report"
-        # The other run of this traffic has its result, and it stays.
-        self.assertEqual([path.stem for path in first.parent.glob("*.json")], ["islip-rounds-1"])
+        self.assertIn("Error in rule simulate", (self.folder / "snakemake.log").read_text())
+        first = self.folder / TEXT.format(1, 1)
+        # The other run of this traffic has its text, and it stays.
+        self.assertEqual([path.name for path in first.parent.glob("*.txt")], [first.name])
         self.assertFalse((self.folder / "runs.csv").exists())
         kept = times(first)
         (self.room / "broken").unlink()
-        status, told = run(*self.words, "--journals", "--cores", "1")
+        status, told = run(*self.words, "--cores", "1")
         self.assertEqual(status, 0, told)
         self.assertEqual((times(first), (self.room / "overlap").exists()), (kept, False))
-        self.check_journal(first)
-        # Another seed, which leaves the first in the tables; its interval needs both.
-        status, told = run(*self.words, "--journals", "--seeds", "5")
+        # Another seed, which leaves the first in the tables.
+        status, told = run(*self.words, "--seeds", "5")
         self.assertEqual((status, times(first)), (0, kept), told)
         runs, provenance = self.rows()
         self.assertEqual(runs[["rounds", "seed"]].values.tolist(), [[1, 1], [1, 5], [2, 1], [2, 5]])
@@ -146,14 +166,17 @@ class Sweeps(unittest.TestCase):
         points, same = self.rows("points")
         self.assertEqual((points["seeds"].tolist(), same), (["1,5", "1,5"], provenance))
         self.assertTrue(points["half_width"].gt(0).all())
+        self.assertEqual(runs["delays"].iloc[0], read_simulation(first).delays)
         self.check_refusals()
 
     def test_causes_of_the_user_are_told(self):
-        """Too few packets come, at a load that is written with an exponent elsewhere: the screen says so, and names the log."""
-        few = ["--kinds", "uniform", "--loads", "0.00001", "--rounds", "1", "--seeds", "1-5", "--slots", "20", "--cores", "2"]
+        """One packet comes, at a load that is written with an exponent elsewhere: the screen says so, and names the log."""
+        capture = self.room / "one.pcap"
+        capture.write_bytes(traffic.capture_bytes(traffic.LINK_RAW_IP, [(0, traffic.ip_header(0, bytes([10, 0, 1, 1]), 20))]))
+        few = [*OF_TRACE[:-2], capture, "--loads", "0.00001", "--rounds", "1", "--seeds", "1-5", "--slots", "20", "--cores", "2"]
         status, told = run(*self.words, *few)
         lines = [line for line in told.splitlines() if "is tried again" not in line]
-        cause = "tools/sweep: a job failed: uniform-ports-4-load-0.00001-seed-{}/islip-rounds-1.report: no packet came in the measured slots"
+        cause = "tools/sweep: a job failed: trace-ports-2-load-0.00001-seed-{}/islip-rounds-1.report: no packet came in the measured slots"
         self.assertEqual((status, len(lines)), (1, 5), told)
         self.assertTrue(set(lines[:3]) <= {cause.format(seed) for seed in range(1, 6)}, told)
         last = f"tools/sweep: 0 of 5 runs are done, and a job failed twice: {self.folder / 'snakemake.log'}; the same command goes on"
@@ -165,7 +188,7 @@ class Sweeps(unittest.TestCase):
         self.assertEqual((status, told.count("\n")), (1, 1))
         self.assertIn("have --slots 200, not 300", told)
         (self.room / "program").write_text('#!/bin/sh\n[ "$2" = --scheduler ] && exit 3\nexit 0\n')
-        status, told = run(*self.words, "--schedulers", "islip,rrm")
+        status, told = run(*self.words, *OF_TRACE, "--schedulers", "islip,rrm")
         self.assertEqual((status, told.count("\n")), (1, 1))
         self.assertIn("--schedulers: the program's command `run` does not have rrm", told)
 
@@ -187,21 +210,21 @@ class Sweeps(unittest.TestCase):
         def heed_interrupt():
             signal.signal(signal.SIGINT, signal.SIG_DFL)
 
-        words = [sys.executable, *map(str, self.words), "--reports", "--cores", "2"]
+        words = [sys.executable, *map(str, self.words), "--cores", "2"]
         process = subprocess.Popen(words, stderr=subprocess.PIPE, text=True, preexec_fn=heed_interrupt)
-        # The traffic and the run of one round are done.
-        self.wait_for("2 of 4 steps")
+        # The run of one round is done.
+        self.wait_for("1 of 3 steps")
         process.send_signal(signal.SIGINT)
         told = process.communicate(timeout=300)[1]
         line = f"tools/sweep: stopped with 1 of 2 runs done; the same command goes on in {self.folder}\n"
         self.assertEqual((process.returncode, told), (130, line))
-        first = self.folder / "bursty-ports-4-load-0.5-seed-1/islip-rounds-1.report"
+        first = self.folder / TEXT.format(1, 1)
         kept = times(first)
         (self.room / "slow").unlink()
-        # The same words, and another scheduler that the program has here.
-        status, told = run(*self.words, "--reports", "--schedulers", "islip,firm")
+        # The same words, and another scheduler, whose rounds change nothing.
+        status, told = run(*self.words, "--schedulers", "islip,ideal")
         self.assertEqual((status, times(first)), (0, kept), told)
-        self.assertEqual(self.rows("points")[0]["scheduler"].tolist(), ["firm", "firm", "islip", "islip"])
+        self.assertEqual(self.rows("points")[0]["scheduler"].tolist(), ["ideal", "islip", "islip"])
 
     def wait_for(self, text):
         """Waits until Snakemake has told this."""
@@ -216,25 +239,50 @@ class Sweeps(unittest.TestCase):
         for is_old in (False, True):
             if is_old:
                 (self.room / "old").touch()
-            status, told = run(*self.words, "--rounds", "1", "--to", self.room / f"old_{is_old}")
+            status, told = run(*self.words, *OF_TRACE, "--to", self.room / f"old_{is_old}")
             self.assertEqual(status, 0, told)
             made = [line for line in (self.room / "words").read_text().splitlines() if "--slots" in line]
             (self.room / "words").unlink()
             self.assertEqual([("--alone" in line, "--workers 1" in line) for line in made], [(not is_old, is_old)])
 
     def test_profile_and_trace(self):
-        """The profile of two hosts runs a sweep of a trace, which is split into ports."""
-        example = TOP / "examples/two_inputs"
-        words = [*self.words, "--kinds", "trace", "--ports", "2", "--rounds", "2", "--trace", example / "a.pcap", example / "b.pcap"]
+        """The profile of two hosts runs a sweep of made traffic and of a trace, which is split into ports."""
+        words = [*self.words, *OF_TRACE, "--kinds", "uniform", "trace", "--journals"]
         status, told = run(*words, "--", "--profile", os.path.relpath(TOOLS / "profiles/hosts"))
         log = self.folder / "hosts.log"
         self.assertEqual(status, 0, told + (log.read_text() if log.exists() else ""))
         self.assertIn("rule run", log.read_text())
         runs, provenance = self.rows()
-        self.assertEqual((runs["kind"].tolist(), runs["ports"].tolist()), (["trace"], [2]))
+        self.assertEqual((runs["kind"].tolist(), runs["ports"].tolist()), (["trace", "uniform"], [2, 2]))
         self.assertIn("--program program --trace a.pcap b.pcap", provenance.commands[0])
+        self.check_journal(self.folder / "trace-ports-2-load-0.5-seed-1/islip-rounds-2.report")
 
 
-def times(report_file):
-    """When a report and the result beside it were written."""
-    return [report_file.with_suffix(suffix).stat().st_mtime_ns for suffix in (".report", ".json")]
+class Simulations(unittest.TestCase):
+    """Which simulations a sweep makes, by its settings."""
+
+    SETTINGS = {
+        "kinds": ["bursty", "unbalanced", "trace"], "weights": {"unbalanced": ["0.1", "0.5"]}, "burst": 9, "ports": [2], "loads": ["0.5"],
+        "schedulers": ["fifo", "islip"], "rounds": [1, 2], "seeds": [3],
+    }
+
+    def test_files(self):
+        """FIFO and the ideal switch have one number of rounds, unbalanced traffic each weight, and a trace none."""
+        found = [f"{scheduler}-rounds-{rounds}-seed-3.txt" for scheduler, rounds in (("fifo", 1), ("islip", 1), ("islip", 2))]
+        folders = ["bursty-ports-2-load-0.5-burst-9-weight-0", *(f"unbalanced-ports-2-load-0.5-burst-1-weight-{weight}" for weight in ("0.1", "0.5"))]
+        self.assertEqual(simulations.files(self.SETTINGS), [f"{folder}/{name}" for folder in folders for name in found])
+
+    def test_words(self):
+        parts = dict(kind="hot-spot", load="0.95", burst="1", weight="0.05", scheduler="firm", rounds="2")
+        told = "--scheduler firm --rounds 2 --load-ppm 950000 --burst 1 --pattern {} --weight-ppm 50000"
+        self.assertEqual(simulations.words(argparse.Namespace(**parts)), told.format("hot-spot"))
+        parts.update(kind="bursty", burst="16", weight="0")
+        self.assertIn("--burst 16 --pattern uniform", simulations.words(argparse.Namespace(**parts)))
+
+    def test_minutes(self):
+        self.assertEqual([simulations.minutes(1_000_000, ports) for ports in (1, 16, 64)], [2, 2, 3])
+
+
+def times(path):
+    """When a file was written."""
+    return path.stat().st_mtime_ns

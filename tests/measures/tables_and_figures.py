@@ -11,10 +11,12 @@ import unittest.mock
 from contextlib import redirect_stdout
 from pathlib import Path
 
-from measure import words
+from measure import simulations, words
 from measure.provenance import Provenance, commit, read_lines
 
-from .common import DATA, JOURNAL, PACKETS, QUEUES, REPORT, TOOLS, lacks, run
+from tiny_tera import simulated
+
+from .common import DATA, JOURNAL, PACKETS, QUEUES, REPORT, TOOLS, TOP, lacks, run
 
 TOLD = Provenance(("abc",), ("tools/sweep --small",), ("seeds 1-3",))
 WORDS_OF_RUN = {name: f"its {name}" for name in ("kind", "ports", "load", "scheduler", "rounds", "seed", "commit")}
@@ -67,9 +69,10 @@ def runs_of(*means, **words_of_runs):
     from measure.tables import COLUMNS
 
     common = {
-        "kind": "uniform", "ports": 16, "load": 0.5, "scheduler": "islip", "rounds": 2, "commit": "abc",
-        "mean_first_half": 2.0, "mean_second_half": 3.0, "output_queued": 0.5, "throughput": 0.5,
-        "output_queued_throughput": 0.6, **words_of_runs,
+        "kind": "uniform", "ports": 16, "load": 0.5, "burst": 1, "weight": 0.0, "scheduler": "islip", "rounds": 2, "commit": "abc",
+        "slots": 1000, "warm_up": 100, "arrived": 9000, "dropped": 0, "departed": 9000, "cell_slots": 900, "delays": 9900, "longest_delay": 40,
+        "peak": 9, "longest_wait": 38, "throughput": 0.5, "mean_waiting": 1.0, "first_half": 2.0, "second_half": 3.0, "batch_half_width": 0.25,
+        **dict.fromkeys(("p50", "p90", "p99", "p99_9", "p99_99"), 7), **words_of_runs,
     }
     rows = [{**common, "seed": seed, "mean_delay": mean} for seed, mean in enumerate(means, 1)]
     return pandas.DataFrame(rows, columns=COLUMNS)
@@ -85,16 +88,62 @@ class Tables(unittest.TestCase):
         self.assertEqual((point["mean_delay"], point["seeds"], point["runs"]), (2.0, "1-3", 3))
         self.assertAlmostEqual(point["half_width"], 4.3027 / math.sqrt(3), places=3)
         self.assertAlmostEqual(point["relative_half_width"], 4.3027 / math.sqrt(3) / 2, places=3)
-        self.assertEqual((point["growth"], point["output_queued_half_width"]), (0.5, 0.0))
+        self.assertEqual((point["growth"], point["throughput_half_width"]), (0.5, 0.0))
         # Half of the mean is the deviation: t / sqrt(n) is at most 0.1 from 387 on, where t is 1.966.
         self.assertEqual(point["seeds_for_5_percent"], "387")
 
-    def test_one_seed_has_no_interval(self):
+    def test_one_seed_has_the_interval_of_its_batches(self):
         from measure.tables import points
 
         (point,) = points(runs_of(2.0)).to_dict("records")
+        self.assertEqual((point["half_width"], point["relative_half_width"], point["seeds_for_5_percent"]), (0.25, 0.125, ""))
+        (point,) = points(runs_of(2.0, batch_half_width=math.nan)).to_dict("records")
         self.assertTrue(math.isnan(point["half_width"]))
-        self.assertEqual(point["seeds_for_5_percent"], "")
+
+    def test_marks(self):
+        """A point grows where its halves differ by more than a twentieth and by more than twice the half width; drops are told."""
+        from measure.tables import points
+
+        for halves, width, dropped, mark in (
+            ((2.0, 3.0), 0.1, 0, "grows"), ((2.0, 2.09), 0.01, 0, ""), ((2.0, 2.3), 0.2, 0, ""), ((3.0, 2.0), 0.01, 0, ""),
+            ((2.0, 2.3), 0.1, 5, "grows,drops"), ((2.0, 2.0), 0.1, 1, "drops"), ((math.nan, math.nan), math.nan, 0, ""),
+        ):
+            runs = runs_of(2.0, first_half=halves[0], second_half=halves[1], batch_half_width=width, dropped=dropped)
+            (point,) = points(runs).to_dict("records")
+            self.assertEqual(point["mark"], mark, (halves, width))
+
+    def test_waits_and_drops(self):
+        """The longest wait of all seeds stands beside its bound; where nothing was dropped, the share has one of 95 per cent."""
+        from measure.tables import dropped_at_most, points
+
+        (point,) = points(runs_of(1.0, 2.0)).to_dict("records")
+        self.assertEqual((point["longest_wait"], point["longest_wait_bound"], point["dropped_share"]), (38, "1934", 0))
+        self.assertEqual(point["dropped_at_most"], 0.00017)  # 1 - 0.05 ^ (1 / 18000).
+        self.assertAlmostEqual((1 - dropped_at_most(0, 9_000)) ** 9_000, 0.05)
+        (point,) = points(runs_of(1.0, dropped=90, scheduler="rrm")).to_dict("records")
+        self.assertEqual((point["longest_wait_bound"], point["dropped"], point["dropped_share"]), ("", 90, 0.01))
+        self.assertTrue(math.isnan(point["dropped_at_most"]))
+
+    def test_runs_are_read(self):
+        """The texts of a folder are rows of its table, by the names of their files, beside the results of a trace."""
+        from measure.tables import COLUMNS, points, read_runs
+
+        with tempfile.TemporaryDirectory() as name:
+            text = TOP / "tests/simulations/unbalanced_one_round/expected/stdout"
+            parts = {"kind": "unbalanced", "ports": 4, "load": 0.9, "burst": 1, "weight": 0.5, "scheduler": "islip", "rounds": 1, "seed": 1}
+            path = Path(name, simulations.FILE.format(**parts))
+            path.parent.mkdir()
+            path.write_bytes(text.read_bytes())
+            Path(name, "settings.json").write_text('{"commit": "abc"}')
+            result = Path(name, "trace-ports-2-load-0.5-seed-1/islip-rounds-2.json")
+            result.parent.mkdir()
+            result.write_text(json.dumps({**runs_of(2.0, kind="trace", ports=2).iloc[0].to_dict(), "arrived": None, "warm_up": None}, default=int))
+            found = read_runs(name)
+            self.assertEqual((list(found.columns), found["kind"].tolist()), (COLUMNS, ["trace", "unbalanced"]))
+            run, row = simulated.read_simulation(text), found.iloc[1]
+            self.assertEqual((row["delays"], row["departed"], row["p99_9"]), (run.delays, run.departed, run.percentiles.p99_9))
+            self.assertEqual((row["mean_delay"], row["commit"]), (round(float(run.mean_delay), 4), "abc"))
+            self.assertEqual(points(found)["runs"].tolist(), [1, 1])
 
     def test_formula(self):
         """One more than (N-1)/N * p / (2(1-p)) for uniform traffic below full load, and no value elsewhere."""
@@ -248,9 +297,10 @@ class Figures(unittest.TestCase):
             folder = Path(name)
             kinds = [runs_of(1.0, 2.0, kind=kind, load=load) for kind in ("uniform", "bursty", "hot-spot", "trace") for load in (0.2, 0.5)]
             full = [runs_of(9.0, 9.5, load=1.0, ports=ports, throughput=0.8) for ports in (2, 4)]
+            full += [runs_of(9.0, 9.5, kind="unbalanced", load=1.0, weight=weight) for weight in (0.1, 0.9)]
             write_table(folder / "points.csv", points(pandas.concat([*kinds, *full])), TOLD)
-            self.check_drawn(["delays", "throughput"], folder, ["--sweep", folder / "points.csv"])
-            for figure in ("delays", "throughput"):
+            self.check_drawn(["delays", "tails", "throughput", "weights"], folder, ["--sweep", folder / "points.csv"])
+            for figure in ("delays", "tails", "throughput", "weights"):
                 drawn = (folder / f"figures/{figure}.svg").read_text()
                 for line in TOLD.lines():
                     self.assertTrue(line in drawn, line)

@@ -18,9 +18,10 @@ LETTERS_OF_AN_INCH = 20  # In the lines under a figure.
 COLOURS = ("#0072b2", "#d55e00", "#009e73", "#cc79a7", "#56b4e9", "#e69f00")
 MARKERS = ("o", "s", "^", "D", "v", "P")
 PLAIN = StrMethodFormatter("{x:g}")  # As 0.01, and not as a power of ten.
-KINDS = ("uniform", "bursty", "diagonal", "log-diagonal", "hot-spot", "trace")  # The order of the parts.
+KINDS = ("uniform", "bursty", "diagonal", "log-diagonal", "hot-spot", "unbalanced", "trace")  # The order of the parts.
 PARTS_OF_A_ROW = 3
-BARS = "bars: 95 per cent intervals of the mean over the seeds, by Student's t"
+BARS = "bars: 95 per cent intervals of the mean over the seeds, by Student's t; hollow: queues still grow"
+WITHOUT_ROUNDS = ("fifo", "ideal")
 WINDOWS = 200  # Slots are averaged over so many windows.
 NAMES = {"u": "unicast", "m": "multicast"}
 ROOM_FOR_LEGEND = 1.3  # Above the highest point.
@@ -196,51 +197,69 @@ def load_figure(title, runs):
 
 
 def save_sweep(points, told, folder):
-    """Draws the figures of a sweep's points: `delays` where loads are below full, `throughput` under full load."""
+    """Draws the figures of a sweep's points: `delays` and `tails` where loads are below full, `throughput` under full load,
+    `weights` where unbalanced traffic has several."""
     told = told._replace(notes=(*told.notes, BARS))
-    below, full = points[points["load"] < 1], points[points["load"] == 1]
+    of_weights = points[(points["kind"] == "unbalanced") & (points["load"] == 1)]
+    below, full = points[points["load"] < 1], points[(points["load"] == 1) & (points["kind"] != "unbalanced")]
     for ports, part in below.groupby("ports"):
-        name = "delays" if below["ports"].nunique() == 1 else f"delays_{ports}_ports"
-        save(sweep_figure(part, ports), folder, name, told)
+        more = "" if below["ports"].nunique() == 1 else f"_{ports}_ports"
+        save(sweep_figure(part, ports), folder, f"delays{more}", told)
+        save(sweep_figure(part, ports, "p99_9"), folder, f"tails{more}", told)
     for kind, part in full.groupby("kind"):
         name = "throughput" if full["kind"].nunique() == 1 else f"throughput_{kind}"
-        save(throughput_figure(part, kind), folder, name, told)
+        save(throughput_figure(part, "ports", f"{kind} traffic, load 1"), folder, name, told)
+    for ports, part in of_weights.groupby("ports"):
+        name = "weights" if of_weights["ports"].nunique() == 1 else f"weights_{ports}_ports"
+        save(throughput_figure(part, "weight", f"unbalanced traffic, load 1, {ports} ports"), folder, name, told)
 
 
 def _line_name(scheduler, rounds, schedulers):
+    if scheduler in WITHOUT_ROUNDS:
+        return "output-queued (ideal)" if scheduler == "ideal" else scheduler
     name = "1 round" if rounds == 1 else f"{rounds} rounds"
-    return name if schedulers == ["islip"] else f"{scheduler}, {name}"
+    return name if set(schedulers) <= {"islip", *WITHOUT_ROUNDS} else f"{scheduler}, {name}"
 
 
-def _lines(points):
-    """For each scheduler and number of rounds its name, its style and its points, in rising order."""
+def _lines(points, across):
+    """For each scheduler and number of rounds, and each weight but on its axis, its style and its points, in rising order."""
     schedulers = sorted(points["scheduler"].unique())
-    for number, ((scheduler, rounds), part) in enumerate(points.groupby(["scheduler", "rounds"])):
+    apart = ["scheduler", "rounds", *(name for name in ("burst", "weight") if name != across and points[name].nunique() > 1)]
+    for number, (words, part) in enumerate(points.groupby(apart)):
+        name = _line_name(words[0], words[1], schedulers)
+        name += "".join(f", {word} {value:g}" for word, value in zip(apart[2:], words[2:]))
         # Where the colours begin again, each has another marker.
         marker = MARKERS[(number + number // len(COLOURS)) % len(MARKERS)]
         style = {"marker": marker, "color": COLOURS[number % len(COLOURS)]}
-        yield part, {"label": _line_name(scheduler, rounds, schedulers), "capsize": 3, "markersize": 4, **style}
+        if words[0] == "ideal":
+            style = {"marker": "x", "color": "black", "linestyle": "--"}
+        yield part.sort_values(across), {"label": name, "markersize": 4, **style}
 
 
-def _bars(half_widths):
-    """The half widths of intervals, or None where none is known, as with one seed."""
-    return None if half_widths.isna().all() else half_widths
+def _draw(axes, points, across, column, width):
+    """Draws the lines of a column over another, with the bars of its intervals where it has some."""
+    for part, style in _lines(points, across):
+        bars = None if width is None or part[width].isna().all() else part[width]
+        axes.errorbar(part[across], part[column], yerr=bars, capsize=3, **style)
+        grows = part[part["mark"].fillna("").str.contains("grows")]
+        if style["marker"] != "x":
+            axes.plot(grows[across], grows[column], style["marker"], color=style["color"], markersize=4, markerfacecolor="white", zorder=9)
 
 
-def sweep_figure(points, ports):
-    """Mean delay over offered load with its intervals, a part for each kind of traffic, beside the output-queued switch."""
+def sweep_figure(points, ports, column="mean_delay"):
+    """A delay over offered load, a part for each kind of traffic: the mean with its intervals, or a percentile."""
     kinds = [kind for kind in KINDS if kind in set(points["kind"])]
     rows = -(-len(kinds) // PARTS_OF_A_ROW)
     across = min(len(kinds), PARTS_OF_A_ROW)
     figure, parts = pyplot.subplots(
         rows, across, figsize=(5 * across, 4.7 * rows), sharey=True, squeeze=False, layout="constrained"
     )
+    is_mean = column == "mean_delay"
     for axes, kind in zip(parts.flat, kinds):
         found = points[points["kind"] == kind]
-        for part, style in _lines(found):
-            axes.errorbar(part["load"], part["mean_delay"], yerr=_bars(part["half_width"]), **style)
-        _ideal_line(axes, found, "load", "output_queued")
-        _formula_line(axes, found)
+        _draw(axes, found, "load", column, "half_width" if is_mean else None)
+        if is_mean:
+            _formula_line(axes, found)
         axes.set_title(f"{kind} traffic, {ports} ports")
         axes.set_xlabel("offered load (cells per input and slot)")
         _plain_log(axes)
@@ -250,35 +269,24 @@ def sweep_figure(points, ports):
     for axes in parts.flat[len(kinds):]:
         axes.set_visible(False)
     for row in parts:
-        row[0].set_ylabel("mean delay of a packet (slots)")
+        row[0].set_ylabel("mean delay (slots)" if is_mean else "delay of 99.9 per cent (slots)")
     return figure
-
-
-def _ideal_line(axes, points, across, name):
-    """The output-queued switch on the same packets, where it is known."""
-    ideal = points.drop_duplicates(across).dropna(subset=[name]).sort_values(across)
-    if len(ideal):
-        axes.errorbar(
-            ideal[across], ideal[name], yerr=_bars(ideal[f"{name}_half_width"]), color="black", linestyle="--",
-            marker="x", capsize=3, markersize=4, label="output-queued, same packets",
-        )
 
 
 def _formula_line(axes, points):
     known = points.drop_duplicates("load").dropna(subset=["formula"])
     if len(known):
-        # Broad and behind the others, since the curve of the same packets lies upon it.
+        # Broad and behind the others, since the curve of the same cells lies upon it.
         axes.plot(known["load"], known["formula"], color="#cccccc", linewidth=6, zorder=0, label="output-queued, formula")
 
 
-def throughput_figure(points, kind):
-    """Throughput under full load over ports with its intervals, a line for each number of rounds."""
-    figure, axes = _one(f"{kind} traffic, load 1", "ports", "throughput (cells per output and slot)")
-    for part, style in _lines(points):
-        axes.errorbar(part["ports"], part["throughput"], yerr=_bars(part["throughput_half_width"]), **style)
-    _ideal_line(axes, points, "ports", "output_queued_throughput")
-    axes.set_xscale("log", base=2)
-    ports = sorted(points["ports"].unique())
-    axes.set_xticks(ports, labels=[str(number) for number in ports])
+def throughput_figure(points, across, title):
+    """Throughput under full load over ports or weights with its intervals, a line for each scheduler and number of rounds."""
+    figure, axes = _one(title, across, "throughput (cells per output and slot)")
+    _draw(axes, points, across, "throughput", "throughput_half_width")
+    if across == "ports":
+        axes.set_xscale("log", base=2)
+        ports = sorted(points["ports"].unique())
+        axes.set_xticks(ports, labels=[str(number) for number in ports])
     axes.legend(loc="lower left")
     return figure

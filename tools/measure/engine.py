@@ -15,8 +15,9 @@ JOB = re.compile(r"    (jobid|output): (.*)")
 FINISHED = re.compile(r"Finished job (\d+)\.")
 AGAIN = re.compile(r"Trying to restart job (\d+)\.")
 FAILED = re.compile(r"Error in (?:rule|group) ")
-CAUSE = re.compile(r"(?:tools/\w+|run_result|tiny_tera): (.*)")
-COUNT = re.compile(r"run +(\d+)\b")
+CAUSE = re.compile(r"(?:tools/\w+|run_result|tiny_tera|hint): (.*)")
+COUNT = re.compile(r"(run|simulate) +(\d+)\b")
+RUNS = ("run", "simulate")  # The jobs that are counted.
 PATIENCE = 60  # Seconds in which the jobs under way may end after an interrupt.
 
 
@@ -36,7 +37,7 @@ class Progress:
     """What the lines of Snakemake tell: the runs that are to be made, those done, and the jobs that are tried again."""
 
     def __init__(self):
-        self.total = 0
+        self.counts = {}
         self.done = 0
         self.rule = None
         self.output = None
@@ -44,16 +45,21 @@ class Progress:
         self.has_failed = False
         self.causes = {}  # In the order in which they came.
 
+    @property
+    def total(self):
+        """How many runs are to be made."""
+        return sum(self.counts.values())
+
     def read(self, line):
         """Takes a line; the output of a job that failed and is tried again, else None."""
         if found := COUNT.match(line):
-            self.total = self.total or int(found[1])
+            self.counts.setdefault(found[1], int(found[2]))
         elif found := RULE.match(line):
             self.rule, self.output = found[1], None
         elif found := JOB.match(line):
             self._job(found[1], found[2])
         elif found := FINISHED.match(line):
-            self.done += self.jobs.get(found[1], (None, None))[0] == "run"
+            self.done += self.jobs.get(found[1], (None, None))[0] in RUNS
         elif FAILED.match(line):
             self.has_failed = True
         elif found := CAUSE.match(line):

@@ -2,11 +2,9 @@
 
 from collections import Counter
 
-import numpy
-
 from tiny_tera.packets import COLUMNS, STATES, read_packets
 
-__all__ = ["COLUMNS", "STATES", "Misfit", "check_run", "delay_counts", "forwarded", "offered", "output_queued", "read_packets"]
+__all__ = ["COLUMNS", "STATES", "Misfit", "check_run", "delay_counts", "forwarded", "offered", "read_packets"]
 
 
 class Misfit(ValueError):
@@ -47,16 +45,3 @@ def delay_counts(packets):
     """For each level and kind how many packets had each delay, at each of their outputs."""
     groups = forwarded(packets).groupby(["level", "kind"])
     return {(int(level), kind): Counter(part["delay"].tolist()) for (level, kind), part in groups}
-
-
-def output_queued(left):
-    """The departures that admitted packets of one cell have from an ideal switch, whose queues stand at the outputs.
-
-    An output gives out a cell in each slot in which one waits for it, the oldest first, and as in the run the cell
-    departs in the slot after. The rows are those of `forwarded`; the answer has their index.
-    """
-    ordered = left.sort_values("arrival", kind="stable")
-    number = ordered.groupby("output").cumcount()
-    # The n-th cell of an output is given out n - m slots after the m-th came, for the m that makes this latest.
-    latest = (ordered["arrival"] - number).groupby(ordered["output"]).cummax()
-    return (latest + number + 1).astype(numpy.int64).sort_index()

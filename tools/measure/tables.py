@@ -7,23 +7,37 @@ import numpy
 import pandas
 from scipy import stats
 
-from .provenance import Provenance, read_lines
-from .results import PLACES, Result
-from .words import Words, ranges
+from tiny_tera.simulated import longest_wait_bound
 
-POINT = ["kind", "ports", "load", "scheduler", "rounds"]
+from . import simulations
+from .provenance import UNKNOWN, Provenance, read_lines
+from .results import PLACES
+from .simulations import half_width
+from .words import ranges
+
+POINT = ["kind", "ports", "load", "burst", "weight", "scheduler", "rounds"]
+PERCENTILES = ["p50", "p90", "p99", "p99_9", "p99_99"]
+WHOLE = ["slots", "warm_up", "arrived", "dropped", "departed", "cell_slots", "delays", *PERCENTILES, "longest_delay", "peak", "longest_wait"]
+RATIOS = ["mean_delay", "throughput", "mean_waiting", "first_half", "second_half", "batch_half_width"]
+COLUMNS = [*POINT, "seed", "commit", *WHOLE, *RATIOS]
+NO_SHARES = {"burst": 1, "weight": 0}  # Of a trace.
 CONFIDENCE = 0.95
 HALF_WIDTH = 0.05  # The relative half width for which the seeds are counted.
 MOST_SEEDS = 100_000
-COLUMNS = [*Words._fields, *Result._fields]
+GROWTH = 0.05  # A point grows where its later delays are by more above its earlier ones, and by more than chance makes them.
+GROWS, DROPS = "grows", "drops"
 
 
 def read_runs(folder):
-    """The results of all runs of a sweep's folder, in the order of their words; ValueError where there is none."""
-    found = [json.loads(path.read_text()) for path in Path(folder).glob("*-seed-*/*.json")]
+    """The rows of all runs of a sweep's folder, in the order of their words; ValueError where there is none."""
+    settings = Path(folder, "settings.json")
+    commit = json.loads(settings.read_text())["commit"] if settings.exists() else UNKNOWN
+    found = [simulations.row(path, commit) for path in Path(folder).glob("*-weight-*/*-seed-*.txt")]
+    found += [{**NO_SHARES, **json.loads(path.read_text())} for path in Path(folder).glob("*-seed-*/*.json")]
     if not found:
         raise ValueError(f"{folder} has no results of runs")
-    return pandas.DataFrame(found, columns=COLUMNS).sort_values([*POINT, "seed"], ignore_index=True)
+    table = pandas.DataFrame(found).reindex(columns=COLUMNS).astype(dict.fromkeys(WHOLE, "Int64"))
+    return table.round(dict.fromkeys(RATIOS, PLACES)).sort_values([*POINT, "seed"], ignore_index=True)
 
 
 def write_table(path, frame, provenance):
@@ -37,20 +51,13 @@ def read_table(path):
     """A table that `write_table` wrote, and its provenance."""
     with open(path) as file:
         lines = [line[2:].rstrip("\n") for line in file if line.startswith("# ")]
-    return pandas.read_csv(path, comment="#", dtype={"seeds": str, "commit": str}), read_lines(lines)
+    return pandas.read_csv(path, comment="#", dtype={"seeds": str, "commit": str, "mark": str}), read_lines(lines)
 
 
 def provenance_of(runs, commands):
     """The provenance of the results of runs that these commands made."""
     notes = (f"seeds {ranges(runs['seed'])}", f"runs {len(runs)}")
     return Provenance(tuple(sorted(runs["commit"].unique())), tuple(commands), notes)
-
-
-def half_width(values):
-    """Half of the 95 per cent interval of the mean by Student's t; NaN for a single value."""
-    if len(values) < 2:
-        return numpy.nan
-    return stats.t.ppf((1 + CONFIDENCE) / 2, len(values) - 1) * stats.sem(values)
 
 
 def seeds_needed(values):
@@ -75,34 +82,69 @@ def formula(kind, ports, load):
     return (ports - 1) / ports * load / (2 * (1 - load)) + 1
 
 
+def dropped_at_most(dropped, arrived):
+    """Where no cell was dropped, the share that as many cells show with 95 per cent to be above that of any; else NaN."""
+    return numpy.nan if dropped or not arrived else 1 - (1 - CONFIDENCE) ** (1 / arrived)
+
+
 def points(runs):
     """For each point the means over its seeds, as independent replications, with their intervals.
 
-    `half_width` is that of the mean delay, and `growth` how much greater the mean delay is in the second
-    half of the measured slots than in the first, as a share: far from 0 where queues did not settle.
+    `half_width` is that of the mean delay, by the seeds, or of one seed by its batches. `growth` is how much greater
+    the mean delay is in the second half of the measured slots than in the first, as a share; `mark` says where that is
+    more than chance, so that queues did not settle, and where cells were dropped.
     """
     return pandas.DataFrame(_point(dict(zip(POINT, words)), group) for words, group in runs.groupby(POINT))
 
 
 def _point(words, runs):
-    mean = runs["mean_delay"].mean()
-    width = half_width(runs["mean_delay"])
-    first, second = runs["mean_first_half"].mean(), runs["mean_second_half"].mean()
-    numbers = {
-        "mean_delay": mean,
-        "half_width": width,
-        "relative_half_width": width / mean if mean else numpy.nan,
-        "growth": second / first - 1 if first else numpy.nan,
-        "output_queued": runs["output_queued"].mean(),
-        "output_queued_half_width": half_width(runs["output_queued"].dropna()),
-        "formula": formula(words["kind"], words["ports"], words["load"]),
-        "throughput": runs["throughput"].mean(),
-        "throughput_half_width": half_width(runs["throughput"]),
-        "output_queued_throughput": runs["output_queued_throughput"].mean(),
-        "output_queued_throughput_half_width": half_width(runs["output_queued_throughput"].dropna()),
+    delays = _delays(runs)
+    return {
+        **words, "runs": len(runs), "seeds": ranges(runs["seed"]), **{name: _rounded(it) for name, it in delays.items()},
+        "formula": _rounded(formula(words["kind"], words["ports"], words["load"])),
+        **{name: _rounded(runs[name].astype(float).mean()) for name in PERCENTILES},
+        "longest_delay": runs["longest_delay"].max(), **_longest(words, runs), **_dropped(runs),
+        "throughput": _rounded(runs["throughput"].mean()), "throughput_half_width": _rounded(half_width(runs["throughput"])),
+        "mean_waiting": _rounded(runs["mean_waiting"].astype(float).mean()),
+        "seeds_for_5_percent": _as_text(seeds_needed(runs["mean_delay"])), "mark": _mark(delays, runs),
     }
-    rounded = {name: round(number, PLACES) for name, number in numbers.items()}
-    needed = seeds_needed(runs["mean_delay"])
-    # As text, since a table's column of whole numbers has no place for an unknown one.
-    needed = "" if numpy.isnan(needed) else str(needed)
-    return {**words, "runs": len(runs), "seeds": ranges(runs["seed"]), **rounded, "seeds_for_5_percent": needed}
+
+
+def _rounded(number):
+    return round(float(number), PLACES)
+
+
+def _as_text(number):
+    """A whole number as text, since a table's column of them has no place for an unknown one."""
+    return "" if numpy.isnan(number) else str(number)
+
+
+def _delays(runs):
+    """The mean delay of a point with its interval, and how it grows."""
+    mean = runs["mean_delay"].mean()
+    width = half_width(runs["mean_delay"]) if len(runs) > 1 else runs["batch_half_width"].iloc[0]
+    first, second = runs["first_half"].mean(), runs["second_half"].mean()
+    return {
+        "mean_delay": mean, "half_width": width, "relative_half_width": width / mean if mean else numpy.nan,
+        "growth": second / first - 1 if first else numpy.nan,
+    }
+
+
+def _longest(words, runs):
+    """The longest wait of a point, and the longest that the laws allow, where one has a number."""
+    bound = longest_wait_bound(words["scheduler"], words["rounds"], words["ports"])
+    return {"longest_wait": runs["longest_wait"].max(), "longest_wait_bound": "" if bound is None else str(bound)}
+
+
+def _dropped(runs):
+    """The dropped cells of a point, their share, and the bound of the share where there are none; of a trace those are not known."""
+    dropped, arrived = int(runs["dropped"].sum()), int(runs["arrived"].fillna(0).sum())
+    share = dropped / arrived if arrived else numpy.nan
+    return {"dropped": dropped, "dropped_share": share, "dropped_at_most": float(f"{dropped_at_most(dropped, arrived):.2g}")}
+
+
+def _mark(delays, runs):
+    """What is to be known of a point before it is believed."""
+    chance = 2 * delays["relative_half_width"]  # By which the halves differ in one of twenty settled points.
+    grows = delays["growth"] > max(GROWTH, 0 if numpy.isnan(chance) else chance)
+    return ",".join(name for name, holds in ((GROWS, grows), (DROPS, runs["dropped"].sum() > 0)) if holds)

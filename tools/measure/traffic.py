@@ -39,11 +39,6 @@ def most_slots(ports):
     return (MAX_CELLS // 2 if ports > HALVED_ABOVE else MAX_CELLS) // ports
 
 
-def most_load(kind, ports, hot):
-    """The greatest load with which no output gets over a cell per slot in the mean."""
-    return 1 / (hot * ports + 1 - hot) if kind == "hot-spot" else 1.0
-
-
 def make_arrivals(kind, load, burst, hot, ports, slots, seed):
     """The packets that come in so many slots, in the order of slots and then of inputs.
 
