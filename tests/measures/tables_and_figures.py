@@ -194,6 +194,22 @@ class Figures(unittest.TestCase):
             for text in ("level 0, unicast", "level 3, multicast", "dropped packets", "1&gt;1:0u", "2&gt;*:3m"):
                 self.assertIn(text, drawn)
 
+    def test_distribution_of_simulations(self):
+        """Of texts with `count` lines one figure is drawn, and of others it is told."""
+        texts = [TOP / f"tests/simulations/{name}/expected/stdout" for name in ("islip_histogram", "long_delays_ideal", "fifo_histogram")]
+        with tempfile.TemporaryDirectory() as name:
+            self.check_drawn(["distribution"], Path(name), ["--simulated", *texts])
+            drawn = Path(name, "figures/distribution.svg").read_text()
+            for label in ("islip 4, uniform, load 0.9, burst 1, 4 ports", "fifo, uniform, load 0.9"):
+                self.assertIn(label, drawn)
+            without = TOP / "tests/simulations/ports_64/expected/stdout"
+            told = f"tools/plot: {without}: it has no lines `count`: simulate with --histogram\n"
+            self.assertEqual(run(TOOLS / "plot", "--simulated", without), (1, told))
+            report = Path(name, "one.report")
+            report.write_text(REPORT)
+            told = f"tools/plot: {report}: line 1: expected job with 3 fields\n"
+            self.assertEqual(run(TOOLS / "plot", "--simulated", report), (1, told))
+
     def test_file_of_the_user_beside_a_report(self):
         """PREFIX.json is the result of a run of a sweep, or nothing is said of it."""
         with tempfile.TemporaryDirectory() as name:

@@ -78,6 +78,26 @@ def delays_figure(title, counts):
     return _shares(figure, axes)
 
 
+def distribution_figure(title, runs):
+    """For each simulation the share of cells with at least each delay, with both axes logarithmic."""
+    figure, axes = _one(title, "delay of a cell (slots)", "share of cells with at least this delay")
+    for number, run in enumerate(runs):
+        delays, shares, left = [], [], run.departed
+        for delay, cells in run.count_rows:
+            delays.append(delay)
+            shares.append(left / run.departed)
+            left -= cells
+        words = run.words
+        rounds = "" if words.scheduler in WITHOUT_ROUNDS else f" {words.rounds}"
+        label = f"{words.scheduler}{rounds}, {words.pattern}, load {float(words.load):g}, burst {words.burst}, {words.ports} ports"
+        axes.step(delays, shares, where="pre", color=COLOURS[number % len(COLOURS)], label=label)
+    _plain_log(axes)
+    axes.set_xscale("log")
+    axes.xaxis.set_major_formatter(PLAIN)
+    axes.legend(fontsize=8)
+    return figure
+
+
 def _shares(figure, axes):
     _plain_log(axes)
     axes.set_xlim(left=0)
