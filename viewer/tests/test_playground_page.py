@@ -298,6 +298,11 @@ def test_playground_room(viewer):
         left, _, right, _ = page.place("crossbar")
         expect(right - left >= least and right <= width, f"{width} by {height}: {left} to {right}")
         expect(not page.run("return document.documentElement.scrollWidth > window.innerWidth"), f"{width} scrolls sideways")
+        page.run("document.querySelectorAll('details').forEach((one) => { one.open = true; })")
+        high = page.run("return Array.from(document.querySelectorAll('details button'), (one) => one.offsetHeight)")
+        expect(high and max(high) < 45, f"{width} by {height}: buttons of {high} pixels")
+        cut = page.run("return Array.from(document.querySelectorAll('.scroll')).filter((one) => one.scrollWidth > one.clientWidth).map((one) => one.innerText)")
+        expect(not cut, f"{width} by {height}: tables are cut: {cut}")
         for theme in ("light", "dark"):
             page.set("theme", theme)
             page.shoot(f"playground_{width}_{theme}")
