@@ -1,12 +1,11 @@
 -- Slots that are decided one after the other, one more at a time.
-use Rattle.std.proofs.Common.{◌≡◌, ◌∙◌, ℕ, ◌+◌, ◌*◌, ◌-◌, ◌<◌, ◌≤◌, ◌==◌, if◌then◌else◌, Bool}
+use Rattle.std.proofs.Common.{◌≡◌, ◌∙◌, ℕ, ◌+◌, ◌*◌, ◌<◌, ◌≤◌, ◌==◌, if◌then◌else◌, Bool}
 use Rattle.std.proofs.Common.{List, length, drop, slice_index_or, slice_set, ap, sym, subst, refl, inl, inr, arith}
 use Rattle.std.proofs.Common.{get_or-set_same, get_or-set_other, eq-eqb}
 use Rattle.std.specs.List.{between}
 use Rattle.std.proofs.lemmas.Bool.{cases_eq, ne_eqb}
 use Rattle.std.proofs.lemmas.Slice.{between_is, take-put_mid_below, between-put_mid}
 use Rattle.std.proofs.lemmas.Nat.{row_fits}
-use Rattle.std.proofs.lemmas.List.{length-take, length-drop}
 use borrow.Rule.Slice.PartMut.{put_mid}
 use Rattle.slot_match.specs.declared.rows.Row.{Row}
 use Rattle.pointer_state.specs.Places.{Places}
@@ -68,7 +67,3 @@ module _ (is_slot : ℕ → ℕ → ℕ → List Row → Places → Decision →
               (rw (get_or-set_other used s t u no_rounds apart) (d.each t earlier))))
         ];
       }
-
--- as many words stand there as a slot has
-pub length-of_slot : {X : Type 0} (at n : ℕ) (xs : List X) → at + n ≤ length xs → length (between at (at + n) xs) ≡ n
-length-of_slot at n xs room = omega (arith, length-take (at + n - at) (drop at xs), length-drop at xs)

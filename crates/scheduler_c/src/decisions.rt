@@ -53,7 +53,16 @@ pub fn decide_by(
     }
     let mut places = Pointers::at_tables(n, pointers);
     let scratch = &mut Scratch::new();
-    *used = decide_tested(scheduler, n, rounds, slot, rows, &mut places, scratch, feeds);
+    *used = decide_tested(
+        scheduler,
+        n,
+        rounds,
+        slot,
+        rows,
+        &mut places,
+        scratch,
+        feeds,
+    );
     places.put_tables(pointers);
     DONE
 }

@@ -1,4 +1,4 @@
-ghost use Rattle.std.specs.Prelude.{◌≡◌, ℕ, ◌+◌, ◌*◌, ◌%◌, ◌<◌, ◌≤◌, ◌↔◌, ◌⊎◌, length, IsTrue};
+ghost use Rattle.std.specs.Prelude.{◌≡◌, ℕ, ◌+◌, ◌*◌, ◌%◌, ◌<◌, ◌↔◌, ◌⊎◌, length, IsTrue};
 ghost use Rattle.slot_match.specs.Rows.{AreWithin};
 ghost use Rattle.pointer_state.specs.Places.{AreAtPorts};
 ghost use Rattle.pointer_state.specs.CallerTables.{AreInRange, tables_of};

@@ -6,7 +6,7 @@ use Rattle.pointer_state.specs.CallerTables.{tables_of}
 use Rattle.scheduler_c.specs.ManySlots.{IsDecided}
 use Rattle.scheduler_c.specs.SchedulerSteps.{IsSlotUnder}
 use Rattle.scheduler_c.proofs.Again.{places_from-tables_of}
-use Rattle.scheduler_c.proofs.ManySlots.{AreDecided-none, AreDecided-next, length-of_slot}
+use Rattle.scheduler_c.proofs.ManySlots.{AreDecided-none, AreDecided-next}
 use Rattle.scheduler_c.proofs.many_slots.decide_all.Goals as goal
 
 pub loop-s-init : goal.loop-s-init
