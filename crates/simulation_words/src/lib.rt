@@ -16,10 +16,10 @@
 //! ```
 #![tactic(auto)]
 
-mod limits;
+mod defaults;
 mod reading;
 
-pub use limits::{
+pub use defaults::{
     DEFAULT_BATCHES, DEFAULT_BURST, DEFAULT_DEPTH, DEFAULT_LOAD, DEFAULT_ROUNDS, defaults_are,
 };
 pub use reading::{SimulationWords, read_words};
