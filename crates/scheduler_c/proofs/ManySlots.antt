@@ -60,7 +60,7 @@ module _ (is_slot : ℕ → ℕ → ℕ → List Row → Places → Decision →
         last = put;
         each = λ t t_in. elim (cases_eq t s) [
           | inl same ↦ subst (λ m. IsDecided is_slot n rounds (number_of slot m) (of_slot n m rows) (tables m) (of_slot n m words)
-          (slice_index_or numbers m no_rounds) (tables (m + 1))) (sym same) here
+              (slice_index_or numbers m no_rounds) (tables (m + 1))) (sym same) here
           | inr apart ↦
               let earlier : t < s = omega arith in
               rw (kept t (omega arith)) (rw (kept (t + 1) (omega arith)) (rw (of_slot-other n t s at k feeds fs place earlier inside)

@@ -5,7 +5,9 @@ ghost use Rattle.simulated_slots.specs.Jobs.{AreSettings};
 ghost use Rattle.simulation_words.specs.Reading.{discipline_given, discipline_named, number_or, option_names, pattern_in};
 ghost use Rattle.simulation_words.specs.Reading.{settings_in, simulation_in, simulation_of, traffic_in, weight_given};
 
-use crate::defaults::{DEFAULT_BATCHES, DEFAULT_BURST, DEFAULT_DEPTH, DEFAULT_LOAD, DEFAULT_ROUNDS};
+use crate::defaults::{
+    DEFAULT_BATCHES, DEFAULT_BURST, DEFAULT_DEPTH, DEFAULT_LOAD, DEFAULT_ROUNDS,
+};
 use command_words::{OptionNames, Parts, WordsFault, number_within, parts_of};
 use made_traffic::{MAX_BURST, MILLION, Pattern, Traffic};
 use rotating_pick::{MAX_PORTS, MAX_ROUNDS};

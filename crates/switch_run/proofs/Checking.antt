@@ -120,12 +120,12 @@ module _ (c : Command) (words : CheckWords) (contents : Contents) (is : IsChecka
   too_long_end status long (check_ending.No slot reason) a = let m = means (check_ending.No slot reason) a.1 in
       absurd (long_has_none by words.file contents _ (of_file m.0) long)
   too_long_end status long (check_ending.Bad at) a = let m = means (check_ending.Bad at) a.1 in absurd (long_has_none by words.file contents _
-  (of_file m.0) long)
+      (of_file m.0) long)
   too_long_end status long check_ending.TooLong a = inl a
   too_long_end status long check_ending.ReadFault a = let m = means check_ending.ReadFault a.1 in absurd (is.reads m.0)
   too_long_end status long check_ending.OutOfMemory a = inr (out status a)
   too_long_end status long check_ending.OutFault a = let m = means check_ending.OutFault a.1 in absurd (long_has_none by words.file contents _
-  (of_file m.2.answer) long)
+      (of_file m.2.answer) long)
 
   bad_end : (status at : ℕ) → HasAnswer by words.file (Err (journal_fault.Bad at)) contents → (e : CheckEnding) → Answers c status (Checked e)
       → AnswersUnlessOut c status (Checked (check_ending.Bad at))

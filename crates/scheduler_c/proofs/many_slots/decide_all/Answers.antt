@@ -16,7 +16,7 @@ loop-s-init c = record {
   at_ports = c.requires.at_ports;
   ports = c.requires.ports;
   decided = AreDecided-none (IsSlotUnder c.args.scheduler) c.args.n c.args.rounds c.args.slot c.args.rows.now
-  (tables_of c.args.p.now) c.args.feeds.now c.args.used.now;
+      (tables_of c.args.p.now) c.args.feeds.now c.args.used.now;
 }
 
 pub loop-s-preserved : goal.loop-s-preserved
