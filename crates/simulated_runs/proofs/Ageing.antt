@@ -1,7 +1,6 @@
 -- Little's law, slot by slot.
-use Rattle.std.proofs.Common.{◌≡◌, ◌∙◌, ◌+◌, ◌-◌, ◌<◌, ◌≤◌, ap, refl, sym, subst, arith, ℕ, zero, suc, Bool, true, List, [], ◌∷◌, ◌++◌, length, map, sum}
-use Rattle.std.specs.Prelude.{All, sum_by, flat_map, nat_le, if◌then◌else◌}
-use Rattle.std.specs.List.{range_with_len}
+use Rattle.std.proofs.Common.{◌≡◌, ◌∙◌, ◌+◌, ◌-◌, ◌<◌, ◌≤◌, ap, refl, sym, arith, ℕ, Bool, true, List, [], ◌∷◌, ◌++◌, length, map, sum}
+use Rattle.std.specs.Prelude.{All, sum_by, flat_map, if◌then◌else◌}
 use Rattle.std.proofs.lemmas.List.{length-append, length-map}
 use Rattle.std.proofs.lemmas.List.Elements.{All-head, All-tail, All-weaker}
 use Rattle.std.proofs.lemmas.List.Sums.{sum-map, sum_by-append, sum_by-cons, sum_by_push}
@@ -9,7 +8,7 @@ use Rattle.std_lemmas.proofs.MappedSums.{sum_by-map}
 use Rattle.arrival_queues.specs.declared.cell.ArrivedCell.{ArrivedCell}
 use Rattle.arrival_queues.specs.Queues.{Queues, held_count}
 use Rattle.simulated_slots.specs.Jobs.{JobValue, is_measured}
-use Rattle.simulated_slots.specs.Slots.{all_entered, coming, departing, slot_of, switch_before}
+use Rattle.simulated_slots.specs.Slots.{coming, slot_of, switch_before}
 use Rattle.simulated_slots.specs.ArrivalSteps.{AllCame, where_measured}
 use Rattle.simulated_slots.proofs.TakingIn.{AllBefore}
 use Rattle.simulated_runs.specs.Numbers.{Departure, age_before, delay_of, departures, departures_in, measured, numbers_after}
@@ -35,8 +34,14 @@ ages-next t [] before = omega arith
 ages-next t (cells ∷ queues) before =
     let here = age-next t cells (All-head (AllBefore (t + 1)) cells queues before) in
     let rest = ages-next t queues (All-tail (AllBefore (t + 1)) cells queues before) in
-    omega (arith, here, rest, sum_by-cons (sum_by (age (t + 1))) cells queues, sum_by-cons (sum_by (age t)) cells queues,
-        sum_by-cons (λ (cells : List ArrivedCell). length cells) cells queues)
+    omega (
+      arith,
+      here,
+      rest,
+      sum_by-cons (sum_by (age (t + 1))) cells queues,
+      sum_by-cons (sum_by (age t)) cells queues,
+      sum_by-cons (λ (cells : List ArrivedCell). length cells) cells queues,
+    )
 
 age_before-next : (t : ℕ) (queues : Queues) → AllCame (t + 1) queues → age_before (t + 1) queues ≡ age_before t queues + held_count queues
 unfolding held_count

@@ -1,5 +1,5 @@
 -- The cells that wait in a switch, and those that leave it: when they came.
-use Rattle.std.proofs.Common.{◌≡◌, ◌∙◌, ◌+◌, ◌<◌, ap, refl, sym, subst, arith, ℕ, zero, suc, add-one, List, [], ◌∷◌, length, drop}
+use Rattle.std.proofs.Common.{◌≡◌, ◌∙◌, ◌+◌, ◌<◌, ap, refl, sym, subst, arith, ℕ, zero, suc, add-one, List, [], ◌∷◌, drop}
 use Rattle.std.specs.Prelude.{All, Option, None, Some, IfSome, filter_map, option_map, option_to_list}
 use Rattle.std.specs.List.{range_with_len}
 use Rattle.std.proofs.lemmas.List.Elements.{All-append, All-cons, All-drop, All-head, All-nil, All-set, All-tail, All-weaker}
@@ -8,7 +8,7 @@ use Rattle.made_traffic.specs.Sources.{comes}
 use Rattle.arrival_queues.specs.declared.cell.ArrivedCell.{ArrivedCell}
 use Rattle.arrival_queues.specs.Queues.{Queues, head_of, queue_at, queues_without_head}
 use Rattle.simulated_slots.specs.Jobs.{JobValue}
-use Rattle.simulated_slots.specs.Slots.{all_entered, all_left, cell_at, coming, departing, slot_of, switch_before}
+use Rattle.simulated_slots.specs.Slots.{all_left, cell_at, coming, departing, slot_of, switch_before}
 use Rattle.simulated_slots.specs.ArrivalSteps.{AllCame}
 use Rattle.simulated_slots.proofs.Serving.{head-came}
 use Rattle.simulated_slots.proofs.TakingIn.{AllBefore, AllCame-at, AllCame-entered}
@@ -73,8 +73,8 @@ module _ (job : JobValue) where
 -- the cells that leave were in the queues
 AllBefore-departing : (t : ℕ) (queues : Queues) (qs : List ℕ) → AllCame t queues → AllBefore t (departing queues qs)
 AllBefore-departing t queues [] came = All-nil (λ (c : ArrivedCell). c.arrival < t)
-AllBefore-departing t queues (q ∷ qs) came = All-append (λ (c : ArrivedCell). c.arrival < t) (option_to_list (head_of queues q)) (departing
-    (queues_without_head queues q) qs)
+AllBefore-departing t queues (q ∷ qs) came =
+    All-append (λ (c : ArrivedCell). c.arrival < t) (option_to_list (head_of queues q)) (departing (queues_without_head queues q) qs)
     (one (head_of queues q) refl) (AllBefore-departing t (queues_without_head queues q) qs (AllCame-without t queues q came))
   where
     one : (o : Option ArrivedCell) → head_of queues q ≡ o → AllBefore t (option_to_list o)
@@ -82,5 +82,5 @@ AllBefore-departing t queues (q ∷ qs) came = All-append (λ (c : ArrivedCell).
     one (Some c) is = All-cons (λ (c : ArrivedCell). c.arrival < t) c [] (head-came t queues q c came is) (All-nil (λ (c : ArrivedCell). c.arrival < t))
 
 pub came-departed : (job : JobValue) (t : ℕ) → AllBefore (t + 1) (slot_of job t).departed
-came-departed job t = subst (AllBefore (t + 1)) (sym (departed-is job t)) (AllBefore-departing (t + 1) (slot_of job t).filled (served_in job t)
-    (came-filled job t))
+came-departed job t = subst (AllBefore (t + 1)) (sym (departed-is job t))
+    (AllBefore-departing (t + 1) (slot_of job t).filled (served_in job t) (came-filled job t))

@@ -1,19 +1,18 @@
 -- Conservation of cells, slot by slot.
-use Rattle.std.proofs.Common.{◌≡◌, ◌∙◌, ◌+◌, ◌-◌, ◌*◌, ◌/◌, ◌%◌, ◌<◌, ◌≤◌, add-one, ap, refl, sym, subst, arith, ℕ, zero, suc, Bool, true, false}
-use Rattle.std.proofs.Common.{List, [], ◌∷◌, ◌++◌, length, get_or, set, length-set, inl, inr}
-use Rattle.std.specs.Prelude.{All, Option, None, Some, IfSome, sum_by, filter_map, option_map, is_some, if◌then◌else◌, ◌&&◌, flat_map, map}
+use Rattle.std.proofs.Common.{◌≡◌, ◌∙◌, ◌+◌, ◌*◌, ◌%◌, ◌<◌, ◌≤◌, add-one, ap, refl, sym, subst, arith, ℕ, zero, suc, Bool, true, false}
+use Rattle.std.proofs.Common.{List, [], ◌∷◌, ◌++◌, length, length-set, inl, inr}
+use Rattle.std.specs.Prelude.{All, Option, None, Some, IfSome, sum_by, option_map, if◌then◌else◌, flat_map}
 use Rattle.std.specs.List.{range_with_len}
 use Rattle.std.proofs.Math.Nat.{div-lt_iff_lt-mul, mod-lt, mul-lt-mul_of_pos_right}
 use Rattle.std.proofs.lemmas.Bool.{cases_Bool}
 use Rattle.std.proofs.lemmas.List.{length-append, length-map, length-replicate, length_push}
-use Rattle.std.proofs.lemmas.List.Elements.{All-cons, All-head, All-nil, All-tail}
-use Rattle.std.proofs.lemmas.List.FromFn.{get_or-range_with_len, length-range_with_len}
+use Rattle.std.proofs.lemmas.List.Elements.{All-head, All-tail}
 use Rattle.std.proofs.lemmas.List.Sums.{sum_by-append, sum_by-cons}
 use Rattle.std.proofs.lemmas.Nat.{mul-add-lt}
 use Rattle.made_traffic.specs.declared.pattern.Pattern.{Pattern}
 use Rattle.made_traffic.specs.declared.pattern.Pattern.TheVariants.{Uniform, Diagonal, LogDiagonal, HotSpot, Unbalanced}
-use Rattle.made_traffic.specs.Patterns.{any_output, output_by, weighed_output}
-use Rattle.made_traffic.specs.Sources.{SourceState, TrafficValue, IsTraffic, begins, begun, comes, goes_on, next_state, state_before}
+use Rattle.made_traffic.specs.Patterns.{any_output, output_by}
+use Rattle.made_traffic.specs.Sources.{SourceState, TrafficValue, begins, begun, comes, next_state, state_before}
 use Rattle.made_traffic.specs.Streams.{half, low_half}
 use Rattle.arrival_queues.specs.declared.cell.ArrivedCell.{ArrivedCell}
 use Rattle.arrival_queues.specs.declared.queueing.Queueing.{Queueing}

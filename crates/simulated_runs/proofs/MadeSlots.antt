@@ -1,22 +1,16 @@
 -- A slot of a job, by what is made in it.
-use Rattle.std.proofs.Common.{◌≡◌, ◌∙◌, ◌+◌, ap, add-one, refl, arith, ℕ, List, [], ◌∷◌, ◌++◌, length, map, take, drop, append-nil, subst, sym}
+use Rattle.std.proofs.Common.{◌≡◌, ◌∙◌, ◌+◌, ap, add-one, refl, arith, ℕ, List, [], ◌∷◌, ◌++◌, length, map, take, drop, append-nil, sym}
 use Rattle.std.specs.Prelude.{Option, None, Some, filter_map, slice_get}
 use Rattle.std.specs.List.{range_with_len}
 use Rattle.std.proofs.lemmas.List.{drop_all, take_all}
 use Rattle.std.proofs.lemmas.List.FromFn.{get_or-map-range_with_len, length-map-range_with_len}
 use Rattle.std.proofs.lemmas.Option.{get_or_from_slice_get, slice_get_within}
 use Rattle.std.proofs.lemmas.Simd.{map-map}
-use Rattle.slot_match.specs.declared.matching.Fed.{Fed}
-use Rattle.islip_rounds.specs.declared.numbers.RoundsUsed.{RoundsUsed}
-use Rattle.pointer_state.specs.Places.{Places}
-use Rattle.eslip_rounds.specs.Slots.{Decision}
 use Rattle.made_traffic.specs.Sources.{SourceValue, next_source, source_before, state_before}
-use Rattle.arrival_queues.specs.declared.cell.ArrivedCell.{ArrivedCell}
-use Rattle.arrival_queues.specs.Queues.{Queues, rows_of}
-use Rattle.simulated_slots.specs.declared.discipline.Discipline.{Discipline}
+use Rattle.arrival_queues.specs.Queues.{rows_of}
 use Rattle.simulated_slots.specs.Jobs.{JobValue}
-use Rattle.simulated_slots.specs.Slots.{Switch, all_entered, all_left, cell_at, coming, decision_by}
-use Rattle.simulated_slots.specs.Slots.{departing, dropped, lengths, served_queues, slot_from, slot_of, switch_before}
+use Rattle.simulated_slots.specs.Slots.{all_entered, all_left, cell_at, coming, decision_by, departing, dropped, lengths}
+use Rattle.simulated_slots.specs.Slots.{served_queues, slot_from, slot_of, switch_before}
 use Rattle.simulated_slots.specs.ArrivalSteps.{AreSources, cell_from, cells_from}
 use Rattle.simulated_runs.specs.SimulationSteps.{sources_before}
 
@@ -106,10 +100,13 @@ module _ (job : JobValue) (t : ℕ) where
       ∙ filter_map-map source_of (cell_from t) (range_with_len 0 job.traffic.ports)
 
   -- and the sources after the slot
-  pub sources-next : map next_source (take job.traffic.ports (sources_before job t)) ++ drop job.traffic.ports
-  (sources_before job t) ≡ sources_before job (t + 1)
+  pub sources-next : map next_source (take job.traffic.ports (sources_before job t)) ++ drop job.traffic.ports (sources_before job t)
+      ≡ sources_before job (t + 1)
   unfolding state_before
-  sources-next = rw (take_all job.traffic.ports (sources_before job t) (omega (arith, count-is)), drop_all job.traffic.ports
-  (sources_before job t) (omega (arith, count-is)),
-      append-nil (map next_source (sources_before job t)), add-one)
+  sources-next = rw (
+    take_all job.traffic.ports (sources_before job t) (omega (arith, count-is)),
+    drop_all job.traffic.ports (sources_before job t) (omega (arith, count-is)),
+    append-nil (map next_source (sources_before job t)),
+    add-one,
+  )
       (map-map next_source source_of (range_with_len 0 job.traffic.ports))

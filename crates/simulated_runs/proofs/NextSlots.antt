@@ -1,11 +1,10 @@
 -- A simulation with one slot more, from what the calls of the slot say.
-use Rattle.std.proofs.Common.{◌≡◌, ◌∙◌, ◌+◌, ◌<◌, ◌≤◌, ◌==◌, ap, arith, subst, refl, sym, ℕ, false, List, [], ◌∷◌, ◌++◌}
+use Rattle.std.proofs.Common.{◌≡◌, ◌+◌, ◌≤◌, subst, ℕ, false, List, [], ◌∷◌, ◌++◌}
 use Rattle.islip_rounds.specs.declared.numbers.RoundsUsed.{RoundsUsed}
 use Rattle.service_bound.specs.Waits.{NotedSlot}
 use Rattle.service_bound.specs.MeterSteps.{HasNoted}
-use Rattle.eslip_rounds.specs.Slots.{Decision}
 use Rattle.slot_match.specs.declared.rows.Row.{Row}
-use Rattle.arrival_queues.specs.Queues.{Queues, held_count, rows_of}
+use Rattle.arrival_queues.specs.Queues.{Queues, rows_of}
 use Rattle.simulated_slots.specs.Jobs.{JobValue, is_ideal}
 use Rattle.simulated_slots.specs.Slots.{decision_by, slot_of}
 use Rattle.simulated_slots.specs.ArbiterSteps.{ArbiterValue}

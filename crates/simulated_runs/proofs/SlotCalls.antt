@@ -1,5 +1,5 @@
 -- What the calls of a slot say, in the terms of the job.
-use Rattle.std.proofs.Common.{◌≡◌, ◌∙◌, ◌+◌, ◌*◌, ◌≤◌, ap, subst, refl, sym, ℕ, Bool, true, false, List, [], ◌∷◌, inl, inr}
+use Rattle.std.proofs.Common.{◌≡◌, ◌∙◌, ◌+◌, ◌*◌, ap, subst, refl, sym, ℕ, Bool, true, false, List, [], ◌∷◌, inl, inr}
 use Rattle.std.specs.Prelude.{Option, None, Some, is_some, if◌then◌else◌}
 use Rattle.std.proofs.lemmas.Bool.{cases_Bool}
 use Rattle.rotating_pick.specs.declared.limits.TheConstants.{MAX_PORTS}
@@ -11,7 +11,7 @@ use Rattle.simulated_slots.specs.declared.arrivals.Arrivals.{Arrivals}
 use Rattle.simulated_slots.specs.declared.departed.Departed.{Departed}
 use Rattle.simulated_slots.specs.declared.discipline.Discipline.{Discipline}
 use Rattle.simulated_slots.specs.Jobs.{JobValue, batch_at, batch_of, is_measured, queueing_of}
-use Rattle.simulated_slots.specs.Slots.{all_entered, all_left, coming, departing, served_queues, slot_of}
+use Rattle.simulated_slots.specs.Slots.{all_entered, all_left, coming, departing, slot_of}
 use Rattle.simulated_slots.specs.ArrivalSteps.{AllCame, AreArrivals, AreSources, HaveCome, HaveTold}
 use Rattle.simulated_slots.specs.DepartureSteps.{AreDeparted, HaveDeparted, HaveServed}
 use Rattle.simulated_runs.specs.SimulationSteps.{HasTakenIn, sources_before}
@@ -51,8 +51,8 @@ pub record IsFilled (job : JobValue) (t : ℕ) (now : List SourceValue) (old mid
   pub queueing : mid.queues.queueing ≡ queueing_of job.settings.discipline
 
 filled-at : (job : JobValue) (t : ℕ) (now : List SourceValue) (old mid : Arrivals) → HasTakenIn job t old
-    → HaveTold (is_measured job t) t job.traffic.ports (sources_before job t) now old mid → AreArrivals job.traffic.ports
-    (MAX_PORTS * t + job.traffic.ports) mid
+    → HaveTold (is_measured job t) t job.traffic.ports (sources_before job t) now old mid
+    → AreArrivals job.traffic.ports (MAX_PORTS * t + job.traffic.ports) mid
     → IsFilled job t now old mid
 filled-at job t now old mid has told sizes =
     let come = subst (λ (cells : List ArrivedCell). HaveCome (is_measured job t) cells old mid) (cells-are job t) told.come in

@@ -1,7 +1,7 @@
 -- A simulation after one slot more.
-use Rattle.std.proofs.Common.{◌≡◌, ◌≢◌, ◌∙◌, ◌+◌, ◌-◌, ◌*◌, ◌^◌, ◌<◌, ◌≤◌, ◌==◌, ap, subst, refl, sym, arith, ℕ, Bool, true, false, max}
-use Rattle.std.proofs.Common.{List, [], ◌∷◌, ◌++◌, length, map, append-nil, inl, inr}
-use Rattle.std.specs.Prelude.{Option, None, Some, flat_map, sum_by, nat_le, if◌then◌else◌}
+use Rattle.std.proofs.Common.{◌≡◌, ◌∙◌, ◌+◌, ◌*◌, ◌^◌, ◌<◌, ◌≤◌, ◌==◌, ap, subst, refl, sym, arith, ℕ, Bool, true, false, max}
+use Rattle.std.proofs.Common.{List, [], ◌∷◌, ◌++◌, map, append-nil, inl, inr}
+use Rattle.std.specs.Prelude.{Option, None, Some, flat_map, sum_by, if◌then◌else◌}
 use Rattle.std.specs.List.{range_with_len}
 use Rattle.std.proofs.lemmas.Bool.{cases_eq, eq-eqb, ne_eqb}
 use Rattle.std.proofs.lemmas.List.Concat.{flat_map-append}
@@ -23,19 +23,19 @@ use Rattle.simulated_slots.specs.declared.arrivals.Arrivals.{Arrivals}
 use Rattle.simulated_slots.specs.declared.departed.Departed.{Departed}
 use Rattle.simulated_slots.specs.declared.discipline.Discipline.{Discipline}
 use Rattle.simulated_slots.specs.Jobs.{JobValue, batch_at, batch_of, is_ideal, is_measured, queueing_of}
-use Rattle.simulated_slots.specs.Slots.{all_entered, all_left, coming, decision_by, departing, dropped, lengths, served_queues, slot_of, switch_before}
+use Rattle.simulated_slots.specs.Slots.{all_entered, coming, decision_by, dropped, lengths, served_queues, slot_of, switch_before}
 use Rattle.simulated_slots.specs.ArbiterSteps.{ArbiterValue}
 use Rattle.simulated_slots.specs.ArrivalSteps.{AllCame, AreArrivals, HaveCome, where_measured}
 use Rattle.simulated_slots.specs.DepartureSteps.{AreDeparted, HaveDeparted, delay_in, where_batched}
-use Rattle.simulated_slots.specs.TableSteps.{BatchDelay, HasBatched, HasCounted}
+use Rattle.simulated_slots.specs.TableSteps.{HasBatched, HasCounted}
 use Rattle.simulated_runs.specs.declared.numbers.WaitingNumbers.{WaitingNumbers}
 use Rattle.simulated_runs.specs.declared.slot_counts.SlotCounts.{SlotCounts}
-use Rattle.simulated_runs.specs.Numbers.{Departure, arrivals, batch_delays, delay_of, departed_cells, departures}
-use Rattle.simulated_runs.specs.Numbers.{departures_in, drops, inputs, measured, noted_in, outputs, waiting_before}
-use Rattle.simulated_runs.specs.SimulationSteps.{HasCountedDeparted, HasDecided, HasSummed, HasTakenIn}
+use Rattle.simulated_runs.specs.Numbers.{Departure, arrivals, delay_of, departed_cells, departures, departures_in, drops, inputs}
+use Rattle.simulated_runs.specs.Numbers.{measured, noted_in, outputs, waiting_before}
+use Rattle.simulated_runs.specs.SimulationSteps.{HasCountedDeparted, HasDecided, HasSummed, HasTakenIn, batch_delays}
 use Rattle.simulated_runs.specs.SlotSteps.{begun, ended, filled}
-use Rattle.simulated_runs.proofs.MadeSlots.{after-is, came-is, decision-is, departed-is, dropped-is, filled-is, left-is, lengths-is, places-is, served_in}
-use Rattle.simulated_runs.proofs.MeasuredSlots.{flat_map-measured, map_flat_map-measured, sum_by-measured}
+use Rattle.simulated_runs.proofs.MadeSlots.{after-is, came-is, decision-is, dropped-is, filled-is, lengths-is, places-is, served_in}
+use Rattle.simulated_runs.proofs.MeasuredSlots.{map_flat_map-measured, sum_by-measured}
 
 greatest-append : (xs ys : List ℕ) → greatest (xs ++ ys) ≡ max (greatest xs) (greatest ys)
 greatest-append [] ys = omega arith
@@ -116,7 +116,7 @@ pub HasDecided-more : (job : JobValue) (t : ℕ) (old new : ArbiterValue) (queue
     → record { matched = new.matched; numbers = used; places = new.places } ≡ (slot_of job t).decision
     → new.meter.count ≤ old.meter.count + 1
     → (is_ideal old.discipline ≡ false → (slots : List NotedSlot) → HasNoted old.meter slots
-      → HasNoted new.meter (slots ++ record { rows = rows_of queues; matched = new.matched } ∷ []))
+    → HasNoted new.meter (slots ++ record { rows = rows_of queues; matched = new.matched } ∷ []))
     → HasDecided job (t + 1) new
 HasDecided-more job t old new queues used has same kept decided count noted = record {
   discipline = kept.0 ∙ has.discipline;
@@ -125,8 +125,8 @@ HasDecided-more job t old new queues used has same kept decided count noted = re
   ports = kept.2 ∙ has.ports;
   few = omega (arith, count, has.few);
   noted = λ scheduled. subst (HasNoted new.meter)
-      (ap (λ (slot : NotedSlot). map (noted_in job) (range_with_len 0 t) ++ slot ∷ []) noted_same ∙ sym (map-range_with_len_more
-      (noted_in job) 0 t t (omega arith)))
+      (ap (λ (slot : NotedSlot). map (noted_in job) (range_with_len 0 t) ++ slot ∷ []) noted_same
+      ∙ sym (map-range_with_len_more (noted_in job) 0 t t (omega arith)))
       (noted (ap is_ideal has.discipline ∙ scheduled) (map (noted_in job) (range_with_len 0 t)) (has.noted scheduled));
 }
   where
@@ -236,17 +236,17 @@ module _ (job : JobValue) (t : ℕ) (counts : SlotCounts) (waiting : WaitingNumb
   HasSummed-more has waits fills rests few uses few_rounds few_pairs = let last : held ≡ greatest (held_in job t ∷ []) = omega (arith, fills) in record {
     most = ap (λ (n : ℕ). max n held) has.most
         ∙ (ap (λ (n : ℕ). max (greatest (map (held_in job) (range_with_len 0 t))) n) last
-        ∙ (sym (greatest-append (map (held_in job) (range_with_len 0 t)) (held_in job t ∷ [])) ∙ ap greatest (sym (map-range_with_len_more
-        (held_in job) 0 t t (omega arith)))));
+        ∙ (sym (greatest-append (map (held_in job) (range_with_len 0 t)) (held_in job t ∷ []))
+        ∙ ap greatest (sym (map-range_with_len_more (held_in job) 0 t t (omega arith)))));
     before = before-more job.settings.warm_up has.before waits;
     cell_slots = ap (λ (n : ℕ). n + (if is_measured job t then rest else 0)) has.cell_slots
         ∙ (ap (λ (n : ℕ). sum_by (rest_in job) (measured job t) + (if is_measured job t then n else 0)) rests ∙ sym (sum_by-measured (rest_in job) job t));
     rounds_used = ap (λ (n : ℕ). n + (if is_measured job t then used.used else 0)) has.rounds_used
-        ∙ (ap (λ (u : RoundsUsed). sum_by (used_in job) (measured job t) + (if is_measured job t then u.used else 0)) uses ∙ sym (sum_by-measured
-        (used_in job) job t));
+        ∙ (ap (λ (u : RoundsUsed). sum_by (used_in job) (measured job t) + (if is_measured job t then u.used else 0)) uses
+        ∙ sym (sum_by-measured (used_in job) job t));
     first_pairs = ap (λ (n : ℕ). n + (if is_measured job t then used.first else 0)) has.first_pairs
-        ∙ (ap (λ (u : RoundsUsed). sum_by (first_in job) (measured job t) + (if is_measured job t then u.first else 0)) uses ∙ sym
-        (sum_by-measured (first_in job) job t));
+        ∙ (ap (λ (u : RoundsUsed). sum_by (first_in job) (measured job t) + (if is_measured job t then u.first else 0)) uses
+        ∙ sym (sum_by-measured (first_in job) job t));
     few_cells = omega (arith, has.few_cells, part_within (is_measured job t) rest MAX_CELLS few);
     few_rounds = omega (arith, has.few_rounds, few_rounds);
     few_pairs = omega (arith, has.few_pairs, few_pairs);

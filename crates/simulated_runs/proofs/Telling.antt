@@ -1,22 +1,25 @@
 -- The numbers of a simulation, from what was counted.
-use Rattle.std.proofs.Common.{◌≡◌, ◌∙◌, ◌+◌, ◌≤◌, ap, arith, refl, sym, ℕ, List, [], ◌∷◌, ◌++◌, length, map, sum}
-use Rattle.std.specs.Prelude.{Option, None, Some, filter_map, flat_map, option_to_list, sum_by}
+use Rattle.std.proofs.Common.{◌≡◌, ◌∙◌, ◌+◌, ◌<◌, ◌≤◌, ◌==◌, ap, arith, refl, sym, ℕ, List, [], ◌∷◌, ◌++◌, length, map, slice_index, sum}
+use Rattle.std.specs.Prelude.{Option, None, Some, filter_map, flat_map, option_to_list, sum_by, if◌then◌else◌}
 use Rattle.std.specs.List.{range_with_len}
 use Rattle.std.proofs.lemmas.List.{length-map}
 use Rattle.std.proofs.lemmas.List.Elements.{filter_map-append}
 use Rattle.std.proofs.lemmas.List.FromFn.{map-range_with_len_more}
+use Rattle.std_lemmas.proofs.MappedSums.{count_map, sum_by-map}
 use Rattle.std_lemmas.proofs.Ranges.{range_more}
 use Rattle.service_bound.specs.Waits.{greatest}
 use Rattle.arrival_queues.specs.Queues.{held_count}
 use Rattle.delay_counts.specs.CountSteps.{place_count}
 use Rattle.delay_counts.specs.Delays.{counts_of, greatest as longest_of, percentile}
-use Rattle.simulated_slots.specs.Jobs.{JobValue}
+use Rattle.simulated_slots.specs.Jobs.{JobValue, batch_of}
+use Rattle.simulated_slots.specs.TableSteps.{BatchDelay}
 use Rattle.simulated_slots.specs.Slots.{slot_of}
 use Rattle.simulated_slots.specs.declared.arrivals.Arrivals.{Arrivals}
 use Rattle.simulated_slots.specs.declared.departed.Departed.{Departed}
-use Rattle.simulated_runs.specs.Numbers.{NumbersValue, arrivals, batch_numbers, delay_of, departures, drops}
-use Rattle.simulated_runs.specs.Numbers.{inputs, longest_wait_in, measured, numbers_after, port_of, shares, waiting_before}
-use Rattle.simulated_runs.specs.SimulationSteps.{HasCountedDeparted, HasTakenIn}
+use Rattle.simulated_runs.specs.declared.numbers.BatchNumbers.{BatchNumbers}
+use Rattle.simulated_runs.specs.Numbers.{Departure, NumbersValue, arrivals, batch_numbers, delay_of, departures, drops, longest_wait_in, measured}
+use Rattle.simulated_runs.specs.Numbers.{numbers_after, port_of, shares, waiting_before}
+use Rattle.simulated_runs.specs.SimulationSteps.{HasCountedDeparted, HasTakenIn, batch_delays}
 
 -- each of the numbers is that of the first t slots
 pub record AreTold (job : JobValue) (t : ℕ) (n : NumbersValue) : Type 0 where
@@ -91,3 +94,18 @@ pub list-next : {X : Type 0} (f : ℕ → X) (k : ℕ) (old new : List X) (x : X
 list-next {X} f k old new x pushed first next =
     pushed ∙ (ap (λ (xs : List X). xs ++ x ∷ []) first ∙ (ap (λ (y : X). map f (range_with_len 0 k) ++ y ∷ []) next
     ∙ sym (map-range_with_len_more f 0 k k (omega arith))))
+
+-- a departure's delay with its batch
+abbrev noted_of : JobValue → Departure → BatchDelay
+noted_of job d = record { batch = batch_of job d.slot; delay = delay_of d }
+
+-- the numbers of a batch, as they were read from what was counted
+pub batch-is : (job : JobValue) (t b : ℕ) (departed : Departed) → HasCountedDeparted job t departed → (n : BatchNumbers)
+    → b < length departed.batches.delays → b < length departed.batches.departed.counts → n.departed ≡ slice_index departed.batches.departed.counts b
+    → n.delays ≡ slice_index departed.batches.delays b → n ≡ batch_numbers job t b
+batch-is job t b departed has n inside counted count sum =
+    let counts = count ∙ (has.batches.departed.counts b counted ∙ (count_map (λ (batch : ℕ). batch == b) (λ (d : BatchDelay). d.batch) (batch_delays job t)
+    ∙ count_map (λ (d : BatchDelay). d.batch == b) (noted_of job) (departures job t))) in
+    let sums = sum ∙ (has.batches.delays b inside
+    ∙ sum_by-map (λ (d : BatchDelay). if d.batch == b then d.delay else 0) (noted_of job) (departures job t)) in
+    λ i. record { departed = counts i; delays = sums i }

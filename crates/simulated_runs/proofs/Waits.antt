@@ -1,13 +1,13 @@
 -- For how long cells have waited.
-use Rattle.std.proofs.Common.{◌≡◌, ◌∙◌, ◌+◌, ◌-◌, ◌*◌, ◌<◌, ◌≤◌, ap, sym, subst, refl, arith, ℕ, suc, List, [], ◌∷◌, length}
+use Rattle.std.proofs.Common.{◌≡◌, ◌∙◌, ◌+◌, ◌-◌, ◌*◌, ◌<◌, arith, ℕ, suc, List, [], ◌∷◌, length}
 use Rattle.std.proofs.Math.Nat.{mul_comm}
 use Rattle.std.proofs.lemmas.List.Sums.{sum_by-cons}
 use Rattle.std.specs.Prelude.{All, sum_by}
 use Rattle.arrival_queues.specs.declared.cell.ArrivedCell.{ArrivedCell}
 use Rattle.arrival_queues.specs.Queues.{Queues, held_count, sum_of_arrivals}
 use Rattle.simulated_slots.specs.ArrivalSteps.{AllCame}
-use Rattle.simulated_runs.specs.Numbers.{age_before}
 use Rattle.simulated_slots.proofs.TakingIn.{AllBefore}
+use Rattle.simulated_runs.specs.Numbers.{age_before}
 
 abbrev pub age : ℕ → ArrivedCell → ℕ
 age t cell = t - cell.arrival
@@ -28,8 +28,8 @@ queue_more t a b ages arrivals own count one rest = omega (arith, one, rest)
 age_of_queue : (t : ℕ) (cells : List ArrivedCell) → AllBefore t cells → sum_by (age t) cells + sum_by arrival cells ≡ t * length cells
 age_of_queue t [] all = omega arith
 age_of_queue t (x ∷ xs) all =
-    rw (sum_by-cons (age t) x xs, sum_by-cons arrival x xs, length_cons x xs) (cell_more t x.arrival (sum_by (age t) xs) (sum_by arrival xs)
-    (length xs) (all 0 x (omega arith))
+    rw (sum_by-cons (age t) x xs, sum_by-cons arrival x xs, length_cons x xs)
+    (cell_more t x.arrival (sum_by (age t) xs) (sum_by arrival xs) (length xs) (all 0 x (omega arith))
     (age_of_queue t xs (λ k d inside. all (suc k) d (omega (arith, inside)))))
 
 age_of_queues : (t : ℕ) (queues : List (List ArrivedCell)) → All (AllBefore t) queues

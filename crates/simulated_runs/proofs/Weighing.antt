@@ -1,14 +1,14 @@
 -- What the cells of queues weigh in all, where each cell has a weight: after a slot's cells came, and after some left.
-use Rattle.std.proofs.Common.{◌≡◌, ◌∙◌, ◌+◌, ◌<◌, ◌≤◌, ap, refl, sym, arith, ℕ, Bool, true, false, List, [], ◌∷◌, ◌++◌, length, drop, inl, inr, subst}
-use Rattle.std.specs.Prelude.{All, Option, None, Some, sum_by, slice_get, option_to_list, nat_lt}
+use Rattle.std.proofs.Common.{◌≡◌, ◌∙◌, ◌+◌, ◌<◌, ap, refl, arith, ℕ, List, [], ◌∷◌, ◌++◌, length, drop, inl, inr}
+use Rattle.std.specs.Prelude.{All, sum_by, slice_get, option_to_list}
 use Rattle.std.proofs.lemmas.Bool.{cases_Bool, cases_lt}
 use Rattle.std.proofs.lemmas.List.Elements.{All-head, All-tail}
-use Rattle.std.proofs.lemmas.List.Sums.{sum_by-append, sum_by-cons, sum_by-set}
+use Rattle.std.proofs.lemmas.List.Sums.{sum_by-append, sum_by-set}
 use Rattle.std.proofs.Math.ListN.{get_or-eq_default}
 use Rattle.std.proofs.lemmas.List.{set_past}
 use Rattle.arrival_queues.specs.declared.cell.ArrivedCell.{ArrivedCell}
 use Rattle.arrival_queues.specs.Queues.{Queues, has_room, head_of, queue_at, queue_entered, queue_for, queues_where, queues_with, queues_without_head}
-use Rattle.simulated_slots.specs.Slots.{all_entered, all_left, departing, dropped, dropped_one}
+use Rattle.simulated_slots.specs.Slots.{all_entered, all_left, departing, dropped_one}
 
 -- f weighs the cells of a queue, each as w says
 module _ (f : List ArrivedCell → ℕ) (w : ArrivedCell → ℕ) (nil : f [] ≡ 0) (cons : (c : ArrivedCell) (cs : List ArrivedCell) → f (c ∷ cs) ≡ w c + f cs)
@@ -31,8 +31,11 @@ module _ (f : List ArrivedCell → ℕ) (w : ArrivedCell → ℕ) (nil : f [] �
   unfolding queues_without_head
   weight-without queues q = elim (cases_lt q (length queues.cells)) [
     | inl inside ↦ omega (arith, weight-where queues q (drop 1 (queue_at queues q)) inside, rest-is (queue_at queues q))
-    | inr outside ↦ omega (arith, ap (λ (cs : List ArrivedCell). sum_by w (option_to_list (slice_get cs 0))) (get_or-eq_default queues.cells [] outside),
-        ap (sum_by f) (set_past queues.cells q (drop 1 (queue_at queues q)) outside))
+    | inr outside ↦ omega (
+      arith,
+      ap (λ (cs : List ArrivedCell). sum_by w (option_to_list (slice_get cs 0))) (get_or-eq_default queues.cells [] outside),
+      ap (sum_by f) (set_past queues.cells q (drop 1 (queue_at queues q)) outside),
+    )
   ]
 
   -- some leave, one after the other
@@ -48,8 +51,11 @@ module _ (f : List ArrivedCell → ℕ) (w : ArrivedCell → ℕ) (nil : f [] �
       → weight (queues_with queues c) + sum_by w (dropped_one queues c) ≡ weight queues + w c
   unfolding queues_with
   weight-with queues c inside = elim (cases_Bool (has_room queues c)) [
-    | inl room ↦ rw room (omega (arith, weight-where queues (queue_for queues c.input c.output) (queue_entered queues c ++ c ∷ []) inside, push
-    (queue_entered queues c) c))
+    | inl room ↦ rw room (omega (
+      arith,
+      weight-where queues (queue_for queues c.input c.output) (queue_entered queues c ++ c ∷ []) inside,
+      push (queue_entered queues c) c,
+    ))
     | inr none ↦ rw none (omega arith)
   ]
 

@@ -1,6 +1,5 @@
 pub mod Numbers
 pub mod Faults
-pub mod Simulations
 pub mod SlotSteps
 pub mod SimulationSteps
 pub mod Laws

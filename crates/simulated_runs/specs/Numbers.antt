@@ -1,17 +1,16 @@
 -- The numbers of a simulation: what is counted of its slots. A cell departs in the slot after the one that serves it.
-use Rattle.std.specs.Prelude.{ℕ, ◌+◌, ◌-◌, ◌*◌, ◌==◌, max, List, [], ◌∷◌, length, map, flat_map, sum, sum_by, count_by, if◌then◌else◌}
+use Rattle.std.specs.Prelude.{ℕ, ◌+◌, ◌-◌, ◌==◌, List, [], ◌∷◌, length, map, flat_map, sum, sum_by, count_by, if◌then◌else◌}
 use Rattle.std.specs.List.{range_with_len}
 use Rattle.service_bound.specs.Waits.{NotedSlot, greatest, longest_wait}
 use Rattle.arrival_queues.specs.declared.cell.ArrivedCell.{ArrivedCell}
 use Rattle.arrival_queues.specs.Queues.{Queues, held_count, rows_of}
 use Rattle.delay_counts.specs.declared.counts.DelayCount.{DelayCount}
 use Rattle.delay_counts.specs.Delays.{counts_of, greatest as longest_of, percentile}
+use Rattle.simulated_slots.specs.Jobs.{JobValue, batch_of, is_ideal}
+use Rattle.simulated_slots.specs.Slots.{slot_of, switch_before}
 use Rattle.simulated_runs.specs.declared.numbers.BatchNumbers.{BatchNumbers}
 use Rattle.simulated_runs.specs.declared.numbers.PortNumbers.{PortNumbers}
 use Rattle.simulated_runs.specs.declared.numbers.WaitingNumbers.{WaitingNumbers}
-use Rattle.simulated_slots.specs.Jobs.{JobValue, batch_of, is_ideal}
-use Rattle.simulated_slots.specs.Slots.{Slot, slot_of, switch_before}
-use Rattle.simulated_slots.specs.TableSteps.{BatchDelay}
 
 -- the slots before slot t that are measured: those from the warm-up on
 abbrev pub measured : JobValue → ℕ → List ℕ
@@ -65,20 +64,12 @@ port_of job t p = record {
   fed = times p (outputs (departed_cells job t));
 }
 
--- the delays of the departures, each with its batch
-abbrev pub batch_delays : JobValue → ℕ → List BatchDelay
-batch_delays job t = map (λ departure. record { batch = batch_of job departure.slot; delay = delay_of departure }) (departures job t)
-
--- how many delays a batch has, and their sum
-abbrev pub number_in : ℕ → List BatchDelay → ℕ
-number_in b delays = times b (map (λ d. d.batch) delays)
-
-abbrev pub sum_in : ℕ → List BatchDelay → ℕ
-sum_in b delays = sum_by (λ d. if d.batch == b then d.delay else 0) delays
-
 -- the numbers of batch b after t slots
 abbrev pub batch_numbers : JobValue → ℕ → ℕ → BatchNumbers
-batch_numbers job t b = record { departed = number_in b (batch_delays job t); delays = sum_in b (batch_delays job t) }
+batch_numbers job t b = record {
+  departed = count_by (λ departure. batch_of job departure.slot == b) (departures job t);
+  delays = sum_by (λ departure. if batch_of job departure.slot == b then delay_of departure else 0) (departures job t);
+}
 
 -- for how many slots the cells of some queues have waited before slot t, in all
 abbrev pub age_before : ℕ → Queues → ℕ

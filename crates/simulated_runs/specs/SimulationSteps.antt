@@ -10,15 +10,25 @@ use Rattle.arrival_queues.specs.declared.limits.TheConstants.{MAX_CELLS}
 use Rattle.delay_counts.specs.CountSteps.{HasCounted as HasDelays}
 use Rattle.simulated_slots.specs.declared.arrivals.Arrivals.{Arrivals}
 use Rattle.simulated_slots.specs.declared.departed.Departed.{Departed}
-use Rattle.simulated_runs.specs.declared.slot_counts.SlotCounts.{SlotCounts}
 use Rattle.simulated_slots.specs.declared.limits.TheConstants.{MAX_SLOTS}
-use Rattle.simulated_slots.specs.Jobs.{JobValue, is_ideal, queueing_of}
+use Rattle.simulated_slots.specs.Jobs.{JobValue, batch_of, is_ideal, queueing_of}
 use Rattle.simulated_slots.specs.Slots.{slot_of, switch_before}
-use Rattle.simulated_runs.specs.Numbers.{arrivals, batch_delays, delay_of, departed_cells, departures, drops, inputs, measured, noted_in, outputs, waiting_before}
 use Rattle.simulated_slots.specs.ArbiterSteps.{ArbiterValue}
 use Rattle.simulated_slots.specs.ArrivalSteps.{AllCame, AreArrivals}
 use Rattle.simulated_slots.specs.DepartureSteps.{AreDeparted}
-use Rattle.simulated_slots.specs.TableSteps.{HasBatched, HasCounted}
+use Rattle.simulated_slots.specs.TableSteps.{BatchDelay, HasBatched, HasCounted}
+use Rattle.simulated_runs.specs.declared.slot_counts.SlotCounts.{SlotCounts}
+use Rattle.simulated_runs.specs.Numbers.{arrivals, delay_of, departed_cells, departures, drops, inputs, measured}
+use Rattle.simulated_runs.specs.Numbers.{noted_in, outputs, waiting_before}
+
+-- a simulation: a job, and how many of its slots have been made
+pub record SimulationValue : Type 0 where
+  pub job : JobValue
+  pub slot : ℕ
+
+-- the delays of the departures, each with its batch
+abbrev pub batch_delays : JobValue → ℕ → List BatchDelay
+batch_delays job t = map (λ departure. record { batch = batch_of job departure.slot; delay = delay_of departure }) (departures job t)
 
 -- the sources of a job before slot t
 abbrev pub sources_before : JobValue → ℕ → List SourceValue

@@ -80,22 +80,22 @@ impl Model for Numbers {
     ghost Value = { NumbersValue };
 
     ghost view = { λ n. record {
-        arrived = n.arrived;
-        dropped = n.dropped;
-        departed = n.departed;
-        before = n.before;
-        waiting = n.waiting;
-        cell_slots = n.cell_slots;
-        delays = n.delays;
-        percentiles = n.percentiles;
-        longest_delay = n.longest_delay;
-        rounds_used = n.rounds_used;
-        first_pairs = n.first_pairs;
-        peak = n.peak;
-        most = n.most;
-        longest_wait = n.longest_wait;
-        ports = n.ports.items;
-        batches = n.batches.items;
-        counts = n.counts.items
+      arrived = n.arrived;
+      dropped = n.dropped;
+      departed = n.departed;
+      before = n.before;
+      waiting = n.waiting;
+      cell_slots = n.cell_slots;
+      delays = n.delays;
+      percentiles = n.percentiles;
+      longest_delay = n.longest_delay;
+      rounds_used = n.rounds_used;
+      first_pairs = n.first_pairs;
+      peak = n.peak;
+      most = n.most;
+      longest_wait = n.longest_wait;
+      ports = n.ports.items;
+      batches = n.batches.items;
+      counts = n.counts.items;
     } };
 }

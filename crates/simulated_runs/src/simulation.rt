@@ -27,8 +27,7 @@ pub(crate) struct Simulation {
 }
 
 impl Model for Simulation {
-    ghost use Rattle.simulated_runs.specs.Simulations.{SimulationValue};
-    ghost use Rattle.simulated_runs.specs.SimulationSteps.{IsSimulated};
+    ghost use Rattle.simulated_runs.specs.SimulationSteps.{IsSimulated, SimulationValue};
 
     ghost Value = { SimulationValue };
 
@@ -81,20 +80,11 @@ impl Simulation {
         let is_first = slot == self.job.settings().warm_up;
         let waiting = self.waiting();
         self.counts.begin(is_first, waiting);
-        take_in(
-            &mut self.sources,
-            &mut self.arrivals,
-            slot,
-            batch.is_some(),
-        );
+        take_in(&mut self.sources, &mut self.arrivals, slot, batch.is_some());
         self.counts.fill(self.arrivals.queues.held());
         let used = self.arbiter.decide(slot, self.arrivals.queues.rows());
-        self.departed.serve(
-            &mut self.arrivals.queues,
-            &self.arbiter,
-            slot,
-            batch,
-        );
+        self.departed
+            .serve(&mut self.arrivals.queues, &self.arbiter, slot, batch);
         self.counts
             .end(batch.is_some(), used, self.arrivals.queues.held());
         self.slot += 1;

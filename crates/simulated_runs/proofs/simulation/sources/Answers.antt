@@ -1,7 +1,6 @@
-use Rattle.std.proofs.Common.{◌≡◌, ◌∙◌, ◌++◌, ℕ, [], ◌∷◌, ap, arith, map, sym, refl}
-use Rattle.std.specs.Prelude.{List}
+use Rattle.std.proofs.Common.{◌≡◌, ℕ, arith, sym, refl}
 use Rattle.std.proofs.lemmas.List.FromFn.{map-range_with_len_more}
-use Rattle.made_traffic.specs.Sources.{SourceValue, source_before}
+use Rattle.made_traffic.specs.Sources.{source_before}
 use Rattle.simulated_runs.proofs.simulation.sources.Goals as goal
 
 pub loop-input-preserved : goal.loop-input-preserved

@@ -1,4 +1,4 @@
-use Rattle.std.proofs.Common.{◌≡◌, ◌∙◌, ◌∷◌, [], ◌++◌, ap, append-nil, arith, sym, ℕ}
+use Rattle.std.proofs.Common.{◌∙◌, ◌∷◌, [], ◌++◌, ap, append-nil, arith, sym, ℕ}
 use Rattle.std.specs.Prelude.{List, Option, filter_map, option_to_list}
 use Rattle.std.specs.List.{range_with_len}
 use Rattle.delay_counts.specs.declared.counts.DelayCount.{DelayCount}

@@ -1,12 +1,11 @@
-use Rattle.std.proofs.Common.{◌≡◌, ◌∙◌, ◌≤◌, ℕ, ap, refl, sym, subst}
+use Rattle.std.proofs.Common.{◌∙◌, ◌≤◌, ℕ, ap, arith, refl, subst, sym}
 use Rattle.rotating_pick.specs.declared.limits.TheConstants.{MAX_PORTS}
 use Rattle.pointer_state.specs.Places.{places_at_first}
-use Rattle.arrival_queues.specs.Queues.{empty_queues}
 use Rattle.simulated_slots.specs.declared.limits.TheConstants.{MAX_SLOTS}
 use Rattle.simulated_slots.specs.Jobs.{queueing_of}
 use Rattle.simulated_slots.specs.ArrivalSteps.{AreArrivals}
-use Rattle.simulated_slots.specs.DepartureSteps.{AreDeparted}
-use Rattle.simulated_runs.proofs.Starting.{IsSimulated-first}
+use Rattle.simulated_runs.specs.SimulationSteps.{HasSummed}
+use Rattle.simulated_runs.proofs.Starting.{HasCountedDeparted-first, HasDecided-first, HasSummed-first, HasTakenIn-first}
 use Rattle.simulated_runs.proofs.simulation.Simulation.make.Goals as goal
 
 pub make-requires-2-clause-rounds_some : goal.make-requires-2-clause-rounds_some
@@ -24,12 +23,16 @@ invariant_of-result c =
     let ports = c.ports-ports.ensures.value ∙ ap (λ t. t.ports) c.traffic-traffic.ensures in
     let settings = c.settings-settings.ensures.value in
     let queueing = c.queueing.ensures ∙ ap (λ s. queueing_of s.discipline) settings in
-    IsSimulated-first job (subst (λ (n : ℕ). n ≤ MAX_PORTS) ports c.ports-ports.ensures.size)
-    (subst (λ (n : ℕ). n ≤ MAX_SLOTS) c.slots.ensures.value c.slots.ensures.few) c.in_ok-sources.field-0.items c.in_ok-make.field-0 c.in_ok-make-2.field-0 c.in_ok-make-3.field-0 c.none.result
-    c.in_ok-sources.ensures
-    (taken.queues ∙ rw (queueing, ports, settings) refl) taken.arrived taken.dropped taken.peak
-    (subst (λ (n : ℕ). AreArrivals n 0 c.in_ok-make.field-0) ports taken.sizes)
-    (decides.discipline ∙ ap (λ s. s.discipline) settings) (decides.rounds ∙ ap (λ s. s.rounds) settings) (decides.places ∙ ap places_at_first ports)
-    decides.count decides.noted left.left left.fed left.batches left.delays
-    (rw (← ports, ← settings) left.sizes)
-    c.none.ensures
+    let counts = c.none.ensures in
+    record {
+      size = subst (λ (n : ℕ). n ≤ MAX_PORTS) ports c.ports-ports.ensures.size;
+      few = subst (λ (n : ℕ). n ≤ MAX_SLOTS) c.slots.ensures.value c.slots.ensures.few;
+      slots = omega arith;
+      told = c.in_ok-sources.ensures;
+      taken = HasTakenIn-first job c.in_ok-make.field-0 (taken.queues ∙ rw (queueing, ports, settings) refl) taken.arrived taken.dropped taken.peak
+          (subst (λ (n : ℕ). AreArrivals n 0 c.in_ok-make.field-0) ports taken.sizes);
+      decided = HasDecided-first job c.in_ok-make-2.field-0 (decides.discipline ∙ ap (λ s. s.discipline) settings)
+          (decides.rounds ∙ ap (λ s. s.rounds) settings) (decides.places ∙ ap places_at_first ports) decides.count decides.noted;
+      departed = HasCountedDeparted-first job c.in_ok-make-3.field-0 left.left left.fed left.batches left.delays (rw (← ports, ← settings) left.sizes);
+      summed = subst (HasSummed job 0) (sym counts) (HasSummed-first job);
+    }

@@ -3,7 +3,7 @@ use Rattle.std.specs.List.{range_with_len}
 use Rattle.made_traffic.specs.Sources.{TrafficValue}
 use Rattle.simulated_slots.specs.declared.job.Settings.{Settings}
 use Rattle.simulated_runs.specs.Numbers.{batch_numbers, delay_of, departures, longest_wait_in, numbers_after, port_of, waiting_before}
-use Rattle.simulated_runs.specs.Simulations.{SimulationValue}
+use Rattle.simulated_runs.specs.SimulationSteps.{SimulationValue}
 use Rattle.simulated_runs.proofs.Telling.{arrived-is, departed-is, dropped-is, told-is}
 use Rattle.simulated_runs.proofs.simulation.Simulation.numbers.Goals as goal
 
@@ -32,9 +32,9 @@ returns c =
       most = was.summed.most;
       longest_wait = subst (λ (s : SimulationValue). c.longest_wait.result ≡ longest_wait_in s.job s.slot) (sym c.self.view_is) c.longest_wait.ensures;
       ports = subst (λ (n : ℕ). c.in_ok-ports.field-0.items ≡ map (port_of job t) (range_with_len 0 n)) ports
-      (c.in_ok-ports.ensures job t was.taken was.departed);
+          (c.in_ok-ports.ensures job t was.taken was.departed);
       batches = subst (λ (n : ℕ). c.in_ok-batches.field-0.items ≡ map (batch_numbers job t) (range_with_len 0 n)) batches
-      (c.in_ok-batches.ensures job t was.departed);
+          (c.in_ok-batches.ensures job t was.departed);
       counts = c.in_ok-counts.ensures delays was.departed.delays;
     })
     ∙ ap (λ (s : SimulationValue). numbers_after s.job s.slot) c.self.view_is

@@ -1,4 +1,4 @@
-use Rattle.std.proofs.Common.{◌≡◌, ◌∙◌, ◌+◌, ◌<◌, ◌≤◌, ◌^◌, ◌==◌, ap, arith, length, subst, sym, ℕ, Bool}
+use Rattle.std.proofs.Common.{◌≡◌, ◌∙◌, ◌+◌, ◌<◌, ◌≤◌, ◌^◌, ◌==◌, ap, arith, subst, sym, ℕ, Bool}
 use Rattle.std.specs.Prelude.{Option, is_some}
 use Rattle.eslip_rounds.specs.Slots.{Decision}
 use Rattle.arrival_queues.specs.Queues.{held_count}
@@ -7,8 +7,7 @@ use Rattle.simulated_slots.specs.Jobs.{is_measured, queueing_of}
 use Rattle.simulated_slots.specs.DepartureSteps.{HaveServed}
 use Rattle.simulated_runs.specs.declared.slot_counts.SlotCounts.{SlotCounts}
 use Rattle.simulated_runs.specs.Numbers.{waiting_before}
-use Rattle.simulated_runs.specs.Simulations.{SimulationValue}
-use Rattle.simulated_runs.specs.SimulationSteps.{HasSummed}
+use Rattle.simulated_runs.specs.SimulationSteps.{HasSummed, SimulationValue}
 use Rattle.simulated_runs.specs.SlotSteps.{begun, ended, filled}
 use Rattle.simulated_runs.proofs.NextSlots.{IsDecided-told}
 use Rattle.simulated_runs.proofs.SlotCalls.{AreSources-of, IsFilled-told, IsServed-told, measured-is}
@@ -24,8 +23,8 @@ serve-requires-clause-queueing c =
     let job = c.self.inside.job in
     let t = c.self.inside.slot in
     let was = c.self.invariant in
-    let measured : c.is_some.result ≡ is_measured job t = c.is_some.ensures ∙ (ap (λ (b : Option ℕ). is_some b) c.batch-batch.ensures.value
-    ∙ measured-is job t) in
+    let batch = c.batch-batch.ensures.value in
+    let measured : c.is_some.result ≡ is_measured job t = c.is_some.ensures ∙ (ap (λ (b : Option ℕ). is_some b) batch ∙ measured-is job t) in
     let come = IsFilled-told job t c.is_some.result c.self.inside.sources.items c.take_in.new.sources.items c.self.inside.arrivals c.take_in.new.arrivals
     was.taken was.told measured c.take_in.ensures.told in
     come.queueing ∙ ap queueing_of (sym (c.decide-used.ensures.kept.0 ∙ was.decided.discipline))
@@ -47,7 +46,12 @@ invariant_of-self c =
     let come = IsFilled-told job t c.is_some.result c.self.inside.sources.items c.take_in.new.sources.items c.self.inside.arrivals mid
     was.taken was.told measured c.take_in.ensures.told in
     let decided = IsDecided-told job t c.self.inside.arbiter arbiter mid.queues c.rows.result.now used was.decided come.filled c.rows.ensures.value
-    (record { kept = c.decide-used.ensures.kept; decision = c.decide-used.ensures.decision; count = c.decide-used.ensures.count; noted = c.decide-used.ensures.noted }) in
+    (record {
+      kept = c.decide-used.ensures.kept;
+      decision = c.decide-used.ensures.decision;
+      count = c.decide-used.ensures.count;
+      noted = c.decide-used.ensures.noted;
+    }) in
     let served = IsServed-told job t mid.queues c.serve.new.queues c.batch-batch.result arbiter.discipline arbiter.matched left c.serve.new.self
     (record {
       filled = come.filled;
@@ -57,7 +61,8 @@ invariant_of-self c =
       discipline = decided.arbiter.discipline;
       matched = ap (λ (d : Decision). d.matched) decided.decision;
     })
-    (subst (λ (n : ℕ). HaveServed t c.batch-batch.result arbiter.discipline arbiter.matched mid.queues.ports n mid.queues c.serve.new.queues left c.serve.new.self)
+    (subst (λ (n : ℕ). HaveServed t c.batch-batch.result arbiter.discipline arbiter.matched mid.queues.ports n mid.queues c.serve.new.queues left
+    c.serve.new.self)
     was.departed.sizes.delays c.serve.ensures.served) in
     let waits : waiting ≡ waiting_before job t =
     subst (λ (s : SimulationValue). waiting ≡ waiting_before s.job s.slot) (sym c.self.view_is) c.waiting-waiting.ensures in
@@ -76,7 +81,8 @@ invariant_of-self c =
       few = was.few;
       slots = omega (arith, more);
       told = come.sources;
-      taken = HasTakenIn-more job t c.self.inside.arrivals mid c.serve.new.queues was.size was.taken come.come come.sizes served.queues served.ports served.queueing served.came;
+      taken = HasTakenIn-more job t c.self.inside.arrivals mid c.serve.new.queues was.size was.taken come.come come.sizes
+          served.queues served.ports served.queueing served.came;
       decided = decided.arbiter;
       departed = HasCountedDeparted-more job t left c.serve.new.self was.size was.departed served.departed served.sizes;
       summed = subst (HasSummed job (t + 1)) (sym all)
