@@ -1,5 +1,6 @@
 -- When each answer comes: what the meaning of an ending says against all others.
 use Rattle.std.proofs.Common.{◌≡◌, ◌<◌, ◌≤◌, ℕ, List, [], ◌∷◌, map, take, length, get_or, Option, Some, None, inl, inr, refl, sym, ◌∙◌, ap, subst, arith}
+use Rattle.std.specs.Prelude.{false, is_some}
 use Rattle.std.proofs.lemmas.Bool.{cases_lt}
 use Rattle.std.proofs.lemmas.List.{get_or-map, get_or-take, length-take-le}
 use Rattle.std.proofs.lemmas.List.Elements.{All-get_or}
@@ -129,6 +130,11 @@ check_is_no_usage check_ending.ReadFault two = omega arith
 check_is_no_usage check_ending.OutOfMemory two = omega arith
 check_is_no_usage check_ending.OutFault two = omega arith
 
+-- what is not there is none
+pub none_of : {A : Type 0} (o : Option A) → is_some o ≡ false → o ≡ None
+none_of None same = refl
+none_of (Some x) same = absurd (cc)
+
 -- at status 2 there is no job; without a job the status is 2 or 5
 usage_words : (c : Command) (status : ℕ) (ending : Ending) → Answers c status ending → (status ≡ 2 → c.job ≡ None) × (c.job ≡ None →
     (status ≡ 2) ⊎ (status ≡ 5))
@@ -143,7 +149,7 @@ usage_words c status OutOfMemory a = (λ two. absurd (omega (arith, a.0, two)), 
 usage_words c status (WriteFault written) a = (λ two. absurd (omega (arith, a.0, two)), λ none. absurd (no_job c a.1.job a.1.words none))
 usage_words c status (Checked e) a = (λ two. absurd (check_is_no_usage e (sym a.0 ∙ two)), λ none. absurd (no_job c a.1.job a.1.words none))
 
-pub usage_exact : (c : Command) (status : ℕ) (ending : Ending) → Answers c status ending → (c.named ≡ None → ending ≡ Usage) → UsageIsExact c status
+pub usage_exact : (c : Command) (status : ℕ) (ending : Ending) → Answers c status ending → (c.named ≡ false → ending ≡ Usage) → UsageIsExact c status
 usage_exact c status ending a unnamed =
     let words = usage_words c status ending a in
     record { only = words.0; every = words.1; unnamed = λ none. a.0 ∙ ap status_of (unnamed none) }

@@ -1,5 +1,5 @@
 -- When each answer comes, that one comes where nothing stands against it, and what holds of the run of a command.
-use Rattle.std.specs.Prelude.{◌≡◌, ◌<◌, ◌≤◌, ◌*◌, ◌⊎◌, ℕ, true, List, length, Option, Some, None, Ok, Err}
+use Rattle.std.specs.Prelude.{◌≡◌, ◌<◌, ◌≤◌, ◌*◌, ◌⊎◌, ℕ, true, false, List, length, Option, Some, None, Ok, Err}
 use Rattle.outside.specs.Contents.{Contents}
 use Rattle.outside.specs.Faults.{ReadOf, BeginOf, WriteOf, ToOut, NeverFall, NoneRose, Rose}
 use Rattle.outside.specs.WholeFiles.{IsTooLong}
@@ -84,7 +84,7 @@ pub record IsCheckable (c : Command) (job : CheckWords) (contents : Contents) : 
 pub record UsageIsExact (c : Command) (status : ℕ) : Type 0 where
   pub only : status ≡ 2 → c.job ≡ None
   pub every : c.job ≡ None → (status ≡ 2) ⊎ (status ≡ 5)
-  pub unnamed : c.named ≡ None → status ≡ 2
+  pub unnamed : c.named ≡ false → status ≡ 2
 
 -- where a file is too long and those before it are not, the answer says so, or memory ran out
 abbrev pub TooLongIsExact : Command → ℕ → Type 0

@@ -1,12 +1,11 @@
 -- How a command ends, and what each ending means.
-use Rattle.std.specs.Prelude.{◌≡◌, ◌<◌, ◌+◌, ℕ, true, is_some, List, take, length, Option, Some, None, Ok, Err, option_map, IfSome, slice_index_or}
+use Rattle.std.specs.Prelude.{◌≡◌, ◌<◌, ◌+◌, ℕ, Bool, true, is_some, List, take, length, Option, Some, None, Ok, Err, option_map, IfSome, slice_index_or}
 use Rattle.outside.specs.Contents.{Contents, append_out}
 use Rattle.outside.specs.Faults.{Place, ReadOf, ToOut, ToErr, Rose}
 use Rattle.outside.specs.WholeFiles.{IsTooLong, StopsAt}
 use Rattle.journal_command.specs.Checks.{MeansCheck}
 use Rattle.journal_command.specs.declared.ending.CheckEnding.{CheckEnding}
 use Rattle.switch_words.specs.Options.{command_in}
-use Rattle.switch_words.specs.declared.options.Command.{Command as CommandName}
 use Rattle.switch_words.specs.Reading.{JobWords, run, gen, check, firm, RunWords, CheckWords, reading_of}
 use Rattle.named_schedulers.specs.Named.{decision_named}
 use Rattle.switch_plan.specs.declared.fault.PlanFault.{PlanFault}
@@ -24,10 +23,10 @@ use Rattle.job_files.specs.declared.ending.Ending.{Ending}
 use Rattle.job_files.specs.declared.ending.Ending.TheVariants.{Done, Usage, ReadFault, TooLong, Refused, JournalTooLong, PacketsTooLong, OutOfMemory}
 use Rattle.job_files.specs.declared.ending.Ending.TheVariants.{WriteFault, Checked}
 
--- What a command found and left: what its first word names, the job that its words mean, and the contents and the counts of
--- faults before and after.
+-- What a command found and left: whether its first word names a command, the job that its words mean, and the contents and the
+-- counts of faults before and after.
 pub record Command : Type 0 where
-  pub named : Option CommandName
+  pub named : Bool
   pub job : Option JobWords
   pub old : Option Contents
   pub new : Option Contents
@@ -36,7 +35,7 @@ pub record Command : Type 0 where
 
 -- the command of these words
 abbrev pub command_of : List (List ℕ) → Option Contents → Option Contents → (Place → ℕ) → (Place → ℕ) → Command
-command_of words old new was now = record { named = command_in words; job = reading_of words; old = old; new = new; was = was; now = now }
+command_of words old new was now = record { named = is_some (command_in words); job = reading_of words; old = old; new = new; was = was; now = now }
 
 -- A read of this file was refused. The files before it are there, and not too long.
 pub record IsReadFault (job : JobWords) (told : Option Contents) (was now : Place → ℕ) (input : InputFile) : Type 0 where

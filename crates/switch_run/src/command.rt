@@ -1,10 +1,9 @@
-ghost use Rattle.std.specs.Prelude.{◌≡◌, ◌≤◌, ◌+◌, ℕ, Option, None, Some, length, map, string_bytes, IfOk};
+ghost use Rattle.std.specs.Prelude.{◌≡◌, ◌≤◌, ◌+◌, ℕ, Bool, Option, None, Some, length, map, string_bytes, IfOk};
 ghost use Rattle.outside.specs.Contents.{Contents};
 ghost use Rattle.outside.specs.Faults.{NeverFall, NoneRose, Place};
 ghost use Rattle.job_files.specs.Statuses.{status_of};
 ghost use Rattle.switch_words.specs.Limits.{IsWithinLimits};
 ghost use Rattle.switch_words.specs.Options.{command_in};
-ghost use Rattle.switch_words.specs.declared.options.Command.{Command as CommandName};
 ghost use Rattle.switch_words.specs.Reading.{JobWords, job_words};
 ghost use Rattle.switch_run.specs.Causes.{SwitchTheorem};
 ghost use Rattle.switch_run.specs.Endings.{Means, command_of};
@@ -79,7 +78,7 @@ fn run<R: Threads + Sync, F: Files, G: Gate + Sync>(
     gate: &G,
 ) -> Ending
     requires { IsWithinLimits job.now }
-    ensures meaning { (named : Option CommandName) → Means (record {
+    ensures meaning { (named : Bool) → Means (record {
       named = named;
       job = Some (job_words job.now);
       old = F.told files.old;

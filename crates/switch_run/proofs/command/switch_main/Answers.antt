@@ -3,7 +3,7 @@ use Rattle.std.specs.Prelude.{Ok}
 use Rattle.named_schedulers.specs.Named.{decision_named}
 use Rattle.switch_run.specs.Causes.{Answers, scheduler_in}
 use Rattle.switch_run.specs.Endings.{Command, command_of}
-use Rattle.switch_run.proofs.Answering.{run_ends, run_good, run_plan, too_long_exact, usage_exact}
+use Rattle.switch_run.proofs.Answering.{none_of, run_ends, run_good, run_plan, too_long_exact, usage_exact}
 use Rattle.switch_run.proofs.Refusing.{journal_exact, packets_exact, refusal_exact}
 use Rattle.switch_run.proofs.Completing.{complete}
 use Rattle.switch_run.proofs.Bounds.{serves_named, waits_named}
@@ -26,7 +26,7 @@ returns g c =
       meaning = (ending, answers);
       never_fall = c.end_of.ensures.never_fall;
       no_fault = λ same. c.end_of.ensures.no_fault (sym c.status.ensures ∙ same);
-      usage = usage_exact command status ending answers c.end_of.ensures.unnamed;
+      usage = usage_exact command status ending answers (λ none. c.end_of.ensures.unnamed (none_of _ none));
       too_long = too_long_exact command status ending answers;
       refusal = refusal_exact command status ending answers;
       journal_too_long = journal_exact command status ending answers;
