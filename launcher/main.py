@@ -87,7 +87,8 @@ def _version(place):
     lines = [told_version(place.version()), *_told_of(place, PROGRAM, found, PROVE)]
     lines += [f"{SIMULATE}: {line}" for line in _told_of(place, SIMULATION, simulation, f"{PROVE} {SIMULATE}")]
     status = tell(lines)
-    is_lost = place.is_installed and None in (found.build, simulation.build)
+    is_altered = simulation.build is None and os.path.exists(place.path(INSTALLED[SIMULATION].files[0]))
+    is_lost = place.is_installed and (found.build is None or is_altered)
     return 1 if is_lost else status
 
 

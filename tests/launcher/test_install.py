@@ -180,10 +180,10 @@ class Install(Scene):
         why = f"{program} is not the program that was installed, so it is not started"
         self.assertEqual(ended.stderr, f"tiny_tera: {why}\n")
         told = self.started("--version")
-        self.assertEqual((told.returncode, told.stdout.splitlines()[1:]), (1, [why]))
+        self.assertEqual((told.returncode, told.stdout.splitlines()[1]), (1, why))
         program.unlink()
         told = self.started("--version")
-        self.assertEqual((told.returncode, told.stdout.splitlines()[1:]), (1, [f"{program} is not there, so it is not started"]))
+        self.assertEqual((told.returncode, told.stdout.splitlines()[1]), (1, f"{program} is not there, so it is not started"))
 
     def test_clone_of_another_user(self):
         """The version is that of the clone, whoever owns it."""

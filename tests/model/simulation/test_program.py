@@ -1,5 +1,5 @@
-"""Compares the program `simulate` with the model on random simulations. It is the one that the variable SIMULATE
-names, else the one that is there; without one this is skipped."""
+"""Compares the program `simulate` with the model on random simulations. It is the one that the variable SIMULATE names,
+as `tests/run_model` sets it, else the one that was built here; without one this is skipped."""
 
 import os
 import random
@@ -7,20 +7,18 @@ import subprocess
 import unittest
 from pathlib import Path
 
-from launcher import there
-from launcher.builds import SIMULATION
-
 from .command import run_words
 from .words import PATTERNS, SCHEDULERS, WEIGHED
 
 TOP = Path(__file__).resolve().parents[3]
+VARIABLE, BUILT = "SIMULATE", TOP / "crates/simulate/out/simulate"
 JOBS = 60
 MADE = [name for name in SCHEDULERS if name != "pim"]  # Those that the program has.
 
 
 def program():
     """The program, None where there is none."""
-    found = there.program(TOP, SIMULATION)
+    found = Path(os.environ.get(VARIABLE) or BUILT)
     return found if found.is_file() and os.access(found, os.X_OK) else None
 
 
