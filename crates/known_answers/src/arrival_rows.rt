@@ -1,14 +1,19 @@
-//! Rows of arrival slots: `NAME PACE PACKETS -> SLOTS`, or `-> too_long SLOTS`. A pace is `line` or
-//! `SLOT:BASE`, a packet `TIME:CELLS`.
-ghost use Rattle.std.specs.Prelude.{◌≡◌, ◌≤◌, length, All, IfOk, IsTrue};
-ghost use Rattle.line_pace.specs.Arrivals.{IsPace, CanCome, base_of};
+//! Rows of arrival slots: `NAME PACE PACKETS -> SLOTS`, or `-> too_long SLOTS`. A pace is `line`,
+//! `SLOT:BASE` or `rate=MBPS:BASE`, a packet `TIME:CELLS`.
+ghost use Rattle.std.specs.Prelude.{◌≡◌, ◌≤◌, ◌<◌, length, All, IfOk, IsTrue};
+ghost use Rattle.line_pace.specs.Arrivals.{IsPace, IsRateTime, CanCome, base_of};
 
 use crate::fields::long_number;
 use crate::texts::numbers_text;
 use cell_cutter::MAX_CAPTURED_CELLS;
-use line_pace::{MAX_CAPTURE_PACKETS, MAX_SLOT_MICROS, Pace, PaceFault, Stamp, arrivals};
+use line_pace::{
+    MAX_CAPTURE_PACKETS, MAX_LINE_RATE, MAX_SLOT_MICROS, Pace, PaceFault, Stamp, arrivals,
+};
 use std::alloc::{AllocError, Global};
 use test_vectors::{NoAnswer, Row, number, words};
+
+// The first time that no slot of a line rate is told of, in nanoseconds: 2^62.
+const AFTER_RATE_TIMES: u64 = 4_611_686_018_427_387_904;
 
 /// The row that a line is.
 pub fn row(alloc: Global, line: &str) -> Result<Row, AllocError> {
@@ -42,15 +47,32 @@ fn pace(text: &str) -> Result<Pace, NoAnswer>
     if text == "line" {
         return Ok(Pace::Line);
     }
-    let Some((slot, base)) = text.split_once(':') else {
+    let Some((speed, base)) = text.split_once(':') else {
         return Err(NoAnswer);
     };
-    let slot = number(slot)?;
     let base = long_number(base)?;
+    match speed.split_once('=') {
+        Some((_, mbps)) => rate(number(mbps)?, base),
+        None => micros(number(speed)?, base),
+    }
+}
+
+fn micros(slot: u32, base: u64) -> Result<Pace, NoAnswer>
+    ensures { IfOk result IsPace }
+{
     if slot == 0 || slot > MAX_SLOT_MICROS {
         return Err(NoAnswer);
     }
     Ok(Pace::Micros { slot, base })
+}
+
+fn rate(mbps: u32, base: u64) -> Result<Pace, NoAnswer>
+    ensures { IfOk result IsPace }
+{
+    if mbps == 0 || mbps > MAX_LINE_RATE {
+        return Err(NoAnswer);
+    }
+    Ok(Pace::Rate { mbps, base })
 }
 
 // The packets, none of which the pace refuses.
@@ -95,7 +117,20 @@ fn all_can_come(packets: &[Stamp], pace: &Pace) -> bool
 fn can_come(packet: &Stamp, pace: &Pace) -> bool
     ensures { IsTrue result → CanCome pace.now packet.now }
 {
-    0 < packet.cells && packet.cells <= MAX_CAPTURED_CELLS && base(pace) <= packet.time
+    0 < packet.cells
+        && packet.cells <= MAX_CAPTURED_CELLS
+        && base(pace) <= packet.time
+        && is_rate_time(pace, packet.time)
+}
+
+// Whether the pace, where it is a line rate, has a slot for the time.
+fn is_rate_time(pace: &Pace, time: u64) -> bool
+    ensures { IsTrue result → IsRateTime pace.now time }
+{
+    match pace {
+        Pace::Line | Pace::Micros { .. } => true,
+        Pace::Rate { .. } => time < AFTER_RATE_TIMES,
+    }
 }
 
 // The time that slot 0 begins at, in nanoseconds.
@@ -105,5 +140,6 @@ fn base(pace: &Pace) -> u64
     match pace {
         Pace::Line => 0,
         Pace::Micros { slot: _, base } => *base,
+        Pace::Rate { mbps: _, base } => *base,
     }
 }

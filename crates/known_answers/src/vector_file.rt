@@ -42,7 +42,7 @@ impl RowReader for Reader {
             "rotating_choice.txt" => Reader::RotatingChoice,
             "islip_one_round.txt" | "islip_rounds.txt" => Reader::IslipSlots,
             "islip_helpers.txt" => Reader::Kernels,
-            "arrivals.txt" => Reader::Arrivals,
+            "arrivals.txt" | "arrivals_at_line_rate.txt" => Reader::Arrivals,
             "cells.txt" => Reader::Cells,
             "reassembly.txt" => Reader::Reassembly(reassembly_rows::Block::new(alloc)),
             "captures.txt" | "captures_changed.txt" => Reader::Captures,

@@ -14,8 +14,8 @@ pub const MAX_CAPTURE_PACKETS: usize = 1_048_576;
 /// The arrival slot of each packet of a port: the slot in which its last cell comes. Packets come in
 /// the order of the capture, one cell a slot; at a pace none starts before the slot of its time.
 ///
-/// For at most 1,048,576 packets of 1 to 4,682 cells, none before the pace's base. `TooLong` comes
-/// exactly where the last arrival slot plus one is over 131,072, and names that number.
+/// For at most 1,048,576 packets of 1 to 4,682 cells, none before the pace's base, and at a line rate all at
+/// times below 2^62 nanoseconds. `TooLong` comes exactly where the last arrival slot plus one is over 131,072, and names that number.
 pub fn arrivals(alloc: Global, packets: &[Stamp], pace: Pace) -> Result<Vec<u32>, PaceFault>
     requires pace { IsPace pace }
     requires packets { All (CanCome pace) packets.now }

@@ -8,4 +8,4 @@ mod pace;
 
 pub use arriving::{MAX_ARRIVAL_SLOTS, MAX_CAPTURE_PACKETS, arrivals};
 pub use fault::PaceFault;
-pub use pace::{MAX_SLOT_MICROS, Pace, Stamp};
+pub use pace::{MAX_LINE_RATE, MAX_SLOT_MICROS, Pace, Stamp};
