@@ -17,7 +17,7 @@ use Rattle.pcap_records.specs.Packets.{packet_in, records_length, AreInOrder, Is
 use Rattle.pcap_records.specs.Format.{header_of, Record, IsRecord, record_bytes, packet_of}
 use Rattle.pcap_records.specs.Captures.{HasHeader, records_bytes, IsCapture}
 use Rattle.pcap_records.specs.Faults.{IsWholeBefore, IsFault}
-use Rattle.pcap_records.specs.RecordSteps.{IsStored, IsBroken}
+use Rattle.pcap_records.specs.Records.{IsStored, IsBroken}
 
 -- the records between the header and a place are read, and their packets stored
 pub record IsReadBefore (order : Order) (nano : Bool) (file : List ℕ) (at : ℕ) (packets : List Stored) : Type 0 where

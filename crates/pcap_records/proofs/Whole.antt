@@ -4,7 +4,7 @@ use Rattle.std.proofs.lemmas.List.{drop-drop, take-append-drop, length-drop, len
 use Rattle.pcap_records.specs.declared.order.Order.{Order}
 use Rattle.pcap_records.specs.Format.{record_header, nanos_of}
 use Rattle.pcap_records.specs.Faults.{IsCut, in_bytes}
-use Rattle.pcap_records.specs.RecordSteps.{IsStored}
+use Rattle.pcap_records.specs.Records.{IsStored}
 
 -- a record whose captured bytes end beyond the file is cut
 pub cut_in_bytes : (order : Order) (file : List ℕ) (at seconds fraction captured original : ℕ)

@@ -2,6 +2,6 @@ pub mod Packets
 pub mod Format
 pub mod Captures
 pub mod Faults
-pub mod RecordSteps
+pub mod Records
 pub mod Output
 pub mod Texts

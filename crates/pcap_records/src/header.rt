@@ -21,15 +21,19 @@ pub const MAJOR: u16 = 2;
 // The number after it.
 pub const MINOR: u16 = 4;
 
-// What the header of a capture says.
+/// What the header of a capture says.
 #[derive(Clone, Copy, Debug, PartialEq, Eq)]
 pub struct Header {
+    /// The byte order of all numbers of the file.
     pub order: Order,
+    /// Whether fractions of seconds are nanoseconds; otherwise they are microseconds.
     pub nano: bool,
+    /// The link type of all packets.
     pub link: Link,
 }
 
-// The header at the front of a file, or the first fault in it.
+/// The header at the front of a file of fewer than 2^32 bytes, or the first fault in it. The records
+/// follow from byte 24 on.
 pub fn read_header(bytes: &[u8]) -> Result<Header, PcapFault>
     requires { length bytes.now < 2 ^ 32 }
     ensures found { IfOk result (λ h.

@@ -13,15 +13,13 @@ ghost use Rattle.pcap_records.specs.Output.{header_text, record_text, capture_te
 
 use crate::limits::{FILE_HEADER_BYTES, RECORD_HEADER_BYTES};
 use cell_cutter::MAX_CAPTURED_BYTES;
-use rotating_pick::MAX_FILE_BYTES;
 
-/// The limits of the format as it is read here: 24 bytes of a file's header and 16 of a record's, at most
-/// 262,144 captured bytes of a packet, and at most 16,777,216 bytes of a file.
+/// The limits of the format as it is read here: 24 bytes of a file's header and 16 of a record's, and at
+/// most 262,144 captured bytes of a packet. A file of any length below 2^32 bytes is read.
 pub fn limits_are()
     ensures header { FILE_HEADER_BYTES ≡ 24 }
     ensures record_header { RECORD_HEADER_BYTES ≡ 16 }
     ensures captured { MAX_CAPTURED_BYTES ≡ 262144 }
-    ensures file { MAX_FILE_BYTES ≡ 16777216 }
 {}
 
 /// A file is a capture in one way: no other packets, unit or link type can be read from it.

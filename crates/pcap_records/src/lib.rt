@@ -18,7 +18,10 @@ mod writing;
 
 pub use capture::{Capture, Stored};
 pub use fault::PcapFault;
+pub use header::{Header, read_header};
 pub use limits::{FILE_HEADER_BYTES, RECORD_HEADER_BYTES};
 pub use link::Link;
+pub use order::Order;
 pub use reading::read_capture;
+pub use record::read_record;
 pub use writing::{write_header, write_record};

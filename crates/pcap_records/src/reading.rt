@@ -1,4 +1,4 @@
-ghost use Rattle.std.specs.Prelude.{◌≡◌, ◌⊎◌, ◌≤◌, ℕ, List, Bool, length, drop, map, All, vec_len, IfOk, IfErr, IsErrAnd, MatchResult};
+ghost use Rattle.std.specs.Prelude.{◌≡◌, ◌⊎◌, ◌<◌, ◌^◌, ℕ, List, Bool, length, drop, map, All, vec_len, IfOk, IfErr, IsErrAnd, MatchResult};
 ghost use Rattle.pcap_records.specs.declared.fault.PcapFault.{PcapFault};
 ghost use Rattle.pcap_records.specs.declared.link.Link.{Link};
 ghost use Rattle.pcap_records.specs.Packets.{Packet, packet_in, packets_of, AreInOrder, IsWithin};
@@ -11,16 +11,15 @@ use crate::fault::PcapFault;
 use crate::header::{Header, read_header};
 use crate::limits::FILE_HEADER_BYTES;
 use crate::record::read_record;
-use rotating_pick::MAX_FILE_BYTES;
 use std::alloc::Global;
 
-/// Reads a capture file of at most 16,777,216 bytes, each record once. The answer owns the file's
+/// Reads a capture file of fewer than 2^32 bytes, each record once. The answer owns the file's
 /// bytes as they came in, and takes memory for its packets alone, 20 bytes for each.
 ///
 /// A file that is no capture is answered by its fault. The one other error is that there was no
 /// memory, which may come in place of any answer.
 pub fn read_capture(alloc: Global, bytes: Vec<u8>) -> Result<Capture, PcapFault>
-    requires { vec_len bytes ≤ MAX_FILE_BYTES }
+    requires { vec_len bytes < 2 ^ 32 }
 
     // What is read is a capture, with just these packets, which stand in the file one after the other.
     ensures found { IfOk result (λ c. IsCapture bytes.items c.nano c.link (packets_of c)) }
@@ -53,7 +52,7 @@ pub fn read_capture(alloc: Global, bytes: Vec<u8>) -> Result<Capture, PcapFault>
 
 // The packets of the records that follow a header, to the end of the file.
 fn read_records(alloc: Global, header: Header, bytes: &[u8]) -> Result<Vec<Stored>, PcapFault>
-    requires size { length bytes.now ≤ MAX_FILE_BYTES }
+    requires size { length bytes.now < 2 ^ 32 }
     requires header { HasHeader bytes.now
         (header_of header.order header.nano header.link) (drop 24 bytes.now) }
     ensures found { IfOk result (λ v.

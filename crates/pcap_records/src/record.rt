@@ -1,13 +1,12 @@
 ghost use Rattle.std.specs.Prelude.{◌≡◌, ◌+◌, ◌^◌, ◌<◌, ◌≤◌, ◌++◌, length, drop, IfOk, IfErr};
 ghost use Rattle.pcap_records.specs.Format.{record_header, nanos_of};
-ghost use Rattle.pcap_records.specs.RecordSteps.{IsStored, IsBroken};
+ghost use Rattle.pcap_records.specs.Records.{IsStored, IsBroken};
 
 use crate::capture::Stored;
 use crate::fault::PcapFault;
 use crate::limits::RECORD_HEADER_BYTES;
 use crate::order::Order;
 use cell_cutter::MAX_CAPTURED_BYTES;
-use rotating_pick::MAX_FILE_BYTES;
 
 // The last microsecond of a second.
 const LAST_MICRO: u32 = 999_999;
@@ -27,10 +26,14 @@ struct RecordHeader {
     original: u32,
 }
 
-// Where the packet of the record at `at` is stored, or why no whole record stands there.
+/// Where the packet of the record that begins at byte `at` is stored, in a file of fewer than 2^32 bytes
+/// whose numbers have this order and whose fractions of seconds are nanoseconds or microseconds.
+///
+/// The fault is a `CutRecord` at `at` where the file ends within the record, and a `LongRecord` where more
+/// than 262,144 captured bytes are announced.
 pub fn read_record(order: Order, nano: bool, bytes: &[u8], at: usize) -> Result<Stored, PcapFault>
     requires begins { at < length bytes.now }
-    requires size { length bytes.now ≤ MAX_FILE_BYTES }
+    requires size { length bytes.now < 2 ^ 32 }
     ensures found { IfOk result (IsStored order nano bytes.now at) }
     ensures fault { IfErr result (IsBroken order (drop at bytes.now) at) }
 {

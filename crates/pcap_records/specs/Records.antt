@@ -1,4 +1,4 @@
--- One record of a file, read and not: the words of the calls inside.
+-- One record of a file: where its packet is stored, or that no whole record stands at a place.
 use Rattle.std.specs.Prelude.{◌≡◌, ℕ, ◌+◌, Bool, List, ◌++◌, drop}
 use Rattle.pcap_records.specs.declared.capture.Stored.{Stored}
 use Rattle.pcap_records.specs.declared.fault.PcapFault.{PcapFault}
