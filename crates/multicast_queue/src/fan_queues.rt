@@ -1,4 +1,4 @@
-ghost use Rattle.std.specs.Prelude.{◌≡◌, ◌≢◌, ℕ, ◌+◌, ◌<◌, ◌≤◌, ◌↔◌, [], map, length, nat_le, false, All, IfOk, IsTrue, if◌then◌else◌};
+ghost use Rattle.std.specs.Prelude.{◌≡◌, ◌≢◌, ℕ, ◌+◌, ◌<◌, ◌≤◌, ◌↔◌, [], map, length, nat_le, false, IfOk, IsTrue, if◌then◌else◌};
 ghost use Rattle.rotating_pick.specs.PortSets.{Has, HasSeveral, IsAmong};
 ghost use Rattle.multicast_queue.specs.FanQueues.{empty_queues, queue_at, queue_with, first_fan, first_name, HeadLeaves, HeadStays, OthersStay};
 ghost use Rattle.multicast_queue.specs.FieldSteps.{empty_kept};
@@ -8,7 +8,6 @@ use cell_cutter::{CellName, MAX_FORWARDED_CELLS};
 use rotating_pick::{LEVELS, MAX_PORTS, OutOfMemory, Ports};
 use std::alloc::{AllocError, Global};
 use std::marker::Model;
-use voq_banks::{MAX_DEPTH, MAX_QUEUE_PACKETS};
 
 /// The multicast queues of one input: a queue of cells for each level.
 #[derive(Drop)]
@@ -30,9 +29,9 @@ impl Model for FanQueues {
 }
 
 impl FanQueues {
-    /// Empty queues for an input of a switch of `n` ports, 1 to 64, each of at most `depth` cells, 1 to
-    /// 131,072. Entry `level` of `room` is how many packets will enter that level's queue, at most
-    /// 131,072. It takes all memory that the queues need.
+    /// Empty queues for an input of a switch of `n` ports, 1 to 64, each of at most `depth` cells, one or
+    /// more. Entry `level` of `room` is how many packets will enter that level's queue. It takes all memory
+    /// that the queues need.
     pub fn make(
         alloc: Global,
         n: u32,
@@ -42,8 +41,6 @@ impl FanQueues {
         requires some { 0 < n }
         requires ports { n ≤ MAX_PORTS }
         requires deep { 0 < depth }
-        requires depth { depth ≤ MAX_DEPTH }
-        requires room { All (λ packets. packets ≤ MAX_QUEUE_PACKETS) room.now }
         ensures queues { IfOk result (λ queues. queues ≡ empty_queues n depth room.now) }
         ensures empty { IfOk result (λ queues. (level : ℕ) → (queue_at queues level).cells ≡ []) }
     {

@@ -1,9 +1,8 @@
-ghost use Rattle.std.specs.Prelude.{◌≡◌, ◌≢◌, ℕ, ◌+◌, ◌-◌, ◌*◌, ◌<◌, ◌≤◌, ◌↔◌, [], ◌∷◌, ◌++◌, map, length, nat_le, false, All, IfOk, IsTrue, if◌then◌else◌};
+ghost use Rattle.std.specs.Prelude.{◌≡◌, ◌≢◌, ℕ, ◌+◌, ◌-◌, ◌*◌, ◌<◌, ◌≤◌, ◌↔◌, [], ◌∷◌, ◌++◌, map, length, nat_le, false, IfOk, IsTrue, if◌then◌else◌};
 ghost use Rattle.rotating_pick.specs.PortSets.{Has};
 ghost use Rattle.cell_rings.specs.CellQueues.{names_of_packet, empty_queue};
 ghost use Rattle.voq_banks.specs.Queues.{empty_queues, place_of, queue_at, spare_at, Waits, OthersStay};
 
-use crate::limits::{MAX_DEPTH, MAX_QUEUE_PACKETS};
 use cell_cutter::{CellName, MAX_FORWARDED_CELLS};
 use cell_rings::CellRing;
 use rotating_pick::{LEVELS, MAX_PORTS, OutOfMemory, Ports, with, without};
@@ -31,16 +30,14 @@ impl Model for Banks {
 }
 
 impl Banks {
-    /// Empty queues for an input of a switch of `n` ports, 1 to 64, each of at most `depth` cells, 1 to
-    /// 131,072. Entry `4 * output + level` of `room` is how many packets will enter that queue, at most
-    /// 131,072. It takes all memory that the queues need.
+    /// Empty queues for an input of a switch of `n` ports, 1 to 64, each of at most `depth` cells, one or
+    /// more. Entry `4 * output + level` of `room` is how many packets will enter that queue. It takes all
+    /// memory that the queues need.
     pub fn make(alloc: Global, n: u32, depth: u32, room: &[u32]) -> Result<Banks, OutOfMemory>
         requires some { 0 < n }
         requires ports { n ≤ MAX_PORTS }
         requires deep { 0 < depth }
-        requires depth { depth ≤ MAX_DEPTH }
         requires queues { length room.now ≡ LEVELS * n }
-        requires room { All (λ packets. packets ≤ MAX_QUEUE_PACKETS) room.now }
         ensures banks { IfOk result (λ banks. banks ≡ empty_queues n depth room.now) }
         ensures empty { IfOk result (λ banks. (output level : ℕ) → queue_at banks output level ≡ []) }
     {
