@@ -14,7 +14,7 @@ use Rattle.service_bound.proofs.Greatest.{greatest-within, greatest-has}
 member-true : (ports x : ℕ) → Has ports x → eqb (bit_at ports x) 1 ≡ true
 member-true ports x has = elim (eqb_tells (bit_at ports x) 1) [ inl p ↦ p.0 | inr p ↦ absurd (p.1 has) ]
 
-member-false : (ports x : ℕ) → (Has ports x → ⊥) → eqb (bit_at ports x) 1 ≡ false
+pub member-false : (ports x : ℕ) → (Has ports x → ⊥) → eqb (bit_at ports x) 1 ≡ false
 member-false ports x lacks = elim (eqb_tells (bit_at ports x) 1) [ inl p ↦ absurd (lacks p.1) | inr p ↦ p.0 ]
 
 -- the wait of a queue that waits, and of one that does not
@@ -30,12 +30,15 @@ some_of began outputs = record { waiting = outputs; began = began; ended = 0 }
 
 -- ---- the longest of some waits
 -- of none
-pub longest_of-none : (began : List ℕ) (outputs count : ℕ) → outputs ≡ 0 → longest_of began outputs count ≡ 0
-longest_of-none began outputs count none =
+pub longest_of-rests : (began : List ℕ) (outputs count : ℕ) → ((j : ℕ) → Has outputs j → ⊥) → longest_of began outputs count ≡ 0
+longest_of-rests began outputs count none =
     let all = greatest-within (wait_at (some_of began outputs) count) (length began) 0
-    (λ j below. let rests = wait_at-rests (some_of began outputs) count j
-    (λ has. let clear = bit_at-zero j in let set : bit_at 0 j ≡ 1 = ap (λ ports. bit_at ports j) (sym none) ∙ has in omega arith) in omega arith) in
+    (λ j below. let rests = wait_at-rests (some_of began outputs) count j (none j) in omega arith) in
     omega arith
+
+pub longest_of-none : (began : List ℕ) (outputs count : ℕ) → outputs ≡ 0 → longest_of began outputs count ≡ 0
+longest_of-none began outputs count none = longest_of-rests began outputs count
+    (λ j has. let clear = bit_at-zero j in let set : bit_at 0 j ≡ 1 = ap (λ ports. bit_at ports j) (sym none) ∙ has in omega arith)
 
 -- of some, one of which is taken out
 pub longest_of-without : (began : List ℕ) (outputs rest x count : ℕ) → Has outputs x → x < length began → ((y : ℕ) → Has rest y ↔ ((y ≢ x) × Has outputs y))

@@ -42,4 +42,5 @@ pub mod AnyQueue
 mod Greatest
 mod Levels
 mod Noting
+mod Skipping
 mod PartsServed

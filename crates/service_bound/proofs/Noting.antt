@@ -131,12 +131,13 @@ HasNoted-first n size = record {
       (HaveNoted-first n i level);
 }
 
-pub HasNoted-more : (old new : Meter) (slots : List NotedSlot) (slot : NotedSlot) → new.ports ≡ old.ports → new.count ≡ old.count + 1
+pub HasNoted-within : (old new : Meter) (slots : List NotedSlot) (slot : NotedSlot) → new.ports ≡ old.ports → new.count ≡ old.count + 1
     → length new.queues ≡ length old.queues
     → ((place : ℕ) → place < length old.queues
     → NotesSlot old.count (λ j. is_waiting slot (place / LEVELS) j (place % LEVELS)) (queues_at old.queues place) (queues_at new.queues place))
-    → AreWithin old.ports slot.rows → HasNoted old slots → HasNoted new (slots ++ slot ∷ [])
-HasNoted-more old new slots slot ports count long notes within noted =
+    → ((i j level : ℕ) → i < old.ports → level < LEVELS → is_waiting slot i j level ≡ true → j < old.ports)
+    → HasNoted old slots → HasNoted new (slots ++ slot ∷ [])
+HasNoted-within old new slots slot ports count long notes within noted =
     let old_count = noted.count in
     let old_long = noted.long in
     record {
@@ -154,8 +155,18 @@ HasNoted-more old new slots slot ports count long notes within noted =
           (subst (λ l. Notes old.count i l) column (subst (λ r. Notes old.count r (place % LEVELS)) row (notes place (omega arith)))) in
           subst (λ n. HaveNoted n (slots ++ slot ∷ []) i level (queues_at new.queues place)) (sym ports)
           (HaveNoted-more old.ports slots slot i level (queues_at old.queues place) (queues_at new.queues place) noted.size
-          (λ j waits. within.ports i inside level j Uni ((Decides-waiting slot i j level).0 waits).0) (noted.queues i level inside level_in) here);
+          (λ j waits. within i j level inside level_in waits) (noted.queues i level inside level_in) here);
     }
+
+-- where the rows name none but the ports
+pub HasNoted-more : (old new : Meter) (slots : List NotedSlot) (slot : NotedSlot) → new.ports ≡ old.ports → new.count ≡ old.count + 1
+    → length new.queues ≡ length old.queues
+    → ((place : ℕ) → place < length old.queues
+    → NotesSlot old.count (λ j. is_waiting slot (place / LEVELS) j (place % LEVELS)) (queues_at old.queues place) (queues_at new.queues place))
+    → AreWithin old.ports slot.rows → HasNoted old slots → HasNoted new (slots ++ slot ∷ [])
+HasNoted-more old new slots slot ports count long notes within noted =
+    HasNoted-within old new slots slot ports count long notes
+    (λ i j level inside level_in waits. within.ports i inside level j Uni ((Decides-waiting slot i j level).0 waits).0) noted
 
 -- the longest wait of a level is the longest of its queues
 pub longest-noted : (meter : Meter) (slots : List NotedSlot) (level : ℕ) → HasNoted meter slots → level < LEVELS

@@ -1,5 +1,5 @@
 -- Waits: for how many slots, one after the other, a unicast queue was posted and not served.
-use Rattle.std.specs.Prelude.{ℕ, ◌+◌, ◌-◌, ◌*◌, ◌/◌, ◌==◌, ◌&&◌, Bool, not, nat_lt, max, if◌then◌else◌, List, [], ◌∷◌, Option}
+use Rattle.std.specs.Prelude.{◌≡◌, ℕ, ◌+◌, ◌-◌, ◌*◌, ◌/◌, ◌==◌, ◌&&◌, Bool, false, not, nat_lt, max, if◌then◌else◌, List, [], ◌∷◌, Option}
 use Rattle.std.specs.List.{flat_map, range_with_len}
 use Rattle.rotating_pick.specs.declared.kinds.Kind.TheVariants.{Uni}
 use Rattle.slot_match.specs.declared.rows.Row.{Row}
@@ -21,6 +21,10 @@ noted_of slot = record { rows = slot.rows; matched = slot.decision.matched }
 -- whether queue (i, j, level) waits in the slot: it is posted there, and not matched there as unicast of the level
 abbrev pub is_waiting : NotedSlot → ℕ → ℕ → ℕ → Bool
 is_waiting slot i j level = is_named (row_of slot.rows i) level Uni j && not (is_fed i level Uni (fed_of slot.matched j))
+
+-- no queue waits in the slot
+abbrev pub NoneWaits : NotedSlot → Type 0
+NoneWaits slot = (i j level : ℕ) → is_waiting slot i j level ≡ false
 
 -- the wait of the queue in the slot, where it was `before` in the slot before
 abbrev pub wait_in : NotedSlot → ℕ → ℕ → ℕ → ℕ → ℕ

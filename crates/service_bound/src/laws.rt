@@ -145,7 +145,7 @@ pub fn waits_are_below_the_longest_service_at_line_rate()
 /// The numbers that the users of this crate rely on: how many slots a meter notes, and how many slots a service at line
 /// rate takes at most, of 2, 3, 16 and 64 ports, with one round and with more.
 pub fn limits_are()
-    ensures noted { MAX_NOTED ≡ 1048576 }
+    ensures noted { MAX_NOTED ≡ 4294967295 }
     ensures two_ports { (longest_service_at_line_rate 2 1 ≡ 4) × (longest_service_at_line_rate 2 2 ≡ 3) }
     ensures three_ports { (longest_service_at_line_rate 3 1 ≡ 10) × (longest_service_at_line_rate 3 2 ≡ 11) }
     ensures sixteen_ports { (longest_service_at_line_rate 16 1 ≡ 465) × (longest_service_at_line_rate 16 2 ≡ 1935) }

@@ -1,10 +1,10 @@
-ghost use Rattle.std.specs.Prelude.{◌≡◌, ℕ, ◌+◌, ◌*◌, ◌/◌, ◌%◌, ◌<◌, ◌≤◌, ◌≢◌, ◌↔◌, List, [], ◌∷◌, ◌++◌, length, replicate, IfOk};
+ghost use Rattle.std.specs.Prelude.{◌≡◌, ℕ, ◌+◌, ◌*◌, ◌/◌, ◌%◌, ◌<◌, ◌≤◌, ◌≢◌, ◌↔◌, false, List, [], ◌∷◌, ◌++◌, length, replicate, All, IfOk};
 ghost use Rattle.rotating_pick.specs.PortSets.{Has};
 ghost use Rattle.rotating_pick.specs.declared.kinds.Kind.TheVariants.{Uni};
 ghost use Rattle.slot_match.specs.Rows.{Names, AreWithin};
 ghost use Rattle.slot_match.specs.Keeping.{Gives};
 ghost use Rattle.slot_match.specs.Parts.{served_of};
-ghost use Rattle.service_bound.specs.Waits.{NotedSlot, is_waiting, longest_wait};
+ghost use Rattle.service_bound.specs.Waits.{NotedSlot, NoneWaits, is_waiting, longest_wait};
 ghost use Rattle.service_bound.specs.MeterSteps.{queues_at_first, place_of, queues_at, AreBegun, NotesSlot, HasNoted};
 
 use crate::level_queues::LevelQueues;
@@ -72,8 +72,8 @@ impl WaitMeter {
         self.count
     }
 
-    /// Notes one slot more, of which there are at most 1,048,576: a row for each input, which names none
-    /// but the ports, and a match of as many ports. It takes no memory.
+    /// Notes one slot more, of which there are at most 4,294,967,295: a row for each input, which names
+    /// none but the ports, and a match of as many ports. It takes no memory.
     pub fn note(&mut self, rows: &[Row], matched: &Match)
         requires rows { AreWithin self.old.ports rows.now }
         requires matched { length matched.now ≡ self.old.ports }
@@ -85,6 +85,22 @@ impl WaitMeter {
     {
         note_slot(&mut self.queues, self.count, rows, matched);
         self.count += 1;
+    }
+
+    /// Notes so many slots more in which no queue waits, as where nothing is posted; with them there are at
+    /// most 4,294,967,295. It takes no memory, and no longer than one slot.
+    pub fn skip(&mut self, slots: u32)
+        requires few { self.old.count + slots ≤ MAX_NOTED }
+        ensures noted { (before more : List NotedSlot) → HasNoted self.old before → length more ≡ slots → All NoneWaits more
+            → HasNoted self.new (before ++ more) }
+        ensures ports { self.new.ports ≡ self.old.ports }
+        ensures count { self.new.count ≡ self.old.count + slots }
+    {
+        if slots == 0 {
+            return;
+        }
+        note_none(&mut self.queues, self.count);
+        self.count += slots;
     }
 
     /// The longest wait of the level, 0 to 3, in all slots noted: the greatest of all queues.
@@ -106,6 +122,19 @@ impl WaitMeter {
     {
         // Reads a field: that tells the proof what the type says of its value.
         let _ = &self.ports;
+    }
+}
+
+// The queues of each input and level note slot `count`, in which none of them waits.
+fn note_none(queues: &mut Vec<LevelQueues>, count: u32)
+    requires few { count < MAX_NOTED }
+    requires begun { (place : ℕ) → place < length queues.old.items → AreBegun count (queues_at queues.old.items place) }
+    ensures long { length queues.new.items ≡ length queues.old.items }
+    ensures noted { (place : ℕ) → place < length queues.old.items
+        → NotesSlot count (λ j. false) (queues_at queues.old.items place) (queues_at queues.new.items place) }
+{
+    for place in 0..queues.len() {
+        queues[place].note(count, 0);
     }
 }
 
