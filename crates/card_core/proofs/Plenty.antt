@@ -4,12 +4,14 @@ use Rattle.std.proofs.Common.{slice_get, slice_index, slice_index_or, slice_set,
 use Rattle.std.proofs.lemmas.Bool.{cases_eq, ne_eqb, and_right}
 use Rattle.std.proofs.lemmas.List.{get_or-set_same, get_or-set_other, length-set, length-replicate}
 use Rattle.std.proofs.lemmas.Nat.Bits.{bit_at-pow_same}
+use Rattle.std.proofs.lemmas.Option.{get_or_from_slice_get}
 use Rattle.rotating_pick.specs.PortSets.{Has, HasSeveral}
 use Rattle.rotating_pick.proofs.Bits.{Has-lt}
+use Rattle.card_core.specs.declared.limits.TheConstants.{MAX_ARRIVALS}
 use Rattle.card_core.specs.declared.plan.Planned.{Planned}
-use Rattle.card_core.specs.Plans.{Plan, Queue, OfOutput, OfLevel, IsGoodPlan, AreRising, is_queue, queue_of}
+use Rattle.card_core.specs.Plans.{Plan, Queue, OfOutput, OfLevel, IsGoodPlan, IsSmallPlan, AreRising, is_queue, queue_of}
 use Rattle.card_core.specs.Queues.{is_routed}
-use Rattle.card_core.specs.States.{packets_for}
+use Rattle.card_core.specs.States.{packets_for, IsNext}
 use Rattle.card_core.specs.StateSteps.{HasRooms, AreFew}
 use Rattle.card_core.proofs.Arriving.{queue-unicast, queue-multicast, is_queue-refl, other-output, count-cons}
 
@@ -26,14 +28,24 @@ late packets rising (suc k) p there inside =
     let before = there_at packets k (omega arith) in
     omega (arith, late packets rising k before.0 before.1 (omega arith), rising k (suc k) before.0 p before.1 there (omega arith))
 
-few_at : (plan : Plan) → IsGoodPlan plan → (n : ℕ) → length plan.packets ≡ n → n ≤ 131072
-few_at plan good zero is = omega arith
-few_at plan good (suc n) is =
+few_at : (plan : Plan) → IsGoodPlan plan → IsSmallPlan plan → (n : ℕ) → length plan.packets ≡ n → n ≤ MAX_ARRIVALS
+few_at plan good small zero is = omega arith
+few_at plan good small (suc n) is =
     let last = there_at plan.packets n (omega arith) in
-    omega (arith, late plan.packets good.rising n last.0 last.1 (omega arith), (good.packets n last.0 last.1).early)
+    let early : last.0.arrival < MAX_ARRIVALS =
+    subst (λ (p : Planned). p.arrival < MAX_ARRIVALS) (get_or_from_slice_get plan.packets n last.0 last.0 last.1) (small.early n last.0 (omega arith)) in
+    omega (arith, late plan.packets good.rising n last.0 last.1 (omega arith), early)
 
-pub few_packets : (plan : Plan) → IsGoodPlan plan → length plan.packets ≤ 131072
-few_packets plan good = few_at plan good (length plan.packets) refl
+pub few_packets : (plan : Plan) → IsGoodPlan plan → IsSmallPlan plan → length plan.packets ≤ MAX_ARRIVALS
+few_packets plan good small = few_at plan good small (length plan.packets) refl
+
+-- no more packets have come than slots
+pub few_came : (packets : List Planned) (t next : ℕ) → AreRising packets → IsNext packets t next → next ≤ t
+few_came packets t zero rising is = omega arith
+few_came packets t (suc k) rising is =
+    let within = is.within in
+    let last = there_at packets k (omega arith) in
+    omega (arith, late packets rising k last.0 last.1 (omega arith), is.before k last.0 last.1 (omega arith))
 
 -- ---- the packets for a queue, with one more
 for_push : (q : Queue) (packets : List Planned) (p : Planned) → packets_for q (packets ++ p ∷ []) ≡ packets_for q packets + packets_for q (p ∷ [])

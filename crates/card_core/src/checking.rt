@@ -2,7 +2,6 @@ ghost use Rattle.std.specs.Prelude.{◌≡◌, ◌≢◌, ℕ, ◌+◌, ◌<◌,
 ghost use Rattle.card_core.specs.declared.plan.Planned.{Planned as APlanned};
 ghost use Rattle.card_core.specs.Plans.{IsPlanned, AreRising};
 
-use crate::limits::MAX_ARRIVALS;
 use crate::plan::Planned;
 use cell_cutter::MAX_FORWARDED_BYTES;
 use rotating_pick::{LEVELS, MAX_PORTS, is_among, is_empty};
@@ -31,7 +30,6 @@ fn is_planned(n: u32, bytes: usize, packet: Planned) -> bool
         && u32::from(packet.level) < LEVELS
         && is_among(n, packet.fan)
         && (is_empty(packet.fan) || packet.len as usize <= MAX_FORWARDED_BYTES)
-        && packet.arrival < MAX_ARRIVALS
 }
 
 /// Whether each packet arrives in a later slot than those before it.

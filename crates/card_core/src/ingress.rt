@@ -1,6 +1,6 @@
 ghost use Rattle.std.specs.Prelude.{◌≡◌, ℕ, ◌+◌, ◌<◌, List, [], ◌∷◌, ◌++◌, ◌↔◌, length, Option, true, false, IfOk, IsTrue};
 ghost use Rattle.slot_match.specs.declared.matching.Served.{Served};
-ghost use Rattle.card_core.specs.Plans.{IsGoodPlan, plan_of};
+ghost use Rattle.card_core.specs.Plans.{IsGoodPlan, IsSmallPlan, plan_of};
 ghost use Rattle.card_core.specs.Posts.{post_at, IsServable};
 ghost use Rattle.card_core.specs.States.{HasSent};
 
@@ -48,9 +48,10 @@ impl Model for Ingress {
 }
 
 impl Ingress {
-    /// A card of a good plan that has posted and was served nothing.
+    /// A card of a good plan within the limits that has posted and was served nothing.
     pub(crate) fn make(alloc: Global, plan: CardPlan) -> Result<Ingress, OutOfMemory>
-        requires { IsGoodPlan (plan_of plan) }
+        requires good { IsGoodPlan (plan_of plan) }
+        requires small { IsSmallPlan (plan_of plan) }
         ensures sent { IfOk result (λ card. HasSent card [] false) }
         ensures plan { IfOk result (λ card. card.plan ≡ plan_of plan) }
     {

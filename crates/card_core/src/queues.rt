@@ -1,7 +1,7 @@
-ghost use Rattle.std.specs.Prelude.{◌≡◌, ◌<◌, ◌≤◌, IfOk};
+ghost use Rattle.std.specs.Prelude.{◌≡◌, ◌<◌, IfOk};
 ghost use Rattle.voq_banks.specs.Queues.{empty_queues as empty_unis};
 ghost use Rattle.multicast_queue.specs.FanQueues.{empty_queues as empty_fans};
-ghost use Rattle.card_core.specs.StateSteps.{AreFew, MayEnter, Enters, MayLeave, Leaves, row_of};
+ghost use Rattle.card_core.specs.StateSteps.{MayEnter, Enters, MayLeave, Leaves, row_of};
 
 use crate::rooms::Rooms;
 use cell_cutter::CellName;
@@ -10,7 +10,7 @@ use rotating_pick::{Kind, OutOfMemory, Ports, lowest, only};
 use slot_match::{Row, Served};
 use std::alloc::Global;
 use std::marker::Model;
-use voq_banks::{Banks, MAX_DEPTH, MAX_QUEUE_PACKETS};
+use voq_banks::Banks;
 
 /// The queues of one input: of its unicast cells a queue for each output and level, of its multicast cells
 /// one for each level.
@@ -29,13 +29,11 @@ impl Model for Queues {
 }
 
 impl Queues {
-    /// Empty queues of at most `depth` cells each, 1 to 131,072, which as many packets will enter as `rooms`
-    /// counts, at most 131,072 each. It takes all memory that the queues need.
+    /// Empty queues of at most `depth` cells each, one or more, which as many packets will enter as `rooms`
+    /// counts. It takes all memory that the queues need.
     pub fn make(alloc: Global, depth: u32, rooms: &Rooms) -> Result<Queues, OutOfMemory>
         requires some { 0 < rooms.now.ports }
         requires deep { 0 < depth }
-        requires depth { depth ≤ MAX_DEPTH }
-        requires few { AreFew MAX_QUEUE_PACKETS rooms.now.unicast rooms.now.multicast }
         ensures unicast { IfOk result (λ queues. queues.unicast ≡ empty_unis rooms.now.ports depth rooms.now.unicast) }
         ensures multicast { IfOk result (λ queues. queues.multicast ≡ empty_fans rooms.now.ports depth rooms.now.multicast) }
     {

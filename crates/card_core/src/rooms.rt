@@ -3,7 +3,6 @@ ghost use Rattle.rotating_pick.specs.PortSets.{IsAmong};
 ghost use Rattle.card_core.specs.declared.plan.Planned.{Planned as APlanned};
 ghost use Rattle.card_core.specs.StateSteps.{HasRooms, AreFew};
 
-use crate::limits::MAX_ARRIVALS;
 use crate::plan::Planned;
 use rotating_pick::{LEVEL_COUNT, LEVELS, MAX_PORTS, Ports, is_empty, only};
 use std::alloc::{AllocError, Global};
@@ -46,9 +45,9 @@ impl Rooms {
     }
 
     /// Counts a packet with this fan-out, of the switch's ports, and this level, 0 to 3, at the queue that it is
-    /// to enter. One that goes nowhere enters none. Fewer than 131,072 are counted at each queue.
+    /// to enter. One that goes nowhere enters none. Fewer than 4,294,967,295 are counted at each queue.
     pub fn count(&mut self, fan: Ports, level: u8)
-        requires few { AreFew (MAX_ARRIVALS - 1) self.old.unicast self.old.multicast }
+        requires few { AreFew (2 ^ 32 - 2) self.old.unicast self.old.multicast }
         requires level { level < LEVELS }
         requires fan { IsAmong self.old.ports fan }
         ensures ports { self.new.ports ≡ self.old.ports }
@@ -71,7 +70,7 @@ impl Rooms {
 /// The rooms of all packets, of a switch of `n` ports.
 pub(crate) fn count_rooms(alloc: Global, n: u32, packets: &[Planned]) -> Result<Rooms, AllocError>
     requires size { n ≤ MAX_PORTS }
-    requires few { length packets.now ≤ MAX_ARRIVALS }
+    requires few { length packets.now < 2 ^ 32 }
     requires packets { (k : ℕ) (packet : APlanned) → slice_get packets.now k ≡ Some packet → (packet.level < LEVELS) × (packet.fan < 2 ^ n) }
     ensures ports { IfOk result (λ rooms. rooms.ports ≡ n) }
     ensures rooms { IfOk result (λ rooms. HasRooms n packets.now rooms.unicast rooms.multicast) }

@@ -1,7 +1,7 @@
 -- The counters after the packet that arrives in a slot.
-use Rattle.std.proofs.Common.{◌≡◌, ◌≢◌, ◌∙◌, ℕ, ◌+◌, ◌-◌, ◌^◌, ◌<◌, ◌&&◌, nat_le, Bool, true, false, List, length, Option, Some, None, refl, sym, ap}
+use Rattle.std.proofs.Common.{◌≡◌, ◌≢◌, ◌∙◌, ℕ, ◌+◌, ◌-◌, ◌^◌, ◌<◌, ◌&&◌, ◌≤◌, nat_le, Bool, true, false, List, length, Option, Some, None, refl, sym, ap, inl, inr}
 use Rattle.std.proofs.Common.{subst, arith, if◌then◌else◌, slice_get, slice_index, length-set, length-drop}
-use Rattle.std.proofs.lemmas.Bool.{ne_eqb}
+use Rattle.std.proofs.lemmas.Bool.{ne_eqb, cases_lt, le-leb, lt-leb}
 use Rattle.std.proofs.lemmas.List.{get_or-set_same, get_or-set_other}
 use Rattle.slot_match.specs.declared.matching.Served.{Served}
 use Rattle.card_core.specs.declared.plan.Planned.{Planned}
@@ -38,13 +38,21 @@ module _ (ports : ℕ) (lengths : List ℕ) (p : Planned) (q : Queue) (mine : Is
   with_at false true e = omega arith
   with_at false false e = omega arith
 
+-- what fits beside those that wait is no more than is left of the depth
+fits_left : (waits cells depth : ℕ) → waits ≤ depth → nat_le cells (depth - waits) ≡ nat_le (waits + cells) depth
+fits_left waits cells depth few = elim (cases_lt depth (waits + cells)) [
+  | inl over ↦ lt-leb cells (depth - waits) (omega arith) ∙ sym (lt-leb (waits + cells) depth over)
+  | inr fits ↦ le-leb cells (depth - waits) (omega arith) ∙ sym (le-leb (waits + cells) depth fits)
+]
+
 -- the test by what was found
 pub enters_from : (ports depth place cells : ℕ) (lengths : List ℕ) (p : Planned) → p.fan ≢ 0 → place ≡ place_for ports p → cells ≡ size_of p
-    → nat_le (slice_index lengths place + cells) depth ≡ enters_at ports depth lengths p
-enters_from ports depth place cells lengths p some at size =
+    → slice_index lengths (place_for ports p) ≤ depth → nat_le cells (depth - slice_index lengths place) ≡ enters_at ports depth lengths p
+enters_from ports depth place cells lengths p some at size few =
     let routed : is_routed p ≡ true = rw (ne_eqb p.fan 0 some) refl in
-    ap (λ n. nat_le (slice_index lengths n + cells) depth) at
-    ∙ ap (λ n. nat_le (slice_index lengths (place_for ports p) + n) depth) size
+    ap (λ n. nat_le cells (depth - slice_index lengths n)) at
+    ∙ ap (λ n. nat_le n (depth - slice_index lengths (place_for ports p))) size
+    ∙ fits_left (slice_index lengths (place_for ports p)) (size_of p) depth few
     ∙ ap (λ b. b && nat_le (slice_index lengths (place_for ports p) + size_of p) depth) (sym routed)
 
 swapped : (routed same admitted : Bool) (size : ℕ) → (if same && (routed && admitted) then size else 0) ≡ (if routed && same && admitted then size else 0)
@@ -71,13 +79,13 @@ module _ (plan : Plan) (counters : Counters) (served : List (Option Served)) (wa
     mine : IsQueue plan.ports (queue_of p)
     mine = IsQueue-packet plan.ports (length plan.bytes) p planned
 
-    pub may_enter : MayEnter counters.ports counters.lengths p
+    pub may_enter : MayEnter counters.ports counters.depth counters.lengths p
     may_enter = record {
       size = omega (arith, was.ports, was.good.size);
       count = was.count ∙ ap count_of (sym was.ports);
       few = let long = long_at (queue_of p) mine in
           let few = before_few plan (queue_of p) was.good served (length served) in
-          omega (arith, long, few, was.good.depth);
+          omega (arith, long, few, was.depth);
       level = planned.level;
       fan = subst (λ n. p.fan < 2 ^ n) (sym was.ports) planned.fan;
       forwarded = planned.forwarded;

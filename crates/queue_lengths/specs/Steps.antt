@@ -8,7 +8,6 @@ use Rattle.rotating_pick.specs.declared.limits.TheConstants.{LEVELS, MAX_PORTS}
 use Rattle.cell_cutter.specs.declared.sizes.TheConstants.{MAX_FORWARDED_BYTES}
 use Rattle.slot_match.specs.declared.rows.Row.{Row}
 use Rattle.slot_match.specs.declared.matching.Served.{Served}
-use Rattle.voq_banks.specs.declared.limits.TheConstants.{MAX_DEPTH}
 use Rattle.card_core.specs.declared.plan.Planned.{Planned}
 use Rattle.card_core.specs.Plans.{queue_of, size_of}
 use Rattle.card_core.specs.Queues.{is_routed}
@@ -19,11 +18,11 @@ use Rattle.queue_lengths.specs.Lengths.{place_of, count_of}
 abbrev pub place_for : ℕ → Planned → ℕ
 place_for ports packet = place_of ports (queue_of packet)
 
--- there is a length for each queue, that of the packet is no greater than a depth may be, and the packet is one of the switch
-pub record MayEnter (ports : ℕ) (lengths : List ℕ) (packet : Planned) : Type 0 where
+-- there is a length for each queue, that of the packet is no greater than the depth, and the packet is one of the switch
+pub record MayEnter (ports depth : ℕ) (lengths : List ℕ) (packet : Planned) : Type 0 where
   pub size : ports ≤ MAX_PORTS
   pub count : length lengths ≡ count_of ports
-  pub few : slice_index lengths (place_for ports packet) ≤ MAX_DEPTH
+  pub few : slice_index lengths (place_for ports packet) ≤ depth
   pub level : packet.level < LEVELS
   pub fan : IsAmong ports packet.fan
   pub forwarded : packet.fan ≢ 0 → packet.len ≤ MAX_FORWARDED_BYTES

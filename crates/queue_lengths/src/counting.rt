@@ -4,7 +4,7 @@ ghost use Rattle.rotating_pick.specs.declared.kinds.Kind.TheVariants.{Uni};
 ghost use Rattle.rotating_pick.specs.declared.limits.TheConstants.{LEVELS, MAX_PORTS};
 ghost use Rattle.slot_match.specs.declared.matching.Served.{Served as AServed};
 ghost use Rattle.slot_histories.specs.Parts.{IsPartOf};
-ghost use Rattle.card_core.specs.Plans.{Plan, IsGoodPlan, plan_of, queue_for};
+ghost use Rattle.card_core.specs.Plans.{Plan, IsGoodPlan, IsSmallPlan, plan_of, queue_for};
 ghost use Rattle.card_core.specs.Posts.{row_at, IsServable};
 ghost use Rattle.queue_lengths.specs.Lengths.{place_of, count_of};
 ghost use Rattle.queue_lengths.specs.Counters.{CountBefore, CountIn, arrival_in};
@@ -42,18 +42,22 @@ pub struct QueueLengths {
 }
 
 impl Model for QueueLengths {
+    ghost use Rattle.std.specs.Prelude.{◌<◌, ◌^◌, length};
     ghost use Rattle.queue_lengths.specs.Counters.{Counters};
 
     ghost Value = { Counters };
 
     ghost view = { λ q. record { ports = q.ports; depth = q.depth; packets = q.packets.items; next = q.next; lengths = q.lengths.items } };
+
+    ghost invariant = { λ q. length q.packets.items < 2 ^ 32 };
 }
 
 impl QueueLengths {
-    /// The queues of an input that is to send what the plan says, before slot 0. It copies the plan's packets, without
+    /// The queues of an input that is to send what a plan within the limits says, before slot 0. It copies the plan's packets, without
     /// their bytes; want of memory is the only error.
     pub fn make(alloc: Global, plan: &CardPlan) -> Result<QueueLengths, OutOfMemory>
-        requires { IsGoodPlan (plan_of plan.now) }
+        requires good { IsGoodPlan (plan_of plan.now) }
+        requires small { IsSmallPlan (plan_of plan.now) }
         ensures { IfOk result (λ queues. CountBefore (plan_of plan.now) queues []) }
     {
         let packets = plan.packets.to_vec(alloc)?;
@@ -136,7 +140,7 @@ pub fn queue_place(ports: u32, fan: Ports, level: u8) -> u32
 
 // Adds the packet's cells to its queue, if it goes anywhere and they fit. Answers whether it did.
 fn enter(ports: u32, depth: u32, lengths: &mut [u32], packet: Planned) -> bool
-    requires { MayEnter ports lengths.old packet }
+    requires { MayEnter ports depth lengths.old packet }
     ensures test { result ≡ enters_at ports depth lengths.old packet }
     ensures lengths { lengths.new ≡ lengths_with ports lengths.old packet result }
 {
@@ -144,10 +148,11 @@ fn enter(ports: u32, depth: u32, lengths: &mut [u32], packet: Planned) -> bool
         return false;
     }
     let place = queue_place(ports, packet.fan, packet.level) as usize;
-    let waiting = lengths[place] + cells_of(packet.len);
-    let fits = waiting <= depth;
+    let waiting = lengths[place];
+    let cells = cells_of(packet.len);
+    let fits = cells <= depth - waiting;
     if fits {
-        lengths[place] = waiting;
+        lengths[place] = waiting + cells;
     }
     fits
 }

@@ -26,7 +26,7 @@ next n m i packets d old new is inside adds had =
 
 pub count-requires-clause-few : goal.count-requires-clause-few
 count-requires-clause-few c =
-    few_up c.loop-packet.packet-index 131071 c.loop-packet.rooms.unicast c.loop-packet.rooms.multicast (omega arith) c.loop-packet.invariant.few
+    few_up c.loop-packet.packet-index 4294967294 c.loop-packet.rooms.unicast c.loop-packet.rooms.multicast (omega arith) c.loop-packet.invariant.few
 
 pub count-requires-clause-level : goal.count-requires-clause-level
 count-requires-clause-level c =

@@ -9,14 +9,14 @@ use Rattle.card_core.proofs.card.Card.make.Goals as goal
 
 pub make-requires : goal.make-requires
 make-requires c = record {
-  some = c.requires.some;
-  ports = c.requires.size;
-  flows = ap length c.deref.ensures.value ∙ c.requires.flows;
-  sizes = subst (λ (xs : List ℕ). (k d : ℕ) → k < length xs → slice_index_or xs k d ≤ 65551) (sym c.deref.ensures.value) c.requires.sizes;
+  some = c.requires.good.some;
+  ports = c.requires.good.size;
+  flows = ap length c.deref.ensures.value ∙ c.requires.good.flows;
+  sizes = subst (λ (xs : List ℕ). (k d : ℕ) → k < length xs → slice_index_or xs k d ≤ 65551) (sym c.deref.ensures.value) c.requires.good.sizes;
 }
 
 pub make-requires-2 : goal.make-requires-2
-make-requires-2 c = c.requires
+make-requires-2 c = record { good = c.requires.good; small = c.requires.small }
 
 pub invariant_of-result : goal.invariant_of-result
 invariant_of-result c =

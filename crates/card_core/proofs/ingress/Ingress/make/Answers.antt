@@ -7,7 +7,7 @@ use Rattle.card_core.specs.StateSteps.{HasRooms}
 use Rattle.voq_banks.specs.Queues.{empty_queues as empty_unis}
 use Rattle.multicast_queue.specs.FanQueues.{empty_queues as empty_fans}
 use Rattle.slot_match.specs.declared.rows.Row.{Row}
-use Rattle.card_core.proofs.Plenty.{few_packets, few_up}
+use Rattle.card_core.proofs.Plenty.{few_packets}
 use Rattle.card_core.proofs.Beginning.{begins}
 use Rattle.card_core.proofs.ingress.Ingress.make.Goals as goal
 
@@ -27,31 +27,28 @@ made plan row packets rooms queues good packets_are ports had unicast_is multica
 pub count_rooms-requires : goal.count_rooms-requires
 count_rooms-requires c =
     record {
-      size = c.requires.size;
-      few = let f = few_packets (plan_of c.args.plan) c.requires in let e = ap length c.deref.ensures.value in omega arith;
-      packets = λ k packet there. let p = c.requires.packets k packet (ap (λ xs. slice_get xs k) (sym c.deref.ensures.value) ∙ there) in (p.level, p.fan);
+      size = c.requires.good.size;
+      few = let f = few_packets (plan_of c.args.plan) c.requires.good c.requires.small in let e = ap length c.deref.ensures.value in omega arith;
+      packets = λ k packet there. let p = c.requires.good.packets k packet (ap (λ xs. slice_get xs k) (sym c.deref.ensures.value) ∙ there) in (p.level, p.fan);
     }
 
 pub make-requires : goal.make-requires
 make-requires c =
     record {
-      some = subst (λ n. 0 < n) (sym c.in_ok-rooms.ensures.ports) c.requires.some;
-      deep = c.requires.deep;
-      depth = c.requires.depth;
-      few = few_up (length c.deref.result.now) 131072 c.in_ok-rooms.rooms.unicast c.in_ok-rooms.rooms.multicast
-          (let f = few_packets (plan_of c.args.plan) c.requires in let e = ap length c.deref.ensures.value in omega arith) c.in_ok-rooms.ensures.few;
+      some = subst (λ n. 0 < n) (sym c.in_ok-rooms.ensures.ports) c.requires.good.some;
+      deep = c.requires.good.deep;
     }
 
 pub invariant_of-result : goal.invariant_of-result
 invariant_of-result c = (
   [],
-  made (plan_of c.args.plan) c.empty.result c.deref.result.now c.in_ok-rooms.rooms c.in_ok-queues.queues c.requires c.deref.ensures.value
+  made (plan_of c.args.plan) c.empty.result c.deref.result.now c.in_ok-rooms.rooms c.in_ok-queues.queues c.requires.good c.deref.ensures.value
       c.in_ok-rooms.ensures.ports c.in_ok-rooms.ensures.rooms c.in_ok-queues.ensures.unicast c.in_ok-queues.ensures.multicast,
 )
 
 pub returns : goal.returns
 returns c = record {
-  sent = made (plan_of c.args.plan) c.empty.result c.deref.result.now c.in_ok-rooms.rooms c.in_ok-queues.queues c.requires c.deref.ensures.value
+  sent = made (plan_of c.args.plan) c.empty.result c.deref.result.now c.in_ok-rooms.rooms c.in_ok-queues.queues c.requires.good c.deref.ensures.value
       c.in_ok-rooms.ensures.ports c.in_ok-rooms.ensures.rooms c.in_ok-queues.ensures.unicast c.in_ok-queues.ensures.multicast;
   plan = refl;
 }

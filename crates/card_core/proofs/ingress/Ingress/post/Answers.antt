@@ -3,7 +3,6 @@ use Rattle.card_core.specs.declared.plan.Planned.{Planned}
 use Rattle.card_core.specs.Posts.{post_at}
 use Rattle.card_core.specs.States.{State, HasSent}
 use Rattle.card_core.specs.StateSteps.{next_in}
-use Rattle.card_core.proofs.Plenty.{few_packets}
 use Rattle.card_core.proofs.Posted.{may_arrive, few, next_few, posted_is, post_is}
 use Rattle.card_core.specs.contracts.ingress.Ingress.{the_view}
 use Rattle.card_core.proofs.ingress.Ingress.post.Goals as goal
@@ -65,5 +64,4 @@ overflow_add-self c =
     let f = next_few (the_view c.self.inside) c.self.invariant.0 was c.next_arrival-arrived.result c.enter-count.result c.enter-count.new.queues.unicast
     c.enter-count.new.queues.multicast (c.next_arrival-arrived.ensures
     ∙ ap (λ (ps : List Planned). next_in ps c.self.inside.next c.self.inside.slot) c.deref.ensures.value) c.enter-count.ensures in
-    let all = few_packets (the_view c.self.inside).plan was.plan in
-    omega (arith, f, all)
+    omega (arith, f, ap (λ (b : State). b.slot) c.self.view_is, c.requires.room)

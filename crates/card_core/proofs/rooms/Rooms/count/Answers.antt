@@ -43,8 +43,8 @@ index_mut-requires c =
 
 pub overflow_add-index_mut : goal.overflow_add-index_mut
 overflow_add-index_mut c =
-    let few = subst (λ (r : QueueRooms). AreFew 131071 r.unicast r.multicast) (sym c.self.view_is) c.requires.few in
-    let most : slice_index_or c.self.inside.unicast.items (4 * c.in-Some.output + c.args.level) 0 ≤ 131071 = few.unis (4 * c.in-Some.output + c.args.level) in
+    let few = subst (λ (r : QueueRooms). AreFew 4294967294 r.unicast r.multicast) (sym c.self.view_is) c.requires.few in
+    let most : slice_index_or c.self.inside.unicast.items (4 * c.in-Some.output + c.args.level) 0 ≤ 4294967294 = few.unis (4 * c.in-Some.output + c.args.level) in
     let inside = place_inside c.self.inside.ports c.args.fan c.in-Some.output c.args.level (length c.self.inside.unicast.items) c.in-Some.ensures.one.1
     (subst (λ (r : QueueRooms). c.args.fan < 2 ^ r.ports) (sym c.self.view_is) c.requires.fan) c.requires.level c.self.invariant.1 in
     let value : c.index_mut.result.now ≡ slice_index_or c.self.inside.unicast.items (4 * c.in-Some.output + c.args.level) 0 = c.index_mut.ensures.value

@@ -2,7 +2,6 @@ use Rattle.std.proofs.Common.{◌∙◌, ◌<◌, map, length, ap, sym, subst, a
 use Rattle.voq_banks.specs.Queues.{empty_queues as empty_unis}
 use Rattle.multicast_queue.specs.FanQueues.{empty_queues as empty_fans}
 use Rattle.card_core.specs.StateSteps.{HasRooms}
-use Rattle.card_core.proofs.Plenty.{few_up}
 use Rattle.output_queued.specs.Switches.{planned_of}
 use Rattle.output_queued.proofs.Sources.{few_coming, begins_as}
 use Rattle.output_queued.proofs.inputs.Input.make.Goals as goal
@@ -13,12 +12,6 @@ count_rooms-requires-clause-few c = let few = few_coming c.args.n c.args.depth c
 
 pub make-requires-clause-some : goal.make-requires-clause-some
 make-requires-clause-some c = subst (λ n. 0 < n) (sym c.in_ok-rooms.ensures.ports) c.requires.some
-
-pub make-requires-clause-few : goal.make-requires-clause-few
-make-requires-clause-few c =
-    few_up (length c.deref.result.now) 131072 c.in_ok-rooms.rooms.unicast c.in_ok-rooms.rooms.multicast
-    (let few = few_coming c.args.n c.args.depth c.args.coming.items c.requires in let e = ap length c.deref.ensures.value in
-    omega arith) c.in_ok-rooms.ensures.few
 
 pub returns-clause-before : goal.returns-clause-before
 returns-clause-before c =

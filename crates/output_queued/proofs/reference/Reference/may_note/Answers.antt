@@ -1,4 +1,4 @@
-use Rattle.std.proofs.Common.{◌≡◌, ◌∙◌, true, false, map, ap, sym, subst, arith}
+use Rattle.std.proofs.Common.{◌≡◌, ◌∙◌, true, map, ap, sym, subst, arith}
 use Rattle.std.proofs.lemmas.Bool.{eqb-true, eq-eqb, le-ltb, both_ways}
 use Rattle.card_core.specs.StateSteps.{row_of}
 use Rattle.output_queued.specs.NotingSteps.{Source, State, MayNote}

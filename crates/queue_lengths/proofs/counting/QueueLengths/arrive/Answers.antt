@@ -1,4 +1,4 @@
-use Rattle.std.proofs.Common.{rules, ◌≡◌, ◌∙◌, ℕ, ◌+◌, ◌<◌, List, length, Option, Some, None, ap, sym, subst, arith}
+use Rattle.std.proofs.Common.{rules, ◌≡◌, ◌∙◌, ℕ, ◌+◌, ◌<◌, ◌^◌, List, length, Option, Some, None, ap, sym, subst, arith}
 use Rattle.std.specs.Vec.{with_items}
 use Rattle.std.proofs.lemmas.List.{with_items_is, places}
 use Rattle.std.proofs.lemmas.Option.{slice_get_within}
@@ -6,7 +6,6 @@ use Rattle.card_core.specs.declared.plan.Planned.{Planned}
 use Rattle.slot_match.specs.declared.matching.Served.{Served}
 use Rattle.card_core.specs.Plans.{Plan}
 use Rattle.card_core.specs.StateSteps.{next_in}
-use Rattle.card_core.proofs.Plenty.{few_packets}
 use Rattle.queue_lengths.specs.Counters.{Counters, CountBefore, CountIn, arrival_in}
 use Rattle.queue_lengths.specs.Steps.{MayEnter, enters_at, lengths_with}
 use Rattle.queue_lengths.specs.contracts.counting.QueueLengths.{the_view}
@@ -48,8 +47,8 @@ overflow_add-self c =
     looked_at s0.packets c.deref.result.now s0.next long c.next_arrival.ensures c.deref.ensures.value c.in_ok-packet.was in
     let inside : s0.next < length plan.packets =
     slice_get_within plan.packets s0.next c.in_ok-packet.packet (packet-there plan s0 served was0 c.in_ok-packet.packet next) in
-    let few = few_packets plan was0.good in
-    omega arith
+    let few : length s0.packets < 2 ^ 32 = c.self.invariant in
+    omega (arith, ap length was0.packets)
 
 pub enter-admitted-requires : goal.enter-admitted-requires
 enter-admitted-requires c =
@@ -58,7 +57,7 @@ enter-admitted-requires c =
     let was0 : CountBefore plan s0 served = behind plan served c.self.view_is was in
     let next : next_in s0.packets s0.next (length served) ≡ Some c.in_ok-packet.packet =
     looked_at s0.packets c.deref.result.now s0.next long c.next_arrival.ensures c.deref.ensures.value c.in_ok-packet.was in
-    subst (λ lengths. MayEnter s0.ports lengths c.in_ok-packet.packet) (sym c.deref_mut.ensures.value)
+    subst (λ lengths. MayEnter s0.ports s0.depth lengths c.in_ok-packet.packet) (sym c.deref_mut.ensures.value)
     (may_enter plan s0 served was0 c.in_ok-packet.packet next)
 
 pub returns-clause-counts : goal.returns-clause-counts
