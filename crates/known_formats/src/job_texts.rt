@@ -1,7 +1,7 @@
 //! Jobs as the rows state them.
 use scheduler_names::SchedulerName;
 use std::alloc::{AllocError, Global};
-use switch_words::{CheckJob, FirmJob, GenJob, Job, RunJob, Settings};
+use switch_words::{CheckJob, FirmJob, GenJob, Job, RunJob, Settings, Speed};
 
 /// A command with its settings.
 pub fn job_text(alloc: Global, job: &Job) -> Result<String, AllocError> {
@@ -74,11 +74,15 @@ fn settings_text(alloc: Global, settings: Settings) -> Result<String, AllocError
     let rounds = settings.rounds;
     let depth = settings.depth;
     let workers = settings.workers;
-    match settings.pace_us {
-        Some(pace) => {
-            format!(in alloc; "rounds={rounds} depth={depth} workers={workers} pace={pace}")
-        }
-        None => format!(in alloc; "rounds={rounds} depth={depth} workers={workers} pace=-"),
+    let speed = speed_text(alloc, settings.speed)?;
+    format!(in alloc; "rounds={rounds} depth={depth} workers={workers} {speed}")
+}
+
+fn speed_text(alloc: Global, speed: Speed) -> Result<String, AllocError> {
+    match speed {
+        Speed::Untimed => format!(in alloc; "pace=-"),
+        Speed::SlotMicros(micros) => format!(in alloc; "pace={micros}"),
+        Speed::LineRate(mbps) => format!(in alloc; "rate={mbps}"),
     }
 }
 

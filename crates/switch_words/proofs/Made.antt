@@ -1,9 +1,10 @@
--- Where the words of a made input give no job.
+-- Where the words of a made input give no job, and where they give one.
 use Rattle.std.proofs.Common.{◌≡◌, List, Option, None, Some, Ok, Err, ok_or, refl}
 use Rattle.scheduler_names.specs.declared.names.SchedulerName.{SchedulerName}
 use Rattle.clap.specs.Walk.{Text}
 use Rattle.switch_words.specs.declared.fault.WordsFault.{WordsFault}
 use Rattle.switch_words.specs.declared.job.Settings.{Settings}
+use Rattle.switch_words.specs.declared.job.GenJob.{GenJob}
 use Rattle.switch_words.specs.declared.options.Command.{Command}
 use Rattle.switch_words.specs.declared.options.Command.TheVariants.{Gen}
 use Rattle.switch_words.specs.Parts.{Parts}
@@ -23,3 +24,14 @@ pub no_made_job : (command : Command) (parts : Parts) (settings : Settings) (sch
 unfolding job_with
 no_made_job command parts settings scheduler names fault other is has_settings has_scheduler has_names none =
     rw (is, is_there _ _ _ has_settings) (rw (is_there _ _ _ has_scheduler, has_names) (rw (is_absent _ _ _ none) refl))
+
+not_some : {A : Type 0} (x : A) → Some x ≡ None → ⊥
+not_some x h = cc
+
+pub made_job_there : (command : Command) (parts : Parts) (settings : Settings) (scheduler : SchedulerName) (names : List Text) (job : GenJob)
+    (other : WordsFault) → command ≡ Gen → ok_or (settings_of parts) other ≡ Ok settings
+    → ok_or (scheduler_given parts.scheduler) other ≡ Ok scheduler → parts.names ≡ names → ok_or (gen_with settings scheduler names) other ≡ Ok job
+    → job_with command parts ≡ None → ⊥
+unfolding job_with
+made_job_there command parts settings scheduler names job other is has_settings has_scheduler has_names made none =
+    not_some _ (rw (is, is_there _ _ _ has_settings, is_there _ _ _ has_scheduler, has_names, is_there _ _ _ made) at none)

@@ -110,10 +110,10 @@ usual_flags =
     (inr (slots, refl), (inr (journal, refl), (inr (reference, refl), (inr (queues, refl), (inr (packets, refl), (inr (alone, refl), (inl refl, tt)))))))
 
 usual : (command : Command) → AreUsual (rules_for command)
-usual Run = (inl refl, (inl refl, (inl refl, (inl refl, (inl refl, usual_flags)))))
+usual Run = (inl refl, (inl refl, (inl refl, (inl refl, (inl refl, (inl refl, usual_flags))))))
 usual Gen = (inl refl, (inl refl, (inl refl, (inl refl, (inl refl, tt)))))
 usual Check = (inl refl, (inl refl, tt))
-usual Firm = (inl refl, (inl refl, (inl refl, (inl refl, tt))))
+usual Firm = (inl refl, (inl refl, (inl refl, (inl refl, (inl refl, tt)))))
 
 -- a command has no subcommand: one level is all
 one_level : (command : Command) (words : List Text)

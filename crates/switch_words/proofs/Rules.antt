@@ -12,7 +12,7 @@ use Rattle.clap.specs.declared.builder.value_parser.Reading.TheVariants.{AsWritt
 use Rattle.clap.specs.declared.parser.matches.ValueSource.TheVariants.{CommandLine}
 use Rattle.switch_words.specs.declared.options.Command.{Command}
 use Rattle.switch_words.specs.declared.options.Command.TheVariants.{Run, Gen, Check, Firm}
-use Rattle.switch_words.specs.Options.{Setting, rounds, depth, workers, pace_us, scheduler, Switch, value, flag, option_of}
+use Rattle.switch_words.specs.Options.{Setting, rounds, depth, workers, pace_us, line_rate, scheduler, Switch, value, flag, option_of}
 use Rattle.switch_words.specs.Options.{Flag, slots, journal, reference, queues, packets, alone}
 use Rattle.switch_words.specs.LineSteps.{Lookup, first_text, flag_arg, flags_for, is_true_text, lookup_in, names_arg, option_arg, options_for, parts_in}
 use Rattle.switch_words.specs.Parts.{Parts, is_given, set_flag, set_text, text_in, with_flag, with_names, with_text}
@@ -26,6 +26,7 @@ id_of rounds = codes "rounds"
 id_of depth = codes "depth"
 id_of workers = codes "workers"
 id_of pace_us = codes "pace-us"
+id_of line_rate = codes "line-rate"
 id_of scheduler = codes "scheduler"
 
 abbrev pub flag_id : Flag → Text
@@ -75,21 +76,25 @@ met_value Run rounds = (refl, refl)
 met_value Run depth = (refl, refl)
 met_value Run workers = (refl, refl)
 met_value Run pace_us = (refl, refl)
+met_value Run line_rate = (refl, refl)
 met_value Run scheduler = (refl, refl)
 met_value Gen rounds = (refl, refl)
 met_value Gen depth = (refl, refl)
 met_value Gen workers = (refl, refl)
 met_value Gen pace_us = refl
+met_value Gen line_rate = refl
 met_value Gen scheduler = (refl, refl)
 met_value Check rounds = refl
 met_value Check depth = refl
 met_value Check workers = refl
 met_value Check pace_us = refl
+met_value Check line_rate = refl
 met_value Check scheduler = (refl, refl)
 met_value Firm rounds = (refl, refl)
 met_value Firm depth = (refl, refl)
 met_value Firm workers = refl
 met_value Firm pace_us = (refl, refl)
+met_value Firm line_rate = (refl, refl)
 met_value Firm scheduler = refl
 
 met_flag : (command : Command) (f : Flag) → IsMet (rules_for command) (flag_id f) (option_of command (flag_id f))
@@ -123,7 +128,8 @@ data Named (name : Text) : Type 0 where
   setting : (s : Setting) → id_of s ≡ name → Named name
   switch : (f : Flag) → flag_id f ≡ name → Named name
   unknown : bytes_eq (codes "rounds") name ≡ false → bytes_eq (codes "depth") name ≡ false → bytes_eq (codes "workers") name ≡ false
-      → bytes_eq (codes "pace-us") name ≡ false → bytes_eq (codes "scheduler") name ≡ false → bytes_eq (codes "slots") name ≡ false
+      → bytes_eq (codes "pace-us") name ≡ false → bytes_eq (codes "line-rate") name ≡ false → bytes_eq (codes "scheduler") name ≡ false
+      → bytes_eq (codes "slots") name ≡ false
       → bytes_eq (codes "journal") name ≡ false → bytes_eq (codes "reference") name ≡ false → bytes_eq (codes "queues") name ≡ false
       → bytes_eq (codes "packets") name ≡ false → bytes_eq (codes "alone") name ≡ false → Named name
 
@@ -139,21 +145,24 @@ named name = elim (cases_Bool (bytes_eq (codes "rounds") name)) [
       | inl h ↦ setting workers (is_text _ _ h)
       | inr d ↦ elim (cases_Bool (bytes_eq (codes "pace-us") name)) [
         | inl h ↦ setting pace_us (is_text _ _ h)
-        | inr e ↦ elim (cases_Bool (bytes_eq (codes "scheduler") name)) [
-          | inl h ↦ setting scheduler (is_text _ _ h)
-          | inr s ↦ elim (cases_Bool (bytes_eq (codes "slots") name)) [
-            | inl h ↦ switch slots (is_text _ _ h)
-            | inr f ↦ elim (cases_Bool (bytes_eq (codes "journal") name)) [
-              | inl h ↦ switch journal (is_text _ _ h)
-              | inr g ↦ elim (cases_Bool (bytes_eq (codes "reference") name)) [
-                | inl h ↦ switch reference (is_text _ _ h)
-                | inr k ↦ elim (cases_Bool (bytes_eq (codes "queues") name)) [
-                  | inl h ↦ switch queues (is_text _ _ h)
-                  | inr m ↦ elim (cases_Bool (bytes_eq (codes "packets") name)) [
-                    | inl h ↦ switch packets (is_text _ _ h)
-                    | inr n ↦ elim (cases_Bool (bytes_eq (codes "alone") name)) [
-                      | inl h ↦ switch alone (is_text _ _ h)
-                      | inr o ↦ unknown a b d e s f g k m n o
+        | inr e ↦ elim (cases_Bool (bytes_eq (codes "line-rate") name)) [
+          | inl h ↦ setting line_rate (is_text _ _ h)
+          | inr r ↦ elim (cases_Bool (bytes_eq (codes "scheduler") name)) [
+            | inl h ↦ setting scheduler (is_text _ _ h)
+            | inr s ↦ elim (cases_Bool (bytes_eq (codes "slots") name)) [
+              | inl h ↦ switch slots (is_text _ _ h)
+              | inr f ↦ elim (cases_Bool (bytes_eq (codes "journal") name)) [
+                | inl h ↦ switch journal (is_text _ _ h)
+                | inr g ↦ elim (cases_Bool (bytes_eq (codes "reference") name)) [
+                  | inl h ↦ switch reference (is_text _ _ h)
+                  | inr k ↦ elim (cases_Bool (bytes_eq (codes "queues") name)) [
+                    | inl h ↦ switch queues (is_text _ _ h)
+                    | inr m ↦ elim (cases_Bool (bytes_eq (codes "packets") name)) [
+                      | inl h ↦ switch packets (is_text _ _ h)
+                      | inr n ↦ elim (cases_Bool (bytes_eq (codes "alone") name)) [
+                        | inl h ↦ switch alone (is_text _ _ h)
+                        | inr o ↦ unknown a b d e r s f g k m n o
+                      ]
                     ]
                   ]
                 ]
@@ -169,19 +178,20 @@ named name = elim (cases_Bool (bytes_eq (codes "rounds") name)) [
 -- no command has an option of another name
 none_met : (command : Command) (name : Text)
     → bytes_eq (codes "rounds") name ≡ false → bytes_eq (codes "depth") name ≡ false → bytes_eq (codes "workers") name ≡ false
-    → bytes_eq (codes "pace-us") name ≡ false → bytes_eq (codes "scheduler") name ≡ false → bytes_eq (codes "slots") name ≡ false
+    → bytes_eq (codes "pace-us") name ≡ false → bytes_eq (codes "line-rate") name ≡ false → bytes_eq (codes "scheduler") name ≡ false
+    → bytes_eq (codes "slots") name ≡ false
     → bytes_eq (codes "journal") name ≡ false → bytes_eq (codes "reference") name ≡ false → bytes_eq (codes "queues") name ≡ false
     → bytes_eq (codes "packets") name ≡ false → bytes_eq (codes "alone") name ≡ false
     → IsMet (rules_for command) name (option_of command name)
-none_met Run name a b d e s f g k m n o = rw (a, b, d, e, s, f, g, k, m, n, o) (rw (a, b, d, e, s, f, g, k, m, n, o) refl)
-none_met Gen name a b d e s f g k m n o = rw (a, b, d, e, s, f, g, k, m, n, o) (rw (a, b, d, s) refl)
-none_met Check name a b d e s f g k m n o = rw (a, b, d, e, s, f, g, k, m, n, o) (rw s refl)
-none_met Firm name a b d e s f g k m n o = rw (a, b, d, e, s, f, g, k, m, n, o) (rw (a, b, e) refl)
+none_met Run name a b d e r s f g k m n o = rw (a, b, d, e, r, s, f, g, k, m, n, o) (rw (a, b, d, e, r, s, f, g, k, m, n, o) refl)
+none_met Gen name a b d e r s f g k m n o = rw (a, b, d, e, r, s, f, g, k, m, n, o) (rw (a, b, d, s) refl)
+none_met Check name a b d e r s f g k m n o = rw (a, b, d, e, r, s, f, g, k, m, n, o) (rw s refl)
+none_met Firm name a b d e r s f g k m n o = rw (a, b, d, e, r, s, f, g, k, m, n, o) (rw (a, b, e, r) refl)
 
 long_met : (command : Command) (name : Text) → Named name → IsMet (rules_for command) name (option_of command name)
 long_met command name (setting s is) = subst (λ (n : Text). IsMet (rules_for command) n (option_of command n)) is (met_value command s)
 long_met command name (switch f is) = subst (λ (n : Text). IsMet (rules_for command) n (option_of command n)) is (met_flag command f)
-long_met command name (unknown a b d e s f g k m n o) = none_met command name a b d e s f g k m n o
+long_met command name (unknown a b d e r s f g k m n o) = none_met command name a b d e r s f g k m n o
 
 pub has_rules : (command : Command) → HasRules command (rules_for command)
 has_rules Run = record { short = λ x. refl; place = refl; by_id = refl; long = λ name. long_met Run name (named name) }
@@ -229,6 +239,12 @@ value_apart pace_us reference = refl
 value_apart pace_us queues = refl
 value_apart pace_us packets = refl
 value_apart pace_us alone = refl
+value_apart line_rate slots = refl
+value_apart line_rate journal = refl
+value_apart line_rate reference = refl
+value_apart line_rate queues = refl
+value_apart line_rate packets = refl
+value_apart line_rate alone = refl
 value_apart scheduler slots = refl
 value_apart scheduler journal = refl
 value_apart scheduler reference = refl
@@ -305,6 +321,7 @@ text_in-parts_in rounds lookup = refl
 text_in-parts_in depth lookup = refl
 text_in-parts_in workers lookup = refl
 text_in-parts_in pace_us lookup = refl
+text_in-parts_in line_rate lookup = refl
 text_in-parts_in scheduler lookup = refl
 
 parts_in-put : (s : Setting) (v : Text) (lookup : Lookup) → parts_in (put (id_of s) (v ∷ []) lookup) ≡ set_text (parts_in lookup) s v
@@ -312,6 +329,7 @@ parts_in-put rounds v lookup = refl
 parts_in-put depth v lookup = refl
 parts_in-put workers v lookup = refl
 parts_in-put pace_us v lookup = refl
+parts_in-put line_rate v lookup = refl
 parts_in-put scheduler v lookup = refl
 
 -- ---- what a use of an argument adds

@@ -1,9 +1,11 @@
 -- The limits of what a job says.
-use Rattle.std.specs.Prelude.{ℕ, ◌<◌, ◌≤◌, IfSome, vec_len}
+use Rattle.std.specs.Prelude.{ℕ, ◌<◌, ◌≤◌, vec_len}
 use Rattle.rotating_pick.specs.declared.limits.TheConstants.{MAX_PORTS, MAX_ROUNDS}
-use Rattle.line_pace.specs.declared.pace.TheConstants.{MAX_SLOT_MICROS}
+use Rattle.line_pace.specs.declared.pace.TheConstants.{MAX_LINE_RATE, MAX_SLOT_MICROS}
 use Rattle.voq_banks.specs.declared.limits.TheConstants.{MAX_DEPTH}
 use Rattle.switch_words.specs.declared.limits.TheConstants.{MAX_WORKERS, MAX_SEED, MAX_COUNT}
+use Rattle.switch_words.specs.declared.job.Speed.{Speed}
+use Rattle.switch_words.specs.declared.job.Speed.TheVariants.{Untimed, SlotMicros, LineRate}
 use Rattle.switch_words.specs.declared.job.Settings.{Settings}
 use Rattle.switch_words.specs.declared.job.RunJob.{RunJob}
 use Rattle.switch_words.specs.declared.job.GenJob.{GenJob}
@@ -16,11 +18,17 @@ pub record IsUpTo (greatest n : ℕ) : Type 0 where
   pub some : 0 < n
   pub most : n ≤ greatest
 
+-- a slot's microseconds, or a line's megabits a second
+abbrev pub IsSpeed : Speed → Type 0
+IsSpeed Untimed = Unit {0}
+IsSpeed (SlotMicros micros) = IsUpTo MAX_SLOT_MICROS micros
+IsSpeed (LineRate mbps) = IsUpTo MAX_LINE_RATE mbps
+
 pub record AreWithinLimits (settings : Settings) : Type 0 where
   pub rounds : IsUpTo MAX_ROUNDS settings.rounds
   pub depth : IsUpTo MAX_DEPTH settings.depth
   pub workers : IsUpTo MAX_WORKERS settings.workers
-  pub pace : IfSome settings.pace_us (IsUpTo MAX_SLOT_MICROS)
+  pub speed : IsSpeed settings.speed
 
 pub record IsRunWithinLimits (job : RunJob) : Type 0 where
   pub settings : AreWithinLimits job.settings

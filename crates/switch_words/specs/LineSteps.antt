@@ -22,10 +22,10 @@ names_arg = record (new_rule (codes "names")) { action = Some Append }
 
 -- the names of a command's options with a value, and of its flags
 abbrev pub options_for : Command → List Text
-options_for Run = codes "rounds" ∷ codes "depth" ∷ codes "workers" ∷ codes "pace-us" ∷ codes "scheduler" ∷ []
+options_for Run = codes "rounds" ∷ codes "depth" ∷ codes "workers" ∷ codes "pace-us" ∷ codes "line-rate" ∷ codes "scheduler" ∷ []
 options_for Gen = codes "rounds" ∷ codes "depth" ∷ codes "workers" ∷ codes "scheduler" ∷ []
 options_for Check = codes "scheduler" ∷ []
-options_for Firm = codes "rounds" ∷ codes "depth" ∷ codes "pace-us" ∷ []
+options_for Firm = codes "rounds" ∷ codes "depth" ∷ codes "pace-us" ∷ codes "line-rate" ∷ []
 
 abbrev pub flags_for : Command → List Text
 flags_for Run = codes "slots" ∷ codes "journal" ∷ codes "reference" ∷ codes "queues" ∷ codes "packets" ∷ codes "alone" ∷ []
@@ -69,6 +69,7 @@ parts_in lookup = record {
   depth = first_text (lookup (codes "depth"));
   workers = first_text (lookup (codes "workers"));
   pace_us = first_text (lookup (codes "pace-us"));
+  line_rate = first_text (lookup (codes "line-rate"));
   scheduler = first_text (lookup (codes "scheduler"));
   flags = record {
     slots = is_true_text (first_text (lookup (codes "slots")));

@@ -5,7 +5,7 @@ use Rattle.switch_words.specs.declared.options.Command.TheVariants.{Run, Gen, Ch
 
 -- an option with a value
 pub data Setting : Type 0 where
-  rounds depth workers pace_us scheduler : Setting
+  rounds depth workers pace_us line_rate scheduler : Setting
 
 -- an option without a value
 pub data Flag : Type 0 where
@@ -36,6 +36,7 @@ option_named name =
     else (if bytes_eq (codes "depth") name then Some (value depth)
     else (if bytes_eq (codes "workers") name then Some (value workers)
     else (if bytes_eq (codes "pace-us") name then Some (value pace_us)
+    else (if bytes_eq (codes "line-rate") name then Some (value line_rate)
     else (if bytes_eq (codes "scheduler") name then Some (value scheduler)
     else (if bytes_eq (codes "slots") name then Some (flag slots)
     else (if bytes_eq (codes "journal") name then Some (flag journal)
@@ -43,7 +44,7 @@ option_named name =
     else (if bytes_eq (codes "queues") name then Some (flag queues)
     else (if bytes_eq (codes "packets") name then Some (flag packets)
     else (if bytes_eq (codes "alone") name then Some (flag alone)
-    else None))))))))))
+    else None)))))))))))
 
 -- whether a command has an option
 abbrev pub is_option_of : Command → Switch → Bool
@@ -52,18 +53,21 @@ is_option_of Gen (value rounds) = true
 is_option_of Gen (value depth) = true
 is_option_of Gen (value workers) = true
 is_option_of Gen (value pace_us) = false
+is_option_of Gen (value line_rate) = false
 is_option_of Gen (value scheduler) = true
 is_option_of Gen (flag f) = false
 is_option_of Check (value rounds) = false
 is_option_of Check (value depth) = false
 is_option_of Check (value workers) = false
 is_option_of Check (value pace_us) = false
+is_option_of Check (value line_rate) = false
 is_option_of Check (value scheduler) = true
 is_option_of Check (flag f) = false
 is_option_of Firm (value rounds) = true
 is_option_of Firm (value depth) = true
 is_option_of Firm (value workers) = false
 is_option_of Firm (value pace_us) = true
+is_option_of Firm (value line_rate) = true
 is_option_of Firm (value scheduler) = false
 is_option_of Firm (flag f) = false
 

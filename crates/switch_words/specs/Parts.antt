@@ -3,7 +3,7 @@ use Rattle.std.specs.Prelude.{ℕ, Bool, true, false, is_some, ◌==◌, ◌++�
 use Rattle.std.specs.List.{list_any, before_first, after_first}
 use Rattle.switch_words.specs.declared.options.Command.{Command}
 use Rattle.switch_words.specs.declared.options.Flags.{Flags}
-use Rattle.switch_words.specs.Options.{Setting, rounds, depth, workers, pace_us, scheduler, Switch, value, flag, option_of}
+use Rattle.switch_words.specs.Options.{Setting, rounds, depth, workers, pace_us, line_rate, scheduler, Switch, value, flag, option_of}
 use Rattle.switch_words.specs.Options.{Flag, slots, journal, reference, queues, packets, alone}
 
 -- the texts that the options have, which flags were given, and the names
@@ -12,6 +12,7 @@ pub record Parts : Type 0 where
   pub depth : Option (List ℕ)
   pub workers : Option (List ℕ)
   pub pace_us : Option (List ℕ)
+  pub line_rate : Option (List ℕ)
   pub scheduler : Option (List ℕ)
   pub flags : Flags
   pub names : List (List ℕ)
@@ -23,6 +24,7 @@ no_parts = record {
   depth = None;
   workers = None;
   pace_us = None;
+  line_rate = None;
   scheduler = None;
   flags = record { slots = false; journal = false; reference = false; queues = false; packets = false; alone = false };
   names = [];
@@ -34,6 +36,7 @@ text_in parts rounds = parts.rounds
 text_in parts depth = parts.depth
 text_in parts workers = parts.workers
 text_in parts pace_us = parts.pace_us
+text_in parts line_rate = parts.line_rate
 text_in parts scheduler = parts.scheduler
 
 -- with this text of an option
@@ -42,6 +45,7 @@ set_text parts rounds text = record parts { rounds = Some text }
 set_text parts depth text = record parts { depth = Some text }
 set_text parts workers text = record parts { workers = Some text }
 set_text parts pace_us text = record parts { pace_us = Some text }
+set_text parts line_rate text = record parts { line_rate = Some text }
 set_text parts scheduler text = record parts { scheduler = Some text }
 
 -- with the text of an option that was not given before

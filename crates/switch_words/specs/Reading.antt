@@ -2,12 +2,14 @@
 use Rattle.std.specs.Prelude.{ℕ, Bool, ◌&&◌, nat_le, if◌then◌else◌, List, [], ◌∷◌, length, map, string_bytes}
 use Rattle.std.specs.Prelude.{Option, None, Some, option_and_then, option_map, unwrap_or}
 use Rattle.rotating_pick.specs.declared.limits.TheConstants.{MAX_PORTS, MAX_ROUNDS}
-use Rattle.line_pace.specs.declared.pace.TheConstants.{MAX_SLOT_MICROS}
+use Rattle.line_pace.specs.declared.pace.TheConstants.{MAX_LINE_RATE, MAX_SLOT_MICROS}
 use Rattle.voq_banks.specs.declared.limits.TheConstants.{MAX_DEPTH}
 use Rattle.scheduler_names.specs.declared.names.SchedulerName.{SchedulerName}
 use Rattle.scheduler_names.specs.declared.names.SchedulerName.TheVariants.{Islip}
 use Rattle.scheduler_names.specs.Words.{scheduler_named}
 use Rattle.switch_words.specs.declared.limits.TheConstants.{DEFAULT_ROUNDS, DEFAULT_WORKERS, MAX_COUNT, MAX_SEED, MAX_WORKERS}
+use Rattle.switch_words.specs.declared.job.Speed.{Speed}
+use Rattle.switch_words.specs.declared.job.Speed.TheVariants.{Untimed, SlotMicros, LineRate}
 use Rattle.switch_words.specs.declared.job.Settings.{Settings}
 use Rattle.switch_words.specs.declared.job.RunJob.{RunJob}
 use Rattle.switch_words.specs.declared.job.GenJob.{GenJob}
@@ -27,15 +29,26 @@ abbrev pub number_given : ℕ → Option (List ℕ) → Option (Option ℕ)
 number_given most None = Some None
 number_given most (Some text) = option_map (λ number. Some number) (number_within 1 most text)
 
+-- how fast packets come, by the microseconds of a slot or the rate of a line: at most one of them was given
+abbrev pub speed_from : Option ℕ → Option ℕ → Option Speed
+speed_from None None = Some Untimed
+speed_from (Some micros) None = Some (SlotMicros micros)
+speed_from None (Some mbps) = Some (LineRate mbps)
+speed_from (Some micros) (Some mbps) = None
+
+abbrev pub speed_given : Option (List ℕ) → Option (List ℕ) → Option Speed
+speed_given pace_us line_rate =
+    option_and_then (λ micros. option_and_then (speed_from micros) (number_given MAX_LINE_RATE line_rate)) (number_given MAX_SLOT_MICROS pace_us)
+
 -- the settings, with the defaults of what was not given
 unfoldable pub settings_of : Parts → Option Settings
 settings_of parts =
-    option_and_then (λ rounds. option_and_then (λ depth. option_and_then (λ workers. option_map (λ pace_us. record {
+    option_and_then (λ rounds. option_and_then (λ depth. option_and_then (λ workers. option_map (λ speed. record {
       rounds = unwrap_or rounds DEFAULT_ROUNDS;
       depth = unwrap_or depth MAX_DEPTH;
       workers = unwrap_or workers DEFAULT_WORKERS;
-      pace_us = pace_us;
-    }) (number_given MAX_SLOT_MICROS parts.pace_us)) (number_given MAX_WORKERS parts.workers))
+      speed = speed;
+    }) (speed_given parts.pace_us parts.line_rate)) (number_given MAX_WORKERS parts.workers))
     (number_given MAX_DEPTH parts.depth)) (number_given MAX_ROUNDS parts.rounds)
 
 -- The scheduler that an option's text names, iSLIP where the option was not given. None where there is none of that name.

@@ -1,5 +1,17 @@
 use scheduler_names::SchedulerName;
 
+/// How fast the packets of a port come.
+#[derive(Clone, Copy, Debug, PartialEq, Eq)]
+pub enum Speed {
+    /// One after the other from slot 0 on, whatever their times.
+    Untimed,
+    /// By their times, in slots of so many microseconds: 1 to 1,000,000.
+    SlotMicros(u32),
+    /// By their times, on a line of so many megabits a second: 1 to 1,600,000. A slot takes as long as the
+    /// 512 bits of a cell.
+    LineRate(u32),
+}
+
 /// How a job runs.
 #[derive(Clone, Copy, Debug, PartialEq, Eq)]
 pub struct Settings {
@@ -9,8 +21,8 @@ pub struct Settings {
     pub depth: u32,
     /// Workers: 1 to 32, 4 where no option says them.
     pub workers: u32,
-    /// Microseconds of a slot, 1 to 1,000,000; None for line pace.
-    pub pace_us: Option<u32>,
+    /// How fast packets come, untimed where no option says it.
+    pub speed: Speed,
 }
 
 /// Switch the packets of captures.

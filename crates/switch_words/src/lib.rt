@@ -10,6 +10,7 @@
 //! --depth D     cells of a queue, 1 to 131,072  run, gen, firm
 //! --workers W   1 to 32                         run, gen
 //! --pace-us K   microseconds of a slot, 1 to 1,000,000   run, firm
+//! --line-rate M   megabits a second of a line, 1 to 1,600,000, without --pace-us   run, firm
 //! --scheduler NAME   islip, firm or rrm         run, gen, check
 //! --slots       report each slot                run
 //! --journal     write the journal               run
@@ -28,6 +29,6 @@ mod options;
 mod reading;
 
 pub use fault::WordsFault;
-pub use job::{CheckJob, FirmJob, GenJob, Job, RunJob, Settings};
+pub use job::{CheckJob, FirmJob, GenJob, Job, RunJob, Settings, Speed};
 pub use limits::{MAX_COUNT, MAX_SEED, MAX_WORKERS, limits_are};
 pub use reading::read_words;

@@ -1,6 +1,6 @@
 ghost use Rattle.std.specs.Prelude.{◌≡◌};
 
-use line_pace::MAX_SLOT_MICROS;
+use line_pace::{MAX_LINE_RATE, MAX_SLOT_MICROS};
 use rotating_pick::{MAX_PORTS, MAX_ROUNDS};
 use voq_banks::MAX_DEPTH;
 
@@ -23,15 +23,17 @@ pub(crate) const DEFAULT_WORKERS: u32 = 4;
 pub(crate) const MAX_DIGITS: usize = 10;
 
 /// The limits of what the words say, by their numbers: 64 ports, 64 rounds, 131,072 cells of a queue, 32
-/// workers, 1,000,000 microseconds of a slot, a seed of 1,000,000,000, 4,000 packets of each port of a made
-/// input, and ten digits; and 4 rounds and 4 workers where no option says them. It does nothing; its
-/// contract says the numbers, which contracts elsewhere name by the constants.
+/// workers, 1,000,000 microseconds of a slot, 1,600,000 megabits a second of a line, a seed of
+/// 1,000,000,000, 4,000 packets of each port of a made input, and ten digits; and 4 rounds and 4 workers
+/// where no option says them. It does nothing; its contract says the numbers, which contracts elsewhere
+/// name by the constants.
 pub fn limits_are()
     ensures ports { MAX_PORTS ≡ 64 }
     ensures rounds { MAX_ROUNDS ≡ 64 }
     ensures depth { MAX_DEPTH ≡ 131072 }
     ensures workers { MAX_WORKERS ≡ 32 }
     ensures micros { MAX_SLOT_MICROS ≡ 1000000 }
+    ensures line_rate { MAX_LINE_RATE ≡ 1600000 }
     ensures seed { MAX_SEED ≡ 1000000000 }
     ensures count { MAX_COUNT ≡ 4000 }
     ensures digits { MAX_DIGITS ≡ 10 }

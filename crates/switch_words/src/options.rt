@@ -55,10 +55,17 @@ impl Command {
         ensures { map (λ id. id.now) result.now ≡ options_for self }
     {
         match self {
-            Command::Run => &["rounds", "depth", "workers", "pace-us", "scheduler"],
+            Command::Run => &[
+                "rounds",
+                "depth",
+                "workers",
+                "pace-us",
+                "line-rate",
+                "scheduler",
+            ],
             Command::Gen => &["rounds", "depth", "workers", "scheduler"],
             Command::Check => &["scheduler"],
-            Command::Firm => &["rounds", "depth", "pace-us"],
+            Command::Firm => &["rounds", "depth", "pace-us", "line-rate"],
         }
     }
 

@@ -1,18 +1,18 @@
 ghost use Rattle.std.specs.Prelude.{◌≡◌, codes, Some, None, Err, drop, map, ok_or, option_map, string_bytes, vec_len, IfOk, IfSome};
 ghost use Rattle.switch_words.specs.Options.{command_in};
 ghost use Rattle.switch_words.specs.Parts.{no_parts, parts_from};
-ghost use Rattle.switch_words.specs.Reading.{number_given, scheduler_given, settings_of, inputs_in, run_with, firm_with, check_with, gen_with};
+ghost use Rattle.switch_words.specs.Reading.{number_given, scheduler_given, settings_of, speed_given, inputs_in, run_with, firm_with, check_with, gen_with};
 ghost use Rattle.switch_words.specs.Reading.{run_words, check_words, firm_words, job_words, job_with, reading_of};
-ghost use Rattle.switch_words.specs.Limits.{AreWithinLimits, IsUpTo, IsRunWithinLimits, IsGenWithinLimits, IsFirmWithinLimits, IsWithinLimits};
+ghost use Rattle.switch_words.specs.Limits.{AreWithinLimits, IsSpeed, IsUpTo, IsRunWithinLimits, IsGenWithinLimits, IsFirmWithinLimits, IsWithinLimits};
 ghost use Rattle.switch_words.specs.LineSteps.{first_text, is_true_text, lookup_of, parts_of};
 
 use crate::fault::WordsFault;
-use crate::job::{CheckJob, FirmJob, GenJob, Job, RunJob, Settings};
+use crate::job::{CheckJob, FirmJob, GenJob, Job, RunJob, Settings, Speed};
 use crate::limits::{DEFAULT_ROUNDS, DEFAULT_WORKERS, MAX_COUNT, MAX_SEED, MAX_WORKERS};
 use crate::numbers::number_within;
 use crate::options::{Command, Flags};
 use clap::ArgMatches;
-use line_pace::MAX_SLOT_MICROS;
+use line_pace::{MAX_LINE_RATE, MAX_SLOT_MICROS};
 use rotating_pick::{MAX_PORTS, MAX_ROUNDS};
 use scheduler_names::SchedulerName;
 use std::alloc::{AllocError, Global};
@@ -27,8 +27,9 @@ use voq_banks::MAX_DEPTH;
 ///
 /// `Usage` comes exactly where the words give no job, want of memory aside: there is no such command,
 /// a word is refused, the command lacks an option, an option is repeated, a flag has a value, a value is
-/// no number within its limits or no scheduler's name, or there are more or fewer names. `OutOfMemory`
-/// may come in place of any answer but that there is no such command.
+/// no number within its limits or no scheduler's name, both `--pace-us` and `--line-rate` are given, or
+/// there are more or fewer names. `OutOfMemory` may come in place of any answer but that there is no such
+/// command.
 #[tactic(auto, unfolding(crate::specs::Reading::reading_of))]
 pub fn read_words(alloc: Global, words: &[String]) -> Result<Job, WordsFault>
     ensures job { IfOk result (λ job. reading_of (map string_bytes words.now) ≡ Some (job_words job)) }
@@ -49,6 +50,7 @@ pub fn read_words(alloc: Global, words: &[String]) -> Result<Job, WordsFault>
 fn job_of(alloc: Global, command: Command, matches: &ArgMatches<'_>) -> Result<Job, WordsFault>
     ensures job { IfOk result (λ job. job_with command (parts_of matches.now) ≡ Some (job_words job)) }
     ensures usage { result ≡ Err WordsFault.Usage → job_with command (parts_of matches.now) ≡ None }
+    ensures none { job_with command (parts_of matches.now) ≡ None → result ≡ Err WordsFault.Usage }
     ensures limits { IfOk result IsWithinLimits }
 {
     let names = names(matches).ok_or(WordsFault::Usage)?;
@@ -97,8 +99,23 @@ fn given_settings(matches: &ArgMatches<'_>) -> Option<Settings>
         rounds: number(matches, "rounds", MAX_ROUNDS)?.unwrap_or(DEFAULT_ROUNDS),
         depth: number(matches, "depth", MAX_DEPTH)?.unwrap_or(MAX_DEPTH),
         workers: number(matches, "workers", MAX_WORKERS)?.unwrap_or(DEFAULT_WORKERS),
-        pace_us: number(matches, "pace-us", MAX_SLOT_MICROS)?,
+        speed: speed(matches)?,
     })
+}
+
+// How fast packets come, where at most one of the two options says it.
+fn speed(matches: &ArgMatches<'_>) -> Option<Speed>
+    ensures speed { result ≡ speed_given (parts_of matches.now).pace_us (parts_of matches.now).line_rate }
+    ensures limits { IfSome result IsSpeed }
+{
+    let micros = number(matches, "pace-us", MAX_SLOT_MICROS)?;
+    let mbps = number(matches, "line-rate", MAX_LINE_RATE)?;
+    match (micros, mbps) {
+        (None, None) => Some(Speed::Untimed),
+        (Some(micros), None) => Some(Speed::SlotMicros(micros)),
+        (None, Some(mbps)) => Some(Speed::LineRate(mbps)),
+        (Some(_), Some(_)) => None,
+    }
 }
 
 // The number of the option, if it was given; None where it is no number from 1 to `most`.
@@ -170,6 +187,7 @@ fn run_job(
 ) -> Result<RunJob, WordsFault>
     ensures job { IfOk result (λ job. run_with settings scheduler flags (map (λ name. name.now) names.now) ≡ Some (run_words job)) }
     ensures usage { result ≡ Err WordsFault.Usage → run_with settings scheduler flags (map (λ name. name.now) names.now) ≡ None }
+    ensures none { run_with settings scheduler flags (map (λ name. name.now) names.now) ≡ None → result ≡ Err WordsFault.Usage }
     ensures limits { AreWithinLimits settings → IfOk result IsRunWithinLimits }
 {
     let [table, prefix, names @ ..] = names else {
@@ -194,6 +212,7 @@ fn run_job(
 fn firm_job(alloc: Global, settings: Settings, names: &[&str]) -> Result<FirmJob, WordsFault>
     ensures job { IfOk result (λ job. firm_with settings (map (λ name. name.now) names.now) ≡ Some (firm_words job)) }
     ensures usage { result ≡ Err WordsFault.Usage → firm_with settings (map (λ name. name.now) names.now) ≡ None }
+    ensures none { firm_with settings (map (λ name. name.now) names.now) ≡ None → result ≡ Err WordsFault.Usage }
     ensures limits { AreWithinLimits settings → IfOk result IsFirmWithinLimits }
 {
     let [table, names @ ..] = names else {
@@ -214,6 +233,7 @@ fn check_job(
 ) -> Result<CheckJob, WordsFault>
     ensures job { IfOk result (λ job. check_with scheduler (map (λ name. name.now) names.now) ≡ Some (check_words job)) }
     ensures usage { result ≡ Err WordsFault.Usage → check_with scheduler (map (λ name. name.now) names.now) ≡ None }
+    ensures none { check_with scheduler (map (λ name. name.now) names.now) ≡ None → result ≡ Err WordsFault.Usage }
 {
     let [file] = names else {
         return Err(WordsFault::Usage);
@@ -228,6 +248,7 @@ fn check_job(
 fn inputs(alloc: Global, names: &[&str]) -> Result<Vec<String>, WordsFault>
     ensures inputs { IfOk result (λ inputs. inputs_in (map (λ name. name.now) names.now) ≡ Some (map string_bytes inputs.items)) }
     ensures usage { result ≡ Err WordsFault.Usage → inputs_in (map (λ name. name.now) names.now) ≡ None }
+    ensures none { inputs_in (map (λ name. name.now) names.now) ≡ None → result ≡ Err WordsFault.Usage }
     ensures limits { IfOk result (λ inputs. IsUpTo MAX_PORTS (vec_len inputs)) }
 {
     if names.is_empty() || names.len() > MAX_PORTS as usize {
