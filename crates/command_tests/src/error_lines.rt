@@ -2,13 +2,13 @@ use job_files::{Ending, print_line};
 use outside::MemFiles;
 use scheduler_names::SchedulerName;
 use std::test;
-use switch_words::{Job, RunJob, Settings};
+use switch_words::{Job, RunJob, Settings, Speed};
 
 const SETTINGS: Settings = Settings {
     rounds: 4,
     depth: 131_072,
     workers: 4,
-    pace_us: None,
+    speed: Speed::Untimed,
 };
 
 // The endings of large jobs and of those for which there is no memory. Seven bytes a call are printed.

@@ -1,16 +1,18 @@
 -- What the words of a job say, whichever its command is.
 use Rattle.std.specs.Prelude.{ℕ, ◌<◌, Bool, List, [], length, slice_index_or, Option, Some, None}
+use Rattle.switch_words.specs.declared.job.Speed.{Speed}
+use Rattle.switch_words.specs.declared.job.Speed.TheVariants.{Untimed, SlotMicros, LineRate}
 use Rattle.switch_words.specs.declared.job.Settings.{Settings}
 use Rattle.switch_words.specs.Reading.{JobWords, run, gen, check, firm, RunWords, FirmWords}
 use Rattle.job_files.specs.declared.inputs.InputFile.{InputFile}
 use Rattle.job_files.specs.declared.inputs.InputFile.TheVariants.{Table, Capture}
 
--- how many microseconds a slot of the job has, if not those of line pace
-abbrev pub pace_in : JobWords → Option ℕ
-pace_in (run r) = r.settings.pace_us
-pace_in (gen g) = g.settings.pace_us
-pace_in (check c) = None
-pace_in (firm f) = f.settings.pace_us
+-- how fast the packets of a job come; `check` has none
+abbrev pub speed_in : JobWords → Speed
+speed_in (run r) = r.settings.speed
+speed_in (gen g) = g.settings.speed
+speed_in (check c) = Untimed
+speed_in (firm f) = f.settings.speed
 
 -- the same settings but for the number of workers
 abbrev pub settings_with : ℕ → Settings → Settings

@@ -5,7 +5,7 @@ use rotating_pick::{MAX_FILE_BYTES, MAX_PORTS};
 use std::alloc::{AllocError, Global};
 use std::thread::Threads;
 use switch_plan::{Plan, PlanFault, jobs};
-use switch_words::Settings;
+use switch_words::{Settings, Speed};
 use test_vectors::{NoAnswer, TableText};
 
 // The settings of a job whose words have no options.
@@ -13,7 +13,7 @@ const SETTINGS: Settings = Settings {
     rounds: 4,
     depth: 131_072,
     workers: 4,
-    pace_us: None,
+    speed: Speed::Untimed,
 };
 
 /// What the plan says of the table, with captures that have no packets: `ok`, or the fault with its numbers.

@@ -9,13 +9,13 @@ use std::alloc::Global;
 use std::test::Fail;
 use switch_plan::jobs::plan;
 use switch_plan::{Made, Plan, made_input};
-use switch_words::{GenJob, MAX_COUNT, Settings};
+use switch_words::{GenJob, MAX_COUNT, Settings, Speed};
 
 const SETTINGS: Settings = Settings {
     rounds: 4,
     depth: 131_072,
     workers: 4,
-    pace_us: None,
+    speed: Speed::Untimed,
 };
 
 // The routes of a switch of two ports.

@@ -13,6 +13,7 @@ use Rattle.pcap_records.specs.declared.link.Link.{Link}
 use Rattle.pcap_records.specs.Format.{link_type}
 use Rattle.pcap_records.specs.Packets.{packets_of}
 use Rattle.forward_table.specs.declared.route_lines.RouteLine.{RouteLine}
+use Rattle.switch_words.specs.declared.job.Speed.{Speed}
 use Rattle.switch_plan.specs.declared.fault.PlanFault.TheVariants.{MixedLink}
 use Rattle.switch_plan.specs.Traffic.{CaptureFile, file_of, is_nano, port_traffic, pace_of, traffic_of}
 use Rattle.switch_plan.specs.Refusals.{first_link, mixed_links}
@@ -63,14 +64,14 @@ traffic_alike table pace link (capture ∷ captures) alike =
     ∙ ap (λ ts. port_traffic table link pace (packets_of capture) ∷ ts) (traffic_alike table pace link captures (λ k d inside. alike (suc k) d (omega arith)))
 
 -- then the traffic of each by its own link type is that of all by the first
-pub traffic_same : (table : List RouteLine) (pace_us : Option ℕ) (pace : Pace) (captures : List Capture) → pace ≡ pace_of pace_us (map file_of captures)
+pub traffic_same : (table : List RouteLine) (speed : Speed) (pace : Pace) (captures : List Capture) → pace ≡ pace_of speed (map file_of captures)
     → mixed_links (map file_of captures) ≡ None
-    → map (traffic_at table pace) captures ≡ traffic_of table (first_link (map file_of captures)) pace_us (map file_of captures)
-traffic_same table pace_us pace captures pace_is unmixed =
+    → map (traffic_at table pace) captures ≡ traffic_of table (first_link (map file_of captures)) speed (map file_of captures)
+traffic_same table speed pace captures pace_is unmixed =
     let link = first_link (map file_of captures) in
     traffic_alike table pace link captures (one_link captures unmixed)
     ∙ ap (λ p. map (λ (capture : Capture). port_traffic table link p (packets_of capture)) captures) pace_is
-    ∙ sym (map-map (λ (file : CaptureFile). port_traffic table link (pace_of pace_us (map file_of captures)) file.packets) file_of captures)
+    ∙ sym (map-map (λ (file : CaptureFile). port_traffic table link (pace_of speed (map file_of captures)) file.packets) file_of captures)
 
 or_left : (a b : Bool) → (a || b) ≡ false → a ≡ false
 or_left true b none = none
@@ -87,10 +88,10 @@ all_micro (capture ∷ captures) none zero d inside = or_left capture.nano (is_n
 all_micro (capture ∷ captures) none (suc k) d inside = all_micro captures (or_right capture.nano (is_nano (map file_of captures)) none) k d (omega arith)
 
 -- captures that were read can be planned at the pace of a job
-pub can_be_planned : (pace_us : Option ℕ) (pace : Pace) (captures : List Capture) → pace ≡ pace_of pace_us (map file_of captures)
+pub can_be_planned : (speed : Speed) (pace : Pace) (captures : List Capture) → pace ≡ pace_of speed (map file_of captures)
     → All (λ (capture : Capture). IsCaptureOf capture.bytes.items capture) captures → All (CanBePlanned pace) captures
-can_be_planned pace_us pace captures pace_is read k d inside = record {
+can_be_planned speed pace captures pace_is read k d inside = record {
   read = read k d inside;
   times = subst (λ p. All (λ (s : Stored). base_of p ≤ s.seconds * 1000000000 + s.nanos) (slice_index_or captures k d).packets.items) (sym pace_is)
-      (all_come pace_us captures k d inside);
+      (all_come speed captures k d inside);
 }

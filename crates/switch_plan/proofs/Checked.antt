@@ -9,7 +9,7 @@ use Rattle.std_lemmas.proofs.Lists.{at_place, got_map}
 use Rattle.rotating_pick.specs.declared.limits.TheConstants.{MAX_PORTS, MAX_ROUNDS}
 use Rattle.card_core.specs.declared.plan.Planned.{Planned}
 use Rattle.card_core.specs.declared.plan.CardPlan.{CardPlan}
-use Rattle.card_core.specs.Plans.{Plan as CardView, plan_of as card_plan_of, IsGoodPlan}
+use Rattle.card_core.specs.Plans.{Plan as CardView, plan_of as card_plan_of, IsGoodPlan, IsSmallPlan}
 use Rattle.card_core.proofs.Plenty.{few_packets}
 use Rattle.switch_words.specs.declared.limits.TheConstants.{MAX_WORKERS}
 use Rattle.switch_words.specs.Limits.{IsUpTo}
@@ -17,13 +17,13 @@ use Rattle.switch_plan.specs.declared.plan.Plan.{Plan}
 use Rattle.switch_plan.specs.Totals.{most_for, slots_of, total_work, total_aside, max_slots_of, sizes_for, body_room_for, packet_room_for}
 use Rattle.switch_plan.specs.CountingSteps.{AreCountable, packets_of_cards}
 use Rattle.switch_plan.specs.CheckingSteps.{IsOwnCard, AreOwnCards, IsSizedFor, AreWhole, IsConsistent}
-use Rattle.switch_plan.specs.GoodPlans.{IsGood, IsCardOf, switch_plan_of, packets_in}
+use Rattle.switch_plan.specs.GoodPlans.{IsGood, IsBurst, IsCardOf, switch_plan_of, packets_in}
 use Rattle.switch_plan.proofs.Summing.{packets_at}
 
 -- ---- the packets of good cards can be counted
-countable : (card : CardPlan) → IsGoodPlan (card_plan_of card) → AreCountable card.packets.items
-countable card good = record {
-  few = few_packets (card_plan_of card) good;
+countable : (card : CardPlan) → IsGoodPlan (card_plan_of card) → IsSmallPlan (card_plan_of card) → AreCountable card.packets.items
+countable card good small = record {
+  few = few_packets (card_plan_of card) good small;
   forwarded = λ k d inside. (good.packets k (slice_index_or card.packets.items k d) (slice_get-get_or card.packets.items k d inside)).forwarded;
 }
 
@@ -33,7 +33,8 @@ countable_cards cards depth own k d inside =
     let card = at_place cards k (let l = length-map cards (λ (c : CardPlan). c.packets.items) in omega arith) in
     let is : card.0 ≡ slice_index_or cards k card.0 = sym (get_or_from_slice_get cards k card.0 card.0 card.1) in
     let same = get_or_default (packets_of_cards cards) k d card.0.packets.items inside ∙ packets_at cards k card.0 is in
-    subst AreCountable (sym same) (countable card.0 (own k card.0 card.1).good)
+    let is_own = own k card.0 card.1 in
+    subst AreCountable (sym same) (countable card.0 is_own.good is_own.small)
 
 -- ---- a plan and its cards
 
@@ -80,17 +81,27 @@ good_from plan checked =
           subst (IsCardOf (switch_plan_of plan) port) made.2
           (card_of plan (packets_of_cards plan.cards.items) (length plan.cards.items) same count port made.0 (checked.own port made.0 made.1)
           (checked.rest.sized port made.0 made.1));
-      slots = subst (λ n. All (λ packets. slots_of packets ≤ most_for n) (packets_in (switch_plan_of plan))) (sym count)
-          (subst (λ ps. All (λ packets. slots_of packets ≤ most_for (length plan.cards.items)) ps) (sym same) checked.rest.totals.slots);
-      cells = subst (λ n. total_work (packets_in (switch_plan_of plan)) ≤ most_for n) (sym count)
-          (subst (λ ps. total_work ps ≤ most_for (length plan.cards.items)) (sym same) checked.rest.totals.cells);
       max_slots = checked.rest.totals.end ∙ ap max_slots_of (sym same);
       aside = checked.rest.aside ∙ ap total_aside (sym same);
       whole = λ micro. subst (λ ps. All AreWhole ps) (sym same) (checked.rest.whole micro);
     }
 
-pub good_to : (plan : Plan) → IsGood (switch_plan_of plan) → IsChecked plan
-good_to plan good =
+pub burst_from : (plan : Plan) → IsChecked plan → IsBurst (switch_plan_of plan)
+burst_from plan checked =
+    let same = same_packets plan in
+    let count = same_count plan in
+    record {
+      slots = subst (λ n. All (λ packets. slots_of packets ≤ most_for n) (packets_in (switch_plan_of plan))) (sym count)
+          (subst (λ ps. All (λ packets. slots_of packets ≤ most_for (length plan.cards.items)) ps) (sym same) checked.rest.totals.slots);
+      cells = subst (λ n. total_work (packets_in (switch_plan_of plan)) ≤ most_for n) (sym count)
+          (subst (λ ps. total_work ps ≤ most_for (length plan.cards.items)) (sym same) checked.rest.totals.cells);
+      cards = λ port card there.
+          let made = got_map card_plan_of plan.cards.items port card there in
+          subst IsSmallPlan made.2 (checked.own port made.0 made.1).small;
+    }
+
+pub good_to : (plan : Plan) → IsGood (switch_plan_of plan) → IsBurst (switch_plan_of plan) → IsChecked plan
+good_to plan good burst =
     let same = same_packets plan in
     let count = same_count plan in
     record {
@@ -98,8 +109,9 @@ good_to plan good =
       rounds = good.rounds;
       workers = good.workers;
       own = λ port card there.
-          let is = good.cards port (card_plan_of card) (map_got plan.cards.items port card there) in
-          record { good = is.good; number = is.number; switch = is.ports ∙ count; deep = is.depth };
+          let got = map_got plan.cards.items port card there in
+          let is = good.cards port (card_plan_of card) got in
+          record { good = is.good; small = burst.cards port (card_plan_of card) got; number = is.number; switch = is.ports ∙ count; deep = is.depth };
       rest = record {
         sized = λ port card there.
             let is = good.cards port (card_plan_of card) (map_got plan.cards.items port card there) in
@@ -111,9 +123,9 @@ good_to plan good =
             };
         totals = record {
           slots = subst (λ n. All (λ packets. slots_of packets ≤ most_for n) (packets_of_cards plan.cards.items)) count
-              (subst (λ ps. All (λ packets. slots_of packets ≤ most_for (length (switch_plan_of plan).cards)) ps) same good.slots);
+              (subst (λ ps. All (λ packets. slots_of packets ≤ most_for (length (switch_plan_of plan).cards)) ps) same burst.slots);
           cells = subst (λ n. total_work (packets_of_cards plan.cards.items) ≤ most_for n) count
-              (subst (λ ps. total_work ps ≤ most_for (length (switch_plan_of plan).cards)) same good.cells);
+              (subst (λ ps. total_work ps ≤ most_for (length (switch_plan_of plan).cards)) same burst.cells);
           end = good.max_slots ∙ ap max_slots_of same;
         };
         aside = good.aside ∙ ap total_aside same;

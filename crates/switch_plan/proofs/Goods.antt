@@ -23,10 +23,10 @@ use Rattle.switch_plan.specs.Refusals.{first_link}
 use Rattle.switch_plan.specs.CountingSteps.{packets_of_cards}
 use Rattle.switch_plan.specs.CheckingSteps.{IsOwnCard, AreOwnCards, AreSized, AreWhole}
 use Rattle.switch_plan.specs.SizingSteps.{IsSized}
-use Rattle.switch_plan.specs.GoodPlans.{switch_plan_of, IsGood, IsPlanOf}
+use Rattle.switch_plan.specs.GoodPlans.{switch_plan_of, IsPlanOf}
 use Rattle.switch_plan.specs.CardSteps.{IsPlanWith}
 use Rattle.switch_plan.proofs.RoomBounds.{body_room_few, packet_room_few, sizes_few, sizes_long}
-use Rattle.switch_plan.proofs.Checked.{same_packets, good_from}
+use Rattle.switch_plan.proofs.Checked.{IsChecked, same_packets}
 use Rattle.switch_plan.proofs.Placed.{bodies_are, starts_are, whole}
 use Rattle.switch_plan.proofs.Carded.{cards_each, all_packets, kept_map}
 use Rattle.switch_plan.proofs.Alike.{all_micro}
@@ -74,7 +74,6 @@ module _ {table : List RouteLine} {settings : Settings} {pace : Pace} {n : ℕ} 
           size = omega arith;
           card = omega arith;
           deep = let least = limits.depth.some in omega arith;
-          depth = let most = limits.depth.most in omega arith;
           packets = λ k packet new_packet.
               let old_packet : slice_get old.packets.items k ≡ Some packet = ap (λ (xs : List Planned). slice_get xs k) (sym sized.kept.3) ∙ new_packet in
               subst (λ count. IsPlanned count (length new.bytes.items) packet) (sym size)
@@ -83,6 +82,10 @@ module _ {table : List RouteLine} {settings : Settings} {pace : Pace} {n : ℕ} 
           flows = ap length sized.sizes ∙ sizes_long port ports
               ∙ ap (λ count. 8 * count) (length-map cards (λ (card : CardPlan). card.packets.items) ∙ count_is job ∙ sym size);
           sizes = subst (λ (sizes : List ℕ). All (λ size. size ≤ 65551) sizes) (sym sized.sizes) (sizes_few port ports (countable_all job));
+        };
+        small = record {
+          early = subst (λ (packets : List Planned). All (λ (packet : Planned). packet.arrival < 131072) packets) (sym sized.kept.3) made.early;
+          depth = let most = limits.depth.most in omega arith;
           messages = subst (λ room. room ≤ 131072) (sym sized.messages) (packet_room_few port (length cards) ports cells);
           body = subst (λ room. room ≤ 7340032) (sym sized.body) (body_room_few port (length cards) ports cells);
         };
@@ -114,11 +117,11 @@ module _ {table : List RouteLine} {settings : Settings} {pace : Pace} {n : ℕ} 
       (cards_each n settings.depth table pace (λ port card. AreWhole card.packets.items) IsMicro
       (λ port capture card its is. whole n settings.depth table pace port capture card job.routes its.0 is its.1) 0 captures cards micro job.cards_are))
 
-  -- The plan is good.
-  pub plan_good : nano ≡ is_nano (map file_of captures) → IsGood (switch_plan_of plan)
-  plan_good nano_is =
+  -- So the plan is good, and of a burst.
+  pub plan_checked : nano ≡ is_nano (map file_of captures) → IsChecked plan
+  plan_checked nano_is =
       let count : length plan.cards.items ≡ n = with.count ∙ count_is job in
-      good_from plan (record {
+      record {
         size = record { some = omega (arith, count); most = omega (arith, count) };
         rounds = subst (IsUpTo 64) (sym with.rounds) limits.rounds;
         workers = subst (IsUpTo 32) (sym with.workers) limits.workers;
@@ -135,7 +138,7 @@ module _ {table : List RouteLine} {settings : Settings} {pace : Pace} {n : ℕ} 
           sized = sized_all;
           whole = λ micro. whole_all (sym nano_is ∙ sym with.nano ∙ micro);
         };
-      })
+      }
 
   -- It is the plan of the table and all captures.
   pub plan_is : nano ≡ is_nano (map file_of captures) → link ≡ first_link (map file_of captures)

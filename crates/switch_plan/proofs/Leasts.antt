@@ -7,6 +7,8 @@ use Rattle.line_pace.specs.Arrivals.{base_of}
 use Rattle.pcap_records.specs.declared.capture.Capture.{Capture}
 use Rattle.pcap_records.specs.declared.capture.Stored.{Stored}
 use Rattle.pcap_records.specs.Packets.{Packet, packet_in, packets_of}
+use Rattle.switch_words.specs.declared.job.Speed.{Speed}
+use Rattle.switch_words.specs.declared.job.Speed.TheVariants.{Untimed, SlotMicros, LineRate}
 use Rattle.switch_plan.specs.Traffic.{CaptureFile, file_of, earlier, time_of, least_in, least_time, pace_from, pace_of}
 
 -- there is a least time, and it is no later than this
@@ -52,19 +54,21 @@ by_packet least (capture ∷ captures) zero k c d inside within =
 by_packet least (capture ∷ captures) (suc i) k c d inside within =
     by_packet (least_in least (packets_of capture)) captures i k c d (omega arith) within
 
-base_by : (pace_us least : Option ℕ) (time : ℕ) → IsBy least time → base_of (pace_from pace_us least) ≤ time
-base_by None least time by = omega arith
-base_by (Some slot) None time by = absurd by
-base_by (Some slot) (Some least) time by = by
+base_by : (speed : Speed) (least : Option ℕ) (time : ℕ) → IsBy least time → base_of (pace_from speed least) ≤ time
+base_by Untimed least time by = omega arith
+base_by (SlotMicros micros) None time by = absurd by
+base_by (SlotMicros micros) (Some least) time by = by
+base_by (LineRate mbps) None time by = absurd by
+base_by (LineRate mbps) (Some least) time by = by
 
 -- so no packet comes before slot 0
-pub all_come : (pace_us : Option ℕ) (captures : List Capture) (i : ℕ) (c : Capture) → i < length captures
-    → All (λ (s : Stored). base_of (pace_of pace_us (map file_of captures)) ≤ s.seconds * 1000000000 + s.nanos) (slice_index_or captures i c).packets.items
-all_come pace_us captures i c inside k d within =
+pub all_come : (speed : Speed) (captures : List Capture) (i : ℕ) (c : Capture) → i < length captures
+    → All (λ (s : Stored). base_of (pace_of speed (map file_of captures)) ≤ s.seconds * 1000000000 + s.nanos) (slice_index_or captures i c).packets.items
+all_come speed captures i c inside k d within =
     let capture = slice_index_or captures i c in
     let own = packet_in capture.bytes.items in
     let here = by_packet None captures i k c (own d) inside (omega (arith, length-map capture.packets.items own)) in
     let at : time_of (slice_index_or (packets_of capture) k (own d)) ≡ time_of (own (slice_index_or capture.packets.items k d)) =
     ap time_of (get_or-map_same own capture.packets.items k d) in
-    base_by pace_us (least_time (map file_of captures)) (time_of (own (slice_index_or capture.packets.items k d)))
+    base_by speed (least_time (map file_of captures)) (time_of (own (slice_index_or capture.packets.items k d)))
     (subst (IsBy (least_time (map file_of captures))) at here)

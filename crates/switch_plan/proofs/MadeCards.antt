@@ -1,5 +1,5 @@
 -- The cards that were made of all captures of a job: what is known of each, and what their packets come to over all ports.
-use Rattle.std.proofs.Common.{◌≡◌, ◌∙◌, ℕ, ◌+◌, ◌≤◌, ◌==◌, Bool, List, length, None, Some, ap, sym, arith, slice_index_or}
+use Rattle.std.proofs.Common.{◌≡◌, ◌∙◌, ℕ, ◌+◌, ◌<◌, ◌≤◌, ◌==◌, Bool, List, length, None, Some, ap, sym, arith, slice_index_or}
 use Rattle.std.specs.Prelude.{map, All, slice_get, sum_by, count_by}
 use Rattle.std.proofs.lemmas.List.Sums.{sum_by-le, count_by-le-length}
 use Rattle.std.proofs.lemmas.Simd.{map-map}
@@ -21,7 +21,7 @@ use Rattle.switch_plan.specs.CountingSteps.{AreCountable, packets_of_cards}
 use Rattle.switch_plan.specs.CardSteps.{traffic_at, is_long, IsCardFor, AreCardsFor}
 use Rattle.switch_plan.proofs.RoomBounds.{most_few}
 use Rattle.switch_plan.proofs.Totalling.{greatest_few}
-use Rattle.switch_plan.proofs.Placed.{countable, places, rising, traffic_is, card_slots, long_are, aside_are}
+use Rattle.switch_plan.proofs.Placed.{countable, places, rising, early, traffic_is, card_slots, long_are, aside_are}
 use Rattle.switch_plan.proofs.Carded.{cards_long, cards_map, cards_each, all_packets, sums_same}
 use Rattle.switch_plan.proofs.Alike.{one_link, traffic_same}
 
@@ -32,6 +32,7 @@ pub record IsMade (ports depth port : ℕ) (card : CardPlan) : Type 0 where
   pub deep : card.depth ≡ depth
   pub placed : (k : ℕ) (packet : Planned) → slice_get card.packets.items k ≡ Some packet → IsPlanned ports (length card.bytes.items) packet
   pub rises : AreRising card.packets.items
+  pub early : All (λ (packet : Planned). packet.arrival < 131072) card.packets.items
 
 -- a capture that was read of its bytes
 abbrev pub IsRead : Capture → Type 0
@@ -50,7 +51,7 @@ unrouted_in table captures =
 -- the cards that were made of all n captures of a job, whose link types do not differ, at the job's pace
 pub record AreOfJob (table : List RouteLine) (settings : Settings) (pace : Pace) (n : ℕ) (captures : List Capture) (cards : List CardPlan) : Type 0 where
   pub count : n ≡ length captures
-  pub pace_is : pace ≡ pace_of settings.pace_us (map file_of captures)
+  pub pace_is : pace ≡ pace_of settings.speed (map file_of captures)
   pub unmixed : mixed_links (map file_of captures) ≡ None
   pub routes : AreRoutesOf n table
   pub read : All IsRead captures
@@ -87,12 +88,12 @@ module _ {table : List RouteLine} {settings : Settings} {pace : Pace} {n : ℕ} 
 
   -- The packets of all cards, without their places in the captures, are the traffic of all ports.
   pub cards_traffic : map (map unplaced) (packets_of_cards cards)
-      ≡ traffic_of table (first_link (map file_of captures)) settings.pace_us (map file_of captures)
+      ≡ traffic_of table (first_link (map file_of captures)) settings.speed (map file_of captures)
   cards_traffic =
       map-map (map unplaced) (λ (card : CardPlan). card.packets.items) cards
       ∙ same_over_all (λ (card : CardPlan). map unplaced card.packets.items) (traffic_at table pace)
       (λ port capture card read is. traffic_is n settings.depth table pace port capture card job.routes read is)
-      ∙ traffic_same table settings.pace_us pace captures job.pace_is job.unmixed
+      ∙ traffic_same table settings.speed pace captures job.pace_is job.unmixed
 
   -- The packets of each card can be counted.
   pub countable_all : All AreCountable (packets_of_cards cards)
@@ -155,4 +156,5 @@ module _ {table : List RouteLine} {settings : Settings} {pace : Pace} {n : ℕ} 
         deep = is.deep;
         placed = places n settings.depth table pace port capture card job.routes read is;
         rises = rising n settings.depth table pace port capture card job.routes read is;
+        early = early n settings.depth table pace port capture card job.routes read is;
       })

@@ -164,15 +164,18 @@ module _ (ports depth : ℕ) (table : List RouteLine) (pace : Pace) (port : ℕ)
       (kept_route (λ o. (r : Route) → o ≡ Some r → IsRouteOf ports r) (is_oversize frame) route (λ r e. absurd (none-some r e))
       (λ r e. routed ports table (destination_of capture.link frame) r routes e)) in
       let here = read.within k no_stored (omega (arith, card_long)) in
-      let early = rising_below 0 (slots_at pace capture) k 0 (arrivals_rise pace 0 (packets_of capture)) (omega (arith, card_long, taken_long)) in
-      let within = is.within in
       record {
         place = let b = ap length is.kept in omega (arith, from.start, from.len);
         level = subst (λ l. l < 4) (sym from.level) fan.1;
         fan = subst (λ f. f < 2 ^ ports) (sym from.fan) fan.0;
         forwarded = subst IsForwardable at (fan_is_short k packet inside);
-        early = omega (arith, from.arrival, most_few ports);
       }
+
+  pub early : All (λ (packet : Planned). packet.arrival < 131072) card.packets.items
+  early k d inside =
+      let arrives = rising_below 0 (slots_at pace capture) k 0 (arrivals_rise pace 0 (packets_of capture)) (omega (arith, card_long, taken_long)) in
+      let within = is.within in
+      omega (arith, (packet_from k d inside).arrival, most_few ports)
 
   pub rising : AreRising card.packets.items
   rising k j p r at_k at_j less =

@@ -10,6 +10,7 @@ use Rattle.pcap_records.specs.declared.capture.Capture.{Capture}
 use Rattle.forward_table.specs.declared.route_lines.RouteLine.{RouteLine}
 use Rattle.card_core.specs.declared.plan.Planned.{Planned}
 use Rattle.card_core.specs.declared.plan.CardPlan.{CardPlan}
+use Rattle.switch_words.specs.declared.job.Speed.{Speed}
 use Rattle.switch_words.specs.declared.job.Settings.{Settings}
 use Rattle.switch_plan.specs.declared.fault.PlanFault.{PlanFault}
 use Rattle.switch_plan.specs.declared.fault.PlanFault.TheVariants.{TooManyCells}
@@ -45,21 +46,21 @@ refusal_first : (mixed first work : Option PlanFault) (fault : PlanFault) → mi
     → option_or mixed (option_or first work) ≡ Some fault
 refusal_first mixed first work fault unmixed is = ap (λ found. option_or found (option_or first work)) unmixed ∙ ap (λ found. option_or found work) is
 
-module _ (table : List RouteLine) (pace_us : Option ℕ) (pace : Pace) (n : ℕ) (captures : List Capture)
-    (n_is : n ≡ length captures) (pace_is : pace ≡ pace_of pace_us (map file_of captures)) (unmixed : mixed_links (map file_of captures) ≡ None) where
+module _ (table : List RouteLine) (speed : Speed) (pace : Pace) (n : ℕ) (captures : List Capture)
+    (n_is : n ≡ length captures) (pace_is : pace ≡ pace_of speed (map file_of captures)) (unmixed : mixed_links (map file_of captures) ≡ None) where
   -- The traffic is that of n ports.
-  ports_are : length (traffic_of table (first_link (map file_of captures)) pace_us (map file_of captures)) ≡ n
+  ports_are : length (traffic_of table (first_link (map file_of captures)) speed (map file_of captures)) ≡ n
   ports_are =
-      sym (ap length (traffic_same table pace_us pace captures pace_is unmixed)) ∙ length-map captures (traffic_at table pace) ∙ sym n_is
+      sym (ap length (traffic_same table speed pace captures pace_is unmixed)) ∙ length-map captures (traffic_at table pace) ∙ sym n_is
 
   -- A port that has too many slots is why the job is refused.
   pub refused_over : (fault : PlanFault) → first_over (most_for n) 0 (map (traffic_at table pace) captures) ≡ Some fault
-      → refusal_of pace_us table (map file_of captures) ≡ Some fault
+      → refusal_of speed table (map file_of captures) ≡ Some fault
   refused_over fault over =
-      let traffic = traffic_of table (first_link (map file_of captures)) pace_us (map file_of captures) in
+      let traffic = traffic_of table (first_link (map file_of captures)) speed (map file_of captures) in
       let first : first_over (most_for (length traffic)) 0 traffic ≡ Some fault =
       ap (λ ports. first_over (most_for ports) 0 traffic) ports_are
-      ∙ sym (ap (first_over (most_for n) 0) (traffic_same table pace_us pace captures pace_is unmixed))
+      ∙ sym (ap (first_over (most_for n) 0) (traffic_same table speed pace captures pace_is unmixed))
       ∙ over in
       refusal_first (mixed_links (map file_of captures)) (first_over (most_for (length traffic)) 0 traffic)
       (over_work (most_for (length traffic)) traffic) fault unmixed first
@@ -68,13 +69,13 @@ module _ {table : List RouteLine} {settings : Settings} {pace : Pace} {n : ℕ} 
     (job : AreOfJob table settings pace n captures cards) where
   -- Where cards were made of all captures, the work of their packets decides whether the job is refused.
   by_work : (refusal : Option PlanFault) → over_work (most_for (length cards)) (packets_of_cards cards) ≡ refusal
-      → refusal_of settings.pace_us table (map file_of captures) ≡ refusal
+      → refusal_of settings.speed table (map file_of captures) ≡ refusal
   by_work refusal is =
-      let traffic = traffic_of table (first_link (map file_of captures)) settings.pace_us (map file_of captures) in
-      let ports = ports_are table settings.pace_us pace n captures job.count job.pace_is job.unmixed in
+      let traffic = traffic_of table (first_link (map file_of captures)) settings.speed (map file_of captures) in
+      let ports = ports_are table settings.speed pace n captures job.count job.pace_is job.unmixed in
       let first : first_over (most_for (length traffic)) 0 traffic ≡ None =
       ap (λ count. first_over (most_for count) 0 traffic) ports
-      ∙ sym (ap (first_over (most_for n) 0) (traffic_same table settings.pace_us pace captures job.pace_is job.unmixed))
+      ∙ sym (ap (first_over (most_for n) 0) (traffic_same table settings.speed pace captures job.pace_is job.unmixed))
       ∙ sym (ap (λ all. first_over (most_for n) 0 (map (traffic_at table pace) all)) (append-nil captures))
       ∙ over_passed n settings.depth table pace 0 captures cards [] job.cards_are in
       let work_is : total_work traffic ≡ total_work (packets_of_cards cards) =
@@ -91,11 +92,11 @@ module _ {table : List RouteLine} {settings : Settings} {pace : Pace} {n : ℕ} 
 
   -- Too many cells are why the job is refused.
   pub refused_work : (fault : PlanFault) → over_work (most_for (length cards)) (packets_of_cards cards) ≡ Some fault
-      → refusal_of settings.pace_us table (map file_of captures) ≡ Some fault
+      → refusal_of settings.speed table (map file_of captures) ≡ Some fault
   refused_work fault over = by_work (Some fault) over
 
   -- With no more cells than the most it is not refused.
-  pub unrefused : total_work (packets_of_cards cards) ≤ most_for (length cards) → refusal_of settings.pace_us table (map file_of captures) ≡ None
+  pub unrefused : total_work (packets_of_cards cards) ≤ most_for (length cards) → refusal_of settings.speed table (map file_of captures) ≡ None
   unrefused within =
       by_work None (kept_limit (most_for (length cards)) (total_work (packets_of_cards cards))
       (Some (TooManyCells (total_work (packets_of_cards cards)))) None within)

@@ -2,14 +2,15 @@
 use Rattle.std.specs.Prelude.{◌≡◌, ℕ, ◌+◌, ◌≤◌, ◌%◌, false, List, length, All, Some, slice_get}
 use Rattle.card_core.specs.declared.plan.Planned.{Planned}
 use Rattle.card_core.specs.declared.plan.CardPlan.{CardPlan}
-use Rattle.card_core.specs.Plans.{plan_of, IsGoodPlan}
+use Rattle.card_core.specs.Plans.{plan_of, IsGoodPlan, IsSmallPlan}
 use Rattle.switch_plan.specs.declared.plan.Plan.{Plan}
 use Rattle.switch_plan.specs.Totals.{most_for, slots_of, total_work, total_aside, max_slots_of, sizes_for, body_room_for, packet_room_for}
 use Rattle.switch_plan.specs.CountingSteps.{packets_of_cards}
 
--- a card that is well formed, of the port, of a switch of `ports` ports, and with queues of this depth
+-- a card that is well formed and within its limits, of the port, of a switch of `ports` ports, and with queues of this depth
 pub record IsOwnCard (ports depth port : ℕ) (card : CardPlan) : Type 0 where
   pub good : IsGoodPlan (plan_of card)
+  pub small : IsSmallPlan (plan_of card)
   pub number : card.card ≡ port
   pub switch : card.n ≡ ports
   pub deep : card.depth ≡ depth

@@ -4,7 +4,7 @@ use Rattle.rotating_pick.specs.declared.limits.TheConstants.{MAX_PORTS, MAX_ROUN
 use Rattle.pcap_records.specs.declared.link.Link.{Link}
 use Rattle.forward_table.specs.declared.route_lines.RouteLine.{RouteLine}
 use Rattle.card_core.specs.declared.plan.Planned.{Planned}
-use Rattle.card_core.specs.Plans.{Plan as CardPlan, plan_of as card_plan_of, bytes_of, IsGoodPlan}
+use Rattle.card_core.specs.Plans.{Plan as CardPlan, plan_of as card_plan_of, bytes_of, IsGoodPlan, IsSmallPlan}
 use Rattle.switch_words.specs.declared.limits.TheConstants.{MAX_WORKERS}
 use Rattle.switch_words.specs.declared.job.Settings.{Settings}
 use Rattle.switch_words.specs.Limits.{IsUpTo}
@@ -54,17 +54,21 @@ pub record IsCardOf (plan : SwitchPlan) (port : ℕ) (card : CardPlan) : Type 0 
   pub body : card.body_room ≡ body_room_for port (packets_in plan)
   pub messages : card.packet_room ≡ packet_room_for port (packets_in plan)
 
--- A plan that a job can be run by.
+-- A plan that a job can be run by, of any size.
 pub record IsGood (plan : SwitchPlan) : Type 0 where
   pub size : IsUpTo MAX_PORTS (length plan.cards)
   pub rounds : IsUpTo MAX_ROUNDS plan.rounds
   pub workers : IsUpTo MAX_WORKERS plan.workers
   pub cards : (port : ℕ) (card : CardPlan) → slice_get plan.cards port ≡ Some card → IsCardOf plan port card
-  pub slots : All (λ packets. slots_of packets ≤ most_for (length plan.cards)) (packets_in plan)
-  pub cells : total_work (packets_in plan) ≤ most_for (length plan.cards)
   pub max_slots : plan.max_slots ≡ max_slots_of (packets_in plan)
   pub aside : plan.oversize + plan.unrouted ≡ total_aside (packets_in plan)
   pub whole : plan.nano ≡ false → All (All (λ packet. packet.nanos % 1000 ≡ 0)) (packets_in plan)
+
+-- A plan of a burst: its packets are within the limits of the switch, and each card is within its own.
+pub record IsBurst (plan : SwitchPlan) : Type 0 where
+  pub slots : All (λ packets. slots_of packets ≤ most_for (length plan.cards)) (packets_in plan)
+  pub cells : total_work (packets_in plan) ≤ most_for (length plan.cards)
+  pub cards : (port : ℕ) (card : CardPlan) → slice_get plan.cards port ≡ Some card → IsSmallPlan card
 
 -- The plan of a table and captures. The cards keep the files' bytes as they came, and each packet names the place
 -- of its own. With the plan being good, this is all of it.
@@ -76,7 +80,7 @@ pub record IsPlanOf (settings : Settings) (files : List (List ℕ)) (table : Lis
   pub workers : plan.workers ≡ settings.workers
   pub oversize : plan.oversize ≡ sum_by (λ capture. count_by (λ packet. is_oversize packet.bytes) capture.packets) captures
   pub unrouted : plan.unrouted ≡ sum_by (λ capture. count_by (λ packet. is_unrouted table (first_link captures) packet.bytes) capture.packets) captures
-  pub packets : map (map unplaced) (packets_in plan) ≡ traffic_of table (first_link captures) settings.pace_us captures
+  pub packets : map (map unplaced) (packets_in plan) ≡ traffic_of table (first_link captures) settings.speed captures
   pub places : map (map (λ packet. packet.start)) (packets_in plan) ≡ map (λ capture. places_from 40 capture.packets) captures
   pub kept : map (λ card. card.bytes) plan.cards ≡ files
   pub bodies : map (λ card. map (bytes_of card) card.packets) plan.cards ≡ map (λ capture. map (λ packet. packet.bytes) capture.packets) captures

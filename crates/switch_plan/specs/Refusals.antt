@@ -10,6 +10,7 @@ use Rattle.pcap_records.specs.Faults.{IsFault}
 use Rattle.forward_table.specs.declared.route_lines.RouteLine.{RouteLine}
 use Rattle.forward_table.specs.Reading.{reading_of}
 use Rattle.card_core.specs.declared.plan.Planned.{Planned}
+use Rattle.switch_words.specs.declared.job.Speed.{Speed}
 use Rattle.switch_plan.specs.declared.fault.PlanFault.{PlanFault}
 use Rattle.switch_plan.specs.declared.fault.PlanFault.TheVariants.{Table, Capture, MixedLink, TooManySlots, TooManyCells, OutOfMemory}
 use Rattle.switch_plan.specs.Traffic.{CaptureFile, IsFile, AreFiles, traffic_of}
@@ -42,14 +43,27 @@ first_over most port (packets ∷ ports) =
 abbrev pub over_work : ℕ → List (List Planned) → Option PlanFault
 over_work most ports = if nat_lt most (total_work ports) then Some (TooManyCells (total_work ports)) else None
 
+-- The limits of a job: the most arrival slots of a port, and the most cells of all packets, counted for each output.
+pub record Limits : Type 0 where
+  pub slots : ℕ
+  pub cells : ℕ
+
+-- those of a burst, by the number of ports
+abbrev pub burst_limits : ℕ → Limits
+burst_limits ports = record { slots = most_for ports; cells = most_for ports }
+
 -- the limits that the packets of all ports pass
-abbrev pub over_limits : List (List Planned) → Option PlanFault
-over_limits ports = option_or (first_over (most_for (length ports)) 0 ports) (over_work (most_for (length ports)) ports)
+abbrev pub over_limits : Limits → List (List Planned) → Option PlanFault
+over_limits limits ports = option_or (first_over limits.slots 0 ports) (over_work limits.cells ports)
+
+-- and of a burst of them
+abbrev pub over_burst : List (List Planned) → Option PlanFault
+over_burst ports = over_limits (burst_limits (length ports)) ports
 
 -- why a job of this table and these captures is refused, where it is
-abbrev pub refusal_of : Option ℕ → List RouteLine → List CaptureFile → Option PlanFault
-refusal_of pace_us table captures =
-    option_or (mixed_links captures) (over_limits (traffic_of table (first_link captures) pace_us captures))
+abbrev pub refusal_of : Speed → List RouteLine → List CaptureFile → Option PlanFault
+refusal_of speed table captures =
+    option_or (mixed_links captures) (over_burst (traffic_of table (first_link captures) speed captures))
 
 -- the text and the files are this table and these captures
 pub record AreRead (text : List ℕ) (files : List (List ℕ)) (table : List RouteLine) (captures : List CaptureFile) : Type 0 where
@@ -57,17 +71,17 @@ pub record AreRead (text : List ℕ) (files : List (List ℕ)) (table : List Rou
   pub captures_are : AreFiles files captures
 
 -- a table and captures that can be read, and are refused for this
-abbrev pub IsRefusedWhenRead : Option ℕ → List ℕ → List (List ℕ) → PlanFault → Type 0
-IsRefusedWhenRead pace_us text files fault =
-    (table : List RouteLine) × (captures : List CaptureFile) × AreRead text files table captures × (refusal_of pace_us table captures ≡ Some fault)
+abbrev pub IsRefusedWhenRead : Speed → List ℕ → List (List ℕ) → PlanFault → Type 0
+IsRefusedWhenRead speed text files fault =
+    (table : List RouteLine) × (captures : List CaptureFile) × AreRead text files table captures × (refusal_of speed table captures ≡ Some fault)
 
 -- The first cause why a job is refused: a fault of the table, of the first faulty capture, or of what they hold. Want
 -- of memory is none.
-abbrev pub IsRefusal : Option ℕ → List ℕ → List (List ℕ) → PlanFault → Type 0
-IsRefusal pace_us text files (Table fault) = reading_of (length files) text ≡ Err fault
-IsRefusal pace_us text files (Capture port fault) =
+abbrev pub IsRefusal : Speed → List ℕ → List (List ℕ) → PlanFault → Type 0
+IsRefusal speed text files (Table fault) = reading_of (length files) text ≡ Err fault
+IsRefusal speed text files (Capture port fault) =
     (table : List RouteLine) × (reading_of (length files) text ≡ Ok table) × IsFirstFault files port fault
-IsRefusal pace_us text files (MixedLink first other) = IsRefusedWhenRead pace_us text files (MixedLink first other)
-IsRefusal pace_us text files (TooManySlots port slots) = IsRefusedWhenRead pace_us text files (TooManySlots port slots)
-IsRefusal pace_us text files (TooManyCells cells) = IsRefusedWhenRead pace_us text files (TooManyCells cells)
-IsRefusal pace_us text files OutOfMemory = ⊥
+IsRefusal speed text files (MixedLink first other) = IsRefusedWhenRead speed text files (MixedLink first other)
+IsRefusal speed text files (TooManySlots port slots) = IsRefusedWhenRead speed text files (TooManySlots port slots)
+IsRefusal speed text files (TooManyCells cells) = IsRefusedWhenRead speed text files (TooManyCells cells)
+IsRefusal speed text files OutOfMemory = ⊥

@@ -1,12 +1,12 @@
 -- A job's captures, and their packets as they come to the switch.
 use Rattle.std.specs.Prelude.{◌≡◌, ℕ, ◌+◌, ◌*◌, ◌<◌, min, nat_lt, not, is_none, ◌&&◌, Bool, if◌then◌else◌, List, [], ◌∷◌, length, map, fold, Option}
-use Rattle.std.specs.Prelude.{None, Some, slice_index_or}
+use Rattle.std.specs.Prelude.{None, Some, slice_index_or, unwrap_or}
 use Rattle.std.specs.List.{list_any, zip}
 use Rattle.cell_cutter.specs.declared.sizes.TheConstants.{MAX_FORWARDED_BYTES}
 use Rattle.cell_cutter.specs.Messages.{cells_of_packet}
 use Rattle.line_pace.specs.declared.pace.Stamp.{Stamp}
 use Rattle.line_pace.specs.declared.pace.Pace.{Pace}
-use Rattle.line_pace.specs.declared.pace.Pace.TheVariants.{Line, Micros}
+use Rattle.line_pace.specs.declared.pace.Pace.TheVariants.{Line, Micros, Rate}
 use Rattle.line_pace.specs.Arrivals.{arrival_slots}
 use Rattle.pcap_records.specs.declared.link.Link.{Link}
 use Rattle.pcap_records.specs.declared.capture.Capture.{Capture}
@@ -17,6 +17,8 @@ use Rattle.forward_table.specs.declared.route_lines.RouteLine.{RouteLine}
 use Rattle.forward_table.specs.Routing.{route_of}
 use Rattle.frame_fields.specs.Destination.{destination_of}
 use Rattle.card_core.specs.declared.plan.Planned.{Planned}
+use Rattle.switch_words.specs.declared.job.Speed.{Speed}
+use Rattle.switch_words.specs.declared.job.Speed.TheVariants.{Untimed, SlotMicros, LineRate}
 
 -- ---- what files hold
 -- a capture file: its unit, its link type and its packets
@@ -87,15 +89,15 @@ least_in least packets = fold earlier least (map time_of packets)
 abbrev pub least_time : List CaptureFile → Option ℕ
 least_time captures = fold (λ least capture. least_in least capture.packets) None captures
 
--- a slot lasts `slot` microseconds, and slot 0 begins at the least time; or packets come one after the other
-abbrev pub pace_from : Option ℕ → Option ℕ → Pace
-pace_from None least = Line
-pace_from (Some slot) None = Micros slot 0
-pace_from (Some slot) (Some least) = Micros slot least
+-- slot 0 begins at the least time, where there is one; or packets come one after the other
+abbrev pub pace_from : Speed → Option ℕ → Pace
+pace_from Untimed least = Line
+pace_from (SlotMicros micros) least = Micros micros (unwrap_or least 0)
+pace_from (LineRate mbps) least = Rate mbps (unwrap_or least 0)
 
 -- the pace of a job
-abbrev pub pace_of : Option ℕ → List CaptureFile → Pace
-pace_of pace_us captures = pace_from pace_us (least_time captures)
+abbrev pub pace_of : Speed → List CaptureFile → Pace
+pace_of speed captures = pace_from speed (least_time captures)
 
 -- ---- the packets of a port, in order
 -- a packet that arrives in this slot, but for the place of its bytes in its file
@@ -127,6 +129,6 @@ places_from at [] = []
 places_from at (packet ∷ packets) = at ∷ places_from (at + length packet.bytes + 16) packets
 
 -- the packets of all ports
-abbrev pub traffic_of : List RouteLine → Link → Option ℕ → List CaptureFile → List (List Planned)
-traffic_of table link pace_us captures =
-    map (λ capture. port_traffic table link (pace_of pace_us captures) capture.packets) captures
+abbrev pub traffic_of : List RouteLine → Link → Speed → List CaptureFile → List (List Planned)
+traffic_of table link speed captures =
+    map (λ capture. port_traffic table link (pace_of speed captures) capture.packets) captures

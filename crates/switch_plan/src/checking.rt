@@ -3,7 +3,7 @@ ghost use Rattle.switch_words.specs.Limits.{IsUpTo};
 ghost use Rattle.switch_plan.specs.Totals.{total_aside, sizes_for};
 ghost use Rattle.switch_plan.specs.CountingSteps.{AreCountable, packets_of_cards};
 ghost use Rattle.switch_plan.specs.CheckingSteps.{IsOwnCard, AreOwnCards, IsSizedFor, AreSized, AreTotals, AreWhole, IsConsistent};
-ghost use Rattle.switch_plan.specs.GoodPlans.{IsGood, switch_plan_of};
+ghost use Rattle.switch_plan.specs.GoodPlans.{IsGood, IsBurst, switch_plan_of};
 
 use crate::limits::{MAX_CELLS, most_for};
 use crate::plan::Plan;
@@ -18,7 +18,7 @@ impl Plan {
     /// packets of all of them bring to their outputs, packets within the limits of the switch, the counts
     /// and `max_slots` that follow from the packets, and whole microseconds where outputs are written so.
     pub fn is_good(&self) -> bool
-        ensures { IsTrue result ↔ IsGood (switch_plan_of self.now) }
+        ensures { IsTrue result ↔ (IsGood (switch_plan_of self.now) × IsBurst (switch_plan_of self.now)) }
     {
         self.has_sizes() && self.has_cards()
     }

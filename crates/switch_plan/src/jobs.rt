@@ -1,6 +1,6 @@
 //! The plan of a job.
 
-ghost use Rattle.std.specs.Prelude.{◌≡◌, ◌⊎◌, ◌<◌, ◌≤◌, List, length, map, All, vec_len, None, Some, Ok, Err, IfOk, IfErr, IsErrAnd, sum_by, count_by};
+ghost use Rattle.std.specs.Prelude.{◌≡◌, ◌≢◌, ◌⊎◌, ◌<◌, ◌≤◌, List, length, map, All, vec_len, None, Some, Ok, Err, IfOk, IfErr, IsErrAnd, sum_by, count_by};
 ghost use Rattle.forward_table.specs.declared.faults.TableFault.{TableFault};
 ghost use Rattle.forward_table.specs.declared.route_lines.RouteLine.{RouteLine};
 ghost use Rattle.forward_table.specs.Reading.{reading_of};
@@ -13,7 +13,7 @@ ghost use Rattle.switch_plan.specs.Refusals.{AreRead, IsRefusal, refusal_of, ove
 ghost use Rattle.switch_plan.specs.ReadingSteps.{bytes_of_files, IsCaptureOf};
 ghost use Rattle.switch_plan.specs.CountingSteps.{AreCountable, packets_of_cards};
 ghost use Rattle.switch_plan.specs.CardSteps.{is_long, IsPlanWith};
-ghost use Rattle.switch_plan.specs.GoodPlans.{switch_plan_of, IsGood, IsPlanOf};
+ghost use Rattle.switch_plan.specs.GoodPlans.{switch_plan_of, IsGood, IsBurst, IsPlanOf};
 
 use crate::cards::cards_of;
 use crate::fault::PlanFault;
@@ -33,8 +33,8 @@ use std::thread::Threads;
 use switch_words::Settings;
 
 /// What a job of this table and these captures is to do: a capture for each port, 1 to 64 of them, and
-/// each text of at most 16,777,216 bytes. A plan is good, and is that of the table and the captures; a
-/// fault is the first cause to refuse them, and a job that is to be refused is refused.
+/// each text of at most 16,777,216 bytes. A plan is good, of a burst, and that of the table and the
+/// captures; a fault is the first cause to refuse them, and a job that is to be refused is refused.
 ///
 /// Each capture is read by itself, in threads where there are some. The cards keep the bytes of the
 /// captures, of which none are copied.
@@ -51,10 +51,11 @@ pub fn plan<R: Threads + Sync>(
     requires table { vec_len table ≤ MAX_FILE_BYTES }
     requires files { All (λ file. vec_len file ≤ MAX_FILE_BYTES) captures.items }
     ensures good { IfOk result (λ plan. IsGood (switch_plan_of plan)) }
+    ensures burst { IfOk result (λ plan. IsBurst (switch_plan_of plan)) }
     ensures planned { IfOk result (λ plan. (lines : List RouteLine) × (read : List CaptureFile) × AreRead table.items (bytes_of_files captures) lines read
-        × (refusal_of settings.now.pace_us lines read ≡ None) × IsPlanOf settings.now (bytes_of_files captures) lines read (switch_plan_of plan)) }
-    ensures refused { IfErr result (λ fault. (fault ≡ PlanFault.OutOfMemory) ⊎ IsRefusal settings.now.pace_us table.items (bytes_of_files captures) fault) }
-    ensures every_refusal { (fault : PlanFault) → IsRefusal settings.now.pace_us table.items (bytes_of_files captures) fault
+        × (refusal_of settings.now.speed lines read ≡ None) × IsPlanOf settings.now (bytes_of_files captures) lines read (switch_plan_of plan)) }
+    ensures refused { IfErr result (λ fault. (fault ≡ PlanFault.OutOfMemory) ⊎ IsRefusal settings.now.speed table.items (bytes_of_files captures) fault) }
+    ensures every_refusal { (fault : PlanFault) → IsRefusal settings.now.speed table.items (bytes_of_files captures) fault
         → IsErrAnd result (λ answer. (answer ≡ PlanFault.OutOfMemory) ⊎ (answer ≡ fault)) }
 {
     let table = table_of(alloc, &table, captures.len() as u32)?;
@@ -74,8 +75,18 @@ fn table_of(alloc: Global, text: &[u8], ports: u32) -> Result<Table, PlanFault>
 {
     match read_table(alloc, text, ports) {
         Ok(table) => Ok(table),
-        Err(TableFault::OutOfMemory) => Err(PlanFault::OutOfMemory),
-        Err(fault) => Err(PlanFault::Table(fault)),
+        Err(fault) => Err(refusal(fault)),
+    }
+}
+
+// The refusal of a fault of the table's text.
+fn refusal(fault: TableFault) -> PlanFault
+    ensures memory { fault ≡ TableFault.OutOfMemory → result ≡ PlanFault.OutOfMemory }
+    ensures other { fault ≢ TableFault.OutOfMemory → result ≡ PlanFault.Table fault }
+{
+    match fault {
+        TableFault::OutOfMemory => PlanFault::OutOfMemory,
+        fault => PlanFault::Table(fault),
     }
 }
 
@@ -92,14 +103,15 @@ fn plan_of(
     requires routes { AreRoutesOf (vec_len captures) table.now }
     requires read { All (λ capture. IsCaptureOf capture.bytes.items capture) captures.items }
     ensures good { IfOk result (λ plan. IsGood (switch_plan_of plan)) }
-    ensures planned { IfOk result (λ plan. (refusal_of settings.now.pace_us table.now (map file_of captures.items) ≡ None)
+    ensures burst { IfOk result (λ plan. IsBurst (switch_plan_of plan)) }
+    ensures planned { IfOk result (λ plan. (refusal_of settings.now.speed table.now (map file_of captures.items) ≡ None)
         × IsPlanOf settings.now (map (λ capture. capture.bytes.items) captures.items) table.now (map file_of captures.items) (switch_plan_of plan)) }
     ensures refused { IfErr result
-        (λ fault. (fault ≡ PlanFault.OutOfMemory) ⊎ (refusal_of settings.now.pace_us table.now (map file_of captures.items) ≡ Some fault)) }
+        (λ fault. (fault ≡ PlanFault.OutOfMemory) ⊎ (refusal_of settings.now.speed table.now (map file_of captures.items) ≡ Some fault)) }
 {
     let link = common_link(&captures)?;
     let nano = is_nano(&captures);
-    let pace = pace_of(settings.pace_us, &captures);
+    let pace = pace_of(settings.speed, &captures);
     let cards = cards_of(alloc, table, pace, settings.depth, captures)?;
     plan_with(alloc, settings, nano, link, cards)
 }

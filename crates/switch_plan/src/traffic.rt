@@ -1,4 +1,4 @@
-ghost use Rattle.std.specs.Prelude.{◌≡◌, ℕ, ◌+◌, ◌*◌, ◌<◌, ◌≤◌, List, length, map, All, IfOk, IfSome, sum_by, count_by, slice_index_or};
+ghost use Rattle.std.specs.Prelude.{◌≡◌, ℕ, ◌+◌, ◌*◌, ◌^◌, ◌<◌, ◌≤◌, List, length, map, All, IfOk, IfSome, sum_by, count_by, slice_index_or};
 ghost use Rattle.cell_cutter.specs.Messages.{cells_of_packet};
 ghost use Rattle.pcap_records.specs.declared.capture.Stored.{Stored};
 ghost use Rattle.pcap_records.specs.Packets.{IsWithin, packet_in, packets_of};
@@ -9,13 +9,15 @@ use line_pace::{Pace, Stamp};
 use pcap_records::{Capture, Stored};
 use rotating_pick::OutOfMemory;
 use std::alloc::Global;
+use switch_words::Speed;
 
 /// Nanoseconds of a second.
 const NANOS_PER_SECOND: u64 = 1_000_000_000;
 
 // The time of a packet in nanoseconds.
 fn time_of(packet: &Stored) -> u64
-    ensures { (bytes : List ℕ) → result ≡ time_of (packet_in bytes packet.now) }
+    ensures value { (bytes : List ℕ) → result ≡ time_of (packet_in bytes packet.now) }
+    ensures early { result < 2 ^ 62 }
 {
     u64::from(packet.seconds) * NANOS_PER_SECOND + u64::from(packet.nanos)
 }
@@ -52,15 +54,18 @@ fn least_time(captures: &[Capture]) -> Option<u64>
     least
 }
 
-/// The pace of all ports: slots of `pace_us` microseconds from the least time of all packets on, or line
-/// pace.
-pub(crate) fn pace_of(pace_us: Option<u32>, captures: &[Capture]) -> Pace
-    ensures { result ≡ pace_of pace_us (map file_of captures.now) }
+/// The pace of all ports: with slots from the least time of all packets on, or one packet after the other.
+pub(crate) fn pace_of(speed: Speed, captures: &[Capture]) -> Pace
+    ensures { result ≡ pace_of speed (map file_of captures.now) }
 {
-    match pace_us {
-        None => Pace::Line,
-        Some(slot) => Pace::Micros {
+    match speed {
+        Speed::Untimed => Pace::Line,
+        Speed::SlotMicros(slot) => Pace::Micros {
             slot,
+            base: least_time(captures).unwrap_or(0),
+        },
+        Speed::LineRate(mbps) => Pace::Rate {
+            mbps,
             base: least_time(captures).unwrap_or(0),
         },
     }
@@ -77,6 +82,7 @@ pub(crate) fn is_nano(captures: &[Capture]) -> bool
 fn stamp_of(packet: &Stored) -> Stamp
     requires { packet.now.len ≤ MAX_CAPTURED_BYTES }
     ensures time { (bytes : List ℕ) → result.time ≡ time_of (packet_in bytes packet.now) }
+    ensures early { result.time < 2 ^ 62 }
     ensures cells { result.cells ≡ cells_of_packet packet.now.len }
 {
     Stamp {
@@ -88,7 +94,9 @@ fn stamp_of(packet: &Stored) -> Stamp
 /// When the packets of a capture came, and how long each occupies the line.
 pub(crate) fn stamps(alloc: Global, packets: &[Stored]) -> Result<Vec<Stamp>, OutOfMemory>
     requires { All (λ packet. packet.len ≤ MAX_CAPTURED_BYTES) packets.now }
-    ensures { (bytes : List ℕ) → All (IsWithin bytes) packets.now → IfOk result (λ stamps. stamps.items ≡ map stamp_of (map (packet_in bytes) packets.now)) }
+    ensures stamps { (bytes : List ℕ) → All (IsWithin bytes) packets.now
+        → IfOk result (λ stamps. stamps.items ≡ map stamp_of (map (packet_in bytes) packets.now)) }
+    ensures early { IfOk result (λ stamps. All (λ stamp. stamp.time < 2 ^ 62) stamps.items) }
 {
     let mut stamps = Vec::with_capacity(alloc, packets.len())?;
     for packet in packets {

@@ -19,8 +19,8 @@ returns-in_err-captures-clause-every_refusal g c fault is =
     let answer = c.in_err-captures.field-0.0 in
     let p = err_from_is_err_and c.from_residual-in_err-captures.result c.from_residual-in_err-captures.ensures.1 in
     rw (p.1, p.2)
-    (told_once settings.pace_us text files answer fault
-    (capture_refused settings.pace_us text files ports table answer ports_is good c.in_err-captures.ensures.refused) is)
+    (told_once settings.speed text files answer fault
+    (capture_refused settings.speed text files ports table answer ports_is good c.in_err-captures.ensures.refused) is)
 
 pub plan_of-requires-clause-routes : goal.plan_of-requires-clause-routes
 plan_of-requires-clause-routes g c =

@@ -1,4 +1,4 @@
-use Rattle.std.proofs.Common.{◌≡◌, ◌∙◌, ℕ, List, length, ap, sym, subst, arith, inr}
+use Rattle.std.proofs.Common.{◌≡◌, ◌∙◌, ◌<◌, ◌^◌, ℕ, List, length, ap, sym, subst, arith, inr}
 use Rattle.std.specs.Prelude.{map, All, Err}
 use Rattle.std.proofs.lemmas.List.{length-map}
 use Rattle.line_pace.specs.declared.pace.Stamp.{Stamp}
@@ -24,16 +24,18 @@ stamps_are capture packets given stamps within same given_is are =
 pub arrivals-requires-clause-packets : goal.arrivals-requires-clause-packets
 arrivals-requires-clause-packets c =
     let capture = c.args.capture.now in
-    subst (λ (xs : List Stamp). All (CanCome c.args.pace) xs)
-    (sym (stamps_are c.args.capture.now c.deref.result.now c.deref-2.result.now c.in_ok-stamps.stamps.items c.requires.within c.deref.ensures.value
-    c.deref-2.ensures.value c.in_ok-stamps.ensures))
-    (all_can_come c.args.pace capture.bytes.items capture.packets.items c.requires.within c.requires.times c.requires.short)
+    let same = stamps_are c.args.capture.now c.deref.result.now c.deref-2.result.now c.in_ok-stamps.stamps.items c.requires.within c.deref.ensures.value
+    c.deref-2.ensures.value c.in_ok-stamps.ensures.stamps in
+    let IsEarly : Stamp → Type 0 = λ s. s.time < 2 ^ 62 in
+    let early = subst (All IsEarly) (sym c.deref-2.ensures.value ∙ same) c.in_ok-stamps.ensures.early in
+    subst (All (CanCome c.args.pace)) (sym same)
+    (all_can_come c.args.pace capture.bytes.items capture.packets.items c.requires.within c.requires.times c.requires.short early)
 
 pub arrivals-requires-clause-few : goal.arrivals-requires-clause-few
 arrivals-requires-clause-few c =
     let capture = c.args.capture.now in
     let long = ap length (stamps_are c.args.capture.now c.deref.result.now c.deref-2.result.now c.in_ok-stamps.stamps.items c.requires.within
-    c.deref.ensures.value c.deref-2.ensures.value c.in_ok-stamps.ensures) ∙ length-map (packets_of capture) stamp_of
+    c.deref.ensures.value c.deref-2.ensures.value c.in_ok-stamps.ensures.stamps) ∙ length-map (packets_of capture) stamp_of
     ∙ length-map capture.packets.items (packet_in capture.bytes.items) in
     let few = c.requires.few in
     omega (arith, long, few)
@@ -44,7 +46,7 @@ returns-in-Err-TooLong-clause-over c =
     let too_long = (c.in-Err-TooLong.ensures.too_long c.in-Err-TooLong.slots).0 (ap (λ e. Err e) c.in-Err-TooLong.field-0-is) in
     let here : c.in-Err-TooLong.slots ≡ taken (map stamp_of (packets_of c.args.capture.now)) = too_long.0
     ∙ ap taken (stamps_are c.args.capture.now c.deref.result.now c.deref-2.result.now c.in_ok-stamps.stamps.items c.requires.within c.deref.ensures.value
-    c.deref-2.ensures.value c.in_ok-stamps.ensures) in
+    c.deref-2.ensures.value c.in_ok-stamps.ensures.stamps) in
     let over = too_long.1 in
     let most = c.requires.most in
     inr (ap (TooManySlots c.args.port) here, omega (arith, here, over, most))

@@ -11,5 +11,5 @@ loop-packet-preserved c bytes =
     let k = c.loop-packet.packet-index in
     c.earlier-least.ensures
     ∙ ap (λ l. earlier l c.time_of.result) (c.loop-packet.invariant bytes)
-    ∙ ap (earlier (least_in c.args.least (map (packet_in bytes) (take k packets)))) (c.time_of.ensures bytes)
+    ∙ ap (earlier (least_in c.args.least (map (packet_in bytes) (take k packets)))) (c.time_of.ensures.value bytes)
     ∙ sym (least_next c.args.least bytes packets k no_stored c.loop-packet-test.true)
