@@ -6,12 +6,12 @@ use Rattle.std.proofs.lemmas.Option.{slice_get-map, same_Some}
 use Rattle.std.proofs.lemmas.Simd.{map-map}
 use Rattle.voq_banks.specs.declared.limits.TheConstants.{MAX_DEPTH}
 use Rattle.forward_table.specs.declared.route_lines.RouteLine.{RouteLine}
-use Rattle.card_core.specs.Plans.{Plan as CardPlan, IsGoodPlan, bytes_of}
+use Rattle.card_core.specs.Plans.{Plan as CardPlan, IsGoodPlan, IsSmallPlan, bytes_of}
 use Rattle.switch_words.specs.declared.job.Settings.{Settings}
 use Rattle.switch_words.specs.Limits.{IsUpTo}
 use Rattle.switch_plan.specs.Traffic.{CaptureFile, unplaced}
 use Rattle.switch_plan.specs.Totals.{total_aside, max_slots_of, sizes_for, body_room_for, packet_room_for}
-use Rattle.switch_plan.specs.GoodPlans.{SwitchPlan, IsCardOf, IsGood, IsPlanOf, packets_in}
+use Rattle.switch_plan.specs.GoodPlans.{SwitchPlan, IsCardOf, IsGood, IsBurst, IsPlanOf, packets_in}
 use Rattle.run_laws.specs.Runs.{ports_of, setup_for, card_at, no_plan}
 use Rattle.buffer_sizing.specs.Sizing.{card_with_depth, with_depth}
 
@@ -47,24 +47,21 @@ module _ (depth : ℕ) (plan : SwitchPlan) where
   found : (i : ℕ) (card : CardPlan) → slice_get other.cards i ≡ Some card → Found i card
   found i card there = found_by i card (slice_get plan.cards i) refl (sym (slice_get-map (card_with_depth depth) plan.cards i) ∙ there)
 
-  good_card : 0 < depth → depth ≤ MAX_DEPTH → (card : CardPlan) → IsGoodPlan card → IsGoodPlan (card_with_depth depth card)
-  good_card some few card good = record {
+  good_card : 0 < depth → (card : CardPlan) → IsGoodPlan card → IsGoodPlan (card_with_depth depth card)
+  good_card some card good = record {
     some = good.some;
     size = good.size;
     card = good.card;
     deep = some;
-    depth = few;
     packets = good.packets;
     rising = good.rising;
     flows = good.flows;
     sizes = good.sizes;
-    messages = good.messages;
-    body = good.body;
   }
 
-  card_of : 0 < depth → depth ≤ MAX_DEPTH → (i : ℕ) (card : CardPlan) → IsCardOf plan i card → IsCardOf other i (card_with_depth depth card)
-  card_of some few i card is = record {
-    good = good_card some few card is.good;
+  card_of : 0 < depth → (i : ℕ) (card : CardPlan) → IsCardOf plan i card → IsCardOf other i (card_with_depth depth card)
+  card_of some i card is = record {
+    good = good_card some card is.good;
     number = is.number;
     ports = is.ports ∙ sym ports_same;
     depth = refl;
@@ -73,19 +70,30 @@ module _ (depth : ℕ) (plan : SwitchPlan) where
     messages = is.messages ∙ ap (packet_room_for i) (sym packets_same);
   }
 
-  pub IsGood-depth : IsGood plan → 0 < depth → depth ≤ MAX_DEPTH → IsGood other
-  IsGood-depth good some few = record {
+  pub IsGood-depth : IsGood plan → 0 < depth → IsGood other
+  IsGood-depth good some = record {
     size = subst (IsUpTo _) (sym ports_same) good.size;
     rounds = good.rounds;
     workers = good.workers;
     cards = λ i card there.
         let at = found i card there in
-        subst (IsCardOf other i) at.2 (card_of some few i at.0 (good.cards i at.0 at.1));
-    slots = rw (packets_same, ports_same) good.slots;
-    cells = rw (packets_same, ports_same) good.cells;
+        subst (IsCardOf other i) at.2 (card_of some i at.0 (good.cards i at.0 at.1));
     max_slots = good.max_slots ∙ ap max_slots_of (sym packets_same);
     aside = good.aside ∙ ap total_aside (sym packets_same);
     whole = rw packets_same good.whole;
+  }
+
+  small_card : depth ≤ MAX_DEPTH → (card : CardPlan) → IsSmallPlan card → IsSmallPlan (card_with_depth depth card)
+  small_card few card small = record { early = small.early; depth = few; messages = small.messages; body = small.body }
+
+  -- and as small
+  pub IsBurst-depth : IsBurst plan → depth ≤ MAX_DEPTH → IsBurst other
+  IsBurst-depth burst few = record {
+    slots = rw (packets_same, ports_same) burst.slots;
+    cells = rw (packets_same, ports_same) burst.cells;
+    cards = λ i card there.
+        let at = found i card there in
+        subst IsSmallPlan at.2 (small_card few at.0 (burst.cards i at.0 at.1));
   }
 
   -- and the plan of the job with that depth

@@ -17,8 +17,8 @@ use Rattle.card_core.specs.Queues.{before, is_routed, is_admitted, enters, cells
 use Rattle.card_core.proofs.Admitting.{entered-is}
 use Rattle.card_core.proofs.Passing.{arriving-there}
 use Rattle.eslip_rounds.specs.Schedulers.{Scheduler}
-use Rattle.switch_plan.specs.Totals.{most_for, work_of}
-use Rattle.switch_plan.specs.GoodPlans.{SwitchPlan, IsGood, packets_in}
+use Rattle.switch_plan.specs.Totals.{most_for, work_of, total_work}
+use Rattle.switch_plan.specs.GoodPlans.{SwitchPlan, IsGood, IsBurst, packets_in}
 use Rattle.run_laws.specs.Runs.{ports_of, card_at, no_plan, parts_under}
 use Rattle.run_laws.proofs.Base.{good-card}
 use Rattle.buffer_sizing.specs.Sizing.{DropsNothing}
@@ -109,19 +109,19 @@ most_all n = by (nat_lt 32 n)
     by true = omega arith
     by false = omega arith
 
-card_work : (plan : SwitchPlan) → IsGood plan → (i : ℕ) → i < ports_of plan → sum_by work_of (card_at plan i).packets ≤ MAX_DEPTH
-card_work plan good i inside =
+card_work : (plan : SwitchPlan) (i : ℕ) → i < ports_of plan → sum_by work_of (card_at plan i).packets ≤ total_work (packets_in plan)
+card_work plan i inside =
     let packets : slice_index_or (packets_in plan) i [] ≡ (card_at plan i).packets =
     get_or-map (λ (card : CardPlan). card.packets) plan.cards i no_plan [] inside in
     let count : i < length (packets_in plan) = omega (arith, inside, length-map plan.cards (λ (card : CardPlan). card.packets)) in
     let part = get_or-le-sum_by (sum_by work_of) (packets_in plan) i [] count in
     let same = ap (sum_by work_of) packets in
-    let all = good.cells in
-    let most = most_all (length plan.cards) in
-    omega (arith, part, same, all, most)
+    omega (arith, part, same)
 
-pub DropsNothing-greatest : (scheduler : Scheduler) (plan : SwitchPlan) (slots : ℕ) → IsGood plan → plan.depth ≡ MAX_DEPTH → DropsNothing scheduler plan slots
-DropsNothing-greatest scheduler plan slots good greatest i inside =
+-- with room for the cells of all packets in each queue nothing is dropped
+pub DropsNothing-room : (scheduler : Scheduler) (plan : SwitchPlan) (slots : ℕ) → IsGood plan → total_work (packets_in plan) ≤ plan.depth
+    → DropsNothing scheduler plan slots
+DropsNothing-room scheduler plan slots good enough i inside =
     let card = card_at plan i in
     let parts = parts_under scheduler plan i slots in
     let is = good-card plan good i inside in
@@ -129,7 +129,15 @@ DropsNothing-greatest scheduler plan slots good greatest i inside =
     let rooms : HasRooms card.depth card parts slots = record {
       room = λ t k p below arrives routed.
           let room = room_by_work card parts t is.good k p (queue_of p) arrives routed in
-          let few = card_work plan good i inside in
-          omega (arith, room, few, depth, greatest);
+          let few = card_work plan i inside in
+          omega (arith, room, few, depth, enough);
     } in
     drops_none card card.depth parts slots rooms rooms
+
+-- so it is with the greatest depth where the plan is of a burst
+pub DropsNothing-greatest : (scheduler : Scheduler) (plan : SwitchPlan) (slots : ℕ) → IsGood plan → IsBurst plan → plan.depth ≡ MAX_DEPTH
+    → DropsNothing scheduler plan slots
+DropsNothing-greatest scheduler plan slots good burst greatest =
+    let cells = burst.cells in
+    let most = most_all (length plan.cards) in
+    DropsNothing-room scheduler plan slots good (omega (arith, cells, most, greatest))

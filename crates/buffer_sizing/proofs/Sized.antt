@@ -1,6 +1,5 @@
 -- The sizing theorem.
 use Rattle.std.proofs.Common.{◌≡◌, ℕ, ◌<◌, ◌≤◌, subst, arith}
-use Rattle.voq_banks.specs.declared.limits.TheConstants.{MAX_DEPTH}
 use Rattle.card_core.specs.Plans.{Queue}
 use Rattle.eslip_rounds.specs.Schedulers.{Scheduler}
 use Rattle.queue_lengths.specs.Lengths.{length_in}
@@ -28,23 +27,14 @@ module _ (scheduler : Scheduler) where
   deepest_few : (plan : SwitchPlan) → IsGood plan → (slots : ℕ) → deepest_under scheduler plan slots ≤ plan.depth
   deepest_few plan good slots = deepest_within scheduler plan slots plan.depth (λ i q t inside below. length_few plan good slots i q t inside)
 
-  -- a good plan's depth is one that there is
-  depth_few : (plan : SwitchPlan) → IsGood plan → plan.depth ≤ MAX_DEPTH
-  depth_few plan good =
-      let first = good-card plan good 0 good.size.some in
-      let few = first.good.depth in
-      let depth = first.depth in
-      omega (arith, few, depth)
-
   module _ (plan : SwitchPlan) (good : IsGood plan) (slots : ℕ) (ends : IsLengthUnder scheduler plan slots) where
     -- where the run with a smaller depth dropped nothing, no queue would be longer than that in either
     not_fewer : (depth more : ℕ) → 0 < depth → depth < deepest_under scheduler plan slots → IsLengthUnder scheduler (with_depth depth plan) more
         → DropsNothing scheduler (with_depth depth plan) more → ⊥
     not_fewer depth more some fewer ends_other none_other =
         let deep = deepest_few plan good slots in
-        let few = depth_few plan good in
         let other : SwitchPlan = with_depth depth plan in
-        let other_good : IsGood other = IsGood-depth depth plan good some (omega (arith, fewer, deep, few)) in
+        let other_good : IsGood other = IsGood-depth depth plan good some in
         let shallow : deepest_under scheduler other more ≤ plan.depth = omega (arith, deepest_few other other_good more, fewer, deep) in
         let again : with_depth plan.depth other ≡ plan = own_depth_again depth plan good in
         let same = IsSameRun-depth scheduler other other_good more plan.depth none_other shallow in
@@ -58,7 +48,7 @@ module _ (scheduler : Scheduler) where
 
     pub IsSized-run : IsSized scheduler plan slots
     IsSized-run = record {
-      enough = λ none depth some few most. (
+      enough = λ none depth some few. (
         DropsNothing-depth scheduler plan good slots depth none few,
         IsSameRun-depth scheduler plan good slots depth none few,
       );

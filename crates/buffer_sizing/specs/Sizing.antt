@@ -1,7 +1,6 @@
 -- How deep the queues of a switch must be: what a run of a plan says of the runs of the same plan with other depths.
 use Rattle.std.specs.Prelude.{◌≡◌, ◌<◌, ◌≤◌, ℕ, map}
 use Rattle.eslip_rounds.specs.Schedulers.{Scheduler}
-use Rattle.voq_banks.specs.declared.limits.TheConstants.{MAX_DEPTH}
 use Rattle.slot_histories.specs.Slots.{decision_under}
 use Rattle.card_core.specs.Plans.{Plan as CardPlan}
 use Rattle.card_core.specs.Queues.{dropped}
@@ -36,10 +35,10 @@ pub record IsSameRun (scheduler : Scheduler) (plan other : SwitchPlan) (slots : 
   pub cells : (j : ℕ) → cells_under scheduler other j slots ≡ cells_under scheduler plan j slots
   pub ends : IsLengthUnder scheduler plan slots → IsLengthUnder scheduler other slots
 
--- The sizing theorem. Where a run drops nothing, let its deepest queue hold H cells. With each depth from H, and 1, to the
--- greatest there is the run is the same and drops nothing; with each smaller depth the run drops a packet.
+-- The sizing theorem. Where a run drops nothing, let its deepest queue hold H cells. With each depth from H, and 1, on the
+-- run is the same and drops nothing; with each smaller depth the run drops a packet.
 pub record IsSized (scheduler : Scheduler) (plan : SwitchPlan) (slots : ℕ) : Type 0 where
-  pub enough : DropsNothing scheduler plan slots → (depth : ℕ) → 0 < depth → deepest_under scheduler plan slots ≤ depth → depth ≤ MAX_DEPTH
+  pub enough : DropsNothing scheduler plan slots → (depth : ℕ) → 0 < depth → deepest_under scheduler plan slots ≤ depth
       → DropsNothing scheduler (with_depth depth plan) slots × IsSameRun scheduler plan (with_depth depth plan) slots
   pub less : DropsNothing scheduler plan slots → (depth more : ℕ) → 0 < depth → depth < deepest_under scheduler plan slots
       → IsLengthUnder scheduler (with_depth depth plan) more → DropsNothing scheduler (with_depth depth plan) more → ⊥

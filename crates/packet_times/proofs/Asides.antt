@@ -74,11 +74,11 @@ module _ (settings : Settings) (files : List (List ℕ)) (table : List RouteLine
     (is : IsPlanOf settings files table captures plan) where
   -- the packets of a port, but for their places
   abbrev port : CaptureFile → List Planned
-  port capture = port_traffic table (first_link captures) (pace_of settings.pace_us captures) capture.packets
+  port capture = port_traffic table (first_link captures) (pace_of settings.speed captures) capture.packets
 
   port-long : (capture : CaptureFile) → count_by is_long (port capture) ≡ count_by (λ packet. is_oversize packet.bytes) capture.packets
   port-long capture =
-      let pace = pace_of settings.pace_us captures in
+      let pace = pace_of settings.speed captures in
       let slots = arrival_slots pace (map stamp_of capture.packets) in
       count_map is_long (λ (pair : Packet × ℕ). planned table (first_link captures) pair.0 pair.1) (zip capture.packets slots)
       ∙ count_left (λ (packet : Packet). is_oversize packet.bytes) capture.packets slots (sym (slots_long pace capture.packets))

@@ -18,11 +18,11 @@ use Rattle.crossbar.specs.declared.cards.Post.{Post as CardPost}
 use Rattle.crossbar.specs.Crossing.{fetched}
 use Rattle.slot_histories.specs.Slots.{decision_under, crossed_under}
 use Rattle.card_core.specs.declared.plan.CardPlan.{CardPlan}
-use Rattle.card_core.specs.Plans.{IsGoodPlan, plan_of}
+use Rattle.card_core.specs.Plans.{IsGoodPlan, IsSmallPlan, plan_of}
 use Rattle.card_core.specs.Posts.{row_at, IsServable}
-use Rattle.switch_plan.specs.GoodPlans.{SwitchPlan, IsGood}
+use Rattle.switch_plan.specs.GoodPlans.{SwitchPlan, IsGood, IsBurst}
 use Rattle.run_laws.specs.Runs.{ports_of, setup_for, no_plan, card_at, before_under, parts_under, posts_under, IsSlotUnder}
-use Rattle.run_laws.proofs.Base.{decision-same, good-card}
+use Rattle.run_laws.proofs.Base.{decision-same, good-card, small-card}
 use Rattle.packet_departures.specs.Departures.{Flow, is_end_of, ends_of}
 use Rattle.packet_times.specs.NotingSteps.{Input, Times, no_input, flow_place, IsNoted, IsLastMatch, HasNoted}
 use Rattle.packet_times.specs.Steps.{end_in, HasEnds, AreNoted}
@@ -149,6 +149,9 @@ module _ (plan : SwitchPlan) (cards : List CardPlan) (are : plan.cards ≡ map p
 
   pub good-at : IsGood plan → (i : ℕ) (default : CardPlan) → i < length cards → IsGoodPlan (plan_of (slice_index_or cards i default))
   good-at good i default inside = subst IsGoodPlan (card-of i default inside) (good-card plan good i (let long = ports-are in omega arith)).good
+
+  pub small-at : IsBurst plan → (i : ℕ) (default : CardPlan) → i < length cards → IsSmallPlan (plan_of (slice_index_or cards i default))
+  small-at burst i default inside = subst IsSmallPlan (card-of i default inside) (small-card plan burst i (let long = ports-are in omega arith))
 
   pub made-more : (k : ℕ) (default : CardPlan) (inputs : List Input) (new : Input) → k < length cards → length inputs ≡ k
       → ((i : ℕ) → i < k → IsNoted (card_at plan i) (slice_index_or inputs i no_input) [])

@@ -15,7 +15,7 @@ use Rattle.rotating_pick.specs.declared.limits.TheConstants.{LEVELS, MAX_PORTS}
 use Rattle.eslip_rounds.specs.Schedulers.{Scheduler}
 use Rattle.slot_histories.specs.Tests.{has}
 use Rattle.card_core.specs.declared.plan.Planned.{Planned}
-use Rattle.card_core.specs.Plans.{OfOutput, OfLevel, IsPlanned, is_queue, queue_of, level_of, kind_of, last_port, no_packet}
+use Rattle.card_core.specs.Plans.{OfOutput, OfLevel, IsPlanned, IsSmallPlan, is_queue, queue_of, level_of, kind_of, last_port, no_packet}
 use Rattle.card_core.proofs.Arriving.{is_queue-refl}
 use Rattle.card_core.proofs.Passing.{is_queue-same}
 use Rattle.card_core.proofs.Plenty.{few_packets}
@@ -66,7 +66,8 @@ goes-none true false c d e = refl
 goes-none false b c d e = refl
 
 -- ---- one packet more
-module _ (scheduler : Scheduler) (plan : SwitchPlan) (slots k : ℕ) (p : Planned) (good : IsGood plan) where
+module _ (scheduler : Scheduler) (plan : SwitchPlan) (slots k : ℕ) (p : Planned) (good : IsGood plan)
+    (small : (i : ℕ) → i < ports_of plan → IsSmallPlan (card_at plan i)) where
   module _ (flow : Flow) (is : IsFlow (ports_of plan) flow) (at : slice_get (card_at plan flow.input).packets k ≡ Some p) where
     packets : List Planned
     packets = (card_at plan flow.input).packets
@@ -87,7 +88,7 @@ module _ (scheduler : Scheduler) (plan : SwitchPlan) (slots k : ℕ) (p : Planne
 
     few : earlier_by scheduler plan slots flow k ≤ 131072
     few =
-        let most = few_packets (card_at plan flow.input) (good-card plan good flow.input is.input).good in
+        let most = few_packets (card_at plan flow.input) (good-card plan good flow.input is.input).good (small flow.input is.input) in
         let count = count_by-le-length (goes_by scheduler plan slots flow) (take k (card_at plan flow.input).packets) in
         let long = length-take k (card_at plan flow.input).packets in
         omega (arith, most, count, long)
@@ -208,7 +209,7 @@ module _ (scheduler : Scheduler) (plan : SwitchPlan) (slots : ℕ) (times : Time
   -- ---- an input of the times
   module _ (input : ℕ) where
     pub few-own : input < ports_of plan → length (card_at plan input).packets ≤ 131072
-    few-own inside = few_packets (card_at plan input) (good-card plan noted.good input inside).good
+    few-own inside = few_packets (card_at plan input) (good-card plan noted.good input inside).good (noted.each input inside).small
 
     module _ (own : Input) (inside : input < ports_of plan) (mine : own ≡ slice_index_or times.inputs input own) where
       own-noted : IsNoted (card_at plan input) own (parts_under scheduler plan input slots)

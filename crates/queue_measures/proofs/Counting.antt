@@ -5,11 +5,12 @@ use Rattle.std.specs.Option.{option_map}
 use Rattle.std.proofs.lemmas.Bool.{cases_eq, cases_lt, cases_Bool, lt-ltb, le-ltb, and_parts}
 use Rattle.std.proofs.lemmas.Grind.{get_or-set_at}
 use Rattle.std.proofs.lemmas.List.{get_or-set_other, length-set}
-use Rattle.std.proofs.lemmas.Option.{same_Some}
+use Rattle.std.proofs.lemmas.Option.{same_Some, slice_get_within, get_or_from_slice_get}
 use Rattle.std_lemmas.proofs.Numbers.{from_not_zero}
 use Rattle.slot_match.specs.declared.matching.Served.{Served}
+use Rattle.card_core.specs.declared.limits.TheConstants.{MAX_ARRIVALS}
 use Rattle.card_core.specs.declared.plan.Planned.{Planned}
-use Rattle.card_core.specs.Plans.{Plan, Queue, IsGoodPlan, IsPlanned, is_queue, queue_of, size_of, arriving}
+use Rattle.card_core.specs.Plans.{Plan, Queue, IsGoodPlan, IsSmallPlan, IsPlanned, is_queue, queue_of, size_of, arriving}
 use Rattle.card_core.specs.Queues.{is_routed, is_admitted, enters}
 use Rattle.card_core.proofs.Passing.{arriving-there, is_queue-same}
 use Rattle.card_core.proofs.Arriving.{is_queue-refl}
@@ -75,12 +76,14 @@ module _ (plan : Plan) (good : IsGoodPlan plan) (served : List (Option Served)) 
       let q = queue_at plan.ports place in
       subst IsSmall (sym (ap (λ n. slice_index_or numbers n no_numbers) (sym it.1) ∙ are q it.0)) (numbers-small plan good served q here early)
 
-  may-of : (arrives : Option (ℕ × Planned)) (arrival : Arrival) → arriving plan here ≡ arrives → option_map told arrives ≡ Some arrival
+  may-of : IsSmallPlan plan → (arrives : Option (ℕ × Planned)) (arrival : Arrival) → arriving plan here ≡ arrives → option_map told arrives ≡ Some arrival
       → MayCount plan.ports long numbers arrival
-  may-of None arrival is mapped = absurd cc
-  may-of (Some (k, p)) arrival is mapped =
+  may-of limits None arrival is mapped = absurd cc
+  may-of limits (Some (k, p)) arrival is mapped =
       let there = arriving-there 0 plan.packets here k p is in
       let planned = good.packets there.0 p there.2 in
+      let early : p.arrival < MAX_ARRIVALS = subst (λ (r : Planned). r.arrival < MAX_ARRIVALS) (get_or_from_slice_get plan.packets there.0 p p there.2)
+      (limits.early there.0 p (slice_get_within plan.packets there.0 p there.2)) in
       let packet : p ≡ arrival.packet = ap (λ (a : Arrival). a.packet) (same_Some (told (k, p)) arrival mapped) in
       record {
         size = good.size;
@@ -89,11 +92,11 @@ module _ (plan : Plan) (good : IsGoodPlan plan) (served : List (Option Served)) 
         level = subst (λ (r : Planned). r.level < 4) packet planned.level;
         fan = subst (λ (r : Planned). r.fan < 2 ^ plan.ports) packet planned.fan;
         forwarded = subst (λ (r : Planned). r.fan ≢ 0 → r.len ≤ 65535) packet planned.forwarded;
-        small = small-at (omega (arith, planned.early, there.3));
+        small = small-at (omega (arith, early, there.3));
       }
 
-  pub may-count : (arrival : Arrival) → arrival_in plan served here ≡ Some arrival → MayCount plan.ports long numbers arrival
-  may-count arrival is = may-of (arriving plan here) arrival refl is
+  pub may-count : IsSmallPlan plan → (arrival : Arrival) → arrival_in plan served here ≡ Some arrival → MayCount plan.ports long numbers arrival
+  may-count limits arrival is = may-of limits (arriving plan here) arrival refl is
 
   module _ (part : Option Served)
       (are_long : (q : Queue) → IsQueue plan.ports q → slice_index long (place_of plan.ports q) ≡ length_in plan q served here) where
@@ -174,7 +177,7 @@ module _ (plan : Plan) (served : List (Option Served)) (counters : Counters) (nu
 
   pub noted-may : (packet : Arrival) → arrival ≡ Some packet → MayCount ports new.lengths numbers packet
   noted-may packet is = subst (λ n. MayCount n new.lengths numbers packet) size
-      (may-count plan noted.counts.good served numbers noted.count noted.numbers new.lengths counts.count packet (sym comes-here ∙ is))
+      (may-count plan noted.counts.good served numbers noted.count noted.numbers new.lengths counts.count noted.small packet (sym comes-here ∙ is))
 
   pub noted-next : (part : Option Served) (later : List QueueNumbers) (after : Counters) → later ≡ with_arrivals ports slot new.lengths arrival numbers
       → CountBefore plan after (served ++ part ∷ []) → IsNoted plan (record { counters = after; numbers = later }) (served ++ part ∷ [])
@@ -183,6 +186,7 @@ module _ (plan : Plan) (served : List (Option Served)) (counters : Counters) (nu
       are ∙ ap (λ n. with_arrivals n slot new.lengths arrival numbers) (sym size) ∙ ap (λ t. with_arrivals plan.ports t new.lengths arrival numbers) (sym now)
       ∙ ap (λ a. with_arrivals plan.ports (length served) new.lengths a numbers) comes-here in
       record {
+        small = noted.small;
         counts = before;
         count = ap length are ∙ with_arrivals-count ports slot new.lengths arrival numbers ∙ noted.count;
         numbers = λ q mine. ap (λ (ns : List QueueNumbers). slice_index_or ns (place_of plan.ports q) no_numbers) same

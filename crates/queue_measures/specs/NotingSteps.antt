@@ -3,7 +3,7 @@ use Rattle.std.specs.Prelude.{◌≡◌, ℕ, ◌<◌, ◌&&◌, not, nat_lt, if
 use Rattle.std.specs.List.{sum_by}
 use Rattle.slot_match.specs.declared.matching.Served.{Served}
 use Rattle.eslip_rounds.specs.Schedulers.{Scheduler}
-use Rattle.card_core.specs.Plans.{Plan, Queue, size_of}
+use Rattle.card_core.specs.Plans.{Plan, Queue, IsSmallPlan, size_of}
 use Rattle.card_core.specs.Queues.{is_admitted, enters}
 use Rattle.queue_lengths.specs.Lengths.{IsQueue, place_of, count_of, is_for, peak_of, peak_slot}
 use Rattle.queue_lengths.specs.Counters.{Counters, CountBefore}
@@ -34,8 +34,9 @@ numbers_so_far plan served slots q = record {
   slot = peak_slot plan q served slots;
 }
 
--- the input was served these parts, one in each slot that was noted
+-- the input of a plan within the limits was served these parts, one in each slot that was noted
 pub record IsNoted (plan : Plan) (input : Input) (served : List (Option Served)) : Type 0 where
+  pub small : IsSmallPlan plan
   pub counts : CountBefore plan input.counters served
   pub count : length input.numbers ≡ count_of plan.ports
   pub numbers : (q : Queue) → IsQueue plan.ports q

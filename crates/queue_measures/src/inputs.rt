@@ -4,7 +4,7 @@ ghost use Rattle.cell_cutter.specs.declared.sizes.TheConstants.{MAX_FORWARDED_BY
 ghost use Rattle.rotating_pick.specs.PortSets.{IsAmong};
 ghost use Rattle.rotating_pick.specs.declared.limits.TheConstants.{LEVELS, MAX_PORTS};
 ghost use Rattle.slot_match.specs.declared.matching.Served.{Served as AServed};
-ghost use Rattle.card_core.specs.Plans.{Plan, IsGoodPlan, plan_of};
+ghost use Rattle.card_core.specs.Plans.{Plan, IsGoodPlan, IsSmallPlan, plan_of};
 ghost use Rattle.card_core.specs.Posts.{row_at, IsServable};
 ghost use Rattle.queue_lengths.specs.Lengths.{count_of};
 ghost use Rattle.queue_lengths.specs.declared.counting.Arrival.{Arrival as AnArrival};
@@ -41,9 +41,10 @@ impl Model for Input {
 }
 
 impl Input {
-    /// An input that is to send what the plan says, before slot 0. Want of memory is the only error.
+    /// An input that is to send what a plan within the limits says, before slot 0. Want of memory is the only error.
     pub(crate) fn make(alloc: Global, plan: &CardPlan) -> Result<Input, OutOfMemory>
-        requires { IsGoodPlan (plan_of plan.now) }
+        requires good { IsGoodPlan (plan_of plan.now) }
+        requires small { IsSmallPlan (plan_of plan.now) }
         ensures { IfOk result (λ input. IsNoted (plan_of plan.now) input []) }
     {
         let queues = QueueLengths::make(alloc, plan)?;

@@ -12,7 +12,7 @@ use Rattle.crossbar.specs.declared.cards.Post.{Post}
 use Rattle.slot_histories.specs.Slots.{decision_under}
 use Rattle.slot_histories.specs.Answers.{JournalSlot}
 use Rattle.card_core.specs.Posts.{row_at}
-use Rattle.switch_plan.specs.GoodPlans.{SwitchPlan, IsGood}
+use Rattle.switch_plan.specs.GoodPlans.{SwitchPlan, IsGood, IsBurst}
 use Rattle.switch_plan.proofs.RoomBounds.{most_few}
 use Rattle.run_laws.specs.Runs.{ports_of, setup_for, card_at, parts_under, posts_under, slot_under}
 use Rattle.run_laws.specs.Ends.{IsLengthUnder}
@@ -78,12 +78,12 @@ module _ (scheduler : Scheduler) (scheduling : IsScheduler scheduler) (plan : Sw
             (run-named t i j level kind (subst (λ m. Serves m i j level kind) (match-is scheduler plan slots t (omega arith)) pair));
       }
 
-  -- ---- a run has few slots
-  pub run-few : (slots : ℕ) → IsLengthUnder scheduler plan slots → slots ≤ 262145
-  run-few slots end =
+  -- ---- the run of a burst has few slots
+  pub run-few : IsBurst plan → (slots : ℕ) → IsLengthUnder scheduler plan slots → slots ≤ 262145
+  run-few burst slots end =
       let bound = run_bound scheduler scheduling plan good slots end in
       let work = total_admitted-le scheduler plan slots in
-      let cells = good.cells in
+      let cells = burst.cells in
       let few = most_few (ports_of plan) in
-      let greatest = greatest-le plan good in
+      let greatest = greatest-le plan burst in
       omega arith

@@ -2,7 +2,7 @@
 
 ghost use Rattle.std.specs.Prelude.{◌≡◌, ℕ, ◌+◌, ◌<◌, ◌≤◌, [], ◌∷◌, ◌++◌, sum};
 ghost use Rattle.eslip_rounds.specs.Schedulers.{Scheduler, IsScheduler};
-ghost use Rattle.switch_plan.specs.GoodPlans.{SwitchPlan, IsGood};
+ghost use Rattle.switch_plan.specs.GoodPlans.{SwitchPlan, IsGood, IsBurst};
 ghost use Rattle.run_laws.specs.Runs.{ports_of, slot_under};
 ghost use Rattle.run_laws.specs.Ends.{IsLengthUnder};
 ghost use Rattle.output_queued.specs.NotingSteps.{State, MayNote, cards_in};
@@ -13,10 +13,10 @@ ghost use Rattle.reference_run.specs.RunLines.{run_matches_under};
 ghost use Rattle.reference_run.specs.Promises.{EndsNoLaterUnder, ExtraIsDelaysUnder};
 ghost use Rattle.reference_run.specs.MeetingSteps.{IsReferenceOf, run_rows_under};
 
-/// The slots of a run may be noted one after the other, to its end.
+/// The slots of the run of a burst may be noted one after the other, to its end.
 pub fn slots_may_be_noted()
     ensures may { (scheduler : Scheduler) (plan : SwitchPlan) (reference : State) (t slots : ℕ) → IsScheduler scheduler → IsGood plan
-        → IsLengthUnder scheduler plan slots → t < slots → IsReferenceOf plan reference (run_matches_under scheduler plan t)
+        → IsBurst plan → IsLengthUnder scheduler plan slots → t < slots → IsReferenceOf plan reference (run_matches_under scheduler plan t)
         → MayNote reference (run_rows_under scheduler plan t) (slot_under scheduler plan t).matched }
     ensures more { (scheduler : Scheduler) (plan : SwitchPlan) (t : ℕ)
         → run_matches_under scheduler plan (t + 1) ≡ run_matches_under scheduler plan t ++ (slot_under scheduler plan t).matched ∷ [] }

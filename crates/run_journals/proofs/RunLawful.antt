@@ -11,7 +11,7 @@ use Rattle.board_state.specs.Boards.{IsSetup}
 use Rattle.service_bound.specs.Waits.{NotedSlot, noted_of, longest_wait}
 use Rattle.slot_board.specs.Schedules.{decided_under}
 use Rattle.card_core.specs.Posts.{unis_at, rest_at}
-use Rattle.switch_plan.specs.GoodPlans.{SwitchPlan, IsGood}
+use Rattle.switch_plan.specs.GoodPlans.{SwitchPlan, IsGood, IsBurst}
 use Rattle.run_laws.specs.Runs.{ports_of, setup_for, card_at, parts_under, posts_under, slot_under}
 use Rattle.run_laws.specs.Ends.{IsLengthUnder}
 use Rattle.run_laws.specs.Sums.{schedule_under}
@@ -47,15 +47,15 @@ module _ (scheduler : Scheduler) (scheduling : IsScheduler scheduler) (plan : Sw
   pub run_lawful : IsLawfulUnder scheduler (run_file_under scheduler plan slots)
   run_lawful = slots_lawful scheduler (setup_for plan) (posts_under scheduler plan) slots whole
 
-  is_setup : IsSetup (setup_for plan)
-  is_setup = record {
+  is_setup : IsBurst plan → IsSetup (setup_for plan)
+  is_setup burst = record {
     ports_some = good.size.some;
     ports_few = good.size.most;
     rounds_some = good.rounds.some;
     rounds_few = good.rounds.most;
-    slots_some = slots_some plan good;
-    slots_few = slots_few plan good;
-    slots_halved = slots_halved plan good;
+    slots_some = slots_some plan good burst;
+    slots_few = slots_few plan good burst;
+    slots_halved = slots_halved plan good burst;
   }
 
   few : slots ≤ plan.max_slots
@@ -70,8 +70,8 @@ module _ (scheduler : Scheduler) (scheduling : IsScheduler scheduler) (plan : Sw
     multi = length-map-range_with_len (rest_at (card_at plan i) (parts_under scheduler plan i t) t) 0 LEVELS;
   }
 
-  pub run_is_file : IsFile (run_file_under scheduler plan slots)
-  run_is_file = slots_are_file scheduler (setup_for plan) (posts_under scheduler plan) slots whole is_setup few (λ i t inside below. four_levels i t)
+  pub run_is_file : IsBurst plan → IsFile (run_file_under scheduler plan slots)
+  run_is_file burst = slots_are_file scheduler (setup_for plan) (posts_under scheduler plan) slots whole (is_setup burst) few (λ i t inside below. four_levels i t)
 
 -- ---- what is told of the file is what the summary tells of the run
 module _ (scheduler : Scheduler) (plan : SwitchPlan) (slots : ℕ) where

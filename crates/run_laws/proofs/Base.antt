@@ -23,12 +23,12 @@ use Rattle.slot_histories.specs.Legal.{IsAccepted}
 use Rattle.slot_histories.specs.Parts.{IsPartOf}
 use Rattle.slot_histories.proofs.PostedRows.{length-slot_rows, row_of-slot_rows}
 use Rattle.slot_histories.proofs.SoundDecisions.{IsSoundDecision, decision_under-moved, decision_under-slot, decision_under-sound}
-use Rattle.card_core.specs.Plans.{Queue}
+use Rattle.card_core.specs.Plans.{Queue, IsSmallPlan}
 use Rattle.card_core.specs.Queues.{before as queue_before, queue_in}
 use Rattle.card_core.specs.Posts.{row_at, IsServable}
 use Rattle.card_core.specs.Grants.{granted_to}
 use Rattle.card_core.proofs.Accepting.{first_accepted, next_accepted}
-use Rattle.switch_plan.specs.GoodPlans.{SwitchPlan, IsGood, IsCardOf}
+use Rattle.switch_plan.specs.GoodPlans.{SwitchPlan, IsGood, IsBurst, IsCardOf}
 use Rattle.run_laws.specs.Runs.{ports_of, setup_for, card_at, no_plan, rows_in, decision_in, before_under, parts_under, posts_under}
 use Rattle.run_laws.proofs.SameParts.{before-alike, queue_in-alike, row_at-alike, granted_to-alike}
 
@@ -133,6 +133,10 @@ module _ (scheduler : Scheduler) (plan : SwitchPlan) where
 -- ---- the run of a good plan
 pub good-card : (plan : SwitchPlan) → IsGood plan → (i : ℕ) → i < ports_of plan → IsCardOf plan i (card_at plan i)
 good-card plan good i inside = good.cards i (card_at plan i) (slice_get-get_or plan.cards i no_plan inside)
+
+-- and of a burst
+pub small-card : (plan : SwitchPlan) → IsBurst plan → (i : ℕ) → i < ports_of plan → IsSmallPlan (card_at plan i)
+small-card plan burst i inside = burst.cards i (card_at plan i) (slice_get-get_or plan.cards i no_plan inside)
 
 module _ (scheduler : Scheduler) (scheduling : IsScheduler scheduler) (plan : SwitchPlan) (good : IsGood plan) where
   abbrev Accepted : ℕ → ℕ → Type 0

@@ -1,10 +1,10 @@
--- The arrival slots of a good plan are within the limit for its number of ports.
+-- The arrival slots of a burst are within the limit for its number of ports.
 use Rattle.std.proofs.Common.{ℕ, suc, ◌<◌, ◌≤◌, max, List, [], ◌∷◌, arith}
 use Rattle.std.specs.Prelude.{All}
 use Rattle.std.specs.List.{fold}
 use Rattle.card_core.specs.declared.plan.Planned.{Planned}
 use Rattle.switch_plan.specs.Totals.{most_for, slots_of, greatest_slots}
-use Rattle.switch_plan.specs.GoodPlans.{SwitchPlan, IsGood, packets_in}
+use Rattle.switch_plan.specs.GoodPlans.{SwitchPlan, IsBurst, packets_in}
 use Rattle.run_laws.specs.Runs.{ports_of}
 
 -- no port has more arrival slots than the greatest of these
@@ -15,8 +15,8 @@ most_slots (packets ∷ ports) start most begins each =
     let here : slots_of packets ≤ most = each 0 packets (omega arith) in
     most_slots ports (max start (slots_of packets)) most (omega (arith, begins, here)) (λ k d inside. each (suc k) d (omega (arith, inside)))
 
-pub greatest-le : (plan : SwitchPlan) → IsGood plan → greatest_slots (packets_in plan) ≤ most_for (ports_of plan)
-greatest-le plan good = most_slots (packets_in plan) 0 (most_for (ports_of plan)) (omega arith) good.slots
+pub greatest-le : (plan : SwitchPlan) → IsBurst plan → greatest_slots (packets_in plan) ≤ most_for (ports_of plan)
+greatest-le plan burst = most_slots (packets_in plan) 0 (most_for (ports_of plan)) (omega arith) burst.slots
 
 -- the limit is halved above 32 ports; that for any number of ports is `most_few` of `switch_plan`
 pub most-halved : (ports : ℕ) → 32 < ports → most_for ports ≤ 65536

@@ -1,5 +1,8 @@
-use Rattle.buffer_sizing.proofs.Depths.{IsGood-depth}
+use Rattle.buffer_sizing.proofs.Depths.{IsGood-depth, IsBurst-depth}
 use Rattle.buffer_sizing.proofs.laws.depths_are_good.Goals as goal
 
 pub returns : goal.returns
-returns c = λ plan depth good some few. IsGood-depth depth plan good some few
+returns c = record {
+  good = λ plan depth good some. IsGood-depth depth plan good some;
+  burst = λ plan depth burst few. IsBurst-depth depth plan burst few;
+}

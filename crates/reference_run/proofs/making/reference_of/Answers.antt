@@ -29,7 +29,7 @@ coming_in-requires c =
     let there : slice_get (map plan_of c.args.plan.now.cards.items) i ≡ Some (plan_of card) =
     ap (λ xs. slice_get (map plan_of xs) i) (sym c.deref-card-items.ensures.value) ∙ slice_get-map plan_of ps i card c.loop-card-test.true
     ∙ ap (λ x. Some (plan_of x)) (sym c.card-item.is) in
-    (c.requires.cards i (plan_of card) there).good
+    (c.requires.good.cards i (plan_of card) there).good
 
 pub loop-card-preserved : goal.loop-card-preserved
 loop-card-preserved c =
@@ -60,7 +60,7 @@ make-requires c =
     ∙ sym (map-map coming_in plan_of items) in
     let count : length (map plan_of items) ≡ c.len-n.result = length-map items plan_of ∙ sym (c.len-n.ensures ∙ c.args.plan.now.cards.ok.0) in
     subst (λ n. IsSwitch n c.args.plan.now.depth (map (λ list. list.items) c.loop-card.coming.items)) count
-    (subst (IsSwitch (length (map plan_of items)) c.args.plan.now.depth) (sym whole) (told-switch (switch_plan_of c.args.plan.now) c.requires))
+    (subst (IsSwitch (length (map plan_of items)) c.args.plan.now.depth) (sym whole) (told-switch (switch_plan_of c.args.plan.now) c.requires.good c.requires.burst))
 
 pub returns : goal.returns
 returns c =

@@ -12,5 +12,5 @@ returns c scheduler =
     let long : c.len.result ≡ length c.args.plan.now.cards.items = omega arith in
     let ports : c.len.result ≡ ports_of plan = long ∙ sym (ports-are plan c.args.plan.now.cards.items refl) in
     let times = the_view (record { inputs = c.in_ok-inputs.inputs; ends = c.in_ok-ends.ends; feeds = c.in_ok-feeds.feeds; parts = [] }) in
-    first-noted scheduler plan times c.requires (c.in_ok-inputs.ensures scheduler)
+    first-noted scheduler plan times c.requires.good (c.in_ok-inputs.ensures scheduler)
     (c.in_ok-ends.ensures ∙ ap (λ (n : ℕ). replicate (FLOWS_PER_INPUT * (n * n)) []) ports) c.in_ok-feeds.ensures.items

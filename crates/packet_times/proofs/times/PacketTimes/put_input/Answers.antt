@@ -4,7 +4,7 @@ use Rattle.std.specs.List.{flat_map, enumerate_from}
 use Rattle.std.proofs.lemmas.List.{append-nil}
 use Rattle.rotating_pick.specs.declared.limits.TheConstants.{LEVELS, MAX_PORTS}
 use Rattle.card_core.specs.declared.plan.Planned.{Planned}
-use Rattle.card_core.specs.Plans.{kind_of, queue_of, no_packet}
+use Rattle.card_core.specs.Plans.{IsSmallPlan, kind_of, queue_of, no_packet}
 use Rattle.run_laws.specs.Runs.{ports_of, card_at}
 use Rattle.packet_times.specs.NotingSteps.{Input, Times}
 use Rattle.packet_times.specs.Rows.{row_text, packet_rows}
@@ -47,17 +47,19 @@ loop-number-preserved c scheduler plan slots noted come =
     let text = c.in_ok-put_packet.ensures scheduler plan slots noted is
     (subst (λ (n : ℕ). HasGone scheduler plan slots input n c.loop-number.counts) (sym number) now.gone) in
     let level = (planned-is scheduler plan slots c.args.self.now noted (record { input = input; number = k; packet = p; admitted = admitted }) outcome).level in
+    let small : (i : ℕ) → i < ports_of plan → IsSmallPlan (card_at plan i) = λ i below. (noted.each i below).small in
     record {
       gone = elim c.if-admitted.branch [
         | then-admitted w ↦
             let counted = w.count_packet.ensures (subst (λ (x : Planned). x.level < LEVELS) (sym same) level) now.gone.long in
             subst (HasGone scheduler plan slots input (k + 1)) (sym w.counts-is)
-            (gone-more scheduler plan slots k p noted.good input c.loop-number.counts outcome.packet now.gone w.count_packet.new.counts
+            (gone-more scheduler plan slots k p noted.good small input c.loop-number.counts outcome.packet now.gone w.count_packet.new.counts
             (sym outcome.admitted ∙ w.if-admitted.true)
             (subst (λ (x : Planned). IsCounted x.fan x.level (kind_of (queue_of x)) MAX_PORTS c.loop-number.counts w.count_packet.new.counts) same counted))
         | else-admitted w ↦
             subst (HasGone scheduler plan slots input (k + 1)) (sym w.counts-is)
-            (gone-same scheduler plan slots k p noted.good input c.loop-number.counts outcome.packet now.gone (sym outcome.admitted ∙ w.if-admitted.false))
+            (gone-same scheduler plan slots k p noted.good small input c.loop-number.counts outcome.packet now.gone
+            (sym outcome.admitted ∙ w.if-admitted.false))
       ];
       text = walk-more (packet_rows scheduler plan slots input) items (string_bytes c.args.text.now) (string_bytes c.loop-number.text) k p
           (string_bytes c.put_packet.new.text)

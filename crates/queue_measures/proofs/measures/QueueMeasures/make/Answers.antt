@@ -18,7 +18,7 @@ make-requires c =
     let there : slice_get (map plan_of c.args.plan.now.cards.items) i ≡ Some (plan_of card) =
     ap (λ xs. slice_get (map plan_of xs) i) (sym c.deref-card-items.ensures.value) ∙ slice_get-map plan_of ps i card c.loop-card-test.true
     ∙ ap (λ x. Some (plan_of x)) (sym c.card-item.is) in
-    (c.requires.cards i (plan_of card) there).good
+    record { good = (c.requires.good.cards i (plan_of card) there).good; small = c.requires.burst.cards i (plan_of card) there }
 
 pub loop-card-preserved : goal.loop-card-preserved
 loop-card-preserved c =
@@ -55,7 +55,7 @@ returns c =
     let end = c.loop-card.auto.card-index-end in
     let count = was.long in
     λ scheduler. record {
-      good = c.requires;
+      good = c.requires.good;
       count = omega (arith, same, mapped, past, end, count);
       each = λ i inside. subst (IsNoted (card_at (switch_plan_of c.args.plan.now) i) (slice_index_or c.loop-card.inputs.items i no_input))
           (sym (served-is scheduler (switch_plan_of c.args.plan.now) i 0))
@@ -68,5 +68,5 @@ invariant_of-result c =
     let mapped = length-map c.args.plan.now.cards.items plan_of in
     let end = c.loop-card.auto.card-index-end in
     let count = c.loop-card.invariant.long in
-    let most = c.requires.size.most in
+    let most = c.requires.good.size.most in
     omega (arith, same, mapped, end, count, most)
