@@ -1,13 +1,13 @@
 //! The plan of a table and captures.
 ghost use Rattle.std.specs.Prelude.{IfSome, IfOk};
 ghost use Rattle.switch_words.specs.Limits.{IsUpTo};
-ghost use Rattle.switch_plan.specs.GoodPlans.{switch_plan_of, IsGood};
+ghost use Rattle.switch_plan.specs.GoodPlans.{switch_plan_of, IsGood, IsBurst};
 
 use rotating_pick::{MAX_FILE_BYTES, MAX_PORTS};
 use std::alloc::Global;
 use std::thread::Threads;
 use switch_plan::{Plan, PlanFault, jobs};
-use switch_words::{MAX_WORKERS, Settings};
+use switch_words::{MAX_WORKERS, Settings, Speed};
 
 /// Rounds of a slot.
 const ROUNDS: u32 = 4;
@@ -24,7 +24,8 @@ pub(crate) fn planned<R: Threads + Sync>(
     captures: Vec<Vec<u8>>,
 ) -> Option<Result<Plan, PlanFault>>
     requires { IsUpTo MAX_WORKERS workers }
-    ensures { IfSome result (λ answer. IfOk answer (λ plan. IsGood (switch_plan_of plan))) }
+    ensures good { IfSome result (λ answer. IfOk answer (λ plan. IsGood (switch_plan_of plan))) }
+    ensures burst { IfSome result (λ answer. IfOk answer (λ plan. IsBurst (switch_plan_of plan))) }
 {
     let few = !captures.is_empty() && captures.len() <= MAX_PORTS as usize;
     if !few || table.len() > MAX_FILE_BYTES {
@@ -37,7 +38,7 @@ pub(crate) fn planned<R: Threads + Sync>(
         rounds: ROUNDS,
         depth: DEPTH,
         workers,
-        pace_us: None,
+        speed: Speed::Untimed,
     };
     Some(jobs::plan(rt, alloc, &settings, table, captures))
 }

@@ -1,7 +1,7 @@
 //! How long a slot of a whole run is, where each line card always has cells, and how many slots the workers make.
 ghost use Rattle.std.specs.Prelude.{IfOk, IfSome, ◌≤◌};
 ghost use Rattle.switch_words.specs.Limits.{IsUpTo};
-ghost use Rattle.switch_plan.specs.GoodPlans.{switch_plan_of, IsGood};
+ghost use Rattle.switch_plan.specs.GoodPlans.{switch_plan_of, IsGood, IsBurst};
 
 use crate::captures::{Load, captures_of, table_of};
 use crate::planning::planned;
@@ -47,7 +47,8 @@ impl Run {
 fn plan_of<R: Threads + Sync>(rt: &R, alloc: Global, ports: u32, workers: u32) -> Option<Plan>
     requires ports { ports ≤ MAX_PORTS }
     requires workers { IsUpTo MAX_WORKERS workers }
-    ensures { IfSome result (λ plan. IsGood (switch_plan_of plan)) }
+    ensures good { IfSome result (λ plan. IsGood (switch_plan_of plan)) }
+    ensures burst { IfSome result (λ plan. IsBurst (switch_plan_of plan)) }
 {
     let load = Load {
         ports,

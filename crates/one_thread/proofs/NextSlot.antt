@@ -26,7 +26,7 @@ use Rattle.slot_board.specs.Schedules.{decided_under}
 use Rattle.card_core.specs.Posts.{IsServable, row_at, post_at}
 use Rattle.card_core.specs.Cards.{CardState, HasReceived, IsAfter, MayTake, served_in, is_done}
 use Rattle.card_core.specs.Deliveries.{cells_taken}
-use Rattle.switch_plan.specs.GoodPlans.{SwitchPlan, IsGood}
+use Rattle.switch_plan.specs.GoodPlans.{SwitchPlan, IsGood, IsBurst}
 use Rattle.run_laws.specs.Runs.{ports_of, setup_for, card_at, no_plan, parts_under, posts_under, takings_under}
 use Rattle.run_laws.specs.Crossings.{cells_under}
 use Rattle.run_laws.specs.Sums.{schedule_under}
@@ -86,11 +86,11 @@ module _ (scheduler : Scheduler) (plan : SwitchPlan) (t : ℕ) where
   slot-is : (card : CardState) (i : ℕ) (posted : Bool) → IsAfter card (takings i) posted → card.sends.slot ≡ t
   slot-is card i posted after = after.sent.slot ∙ (length-map (takings i) (λ (taken : Taken). taken.served) ∙ takings-length i)
 
-  pub may-post : (cards : List CardState) → IsGood plan → t < plan.max_slots → is_done_before (ports_of plan) (posts_under scheduler plan) t ≡ false
-      → AreAfter cards takings false → MayPostAll cards
-  may-post cards good below going after i card at =
+  pub may-post : (cards : List CardState) → IsGood plan → IsBurst plan → t < plan.max_slots
+      → is_done_before (ports_of plan) (posts_under scheduler plan) t ≡ false → AreAfter cards takings false → MayPostAll cards
+  may-post cards good burst below going after i card at =
       let own = after i card at in
-      let few = slots_few plan good in
+      let few = slots_few plan good burst in
       let slot = slot-is card i false own in
       (own.sent.phase, own.done ∙ (done-is i ∙ going), omega arith)
 

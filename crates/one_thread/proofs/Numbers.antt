@@ -11,7 +11,7 @@ use Rattle.service_bound.specs.MeterSteps.{HasNoted}
 use Rattle.card_core.specs.declared.outcome.CardOut.{CardOut}
 use Rattle.card_core.specs.Plans.{Plan as CardPlan}
 use Rattle.card_core.specs.Cards.{IsOut}
-use Rattle.switch_plan.specs.GoodPlans.{SwitchPlan, packets_in, IsGood}
+use Rattle.switch_plan.specs.GoodPlans.{SwitchPlan, packets_in, IsGood, IsBurst}
 use Rattle.run_laws.specs.Runs.{takings_under}
 use Rattle.run_laws.specs.Sums.{schedule_under}
 use Rattle.switch_jobs.specs.declared.ready.Terms.{Terms}
@@ -26,13 +26,13 @@ use Rattle.one_thread.specs.ActingSteps.{AreOutputs}
 use Rattle.one_thread.specs.StandingSteps.{IsBefore}
 use Rattle.one_thread.proofs.NextSlot.{count-cards, plan-of}
 
-module _ (scheduler : Scheduler) (terms : Terms) (cards : List CardPlan) (good : IsGood (plan_with terms cards)) (slots : ℕ) (switch : Switch)
-    (is : IsBefore scheduler (plan_with terms cards) slots switch) (within : slots ≤ terms.max_slots) where
+module _ (scheduler : Scheduler) (terms : Terms) (cards : List CardPlan) (good : IsGood (plan_with terms cards)) (burst : IsBurst (plan_with terms cards))
+    (slots : ℕ) (switch : Switch) (is : IsBefore scheduler (plan_with terms cards) slots switch) (within : slots ≤ terms.max_slots) where
   abbrev plan : SwitchPlan
   plan = plan_with terms cards
 
   few : slots ≤ 262145
-  few = let most = slots_few plan good in omega arith
+  few = let most = slots_few plan good burst in omega arith
 
   pub count-all : length switch.cards.items ≡ length cards
   count-all = count-cards plan switch.cards.items is.plans

@@ -22,7 +22,7 @@ use Rattle.service_bound.specs.MeterSteps.{Meter, HasNoted}
 use Rattle.slot_match.specs.Parts.{served_of}
 use Rattle.card_core.specs.Posts.{IsServable}
 use Rattle.card_core.specs.Cards.{CardState, MayTake}
-use Rattle.switch_plan.specs.GoodPlans.{SwitchPlan, IsGood}
+use Rattle.switch_plan.specs.GoodPlans.{SwitchPlan, IsGood, IsBurst}
 use Rattle.run_laws.specs.Runs.{ports_of, setup_for, posts_under, takings_under}
 use Rattle.run_laws.specs.Sums.{schedule_under}
 use Rattle.run_laws.proofs.Base.{within, sound, requested}
@@ -53,9 +53,9 @@ module _ (scheduler : Scheduler) (scheduling : IsScheduler scheduler) (plan : Sw
   size : length switch.cards.items ≡ ports_of plan
   size = count-cards plan switch.cards.items is.plans
 
-  pub free : (given : List CardState) → given ≡ switch.cards.items → t < plan.max_slots
+  pub free : IsBurst plan → (given : List CardState) → given ≡ switch.cards.items → t < plan.max_slots
       → is_done_before (ports_of plan) (posts_under scheduler plan) t ≡ false → MayPostAll given
-  free given same below going = subst MayPostAll (sym same) (may-post scheduler plan t switch.cards.items good below going is.cards)
+  free burst given same below going = subst MayPostAll (sym same) (may-post scheduler plan t switch.cards.items good burst below going is.cards)
 
   pub ports-are : switch.pointers.ports ≡ ports_of plan
   ports-are =
@@ -70,8 +70,8 @@ module _ (scheduler : Scheduler) (scheduling : IsScheduler scheduler) (plan : Sw
   pub matched-long : length switch.matched ≡ ports_of plan
   matched-long = ap length is.matched ∙ before_long t
 
-  pub few-noted : t < plan.max_slots → switch.meter.count < 1048576
-  few-noted below = let few = slots_few plan good in let count = is.meter_count in omega arith
+  pub few-noted : IsBurst plan → t < plan.max_slots → switch.meter.count < 4294967295
+  few-noted burst below = let few = slots_few plan good burst in let count = is.meter_count in omega arith
 
   module _ (given : List CardState) (stored : List Post) (lent : List Row) (cards : List CardState) (listed : List Post) (rows : List Row)
       (crossbar : List (Option Cell)) (done : Bool) (g : AreGathered switch given stored lent cards listed rows crossbar done) where

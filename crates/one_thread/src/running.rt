@@ -1,7 +1,7 @@
 ghost use Rattle.std.specs.Prelude.{IfOk};
 ghost use Rattle.firm_rounds.specs.Decisions.{firm_decision};
 ghost use Rattle.named_schedulers.specs.Named.{decision_named};
-ghost use Rattle.switch_plan.specs.GoodPlans.{switch_plan_of, IsGood};
+ghost use Rattle.switch_plan.specs.GoodPlans.{switch_plan_of, IsGood, IsBurst};
 ghost use Rattle.one_thread.specs.AloneSteps.{IsAloneRun};
 ghost use Rattle.one_thread.specs.FirmRuns.{IsFirmRun, HasShortWaits, FirmPromises};
 
@@ -36,7 +36,8 @@ pub fn run_alone(
     scheduler: SchedulerName,
     wanted: Wanted,
 ) -> Result<AloneOutcome, OutOfMemory>
-    requires { IsGood (switch_plan_of plan) }
+    requires good { IsGood (switch_plan_of plan) }
+    requires burst { IsBurst (switch_plan_of plan) }
     ensures run { IfOk result (IsAloneRun (decision_named scheduler) wanted (switch_plan_of plan)) }
 {
     let terms = terms_of(&plan);
@@ -61,7 +62,8 @@ pub fn run_alone(
 /// Where no admitted packet of the best level of all is multicast, that level's longest wait is below N * N
 /// slots, N being the number of ports. What else holds of the run, [`crate::laws::runs_are_as_promised`] says.
 pub fn run_firm(alloc: Global, plan: Plan) -> Result<Summary, OutOfMemory>
-    requires { IsGood (switch_plan_of plan) }
+    requires good { IsGood (switch_plan_of plan) }
+    requires burst { IsBurst (switch_plan_of plan) }
     ensures run { IfOk result (λ summary. IsFirmRun (switch_plan_of plan) summary) }
     ensures waits { IfOk result (λ summary. HasShortWaits (switch_plan_of plan) summary) }
     ensures promises { IfOk result (λ summary. FirmPromises (switch_plan_of plan) summary.slots) }

@@ -4,9 +4,9 @@ ghost use Rattle.eslip_rounds.specs.Schedulers.{Scheduler, IsScheduler};
 ghost use Rattle.named_schedulers.specs.Named.{decision_named};
 ghost use Rattle.slot_histories.specs.Slots.{is_done_at, is_done_before};
 ghost use Rattle.card_core.specs.declared.plan.CardPlan.{CardPlan};
-ghost use Rattle.card_core.specs.Plans.{IsGoodPlan, plan_of};
+ghost use Rattle.card_core.specs.Plans.{IsGoodPlan, IsSmallPlan, plan_of};
 ghost use Rattle.card_core.specs.Cards.{CardState, IsAfter};
-ghost use Rattle.switch_plan.specs.GoodPlans.{SwitchPlan, IsGood};
+ghost use Rattle.switch_plan.specs.GoodPlans.{SwitchPlan, IsGood, IsBurst};
 ghost use Rattle.run_laws.specs.Runs.{ports_of, posts_under};
 ghost use Rattle.run_laws.specs.Ends.{IsLengthUnder};
 ghost use Rattle.run_notes.specs.declared.wanted.Wanted.{Wanted};
@@ -71,6 +71,7 @@ impl Switch {
         requires some { 0 < length plans.items }
         requires few { length plans.items ≤ MAX_PORTS }
         requires good { (port : ℕ) (plan : CardPlan) → slice_get plans.items port ≡ Some plan → IsGoodPlan (plan_of plan) }
+        requires small { (port : ℕ) (plan : CardPlan) → slice_get plans.items port ≡ Some plan → IsSmallPlan (plan_of plan) }
         ensures { IfOk result (λ switch. (plan : SwitchPlan) → plan.rounds ≡ rounds → plan.cards ≡ map plan_of plans.items
             → IsBefore (decision_named scheduler) plan 0 switch) }
     {
@@ -122,7 +123,7 @@ impl Switch {
 
     // Makes the slot. Whether it is the last.
     fn make_slot(&mut self, slot: u32) -> bool
-        requires { (scheduler : Scheduler) × (plan : SwitchPlan) × IsScheduler scheduler × IsGood plan × (slot < plan.max_slots)
+        requires { (scheduler : Scheduler) × (plan : SwitchPlan) × IsScheduler scheduler × IsGood plan × IsBurst plan × (slot < plan.max_slots)
             × (is_done_before (ports_of plan) (posts_under scheduler plan) slot ≡ false) × IsBefore scheduler plan slot self.old }
         ensures before { (scheduler : Scheduler) (plan : SwitchPlan) → IsScheduler scheduler → IsGood plan → slot < plan.max_slots
             → IsBefore scheduler plan slot self.old → IsBefore scheduler plan (slot + 1) self.new }
@@ -163,7 +164,8 @@ impl Switch {
 
 // A new card of each plan.
 fn cards_of(alloc: Global, plans: Vec<CardPlan>) -> Result<Vec<Card>, OutOfMemory>
-    requires { (port : ℕ) (plan : CardPlan) → slice_get plans.items port ≡ Some plan → IsGoodPlan (plan_of plan) }
+    requires good { (port : ℕ) (plan : CardPlan) → slice_get plans.items port ≡ Some plan → IsGoodPlan (plan_of plan) }
+    requires small { (port : ℕ) (plan : CardPlan) → slice_get plans.items port ≡ Some plan → IsSmallPlan (plan_of plan) }
     ensures plans { IfOk result (λ cards. plans_in cards.items ≡ map plan_of plans.items) }
     ensures after { IfOk result (λ cards. AreAfter cards.items (λ i. []) false) }
 {

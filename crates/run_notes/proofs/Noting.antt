@@ -18,7 +18,7 @@ use Rattle.board_state.specs.Boards.{no_slot}
 use Rattle.board_state.specs.declared.limits.TheConstants.{MAX_SLOTS}
 use Rattle.slot_report.specs.Lines.{line_text, lines_text}
 use Rattle.slot_report.specs.Texts.{journal_line, map_with_place, slot_line}
-use Rattle.switch_plan.specs.GoodPlans.{SwitchPlan, IsGood}
+use Rattle.switch_plan.specs.GoodPlans.{SwitchPlan, IsGood, IsBurst}
 use Rattle.run_laws.specs.Ends.{IsLengthUnder}
 use Rattle.run_laws.specs.Runs.{journal_under, posts_under, run_journal, slot_under, IsSlotUnder}
 use Rattle.run_laws.specs.RunSteps.{run_slot}
@@ -89,12 +89,12 @@ file_more scheduler plan t posts matched is =
     ∙ ap (λ (m : Matched). map file_slot journal ++ (record { posts = map file_post posts; matched = m }) ∷ []) (sym is.matched_is))
 
 -- the writer of a run's first slots may put a slot of the run
-pub writer_below : (scheduler : Scheduler) (plan : SwitchPlan) (t slots : ℕ) → IsScheduler scheduler → IsGood plan → IsLengthUnder scheduler plan slots
-    → t < slots
+pub writer_below : (scheduler : Scheduler) (plan : SwitchPlan) (t slots : ℕ) → IsScheduler scheduler → IsGood plan → IsBurst plan
+    → IsLengthUnder scheduler plan slots → t < slots
     → (journal : Option WriterValue) → IfSome journal (IsJournalOf scheduler plan t) → IfSome journal (λ writer. writer.slots < MAX_SLOTS)
-writer_below scheduler plan t slots scheduling good ends below None none = none
-writer_below scheduler plan t slots scheduling good ends below (Some writer) is =
-    let few = run-few scheduler scheduling plan good slots ends in
+writer_below scheduler plan t slots scheduling good burst ends below None none = none
+writer_below scheduler plan t slots scheduling good burst ends below (Some writer) is =
+    let few = run-few scheduler scheduling plan good burst slots ends in
     let count : length (run_file_under scheduler plan t).slots ≡ t = length-map (journal_under scheduler plan t) file_slot
     ∙ length-map-range_with_len (slot_under scheduler plan) 0 t in
     omega (arith, is.slots)

@@ -7,7 +7,7 @@ use Rattle.eslip_rounds.specs.Schedulers.{Scheduler}
 use Rattle.slot_histories.specs.Slots.{decision_under}
 use Rattle.slot_report.specs.Lines.{lines_text}
 use Rattle.slot_report.specs.Texts.{journal_line, map_with_place}
-use Rattle.switch_plan.specs.GoodPlans.{SwitchPlan, IsGood}
+use Rattle.switch_plan.specs.GoodPlans.{SwitchPlan, IsGood, IsBurst}
 use Rattle.run_laws.specs.Runs.{setup_for, posts_under, journal_under, IsSlotUnder}
 use Rattle.journal_check.specs.declared.limits.TheConstants.{MAX_JOURNAL_BYTES}
 use Rattle.journal_check.specs.WritingSteps.{WriterValue, IsWriting}
@@ -61,6 +61,7 @@ AreTimesAfter scheduler plan t times = HasNotedTimes scheduler plan times t
 -- The first t slots of the plan's run under the scheduler are noted.
 pub record HasNoted (scheduler : Scheduler) (wanted : Wanted) (plan : SwitchPlan) (notes : Notes) (t : ℕ) : Type 0 where
   pub good : IsGood plan
+  pub burst : IsBurst plan
   pub slots : IsKept wanted.slots (AreLinesOf scheduler plan t) notes.slots
   pub journal : IsKept wanted.journal (IsJournalOf scheduler plan t) notes.journal
   pub reference : IsKept wanted.reference (IsReferenceAfter scheduler plan t) notes.reference

@@ -1,7 +1,7 @@
 ghost use Rattle.std.specs.Prelude.{◌≡◌, ◌<◌, ◌≤◌, ◌+◌, ℕ, length, IfErr, IfOk, IfSome, OnOk};
 ghost use Rattle.eslip_rounds.specs.Schedulers.{Scheduler, IsScheduler};
 ghost use Rattle.eslip_rounds.specs.Decisions.{decision_of};
-ghost use Rattle.switch_plan.specs.GoodPlans.{SwitchPlan, IsGood, switch_plan_of};
+ghost use Rattle.switch_plan.specs.GoodPlans.{SwitchPlan, IsGood, IsBurst, switch_plan_of};
 ghost use Rattle.run_laws.specs.Ends.{IsLength, IsLengthUnder};
 ghost use Rattle.run_laws.specs.Runs.{run_journal};
 ghost use Rattle.journal_check.specs.declared.limits.TheConstants.{MAX_JOURNAL_BYTES};
@@ -59,10 +59,11 @@ impl Model for RunNotes {
 }
 
 impl RunNotes {
-    /// The notes of a run of a plan that is good, before slot 0, for the texts that are wanted. Want of memory is the only
+    /// The notes of the run of a good plan of a burst, before slot 0, for the texts that are wanted. Want of memory is the only
     /// error.
     pub fn make(alloc: Global, wanted: Wanted, plan: &Plan) -> Result<RunNotes, OutOfMemory>
-        requires { IsGood (switch_plan_of plan.now) }
+        requires good { IsGood (switch_plan_of plan.now) }
+        requires burst { IsBurst (switch_plan_of plan.now) }
         ensures { IfOk result (λ notes. (scheduler : Scheduler) → HasNoted scheduler wanted (switch_plan_of plan.now) notes 0) }
     {
         let slots = lines_for(alloc, wanted.slots);

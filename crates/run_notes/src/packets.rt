@@ -1,6 +1,6 @@
 ghost use Rattle.std.specs.Prelude.{◌+◌, ℕ, Bool, option_map, IfErr, IfOk, IfSome, OnOk, string_bytes};
 ghost use Rattle.eslip_rounds.specs.Schedulers.{Scheduler};
-ghost use Rattle.switch_plan.specs.GoodPlans.{SwitchPlan, IsGood, switch_plan_of};
+ghost use Rattle.switch_plan.specs.GoodPlans.{SwitchPlan, IsGood, IsBurst, switch_plan_of};
 ghost use Rattle.run_laws.specs.Promises.{ArrivalsComeFirst};
 ghost use Rattle.run_laws.specs.Runs.{IsSlotUnder};
 ghost use Rattle.packet_times.specs.Rows.{packets_text_under};
@@ -20,7 +20,8 @@ pub(crate) fn times_for(
     is_wanted: bool,
     plan: &Plan,
 ) -> Result<Option<PacketTimes>, OutOfMemory>
-    requires { IsGood (switch_plan_of plan.now) }
+    requires good { IsGood (switch_plan_of plan.now) }
+    requires burst { IsBurst (switch_plan_of plan.now) }
     ensures { IfOk result (λ times. (scheduler : Scheduler) → IsKept is_wanted (AreTimesAfter scheduler (switch_plan_of plan.now) 0) times) }
 {
     if is_wanted {

@@ -2,7 +2,7 @@ ghost use Rattle.std.specs.Prelude.{◌≡◌, ◌∷◌, ◌++◌, ℕ, Bool, i
 ghost use Rattle.std.specs.List.{range_with_len};
 ghost use Rattle.eslip_rounds.specs.Schedulers.{Scheduler};
 ghost use Rattle.slot_report.specs.Lines.{lines_text};
-ghost use Rattle.switch_plan.specs.GoodPlans.{SwitchPlan, IsGood, switch_plan_of};
+ghost use Rattle.switch_plan.specs.GoodPlans.{SwitchPlan, IsGood, IsBurst, switch_plan_of};
 ghost use Rattle.output_queued.specs.Lines.{line_of};
 ghost use Rattle.output_queued.specs.NotingSteps.{HasNoted, MayNote, cards_in};
 ghost use Rattle.output_queued.specs.Switches.{Matched};
@@ -24,7 +24,8 @@ pub(crate) fn reference_for(
     is_wanted: bool,
     plan: &Plan,
 ) -> Result<Option<Reference>, OutOfMemory>
-    requires { IsGood (switch_plan_of plan.now) }
+    requires good { IsGood (switch_plan_of plan.now) }
+    requires burst { IsBurst (switch_plan_of plan.now) }
     ensures { IfOk result (λ reference. (scheduler : Scheduler) → IsKept is_wanted (IsReferenceAfter scheduler (switch_plan_of plan.now) 0) reference) }
 {
     if is_wanted {

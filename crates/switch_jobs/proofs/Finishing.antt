@@ -19,7 +19,7 @@ use Rattle.card_core.specs.declared.outcome.CardOut.{CardOut}
 use Rattle.card_core.specs.Plans.{Plan as CardPlan}
 use Rattle.card_worker.specs.declared.hands.Hand.{Hand}
 use Rattle.slot_report.specs.declared.summary.Summary.{Summary}
-use Rattle.switch_plan.specs.GoodPlans.{SwitchPlan, packets_in, IsGood}
+use Rattle.switch_plan.specs.GoodPlans.{SwitchPlan, packets_in, IsGood, IsBurst}
 use Rattle.run_laws.specs.Runs.{ports_of, setup_for, run_journal}
 use Rattle.run_laws.specs.RunSteps.{posts_in, run_slot}
 use Rattle.run_laws.specs.Sums.{run_schedule}
@@ -100,8 +100,8 @@ module _ (scheduler : Scheduler) (terms : Terms) (cards : List CardPlan) (good :
       (λ j out at. (output_is j out at).cells) in
       same_numbers terms _ _ _ _ _ _ _ _ _ _ _ _ _ _ _ _ _ _ size same slots_are packets drops admits copies cells waits
 
-module _ (terms : Terms) (cards : List CardPlan) (good : IsGood (plan_with terms cards)) (state : StateValue) (hands : List Hand)
-    (is : IsRunOf (plan_with terms cards) state hands) where
+module _ (terms : Terms) (cards : List CardPlan) (good : IsGood (plan_with terms cards)) (burst : IsBurst (plan_with terms cards))
+    (state : StateValue) (hands : List Hand) (is : IsRunOf (plan_with terms cards) state hands) where
   abbrev plan : SwitchPlan
   plan = plan_with terms cards
 
@@ -109,7 +109,7 @@ module _ (terms : Terms) (cards : List CardPlan) (good : IsGood (plan_with terms
   slots = decides state.events
 
   few_slots : slots ≤ 262145
-  few_slots = let within = is.within in let few = slots_few plan good in omega arith
+  few_slots = let within = is.within in let few = slots_few plan good burst in omega arith
 
   -- so its journal can be noted
   pub journal_few : journal_of state.setup state.events ≡ run_journal plan slots → length (journal_of state.setup state.events) ≤ 262145

@@ -10,7 +10,7 @@ use Rattle.card_core.specs.Plans.{Plan as CardPlan}
 use Rattle.card_worker.specs.declared.hands.Member.{Member}
 use Rattle.card_worker.specs.declared.hands.Group.{Group}
 use Rattle.card_worker.specs.Trying.{IsMember}
-use Rattle.switch_plan.specs.GoodPlans.{SwitchPlan, packets_in, IsGood}
+use Rattle.switch_plan.specs.GoodPlans.{SwitchPlan, packets_in, IsGood, IsBurst}
 use Rattle.run_laws.specs.Runs.{ports_of, setup_for}
 use Rattle.switch_jobs.specs.declared.ready.Terms.{Terms}
 use Rattle.switch_jobs.specs.declared.ready.Rooms.{Rooms}
@@ -61,9 +61,10 @@ pub record AreRooms (ports : ℕ) (rooms : Rooms) : Type 0 where
   pub meter_ports : rooms.meter.ports ≡ ports
   pub meter_new : HasNoted rooms.meter []
 
--- The plan is good, the members are its cards at a board that is set up for it, and there is room for the run.
+-- The plan is good and of a burst, the members are its cards at a board that is set up for it, and there is room for the run.
 pub record IsReady (terms : Terms) (board : TurnValue Event) (members : List Member) (rooms : Rooms) : Type 0 where
   pub good : IsGood (plan_with terms (plans_in members))
+  pub burst : IsBurst (plan_with terms (plans_in members))
   pub packets : terms.packets ≡ sum_by length (packets_in (plan_with terms (plans_in members)))
   pub setup : setup_of board.numbers ≡ setup_for (plan_with terms (plans_in members))
   pub members_are : AreMembers board members

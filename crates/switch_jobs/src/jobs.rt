@@ -4,9 +4,9 @@ ghost use Rattle.std.specs.Prelude.{◌≡◌, ◌+◌, ◌<◌, ◌≤◌, ◌^
 ghost use Rattle.turn_lock.specs.Seats.{AreNewSeats};
 ghost use Rattle.rotating_pick.specs.declared.limits.TheConstants.{MAX_PORTS};
 ghost use Rattle.card_core.specs.declared.plan.CardPlan.{CardPlan};
-ghost use Rattle.card_core.specs.Plans.{plan_of, IsGoodPlan};
+ghost use Rattle.card_core.specs.Plans.{plan_of, IsGoodPlan, IsSmallPlan};
 ghost use Rattle.card_core.specs.Cards.{IsAfter};
-ghost use Rattle.switch_plan.specs.GoodPlans.{switch_plan_of, packets_in, IsGood};
+ghost use Rattle.switch_plan.specs.GoodPlans.{switch_plan_of, packets_in, IsGood, IsBurst};
 ghost use Rattle.switch_jobs.specs.ReadinessSteps.{plans_in, plan_with, AreMembers, AreEmptyGroups, HaveRoomFor, AreRooms};
 
 use crate::ready::{Ready, Rooms, Terms};
@@ -20,7 +20,8 @@ use switch_plan::Plan;
 
 /// All that a run of the plan needs: it takes all memory of the run. The only error is want of memory.
 pub fn ready(alloc: Global, plan: Plan) -> Result<Ready, OutOfMemory>
-    requires { IsGood (switch_plan_of plan) }
+    requires good { IsGood (switch_plan_of plan) }
+    requires burst { IsBurst (switch_plan_of plan) }
     ensures { IfOk result (λ ready. ready ≡ switch_plan_of plan) }
 {
     let terms = terms_of(&plan);
@@ -38,7 +39,8 @@ pub fn ready(alloc: Global, plan: Plan) -> Result<Ready, OutOfMemory>
 
 /// What the plan says beside its cards, with the number of packets of all of them.
 pub fn terms_of(plan: &Plan) -> Terms
-    requires { IsGood (switch_plan_of plan.now) }
+    requires good { IsGood (switch_plan_of plan.now) }
+    requires burst { IsBurst (switch_plan_of plan.now) }
     ensures plan { plan_with result (map plan_of plan.now.cards.items) ≡ switch_plan_of plan.now }
     ensures packets { result.packets ≡ sum_by length (packets_in (switch_plan_of plan.now)) }
 {
@@ -77,6 +79,7 @@ fn members_of(
     requires seats { AreNewSeats board.now seats.items }
     requires ports { board.now.seats ≡ length cards.items }
     requires good { (port : ℕ) (card : CardPlan) → slice_get cards.items port ≡ Some card → IsGoodPlan (plan_of card) }
+    requires small { (port : ℕ) (card : CardPlan) → slice_get cards.items port ≡ Some card → IsSmallPlan (plan_of card) }
     requires sized { (port : ℕ) (card : CardPlan) → slice_get cards.items port ≡ Some card → (card.card ≡ port) × (card.n ≡ length cards.items) }
     ensures members { IfOk result (λ members. AreMembers board.now members.items) }
     ensures plans { IfOk result (λ members. plans_in members.items ≡ map plan_of cards.items) }
@@ -95,7 +98,8 @@ fn members_of(
 
 // A new card of the plan.
 fn hand_of(alloc: Global, plan: CardPlan) -> Result<Hand, OutOfMemory>
-    requires { IsGoodPlan (plan_of plan) }
+    requires good { IsGoodPlan (plan_of plan) }
+    requires small { IsSmallPlan (plan_of plan) }
     ensures kept { IfOk result (λ hand. hand.kept ≡ None) }
     ensures after { IfOk result (λ hand. IsAfter hand.card [] false) }
     ensures plan { IfOk result (λ hand. hand.card.sends.plan ≡ plan_of plan) }

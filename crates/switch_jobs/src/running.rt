@@ -1,5 +1,5 @@
 ghost use Rattle.std.specs.Prelude.{IfOk, length};
-ghost use Rattle.switch_plan.specs.GoodPlans.{switch_plan_of, IsGood};
+ghost use Rattle.switch_plan.specs.GoodPlans.{switch_plan_of, IsGood, IsBurst};
 ghost use Rattle.run_laws.specs.Promises.{CompletesMulticast, ServesWaiting, WaitsAreShort};
 ghost use Rattle.run_outcomes.specs.Outcomes.{IsOutcome};
 ghost use Rattle.switch_jobs.specs.OneJournal.{IsOneJournal, WasTried};
@@ -32,7 +32,8 @@ pub fn run_job<R: Threads + Sync, G: Gate + Sync>(
     plan: Plan,
     gate: &G,
 ) -> Result<Outcome, OutOfMemory>
-    requires { IsGood (switch_plan_of plan) }
+    requires good { IsGood (switch_plan_of plan) }
+    requires burst { IsBurst (switch_plan_of plan) }
     ensures run { IfOk result (λ outcome. IsOutcome (switch_plan_of plan) outcome) }
     ensures tried { IfOk result (λ outcome. WasTried 64 outcome.journal) }
     ensures journal { IfOk result (λ outcome. IsOneJournal 64 outcome.journal) }

@@ -10,7 +10,7 @@ use Rattle.outside.specs.Contents.{Contents}
 use Rattle.outside.specs.WholeFiles.{Fits, IsTooLong}
 use Rattle.switch_words.specs.declared.job.Settings.{Settings}
 use Rattle.switch_words.specs.Reading.{JobWords, run, gen, check, firm, CheckWords}
-use Rattle.switch_plan.specs.GoodPlans.{SwitchPlan, IsGood}
+use Rattle.switch_plan.specs.GoodPlans.{SwitchPlan, IsGood, IsBurst}
 use Rattle.run_laws.specs.Ends.{IsLengthUnder}
 use Rattle.named_schedulers.specs.Named.{decision_named}
 use Rattle.switch_run.specs.Causes.{Answers, IsReadable, IsRunFor, TooLongIsExact, UsageIsExact, scheduler_in}
@@ -235,6 +235,13 @@ run_good (run r) table captures plan slots is = is.planned.good
 run_good (gen g) table captures plan slots is = is.planned.good
 run_good (check w) table captures plan slots is = absurd is
 run_good (firm f) table captures plan slots is = absurd is
+
+pub run_burst : (job : JobWords) (table : List ℕ) (captures : List (List ℕ)) (plan : SwitchPlan) (slots : ℕ) → IsRunFor job table captures plan slots
+    → IsBurst plan
+run_burst (run r) table captures plan slots is = is.planned.burst
+run_burst (gen g) table captures plan slots is = is.planned.burst
+run_burst (check w) table captures plan slots is = absurd is
+run_burst (firm f) table captures plan slots is = absurd is
 
 pub run_plan : (job : JobWords) (table : List ℕ) (captures : List (List ℕ)) (plan : SwitchPlan) (slots : ℕ) → IsRunFor job table captures plan slots
     → (settings : Settings) × IsPlanned settings table captures plan

@@ -31,7 +31,7 @@ use Rattle.switch_words.specs.declared.job.Settings.{Settings}
 use Rattle.switch_words.specs.Limits.{IsUpTo}
 use Rattle.switch_words.specs.Reading.{JobWords, run, gen, check, firm}
 use Rattle.switch_plan.specs.declared.fault.PlanFault.{PlanFault}
-use Rattle.switch_plan.specs.GoodPlans.{SwitchPlan, IsGood}
+use Rattle.switch_plan.specs.GoodPlans.{SwitchPlan, IsGood, IsBurst}
 use Rattle.run_laws.specs.Runs.{after_slot, before_under, card_at, decision_in, parts_under, journal_under, ports_of, posts_under, setup_for}
 use Rattle.run_laws.specs.Ends.{IsLengthUnder}
 use Rattle.run_laws.specs.Crossings.{cells_under, queue_to}
@@ -189,12 +189,13 @@ module _ (workers : ℕ) (few : IsUpTo MAX_WORKERS workers) where
       body = mine.body;
       messages = mine.messages;
     };
-    slots = good.slots;
-    cells = good.cells;
     max_slots = good.max_slots;
     aside = good.aside;
     whole = good.whole;
   }
+
+  still_burst : (plan : SwitchPlan) → IsBurst plan → IsBurst (plan_with workers plan)
+  still_burst plan burst = record { slots = burst.slots; cells = burst.cells; cards = burst.cards }
 
   module _ (settings : Settings) (table : List ℕ) (files : List (List ℕ)) where
     still_planned : (plan : SwitchPlan) → IsPlanned settings table files plan → IsPlanned (settings_with workers settings) table files (plan_with workers plan)
@@ -204,6 +205,7 @@ module _ (workers : ℕ) (few : IsUpTo MAX_WORKERS workers) where
       read = p.read;
       allowed = p.allowed;
       good = still_good plan p.good;
+      burst = still_burst plan p.burst;
       planned = let of = p.planned in record {
         nano = of.nano;
         link = of.link;

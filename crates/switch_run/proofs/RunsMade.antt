@@ -65,7 +65,7 @@ run_stops scheduler settings wanted table captures plan (Checked ending) planned
 
 -- there is no plan
 pub plan_refused : (scheduler : Scheduler) (settings : Settings) (wanted : Wanted) (table : List ℕ) (captures : List (List ℕ)) (ending : Ending)
-    → StopsPlan settings.pace_us table captures ending → StopsTexts scheduler settings wanted table captures ending
+    → StopsPlan settings.speed table captures ending → StopsTexts scheduler settings wanted table captures ending
 plan_refused scheduler settings wanted table captures Done stops = absurd stops
 plan_refused scheduler settings wanted table captures Usage stops = absurd stops
 plan_refused scheduler settings wanted table captures (ReadFault input) stops = absurd stops

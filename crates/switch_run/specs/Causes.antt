@@ -35,7 +35,7 @@ use Rattle.output_queued.specs.Lines.{ideal, ran}
 use Rattle.reference_run.specs.RunLines.{run_matches_under}
 use Rattle.reference_run.specs.Promises.{EndsNoLaterUnder, ExtraIsDelaysUnder}
 use Rattle.one_thread.specs.FirmRuns.{FirmPromises}
-use Rattle.job_files.specs.Jobs.{ReadWords, reads_of, pace_in, input_name, IsInput, RunsSwitch}
+use Rattle.job_files.specs.Jobs.{ReadWords, reads_of, speed_in, input_name, IsInput, RunsSwitch}
 use Rattle.switch_run.specs.Switched.{IsLongJournal, IsLongPackets, IsPlanned, IsRunOf, JournalFits}
 use Rattle.job_files.specs.Inputs.{EarlierFit, AreInputs}
 use Rattle.job_files.specs.OutputFiles.{output_name, report_name, journal_name, packets_name}
@@ -96,7 +96,7 @@ TooLongIsExact c status = (job : JobWords) (r : ReadWords) (contents : Contents)
 abbrev pub RefusalIsExact : Command → ℕ → Type 0
 RefusalIsExact c status = (job : JobWords) (contents : Contents) (table : List ℕ) (captures : List (List ℕ)) (fault : PlanFault) → IsReadable c job contents
     → AreInputs job (Some contents) table captures
-    → IsRefusal (pace_in job) table captures fault → AnswersUnlessOut c status (Refused fault)
+    → IsRefusal (speed_in job) table captures fault → AnswersUnlessOut c status (Refused fault)
 
 -- where a journal is wanted that would be too long, the answer says so, or memory ran out
 abbrev pub JournalTooLongIsExact : Command → ℕ → Type 0
@@ -133,7 +133,7 @@ abbrev pub IsComplete : Command → ℕ → Type 0
 IsComplete c status = (job : JobWords) (contents : Contents) → RunsSwitch job → IsReadable c job contents → AreWritable c job
     → ((r : ReadWords) (input : InputFile) → reads_of job ≡ Some r → IsInput r input → IsTooLong contents (input_name r input) → ⊥)
     → ((table : List ℕ) (captures : List (List ℕ)) (fault : PlanFault) → AreInputs job (Some contents) table captures
-    → IsRefusal (pace_in job) table captures fault → ⊥)
+    → IsRefusal (speed_in job) table captures fault → ⊥)
     → ((r : RunWords) (table : List ℕ) (captures : List (List ℕ)) (size : ℕ) → job ≡ run r → r.journal ≡ true → AreInputs job (Some contents) table captures
     → IsLongJournal (decision_named r.scheduler) r.settings table captures size → ⊥)
     → ((r : RunWords) (table : List ℕ) (captures : List (List ℕ)) (size : ℕ) → job ≡ run r → r.packets ≡ true
@@ -143,10 +143,10 @@ IsComplete c status = (job : JobWords) (contents : Contents) → RunsSwitch job 
 -- What a `gen` job comes to, whatever the files hold: where the bytes that it makes are refused, the answer says so, or memory
 -- ran out; and where they are not, and no call on standard output was refused, the summary is given, or memory ran out.
 pub record GenIsExact (c : Command) (status : ℕ) : Type 0 where
-  pub refusal : (g : GenJob) (fault : PlanFault) → c.job ≡ Some (gen g) → IsRefusal g.settings.pace_us (made_table g.ports) (made_captures g) fault
+  pub refusal : (g : GenJob) (fault : PlanFault) → c.job ≡ Some (gen g) → IsRefusal g.settings.speed (made_table g.ports) (made_captures g) fault
       → AnswersUnlessOut c status (Refused fault)
   pub complete : (g : GenJob) → c.job ≡ Some (gen g)
-      → ((fault : PlanFault) → IsRefusal g.settings.pace_us (made_table g.ports) (made_captures g) fault → ⊥)
+      → ((fault : PlanFault) → IsRefusal g.settings.speed (made_table g.ports) (made_captures g) fault → ⊥)
       → (Rose (c.was ToOut) (c.now ToOut) → ⊥) → (status ≡ 0) ⊎ (status ≡ 5)
 
 -- the scheduler of a job; of `firm` it is the second

@@ -10,6 +10,7 @@ use Rattle.eslip_rounds.specs.Schedulers.{Scheduler}
 use Rattle.card_core.specs.declared.outcome.CardOut.{CardOut}
 use Rattle.slot_report.specs.declared.summary.OutLine.{OutLine}
 use Rattle.slot_report.specs.declared.summary.Summary.{Summary}
+use Rattle.switch_words.specs.declared.job.Speed.{Speed}
 use Rattle.switch_words.specs.declared.job.Settings.{Settings}
 use Rattle.switch_words.specs.Reading.{JobWords, run, RunWords}
 use Rattle.switch_plan.specs.Refusals.{IsRefusal}
@@ -105,10 +106,10 @@ pub record AreMade (job : JobWords) (table : List ℕ) (captures : List (List �
   pub summary_is : written.summary ≡ texts.summary
 
 -- why no plan of a table and captures is made, at this pace
-abbrev pub StopsPlan : Option ℕ → List ℕ → List (List ℕ) → Ending → Type 0
-StopsPlan pace_us table captures (Refused fault) = IsRefusal pace_us table captures fault
-StopsPlan pace_us table captures OutOfMemory = Unit {0}
-StopsPlan pace_us table captures _ = ⊥
+abbrev pub StopsPlan : Speed → List ℕ → List (List ℕ) → Ending → Type 0
+StopsPlan speed table captures (Refused fault) = IsRefusal speed table captures fault
+StopsPlan speed table captures OutOfMemory = Unit {0}
+StopsPlan speed table captures _ = ⊥
 
 -- how a job ends whose texts are not made
 abbrev pub ending_of : NotesFault → Ending
@@ -133,7 +134,7 @@ StopsTexts scheduler settings wanted table captures (JournalTooLong size) =
 StopsTexts scheduler settings wanted table captures (PacketsTooLong size) =
     (wanted.packets ≡ true) × IsLongPackets scheduler settings table captures size
     × ((other : ℕ) → wanted.journal ≡ true → IsLongJournal scheduler settings table captures other → ⊥)
-StopsTexts scheduler settings wanted table captures ending = StopsPlan settings.pace_us table captures ending
+StopsTexts scheduler settings wanted table captures ending = StopsPlan settings.speed table captures ending
 
 -- the numbers of the run under the second scheduler, of a table and captures
 pub record IsFirmRan (settings : Settings) (table : List ℕ) (files : List (List ℕ)) (summary : Summary) : Type 0 where

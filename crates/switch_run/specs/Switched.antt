@@ -13,7 +13,7 @@ use Rattle.switch_words.specs.Reading.{JobWords, run, gen, check, firm, RunWords
 use Rattle.switch_plan.specs.declared.fault.PlanFault.{PlanFault}
 use Rattle.switch_plan.specs.Traffic.{CaptureFile}
 use Rattle.switch_plan.specs.Refusals.{AreRead, refusal_of, IsRefusal}
-use Rattle.switch_plan.specs.GoodPlans.{SwitchPlan, IsGood, IsPlanOf}
+use Rattle.switch_plan.specs.GoodPlans.{SwitchPlan, IsGood, IsBurst, IsPlanOf}
 use Rattle.eslip_rounds.specs.Schedulers.{Scheduler}
 use Rattle.named_schedulers.specs.Named.{decision_named}
 use Rattle.run_laws.specs.Runs.{ports_of, journal_under}
@@ -27,7 +27,7 @@ use Rattle.run_notes.specs.declared.wanted.Wanted.{Wanted}
 use Rattle.run_notes.specs.Told.{told_under}
 use Rattle.one_thread.specs.FirmRuns.{IsFirmRun, HasShortWaits}
 use Rattle.job_files.specs.OutputFiles.{Texts}
-use Rattle.job_files.specs.Jobs.{pace_in}
+use Rattle.job_files.specs.Jobs.{speed_in}
 
 -- what the run of a `run` job is to tell beside its captures, the report's numbers and the summary
 abbrev pub wanted_by : RunWords → Wanted
@@ -72,8 +72,9 @@ pub record IsPlanned (settings : Settings) (table : List ℕ) (files : List (Lis
   pub lines : List RouteLine
   pub captures : List CaptureFile
   pub read : AreRead table files lines captures
-  pub allowed : refusal_of settings.pace_us lines captures ≡ None
+  pub allowed : refusal_of settings.speed lines captures ≡ None
   pub good : IsGood plan
+  pub burst : IsBurst plan
   pub planned : IsPlanOf settings files lines captures plan
 
 -- The run of a job under a scheduler: its plan, and how many slots the plan's run has.
@@ -117,7 +118,7 @@ AreTexts (firm f) table files texts = IsSwitchedByFirm f.settings table files te
 -- what a job comes to: texts, or the first cause for which it is refused
 abbrev pub IsJobOutcome : JobWords → List ℕ → List (List ℕ) → Result Texts PlanFault → Type 0
 IsJobOutcome job table files (Ok texts) = AreTexts job table files texts
-IsJobOutcome job table files (Err fault) = IsRefusal (pace_in job) table files fault
+IsJobOutcome job table files (Err fault) = IsRefusal (speed_in job) table files fault
 
 -- The journal of the job's run would have this many bytes, which are more than a journal file may have.
 pub record IsLongJournal (scheduler : Scheduler) (settings : Settings) (table : List ℕ) (files : List (List ℕ)) (size : ℕ) : Type 0 where

@@ -1,8 +1,9 @@
 //! Laws of jobs: each is the contract of a call that does nothing.
 
-ghost use Rattle.std.specs.Prelude.{◌≡◌, ◌↔◌, ℕ, Bool, Option, List, Result};
+ghost use Rattle.std.specs.Prelude.{◌≡◌, ◌↔◌, ℕ, Bool, List, Result};
 ghost use Rattle.switch_words.specs.declared.limits.TheConstants.{MAX_WORKERS};
 ghost use Rattle.switch_words.specs.declared.job.Settings.{Settings};
+ghost use Rattle.switch_words.specs.declared.job.Speed.{Speed};
 ghost use Rattle.switch_words.specs.Limits.{IsUpTo};
 ghost use Rattle.switch_words.specs.Reading.{JobWords};
 ghost use Rattle.switch_plan.specs.declared.fault.PlanFault.{PlanFault};
@@ -11,15 +12,15 @@ ghost use Rattle.switch_plan.specs.GoodPlans.{SwitchPlan};
 ghost use Rattle.scheduler_names.specs.declared.names.SchedulerName.{SchedulerName};
 ghost use Rattle.eslip_rounds.specs.Schedulers.{Scheduler};
 ghost use Rattle.named_schedulers.specs.Named.{decision_named};
-ghost use Rattle.job_files.specs.Jobs.{pace_in, settings_with, with_alone, with_workers};
+ghost use Rattle.job_files.specs.Jobs.{speed_in, settings_with, with_alone, with_workers};
 ghost use Rattle.job_files.specs.OutputFiles.{Texts};
 ghost use Rattle.switch_run.specs.Switched.{AreTexts, IsJobOutcome, IsLongJournal, IsLongPackets, IsPlanned, IsRunOf};
 
 /// A job has at most one outcome: no two causes for which it is refused, no cause beside texts, and one list of texts.
 pub fn one_outcome()
-    ensures refusal { (pace_us : Option ℕ) (table : List ℕ) (files : List (List ℕ)) (a b : PlanFault) → IsRefusal pace_us table files a
-        → IsRefusal pace_us table files b → a ≡ b }
-    ensures either { (job : JobWords) (table : List ℕ) (files : List (List ℕ)) (fault : PlanFault) (texts : Texts) → IsRefusal (pace_in job) table files fault
+    ensures refusal { (speed : Speed) (table : List ℕ) (files : List (List ℕ)) (a b : PlanFault) → IsRefusal speed table files a
+        → IsRefusal speed table files b → a ≡ b }
+    ensures either { (job : JobWords) (table : List ℕ) (files : List (List ℕ)) (fault : PlanFault) (texts : Texts) → IsRefusal (speed_in job) table files fault
         → AreTexts job table files texts → ⊥ }
     ensures texts { (job : JobWords) (table : List ℕ) (files : List (List ℕ)) (a b : Texts) → AreTexts job table files a → AreTexts job table files b → a ≡ b }
 {}

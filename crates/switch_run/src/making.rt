@@ -2,7 +2,7 @@ ghost use Rattle.std.specs.Prelude.{◌≡◌, IfErr, IfOk};
 ghost use Rattle.eslip_rounds.specs.Decisions.{decision_of};
 ghost use Rattle.named_schedulers.specs.Named.{decision_named};
 ghost use Rattle.switch_words.specs.Limits.{AreWithinLimits};
-ghost use Rattle.switch_plan.specs.GoodPlans.{IsGood, switch_plan_of};
+ghost use Rattle.switch_plan.specs.GoodPlans.{IsGood, IsBurst, switch_plan_of};
 ghost use Rattle.switch_plan.specs.ReadingSteps.{bytes_of_files};
 ghost use Rattle.job_files.specs.FileSteps.{AreOfSize};
 ghost use Rattle.switch_run.specs.MakingSteps.{IsFirmRan, IsNotedRun, IsRan, IsRanOf, StopsPlan, StopsRun, StopsTexts, ending_of};
@@ -68,7 +68,7 @@ fn planned<R: Threads + Sync>(
     requires limits { AreWithinLimits settings.now }
     requires size { AreOfSize inputs.table.items (bytes_of_files inputs.captures) }
     ensures planned { IfOk result (λ plan. IsPlanned settings.now inputs.table.items (bytes_of_files inputs.captures) (switch_plan_of plan)) }
-    ensures stops { IfErr result (StopsPlan settings.now.pace_us inputs.table.items (bytes_of_files inputs.captures)) }
+    ensures stops { IfErr result (StopsPlan settings.now.speed inputs.table.items (bytes_of_files inputs.captures)) }
 {
     let Inputs { table, captures } = inputs;
     match jobs::plan(rt, alloc, settings, table, captures) {
@@ -86,7 +86,8 @@ fn run_at_board<R: Threads + Sync, G: Gate + Sync>(
     wanted: Wanted,
     gate: &G,
 ) -> Result<NotedRun, OutOfMemory>
-    requires { IsGood (switch_plan_of plan) }
+    requires good { IsGood (switch_plan_of plan) }
+    requires burst { IsBurst (switch_plan_of plan) }
     ensures { IfOk result (IsNotedRun decision_of (switch_plan_of plan) wanted) }
 {
     let mut notes = RunNotes::make(alloc, wanted, &plan)?;
@@ -111,7 +112,8 @@ fn run_on_thread(
     scheduler: SchedulerName,
     wanted: Wanted,
 ) -> Result<NotedRun, OutOfMemory>
-    requires { IsGood (switch_plan_of plan) }
+    requires good { IsGood (switch_plan_of plan) }
+    requires burst { IsBurst (switch_plan_of plan) }
     ensures { IfOk result (IsNotedRun (decision_named scheduler) (switch_plan_of plan) wanted) }
 {
     let AloneOutcome {
@@ -135,7 +137,8 @@ fn run_noted<R: Threads + Sync, G: Gate + Sync>(
     way: RunWay,
     gate: &G,
 ) -> Result<NotedRun, OutOfMemory>
-    requires { IsGood (switch_plan_of plan) }
+    requires good { IsGood (switch_plan_of plan) }
+    requires burst { IsBurst (switch_plan_of plan) }
     ensures { IfOk result (IsNotedRun (decision_named way.scheduler) (switch_plan_of plan) way.wanted) }
 {
     match way.scheduler {
@@ -163,7 +166,8 @@ fn run_plan<R: Threads + Sync, G: Gate + Sync>(
     way: RunWay,
     gate: &G,
 ) -> Result<EndedRun, Ending>
-    requires { IsGood (switch_plan_of plan) }
+    requires good { IsGood (switch_plan_of plan) }
+    requires burst { IsBurst (switch_plan_of plan) }
     ensures ran { IfOk result (IsRanOf (decision_named way.scheduler) (switch_plan_of plan) way.wanted) }
     ensures stops { IfErr result (StopsRun (decision_named way.scheduler) (switch_plan_of plan) way.wanted) }
 {
@@ -213,7 +217,7 @@ pub(crate) fn plan_and_run_firm<R: Threads + Sync>(
     requires limits { AreWithinLimits settings.now }
     requires size { AreOfSize inputs.table.items (bytes_of_files inputs.captures) }
     ensures ran { IfOk result (IsFirmRan settings.now inputs.table.items (bytes_of_files inputs.captures)) }
-    ensures stops { IfErr result (StopsPlan settings.now.pace_us inputs.table.items (bytes_of_files inputs.captures)) }
+    ensures stops { IfErr result (StopsPlan settings.now.speed inputs.table.items (bytes_of_files inputs.captures)) }
 {
     let plan = planned(rt, alloc, settings, inputs)?;
     Ok(run_firm(alloc, plan)?)

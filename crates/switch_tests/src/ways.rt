@@ -13,7 +13,7 @@ use std::thread::Threads;
 use switch_jobs::{jobs, run_ready_with};
 use switch_plan::jobs::plan;
 use switch_plan::{Made, made_input};
-use switch_words::{GenJob, Settings};
+use switch_words::{GenJob, Settings, Speed};
 
 const TABLE: &[u8] = b"10.0.0.0/24 0\n10.0.1.0/24 1\n10.0.2.0/24 2\n10.0.3.0/24 3\n* 0,1,2,3 3\n";
 
@@ -80,13 +80,13 @@ enum Traffic {
 }
 
 fn settings_for(workers: u32) -> Settings
-    ensures { result ≡ record { rounds = 4; depth = 131072; workers = workers; pace_us = None } }
+    ensures { result ≡ record { rounds = 4; depth = 131072; workers = workers; speed = Speed.Untimed } }
 {
     Settings {
         rounds: 4,
         depth: 131_072,
         workers,
-        pace_us: None,
+        speed: Speed::Untimed,
     }
 }
 

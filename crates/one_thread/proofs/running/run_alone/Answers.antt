@@ -8,7 +8,7 @@ use Rattle.named_schedulers.specs.Named.{decision_named}
 use Rattle.named_schedulers.proofs.Schedulers.{IsScheduler-named}
 use Rattle.card_core.specs.Plans.{plan_of}
 use Rattle.slot_report.specs.declared.summary.Summary.{Summary}
-use Rattle.switch_plan.specs.GoodPlans.{SwitchPlan, switch_plan_of, packets_in, IsGood}
+use Rattle.switch_plan.specs.GoodPlans.{SwitchPlan, switch_plan_of, packets_in, IsGood, IsBurst}
 use Rattle.switch_jobs.specs.ReadinessSteps.{plan_with}
 use Rattle.run_outcomes.specs.Outcomes.{summary_under}
 use Rattle.switch_jobs.specs.JournalSteps.{HaveSums, summary_with}
@@ -24,7 +24,13 @@ pub make-requires-2-clause-good : goal.make-requires-2-clause-good
 make-requires-2-clause-good c = λ port card at.
     let found : slice_get (map plan_of c.args.plan.cards.items) port ≡ Some (plan_of card) = slice_get-map plan_of c.args.plan.cards.items port
     ∙ ap (option_map plan_of) at in
-    (c.requires.cards port (plan_of card) found).good
+    (c.requires.good.cards port (plan_of card) found).good
+
+pub make-requires-2-clause-small : goal.make-requires-2-clause-small
+make-requires-2-clause-small c = λ port card at.
+    let found : slice_get (map plan_of c.args.plan.cards.items) port ≡ Some (plan_of card) = slice_get-map plan_of c.args.plan.cards.items port
+    ∙ ap (option_map plan_of) at in
+    c.requires.burst.cards port (plan_of card) found
 
 pub run-requires : goal.run-requires
 run-requires c =
@@ -32,7 +38,7 @@ run-requires c =
     let cards = map plan_of c.args.plan.cards.items in
     let plan : SwitchPlan = plan_with terms cards in
     let same : plan ≡ switch_plan_of c.args.plan = c.terms_of-terms.ensures.plan in
-    let good : IsGood plan = subst IsGood (sym same) c.requires in
+    let good : IsGood plan = subst IsGood (sym same) c.requires.good in
     let scheduler = decision_named c.args.scheduler in
     let scheduling = IsScheduler-named c.args.scheduler in
     let first : IsBefore scheduler plan 0 c.in_ok-switch.switch = c.in_ok-switch.ensures plan (ap (λ (p : SwitchPlan). p.rounds) same) refl in
@@ -46,7 +52,8 @@ finish_cards-outputs-requires-clause-room c =
     let cards = map plan_of c.args.plan.cards.items in
     let plan : SwitchPlan = plan_with terms cards in
     let same : plan ≡ switch_plan_of c.args.plan = c.terms_of-terms.ensures.plan in
-    let good : IsGood plan = subst IsGood (sym same) c.requires in
+    let good : IsGood plan = subst IsGood (sym same) c.requires.good in
+    let burst : IsBurst plan = subst IsBurst (sym same) c.requires.burst in
     let scheduler = decision_named c.args.scheduler in
     let scheduling = IsScheduler-named c.args.scheduler in
     let first : IsBefore scheduler plan 0 c.in_ok-switch.switch = c.in_ok-switch.ensures plan (ap (λ (p : SwitchPlan). p.rounds) same) refl in
@@ -55,7 +62,7 @@ finish_cards-outputs-requires-clause-room c =
     let run = c.in_ok-slots.ensures scheduler c.args.wanted plan scheduling good refl first none in
     let slots = c.in_ok-slots.slots in
     let switch = c.run.new.self in
-    let count = count-all scheduler terms cards good slots switch run.1 run.3 in
+    let count = count-all scheduler terms cards good burst slots switch run.1 run.3 in
     let long = length-map c.args.plan.cards.items plan_of in
     let ports = c.len-ports.ensures in
     let room = c.in_ok-outputs.ensures.capacity in
@@ -68,7 +75,8 @@ sum_up-summary-requires c =
     let cards = map plan_of c.args.plan.cards.items in
     let plan : SwitchPlan = plan_with terms cards in
     let same : plan ≡ switch_plan_of c.args.plan = c.terms_of-terms.ensures.plan in
-    let good : IsGood plan = subst IsGood (sym same) c.requires in
+    let good : IsGood plan = subst IsGood (sym same) c.requires.good in
+    let burst : IsBurst plan = subst IsBurst (sym same) c.requires.burst in
     let scheduler = decision_named c.args.scheduler in
     let scheduling = IsScheduler-named c.args.scheduler in
     let first : IsBefore scheduler plan 0 c.in_ok-switch.switch = c.in_ok-switch.ensures plan (ap (λ (p : SwitchPlan). p.rounds) same) refl in
@@ -79,7 +87,7 @@ sum_up-summary-requires c =
     let switch = c.run.new.self in
     let outputs = c.finish_cards-outputs.result.items in
     let left = c.finish_cards-outputs.ensures in
-    subst HaveSums (sym c.deref.ensures.value) (sums scheduler terms cards good slots switch run.1 run.3 outputs left)
+    subst HaveSums (sym c.deref.ensures.value) (sums scheduler terms cards good burst slots switch run.1 run.3 outputs left)
 
 pub returns : goal.returns
 returns c =
@@ -87,7 +95,8 @@ returns c =
     let cards = map plan_of c.args.plan.cards.items in
     let plan : SwitchPlan = plan_with terms cards in
     let same : plan ≡ switch_plan_of c.args.plan = c.terms_of-terms.ensures.plan in
-    let good : IsGood plan = subst IsGood (sym same) c.requires in
+    let good : IsGood plan = subst IsGood (sym same) c.requires.good in
+    let burst : IsBurst plan = subst IsBurst (sym same) c.requires.burst in
     let scheduler = decision_named c.args.scheduler in
     let scheduling = IsScheduler-named c.args.scheduler in
     let first : IsBefore scheduler plan 0 c.in_ok-switch.switch = c.in_ok-switch.ensures plan (ap (λ (p : SwitchPlan). p.rounds) same) refl in
@@ -107,10 +116,10 @@ returns c =
     let made : summary ≡ summary_with terms c.len-ports.result terms.rounds slots outputs longest = c.sum_up-summary.ensures
     ∙ ap (λ outs. summary_with terms c.len-ports.result terms.rounds slots outs longest) c.deref.ensures.value in
     let numbers : summary ≡ summary_under scheduler plan slots =
-    made ∙ numbers-are scheduler terms cards good slots switch run.1 run.3 outputs left longest c.longest_of-longest.ensures c.len-ports.result ports
+    made ∙ numbers-are scheduler terms cards good burst slots switch run.1 run.3 outputs left longest c.longest_of-longest.ensures c.len-ports.result ports
     (c.terms_of-terms.ensures.packets ∙ ap (λ p. sum_by length (packets_in p)) (sym same)) in
-    let many = ports_left scheduler terms cards good slots switch run.1 run.3 outputs left in
-    let each = output_is scheduler terms cards good slots switch run.1 run.3 outputs left in
+    let many = ports_left scheduler terms cards good burst slots switch run.1 run.3 outputs left in
+    let each = output_is scheduler terms cards good burst slots switch run.1 run.3 outputs left in
     let outcome : AloneOutcome = record { summary = summary; outputs = c.finish_cards-outputs.result; notes = c.run.new.notes } in
     record {
       run = subst (λ p. IsAloneRun scheduler c.args.wanted p outcome) same (record {

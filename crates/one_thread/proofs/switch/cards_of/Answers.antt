@@ -15,7 +15,8 @@ make-requires c =
     let x = c.in-Some.plan in
     let rest = into_iter_items at.plan-iterator in
     let whole : at.yielded ++ rest ≡ c.args.plans.items = at.invariant.rest ∙ c.into_iter-plan-iterator.ensures.into_iter_gives.0 in
-    c.requires (length at.yielded) x (here_of at.yielded rest (into_iter_items c.next.new.self) c.args.plans.items x whole c.in-Some.ensures.steps.0)
+    let here = here_of at.yielded rest (into_iter_items c.next.new.self) c.args.plans.items x whole c.in-Some.ensures.steps.0 in
+    record { good = c.requires.good (length at.yielded) x here; small = c.requires.small (length at.yielded) x here }
 
 pub push_reserved-requires : goal.push_reserved-requires
 push_reserved-requires c =

@@ -21,7 +21,8 @@ hand_of-requires c =
     let x = c.in-Some.card in
     let rest = into_iter_items at.card-iterator in
     let whole : at.yielded ++ rest ≡ c.args.cards.items = at.invariant.rest ∙ c.into_iter-card-iterator.ensures.into_iter_gives.0 in
-    c.requires.good (length at.yielded) x (here_of at.yielded rest (into_iter_items c.next.new.self) c.args.cards.items x whole c.in-Some.ensures.steps.0)
+    let here = here_of at.yielded rest (into_iter_items c.next.new.self) c.args.cards.items x whole c.in-Some.ensures.steps.0 in
+    record { good = c.requires.good (length at.yielded) x here; small = c.requires.small (length at.yielded) x here }
 
 pub push_reserved-requires : goal.push_reserved-requires
 push_reserved-requires c =

@@ -17,9 +17,10 @@ packet_count-requires c =
     let each : All (λ (card : CardPlan). length card.packets.items ≤ 131072) cards = λ k d inside.
     let found : slice_get (map plan_of cards) k ≡ Some (plan_of (get_or cards k d)) = slice_get-map plan_of cards k
     ∙ ap (option_map plan_of) (slice_get-get_or cards k d inside) in
-    few_packets (plan_of (get_or cards k d)) (c.requires.cards k (plan_of (get_or cards k d)) found).good in
+    few_packets (plan_of (get_or cards k d)) (c.requires.good.cards k (plan_of (get_or cards k d)) found).good
+    (c.requires.burst.cards k (plan_of (get_or cards k d)) found) in
     let most = sum_by-le (λ (card : CardPlan). length card.packets.items) 131072 cards each in
-    let ports = c.requires.size in
+    let ports = c.requires.good.size in
     let long = length-map cards plan_of in
     subst (λ (cs : List CardPlan). sum_by (λ card. length card.packets.items) cs < 2 ^ 32) (sym c.deref.ensures.value) (omega (arith, most, ports.most, long))
 

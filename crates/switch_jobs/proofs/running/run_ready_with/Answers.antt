@@ -59,7 +59,7 @@ summarize-summary-requires-clause-slots g c =
     let made : IsRunOf (plan_with r.terms cards) state hands =
     run_of (plan_with r.terms cards) state hands c.deref.result.now c.deref.ensures.value c.run_is_made.ensures c.ready.invariant.good
     (c.end_run-state.ensures.setup ∙ c.ready.invariant.setup) planned in
-    let few = journal_few r.terms cards c.ready.invariant.good state hands made made.journal in
+    let few = journal_few r.terms cards c.ready.invariant.good c.ready.invariant.burst state hands made made.journal in
     let journal = ap (λ (j : JournalValue). length j.slots) c.journal-journal.ensures.journal in
     omega (arith, few, journal)
 
@@ -78,7 +78,7 @@ summarize-summary-requires-clause-sums g c =
     run_of (plan_with r.terms cards) state hands c.deref.result.now c.deref.ensures.value c.run_is_made.ensures c.ready.invariant.good
     (c.end_run-state.ensures.setup ∙ c.ready.invariant.setup) planned in
     subst HaveSums (sym c.deref-2.ensures.value)
-    (sums_fit r.terms cards c.ready.invariant.good state hands made c.finish_cards-outputs.result.items c.finish_cards-outputs.ensures)
+    (sums_fit r.terms cards c.ready.invariant.good c.ready.invariant.burst state hands made c.finish_cards-outputs.result.items c.finish_cards-outputs.ensures)
 
 pub returns-clause-run : goal.returns-clause-run
 returns-clause-run g c =
@@ -105,11 +105,11 @@ returns-clause-run g c =
       ends = made.ends;
       setup = setup ∙ made.setup;
       journal = slots ∙ made.journal;
-      ports = ports_left r.terms cards c.ready.invariant.good state hands made outputs left;
-      outputs = output_is r.terms cards c.ready.invariant.good state hands made outputs left;
+      ports = ports_left r.terms cards c.ready.invariant.good c.ready.invariant.burst state hands made outputs left;
+      outputs = output_is r.terms cards c.ready.invariant.good c.ready.invariant.burst state hands made outputs left;
       summary = c.summarize-summary.ensures
           ∙ (ap (summary_in r.terms c.journal-journal.result) c.deref-2.ensures.value
-          ∙ summary_is r.terms cards c.ready.invariant.good state hands made outputs left c.journal-journal.result setup slots c.ready.invariant.packets);
+          ∙ summary_is r.terms cards c.ready.invariant.good c.ready.invariant.burst state hands made outputs left c.journal-journal.result setup slots c.ready.invariant.packets);
     })
 
 pub returns-clause-tried : goal.returns-clause-tried

@@ -14,6 +14,6 @@ returns g c =
     let is = c.in_ok-outcome.ensures.run in
     record {
       slots = is.slots;
-      left = left_at_board plan c.in_ok-outcome.outcome c.requires is;
+      left = left_at_board plan c.in_ok-outcome.outcome c.requires.good is;
       noted = c.in_ok-note_journal.ensures c.args.wanted plan is.slots is.ends is.journal (c.in_ok-notes.ensures decision_of);
     }

@@ -9,14 +9,14 @@ use Rattle.one_thread.proofs.switch.Switch.make_slot.Goals as goal
 pub post_all-done-requires-clause-free : goal.post_all-done-requires-clause-free
 post_all-done-requires-clause-free c =
     let switch = c.args.self.now in
-    let (scheduler, plan, scheduling, good, below, going, is) = c.requires in
+    let (scheduler, plan, scheduling, good, burst, below, going, is) = c.requires in
     let t = c.args.slot in
-    free scheduler scheduling plan good t switch is c.deref_mut.result.now c.deref_mut.ensures.value below going
+    free scheduler scheduling plan good t switch is burst c.deref_mut.result.now c.deref_mut.ensures.value below going
 
 pub decide-self-requires-clause-rows : goal.decide-self-requires-clause-rows
 decide-self-requires-clause-rows c =
     let switch = c.args.self.now in
-    let (scheduler, plan, scheduling, good, below, going, is) = c.requires in
+    let (scheduler, plan, scheduling, good, burst, below, going, is) = c.requires in
     let t = c.args.slot in
     let g : AreGathered switch c.deref_mut.result.now c.deref_mut-2.result.now c.deref_mut-3.result.now c.post_all-done.new.cards c.post_all-done.new.posts
     c.post_all-done.new.rows c.post_all-done.new.crossbar c.post_all-done.result = record {
@@ -38,14 +38,14 @@ decide-self-requires-clause-rows c =
 pub decide-self-requires-clause-matched : goal.decide-self-requires-clause-matched
 decide-self-requires-clause-matched c =
     let switch = c.args.self.now in
-    let (scheduler, plan, scheduling, good, below, going, is) = c.requires in
+    let (scheduler, plan, scheduling, good, burst, below, going, is) = c.requires in
     let ports = c.ports-ports.ensures.value ∙ ports-are scheduler scheduling plan good c.args.slot switch is in
     ap length c.swap.ensures.y_after ∙ (is.spare ∙ sym ports)
 
 pub note-requires-clause-rows : goal.note-requires-clause-rows
 note-requires-clause-rows c =
     let switch = c.args.self.now in
-    let (scheduler, plan, scheduling, good, below, going, is) = c.requires in
+    let (scheduler, plan, scheduling, good, burst, below, going, is) = c.requires in
     let t = c.args.slot in
     let g : AreGathered switch c.deref_mut.result.now c.deref_mut-2.result.now c.deref_mut-3.result.now c.post_all-done.new.cards c.post_all-done.new.posts
     c.post_all-done.new.rows c.post_all-done.new.crossbar c.post_all-done.result = record {
@@ -66,7 +66,7 @@ note-requires-clause-rows c =
 pub note-requires-clause-matched : goal.note-requires-clause-matched
 note-requires-clause-matched c =
     let switch = c.args.self.now in
-    let (scheduler, plan, scheduling, good, below, going, is) = c.requires in
+    let (scheduler, plan, scheduling, good, burst, below, going, is) = c.requires in
     let t = c.args.slot in
     let ports = c.ports-ports.ensures.value ∙ ports-are scheduler scheduling plan good t switch is in
     c.decide-self.ensures.whole.count ∙ (ports ∙ sym is.meter_ports)
@@ -74,14 +74,14 @@ note-requires-clause-matched c =
 pub note-requires-clause-few : goal.note-requires-clause-few
 note-requires-clause-few c =
     let switch = c.args.self.now in
-    let (scheduler, plan, scheduling, good, below, going, is) = c.requires in
+    let (scheduler, plan, scheduling, good, burst, below, going, is) = c.requires in
     let t = c.args.slot in
-    few-noted scheduler scheduling plan good t switch is below
+    few-noted scheduler scheduling plan good t switch is burst below
 
 pub take_all-requires-clause-before : goal.take_all-requires-clause-before
 take_all-requires-clause-before c =
     let switch = c.args.self.now in
-    let (scheduler, plan, scheduling, good, below, going, is) = c.requires in
+    let (scheduler, plan, scheduling, good, burst, below, going, is) = c.requires in
     let t = c.args.slot in
     let g : AreGathered switch c.deref_mut.result.now c.deref_mut-2.result.now c.deref_mut-3.result.now c.post_all-done.new.cards c.post_all-done.new.posts
     c.post_all-done.new.rows c.post_all-done.new.crossbar c.post_all-done.result = record {
@@ -108,7 +108,7 @@ take_all-requires-clause-before c =
 pub take_all-requires-clause-matched : goal.take_all-requires-clause-matched
 take_all-requires-clause-matched c =
     let switch = c.args.self.now in
-    let (scheduler, plan, scheduling, good, below, going, is) = c.requires in
+    let (scheduler, plan, scheduling, good, burst, below, going, is) = c.requires in
     let t = c.args.slot in
     let g : AreGathered switch c.deref_mut.result.now c.deref_mut-2.result.now c.deref_mut-3.result.now c.post_all-done.new.cards c.post_all-done.new.posts
     c.post_all-done.new.rows c.post_all-done.new.crossbar c.post_all-done.result = record {
@@ -136,7 +136,7 @@ take_all-requires-clause-matched c =
 pub take_all-requires-clause-may : goal.take_all-requires-clause-may
 take_all-requires-clause-may c =
     let switch = c.args.self.now in
-    let (scheduler, plan, scheduling, good, below, going, is) = c.requires in
+    let (scheduler, plan, scheduling, good, burst, below, going, is) = c.requires in
     let t = c.args.slot in
     let g : AreGathered switch c.deref_mut.result.now c.deref_mut-2.result.now c.deref_mut-3.result.now c.post_all-done.new.cards c.post_all-done.new.posts
     c.post_all-done.new.rows c.post_all-done.new.crossbar c.post_all-done.result = record {

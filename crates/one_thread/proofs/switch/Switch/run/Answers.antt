@@ -12,7 +12,7 @@ make_slot-done-requires c =
     let (scheduler, wanted, plan, scheduling, good, most, first, none) = c.requires in
     let at = c.loop-slot.invariant scheduler wanted plan scheduling good most first none in
     let test = c.loop-slot-test.true in
-    (scheduler, plan, scheduling, good, omega arith, at.2, at.0)
+    (scheduler, plan, scheduling, good, none.burst, omega arith, at.2, at.0)
 
 pub note-requires : goal.note-requires
 note-requires c =

@@ -3,7 +3,8 @@ use Rattle.run_notes.proofs.notes.RunNotes.make.Goals as goal
 
 pub returns : goal.returns
 returns c = λ scheduler. record {
-  good = c.requires;
+  good = c.requires.good;
+  burst = c.requires.burst;
   slots = c.lines_for-slots.ensures scheduler (switch_plan_of c.args.plan.now);
   journal = c.in_ok-journal.ensures scheduler;
   reference = c.in_ok-reference.ensures scheduler;
