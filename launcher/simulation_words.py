@@ -6,7 +6,7 @@ docs/SIMULATE.md has the same ranges, and tests/run_launcher compares both.
 from .options import Fault, Option, millionths, number_between, number_of, one_of
 
 MILLION = 1_000_000
-MOST_SLOTS = 1_048_576
+MOST_SLOTS = 4_000_000_000
 MOST_WAITING = 67_108_864  # Queues times their depth.
 NUMBERS = {"SEED": (0, 1_000_000_000), "SLOTS": (1, MOST_SLOTS), "PORTS": (1, 64)}
 SCHEDULERS = ("islip", "firm", "rrm", "fifo", "ideal")

@@ -57,8 +57,10 @@ class Words(unittest.TestCase):
             words = ["simulate", "1", "100", "4", *more.split()]
             self.assertRaises(Fault, read_words, words)
             self.assertRaises(model.Usage, model.read_words, words[1:])
-        self.assertRaises(Fault, read_words, ["simulate", "1", str(MOST_SLOTS + 1), "4"])
-        self.assertEqual(read_words(["simulate", "1", str(MOST_SLOTS), "4"]).command, "simulate")
+        more, most = (["simulate", "1", str(slots), "4"] for slots in (MOST_SLOTS + 1, MOST_SLOTS))
+        self.assertRaises(Fault, read_words, more)
+        self.assertRaises(model.Usage, model.read_words, more[1:])
+        self.assertEqual(fields_of(most), model.read_words(most[1:]))
 
     def test_shares(self):
         """They become millionths, exactly; others are refused."""

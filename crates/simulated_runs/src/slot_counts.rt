@@ -52,8 +52,8 @@ impl SlotCounts {
     /// A slot ends, which is measured or not, whose rounds were used so, and so many cells wait.
     pub(crate) fn end(&mut self, is_measured: bool, used: RoundsUsed, held: u32)
         requires cell_slots { self.old.cell_slots < 2 ^ 63 }
-        requires rounds_used { self.old.rounds_used < 2 ^ 63 }
-        requires first_pairs { self.old.first_pairs < 2 ^ 63 }
+        requires rounds_used { self.old.rounds_used + 2 ^ 32 < 2 ^ 64 }
+        requires first_pairs { self.old.first_pairs + 2 ^ 32 < 2 ^ 64 }
         ensures counts { self.new ≡ ended is_measured used held self.old }
         ensures few_rounds { self.new.rounds_used ≤ self.old.rounds_used + 2 ^ 32 }
         ensures few_pairs { self.new.first_pairs ≤ self.old.first_pairs + 2 ^ 32 }

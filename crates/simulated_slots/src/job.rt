@@ -45,7 +45,7 @@ impl Model for Job {
 
 impl Job {
     /// The job of this traffic with these random numbers, in this many slots: a seed of at most 1,000,000,000, and 1 to
-    /// 1,048,576 slots. None where a number is out of its range.
+    /// 4,000,000,000 slots. None where a number is out of its range.
     pub fn new(traffic: Traffic, seed: u32, slots: u32, settings: Settings) -> Option<Job>
         ensures in_range { IsSome result ↔ IsJob (job_of traffic seed slots settings) }
         ensures value { IfSome result (λ job. job ≡ job_of traffic seed slots settings) }
@@ -75,7 +75,7 @@ impl Job {
         self.seed
     }
 
-    /// The number of slots, 1 to 1,048,576.
+    /// The number of slots, 1 to 4,000,000,000.
     pub fn slots(&self) -> u32
         ensures value { result ≡ self.now.slots }
         ensures some { 0 < result }

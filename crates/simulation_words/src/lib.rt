@@ -1,7 +1,7 @@
 //! The words of a simulation, behind the command: which job a list of words means, and whether each delay is counted.
 //!
 //! ```text
-//! SEED SLOTS PORTS        0 to 1,000,000,000; 1 to 1,048,576; 1 to 64
+//! SEED SLOTS PORTS        0 to 1,000,000,000; 1 to 4,000,000,000; 1 to 64
 //!
 //! --scheduler NAME        islip, firm, rrm, fifo or ideal      islip
 //! --rounds R              rounds of a slot, 1 to 64            4
