@@ -1,0 +1,4 @@
+pub mod SamePointers
+pub mod MaximalSlots
+pub mod RoundsKept
+pub mod Meanwhile
