@@ -138,7 +138,8 @@ module _ (n rounds t : ℕ) (places : Places) (slots : List DecidedSlot) (at_por
   -- where all pointers stay at ports
   module _ (schedule : IsScheduleBy StayAtPorts n rounds t places slots) (within : All (λ slot. AreWithin n slot.rows) slots) where
     pub all_maximal_by_any : n ≤ rounds → All (λ slot. IsMaximal n slot.rows slot.decision.matched) slots
-    all_maximal_by_any = All-enough StayAtPorts n rounds (AreOfPorts n) (AreFitting-stay n) some_ports few_ports slots t places (at_ports, ports) schedule within
+    all_maximal_by_any =
+        All-enough StayAtPorts n rounds (AreOfPorts n) (AreFitting-stay n) some_ports few_ports slots t places (at_ports, ports) schedule within
 
     pub all_unused_by_any : 0 < rounds → All (λ slot. slot.decision.numbers.last_added ≡ 0 → IsMaximal n slot.rows slot.decision.matched) slots
     all_unused_by_any = All-unused StayAtPorts n rounds (AreOfPorts n) (AreFitting-stay n) some_ports few_ports slots t places (at_ports, ports) schedule within
