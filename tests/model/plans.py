@@ -16,6 +16,8 @@ from .table import Line, Route, destination, read_table, route_of
 MOST_FORWARDED = 65_535  # Captured bytes of a packet that is forwarded.
 MOST_SLOTS = MOST_CELLS = 131_072  # Of the arrivals of a port, of all cells at their outputs; half of it over 32 ports.
 MOST_DEPTH = 131_072
+MOST_PACE, MOST_RATE = 1_000_000, 1_600_000  # Microseconds of a slot, megabits a second of a line.
+CELL_BITS = 512
 OVERSIZE, UNROUTED, ROUTED = "oversize", "unrouted", "routed"
 Router = Callable[[Optional[int]], Optional[Route]]  # The route of an address.
 
@@ -26,7 +28,8 @@ class Settings(NamedTuple):
     rounds: int = 4
     depth: int = MOST_DEPTH
     workers: int = 4
-    pace: Optional[int] = None  # Microseconds of a slot; at line pace where it is None.
+    pace: Optional[int] = None  # Microseconds of a slot.
+    rate: Optional[int] = None  # Megabits a second of a line; at line pace where both are None.
 
 
 class Planned(NamedTuple):
@@ -58,16 +61,25 @@ class Plan(NamedTuple):
     cells: int
 
 
-def arrivals_of(stamps: Iterable[Tuple[int, int]], pace: Optional[int] = None, base: int = 0) -> List[int]:
+def arrivals_of(
+    stamps: Iterable[Tuple[int, int]], pace: Optional[int] = None, base: int = 0, rate: Optional[int] = None
+) -> List[int]:
     """The arrival slots of a port's packets, given as times and cells: a packet comes one cell a slot, after the packet
-    before it, and at a pace not before the slot of its time."""
+    before it, and at a pace or a line rate not before the slot of its time."""
     arrivals: List[int] = []
     free = 0  # The slot after the last arrival.
     for time, cells in stamps:
-        start = free if pace is None else max((time - base) // (1_000 * pace), free)
-        free = start + cells
+        free = max(slot_at(time - base, pace, rate), free) + cells
         arrivals.append(free - 1)
     return arrivals
+
+
+def slot_at(nanos: int, pace: Optional[int], rate: Optional[int]) -> int:
+    """The slot of a time, counted from the begin of slot 0: at a line rate a slot takes as long as the bits of a cell.
+    At line pace each time counts as slot 0."""
+    if rate is not None:
+        return nanos * rate // (1_000 * CELL_BITS)
+    return 0 if pace is None else nanos // (1_000 * pace)
 
 
 def slots_of(arrivals: Sequence[int]) -> int:
@@ -122,7 +134,7 @@ def plan(settings: Settings, lines: List[Line], read: Sequence[Capture]) -> Plan
 def arrivals_at(settings: Settings, capture: Capture, base: int) -> List[int]:
     """The arrival slots of a capture; oversize packets and those without a route count too."""
     stamps = [(packet.time(), cells_of(len(packet.data))) for packet in capture.packets]
-    return arrivals_of(stamps, settings.pace, base)
+    return arrivals_of(stamps, settings.pace, base, settings.rate)
 
 
 def plan_card(route: Router, capture: Capture, arrivals: Sequence[int]) -> List[Planned]:

@@ -156,6 +156,26 @@ class Arrivals(unittest.TestCase):
         self.assertEqual(arrivals_of([(0, 2), (5_000, 1), (45_000, 3)], 10), [1, 2, 6])
         self.assertEqual(arrivals_of([(1_310_710_000, 1)], 10), [131_071])
 
+    def test_line_rates(self):
+        """A cell of 512 bits takes 51.2 ns at 10,000 Mb/s, 0.32 ns at 1,600,000, and 73,142 and 6 / 7 ns at 7."""
+        for rate, times, arrivals in (
+            (10_000, [51, 52, 102, 103], [0, 1, 2, 3]), (400_000, [1, 2, 32, 33], [0, 1, 25, 26]),
+            (1_600_000, [1, 2, 8, 16], [3, 6, 25, 50]), (1, [511_999, 512_000], [0, 1]),
+            (7, [73_142, 73_143, 585_142_857, 585_142_858], [0, 1, 7_999, 8_000]),
+            (1_600_000, [4_294_967_295_999_999_999], [13_421_772_799_999_999_996]),
+        ):
+            self.assertEqual(arrivals_of([(time, 1) for time in times], rate=rate), arrivals)
+        later = 10**18
+        stamps = [(later + 51, 1), (later + 52, 2), (later + 52, 1)]
+        self.assertEqual(arrivals_of(stamps, base=later, rate=10_000), [0, 2, 3])
+
+    def test_paces_are_line_rates(self):
+        """A slot of K microseconds is a cell at 512 / K Mb/s."""
+        rng = random.Random(6)
+        stamps = [(rng.randrange(10_000_000), rng.randint(1, 5)) for _ in range(50)]
+        for power in range(10):
+            self.assertEqual(arrivals_of(stamps, pace=2**power), arrivals_of(stamps, rate=512 // 2**power))
+
     def test_base_is_the_earliest_time_of_all_captures(self):
         """Times may fall within a capture."""
         times = [(5, 30), (5, 10), (5, 29)]

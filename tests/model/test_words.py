@@ -26,7 +26,10 @@ run --scheduler=firm,rrm t out a | run --schedulers firm t out a | run --queues 
 run --packets=a t out a | run --queue t out a | gen --queues 1 2 2 | gen --scheduler 1 2 2 | gen --scheduler=x 1 2 2
 gen --scheduler rrm --scheduler rrm 1 2 2 | check --packets f | check f --scheduler | check --scheduler f
 check --scheduler firm f g | firm --scheduler firm t a | firm --queues t a | run --alone= t p a | gen --alone 1 2 2
-run --rounds 65 t p a | run --line-rate 5 t p a | run --long t p a
+run --rounds 65 t p a | run --long t p a
+run --line-rate 1600001 t p a | run --line-rate=0 t p a | run --line-rate 10.5 t p a | run --line-rate t p a
+run --line-rate 7 --line-rate=7 t p a | run --line-rate 512 --pace-us 1 t p a | firm --pace-us=1 t a --line-rate=512
+run --pace-us 0 --line-rate 512 t p a | gen --line-rate 512 1 2 2 | check --line-rate 512 f | run --ethernet 10 t p a
 """
 
 
@@ -45,6 +48,9 @@ class Words(unittest.TestCase):
         most = job("run --pace-us=1000000 --depth=1 --workers 32 --rounds 64 t p a").settings
         self.assertEqual(most, Settings(64, 1, 32, 1_000_000))
         self.assertEqual(job("firm t --pace-us 3 a b"), FirmJob(Settings(pace=3), "t", ["a", "b"]))
+        for rate in (1, 1_600_000):
+            self.assertEqual(job(f"run --line-rate {rate} t p a").settings, Settings(rate=rate))
+            self.assertEqual(job(f"firm t a --line-rate={rate}"), FirmJob(Settings(rate=rate), "t", ["a"]))
 
     def test_flags(self):
         names = {"slots", "journal", "reference", "queues", "packets", "alone"}

@@ -4,7 +4,7 @@ from __future__ import annotations
 
 from typing import Dict, List, NamedTuple, Optional, Sequence, Set, Tuple, Union
 
-from .plans import MOST_DEPTH, Settings
+from .plans import MOST_DEPTH, MOST_PACE, MOST_RATE, Settings
 from .schedulers import SCHEDULERS
 
 USAGE = (
@@ -13,13 +13,17 @@ USAGE = (
 )
 MOST_INPUTS = 64
 RANGES: Dict[str, Tuple[int, int]] = {
-    "--rounds": (1, 64), "--depth": (1, MOST_DEPTH), "--workers": (1, 32), "--pace-us": (1, 1_000_000)
+    "--rounds": (1, 64), "--depth": (1, MOST_DEPTH), "--workers": (1, 32), "--pace-us": (1, MOST_PACE),
+    "--line-rate": (1, MOST_RATE),
+}
+FIELDS = {
+    "--rounds": "rounds", "--depth": "depth", "--workers": "workers", "--pace-us": "pace", "--line-rate": "rate"
 }
 OPTIONS: Dict[str, Tuple[str, ...]] = {
-    "run": ("--rounds", "--depth", "--workers", "--pace-us", "--scheduler"),
+    "run": ("--rounds", "--depth", "--workers", "--pace-us", "--line-rate", "--scheduler"),
     "gen": ("--rounds", "--depth", "--workers", "--scheduler"),
     "check": ("--scheduler",),
-    "firm": ("--rounds", "--depth", "--pace-us"),
+    "firm": ("--rounds", "--depth", "--pace-us", "--line-rate"),
 }
 FLAGS: Dict[str, Tuple[str, ...]] = {
     "run": ("--slots", "--journal", "--reference", "--queues", "--packets", "--alone"),
@@ -125,10 +129,11 @@ def next_value(rest: List[str]) -> str:
 
 
 def settings_of(values: Dict[str, str]) -> Settings:
-    """The numbers that options give."""
-    given = {name: number_of(values[name], *RANGES[name]) for name in RANGES if name in values}
-    fields = {"--rounds": "rounds", "--depth": "depth", "--workers": "workers", "--pace-us": "pace"}
-    return Settings(**{fields[name]: number for name, number in given.items()})
+    """The numbers that options give. A slot has its length from a pace or from a line rate, not from both."""
+    given = {FIELDS[name]: number_of(values[name], *RANGES[name]) for name in RANGES if name in values}
+    if "pace" in given and "rate" in given:
+        raise Usage
+    return Settings(**given)
 
 
 def scheduler_of(values: Dict[str, str]) -> str:

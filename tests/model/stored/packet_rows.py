@@ -29,8 +29,17 @@ def arrivals(question: str) -> str:
     _, pace, packets = question.split()
     parts = (it.split(":") for it in packets.split(",")) if packets != forms.NONE else ()
     stamps = [(int(time), int(cells)) for time, cells in parts]
-    slots = arrivals_of(stamps, *([] if pace == "line" else map(int, pace.split(":"))))
+    slots = arrivals_of(stamps, **speed_of(pace))
     return f"too_long {slots_of(slots)}" if slots_of(slots) > MOST_SLOTS else forms.numbers(slots) or forms.NONE
+
+
+def speed_of(pace: str) -> Dict[str, int]:
+    """What `line`, `MICROS:BASE` or `rate=MBPS:BASE` says of the arrivals."""
+    if pace == "line":
+        return {}
+    speed, base = pace.split(":")
+    kind, _, number = speed.rpartition("=")
+    return {kind or "pace": int(number), "base": int(base)}
 
 
 def capture(data: bytes) -> str:
@@ -172,7 +181,8 @@ def message(question: str) -> str:
 
 
 REMAKES = {
-    "arrivals": arrowed(arrivals), "captures": by_lines(CaptureRows), "captures_changed": by_lines(CaptureRows),
+    **dict.fromkeys(("arrivals", "arrivals_at_line_rate"), arrowed(arrivals)),
+    **dict.fromkeys(("captures", "captures_changed"), by_lines(CaptureRows)),
     "destinations": by_lines(DestinationRows), "tables": by_lines(TableRows), "cells": by_lines(CellRows),
     "reassembly": by_lines(ReassemblyRows), "messages": arrowed(message),
 }

@@ -30,9 +30,10 @@ class WordRows(Rows):
 
 
 def settings_text(settings: Settings) -> str:
-    """The numbers that a job is given."""
+    """The numbers that a job is given; of pace and line rate the one that it has."""
     pace = forms.NONE if settings.pace is None else settings.pace
-    return f"rounds={settings.rounds} depth={settings.depth} workers={settings.workers} pace={pace}"
+    speed = f"pace={pace}" if settings.rate is None else f"rate={settings.rate}"
+    return f"rounds={settings.rounds} depth={settings.depth} workers={settings.workers} {speed}"
 
 
 def flags_text(job: RunJob) -> str:
@@ -149,6 +150,7 @@ class JournalRows(ScheduledRows):
 
 
 REMAKES = {
-    **dict.fromkeys(("words", "measure_words", "scheduler_words"), by_lines(WordRows)), "texts": by_lines(TextRows),
+    **dict.fromkeys(("words", "measure_words", "line_rate_words", "scheduler_words"), by_lines(WordRows)),
+    "texts": by_lines(TextRows),
     **dict.fromkeys(("journals", "journals_by_scheduler"), by_lines(JournalRows)),
 }
