@@ -17,7 +17,10 @@ ROWS: Dict[str, Remake] = {
     "refused_words": simulations.refused_words,
 }
 # What takes the model some seconds each.
-SLOW = ("gen_32_ports", "gen_32_ports_workers_1", "gen_too_many_cells", "last_slot", "known_simulations/traffic")
+SLOW = (
+    "gen_32_ports", "gen_32_ports_workers_1", "gen_too_many_cells", "last_slot", "rate_last_slot",
+    "known_simulations/traffic",
+)
 # Files of rows whose answers are not the model's.
 OTHERS: Dict[str, str] = {
     "known_answers/longest_waits_at_line_rate": "numbers by the formulas of docs/WAITING.md",
