@@ -9,7 +9,8 @@ import struct
 from itertools import chain
 from typing import Iterator, List, NamedTuple, Tuple, Union
 
-from .capture_hints import ETHERNET, LONGEST_RECORD, RAW_IP, hint_on
+from .capture_hints import ETHERNET, LONGEST_RECORD, RAW_IP, first_bytes, hint_on
+from .slot_lengths import MICROSECOND, SECOND, of_pace
 from .sources import stamp_of
 from .tables import read_table, route
 
@@ -20,7 +21,6 @@ TAGGED, IPV4 = 0x8100, 0x0800
 IP_HEADER = 20
 MESSAGE_HEADER, CELL_PAYLOAD = 16, 56
 LONGEST_FORWARDED = 65_535
-SECOND = 1_000_000_000
 MOST_PACKETS = 1_000_000  # So many are looked at again after a run, in some seconds.
 
 
@@ -122,7 +122,7 @@ def fields_of(data: bytes) -> Iterator[Tuple[int, int, int, int]]:
     """The fields of the same records as plain tuples, which take less time."""
     order, is_nano, _ = read_header(data)
     numbers = struct.Struct(order + "IIII").unpack_from
-    unit = 1 if is_nano else 1000
+    unit = 1 if is_nano else MICROSECOND
     last = SECOND // unit - 1
     at, end = FILE_HEADER, len(data)
     while at < end:
@@ -137,6 +137,14 @@ def fields_of(data: bytes) -> Iterator[Tuple[int, int, int, int]]:
         # A fraction beyond the second is the last one of that second.
         yield seconds * SECOND + (fraction if fraction < last else last) * unit, original, start, length
         at = start + length
+
+
+def stamp_nanos(name: str) -> int:
+    """The nanoseconds of a step of the time stamps of a capture; of what is none, those of one in microseconds."""
+    try:
+        return 1 if read_header(first_bytes(name, FILE_HEADER)).is_nano else MICROSECOND
+    except BadCapture:
+        return MICROSECOND
 
 
 class Records:
@@ -197,12 +205,13 @@ class OnLine(NamedTuple):
     cells: int
 
 
-def on_line(packets, base, pace_us):
-    """The packets of one port as its line brings them, at a pace counted from a time in nanoseconds."""
+def on_line(packets, base, slot):
+    """The packets of one port as its line brings them, in slots of a length, counted from a time in nanoseconds; at line
+    pace where there is none."""
     free = 0
     for packet in packets:
         cells = cells_of(packet.length)
-        due = (packet.time - base) // (1000 * pace_us) if pace_us else 0
+        due = slot.at(packet.time - base) if slot else 0
         first = max(free, due)
         free = first + cells
         yield OnLine(packet, due, first, cells)
@@ -227,10 +236,10 @@ def arrivals_of(table, captures, pace_us):
     """The packets that are offered to queues, in the order of slots; pace_us None is line pace."""
     routes = read_table(table, len(captures))
     read = [read_capture(data) for data in captures]
-    base = first_time(capture.packets for capture in read)
+    base, length = first_time(capture.packets for capture in read), of_pace(pace_us) if pace_us else None
     found = []
     for card, capture in enumerate(read):
-        for packet, _, first, cells in on_line(capture.packets, base, pace_us):
+        for packet, _, first, cells in on_line(capture.packets, base, length):
             served = route(routes, destination(capture.link, packet.frame))
             if served and packet.length <= LONGEST_FORWARDED:
                 found.append(Arrival(first + cells - 1, card, served[0], served[1], cells))

@@ -165,7 +165,7 @@ class _Captures:
     def _counted(self, data, base, known):
         """The arrival slots of a port, and the cells of its packets, counted at each output; answers of routes are known."""
         link, slots, cells = read_header(data).link, 0, 0
-        for record, _, first, count in on_line(records_of(data), base, self.job.pace_us):
+        for record, _, first, count in on_line(records_of(data), base, self.job.slot):
             slots = first + count
             address = destination(link, data[record.start:record.start + min(record.length, HEAD)])
             if address not in known:

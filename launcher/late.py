@@ -1,14 +1,15 @@
 """Which packets a line brings late: their first cells come to the switch more than a slot after their time stamps.
 
-At a pace a packet waits for the packets before it on its line. Where a capture is of a faster line than the pace stands
-for, this wait grows, and no number of the report has it.
+At a pace or a line rate a packet waits for the packets before it on its line. Where a capture is of a faster line, this
+wait grows, and no number of the report has it. At a line rate many slots may have one time stamp, and packets of one
+stamp come one after the other though the line keeps up: so the slots of one step of the stamps are allowed besides.
 """
 
 from array import array
-from itertools import islice
+from itertools import islice, repeat
 from typing import NamedTuple
 
-from .captures import CELL_PAYLOAD, MESSAGE_HEADER, Records, over
+from .captures import CELL_PAYLOAD, MESSAGE_HEADER, Records, over, stamp_nanos
 
 MOST_SLOTS = 1  # A packet that comes so many slots late is no late one.
 
@@ -29,14 +30,14 @@ class Line(NamedTuple):
     lengths: "array[int]"
 
 
-def late_ports(packets_by_port, pace_us, most=None):
+def late_ports(packets_by_port, slot, most=None, allowed=repeat(MOST_SLOTS)):
     """The ports that have late packets, in order; Unseen where there are more packets than the most.
 
-    Packets have the fields of a captures.Record.
+    Packets have the fields of a captures.Record. For each port so many slots are allowed.
     """
     lines = read_lines(packets_by_port, most)
     base = min((min(line.times) for line in lines if line.times), default=0)
-    found = (Late(port, *_late(line, base, 1000 * pace_us)) for port, line in enumerate(lines))
+    found = (Late(port, *_late(line, base, slot, slots)) for port, (line, slots) in enumerate(zip(lines, allowed)))
     return [it for it in found if it.late]
 
 
@@ -59,25 +60,32 @@ def _line(packets):
     return line
 
 
-def _late(line, base, slot):
+def _late(line, base, slot, allowed):
     """How many packets are late, of how many, and by how many slots of this length at most. Their first cells
     come as captures.on_line has them, in less time."""
     free, late, longest = 0, 0, 0
+    nanos, divisor, _ = slot
     for time, length in zip(line.times, line.lengths):
-        first = (time - base) // slot
+        first = (time - base) * divisor // nanos
         if first < free:
             wait = free - first
-            late += wait > MOST_SLOTS
+            late += wait > allowed
             longest = wait if wait > longest else longest
             first = free
         free = first - -(MESSAGE_HEADER + length) // CELL_PAYLOAD
     return late, len(line.times), longest
 
 
-def lines_of_late(names, pace_us, most=None):
+def allowed_slots(slot, stamp):
+    """By how many slots a packet may come late whose capture has time stamps of so many nanoseconds."""
+    return MOST_SLOTS + (slot.slots_in(stamp) if slot.is_of_rate else 0)
+
+
+def lines_of_late(names, slot, most=None):
     """A line for each port that has late packets; Unseen where they cannot be looked for."""
     found = []
-    for port, late, packets, slots in late_ports((Records(*it).fields() for it in enumerate(names)), pace_us, most):
-        time = f"{slots:,} slots ({slots * pace_us:,} us)"
+    allowed = [allowed_slots(slot, stamp_nanos(name)) for name in names]
+    for port, late, packets, slots in late_ports((Records(*it).fields() for it in enumerate(names)), slot, most, allowed):
+        time = f"{slots:,} slots ({slot.told(slots)})"
         found.append(f"port {port} ({names[port]}): {late:,} of {packets:,} packets came late, by {time} at most")
     return found

@@ -8,7 +8,7 @@ from .builds import INSTALLED, LIBRARY, PROGRAM, PROGRAMS, SIMULATION
 from .place import Place, say, tell, tell_error
 from .ports import lines_of_job, lines_of_ports, refusal
 from .version import told_version
-from .words import COMMANDS, DRY_RUN, OVERWRITE, OWN, SIMULATE, Fault, read_words
+from .words import COMMANDS, DRY_RUN, ETHERNET, OVERWRITE, OWN, RATE, SIMULATE, Fault, read_words, words_of_program
 
 USAGE_FAULT = 2
 HELP = ("--help", "-h")
@@ -141,15 +141,23 @@ def _dry_run(job, words, fault):
         say(f"{fault}")
         return USAGE_FAULT
     from .dry_run import look
+    _tell_rate(job)
     found = look(job)
     status = tell([*lines_of_job(job), *(f"not looked at: {what}" for what in found.unseen)])
     if found.status:
         tell_error(found.said)
         _tell_hint(words, found.status, found.said)
         return found.status
-    if job.pace_us and job.inputs:
+    if job.slot and job.inputs:
         _warn_of_late(job, True)
     return status
+
+
+def _tell_rate(job):
+    """Tells which line rate an Ethernet is, which the program is given."""
+    if job and ETHERNET in job.options:
+        given = f"{ETHERNET} {job.options[ETHERNET]} is {RATE} {job.slot.divisor}"
+        tell_error(f"note: {given}, the least that keeps up with any frames of this Ethernet")
 
 
 def _tell_hint(words, status, said):
@@ -167,9 +175,10 @@ def _start(place, words, job, fault):
     if job and job.inputs and os.isatty(2):
         for line in lines_of_ports(job):
             tell_error(line)
+    _tell_rate(job)
     from .running import OLD_LIBRARY, needs_line, run
     try:
-        status, said = _simulate(program, job) if job and job.command == SIMULATE else run(program, words)
+        status, said = _simulate(program, job) if job and job.command == SIMULATE else run(program, words_of_program(job, words))
     except OSError as fault:
         say(needs_line(fault.strerror))
         return 1
@@ -179,7 +188,7 @@ def _start(place, words, job, fault):
         _tell_hint(words, status, said)
     if status == 1 and not said:
         _no_text(words)
-    if status == 0 and job and job.pace_us and job.inputs:
+    if status == 0 and job and job.slot and job.inputs:
         _warn_of_late(job, False)
     if status == 0 and job and job.prefix and os.isatty(2):
         from .unrouted import line_of_unrouted
@@ -231,14 +240,15 @@ def _warn_of_late(job, looks_at_all):
     from .captures import MOST_PACKETS, Unseen
     from .late import lines_of_late
     try:
-        lines = lines_of_late(job.inputs, job.pace_us, None if looks_at_all else MOST_PACKETS)
+        lines = lines_of_late(job.inputs, job.slot, None if looks_at_all else MOST_PACKETS)
     except Unseen as why:
         lines = []
         tell_error(f"late: not looked for: {why}")
     for line in lines:
         tell_error(f"late: {line}")
     if lines:
-        tell_error(f"late: --pace-us {job.pace_us} is a slower line than that of the captures; {WAITS}")
+        name, number = job.slot_option
+        tell_error(f"late: {name} {number} is a slower line than that of the captures; {WAITS}")
 
 
 def start(top):

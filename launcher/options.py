@@ -21,12 +21,13 @@ class Option(NamedTuple):
     choices: tuple = ()
     suffix: str = ""  # Of the file that is written, behind PREFIX.
     stands_for: str = ""  # The option that has the same value in millionths.
+    unit: str = ""  # Of the number.
 
     def allowed(self):
         """What its value may be."""
         if self.stands_for:
             return f"a number from 0 to 1 with at most {PLACES} places"
-        return one_of(self.choices) if self.choices else number_between(self.low, self.high)
+        return one_of(self.choices) if self.choices else number_between(self.low, self.high, self.unit)
 
     def read(self, word):
         """Its value as the program takes it, None where the word is none."""
@@ -58,8 +59,9 @@ def number_of(what, word, low, high):
     return int(word)
 
 
-def number_between(low, high):
-    return f"a number from {low:,} to {high:,}, written without commas" if high > 999 else f"a number from {low} to {high}"
+def number_between(low, high, unit=""):
+    what = f"a number of {unit} from" if unit else "a number from"
+    return f"{what} {low:,} to {high:,}, written without commas" if high > 999 else f"{what} {low} to {high}"
 
 
 def one_of(words):

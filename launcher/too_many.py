@@ -1,12 +1,13 @@
-"""Hints on captures with too many packets: how many fit, or at which pace they do."""
+"""Hints on captures with too many packets: how many fit, or at which pace or line rate they do."""
 
 from itertools import takewhile
 
 from .capture_hints import converted
 from .captures import CELL_PAYLOAD, FILE_HEADER, MOST_PACKETS, BadCapture, Records, Unseen, first_time, on_line, read_header, records_of
 from .made import most_cells
+from .slot_lengths import CELL_BYTES, MICROSECOND, MOST_PACE_US, SECOND, short
 from .sources import stamp_of
-from .words import OPTIONS
+from .words import PACE, RATE
 
 
 def on_slots(job, port, _):
@@ -24,9 +25,10 @@ def _on_slots(job, port, found):
     if sum(cells) > limit:
         fix = converted(f"editcap -F pcap -r IN OUT 1-{_that_fit(cells, limit)}", name)
         return f"{text}, and the packets of {name} have {sum(cells):,} cells; to keep the first that fit: {fix}"
-    pace = _pace_that_fits(found, limit)
-    fits = f"at --pace-us {pace} the packets fit" if pace <= OPTIONS["--pace-us"].high else "its packets are too far apart in time"
-    return f"{text}, and {name} lasts longer than so many slots of {job.pace_us} us: {fits}"
+    base = first_time(found, MOST_PACKETS)
+    own = _times_and_room(found, base, limit)
+    goes_on = f"to {short(max(packet.time - base for packet in found[port]) / SECOND, 6)} s after the first packet of all captures"
+    return f"{text}, and {name} lasts longer than so many slots of {job.slot.told()}, {goes_on}: {_that_fits(job, own)}"
 
 
 def _that_fit(cells, limit):
@@ -38,16 +40,23 @@ def _that_fit(cells, limit):
     return count
 
 
-def _pace_that_fits(packets_by_port, limit):
-    """A pace at which each port that has not too many cells in any case has no more arrival slots than the limit."""
-    base, pace = first_time(packets_by_port, MOST_PACKETS), 1
+def _times_and_room(packets_by_port, base, limit):
+    """For each port that has not too many cells in any case its latest time, and how many slots may have begun by then:
+    its last slot is at most that of this time, with all cells behind it."""
     for packets in packets_by_port:
         own = sum(it.cells for it in on_line(packets, 0, None))
         if own <= limit:
-            last_us = (max((packet.time for packet in packets), default=base) - base) // 1000
-            # The last slot is at most that of the last time stamp, with all cells behind it.
-            pace = max(pace, last_us // (limit - own + 1) + 1)
-    return pace
+            yield max((packet.time for packet in packets), default=base) - base, limit - own + 1
+
+
+def _that_fits(job, times_and_room):
+    """A line rate, or else a pace, at which no port has too many arrival slots."""
+    both = [(time, room) for time, room in times_and_room if time]
+    rate = min(((room * 8 * CELL_BYTES * MICROSECOND - 1) // time for time, room in both), default=0)
+    pace = max((time // MICROSECOND // room + 1 for time, room in both), default=1)
+    if job.slot.is_of_rate and rate:
+        return f"at {RATE} {rate} the packets fit"
+    return f"at {PACE} {pace} the packets fit" if pace <= MOST_PACE_US else "its packets are too far apart in time"
 
 
 def on_bytes(job, name):
@@ -57,20 +66,20 @@ def on_bytes(job, name):
     text = f"may have at most {limit:,} cells, so at most {most:,} bytes"
     if not stamp_of(name):
         return text
-    count = _first_that_fit(name, most, limit, job.pace_us)
+    count = _first_that_fit(name, most, limit, job.slot)
     if count is None:
         return text + "; to keep its first 1,000 packets: " + converted("editcap -F pcap -r IN OUT 1-1000", name)
     return text + "; to keep its first packets that fit: " + converted(f"editcap -F pcap -r IN OUT 1-{count}", name)
 
 
-def _first_that_fit(name, most, limit, pace_us):
+def _first_that_fit(name, most, limit, slot):
     """How many packets from the first on have no more arrival slots than the limit; None where the file is no capture."""
     try:
         with open(name, "rb") as file:
             records = list(_whole_records(file.read(most)))
     except (OSError, BadCapture):
         return None
-    ends = (it.first + it.cells for it in on_line(records, first_time([records[:1]]), pace_us))
+    ends = (it.first + it.cells for it in on_line(records, first_time([records[:1]]), slot))
     return sum(1 for _ in takewhile(lambda end: end <= limit, ends))
 
 

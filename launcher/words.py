@@ -7,18 +7,24 @@ docs/USAGE.md has the same ranges, and tests/run_launcher compares both.
 from typing import NamedTuple
 
 from . import simulation_words
+from .slot_lengths import MOST_ETHERNET, MOST_PACE_US, MOST_RATE, of_pace, of_rate, rate_for
 from .options import Fault, Option, near, number_of, one_of
 
 SIMULATE = "simulate"  # The command that a program of its own does.
 COMMANDS = ("run", "gen", "check", "firm", SIMULATE)
 MAX_PORTS = 64
 MAX_SEED, MAX_COUNT = 1_000_000_000, 4_000
+PACE, RATE = "--pace-us", "--line-rate"
+ETHERNET = "--ethernet"  # The launcher's own: the program is given a line rate.
+LENGTHS = (PACE, RATE, ETHERNET)  # Each says how long a slot lasts.
 
 OPTIONS = {
     "--rounds": Option(("run", "gen", "firm"), "R", 1, 64),
     "--depth": Option(("run", "gen", "firm"), "D", 1, 131_072),
     "--workers": Option(("run", "gen"), "W", 1, 32),
-    "--pace-us": Option(("run", "firm"), "K", 1, 1_000_000),
+    PACE: Option(("run", "firm"), "K", 1, MOST_PACE_US),
+    RATE: Option(("run", "firm"), "MBPS", 1, MOST_RATE, unit="Mbit/s"),
+    ETHERNET: Option(("run", "firm"), "E", 1, MOST_ETHERNET, unit="Mbit/s"),
     "--scheduler": Option(("run", "gen", "check"), "NAME", choices=("islip", "firm", "rrm")),
     "--slots": Option(("run",)),
     "--journal": Option(("run",), suffix=".journal"),
@@ -62,9 +68,17 @@ class Job(NamedTuple):
         return {"run": self.names[2:], "firm": self.names[1:]}.get(self.command, [])
 
     @property
-    def pace_us(self):
-        value = self.options.get("--pace-us")
-        return int(value) if value else None
+    def slot_option(self):
+        """The option that says how long a slot lasts, and its number; None at line pace."""
+        return next(((name, int(self.options[name])) for name in LENGTHS if name in self.options), None)
+
+    @property
+    def slot(self):
+        """How long a slot lasts, None at line pace."""
+        if self.slot_option is None:
+            return None
+        name, number = self.slot_option
+        return of_pace(number) if name == PACE else of_rate(rate_for(number) if name == ETHERNET else number)
 
     def outputs(self):
         """What is written, in its order: each file's name, with what it is."""
@@ -109,6 +123,15 @@ def read_words(words):
     return job
 
 
+def words_of_program(job, words):
+    """The words of a job, where they mean one, as the program takes them."""
+    if job is None or ETHERNET not in job.options:
+        return words
+    options = dict(job.options)
+    options[RATE] = str(rate_for(int(options.pop(ETHERNET))))
+    return [job.command, *(f"{name}={value}" if OPTIONS[name].letter else name for name, value in options.items()), "--", *job.names]
+
+
 def _read_option(command, options, word, rest, at):
     """Reads an option and its value, and answers where the next word is."""
     name, equals, value = word.partition("=")
@@ -118,6 +141,9 @@ def _read_option(command, options, word, rest, at):
     kept = option.stands_for or name
     if kept in options:
         raise Fault(f"{name} stands twice" + (f", since {name} and {kept} are one option" if kept != name else ""))
+    other = next((it for it in LENGTHS if it in options and name in LENGTHS), None)
+    if other:
+        raise Fault(f"{other} and {name} both say how long a slot lasts: give one of them")
     if not option.letter:
         if equals:
             raise Fault(f"{name} has no value: leave out {equals}{value}")

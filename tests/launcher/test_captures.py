@@ -5,7 +5,9 @@ import tempfile
 import unittest
 from pathlib import Path
 
-from launcher.captures import BadCapture, Packet, addresses, read_capture, read_file, read_header, records_of
+from launcher.captures import CELL_PAYLOAD, MESSAGE_HEADER, BadCapture, Packet, Record, addresses, on_line, read_capture, read_file, read_header, records_of
+from launcher.made import MAX_CELLS
+from launcher.slot_lengths import MOST_ETHERNET, MOST_RATE, of_pace, of_rate, rate_for
 
 from .scene import TOP, capture, frame
 
@@ -83,6 +85,35 @@ class Captures(unittest.TestCase):
             with self.subTest(name):
                 found = addresses(int(link), bytes_of(data))
                 self.assertEqual(".".join(map(str, found[1].to_bytes(4, "big"))) if found else "-", answer)
+
+    def test_arrivals(self):
+        """By line pace, paces and line rates."""
+        count = 0
+        for name in ("arrivals.txt", "arrivals_at_line_rate.txt"):
+            for title, pace, packets, _, *answer in rows_of(name):
+                count += 1
+                with self.subTest(title):
+                    self.assertEqual(arrivals_of_row(pace, packets), answer)
+        self.assertGreater(count, 180)
+
+    def test_rates_for_ethernet(self):
+        """192 / 121 of it, rounded up, and the greatest is that of the greatest rate."""
+        for ethernet, rate in ((1, 2), (10, 16), (100, 159), (1_000, 1_587), (10_000, 15_868), (100_000, 158_678), (400_000, 634_711)):
+            self.assertEqual(rate_for(ethernet), rate)
+        self.assertEqual((rate_for(MOST_ETHERNET), rate_for(MOST_ETHERNET + 1) > MOST_RATE), (MOST_RATE, True))
+
+
+def arrivals_of_row(pace, packets):
+    """The arrival slots of a row, in its form."""
+    kind, _, number = pace.partition(":")[0].rpartition("=")
+    slot = None if number == "line" else of_rate(int(number)) if kind else of_pace(int(number))
+    stamps = [tuple(map(int, it.split(":"))) for it in packets.split(",")] if packets != "-" else []
+    records = [Record(time, 0, 0, CELL_PAYLOAD * cells - MESSAGE_HEADER) for time, cells in stamps]
+    base = int(pace.partition(":")[2] or 0)
+    slots = [it.first + it.cells - 1 for it in on_line(records, base, slot)]
+    if slots and slots[-1] >= MAX_CELLS:
+        return ["too_long", str(slots[-1] + 1)]
+    return [",".join(map(str, slots)) or "-"]
 
 
 if __name__ == "__main__":

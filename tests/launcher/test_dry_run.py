@@ -93,6 +93,18 @@ class DryRun(Scene):
         ]))
         self.assertEqual(ended.stderr, f"late: not looked for: {name}, the capture of port 1, is no file that can be read again\n")
 
+    def test_ethernet(self):
+        """The line rate is told first, and slots are those of this rate: 3,050 microseconds have 94,526 at 15,868 Mb/s."""
+        self.files(table_txt="* 0\n", a_pcap=capture(frame(), frame(), times=[0, 3_050]), b_pcap=capture(frame(), frame(), times=[0, 4_300]))
+        note = "note: --ethernet 10000 is --line-rate 15868, the least that keeps up with any frames of this Ethernet\n"
+        ended = self.launch("--dry-run", "run", "--ethernet=10000", "table.txt", "out", "a.pcap")
+        self.assertEqual((ended.returncode, ended.stderr), (0, note))
+        ended = self.launch("--dry-run", "firm", "table.txt", "a.pcap", "b.pcap", "--ethernet", "10000")
+        self.assertEqual((ended.returncode, ended.stderr.splitlines()[:2]), (4, [note[:-1], "too many slots: port 1 has 133268"]))
+        for words in (["--ethernet", "0"], ["--ethernet", "10", "--pace-us", "1"]):
+            ended = self.launch("--dry-run", "run", *words, "table.txt", "out", "a.pcap")
+            self.assertEqual((ended.returncode, ended.stdout), (2, ""))
+
     def test_other_commands(self):
         self.files(j=b"ports 2\n")
         told = "j is a report; a journal is what run --journal writes"

@@ -5,6 +5,7 @@ import shutil
 import subprocess
 import unittest
 from itertools import accumulate
+from math import ceil
 
 from launcher.made import MODULUS, cells_of_packet, largest_count, most_cells
 from launcher.page import blocks_of, cells_of, section, synopsis
@@ -152,18 +153,37 @@ def least_of_all_seeds(ports):
     return least
 
 
-class Paces(unittest.TestCase):
-    def test_line_rates(self):
-        """The numbers of the table, by hand: a cell is 512 bits; on the line a frame has 24 bytes beside its captured ones."""
-        rows = rows_of("Paces")
-        self.assertGreaterEqual(len(rows), 8)
-        worst = min((captured + 24) * 8 / -(-(captured + 16) // 56) for captured in range(60, 1515))
-        for row in rows:
-            pace = int(row[0])
-            exact = [512 / pace, worst / pace, (1514 + 24) * 8 / 28 / pace]
-            for told, rate in zip(map(float, row[1:4]), exact):
-                self.assertTrue(told <= rate + 0.05 and told > rate * 0.96 - 1e-9, (pace, told, rate))
-            self.assertAlmostEqual(float(row[5]), 131_072 * pace / 1e6, delta=0.03 * 131_072 * pace / 1e6)
+class LineRates(unittest.TestCase):
+    """The numbers of the tables, by hand: a cell is 512 bits; on Ethernet a frame has 24 bytes beside its captured ones."""
+
+    def test_what_to_type(self):
+        rows = rows_of("Line rates")[:6]
+        worst = max(cells_of_frame(captured) * 64 / (captured + 24) for captured in range(60, 1515))
+        for number, ethernet, rate, slot, longest in rows:
+            number = int(number.replace(",", ""))
+            self.assertEqual((ethernet, rate), (f"`--ethernet {number}`", f"`--line-rate {ceil(worst * number - 1e-9)}`"))
+            exact = 512e-6 / int(rate.strip("`").split()[1])
+            self.assertAlmostEqual(seconds(slot), exact, delta=0.001 * exact)
+            self.assertAlmostEqual(seconds(longest), 131_072 * exact, delta=0.06 * 131_072 * exact)
+
+    def test_frames(self):
+        rows = rows_of("Line rates")[6:]
+        self.assertEqual([row[0].partition(", ")[0].replace(",", "") for row in rows[:2]], ["60", "97"])
+        factors = {captured: cells_of_frame(captured) * 64 / (captured + 24) for captured in range(60, 1515)}
+        self.assertEqual(max(factors, key=factors.get), 97)
+        for captured, row in zip((60, 97, 1514), rows):
+            told = [float(cell.replace(",", "")) for cell in row[1:]]
+            self.assertEqual(told[:3], [captured + 24, cells_of_frame(captured), cells_of_frame(captured) * 64])
+            self.assertEqual(told[3], ceil(factors[captured] * 1000) / 1000)
+
+
+def cells_of_frame(captured):
+    return -(-(captured + 16) // 56)
+
+
+def seconds(text):
+    number, unit = text.split()
+    return float(number) * {"s": 1, "ms": 1e-3, "us": 1e-6, "ns": 1e-9}[unit]
 
 
 class Manual(unittest.TestCase):

@@ -16,6 +16,8 @@ from .scene import PROGRAM, USAGE_LINE, Scene, capture, frame
 GOOD = {"table.txt": "* 0\n", "a.pcap": capture(frame()), "b.pcap": capture()}
 RUN = ["run", "table.txt", "out", "a.pcap", "b.pcap"]
 ORDER = "tiny_tera run [options] TABLE PREFIX INPUT.."
+TOO_LONG = "a port may have at most 131,072 arrival slots, and b.pcap lasts longer than so many slots of"
+AFTER = "after the first packet of all captures"
 
 # The words, and the hint.
 USAGE = [
@@ -27,6 +29,16 @@ USAGE = [
     (["run", "--depth=131073", "t", "out", "a"], "--depth 131073: D is a number from 1 to 131,072, written without commas"),
     (["run", "--workers", "33", "t", "out", "a"], "--workers 33: W is a number from 1 to 32"),
     (["firm", "--pace-us", "0.5", "t", "a"], "--pace-us 0.5: K is a number from 1 to 1,000,000, written without commas"),
+    (["run", "--line-rate", "10G", "t", "out", "a"], "--line-rate 10G: MBPS is a number of Mbit/s from 1 to 1,600,000, written without commas"),
+    (["run", "--ethernet", "1008334", "t", "out", "a"], "--ethernet 1008334: E is a number of Mbit/s from 1 to 1,008,333, written without commas"),
+    (["firm", "--ethernet=0", "t", "a"], "--ethernet 0: E is a number of Mbit/s from 1 to 1,008,333, written without commas"),
+    (["firm", "t", "a", "--ethernet"], "behind --ethernet comes a number of Mbit/s from 1 to 1,008,333, written without commas"),
+    (["run", "--pace-us", "1", "t", "out", "a", "--line-rate=512"], "--pace-us and --line-rate both say how long a slot lasts: give one of them"),
+    (["run", "--ethernet", "10", "--line-rate", "16", "t", "out", "a"], "--ethernet and --line-rate both say how long a slot lasts: give one of them"),
+    (["firm", "--pace-us=1", "--ethernet=10", "t", "a"], "--pace-us and --ethernet both say how long a slot lasts: give one of them"),
+    (["run", "--ethernet", "10", "--ethernet", "10", "t", "out", "a"], "--ethernet stands twice"),
+    (["gen", "--ethernet", "10", "1", "2", "3"], "gen does not take --ethernet; it takes --rounds, --depth, --workers or --scheduler"),
+    (["check", "--line-rate", "10", "j"], "check does not take --line-rate; it takes --scheduler"),
     (["run", "t", "out", "a", "--rounds"], "behind --rounds comes a number from 1 to 64"),
     (["run", "--slots=1", "t", "out", "a"], "--slots has no value: leave out =1"),
     (["run", "--slots", "--slots", "t", "out", "a"], "--slots stands twice"),
@@ -241,9 +253,25 @@ class Hints(Scene):
         self.check(RUN, 4, "too many slots: port 0 has 131152", hint, files)
         # The last of two packets of two cells comes after 400,000 microseconds: in slot 130,718 at most at a pace of 4.
         files = {**GOOD, "b.pcap": capture(frame(), frame(), times=[0, 400_000])}
-        hint = "a port may have at most 131,072 arrival slots, and b.pcap lasts longer than so many slots of 2 us: at --pace-us 4 the packets fit"
+        hint = f"{TOO_LONG} 2 us, to 0.4 s {AFTER}: at --pace-us 4 the packets fit"
         words = ["run", "--pace-us", "2", "table.txt", "out", "a.pcap", "b.pcap"]
         self.check(words, 4, "too many slots: port 1 has 200002", hint, files)
+
+    def test_too_many_slots_at_a_line_rate(self):
+        """A rate at which they fit, with all cells behind the last time stamp; for a day a pace, for more nothing."""
+        for rate, apart, slots, told in (
+            (16_000, 5_000, 156_252, f"32 ns, to 0.005 s {AFTER}: at --line-rate 13421 the packets fit"),
+            (7, 10_000_000, 136_720, f"73.143 us, to 10 s {AFTER}: at --line-rate 6 the packets fit"),
+            (1, 100_000_000_000, 195_312_502, f"512 us, to 100,000 s {AFTER}: at --pace-us 762957 the packets fit"),
+            (1, 400_000_000_000, 781_250_002, f"512 us, to 400,000 s {AFTER}: its packets are too far apart in time"),
+        ):
+            files = {**GOOD, "b.pcap": capture(frame(), frame(), times=[0, apart])}
+            words = ["run", "--line-rate", str(rate), "table.txt", "out", "a.pcap", "b.pcap"]
+            self.check(words, 4, f"too many slots: port 1 has {slots}", f"{TOO_LONG} {told}", files)
+        self.files(table_txt="* 0\n", b_pcap=capture(frame(), frame(), times=[0, 5_000]), a_pcap=capture())
+        said = "too many slots: port 1 has 154962"
+        told = self.launch("run", "--ethernet", "10000", "table.txt", "out", "a.pcap", "b.pcap", SAID=said, STATUS="4").stderr.splitlines()
+        self.assertEqual(told[1:], [said, f"hint: {TOO_LONG} 32.266 ns, to 0.005 s {AFTER}: at --line-rate 13421 the packets fit"])
 
     def test_too_many_slots_of_large_captures(self):
         """The hint comes whatever size the captures have together, here 73 MB."""
@@ -251,7 +279,7 @@ class Hints(Scene):
         told = self.launch("run", "table.txt", "out", *["a.pcap"] * 10, SAID="too many slots: port 7 has 131152", STATUS="4").stderr
         self.assertTrue(told.endswith("; to keep the first that fit: editcap -F pcap -r a.pcap a.classic.pcap 1-111\n"), told)
         files = {**GOOD, "b.pcap": capture(frame(), frame(), times=[0, 400_000]), "a.pcap": capture()}
-        hint = "a port may have at most 131,072 arrival slots, and b.pcap lasts longer than so many slots of 2 us: at --pace-us 4 the packets fit"
+        hint = f"{TOO_LONG} 2 us, to 0.4 s {AFTER}: at --pace-us 4 the packets fit"
         words = ["run", "--pace-us", "2", "table.txt", "out", "a.pcap", "b.pcap"]
         self.check(words, 4, "too many slots: port 1 has 200002", hint, files)
 

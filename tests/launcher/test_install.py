@@ -64,6 +64,10 @@ class Install(Scene):
         for words in (("gen", "1", "2", "2"), ("simulate", "--load", "0.9", "1", "2", "2")):
             ended = self.started(*words)
             self.assertEqual((ended.returncode, ended.stdout, ended.stderr), (0, "summary\n", ""))
+        notes = self.room / "notes"
+        self.variables["NOTES"] = str(notes)
+        self.assertRegex(self.started("run", "--ethernet", "100", "t", "out", "a").stderr, "^note: --ethernet 100 is --line-rate 159, .*\n")
+        self.assertEqual(notes.read_text().splitlines()[:2], ["run", "--line-rate=159"])
         version = self.started("--version").stdout.splitlines()
         self.assertEqual(version[1:3], [f"proved with {KIT}", f"sha256 {proved}  {self.prefix}/lib/tiny_tera/program"])
         self.assertEqual(version[3:], [f"simulate: proved with {KIT}", f"simulate: sha256 {proved}  {self.prefix}/lib/tiny_tera/simulate"])

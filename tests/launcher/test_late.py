@@ -4,7 +4,8 @@ import os
 import struct
 
 from launcher.captures import Record, Records, Unseen, first_time, on_line
-from launcher.late import late_ports, lines_of_late
+from launcher.late import allowed_slots, late_ports, lines_of_late
+from launcher.slot_lengths import of_pace, of_rate, rate_for
 
 from .scene import TOP, Scene, capture, frame
 
@@ -14,10 +15,16 @@ TABLE = "10.0.0.0/24 0\n"
 LATE = "port 0 (a.pcap): 1 of 3 packets came late, by 2 slots (10 us) at most"
 
 
-def line(megabits, captured, count):
-    """The packets of a full Ethernet line, of frames without their check sequence."""
-    each = (captured + 24) * 8 * 1000 / megabits
-    return [Record(int(each * at), captured, 0, captured) for at in range(count)]
+def line(megabits, captured, count, stamp=1):
+    """The packets of a full Ethernet line, of frames without their check sequence, with stamps of so many nanoseconds."""
+    each = (captured + 24) * 8 * 1000
+    return [Record(each * at // megabits // stamp * stamp, captured, 0, captured) for at in range(count)]
+
+
+def is_late(megabits, captured, rate, stamp):
+    """Whether packets of a full Ethernet come late at a line rate."""
+    slot = of_rate(rate)
+    return late_ports([line(megabits, captured, 5_000, stamp)], slot, allowed=[allowed_slots(slot, stamp)]) != []
 
 
 class Late(Scene):
@@ -65,10 +72,10 @@ class Late(Scene):
         """A run looks at so many packets at most; without a run all are looked at."""
         names = [str(self.jobs / name) for name in ("a.pcap", "b.pcap")]
         with self.assertRaises(Unseen) as why:
-            lines_of_late(names, 5, 3)
+            lines_of_late(names, of_pace(5), 3)
         told = "the captures have more than 3 packets; --dry-run before the command looks at all of them"
         self.assertEqual(str(why.exception), told)
-        self.assertEqual([len(lines_of_late(names, 5, most)) for most in (4, None)], [1, 1])
+        self.assertEqual([len(lines_of_late(names, of_pace(5), most)) for most in (4, None)], [1, 1])
 
     def test_first_cells(self):
         """They come in the slots of captures.on_line."""
@@ -78,8 +85,9 @@ class Late(Scene):
         data = capture() + b"".join(record(*divmod(time, 10**6), 0, 60) for time in times)
         self.files(many_pcap=data)
         records = Records(0, str(self.jobs / "many.pcap"))
-        waits = [it.first - it.due for it in on_line(records, first_time([records]), 3)]
-        self.assertEqual(late_ports([records.fields()], 3, count), [(0, sum(wait > 1 for wait in waits), count, max(waits))])
+        for slot in (of_pace(3), of_rate(171), of_rate(512)):
+            waits = [it.first - it.due for it in on_line(records, first_time([records]), slot)]
+            self.assertEqual(late_ports([records.fields()], slot, count), [(0, sum(wait > 1 for wait in waits), count, max(waits))])
 
     def test_without_a_run(self):
         names = ("table.txt", "out", "a.pcap", "b.pcap")
@@ -88,20 +96,47 @@ class Late(Scene):
         for words in (["--pace-us", "2"], []):
             self.assertEqual(self.launch("--dry-run", "run", *words, *names).stderr, "")
 
+    def test_ethernet(self):
+        """The rate for an Ethernet keeps up with frames of each size, with either kind of stamps, and a lower one not."""
+        for megabits in (10, 100, 1_000, 10_000, 100_000, 400_000):
+            rate = rate_for(megabits)
+            for stamp in (1, 1_000):
+                for captured in (60, 97, 153, 1514):
+                    self.assertFalse(is_late(megabits, captured, rate, stamp), (megabits, captured, stamp))
+                self.assertTrue(is_late(megabits, 97, rate * 9 // 10, stamp), (megabits, stamp))
+        for captured, is_enough in ((1514, True), (1400, False)):
+            self.assertNotEqual(is_late(10_000, captured, 11_660, 1), is_enough)
+
+    def test_packets_of_one_stamp(self):
+        """At 10,000 Mb/s a microsecond has 19.5 slots, and a nanosecond less than one: so 21 and 2 slots are not late."""
+        frames, words = [frame()] * 12, ("run", "--line-rate", "10000", "table.txt", "out")
+        for magic, count, told in (
+            (0xA1B2C3D4, 11, []), (0xA1B2C3D4, 12, ["1 of 12 packets came late, by 22 slots (1.126 us) at most"]),
+            (0xA1B23C4D, 2, []), (0xA1B23C4D, 3, ["1 of 3 packets came late, by 4 slots (204.8 ns) at most"]),
+        ):
+            self.files(c_pcap=capture(*frames[:count], times=[7] * count, magic=magic))
+            lines = self.launch(*words, "c.pcap").stderr.splitlines()
+            self.assertEqual(lines[:1], [f"late: port 0 (c.pcap): {it}" for it in told])
+            self.assertEqual(len(lines), 2 * len(told))
+        self.assertIn("late: --line-rate 10000 is a slower line than that of the captures", lines[1])
+        others = self.launch("firm", "--ethernet", "6302", "table.txt", "c.pcap").stderr.splitlines()
+        self.assertEqual((others[0].split(",")[0], others[1]), ("note: --ethernet 6302 is --line-rate 10000", lines[0]))
+        self.assertIn("late: --ethernet 6302 is a slower line than that of the captures", others[2])
+
     def test_line_rates(self):
         """The paces of docs/USAGE.md: 3 keeps up with 100 Mbit/s of any frames, 4 with frames of full size, 5 with neither."""
         for captured, slowest in ((60, 3), (97, 3), (1514, 4)):
             for pace in (3, 4, 5):
                 with self.subTest(captured=captured, pace=pace):
-                    self.assertEqual(late_ports([line(100, captured, 2000)], pace) == [], pace <= slowest)
-        self.assertEqual(late_ports([line(10, 97, 2000)], 32), [])
-        self.assertNotEqual(late_ports([line(10, 97, 2000)], 33), [])
-        self.assertNotEqual(late_ports([line(1000, 1514, 2000)], 1), [])
+                    self.assertEqual(late_ports([line(100, captured, 2000)], of_pace(pace)) == [], pace <= slowest)
+        self.assertEqual(late_ports([line(10, 97, 2000)], of_pace(32)), [])
+        self.assertNotEqual(late_ports([line(10, 97, 2000)], of_pace(33)), [])
+        self.assertNotEqual(late_ports([line(1000, 1514, 2000)], of_pace(1)), [])
 
     def test_example_of_the_page(self):
-        """Frames of 64 bytes at 100 Mbit/s, one every 6.72 microseconds, of two slots of 5 each."""
-        packets = [Record(at * 6720 // 1000 * 1000, 60, 0, 60) for at in range(1000)]
-        found = late_ports([packets], 5)[0]
-        told = f"late: port 0 (a.pcap): {found.late:,} of 1,000 packets came late, by {found.slots:,} slots ({found.slots * 5:,} us) at most"
+        """Frames of 64 bytes at 10 Gbit/s, one every 67.2 ns, of two slots of 51.2 ns each; two slots are allowed."""
+        slot = of_rate(10_000)
+        found = late_ports([line(10_000, 60, 1_000)], slot, allowed=[allowed_slots(slot, 1)])[0]
+        told = f"late: port 0 (a.pcap): {found.late:,} of 1,000 packets came late, by {found.slots:,} slots ({slot.told(found.slots)}) at most"
         self.assertIn(told, (TOP / "docs/USAGE.md").read_text())
-        self.assertEqual((found.late, found.slots), (998, 1998 - 999 * 6720 // 5000))
+        self.assertEqual((found.late, found.slots), (997, 1998 - 999 * 672 // 512))

@@ -31,6 +31,23 @@ class Running(Scene):
         self.assertEqual(self.noted(*words)[:-1], words)
         self.assertEqual(self.noted("check", "--", "--help")[:-1], ["check", "--", "--help"])
 
+    def test_ethernet(self):
+        """The program is given a line rate, and standard error a line on it; without the option the words stay."""
+        names = ["-t", "out", "a b", "--ethernet", "7"]
+        for words, handed in (
+            (["run", "--ethernet", "10000", "--slots", "--rounds", "2", "--", *names], ["run", "--slots", "--rounds=2", "--line-rate=15868", "--", *names]),
+            (["firm", "t", "a", "--ethernet=1"], ["firm", "--line-rate=2", "--", "t", "a"]),
+        ):
+            ended = self.launch(*words, NOTES=str(self.notes), STATUS="5", SAID="out of memory")
+            self.assertEqual(self.notes.read_text().splitlines()[:-1], handed)
+            number, rate = ("10000", "15868") if words[0] == "run" else ("1", "2")
+            note = f"note: --ethernet {number} is --line-rate {rate}, the least that keeps up with any frames of this Ethernet\n"
+            self.assertEqual((ended.returncode, ended.stderr), (5, note + "out of memory\n"))
+        for words in (["run", "--line-rate", "10000", "t", "out", "--", "--ethernet"], ["run", "--ethernet", "0", "t", "out", "a"]):
+            ended = self.launch(*words, NOTES=str(self.notes))
+            self.assertEqual(self.notes.read_text().splitlines()[:-1], words)
+            self.assertNotIn("note:", ended.stderr)
+
     def test_word_that_is_no_text(self):
         variables = {**self.variables, "CODE": 'printf %s "$2"'}
         ended = subprocess.run([bytes(self.top / "tiny_tera"), b"check", b"\xff\xfe"], env=variables, stdout=subprocess.PIPE)
