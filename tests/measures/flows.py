@@ -124,8 +124,8 @@ class Tables(unittest.TestCase):
         self.assertEqual([tuple(row[name] for name in names) for row in rows if row["protocol"] != "ARP"], SHOWN)
 
     def test_times(self):
-        """A slot at 1,000 Mbit/s has 0.512 us, and one at pace 7 has 7."""
-        for words, delay in ((("--line-rate", "1000"), "1.536"), (("--pace-us", "7"), "21.0")):
+        """A slot at 1,000 Mbit/s has 0.512 us, one at pace 7 has 7, and one for an Ethernet of 10 has 512 / 16."""
+        for words, delay in ((("--line-rate", "1000"), "1.536"), (("--pace-us", "7"), "21.0"), (("--ethernet", "10"), "96.0")):
             self.assertEqual({row["delay_us"] for row in self.rows(*words, self.prefix, *INPUTS)}, {delay})
 
     def test_jobs(self):

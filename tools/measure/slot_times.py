@@ -1,24 +1,30 @@
 """Words that say how long a slot lasts, and its microseconds."""
 
+from launcher.slot_lengths import MICROSECOND, MOST_ETHERNET, MOST_PACE_US, MOST_RATE, of_rate, rate_for
+
 from .words import whole
 
-MOST_PACE_US, MOST_LINE_RATE = 1_000_000, 1_600_000
-CELL_BITS = 512
 PLACES = 4  # Of microseconds.
 
 
 def add_words(parser):
-    """Gives a parser of words the two that say how long a slot lasts."""
+    """Gives a parser of words those that say how long a slot lasts."""
     either = parser.add_mutually_exclusive_group()
     either.add_argument("--pace-us", metavar="K", type=whole(1, MOST_PACE_US),
                         help="a slot lasts K microseconds, as in the run")
-    either.add_argument("--line-rate", metavar="MBPS", type=whole(1, MOST_LINE_RATE),
+    either.add_argument("--line-rate", metavar="MBPS", type=whole(1, MOST_RATE),
                         help="a slot is the time of a cell of 64 bytes at so many Mbit/s")
+    either.add_argument("--ethernet", metavar="E", type=whole(1, MOST_ETHERNET),
+                        help="the same at the line rate that keeps up with an Ethernet of so many Mbit/s")
 
 
 def slot_us(words):
     """The microseconds of a slot; None where the words do not say it."""
-    return words.pace_us if words.line_rate is None else CELL_BITS / words.line_rate
+    rate = words.line_rate if words.ethernet is None else rate_for(words.ethernet)
+    if rate is None:
+        return words.pace_us
+    slot = of_rate(rate)
+    return slot.nanos / slot.divisor / MICROSECOND
 
 
 def in_us(slots, length):
