@@ -57,7 +57,10 @@ def is_capture(name):
 
 
 def converted(command, name):
-    """A command with the name of a file for IN, and for OUT a name that no file has, in a folder that may be written."""
+    """A command with the name of a file for IN, and for OUT a name that no file has, in a folder that may be written. Of a
+    capture in nanoseconds it makes one in nanoseconds."""
+    if first_bytes(name).startswith((LITTLE[1], BIG[1])):
+        command = command.replace("-F pcap", "-F nsecpcap").replace("tcpdump", "tcpdump --time-stamp-precision=nano")
     names = {"IN": name, "OUT": _new_name(name)}
     return re.sub(r"\b(IN|OUT)\b", lambda it: shlex.quote(as_file(names[it[0]])), command)
 

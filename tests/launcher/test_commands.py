@@ -131,6 +131,15 @@ class Commands(Scene):
         link, packets = self.convert(told.rstrip("\n").rsplit(": ", 1)[1])
         self.assertEqual((link, [it.frame for it in packets]), (101, [PACKET] * 3))
 
+    def test_nanoseconds(self):
+        """Commands keep the nanoseconds of a capture that has them."""
+        nano = {"magic": 0xA1B23C4D, "times": [1, 1_001, 1_002]}
+        cut = capture(*[ETHERNET] * 3, **nano)[:-1]
+        for said, data in (("cut record at 176", cut), ("link type 113", capture(*[bytes(14) + b"\x08\x00" + PACKET] * 2, link=113, **nano))):
+            self.files(table_txt="* 0\n", a_pcap=data)
+            told = self.launch("firm", "table.txt", "a.pcap", SAID=f"capture 0: {said}", STATUS="4").stderr
+            self.assertEqual([it.time for it in self.convert(told.rstrip("\n").rsplit(": ", 1)[1])[1]], [1, 1_001])
+
     def test_first_packets(self):
         self.files(table_txt="* 0\n", a_pcap=capture(*[bytes(65_520)] * 112))
         told = self.launch("firm", "table.txt", "a.pcap", SAID="too many slots: port 0 has 131152", STATUS="4").stderr
