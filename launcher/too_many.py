@@ -26,9 +26,13 @@ def _on_slots(job, port, found):
         fix = converted(f"editcap -F pcap -r IN OUT 1-{_that_fit(cells, limit)}", name)
         return f"{text}, and the packets of {name} have {sum(cells):,} cells; to keep the first that fit: {fix}"
     base = first_time(found, MOST_PACKETS)
-    own = _times_and_room(found, base, limit)
-    goes_on = f"to {short(max(packet.time - base for packet in found[port]) / SECOND, 6)} s after the first packet of all captures"
-    return f"{text}, and {name} lasts longer than so many slots of {job.slot.told()}, {goes_on}: {_that_fits(job, own)}"
+    times = [packet.time for packet in found[port]]
+    fits = _that_fits(job, _times_and_room(found, base, limit))
+    if min(times) > base and job.slot.at(max(times) - min(times)) + sum(cells) <= limit:
+        fix = f"editcap -F pcap -t -{short((min(times) - base) / SECOND, 6).replace(',', '')} IN OUT"
+        fits += f"; to begin it with the first packet of all: {converted(fix, name)}"
+    goes_on = f"to {short((max(times) - base) / SECOND, 6)} s after the first packet of all captures"
+    return f"{text}, and {name} lasts longer than so many slots of {job.slot.told()}, {goes_on}: {fits}"
 
 
 def _that_fit(cells, limit):

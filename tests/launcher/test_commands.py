@@ -140,6 +140,16 @@ class Commands(Scene):
             told = self.launch("firm", "table.txt", "a.pcap", SAID=f"capture 0: {said}", STATUS="4").stderr
             self.assertEqual([it.time for it in self.convert(told.rstrip("\n").rsplit(": ", 1)[1])[1]], [1, 1_001])
 
+    def test_captures_of_different_days(self):
+        """The second is moved to begin with the first."""
+        for magic, step in ((0xA1B2C3D4, 1_000), (0xA1B23C4D, 1)):
+            later = capture(ETHERNET, ETHERNET, times=[86_400_000_000, 86_400_000_007], magic=magic)
+            self.files(table_txt="* 0\n", b_pcap=capture(ETHERNET, times=[0], magic=magic), a_pcap=later)
+            said = "too many slots: port 0 has 999999"
+            told = self.launch("firm", "--line-rate", "1000", "table.txt", "a.pcap", "b.pcap", SAID=said, STATUS="4").stderr
+            packets = self.convert(told.rstrip("\n").rsplit(": ", 1)[1])[1]
+            self.assertEqual([it.time for it in packets], [0, 7 * step])
+
     def test_first_packets(self):
         self.files(table_txt="* 0\n", a_pcap=capture(*[bytes(65_520)] * 112))
         told = self.launch("firm", "table.txt", "a.pcap", SAID="too many slots: port 0 has 131152", STATUS="4").stderr

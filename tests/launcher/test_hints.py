@@ -273,6 +273,18 @@ class Hints(Scene):
         told = self.launch("run", "--ethernet", "10000", "table.txt", "out", "a.pcap", "b.pcap", SAID=said, STATUS="4").stderr.splitlines()
         self.assertEqual(told[1:], [said, f"hint: {TOO_LONG} 32.266 ns, to 0.005 s {AFTER}: at --line-rate 13421 the packets fit"])
 
+    def test_captures_of_different_days(self):
+        """A capture that fits alone is to be moved in time; the name of what is made of it is new."""
+        text = TOO_LONG + " 3.22 us, to 86,400.{} s " + AFTER + ": at --pace-us {} the packets fit"
+        moved = "; to begin it with the first packet of all: editcap -F pcap -t -86400 b.pcap b.classic.pcap"
+        words = ["run", "--line-rate", "159", "table.txt", "out", "a.pcap", "b.pcap"]
+        for last, slots, hint in (
+            (250_000, 26_831_327_638, text.format(25, 659_197) + moved), (500_000, 26_831_405_275, text.format(5, 659_199)),
+        ):
+            times = [86_400_000_000, 86_400_000_000 + last]
+            files = {**GOOD, "a.pcap": capture(frame(), times=[0]), "b.pcap": capture(frame(), frame(), times=times)}
+            self.check(words, 4, f"too many slots: port 1 has {slots}", hint, files)
+
     def test_too_many_slots_of_large_captures(self):
         """The hint comes whatever size the captures have together, here 73 MB."""
         self.files(table_txt="* 0\n", a_pcap=capture(*[bytes(65_520)] * 112))
