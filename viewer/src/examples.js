@@ -4,7 +4,7 @@
 
     const FOLDER = "../examples";
     const LECTURE = "lecture";
-    const NAMES = ["two_inputs", "one_packet", "small_network", "long_wait", "long_wait_two_rounds"];
+    const NAMES = ["two_inputs", "one_packet", "small_network", "long_wait", "long_wait_two_rounds", "incast"];
 
     function pathOf(name, prefix = "out") {
         return `${FOLDER}/${name}/expected/${prefix}.journal`;
