@@ -181,9 +181,11 @@ class Splits(unittest.TestCase):
 
     def test_words(self):
         wrong = {
-            "10.0.0.1/8": "is no network, MAC address, vlan=NUMBER or interface=NAME: 10.0.0.1/8 has host bits set",
-            "vlan=4096": "is no network, MAC address", "vlan=": "is no network", "interface=": "is no network",
-            "eth0": "is no network",
+            "10.0.0.1/8": "'10.0.0.1/8' has bits beyond its length; its network is 10.0.0.0/8",
+            "fd00::/64": "'fd00::/64' is IPv6, which the switch does not route",
+            "vlan=x": "'vlan=x' is no VLAN; vlan= takes a number from 0 to 4,095 or untagged",
+            "vlan=4096": "'vlan=4096' is no VLAN", "vlan=": "'vlan=' is no VLAN", "interface=": "'interface=' names no interface",
+            "eth0": "'eth0' is no IPv4 network, MAC address, vlan=NUMBER or interface=NAME", "10.0.0.0/33": "is no IPv4 network",
             "10.0.0.0/24 10.0.1.0/24,10.0.0.0/24": "10.0.0.0/24 stands for two ports, 0 and 1",
             "10.0.0.0/24 vlan=1": "ports are of one kind, and here are VLAN and network",
             "* *": "stands twice",

@@ -11,7 +11,7 @@ or it is * : all the rest. All words but * are of one of these kinds.
 """
 
 import re
-from ipaddress import IPv4Address, IPv4Network
+from ipaddress import IPv4Address, ip_address, ip_network
 from typing import NamedTuple, Optional
 
 from launcher.captures import ETHERNET, addresses
@@ -55,16 +55,24 @@ def read_ports(words):
 def _read_item(item):
     """The kind of an item, and what packets have that come in there."""
     name, equals, value = item.partition("=")
-    if equals and name == "interface" and value:
+    if equals and name == "interface":
+        if not value:
+            raise ValueError(f"{item!r} names no interface; interface=0 is the first of a pcapng file")
         return INTERFACE, value
-    if equals and name == "vlan" and value in VLANS:
+    if equals and name == "vlan":
+        if value not in VLANS:
+            raise ValueError(f"{item!r} is no VLAN; vlan= takes a number from 0 to {len(VLANS) - 2:,} or {UNTAGGED}")
         return VLAN, None if value == UNTAGGED else int(value)
     if MAC_FORM.fullmatch(item):
         return MAC, bytes.fromhex(item.replace("-", ":").replace(":", ""))
     try:
-        network = IPv4Network(item)
-    except ValueError as fault:
-        raise ValueError(f"{item!r} is no network, MAC address, vlan=NUMBER or interface=NAME: {fault}") from None
+        network = ip_network(item, strict=False)
+    except ValueError:
+        raise ValueError(f"{item!r} is no IPv4 network, MAC address, vlan=NUMBER or interface=NAME") from None
+    if network.version != 4:
+        raise ValueError(f"{item!r} is IPv6, which the switch does not route; give MAC addresses, VLANs or interfaces")
+    if network.network_address != ip_address(item.partition("/")[0]):
+        raise ValueError(f"{item!r} has bits beyond its length; its network is {network}")
     return NETWORK, (network.prefixlen, int(network.network_address) >> (32 - network.prefixlen))
 
 
