@@ -1,46 +1,63 @@
 """The cells that wait in a run, from its packets file and its slot lines."""
 
 from collections import defaultdict, deque
-from typing import NamedTuple
+from itertools import groupby
 
 from .packets import Misfit, forwarded
 
+COLUMNS = ["input", "packet", "level", "kind", "cells", "arrival", "output", "departure"]
 
-class _Cell(NamedTuple):
-    """A cell in its queue: the outputs that still need it and, of a packet's last one, its departure at each output."""
 
-    outputs: set
-    departures: dict
+class _Packet:
+    """A packet in its queue: how many of its cells are left, the outputs that still need the first of these, and its
+    departure at each output."""
+
+    def __init__(self, cells, departures):
+        self.left, self.needed, self.departures = cells, set(departures), departures
 
 
 class _Queues:
     """All queues of a switch, by input, output (None for multicast) and level."""
 
     def __init__(self):
-        self.cells = defaultdict(deque)
+        self.packets = defaultdict(deque)
         self.waiting = 0
 
-    def admit(self, packet):
-        """Puts the cells of a packet, a group of rows of a packets file, into its queue."""
-        first = packet.iloc[0]
-        departures = dict(zip(packet["output"], packet["departure"]))
-        queue = self.cells[first["input"], None if first["kind"] == "m" else first["output"], first["level"]]
-        for left in range(first["cells"], 0, -1):
-            queue.append(_Cell(set(departures), departures if left == 1 else {}))
-        self.waiting += first["cells"]
+    def admit(self, queue, packet):
+        if packet.left > 0:
+            self.packets[queue].append(packet)
+            self.waiting += packet.left
 
     def serve(self, number, pair):
         """Serves an output from the head of its queue in a slot; Misfit where no such cell is there."""
-        queue = self.cells[pair.input, None if pair.multicast else pair.output, pair.level]
-        if not queue or pair.output not in queue[0].outputs:
+        queue = self.packets[pair.input, None if pair.multicast else pair.output, pair.level]
+        if not queue or pair.output not in queue[0].needed:
             raise Misfit(f"slot {number} feeds output {pair.output} from input {pair.input}, where no cell waits for it")
-        departure = queue[0].departures.get(pair.output)
-        if departure not in (None, number + 1):
+        packet = queue[0]
+        departure = packet.departures[pair.output]
+        if packet.left == 1 and departure != number + 1:
             raise Misfit(f"a packet that departs in slot {departure} has its last cell served in slot {number}")
-        queue[0].outputs.remove(pair.output)
-        if not queue[0].outputs:
+        packet.needed.remove(pair.output)
+        if packet.needed:
+            return
+        self.waiting -= 1
+        packet.left -= 1
+        if packet.left:
+            packet.needed.update(packet.departures)
+        else:
             queue.popleft()
-            self.waiting -= 1
+
+
+def _coming(packets):
+    """For each slot the queues and the packets that come in it."""
+    coming = defaultdict(list)
+    rows = forwarded(packets).sort_values(["input", "packet"])[COLUMNS].itertuples(index=False)
+    for _, packet in groupby(rows, key=lambda row: (row.input, row.packet)):
+        outputs = list(packet)
+        first = outputs[0]
+        queue = first.input, None if first.kind == "m" else first.output, first.level
+        coming[first.arrival].append((queue, _Packet(first.cells, {row.output: row.departure for row in outputs})))
+    return coming
 
 
 def cells_waiting(packets, report):
@@ -49,14 +66,12 @@ def cells_waiting(packets, report):
     Cells that come in the slot count, those that it serves do not; a multicast cell counts once. Misfit where the
     slots do not serve just the packets of the file, each so that it departs when the file says.
     """
-    coming = defaultdict(list)
-    for _, packet in forwarded(packets).groupby(["input", "packet"]):
-        coming[packet["arrival"].iloc[0]].append(packet)
+    coming = _coming(packets)
     queues = _Queues()
     waiting = []
     for number, slot in enumerate(report.slots):
-        for packet in coming.pop(number, ()):
-            queues.admit(packet)
+        for queue, packet in coming.pop(number, ()):
+            queues.admit(queue, packet)
         for pair in slot.pairs:
             queues.serve(number, pair)
         waiting.append(queues.waiting)
