@@ -194,6 +194,16 @@ class Figures(unittest.TestCase):
             for text in ("level 0, unicast", "level 3, multicast", "dropped packets", "1&gt;1:0u", "2&gt;*:3m"):
                 self.assertIn(text, drawn)
 
+    def test_matched_pairs_of_many_slots(self):
+        """Of few slots each has its dot; of many each number has one wherever it comes."""
+        from measure import charts
+
+        for slots, dots in ((7_999, 7_999), (80_000, 4_001)):
+            axes = charts.matched_figure("run", [0] + [3] * (slots - 1), 4).axes[0]
+            found = list(axes.lines[0].get_xdata())
+            self.assertEqual((len(found), found[:2]), (dots, [0, 1]))
+            charts.pyplot.close("all")
+
     def test_distribution_of_simulations(self):
         """Of texts with `count` lines one figure is drawn, and of others it is told."""
         texts = [TOP / f"tests/simulations/{name}/expected/stdout" for name in ("islip_histogram", "long_delays_ideal", "fifo_histogram")]

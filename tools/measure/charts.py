@@ -23,6 +23,7 @@ PARTS_OF_A_ROW = 3
 BARS = "bars: 95 per cent intervals of the mean over the seeds, by Student's t; hollow: queues still grow"
 WITHOUT_ROUNDS = ("fifo", "ideal")
 WINDOWS = 200  # Slots are averaged over so many windows.
+STRETCHES = 4000  # Of an axis, of which each is a tenth as broad as a dot.
 NAMES = {"u": "unicast", "m": "multicast"}
 ROOM_FOR_LEGEND = 1.3  # Above the highest point.
 MOST_NAMED = 32  # So many queues stand below the axis by name.
@@ -167,10 +168,19 @@ def fill_figure(title, fill):
     return figure
 
 
+def _apart(numbers):
+    """The slots whose dots are to be drawn: of equal numbers so close that their dots are one, the first."""
+    stretch, found = max(1, len(numbers) // STRETCHES), {}
+    for slot, number in enumerate(numbers):
+        found.setdefault((slot // stretch, number), slot)
+    return list(found.values())
+
+
 def matched_figure(title, matched, ports):
     """The outputs that are fed in each slot, and their mean over windows of slots."""
     figure, axes = _one(title, "slot", "matched pairs (outputs fed in a slot)")
-    axes.plot(range(len(matched)), matched, ".", color="#bbbbbb", markersize=2, label="each slot")
+    dots = _apart(matched)
+    axes.plot(dots, [matched[slot] for slot in dots], ".", color="#bbbbbb", markersize=2, label="each slot")
     window = max(1, len(matched) // WINDOWS)
     middles, means = [], []
     for start in range(0, len(matched), window):
