@@ -6,7 +6,7 @@ for each slot a post for each input and two bytes for each output.
 
 from __future__ import annotations
 
-from typing import Callable, Iterator, List, NamedTuple, Optional, Tuple, Union
+from typing import Dict, Iterator, List, NamedTuple, Optional, Tuple, Union
 
 MAGIC = b"TTJ1"
 MAX_PORTS = 64
@@ -16,6 +16,7 @@ HALVED_ABOVE = 32  # Over so many ports a run has at most half as many slots.
 MAX_SLOTS = 262_145
 MAX_SLOTS_HALVED = 131_073
 FREE = 0xFF
+BITS = [[bit for bit in range(2 * LEVELS) if sets >> bit & 1] for sets in range(256)]  # Of each byte that says which sets follow.
 
 
 class BadJournal(ValueError):
@@ -59,10 +60,10 @@ class Journal(NamedTuple):
 
     def slots(self) -> Iterator[JournalSlot]:
         """The slots in order; raises BadJournal where the bytes end or a value is outside its table."""
-        fields = _Fields(self.data, 12)
+        fields, all_outputs, known = _Fields(self.data, 12), (1 << self.ports) - 1, _feeds(self.ports)
         for _ in range(self.slot_count):
-            posts = [fields.post(self.ports) for _ in range(self.ports)]
-            outputs = [fields.fed(self.ports) for _ in range(self.ports)]
+            posts = [fields.post(all_outputs) for _ in range(self.ports)]
+            outputs = [fields.fed(known) for _ in range(self.ports)]
             yield JournalSlot(posts, outputs)
         if fields.at < len(self.data):
             raise BadJournal(fields.at)
@@ -72,12 +73,12 @@ def read_journal(data: Union[bytes, bytearray, memoryview]) -> Journal:
     """The journal that begins with this header; its slots are checked when they are read."""
     data = bytes(memoryview(data))
     fields = _Fields(data, 0)
-    fields.take(4, lambda value: value == int.from_bytes(MAGIC, "big"))
-    ports = fields.take(1, lambda value: 1 <= value <= MAX_PORTS)
-    rounds = fields.take(1, lambda value: 1 <= value <= MAX_ROUNDS)
-    fields.take(2, lambda value: value == 0)
-    most = MAX_SLOTS_HALVED if ports > HALVED_ABOVE else MAX_SLOTS
-    slot_count = fields.take(4, lambda value: 1 <= value <= most)
+    magic = int.from_bytes(MAGIC, "big")
+    fields.take(4, magic, magic)
+    ports = fields.take(1, 1, MAX_PORTS)
+    rounds = fields.take(1, 1, MAX_ROUNDS)
+    fields.take(2, 0, 0)
+    slot_count = fields.take(4, 1, MAX_SLOTS_HALVED if ports > HALVED_ABOVE else MAX_SLOTS)
     return Journal(ports, rounds, slot_count, data)
 
 
@@ -88,28 +89,34 @@ class _Fields:
         self.data = data
         self.at = at
 
-    def take(self, size: int, is_good: Callable[[int], bool]) -> int:
-        """The next field's number, where it is whole and good."""
-        field = self.data[self.at:self.at + size]
-        value = int.from_bytes(field, "big")
-        if len(field) < size or not is_good(value):
+    def take(self, size: int, least: int, most: int) -> int:
+        """The next field's number, where it is whole and from least to most."""
+        end = self.at + size
+        value = int.from_bytes(self.data[self.at:end], "big")
+        if end > len(self.data) or not least <= value <= most:
             raise BadJournal(self.at)
-        self.at += size
+        self.at = end
         return value
 
-    def post(self, ports: int) -> Post:
-        present = self.take(1, lambda value: True)
-        more = self.take(1, lambda value: value <= 1)
-        sets = [self.set(ports) if present >> bit & 1 else 0 for bit in range(2 * LEVELS)]
+    def post(self, all_outputs: int) -> Post:
+        present = self.take(1, 0, 0xFF)
+        more = self.take(1, 0, 1)
+        sets = [0] * (2 * LEVELS)
+        for bit in BITS[present]:
+            sets[bit] = self.take(8, 1, all_outputs)
         return Post(tuple(sets[:LEVELS]), tuple(sets[LEVELS:]), more == 1)
 
-    def set(self, ports: int) -> int:
-        return self.take(8, lambda value: 0 < value < 1 << ports)
+    def fed(self, known: Dict[bytes, Optional[Fed]]) -> Optional[Fed]:
+        field = self.data[self.at:self.at + 2]
+        if field not in known:
+            raise BadJournal(self.at + (field[:1] in {two[:1] for two in known}))
+        self.at += 2
+        return known[field]
 
-    def fed(self, ports: int) -> Optional[Fed]:
-        input_port = self.take(1, lambda value: value < ports or value == FREE)
-        if input_port == FREE:
-            self.take(1, lambda value: value == 0)
-            return None
-        queue = self.take(1, lambda value: value < 2 * LEVELS)
-        return Fed(input_port, queue // 2, queue % 2 == 1)
+
+def _feeds(ports: int) -> Dict[bytes, Optional[Fed]]:
+    """What each two bytes of an output mean."""
+    feeds: Dict[bytes, Optional[Fed]] = {bytes([FREE, 0]): None}
+    for port in range(ports):
+        feeds.update({bytes([port, rank]): Fed(port, rank // 2, rank % 2 == 1) for rank in range(2 * LEVELS)})
+    return feeds
