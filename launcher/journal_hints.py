@@ -5,10 +5,11 @@ import os
 from .capture_hints import converted, first_bytes, is_capture, kind_of
 
 MAGIC = b"TTJ1"
-OTHERS = {
-    b"ports ": "a report", b"input,packet,": "a packets file", b"journal ports ": "the text of a journal",
-}
 WANTED = "a journal is what run --journal writes"
+OTHERS = {
+    b"ports ": f"a report; {WANTED}", b"input,packet,": f"a packets file; {WANTED}",
+    b"journal ports ": "the text of a journal; tools/journal make TEXT JOURNAL makes the journal of it",
+}
 
 
 def on_journal(name, at):
@@ -21,7 +22,7 @@ def on_journal(name, at):
         return f"{name} is a capture; {WANTED}"
     for front, what in OTHERS.items():
         if begin.startswith(front):
-            return f"{name} is {what}; {WANTED}"
+            return f"{name} is {what}"
     if not begin:
         return f"{name} is empty" if os.path.isfile(name) else None
     if not begin.startswith(MAGIC):

@@ -322,7 +322,7 @@ class Hints(Scene):
             (capture(), 0, f"j is a capture; {other}"),
             (b"ports 2\nrounds 4\n", 0, f"j is a report; {other}"),
             (b"input,packet,bytes,cells,state\n", 0, f"j is a packets file; {other}"),
-            (b"journal ports 2 rounds 4\n", 0, f"j is the text of a journal; {other}"),
+            (b"journal ports 2 rounds 4\n", 0, "j is the text of a journal; tools/journal make TEXT JOURNAL makes the journal of it"),
             (b"TTJ2", 0, f"j does not begin with the bytes TTJ1; {other}"),
             (gzip.compress(journal, mtime=0), 0, "j is compressed by gzip: zcat j > j.classic.pcap"),
             (journal[:13] + b"\x02" + journal[14:], 13, None),
