@@ -45,7 +45,9 @@ class Ends(unittest.TestCase):
         with open("/dev/full", "w") as full:
             status, said = run_into(full, 1, TOOLS / "journal", "show", self.journal)
         self.assertEqual((status, said.count("\n")), (1, 1), said)
-        self.assertTrue(said.startswith("tools/journal: [Errno 28] "), said)
+        self.assertEqual(said, "tools/journal: No space left on device\n")
+        missing = self.report.with_name("none")
+        self.assertEqual(run_here("journal", "show", missing), (1, f"tools/journal: {missing}: No such file or directory\n"))
 
     def test_what_is_no_journal(self):
         """The file is named, and what it is."""

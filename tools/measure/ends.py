@@ -37,5 +37,7 @@ def _flush():
 
 
 def _fault(tool, why):
+    if isinstance(why, OSError) and why.strerror:
+        why = why.strerror if why.filename is None else f"{why.filename}: {why.strerror}"
     print(f"tools/{tool}: {why}", file=sys.stderr)
     return 1
