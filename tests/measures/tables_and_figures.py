@@ -8,6 +8,7 @@ import re
 import tempfile
 import unittest
 import unittest.mock
+import warnings
 from contextlib import redirect_stdout
 from pathlib import Path
 
@@ -203,6 +204,14 @@ class Figures(unittest.TestCase):
             found = list(axes.lines[0].get_xdata())
             self.assertEqual((len(found), found[:2]), (dots, [0, 1]))
             charts.pyplot.close("all")
+
+    def test_nothing_to_draw(self):
+        """A figure of no packets has empty axes, and nothing is complained of."""
+        from measure import charts
+
+        with tempfile.TemporaryDirectory() as name, warnings.catch_warnings(), redirect_stdout(None):
+            warnings.simplefilter("error")
+            charts.save(charts.delays_figure("run", {}), name, "delays", TOLD)
 
     def test_distribution_of_simulations(self):
         """Of texts with `count` lines one figure is drawn, and of others it is told."""

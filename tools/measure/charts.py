@@ -57,8 +57,9 @@ def _one(title, across, up):
 
 
 def _plain_log(axes):
-    axes.set_yscale("log")
-    axes.yaxis.set_major_formatter(PLAIN)
+    if axes.dataLim.y1 > 0:  # Else nothing is drawn.
+        axes.set_yscale("log")
+        axes.yaxis.set_major_formatter(PLAIN)
 
 
 def waits_figure(title, counts):
