@@ -150,6 +150,8 @@ def _dry_run(job, words, fault):
         return found.status
     if job.slot and job.inputs:
         _warn_of_late(job, True)
+    if job.inputs:
+        _warn_of_cut(job)
     return status
 
 
@@ -195,6 +197,8 @@ def _start(place, words, job, fault):
         text = line_of_unrouted(place, job)
         if text:
             tell_error(f"hint: {text}")
+    if status == 0 and job and job.inputs:
+        _warn_of_cut(job)
     return status
 
 
@@ -249,6 +253,14 @@ def _warn_of_late(job, looks_at_all):
     if lines:
         name, number = job.slot_option
         tell_error(f"late: {name} {number} is a slower line than that of the captures; {WAITS}")
+
+
+def _warn_of_cut(job):
+    """Tells of packets of which a part alone was captured."""
+    from .cut_short import line_of_cut
+    line = line_of_cut(job.inputs)
+    if line:
+        tell_error(f"cut: {line}")
 
 
 def start(top):
