@@ -113,6 +113,8 @@ class Delays(unittest.TestCase):
         self.assertEqual(run_here("delays", self.prefix)[0], 0)
 
     def test_faults(self):
+        told = f"tools/delays: there is no {self.prefix}.packets.csv: give the run the option --packets\n"
+        self.assertEqual(run_here("delays", self.prefix), (1, told))
         self.write(PACKETS)
         Path(f"{self.prefix}.report").write_text(REPORT.replace("dropped 0", "dropped 1"))
         told = f"{self.prefix}.packets.csv: not the packets of {self.prefix}.report: dropped 0, and the report has 1\n"

@@ -180,6 +180,7 @@ class Figures(unittest.TestCase):
             (folder / "one.packets.csv").write_text(PACKETS)
             names = ["one.delays", "one.queues", "one.waits", "one.waiting", "one.matched", "one.reference"]
             self.check_drawn(names, folder, reports[:1])
+            self.check_drawn(names, folder, [folder / "one.journal"])
             self.check_drawn(["load"], folder, reports)
             drawn = (folder / "figures/one.waiting.svg").read_text()
             self.assertTrue("/one.report" in drawn and "SHA-256" in drawn)

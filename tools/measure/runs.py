@@ -21,7 +21,7 @@ def packets_of_run(name):
     """The packets file of a run; ValueError where it is none, or where the report beside it is of another run."""
     prefix = prefix_of(name)
     file, report = Path(f"{prefix}{PACKETS}"), Path(f"{prefix}{REPORT}")
-    if not file.exists() and report.exists():
+    if not file.exists():
         raise ValueError(f"there is no {file}: give the run the option --packets")
     try:
         packets = read_packets(file)
