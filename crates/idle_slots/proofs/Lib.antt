@@ -1,0 +1,5 @@
+mod QuietRounds
+pub mod QuietSchedulers
+mod StillQueues
+pub mod IdleRuns
+pub mod LaterArrivals
