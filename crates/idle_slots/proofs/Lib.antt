@@ -2,4 +2,5 @@ mod QuietRounds
 pub mod QuietSchedulers
 mod StillQueues
 pub mod IdleRuns
+pub mod SkippedSlots
 pub mod LaterArrivals

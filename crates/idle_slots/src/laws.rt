@@ -10,6 +10,7 @@ ghost use Rattle.switch_plan.specs.GoodPlans.{SwitchPlan, IsGood};
 ghost use Rattle.run_laws.specs.Runs.{ports_of, card_at, posts_under};
 ghost use Rattle.idle_slots.specs.Quiet.{IsQuiet};
 ghost use Rattle.idle_slots.specs.Idle.{IsIdle, NoneArrive, AreIdle};
+ghost use Rattle.idle_slots.specs.Skipped.{AreAsAfter};
 
 /// A slot in which no input asks matches nothing, adds nothing to the numbers of rounds and moves no pointer, under each
 /// scheduler that has a name.
@@ -22,6 +23,12 @@ pub fn quiet_decisions()
 pub fn idle_slots_change_nothing()
     ensures { (scheduler : Scheduler) (plan : SwitchPlan) (t u : ℕ) → IsScheduler scheduler → IsQuiet scheduler → IsGood plan → t < u
         → IsIdle scheduler plan t → NoneArrive plan (t + 1) u → AreIdle scheduler plan t u }
+{}
+
+/// What such a run has done before slot u is what it had done before slot t + 1, but for the number of slots.
+pub fn gaps_can_be_skipped()
+    ensures { (scheduler : Scheduler) (plan : SwitchPlan) (t u : ℕ) → IsScheduler scheduler → IsQuiet scheduler → IsGood plan → t < u
+        → IsIdle scheduler plan t → NoneArrive plan (t + 1) u → AreAsAfter scheduler plan (t + 1) u }
 {}
 
 /// A run does not end in a slot after which a packet arrives.
