@@ -96,8 +96,9 @@ module _ (scheduler : Scheduler) (scheduling : IsScheduler scheduler) (quiet : I
     later_row i s inside after until =
         let card = card_at plan i in
         let parts = parts_under scheduler plan i s in
+        let arrives = none_arrives card (t + 1) u s (none i inside) (omega arith) (omega arith) in
         row_none card parts s (λ q.
-        ap waiting (in_same card q parts s (none_arrives card (t + 1) u s (none i inside) (omega arith) (omega arith)) ∙ same_queue i s q inside after (omega arith))
+        ap waiting (in_same card q parts s arrives ∙ same_queue i s q inside after (omega arith))
         ∙ (idle_queue i t q inside idle).empty)
 
     idle_later : (s : ℕ) → t ≤ s → s < u → IsIdle scheduler plan s
