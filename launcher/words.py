@@ -7,8 +7,8 @@ docs/USAGE.md has the same ranges, and tests/run_launcher compares both.
 from typing import NamedTuple
 
 from . import simulation_words
-from .slot_lengths import MOST_ETHERNET, MOST_PACE_US, MOST_RATE, of_pace, of_rate, rate_for
 from .options import Fault, Option, near, number_of, one_of
+from .slot_lengths import MOST_ETHERNET, MOST_PACE_US, MOST_RATE, of_pace, of_rate, rate_for
 
 SIMULATE = "simulate"  # The command that a program of its own does.
 COMMANDS = ("run", "gen", "check", "firm", SIMULATE)
