@@ -10,3 +10,6 @@ pub mod Weighing
 pub mod Coming
 pub mod Ageing
 pub mod Conserving
+pub mod HeadCells
+pub mod ScheduledSlots
+pub mod ScheduledWaits

@@ -1,6 +1,7 @@
 //! Simulated runs: a job's slots, one after the other, and the numbers that are told of them.
 #![tactic(auto)]
 
+pub mod bounds;
 mod fault;
 pub mod laws;
 mod numbers;

@@ -1,0 +1,19 @@
+//! How long a queue waits in a simulation, as the contracts of functions that do nothing.
+
+ghost use Rattle.std.specs.Prelude.{◌≡◌, ◌*◌, ◌<◌, ℕ};
+ghost use Rattle.scheduler_names.specs.declared.names.SchedulerName.TheVariants.{Firm, Islip};
+ghost use Rattle.service_bound.specs.Waits.{longest_service_at_line_rate};
+ghost use Rattle.made_traffic.specs.Sources.{IsTraffic};
+ghost use Rattle.simulated_slots.specs.declared.discipline.Discipline.TheVariants.{Scheduled};
+ghost use Rattle.simulated_slots.specs.Jobs.{IsJob, JobValue};
+ghost use Rattle.simulated_runs.specs.Numbers.{numbers_after};
+
+/// The longest wait that is told of a simulation, whatever its traffic, its depth and the number of its slots, is below
+/// what `longest_service_at_line_rate()` of `service_bound` tells under iSLIP, and below `n * n` of `n` ports under FIRM.
+/// (Cells that are dropped do not matter, and RRM has no such bound.)
+pub fn longest_waits_are_bounded()
+    ensures islip { (job : JobValue) (t : ℕ) → IsTraffic job.traffic → IsJob job → job.settings.discipline ≡ Scheduled Islip
+        → (numbers_after job t).longest_wait < longest_service_at_line_rate job.traffic.ports job.settings.rounds }
+    ensures firm { (job : JobValue) (t : ℕ) → IsTraffic job.traffic → IsJob job → job.settings.discipline ≡ Scheduled Firm
+        → (numbers_after job t).longest_wait < job.traffic.ports * job.traffic.ports }
+{}
