@@ -13,3 +13,4 @@ pub mod Conserving
 pub mod HeadCells
 pub mod ScheduledSlots
 pub mod ScheduledWaits
+pub mod FifoWaits

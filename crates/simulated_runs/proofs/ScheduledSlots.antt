@@ -167,13 +167,15 @@ module _ (job : JobValue) where
     slot-moved Moves moving t = subst (IsSlotBy Moves job.traffic.ports rounds_in t (rows_in t) (places_in t)) (sym (decided t))
         (moving job.traffic.ports rounds_in t (rows_in t) (places_in t) (within-in t) (at_ports t).0 (at_ports t).1)
 
-    pub slots-scheduled : (Moves : Moving) → IsSchedulerBy Moves scheduler_in → (t count : ℕ)
-        → IsScheduleBy Moves job.traffic.ports rounds_in t (places_in t) (slots_in t count)
-    slots-scheduled Moves moving t zero = tt
-    slots-scheduled Moves moving t (suc count) = (
-      slot-moved Moves moving t,
+    -- what is so of each slot is so of a schedule
+    pub slots-scheduled : (Moves : Moving)
+        → ((u : ℕ) → IsSlotBy Moves job.traffic.ports rounds_in u (rows_in u) (places_in u) (slot_of job u).decision)
+        → (t count : ℕ) → IsScheduleBy Moves job.traffic.ports rounds_in t (places_in t) (slots_in t count)
+    slots-scheduled Moves each t zero = tt
+    slots-scheduled Moves each t (suc count) = (
+      each t,
       subst (λ (places : Places). IsScheduleBy Moves job.traffic.ports rounds_in (t + 1) places (slots_in (t + 1) count)) (places-next t)
-          (slots-scheduled Moves moving (t + 1) count),
+          (slots-scheduled Moves each (t + 1) count),
     )
 
     -- ---- a pair that is served is a first cell

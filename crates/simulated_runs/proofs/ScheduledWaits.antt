@@ -10,7 +10,7 @@ use Rattle.scheduler_names.specs.declared.names.SchedulerName.TheVariants.{Firm,
 use Rattle.rotating_pick.specs.declared.kinds.Kind.TheVariants.{Uni}
 use Rattle.slot_match.specs.Rows.{AreWithin, row_of}
 use Rattle.pointer_state.specs.Places.{ArePointing}
-use Rattle.eslip_rounds.specs.Slots.{AreMoved, Moving}
+use Rattle.eslip_rounds.specs.Slots.{AreMoved, IsSlotBy, Moving}
 use Rattle.eslip_rounds.specs.Schedulers.{IsSchedulerBy}
 use Rattle.eslip_rounds.proofs.Scheduling.{IsSchedulerBy-decision_of}
 use Rattle.firm_rounds.specs.Slots.{AreMovedByFirm}
@@ -34,7 +34,7 @@ use Rattle.simulated_runs.proofs.Coming.{All-given, All-range}
 use Rattle.simulated_runs.proofs.HeadCells.{All-first, IsOwn, at-entered, at-left, owns}
 use Rattle.simulated_runs.proofs.MadeSlots.{after-is, filled-is, left-is, served_in}
 use Rattle.simulated_runs.proofs.ScheduledSlots.{IsFirst, all-slots, alone-in, at_ports, decided_in, first-named, named-first, place, rounds_in}
-use Rattle.simulated_runs.proofs.ScheduledSlots.{rows_in, places_in, scheduler_in, slots-kept, slots-scheduled, slots_in, within-in}
+use Rattle.simulated_runs.proofs.ScheduledSlots.{rows_in, places_in, slot-moved, slots-kept, slots-scheduled, slots_in, within-in}
 
 module _ (job : JobValue) (by : queueing_of job.settings.discipline ≡ ByPair) where
   -- the cell that comes to an input
@@ -106,12 +106,13 @@ module _ (job : JobValue) (by : queueing_of job.settings.discipline ≡ ByPair) 
 
 -- ---- the slots are a window
 module _ (job : JobValue) (traffic : IsTraffic job.traffic) (scheduled : is_ideal job.settings.discipline ≡ false) where
-  pub slots-window : (Moves : Moving) → IsSchedulerBy Moves (scheduler_in job traffic scheduled) → (count : ℕ)
-      → IsWindowBy Moves job.traffic.ports (rounds_in job traffic scheduled) 0 0 (places_in job 0) (slots_in job 0 count)
-  slots-window Moves moving count = record {
+  pub slots-window : (Moves : Moving) → ((u : ℕ) → IsSlotBy Moves job.traffic.ports (rounds_in job traffic scheduled) u (rows_in job u) (places_in job u)
+      (slot_of job u).decision)
+      → (count : ℕ) → IsWindowBy Moves job.traffic.ports (rounds_in job traffic scheduled) 0 0 (places_in job 0) (slots_in job 0 count)
+  slots-window Moves each count = record {
     pointing = subst (λ (n : ℕ). ArePointing n 0 (places_in job 0)) (at_ports job traffic scheduled 0).1
         ((at_ports job traffic scheduled 0).0.pointing 0 (omega arith));
-    schedule = slots-scheduled job traffic scheduled Moves moving 0 count;
+    schedule = slots-scheduled job traffic scheduled Moves each 0 count;
     within = all-slots job (AreWithin job.traffic.ports) (within-in job) 0 count;
     kept = slots-kept job traffic scheduled 0 count;
     clean = all-slots job (IsClean job.traffic.ports 0) (λ u i better j kind i_in less names. absurd (omega (arith, less))) 0 count;
@@ -132,7 +133,7 @@ waits-islip job t traffic good is =
     let moving = subst (λ (d : Discipline). IsSchedulerBy AreMoved (decision_named (scheduler_of d))) (sym is) IsSchedulerBy-decision_of in
     let some : 0 < rounds_in job traffic scheduled = omega (arith, rounds, good.settings.some_rounds) in
     let below = longest_wait-below_at_line_rate job.traffic.ports (rounds_in job traffic scheduled) 0 0 (places_in job 0) (slots_in job 0 t) traffic.some some
-    (slots-window job traffic scheduled AreMoved moving t) (slots-alone job traffic scheduled t) (slots-line_rate job (ap queueing_of is) 0 t) in
+    (slots-window job traffic scheduled AreMoved (slot-moved job traffic scheduled AreMoved moving) t) (slots-alone job traffic scheduled t) (slots-line_rate job (ap queueing_of is) 0 t) in
     subst (λ (wait : ℕ). wait < longest_service_at_line_rate job.traffic.ports job.settings.rounds) (sym (wait-told job traffic scheduled t))
     (subst (λ (r : ℕ). longest_wait job.traffic.ports 0 (map noted_of (slots_in job 0 t)) < longest_service_at_line_rate job.traffic.ports r) rounds below)
 
@@ -144,5 +145,5 @@ waits-firm job t traffic good is =
     let moving = subst (λ (d : Discipline). IsSchedulerBy AreMovedByFirm (decision_named (scheduler_of d))) (sym is) IsSchedulerBy-firm_decision in
     let some : 0 < rounds_in job traffic scheduled = omega (arith, rounds, good.settings.some_rounds) in
     let below = firm_longest_wait job.traffic.ports (rounds_in job traffic scheduled) 0 0 (places_in job 0) (slots_in job 0 t) traffic.some some
-    (slots-window job traffic scheduled AreMovedByFirm moving t) (slots-alone job traffic scheduled t) in
+    (slots-window job traffic scheduled AreMovedByFirm (slot-moved job traffic scheduled AreMovedByFirm moving) t) (slots-alone job traffic scheduled t) in
     subst (λ (wait : ℕ). wait < job.traffic.ports * job.traffic.ports) (sym (wait-told job traffic scheduled t)) below

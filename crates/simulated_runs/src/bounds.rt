@@ -4,7 +4,7 @@ ghost use Rattle.std.specs.Prelude.{◌≡◌, ◌*◌, ◌<◌, ℕ};
 ghost use Rattle.scheduler_names.specs.declared.names.SchedulerName.TheVariants.{Firm, Islip};
 ghost use Rattle.service_bound.specs.Waits.{longest_service_at_line_rate};
 ghost use Rattle.made_traffic.specs.Sources.{IsTraffic};
-ghost use Rattle.simulated_slots.specs.declared.discipline.Discipline.TheVariants.{Scheduled};
+ghost use Rattle.simulated_slots.specs.declared.discipline.Discipline.TheVariants.{Fifo, Scheduled};
 ghost use Rattle.simulated_slots.specs.Jobs.{IsJob, JobValue};
 ghost use Rattle.simulated_runs.specs.Numbers.{numbers_after};
 
@@ -16,4 +16,11 @@ pub fn longest_waits_are_bounded()
         → (numbers_after job t).longest_wait < longest_service_at_line_rate job.traffic.ports job.settings.rounds }
     ensures firm { (job : JobValue) (t : ℕ) → IsTraffic job.traffic → IsJob job → job.settings.discipline ≡ Scheduled Firm
         → (numbers_after job t).longest_wait < job.traffic.ports * job.traffic.ports }
+{}
+
+/// Under FIFO it is at most one less than there are ports, whatever the rounds that the job says: an input asks for one
+/// output alone, so a grant is never refused, and the output's pointer passes each other input once at most.
+pub fn fifo_waits_are_bounded()
+    ensures { (job : JobValue) (t : ℕ) → IsTraffic job.traffic → IsJob job → job.settings.discipline ≡ Fifo
+        → (numbers_after job t).longest_wait < job.traffic.ports }
 {}
