@@ -83,21 +83,21 @@ coming-ports job t = All-given (cell_at job t) (λ i. i < job.traffic.ports) (Is
 
 -- ---- the queues of cells
 -- a switch of n ports has all its queues
-record HasQueues (n : ℕ) (queues : Queues) : Type 0 where
-  ports : queues.ports ≡ n
-  count : length queues.cells ≡ queue_count queues.queueing n
+pub record HasQueues (n : ℕ) (queues : Queues) : Type 0 where
+  pub ports : queues.ports ≡ n
+  pub count : length queues.cells ≡ queue_count queues.queueing n
 
 place-inside : (queueing : Queueing) (n i j : ℕ) → i < n → j < n → queue_of queueing n i j < queue_count queueing n
 place-inside ByPair n i j input output = mul-add-lt i n j n input output
 place-inside ByInput n i j input output = input
 place-inside ByOutput n i j input output = output
 
-queue-inside : (n : ℕ) (queues : Queues) (c : ArrivedCell) → HasQueues n queues → IsOf n c → queue_for queues c.input c.output < length queues.cells
+pub queue-inside : (n : ℕ) (queues : Queues) (c : ArrivedCell) → HasQueues n queues → IsOf n c → queue_for queues c.input c.output < length queues.cells
 queue-inside n queues c has of =
     subst (λ (m : ℕ). queue_of queues.queueing m c.input c.output < length queues.cells) (sym has.ports)
     (subst (λ (count : ℕ). queue_of queues.queueing n c.input c.output < count) (sym has.count) (place-inside queues.queueing n c.input c.output of.0 of.1))
 
-HasQueues-with : (n : ℕ) (queues : Queues) (c : ArrivedCell) → HasQueues n queues → HasQueues n (queues_with queues c)
+pub HasQueues-with : (n : ℕ) (queues : Queues) (c : ArrivedCell) → HasQueues n queues → HasQueues n (queues_with queues c)
 unfolding queues_with
 HasQueues-with n queues c has = elim (cases_Bool (has_room queues c)) [
   | inl room ↦ rw room (record { ports = has.ports; count = length-set queues.cells _ _ ∙ has.count })
@@ -166,7 +166,7 @@ module _ (job : JobValue) where
           ≡ queue_count (queueing_of job.settings.discipline) job.traffic.ports
       length-made = length-replicate (queue_count (queueing_of job.settings.discipline) job.traffic.ports) []
 
-  HasQueues-before : (t : ℕ) → HasQueues job.traffic.ports (switch_before job t).queues
+  pub HasQueues-before : (t : ℕ) → HasQueues job.traffic.ports (switch_before job t).queues
   HasQueues-before zero = HasQueues-first
   HasQueues-before (suc t) = subst (λ (s : ℕ). HasQueues job.traffic.ports (switch_before job s).queues) (add-one t) (HasQueues-next t (HasQueues-before t))
 

@@ -27,7 +27,7 @@ All-first P (x ∷ xs) c all is = subst P (same is) (all 0 x (omega arith))
     same : ◌≡◌ {A = Option ArrivedCell} (Some x) (Some c) → x ≡ c
     same h = cc
 
-at_where : (R : List ArrivedCell → Type 0) (queues : Queues) (q k : ℕ) (cells : List ArrivedCell) → R (queue_at queues k) → (k ≡ q → R cells)
+pub at_where : (R : List ArrivedCell → Type 0) (queues : Queues) (q k : ℕ) (cells : List ArrivedCell) → R (queue_at queues k) → (k ≡ q → R cells)
     → R (queue_at (queues_where queues q cells) k)
 at_where R queues q k cells old new = elim (cases_eq k q) [
   | inl same ↦ elim (cases_lt q (length queues.cells)) [
@@ -64,7 +64,7 @@ module _ (P : ArrivedCell → Type 0) where
 abbrev pub IsOwn : Queueing → ℕ → ℕ → ArrivedCell → Type 0
 IsOwn queueing n q c = (c.input < n) × (c.output < n) × (queue_of queueing n c.input c.output ≡ q)
 
-abbrev IsOf : ℕ → ArrivedCell → Type 0
+abbrev pub IsOf : ℕ → ArrivedCell → Type 0
 IsOf n c = (c.input < n) × (c.output < n)
 
 pub record HasOwn (queueing : Queueing) (n : ℕ) (queues : Queues) : Type 0 where
@@ -90,7 +90,7 @@ module _ (queueing : Queueing) (n : ℕ) where
   pub place-of : (queues : Queues) (i j : ℕ) → HasOwn queueing n queues → queue_for queues i j ≡ queue_of queueing n i j
   place-of queues i j has = ap (λ (by : Queueing). queue_of by queues.ports i j) has.queues_by ∙ ap (λ (m : ℕ). queue_of queueing m i j) has.ports
 
-  HasOwn-with : (queues : Queues) (c : ArrivedCell) → IsOf n c → HasOwn queueing n queues → HasOwn queueing n (queues_with queues c)
+  pub HasOwn-with : (queues : Queues) (c : ArrivedCell) → IsOf n c → HasOwn queueing n queues → HasOwn queueing n (queues_with queues c)
   HasOwn-with queues c of has = record {
     ports = ports-with queues c ∙ has.ports;
     queues_by = by-with queues c ∙ has.queues_by;
@@ -134,7 +134,7 @@ module _ (job : JobValue) where
   owns-after t has = subst Owns (sym (left-is job t) ∙ sym (ap (λ switch. switch.queues) (after-is job t)))
       (HasOwn-left (queueing_of job.settings.discipline) job.traffic.ports (slot_of job t).filled (served_in job t) (owns-filled t has))
 
-  owns-before : (t : ℕ) → Owns (switch_before job t).queues
+  pub owns-before : (t : ℕ) → Owns (switch_before job t).queues
   owns-before zero = subst Owns (sym (before-first job)) (HasOwn-empty (queueing_of job.settings.discipline) job.traffic.ports job.settings.depth)
   owns-before (suc t) = subst (λ (s : ℕ). Owns (switch_before job s).queues) (add-one t) (owns-after t (owns-before t))
 

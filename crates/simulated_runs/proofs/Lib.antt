@@ -14,3 +14,6 @@ pub mod HeadCells
 pub mod ScheduledSlots
 pub mod ScheduledWaits
 pub mod FifoWaits
+pub mod IdealQueues
+pub mod OutputCells
+pub mod LeastWaiting

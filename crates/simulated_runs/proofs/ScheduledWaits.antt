@@ -133,7 +133,8 @@ waits-islip job t traffic good is =
     let moving = subst (λ (d : Discipline). IsSchedulerBy AreMoved (decision_named (scheduler_of d))) (sym is) IsSchedulerBy-decision_of in
     let some : 0 < rounds_in job traffic scheduled = omega (arith, rounds, good.settings.some_rounds) in
     let below = longest_wait-below_at_line_rate job.traffic.ports (rounds_in job traffic scheduled) 0 0 (places_in job 0) (slots_in job 0 t) traffic.some some
-    (slots-window job traffic scheduled AreMoved (slot-moved job traffic scheduled AreMoved moving) t) (slots-alone job traffic scheduled t) (slots-line_rate job (ap queueing_of is) 0 t) in
+    (slots-window job traffic scheduled AreMoved (slot-moved job traffic scheduled AreMoved moving) t)
+    (slots-alone job traffic scheduled t) (slots-line_rate job (ap queueing_of is) 0 t) in
     subst (λ (wait : ℕ). wait < longest_service_at_line_rate job.traffic.ports job.settings.rounds) (sym (wait-told job traffic scheduled t))
     (subst (λ (r : ℕ). longest_wait job.traffic.ports 0 (map noted_of (slots_in job 0 t)) < longest_service_at_line_rate job.traffic.ports r) rounds below)
 
@@ -145,5 +146,6 @@ waits-firm job t traffic good is =
     let moving = subst (λ (d : Discipline). IsSchedulerBy AreMovedByFirm (decision_named (scheduler_of d))) (sym is) IsSchedulerBy-firm_decision in
     let some : 0 < rounds_in job traffic scheduled = omega (arith, rounds, good.settings.some_rounds) in
     let below = firm_longest_wait job.traffic.ports (rounds_in job traffic scheduled) 0 0 (places_in job 0) (slots_in job 0 t) traffic.some some
-    (slots-window job traffic scheduled AreMovedByFirm (slot-moved job traffic scheduled AreMovedByFirm moving) t) (slots-alone job traffic scheduled t) in
+    (slots-window job traffic scheduled AreMovedByFirm (slot-moved job traffic scheduled AreMovedByFirm moving) t)
+    (slots-alone job traffic scheduled t) in
     subst (λ (wait : ℕ). wait < job.traffic.ports * job.traffic.ports) (sym (wait-told job traffic scheduled t)) below
