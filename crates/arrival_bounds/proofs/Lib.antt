@@ -1,0 +1,3 @@
+mod Lines
+mod Delays
+mod Buffers
