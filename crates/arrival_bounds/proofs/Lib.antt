@@ -1,3 +1,9 @@
 mod Lines
 mod Delays
 mod Buffers
+mod UnicastRuns
+mod Taking
+mod Coming
+mod Bounded
+mod Holding
+mod Bounds

@@ -1,0 +1,28 @@
+//! Laws on runs of plans, from how the plan's packets arrive alone: the contracts of functions that do nothing.
+
+ghost use Rattle.std.specs.Prelude.{ℕ, ◌+◌, ◌-◌, ◌*◌, ◌<◌, ◌≤◌};
+ghost use Rattle.eslip_rounds.specs.Schedulers.{Scheduler};
+ghost use Rattle.switch_plan.specs.GoodPlans.{SwitchPlan};
+ghost use Rattle.arrival_bounds.specs.Arrivals.{IsShaped, ArePairsShaped};
+ghost use Rattle.arrival_bounds.specs.Waits.{IsUnicastRun, WaitsAtMost, HoldsAtMost};
+
+/// Where in any `2 * most + 1` slots in a row at most `most + 2` cells arrive at any input and for any output, both together,
+/// no cell waits more than `most` slots. So it is where in any `4 * cells - 3` slots in a row at most `cells` cells arrive at
+/// each input, and at most `cells` for each output: no cell waits more than `2 * cells - 2` slots.
+pub fn run_delays_are_short()
+    ensures pairs { (scheduler : Scheduler) (plan : SwitchPlan) (most : ℕ) → IsUnicastRun scheduler plan
+        → ArePairsShaped plan (2 * most + 1) (most + 2) → WaitsAtMost scheduler plan most }
+    ensures lines { (scheduler : Scheduler) (plan : SwitchPlan) (most cells : ℕ) → IsUnicastRun scheduler plan
+        → IsShaped plan (2 * most + 1) cells → 2 * cells ≤ most + 2 → WaitsAtMost scheduler plan most }
+    ensures window { (scheduler : Scheduler) (plan : SwitchPlan) (cells : ℕ) → IsUnicastRun scheduler plan → 0 < cells
+        → IsShaped plan (4 * cells - 3) cells → WaitsAtMost scheduler plan (2 * cells - 2) }
+{}
+
+/// Where in any `3 * cells - 1` slots in a row at most `cells` cells arrive at each input, and at most `cells` for each
+/// output, no input ever holds more than `cells` cells, and no more than `cells` ever wait for an output.
+pub fn run_buffers_are_small()
+    ensures any { (scheduler : Scheduler) (plan : SwitchPlan) (slots cells : ℕ) → IsUnicastRun scheduler plan → 0 < slots
+        → IsShaped plan slots cells → 3 * cells ≤ slots + 1 → HoldsAtMost scheduler plan cells }
+    ensures window { (scheduler : Scheduler) (plan : SwitchPlan) (cells : ℕ) → IsUnicastRun scheduler plan → 0 < cells
+        → IsShaped plan (3 * cells - 1) cells → HoldsAtMost scheduler plan cells }
+{}
