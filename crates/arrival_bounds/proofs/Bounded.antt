@@ -35,7 +35,8 @@ rising f step t (suc u) le = elim (cases_eq t (suc u)) [
   both : {x y z : ℕ} → x ≤ y → y ≤ z → x ≤ z
   both p q = omega arith
 
-pub counts_are_served : (scheduler : Scheduler) (plan : SwitchPlan) → IsScheduler scheduler → IsGood plan → ports_of plan ≤ plan.rounds → MatchesUnicast scheduler plan
+pub counts_are_served : (scheduler : Scheduler) (plan : SwitchPlan) → IsScheduler scheduler → IsGood plan → ports_of plan ≤ plan.rounds
+    → MatchesUnicast scheduler plan
     → AreServed (ports_of plan) LEVELS (came_under scheduler plan) (gone_under scheduler plan)
 counts_are_served scheduler plan scheduling good enough unicast = record {
   none = λ i j l. refl;

@@ -5,7 +5,7 @@ use Rattle.eslip_rounds.specs.Schedulers.{Scheduler}
 use Rattle.switch_plan.specs.GoodPlans.{SwitchPlan}
 use Rattle.run_laws.specs.Runs.{ports_of}
 use Rattle.arrival_bounds.specs.Counts.{AreServed}
-use Rattle.arrival_bounds.specs.Arrivals.{IsShaped, ArePairsShaped}
+use Rattle.arrival_bounds.specs.Arrivals.{IsShaped, ArePairsShaped, ArePairsFew}
 use Rattle.arrival_bounds.specs.Waits.{IsUnicastRun, came_under, gone_under, WaitsAtMost, HoldsAtMost}
 use Rattle.arrival_bounds.proofs.Delays.{gone_soon}
 use Rattle.arrival_bounds.proofs.Buffers.{lines_hold}
@@ -28,13 +28,19 @@ of_third : (c : ℕ) → 0 < c → (0 < 3 * c - 1) × (3 * c ≤ 3 * c - 1 + 1)
 of_third c some = (omega arith, omega arith)
 
 module _ (scheduler : Scheduler) (plan : SwitchPlan) (run : IsUnicastRun scheduler plan) where
-  served : AreServed (ports_of plan) LEVELS (came_under scheduler plan) (gone_under scheduler plan)
+  pub served : AreServed (ports_of plan) LEVELS (came_under scheduler plan) (gone_under scheduler plan)
   served = counts_are_served scheduler plan run.scheduling run.good run.rounds (matches_unicast scheduler run.scheduling plan run.good run.unicast)
 
   pub delays_by_pairs : (most : ℕ) → ArePairsShaped plan (2 * most + 1) (most + 2) → WaitsAtMost scheduler plan most
   delays_by_pairs most shaped i j l t i_in j_in l_in =
       gone_soon (ports_of plan) LEVELS most (came_under scheduler plan) (gone_under scheduler plan) served
       (λ x y m u x_in y_in m_in used. pair_window scheduler plan (2 * most + 1) (most + 2) shaped x y u x_in y_in) (suc t) i j l t (omega arith) i_in j_in l_in
+
+  pub delays_by_all : (cells : ℕ) → ArePairsFew plan cells → WaitsAtMost scheduler plan (cells - 2)
+  delays_by_all cells few =
+      delays_by_pairs (cells - 2) (λ i j t i_in j_in. up _ cells (few (2 * (cells - 2) + 1) i j t i_in j_in)) where
+        up : (x c : ℕ) → x ≤ c → x ≤ c - 2 + 2
+        up x c le = omega arith
 
   pub delays_by_lines : (most cells : ℕ) → IsShaped plan (2 * most + 1) cells → 2 * cells ≤ most + 2 → WaitsAtMost scheduler plan most
   delays_by_lines most cells shaped few =

@@ -41,7 +41,8 @@ one_queue (OfOutput a b) n x =
       by_port true = range_sum-one 0 LEVELS b x
       by_port false = let none = sum_by-zero (range_with_len 0 LEVELS) in omega (arith, none)
 one_queue (OfLevel m) n x =
-    let none = sum_by-none (λ j. sum_by (λ l. let y : ℕ = 0 in y) (range_with_len 0 LEVELS)) (range_with_len 0 n) (λ j. sum_by-zero (range_with_len 0 LEVELS)) in
+    let none = sum_by-none (λ j. sum_by (λ l. let y : ℕ = 0 in y) (range_with_len 0 LEVELS)) (range_with_len 0 n)
+    (λ j. sum_by-zero (range_with_len 0 LEVELS)) in
     omega (arith, none)
 
 fewer : (a b c d : Bool) (x : ℕ) → (if (a && b && c) && d then x else 0) ≤ (if b then (if a then x else 0) else 0)
@@ -69,7 +70,8 @@ enter-is card j l k s p = packet_goes j k (size_of p) p.fan (is_routed p && is_q
 enter_row : (card : Plan) (s : ℕ → ℕ → Passed) (n : ℕ) (o : Option (ℕ × Planned))
     → sum_by (λ j. sum_by (λ l. enter card j l (s j l) o) (range_with_len 0 LEVELS)) (range_with_len 0 n) ≤ cells_of o
 enter_row card s n None =
-    let none = sum_by-none (λ j. sum_by (λ l. let y : ℕ = 0 in y) (range_with_len 0 LEVELS)) (range_with_len 0 n) (λ j. sum_by-zero (range_with_len 0 LEVELS)) in
+    let none = sum_by-none (λ j. sum_by (λ l. let y : ℕ = 0 in y) (range_with_len 0 LEVELS)) (range_with_len 0 n)
+    (λ j. sum_by-zero (range_with_len 0 LEVELS)) in
     omega (arith, none)
 enter_row card s n (Some (k, p)) =
     let x = if is_routed p then size_of p else 0 in
@@ -81,7 +83,8 @@ enter_row card s n (Some (k, p)) =
     let one = one_queue (queue_of p) n x in
     omega (arith, few, one)
 
-enter_column : (card : Plan) (s : ℕ → Passed) (j : ℕ) (o : Option (ℕ × Planned)) → sum_by (λ l. enter card j l (s l) o) (range_with_len 0 LEVELS) ≤ cells_to j o
+enter_column : (card : Plan) (s : ℕ → Passed) (j : ℕ) (o : Option (ℕ × Planned))
+    → sum_by (λ l. enter card j l (s l) o) (range_with_len 0 LEVELS) ≤ cells_to j o
 enter_column card s j None = let none = sum_by-zero (range_with_len 0 LEVELS) in omega (arith, none)
 enter_column card s j (Some (k, p)) =
     let x = if is_routed p && has p.fan j then size_of p else 0 in
@@ -95,13 +98,15 @@ enter_column card s j (Some (k, p)) =
 pub lines-plus : (a b : ℕ → ℕ → ℕ) (n m : ℕ) → sum_by (λ j. sum_by (λ l. a j l + b j l) (range_with_len 0 m)) (range_with_len 0 n)
     ≡ sum_by (λ j. sum_by (a j) (range_with_len 0 m)) (range_with_len 0 n) + sum_by (λ j. sum_by (b j) (range_with_len 0 m)) (range_with_len 0 n)
 lines-plus a b n m =
-    sum_by-same (λ j. sum_by (λ l. a j l + b j l) (range_with_len 0 m)) (λ j. sum_by (a j) (range_with_len 0 m) + sum_by (b j) (range_with_len 0 m)) (range_with_len 0 n)
+    sum_by-same (λ j. sum_by (λ l. a j l + b j l) (range_with_len 0 m)) (λ j. sum_by (a j) (range_with_len 0 m) + sum_by (b j) (range_with_len 0 m))
+    (range_with_len 0 n)
     (λ j. sum_by-plus (a j) (b j) (range_with_len 0 m))
     ∙ sum_by-plus (λ j. sum_by (a j) (range_with_len 0 m)) (λ j. sum_by (b j) (range_with_len 0 m)) (range_with_len 0 n)
 
 lines-same : (a b : ℕ → ℕ → ℕ) (n m : ℕ) → ((j l : ℕ) → a j l ≡ b j l)
     → sum_by (λ j. sum_by (a j) (range_with_len 0 m)) (range_with_len 0 n) ≡ sum_by (λ j. sum_by (b j) (range_with_len 0 m)) (range_with_len 0 n)
-lines-same a b n m same = sum_by-same (λ j. sum_by (a j) (range_with_len 0 m)) (λ j. sum_by (b j) (range_with_len 0 m)) (range_with_len 0 n)
+lines-same a b n m same =
+    sum_by-same (λ j. sum_by (a j) (range_with_len 0 m)) (λ j. sum_by (b j) (range_with_len 0 m)) (range_with_len 0 n)
     (λ j. sum_by-same (a j) (b j) (range_with_len 0 m) (same j))
 
 -- ---- slot by slot
@@ -126,6 +131,13 @@ module _ (scheduler : Scheduler) (plan : SwitchPlan) where
       ∙ ap length (filter-append (λ (cell : FanCell). has cell.fan j) (old i j l t).entered comes)
       ∙ length-append (to_output j (old i j l t).entered) (to_output j comes)
       ∙ ap (λ b. length (to_output j b.entered) + fresh i j l t) (before-same scheduler plan i t (suc t) (omega arith) q)
+
+  -- none enters where no packet arrives
+  pub came-still : (i j l t : ℕ) → arriving (card_at plan i) t ≡ None → came i j l (suc t) ≡ came i j l t
+  came-still i j l t none =
+      let more = came-more i j l t in
+      let fresh_none : fresh i j l t ≡ 0 = ap (enter (card_at plan i) j l (old i j l t)) none in
+      omega arith
 
   input_more : (i t : ℕ) → of_input (ports_of plan) LEVELS came i (suc t) ≤ of_input (ports_of plan) LEVELS came i t + arriving_at plan i t
   input_more i t =

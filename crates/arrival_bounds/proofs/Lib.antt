@@ -7,3 +7,4 @@ mod Coming
 mod Bounded
 mod Holding
 mod Bounds
+mod RunEnd

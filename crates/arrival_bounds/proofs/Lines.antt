@@ -17,7 +17,8 @@ module _ (n levels : ℕ) where
   pub line-less : (f g : Counts) (i j l t u : ℕ) → j < n → l < levels → f i j l t + 1 ≤ g i j l u
       → ((y m : ℕ) → y < n → m < levels → f i y m t ≤ g i y m u) → of_input n levels f i t + 1 ≤ of_input n levels g i u
   line-less f g i j l t u j_in l_in less le =
-      range_sum-less 0 n (λ y. sum_by (λ m. f i y m t) (range_with_len 0 levels)) (λ y. sum_by (λ m. g i y m u) (range_with_len 0 levels)) j (omega arith) (omega arith)
+      range_sum-less 0 n (λ y. sum_by (λ m. f i y m t) (range_with_len 0 levels)) (λ y. sum_by (λ m. g i y m u) (range_with_len 0 levels)) j (omega arith)
+      (omega arith)
       (range_sum-less 0 levels (λ m. f i j m t) (λ m. g i j m u) l (omega arith) (omega arith) less (λ m above below. le j m (omega arith) (omega arith)))
       (λ y from inside. range_sum-le 0 levels (λ m. f i y m t) (λ m. g i y m u) (λ m above below. le y m (omega arith) (omega arith)))
 
@@ -57,7 +58,8 @@ climb a b a_rises b_rises first (suc count) each =
     let t = first + count in
     subst (λ v. a first + b first + suc count ≤ a v + b v) (next first count)
     (one_more (a first) (b first) count (a t) (b t) (a (t + 1)) (b (t + 1))
-    (climb a b a_rises b_rises first count (λ u from below. each u from (later u first count below))) (a_rises t) (b_rises t) (each t (at first count) (last first count))) where
+    (climb a b a_rises b_rises first count (λ u from below. each u from (later u first count below))) (a_rises t) (b_rises t)
+    (each t (at first count) (last first count))) where
       next : (x y : ℕ) → x + y + 1 ≡ x + suc y
       next x y = omega arith
 

@@ -84,7 +84,7 @@ module _ (scheduler : Scheduler) (scheduling : IsScheduler scheduler) (plan : Sw
       ∙ (uni-in (card_at plan i) (good-card plan good i inside).good (parts_under scheduler plan i t) t level j named).2
 
   -- a unicast pair takes a cell
-  pair_takes : (t i j level : ℕ) → i < ports_of plan → Serves (matched_in scheduler plan t) i j level Uni
+  pub pair_takes : (t i j level : ℕ) → i < ports_of plan → Serves (matched_in scheduler plan t) i j level Uni
       → gone scheduler plan i j level t + 1 ≤ gone scheduler plan i j level (suc t)
   pair_takes t i j level inside pair =
       let more = gone-more scheduler plan i j level t in
@@ -96,7 +96,8 @@ module _ (scheduler : Scheduler) (scheduling : IsScheduler scheduler) (plan : Sw
       omega arith
 
   -- the slot is maximal
-  maximal : (t : ℕ) → ports_of plan ≤ plan.rounds → IsMaximal (ports_of plan) (slot_rows (ports_of plan) (posts_under scheduler plan) t) (matched_in scheduler plan t)
+  maximal : (t : ℕ) → ports_of plan ≤ plan.rounds
+      → IsMaximal (ports_of plan) (slot_rows (ports_of plan) (posts_under scheduler plan) t) (matched_in scheduler plan t)
   maximal t enough =
       let n = ports_of plan in
       let posts = posts_under scheduler plan in

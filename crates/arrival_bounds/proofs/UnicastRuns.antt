@@ -23,7 +23,8 @@ use Rattle.arrival_bounds.specs.Arrivals.{AreUnicast}
 
 -- nothing is matched as multicast
 abbrev pub MatchesUnicast : Scheduler → SwitchPlan → Type 0
-MatchesUnicast scheduler plan = (i j l t : ℕ) (kind : Kind) → Serves (decision_under scheduler (setup_for plan) (posts_under scheduler plan) t).matched i j l kind
+MatchesUnicast scheduler plan = (i j l t : ℕ) (kind : Kind)
+    → Serves (decision_under scheduler (setup_for plan) (posts_under scheduler plan) t).matched i j l kind
     → kind ≡ Uni
 
 fan_some : (fan : ℕ) → not (fan == 0) ≡ true → fan ≢ 0

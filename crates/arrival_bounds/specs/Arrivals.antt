@@ -38,3 +38,7 @@ pub record IsShaped (plan : SwitchPlan) (slots most : ℕ) : Type 0 where
 abbrev pub ArePairsShaped : SwitchPlan → ℕ → ℕ → Type 0
 ArePairsShaped plan slots most = (i j t : ℕ) → i < ports_of plan → j < ports_of plan
     → sum_by (arriving_at plan i) (range_with_len t slots) + sum_by (arriving_for plan j) (range_with_len t slots) ≤ most
+
+-- all cells that arrive at any input and all that arrive for any output are at most `most`, both together: in any slots in a row
+abbrev pub ArePairsFew : SwitchPlan → ℕ → Type 0
+ArePairsFew plan most = (slots : ℕ) → ArePairsShaped plan slots most

@@ -2,13 +2,16 @@
 
 ghost use Rattle.std.specs.Prelude.{ℕ, ◌+◌, ◌-◌, ◌*◌, ◌<◌, ◌≤◌};
 ghost use Rattle.eslip_rounds.specs.Schedulers.{Scheduler};
-ghost use Rattle.switch_plan.specs.GoodPlans.{SwitchPlan};
-ghost use Rattle.arrival_bounds.specs.Arrivals.{IsShaped, ArePairsShaped};
+ghost use Rattle.switch_plan.specs.GoodPlans.{SwitchPlan, packets_in};
+ghost use Rattle.switch_plan.specs.Totals.{greatest_slots};
+ghost use Rattle.run_laws.specs.Ends.{IsLengthUnder};
+ghost use Rattle.arrival_bounds.specs.Arrivals.{IsShaped, ArePairsShaped, ArePairsFew};
 ghost use Rattle.arrival_bounds.specs.Waits.{IsUnicastRun, WaitsAtMost, HoldsAtMost};
 
 /// Where in any `2 * most + 1` slots in a row at most `most + 2` cells arrive at any input and for any output, both together,
 /// no cell waits more than `most` slots. So it is where in any `4 * cells - 3` slots in a row at most `cells` cells arrive at
-/// each input, and at most `cells` for each output: no cell waits more than `2 * cells - 2` slots.
+/// each input, and at most `cells` for each output: no cell waits more than `2 * cells - 2` slots. And no cell ever waits
+/// longer than as many slots as all cells of any input and all for any output are, both together, but two.
 pub fn run_delays_are_short()
     ensures pairs { (scheduler : Scheduler) (plan : SwitchPlan) (most : ℕ) → IsUnicastRun scheduler plan
         → ArePairsShaped plan (2 * most + 1) (most + 2) → WaitsAtMost scheduler plan most }
@@ -16,6 +19,8 @@ pub fn run_delays_are_short()
         → IsShaped plan (2 * most + 1) cells → 2 * cells ≤ most + 2 → WaitsAtMost scheduler plan most }
     ensures window { (scheduler : Scheduler) (plan : SwitchPlan) (cells : ℕ) → IsUnicastRun scheduler plan → 0 < cells
         → IsShaped plan (4 * cells - 3) cells → WaitsAtMost scheduler plan (2 * cells - 2) }
+    ensures all { (scheduler : Scheduler) (plan : SwitchPlan) (cells : ℕ) → IsUnicastRun scheduler plan → ArePairsFew plan cells
+        → WaitsAtMost scheduler plan (cells - 2) }
 {}
 
 /// Where in any `3 * cells - 1` slots in a row at most `cells` cells arrive at each input, and at most `cells` for each
@@ -25,4 +30,13 @@ pub fn run_buffers_are_small()
         → IsShaped plan slots cells → 3 * cells ≤ slots + 1 → HoldsAtMost scheduler plan cells }
     ensures window { (scheduler : Scheduler) (plan : SwitchPlan) (cells : ℕ) → IsUnicastRun scheduler plan → 0 < cells
         → IsShaped plan (3 * cells - 1) cells → HoldsAtMost scheduler plan cells }
+{}
+
+/// Where no cell waits more than `most` slots, the run ends within `most + 1` slots after the arrival slots. So it ends, where all
+/// cells of any input and all for any output are two or more, as many slots after the last arrival as these cells, or before.
+pub fn runs_end_soon()
+    ensures waits { (scheduler : Scheduler) (plan : SwitchPlan) (most slots : ℕ) → IsUnicastRun scheduler plan → WaitsAtMost scheduler plan most
+        → IsLengthUnder scheduler plan slots → slots ≤ greatest_slots (packets_in plan) + most + 1 }
+    ensures all { (scheduler : Scheduler) (plan : SwitchPlan) (cells slots : ℕ) → IsUnicastRun scheduler plan → ArePairsFew plan cells
+        → IsLengthUnder scheduler plan slots → slots ≤ greatest_slots (packets_in plan) + (cells - 2) + 1 }
 {}
