@@ -46,7 +46,8 @@ counts_are_served scheduler plan scheduling good enough unicast = record {
       (λ u below. servable scheduler scheduling plan good i u t i_in below);
   takes = λ i j l t i_in j_in l_in left.
       subst (λ u. (of_input (ports_of plan) LEVELS (gone_under scheduler plan) i t < of_input (ports_of plan) LEVELS (gone_under scheduler plan) i u)
-      ⊎ (for_output (ports_of plan) LEVELS (gone_under scheduler plan) j t < for_output (ports_of plan) LEVELS (gone_under scheduler plan) j u)) (sym (add-one t))
+      ⊎ (for_output (ports_of plan) LEVELS (gone_under scheduler plan) j t < for_output (ports_of plan) LEVELS (gone_under scheduler plan) j u))
+      (sym (add-one t))
       (slot_takes scheduler scheduling plan good i j l t enough unicast i_in j_in l_in
       (subst (λ u. gone_under scheduler plan i j l u < came_under scheduler plan i j l u) (add-one t) left));
 } where

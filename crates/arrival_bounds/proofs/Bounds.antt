@@ -24,7 +24,7 @@ both x y c m p q r = omega arith
 quarter : (c : ℕ) → 0 < c → (2 * (2 * c - 2) + 1 ≡ 4 * c - 3) × (2 * c ≤ 2 * c - 2 + 2)
 quarter c some = (omega arith, omega arith)
 
-of_third : (c : ℕ) → 0 < c → (0 < 3 * c - 1) × (3 * c ≤ 3 * c - 1 + 1)
+pub of_third : (c : ℕ) → 0 < c → (0 < 3 * c - 1) × (3 * c ≤ 3 * c - 1 + 1)
 of_third c some = (omega arith, omega arith)
 
 module _ (scheduler : Scheduler) (plan : SwitchPlan) (run : IsUnicastRun scheduler plan) where

@@ -71,7 +71,8 @@ positive : (f : ℕ → ℕ) (g e : ℕ) → f 0 ≡ 0 → g < f e → 0 < e
 positive f g zero none left = absurd (nothing g (f 0) none left)
 positive f g (suc e) none left = one e
 
-module _ (n levels slots : ℕ) (came gone : Counts) (maximal : AreServed n levels came gone) (r k : ℕ → ℕ) (window : ComeAtMost n levels came slots r k) (some : 0 < slots)
+module _ (n levels slots : ℕ) (came gone : Counts) (maximal : AreServed n levels came gone) (r k : ℕ → ℕ)
+    (window : ComeAtMost n levels came slots r k) (some : 0 < slots)
     (used : (i j l t : ℕ) → i < n → j < n → l < levels → 0 < came i j l t → r i + 2 * k j ≤ slots + 1) where
   -- where an input and every output held no more in an earlier slot, the input holds no more
   pub input_holds : (i t : ℕ) → i < n
@@ -84,7 +85,8 @@ module _ (n levels slots : ℕ) (came gone : Counts) (maximal : AreServed n leve
         let e = t + 1 - slots in
         let win = window.inputs i e i_in in
         let up = line-le n levels came came i (t + 1) (e + slots) (λ y m y_in m_in. maximal.comes i y m (t + 1) (e + slots) (reach t slots)) in
-        let old = queue_less n levels gone came i t e (older (of_input n levels gone i t) (r i) (of_input n levels came i (t + 1)) (of_input n levels came i (e + slots)) (of_input n levels came i e) late up win) in
+        let old = queue_less n levels gone came i t e (older (of_input n levels gone i t) (r i) (of_input n levels came i (t + 1))
+        (of_input n levels came i (e + slots)) (of_input n levels came i e) late up win) in
         waited old.0 old.1 old.2 old.3 old.4 late
   ] where
     waited : (j l : ℕ) → j < n → l < levels → gone i j l t < came i j l (t + 1 - slots) → of_input n levels gone i t + r i < of_input n levels came i (t + 1)
@@ -113,9 +115,11 @@ module _ (n levels slots : ℕ) (came gone : Counts) (maximal : AreServed n leve
         let here = still_one (gone i j l t) (came i j l (b + 1)) (came i j l t) left' (maximal.comes i j l (b + 1) t (starts b slots t at.0 some)) in
         let less = line-less n levels (turned gone) (turned came) j i l t t i_in l_in here (λ x m x_in m_in. maximal.few x j m t x_in j_in) in
         absurd (too_few slots (r i) (k j) (A b) (A t) (B b) (B t) (A' (b + 1)) (A' (t + 1)) (B' (b + 1)) (B' t) taken' late win (held b at.1)
-        less (both_up (B' t) (B' (t + 1)) (B' (b + 1) + k j) last win') (held' j b j_in at.1) (used i j l t i_in j_in l_in (some_of (gone i j l t) (came i j l t) here)))
+        less (both_up (B' t) (B' (t + 1)) (B' (b + 1) + k j) last win') (held' j b j_in at.1)
+        (used i j l t i_in j_in l_in (some_of (gone i j l t) (came i j l t) here)))
 
-module _ (n levels slots : ℕ) (came gone : Counts) (maximal : AreServed n levels came gone) (r k : ℕ → ℕ) (window : ComeAtMost n levels came slots r k) (some : 0 < slots)
+module _ (n levels slots : ℕ) (came gone : Counts) (maximal : AreServed n levels came gone) (r k : ℕ → ℕ)
+    (window : ComeAtMost n levels came slots r k) (some : 0 < slots)
     (used : AreSmall n levels came slots r k) where
   lines_below : (m t : ℕ) → t < m → (i : ℕ) → i < n
       → (of_input n levels came i (t + 1) ≤ of_input n levels gone i t + r i) × (for_output n levels came i (t + 1) ≤ for_output n levels gone i t + k i)
@@ -123,7 +127,8 @@ module _ (n levels slots : ℕ) (came gone : Counts) (maximal : AreServed n leve
   lines_below (suc m) t below i i_in = (
     input_holds n levels slots came gone maximal r k window some (λ i j l t i_in j_in l_in now. (used i j l t i_in j_in l_in now).0) i t i_in
         (λ b before. (lines_below m b (earlier b t m before below) i i_in).0) (λ j b j_in before. (lines_below m b (earlier b t m before below) j j_in).1),
-    input_holds n levels slots (turned came) (turned gone) (turned_maximal n levels came gone maximal) k r (record { inputs = window.outputs; outputs = window.inputs }) some
+    input_holds n levels slots (turned came) (turned gone) (turned_maximal n levels came gone maximal) k r
+        (record { inputs = window.outputs; outputs = window.inputs }) some
         (λ j i l t j_in i_in l_in now. exchanged (r i) (k j) slots (used i j l t i_in j_in l_in now).1) i t i_in
         (λ b before. (lines_below m b (earlier b t m before below) i i_in).1) (λ j b j_in before. (lines_below m b (earlier b t m before below) j j_in).0),
   ) where

@@ -54,7 +54,8 @@ module _ (n levels most : ℕ) (came gone : Counts) (maximal : AreServed n level
         (λ x m x_in m_in. maximal.few x j m u x_in j_in) in
         let row_end = line-le n levels came came i u end (λ y m y_in m_in. maximal.comes i y m u end (omega arith)) in
         let column_end = line-le n levels (turned came) (turned came) j u end (λ x m x_in m_in. maximal.comes x j m u end (omega arith)) in
-        let old = λ (x y m : ℕ) (x_in : x < n) (y_in : y < n) (m_in : m < levels). gone_old x y m r (gone_soon k x y m (r - most) (omega arith) x_in y_in m_in) in
+        let old = λ (x y m : ℕ) (x_in : x < n) (y_in : y < n) (m_in : m < levels).
+        gone_old x y m r (gone_soon k x y m (r - most) (omega arith) x_in y_in m_in) in
         let row_old = line-le n levels came gone i e r (λ y m y_in m_in. old i y m i_in y_in m_in) in
         let column_old = line-le n levels (turned came) (turned gone) j e r (λ x m x_in m_in. old x j m x_in j_in m_in) in
         absurd (omega arith)

@@ -8,3 +8,5 @@ mod Bounded
 mod Holding
 mod Bounds
 mod RunEnd
+mod Depths
+mod Dropping

@@ -1,6 +1,6 @@
 -- A run ends soon after the last arrival where no cell waits long: then nothing waits any more.
-use Rattle.std.proofs.Common.{◌≡◌, ◌∙◌, ℕ, zero, suc, ◌+◌, ◌-◌, ◌<◌, ◌≤◌, List, [], ◌∷◌, length, Option, None, Some, refl, sym, ap, subst, arith, inl, inr}
-use Rattle.std.specs.Prelude.{slice_get, slice_index_or, fold, map, max}
+use Rattle.std.proofs.Common.{◌≡◌, ◌∙◌, ℕ, zero, suc, ◌+◌, ◌-◌, ◌<◌, ◌≤◌, List, [], ◌∷◌, length, Option, None, Some, refl, ap, arith, inl, inr}
+use Rattle.std.specs.Prelude.{slice_get, slice_index_or, fold, max}
 use Rattle.std.proofs.lemmas.Bool.{cases_lt}
 use Rattle.std.proofs.lemmas.List.{get_or-map, length-map}
 use Rattle.std.proofs.lemmas.Option.{none-some, same_Some}
@@ -69,7 +69,8 @@ module _ (plan : SwitchPlan) (good : IsGood plan) where
         absurd (omega (arith, found.3))
 
   -- what has come by then is all
-  came-all : (scheduler : Scheduler) (i j l k : ℕ) → i < ports_of plan → came_under scheduler plan i j l (arrivals + k) ≡ came_under scheduler plan i j l arrivals
+  came-all : (scheduler : Scheduler) (i j l k : ℕ) → i < ports_of plan
+      → came_under scheduler plan i j l (arrivals + k) ≡ came_under scheduler plan i j l arrivals
   came-all scheduler i j l zero inside = ap (came_under scheduler plan i j l) (at arrivals) where
     at : (x : ℕ) → x + 0 ≡ x
     at x = omega arith

@@ -41,6 +41,13 @@ module _ (scheduler : Scheduler) (plan : SwitchPlan) where
   abbrev gone : Counts
   gone = gone_under scheduler plan
 
+  -- of all queues of an input, and of all for an output
+  abbrev gone_at : ℕ → ℕ → ℕ
+  gone_at = of_input (ports_of plan) LEVELS gone
+
+  abbrev gone_for : ℕ → ℕ → ℕ
+  gone_for = for_output (ports_of plan) LEVELS gone
+
   -- what slot t grants
   abbrev grant_of : (i j l t : ℕ) → List FanCell
   grant_of i j l t =
@@ -126,39 +133,41 @@ module _ (scheduler : Scheduler) (scheduling : IsScheduler scheduler) (plan : Sw
 
   pub slot_takes : (i j l t : ℕ) → ports_of plan ≤ plan.rounds → MatchesUnicast scheduler plan → i < ports_of plan → j < ports_of plan → l < LEVELS
       → gone scheduler plan i j l (suc t) < came_under scheduler plan i j l (suc t)
-      → (of_input (ports_of plan) LEVELS (gone scheduler plan) i t < of_input (ports_of plan) LEVELS (gone scheduler plan) i (suc t))
-      ⊎ (for_output (ports_of plan) LEVELS (gone scheduler plan) j t < for_output (ports_of plan) LEVELS (gone scheduler plan) j (suc t))
+      → (gone_at scheduler plan i t < gone_at scheduler plan i (suc t))
+      ⊎ (gone_for scheduler plan j t < gone_for scheduler plan j (suc t))
   slot_takes i j l t enough unicast i_in j_in l_in left = by_output (fed_of (matched_in scheduler plan t) j) refl where
     whole : IsMatch (ports_of plan) (matched_in scheduler plan t)
     whole = (sound scheduler scheduling plan good t).matches
 
     row_gains : (k level : ℕ) → Serves (matched_in scheduler plan t) i k level Uni
-        → of_input (ports_of plan) LEVELS (gone scheduler plan) i t < of_input (ports_of plan) LEVELS (gone scheduler plan) i (suc t)
+        → gone_at scheduler plan i t < gone_at scheduler plan i (suc t)
     row_gains k level pair =
         let there = fed_of-lt (matched_in scheduler plan t) k (record { input = i; level = level; kind = Uni }) pair in
         let count = (sound scheduler scheduling plan good t).matches.count in
         let less = line-less (ports_of plan) LEVELS (gone scheduler plan) (gone scheduler plan) i k level t (suc t) (omega arith)
-        ((sound scheduler scheduling plan good t).matches.level_in i k level Uni pair) (pair_takes t i k level i_in pair) (λ y m y_in m_in. gone-le scheduler plan i y m t) in
+        ((sound scheduler scheduling plan good t).matches.level_in i k level Uni pair)
+        (pair_takes t i k level i_in pair) (λ y m y_in m_in. gone-le scheduler plan i y m t) in
         omega arith
 
     column_gains : (x level : ℕ) → Serves (matched_in scheduler plan t) x j level Uni
-        → for_output (ports_of plan) LEVELS (gone scheduler plan) j t < for_output (ports_of plan) LEVELS (gone scheduler plan) j (suc t)
+        → gone_for scheduler plan j t < gone_for scheduler plan j (suc t)
     column_gains x level pair =
         let inside = (sound scheduler scheduling plan good t).matches.input_in x j level Uni pair in
         let less = line-less (ports_of plan) LEVELS (turned (gone scheduler plan)) (turned (gone scheduler plan)) j x level t (suc t) inside
-        ((sound scheduler scheduling plan good t).matches.level_in x j level Uni pair) (pair_takes t x j level inside pair) (λ y m y_in m_in. gone-le scheduler plan y j m t) in
+        ((sound scheduler scheduling plan good t).matches.level_in x j level Uni pair)
+        (pair_takes t x j level inside pair) (λ y m y_in m_in. gone-le scheduler plan y j m t) in
         omega arith
 
     by_input : (part : Option Served) → served_of (matched_in scheduler plan t) i ≡ part → fed_of (matched_in scheduler plan t) j ≡ None
-        → (of_input (ports_of plan) LEVELS (gone scheduler plan) i t < of_input (ports_of plan) LEVELS (gone scheduler plan) i (suc t))
-        ⊎ (for_output (ports_of plan) LEVELS (gone scheduler plan) j t < for_output (ports_of plan) LEVELS (gone scheduler plan) j (suc t))
+        → (gone_at scheduler plan i t < gone_at scheduler plan i (suc t))
+        ⊎ (gone_for scheduler plan j t < gone_for scheduler plan j (suc t))
     by_input None e vacant =
         let card = good-card plan good i i_in in
         let ports = card.ports in
         let named = uni-from (card_at plan i) card.good (parts_under scheduler plan i t) t l j l_in (omega arith) (one_waits i j l t i_in left) in
         let named' : Names (row_of (slot_rows (ports_of plan) (posts_under scheduler plan) t) i) l Uni j =
         subst (λ row. Names row l Uni j) (sym (row_of-slot_rows (ports_of plan) (posts_under scheduler plan) t i i_in)) named in
-        absurd ((maximal t enough).free i j l Uni i_in j_in (served_of-none (ports_of plan) (matched_in scheduler plan t) (sound scheduler scheduling plan good t).matches i e) vacant named')
+        absurd ((maximal t enough).free i j l Uni i_in j_in (served_of-none (ports_of plan) (matched_in scheduler plan t) whole i e) vacant named')
     by_input (Some part) e vacant =
         let served = served_of-is (ports_of plan) (matched_in scheduler plan t) (sound scheduler scheduling plan good t).matches i part e in
         let pair = (served.outputs served.some.0).0 served.some.1 in
@@ -166,8 +175,8 @@ module _ (scheduler : Scheduler) (scheduling : IsScheduler scheduler) (plan : Sw
         inl (row_gains served.some.0 part.level (Serves-along (matched_in scheduler plan t) i served.some.0 part.level part.level part.kind Uni refl uni pair))
 
     by_output : (o : Option Fed) → fed_of (matched_in scheduler plan t) j ≡ o
-        → (of_input (ports_of plan) LEVELS (gone scheduler plan) i t < of_input (ports_of plan) LEVELS (gone scheduler plan) i (suc t))
-        ⊎ (for_output (ports_of plan) LEVELS (gone scheduler plan) j t < for_output (ports_of plan) LEVELS (gone scheduler plan) j (suc t))
+        → (gone_at scheduler plan i t < gone_at scheduler plan i (suc t))
+        ⊎ (gone_for scheduler plan j t < gone_for scheduler plan j (suc t))
     by_output None e = by_input (served_of (matched_in scheduler plan t) i) refl e
     by_output (Some fed) e =
         let pair = Serves-from (matched_in scheduler plan t) j fed e in

@@ -37,7 +37,7 @@ not_both : (q : Queue) (j l m : ℕ) → OfLevel l ≡ q → q ≡ OfOutput j m 
 not_both q j l m left right = absurd (cc)
 
 -- a packet of the queue of a level has several outputs
-of_level : (p : Planned) (l : ℕ) → p.fan < 2 ^ 64 → is_routed p ≡ true → OfLevel l ≡ queue_of p → (HasSeveral p.fan → ⊥) → ⊥
+pub of_level : (p : Planned) (l : ℕ) → p.fan < 2 ^ 64 → is_routed p ≡ true → OfLevel l ≡ queue_of p → (HasSeveral p.fan → ⊥) → ⊥
 of_level p l small routed queue one = elim (one_or_several p.fan small (fan_some p.fan routed)) [
   | inr several ↦ one several
   | inl found ↦

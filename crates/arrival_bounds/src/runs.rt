@@ -5,8 +5,11 @@ ghost use Rattle.eslip_rounds.specs.Schedulers.{Scheduler};
 ghost use Rattle.switch_plan.specs.GoodPlans.{SwitchPlan, packets_in};
 ghost use Rattle.switch_plan.specs.Totals.{greatest_slots};
 ghost use Rattle.run_laws.specs.Ends.{IsLengthUnder};
+ghost use Rattle.buffer_sizing.specs.Sizing.{DropsNothing};
 ghost use Rattle.arrival_bounds.specs.Arrivals.{IsShaped, ArePairsShaped, ArePairsFew};
 ghost use Rattle.arrival_bounds.specs.Waits.{IsUnicastRun, WaitsAtMost, HoldsAtMost};
+
+use buffer_sizing::laws as sizes;
 
 /// Where in any `2 * most + 1` slots in a row at most `most + 2` cells arrive at any input and for any output, both together,
 /// no cell waits more than `most` slots. So it is where in any `4 * cells - 3` slots in a row at most `cells` cells arrive at
@@ -40,3 +43,17 @@ pub fn runs_end_soon()
     ensures all { (scheduler : Scheduler) (plan : SwitchPlan) (cells slots : ℕ) → IsUnicastRun scheduler plan → ArePairsFew plan cells
         → IsLengthUnder scheduler plan slots → slots ≤ greatest_slots (packets_in plan) + (cells - 2) + 1 }
 {}
+
+/// So queues of as many cells drop nothing: where in any `3 * cells - 1` slots in a row at most `cells` cells arrive at each
+/// input, and at most `cells` for each output, every packet is admitted with each depth from `cells` on.
+pub fn runs_drop_nothing()
+    ensures any { (scheduler : Scheduler) (plan : SwitchPlan) (window cells slots : ℕ) → IsUnicastRun scheduler plan → 0 < window
+        → IsShaped plan window cells → 3 * cells ≤ window + 1 → cells ≤ plan.depth → IsLengthUnder scheduler plan slots
+        → DropsNothing scheduler plan slots }
+    ensures window { (scheduler : Scheduler) (plan : SwitchPlan) (cells slots : ℕ) → IsUnicastRun scheduler plan → 0 < cells
+        → IsShaped plan (3 * cells - 1) cells → cells ≤ plan.depth → IsLengthUnder scheduler plan slots → DropsNothing scheduler plan slots }
+{
+    sizes::runs_are_sized();
+    sizes::greatest_depth_drops_nothing();
+    sizes::depths_are_good();
+}
