@@ -6,13 +6,14 @@ without a copy.
 
 import os
 import struct
+from functools import lru_cache
 from itertools import chain
-from typing import Iterator, List, NamedTuple, Tuple, Union
+from typing import Iterable, Iterator, List, NamedTuple, Optional, Tuple, Union
 
 from .capture_hints import ETHERNET, LONGEST_RECORD, RAW_IP, first_bytes, hint_on
-from .slot_lengths import MICROSECOND, SECOND, of_pace
+from .slot_lengths import MICROSECOND, SECOND, Slot, of_pace
 from .sources import stamp_of
-from .tables import read_table, route
+from .tables import Routes, read_table, route
 
 MICROSECONDS, NANOSECONDS = 0xA1B2C3D4, 0xA1B23C4D
 FILE_HEADER, RECORD_HEADER = 24, 16
@@ -235,12 +236,18 @@ def first_time(packets_by_port, most=None):
 def arrivals_of(table, captures, pace_us):
     """The packets that are offered to queues, in the order of slots; pace_us None is line pace."""
     routes = read_table(table, len(captures))
-    read = [read_capture(data) for data in captures]
-    base, length = first_time(capture.packets for capture in read), of_pace(pace_us) if pace_us else None
-    found = []
+    offered = offered_to_queues(routes, map(read_capture, captures), of_pace(pace_us) if pace_us else None)
+    return sorted(packet for _, packet in offered)
+
+
+def offered_to_queues(routes: Routes, captures: Iterable[Capture], slot: Optional[Slot]) -> Iterator[Tuple[int, Arrival]]:
+    """The packets that are offered to queues, port by port, each behind its number in its capture, which counts from 0; in
+    slots of a length, at line pace where there is none."""
+    read = list(captures)
+    base = first_time(capture.packets for capture in read)
+    served_at = lru_cache(maxsize=None)(lambda address: route(routes, address))  # Many packets have the same address.
     for card, capture in enumerate(read):
-        for packet, _, first, cells in on_line(capture.packets, base, length):
-            served = route(routes, destination(capture.link, packet.frame))
+        for number, (packet, _, first, cells) in enumerate(on_line(capture.packets, base, slot)):
+            served = served_at(destination(capture.link, packet.frame))
             if served and packet.length <= LONGEST_FORWARDED:
-                found.append(Arrival(first + cells - 1, card, served[0], served[1], cells))
-    return sorted(found)
+                yield number, Arrival(first + cells - 1, card, served[0], served[1], cells)

@@ -4,14 +4,13 @@ It routes by the destination of an IPv4 packet, in raw IP or in an Ethernet fram
 """
 
 from collections import Counter
-from pathlib import Path
 from typing import NamedTuple, Optional
 
-from launcher.capture_hints import is_capture
 from launcher.captures import ETHERNET, IP_HEADER, IPV4, LONGEST_FORWARDED, TAGGED, destination, read_file
-from launcher.tables import BadTable, read_table, route
+from launcher.tables import route
 
 from .frame_headers import IPV6, TAGS, type_name
+from .run_inputs import read_routes
 
 NO_LINE = "no line for the address"
 TWO_TAGS, OTHER_TAG = "two tags", "tag of 802.1ad"
@@ -50,12 +49,7 @@ class Counts(NamedTuple):
 
 def unrouted(table, names):
     """The packets of captures, in the order of ports, that a table serves by none of its lines."""
-    try:
-        routes = read_table(Path(table).read_bytes(), len(names))
-    except BadTable as fault:
-        what = " is a capture: the words are TABLE INPUT.." if is_capture(table) else f": {fault}"
-        raise BadTable(f"{table}{what}") from None
-    found, packets = [], 0
+    routes, found, packets = read_routes(table, len(names)), [], 0
     for port, name in enumerate(names):
         capture = read_file(name)
         packets += len(capture.packets)
