@@ -1,6 +1,6 @@
 """Words that say how long a slot lasts, and its microseconds."""
 
-from launcher.slot_lengths import MICROSECOND, MOST_ETHERNET, MOST_PACE_US, MOST_RATE, of_rate, rate_for
+from launcher.slot_lengths import MICROSECOND, MOST_ETHERNET, MOST_PACE_US, MOST_RATE, of_pace, of_rate, rate_for
 
 from .words import whole
 
@@ -18,13 +18,18 @@ def add_words(parser):
                         help="the same at the line rate that keeps up with an Ethernet of so many Mbit/s")
 
 
+def slot_of(words):
+    """The length of a slot; None where the words do not say it."""
+    if words.pace_us is not None:
+        return of_pace(words.pace_us)
+    rate = words.line_rate if words.ethernet is None else rate_for(words.ethernet)
+    return None if rate is None else of_rate(rate)
+
+
 def slot_us(words):
     """The microseconds of a slot; None where the words do not say it."""
-    rate = words.line_rate if words.ethernet is None else rate_for(words.ethernet)
-    if rate is None:
-        return words.pace_us
-    slot = of_rate(rate)
-    return slot.nanos / slot.divisor / MICROSECOND
+    slot = slot_of(words)
+    return None if slot is None else slot.nanos / slot.divisor / MICROSECOND
 
 
 def in_us(slots, length):
