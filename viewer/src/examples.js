@@ -4,7 +4,7 @@
 
     const FOLDER = "../examples";
     const LECTURE = "lecture";
-    const NAMES = ["two_inputs", "one_packet", "small_network", "long_wait", "long_wait_two_rounds", "incast"];
+    const NAMES = ["two_inputs", "one_packet", "small_network", "long_wait", "long_wait_two_rounds", "incast", "growth"];
 
     function pathOf(name, prefix = "out") {
         return `${FOLDER}/${name}/expected/${prefix}.journal`;
