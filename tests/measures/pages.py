@@ -1,4 +1,4 @@
-"""Tests of the page of the tools: its commands print what stands below them."""
+"""Tests of the pages of the tools: their commands print what stands below them."""
 
 import re
 import shutil
@@ -13,13 +13,19 @@ if not PROGRAM or not shutil.which("mergecap"):
     LACKING = "there is no mergecap" if PROGRAM else "there is no program"
 
 
-@unittest.skipIf(LACKING, LACKING)
 class Pages(unittest.TestCase):
-    def test_commands(self):
+    @unittest.skipIf(LACKING, LACKING)
+    def test_commands_of_sweeps(self):
+        self.check("SWEEPS")
+
+    @unittest.skipIf(lacks("numpy", "pandas"), lacks("numpy", "pandas"))
+    def test_commands_of_sizing(self):
+        self.check("SIZING")
+
+    def check(self, page):
         """At the top of the repository, with a fresh folder for /tmp."""
-        text = (TOP / "docs/SWEEPS.md").read_text()
-        blocks = re.findall(r"^```text\n(\$ .*?)^```$", text, re.M | re.S)
-        self.assertGreater(len(blocks), 2)
+        blocks = re.findall(r"^```text\n(\$ .*?)^```$", (TOP / f"docs/{page}.md").read_text(), re.M | re.S)
+        self.assertGreater(len(blocks), 1)
         for block in blocks:
             with self.subTest(block), tempfile.TemporaryDirectory() as room:
                 lines = block.replace("/tmp/", f"{room}/").splitlines(True)
