@@ -8,6 +8,8 @@ from . import files
 from .browser import RIGHT, expect
 from .test_playground import FREE, STARVING, slots_of, text_of
 
+GROWING = files.ROOT / "examples/growth/expected/out.journal"
+
 DELETE = "\ue017"
 # Of full load of two ports, one round, all pointers at 0: the pairs of the first slots (docs/THROUGHPUT.md has them).
 FULL = {"islip": ["0>0", "1>0, 0>1", "0>0, 1>1", "1>0, 0>1"], "rrm": ["0>0", "1>0", "0>1", "1>1"]}
@@ -188,8 +190,8 @@ def test_link_of_the_page(viewer):
 
 
 def test_starving_link(viewer):
-    """The link of docs/VIEWER.md has the requests of examples/starving, whose matches an independent model made under both schedulers."""
-    (link,) = links_of_the_page()
+    """The first link of docs/VIEWER.md has the requests of examples/starving, whose matches an independent model made under both schedulers."""
+    link = links_of_the_page()[0]
     page = Playground(viewer, link)
     page.wait("document.getElementById('told-text').innerText === 'This is what the link holds.'", link)
     for rule in ("rrm", "islip"):
@@ -203,6 +205,19 @@ def test_starving_link(viewer):
         expect(same == list(range(26)) if rule == "rrm" else same[:4] == [0, 1, 2, 3], f"{rule}: {same}")
     served = page.run("return SlotViewer.playground.model.history.filter(({ slot, inputs }) => slot > 0 && inputs[0] === 0).length")
     expect(served > 5, f"under iSLIP output 0 feeds from input 0 {served} times")
+
+
+def test_growing_link(viewer):
+    """The second link has the packets of examples/growth, whose matches an independent model made: a queue grows by a cell in each period."""
+    link = links_of_the_page()[1]
+    page = Playground(viewer, link)
+    page.wait("document.getElementById('told-text').innerText === 'This is what the link holds.'", link)
+    page.settled()
+    _, _, slots = slots_of(GROWING.read_bytes())
+    found = page.run("return SlotViewer.playground.model.history.map(({ inputs }) => Array.from(inputs))")
+    expect(found == [inputs for _, inputs in slots[:70]], "other matches than those of the example")
+    cells = page.run("return SlotViewer.playground.model.history.map(({ cells }) => cells[0])")
+    expect(cells[6::7] == list(range(1, 11)), f"{cells}")
 
 
 # Chooses another scheduler, and before all slots are decided by it presses a button, and another that stops.
