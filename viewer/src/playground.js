@@ -5,6 +5,7 @@
     const { Playground, Grid, FileFault, counted } = viewer;
 
     const MANY_SLOTS = 20;
+    const SLOTS_A_SECOND = 8;
 
     const by = (id) => document.getElementById(id);
 
@@ -40,6 +41,8 @@
             this.job = null;
             /** The matches that the script's text has, by slot. */
             this.matches = [];
+            this.player = new viewer.Player((count) => this.advance(count), () => this.draw());
+            this.player.speed = SLOTS_A_SECOND;
             this.grid = new Grid(by("crossbar-frame"), (...place) => this.click(...place), (...place) => this.look(...place));
             viewer.loadPattern(this.model, { name: "full" });
             by("decided-by").textContent = decidedBy(module);
@@ -56,6 +59,7 @@
 
         /** Does something, unless slots are being decided. */
         act(deed) {
+            this.player.stop();
             if (this.job !== null) {
                 this.tell("Slots are being decided: wait, or press Stop.");
             } else {
@@ -88,6 +92,14 @@
             this.draw();
         }
 
+        /** Goes on while slots are played; says whether there is room for more. */
+        advance(count) {
+            if (this.job === null) {
+                this.steps(count);
+            }
+            return !this.model.isFull;
+        }
+
         back() {
             if (this.model.slot > 0) {
                 this.model.back();
@@ -96,14 +108,14 @@
         }
 
         /** Decides all slots so far again with other settings, and the same requests by hand. */
-        async change(changes, what) {
+        async change(changes, what, kept = "with the same requests") {
             const { slot } = this.model;
             const made = await this.work(this.model.like(changes).replay(this.model.allEdits()), "Deciding the slots anew");
             if (made === null) {
                 this.tell("Stopped: nothing has changed.");
             } else {
                 this.model = made;
-                this.tell(slot > 0 ? `${counted(slot, "slot")} decided anew, with the same requests: ${what}. ${this.unlikeText()}`.trim() : null);
+                this.tell(slot > 0 ? `${counted(slot, "slot")} decided anew, ${kept}: ${what}. ${this.unlikeText()}`.trim() : null);
             }
             this.draw();
         }
@@ -124,11 +136,11 @@
             this.tell(null);
         }
 
-        /** Begins again at slot 0, with the requests as they are. */
+        /** Begins again at slot 0, with the requests as they are; of made traffic with those of slot 0. */
         beginAgain() {
-            const { cells, script } = this.model;
+            const { cells, script, traffic } = this.model;
             const model = this.model.like({});
-            if (script.lines.length === 0) {
+            if (script.lines.length === 0 && traffic === null) {
                 cells.forEach((count, place) => model.change(place, count));
             }
             this.replace(model, "Begun again.");
@@ -142,7 +154,7 @@
                     throw new FileFault(`there is no slot ${again} to go on from`);
                 }
                 const begin = ports === this.model.ports ? this.model.begin : null;
-                const changes = { ports, rounds: rounds || this.model.rounds, begin, script: { lines, again } };
+                const changes = { ports, rounds: rounds || this.model.rounds, begin, script: { lines, again }, traffic: null };
                 this.matches = matches;
                 this.replace(this.model.like(changes), `The requests of ${counted(lines.length, "slot")} are taken.`);
             } catch (fault) {
@@ -222,7 +234,10 @@
             viewer.showRounds(done === null ? [] : done.rounds);
             viewer.showPointers(model.ports, before, after);
             viewer.showHistory(model);
-            by("spoken").textContent = by("slot-title").textContent;
+            viewer.showSums(model);
+            if (!this.player.isPlaying) {
+                by("spoken").textContent = by("slot-title").textContent;
+            }
             this.findRounds(done);
         }
 
@@ -240,7 +255,7 @@
             const cells = done === null ? model.cells : done.cells;
             const waits = done === null ? (place) => model.waited(place) : (place) => done.waits[place];
             const queues = Array.from(cells, (count, place) => ({ cells: count, wait: waits(place) }));
-            this.grid.draw({ ports: model.ports, queues, isCounted: model.queues === "cells", done, pointers });
+            this.grid.draw({ ports: model.ports, queues, isCounted: model.isCounted, done, pointers });
         }
 
         /** Finds what the rounds of the slot that is shown did, and draws them. */

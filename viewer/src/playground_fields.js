@@ -21,6 +21,7 @@
         const fill = (id, list) => by(id).append(...list.map(({ name, title }) => new Option(title, name)));
         fill("rule", SCHEDULERS);
         fill("queues", QUEUES);
+        viewer.fillTraffic();
         fill("pattern", Object.entries(PATTERNS).map(([name, { title }]) => ({ name, title })));
     }
 
@@ -46,7 +47,9 @@
     function otherPorts(page, text) {
         const model = page.model.like({ ports: within(text, 1, MAX_PORTS, 1), begin: null, script: viewer.NO_SCRIPT });
         page.matches = [];
-        viewer.loadPattern(model, chosenPattern());
+        if (model.traffic === null) {
+            viewer.loadPattern(model, chosenPattern());
+        }
         page.replace(model, `Begun with ${viewer.counted(model.ports, "port")}.`);
     }
 
@@ -87,6 +90,7 @@
         shown: () => {},
         "begin-grant": changeBegin,
         "begin-accept": changeBegin,
+        ...viewer.TRAFFIC_CHANGES,
     };
 
     /** What the buttons do. */
@@ -135,6 +139,9 @@
                 page.job.isStopped = true;
             }
         });
+        by("play").addEventListener("click", () => page.player.toggle());
+        by("playground").addEventListener("input", () => page.player.stop());
+        viewer.watchSlider();
         viewer.watchDrops(([file]) => showDropped(page, file));
         by("script-part").addEventListener("toggle", () => showFields(page));
         window.addEventListener("resize", () => page.draw());
@@ -149,12 +156,14 @@
         by("rounds").value = model.rounds;
         by("rule").value = model.rule;
         by("queues").value = model.queues;
+        viewer.showTraffic(model);
         ["grant", "accept"].filter((side) => document.activeElement !== by(`begin-${side}`)).forEach((side) => {
             by(`begin-${side}`).value = model.begin[side].join(" ");
         });
         document.querySelectorAll(".of-random").forEach((part) => {
             part.hidden = by("pattern").value !== "random" && !by("script-part").open;
         });
+        by("play").setAttribute("aria-pressed", page.player.isPlaying);
         by("back").disabled = model.slot === 0;
         by("script-end").disabled = model.script.lines.length === 0;
         by("show-last").disabled = model.slot === 0;
@@ -164,5 +173,5 @@
         by("show-next").setAttribute("aria-pressed", isNext);
     }
 
-    Object.assign(viewer, { watchPlayground, showFields });
+    Object.assign(viewer, { within, chosenPattern, watchPlayground, showFields });
 })(globalThis.SlotViewer = globalThis.SlotViewer || {});

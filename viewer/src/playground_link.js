@@ -2,14 +2,14 @@
 (function (viewer) {
     "use strict";
 
-    const { FileFault, MAX_PORTS, MAX_ROUNDS } = viewer;
+    const { FileFault, MAX_PORTS, MAX_ROUNDS, TRAFFIC, TRAFFIC_LIMITS } = viewer;
 
     /** A longer fragment is neither made nor read: programs cut longer addresses. */
     const MOST_LETTERS = 8000;
     /** Places are listed, which a reader understands, unless all bits are so many letters shorter. */
     const LETTERS_FOR_READING = 12;
     const SUM = /^(.*)&sum=([0-9a-f]{8})$/;
-    const NUMBER = /^(0|[1-9]\d{0,3})$/;
+    const NUMBER = /^(0|[1-9]\d{0,9})$/;
     const RUN = /^(0|[1-9]\d{0,3})(?:-([1-9]\d{0,3}))?$/;
     const BITS = /^~[A-Za-z0-9_-]+$/;
     const CRC_POLYNOMIAL = 0xedb88320;
@@ -130,11 +130,35 @@
         return list.some((one) => one.name === name) ? name : damaged(`${what} is "${name}"`);
     }
 
+    // Made traffic.
+
+    /** The numbers of a pattern that are told: the weight alone where there is one. */
+    function toldNumbers(pattern) {
+        const { isWeighed } = viewer.trafficPattern(pattern);
+        return Object.keys(TRAFFIC_LIMITS).filter((name) => name !== "weight" || isWeighed);
+    }
+
+    function writeTraffic(traffic) {
+        return traffic === null ? []
+            : [`traffic=${traffic.pattern}`, ...toldNumbers(traffic.pattern).map((name) => `${name}=${traffic[name]}`)];
+    }
+
+    function readTraffic(words) {
+        if (!words.has("traffic")) {
+            return null;
+        }
+        const traffic = { pattern: oneOf(TRAFFIC, words.get("traffic"), "traffic"), load: 0, weight: 0 };
+        toldNumbers(traffic.pattern).forEach((name) => {
+            traffic[name] = number(words.get(name), ...TRAFFIC_LIMITS[name], name);
+        });
+        return traffic;
+    }
+
     // All of it.
 
     /** The fragment that holds a playground, or null where it would be too long. */
     function writeLink(model) {
-        const { ports, rounds, rule, queues, begin, script, slot } = model;
+        const { ports, rounds, rule, queues, begin, script, traffic, slot } = model;
         const count = ports * ports;
         const words = [`ports=${ports}`, `rounds=${rounds}`, `scheduler=${rule}`, `queues=${queues}`];
         ["grant", "accept"].filter((side) => begin[side].some((port) => port > 0))
@@ -143,7 +167,7 @@
             words.push(`script=${script.lines.map((line) => writeSet(line, count)).join(";")}`);
             words.push(...(script.again === null ? [] : [`again=${script.again}`]));
         }
-        words.push(`slots=${slot}`, `edits=${writeAllEdits(model.allEdits(), count)}`);
+        words.push(...writeTraffic(traffic), `slots=${slot}`, `edits=${writeAllEdits(model.allEdits(), count)}`);
         const text = words.join("&");
         const whole = `#${text}&sum=${sumOf(text)}`;
         return whole.length > MOST_LETTERS ? null : whole;
@@ -193,6 +217,7 @@
             queues: oneOf(viewer.QUEUES, words.get("queues"), "queues"),
             begin: readBegin(words, ports),
             script: readLines(words, count),
+            traffic: readTraffic(words),
         };
         return { settings, edits: readAllEdits(words.get("edits") || "", slots, count) };
     }

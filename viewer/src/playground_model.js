@@ -2,7 +2,7 @@
 (function (viewer) {
     "use strict";
 
-    const { Rows, Pointers, UNICAST, FREE, MAX_PORTS, MAX_ROUNDS, makeScheduler } = viewer;
+    const { Rows, Pointers, ArrivalSlots, MadeTraffic, UNICAST, FREE, MAX_PORTS, MAX_ROUNDS, makeScheduler } = viewer;
 
     /** So many slots are kept at most, and so many cells in a queue. */
     const MOST_SLOTS = 2000;
@@ -15,6 +15,8 @@
     ];
 
     const NO_SCRIPT = { lines: [], again: null };
+    /** What was counted before slot 0. */
+    const NO_SUMS = { arrived: 0, dropped: 0, departed: 0, waiting: 0, delays: 0 };
 
     function clamp(number, most) {
         return Math.min(most, Math.max(1, Math.trunc(number) || 1));
@@ -31,30 +33,35 @@
         /**
          * `module` is what loadModule() gave. The settings: ports, rounds, the name `rule` of a scheduler, the name `queues` of
          * what a queue does, the pointers `begin` of level 0 before slot 0, and `script`: the requests of the first slots, each a
-         * list of places, and the line from which they come again, or null.
+         * list of places, and the line from which they come again, or null. `traffic` is null, or the made traffic, as MadeTraffic
+         * takes it, with the `depth` of the queues, which then hold cells.
          */
-        constructor(module, { ports = 4, rounds = 1, rule = "islip", queues = "endless", begin = null, script = NO_SCRIPT } = {}) {
+        constructor(module, { ports = 4, rounds = 1, rule = "islip", queues = "endless", begin = null, script = NO_SCRIPT, traffic = null } = {}) {
             this.module = module;
             this.ports = clamp(ports, MAX_PORTS);
             this.rounds = clamp(rounds, MAX_ROUNDS);
             this.rule = rule;
-            this.queues = queues;
+            this.queues = traffic === null ? queues : "cells";
             const zeros = new Array(this.ports).fill(0);
             this.begin = begin === null ? { grant: zeros, accept: zeros } : begin;
             this.script = script;
+            this.traffic = traffic;
+            this.made = traffic === null ? null : new MadeTraffic(traffic, this.ports);
             this.scheduler = makeScheduler(module, this.ports, this.rounds, rule);
             this.pointers = pointersOf(this.ports, this.begin);
             /** What each slot did, as step() answers it. */
             this.history = [];
             /** By place the cells that wait before the next slot; of a queue that never runs empty 1, if it asks. */
             this.cells = new Uint16Array(this.ports * this.ports);
+            /** When these cells came, where queues hold cells. */
+            this.arrivals = new ArrivalSlots(this.cells.length);
             this.beginSlot();
         }
 
         /** One with other settings and no slots. */
         like(changes) {
-            const { ports, rounds, rule, queues, begin, script } = this;
-            return new Playground(this.module, { ports, rounds, rule, queues, begin, script, ...changes });
+            const { ports, rounds, rule, queues, begin, script, traffic } = this;
+            return new Playground(this.module, { ports, rounds, rule, queues, begin, script, traffic, ...changes });
         }
 
         get slot() {
@@ -68,6 +75,23 @@
 
         get isFull() {
             return this.history.length >= MOST_SLOTS;
+        }
+
+        get isCounted() {
+            return this.queues === "cells";
+        }
+
+        /** So many cells fit in a queue. */
+        get mostCells() {
+            if (!this.isCounted) {
+                return 1;
+            }
+            return this.traffic === null ? MOST_CELLS : this.traffic.depth;
+        }
+
+        /** What was counted up to the slot that was decided last: cells that came, found no room, left and wait, and the sum of delays. */
+        get sums() {
+            return this.last === null ? NO_SUMS : this.last.sums;
         }
 
         place(input, output) {
@@ -92,28 +116,45 @@
             return again === null ? null : lines[again + (slot - again) % (lines.length - again)];
         }
 
-        /** Begins the next slot: what its line of the script asks. Cells come on top of those that wait. */
+        /** Begins the next slot: what its line of the script asks, and what the traffic brings. Cells come on top of those that wait. */
         beginSlot() {
             const line = this.lineOf(this.slot);
             /** By place what was changed by hand since. */
             this.edits = new Map();
-            if (line === null) {
-                return;
-            }
-            if (this.queues === "endless") {
+            /** How many cells found their queue full. */
+            this.dropped = 0;
+            if (line !== null && !this.isCounted) {
                 this.cells.fill(0);
             }
-            line.forEach((place) => {
-                this.cells[place] = Math.min(MOST_CELLS, this.cells[place] + 1);
-            });
+            (line || []).concat(this.coming()).forEach((place) => this.enter(place));
+        }
+
+        /** The places that made cells come to in the next slot. */
+        coming() {
+            const outputs = this.made === null ? [] : this.made.coming(this.slot);
+            return outputs.flatMap((output, input) => (output === null ? [] : [this.place(input, output)]));
+        }
+
+        /** A cell comes, and is dropped where its queue is full. */
+        enter(place) {
+            if (this.cells[place] === this.mostCells) {
+                this.dropped += 1;
+                return;
+            }
+            this.cells[place] += 1;
+            if (this.isCounted) {
+                this.arrivals.enter(place, this.slot);
+            }
         }
 
         /** Adds cells to a queue, or takes some; for a queue that never runs empty it is asked, or not. */
         change(place, by) {
-            const most = this.queues === "endless" ? 1 : MOST_CELLS;
-            const to = Math.max(0, Math.min(most, this.cells[place] + by));
-            const edit = (this.edits.get(place) || 0) + to - this.cells[place];
-            this.cells[place] = to;
+            const made = Math.max(0, Math.min(this.mostCells, this.cells[place] + by)) - this.cells[place];
+            const edit = (this.edits.get(place) || 0) + made;
+            this.cells[place] += made;
+            if (this.isCounted) {
+                this.arrivals.edit(place, edit, this.slot);
+            }
             if (edit === 0) {
                 this.edits.delete(place);
             } else {
@@ -125,14 +166,14 @@
         click(input, output, isLess = false) {
             const place = this.place(input, output);
             const isAsked = this.cells[place] > 0;
-            this.change(place, isLess || (this.queues === "endless" && isAsked) ? -1 : 1);
+            this.change(place, isLess || (!this.isCounted && isAsked) ? -1 : 1);
         }
 
         /** Asks for the places that `isAsked` names, and for no others; where queues hold cells each of them gets one. */
         ask(isAsked) {
             for (let place = 0; place < this.cells.length; place += 1) {
                 const more = isAsked(Math.floor(place / this.ports), place % this.ports) ? 1 : 0;
-                this.change(place, this.queues === "endless" ? more - this.cells[place] : more);
+                this.change(place, this.isCounted ? more : more - this.cells[place]);
             }
         }
 
@@ -156,7 +197,7 @@
 
         /** Decides the next slot. What its rounds grant and accept is found by viewer.findRounds(), where it is asked for. */
         step() {
-            const { scheduler, cells, slot } = this;
+            const { scheduler, cells, slot, edits, dropped } = this;
             const after = new Pointers(this.ports);
             after.copyFrom(this.pointers);
             scheduler.decide(slot, this.rowsOf(cells), after);
@@ -164,7 +205,8 @@
             const done = {
                 slot,
                 cells,
-                edits: this.edits,
+                edits,
+                dropped,
                 inputs,
                 used: scheduler.used,
                 rounds: null,
@@ -172,10 +214,12 @@
                 waits: this.waitsAfter(inputs),
                 before: this.pointers,
                 after,
+                notes: this.arrivals.mark(),
             };
             this.pointers = after;
-            this.history.push(done);
             this.cells = this.cellsAfter(done);
+            done.sums = this.sumsAfter(done);
+            this.history.push(done);
             this.beginSlot();
             return done;
         }
@@ -189,7 +233,7 @@
 
         cellsAfter({ cells, inputs }) {
             const left = cells.slice();
-            if (this.queues === "cells") {
+            if (this.isCounted) {
                 pairs(inputs).forEach(({ input, output }) => {
                     left[this.place(input, output)] -= 1;
                 });
@@ -197,10 +241,26 @@
             return left;
         }
 
+        /** What was counted up to a slot whose cells have left, where queues hold cells. A cell crosses in the slot after the one that serves it. */
+        sumsAfter({ slot, inputs, dropped, count }) {
+            if (!this.isCounted) {
+                return NO_SUMS;
+            }
+            const delays = pairs(inputs).map(({ input, output }) => slot + 1 - this.arrivals.serve(this.place(input, output)));
+            const sums = { ...this.sums };
+            sums.dropped += dropped;
+            sums.departed += count;
+            sums.delays += delays.reduce((sum, delay) => sum + delay, 0);
+            sums.waiting = this.cells.reduce((sum, cells) => sum + cells, 0);
+            sums.arrived = sums.dropped + sums.departed + sums.waiting;
+            return sums;
+        }
+
         /** Goes back to before the slot that was decided last, with what was asked in it. */
         back() {
-            const { cells, edits, before } = this.history.pop();
-            Object.assign(this, { cells, edits, pointers: before });
+            const { cells, edits, dropped, before, notes } = this.history.pop();
+            this.arrivals.back(notes, this.last && this.last.notes);
+            Object.assign(this, { cells, edits, dropped, pointers: before });
         }
 
         /** A generator that decides slots with what was changed by hand before each, and then makes the last of these changes. */

@@ -64,7 +64,7 @@
 
     /** Of a queue in a slot: whether it asks, with its cells where they count, and its wait. */
     function queueText(model, count, wait) {
-        const cells = model.queues === "cells" && count > 0 ? [`${counted(count, "cell")} in its queue`] : [];
+        const cells = model.isCounted && count > 0 ? [`${counted(count, "cell")} in its queue`] : [];
         const waits = wait > 0 ? [`has waited ${counted(wait, "slot")}`] : [];
         return [count > 0 ? "asked" : "not asked", ...cells, ...waits].join(", ");
     }
