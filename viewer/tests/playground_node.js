@@ -9,7 +9,7 @@ const VIEWER = join(__dirname, "..");
 const page = readFileSync(join(VIEWER, "playground.html"), "utf8");
 // The scripts of the page that draw nothing.
 const scripts = Array.from(page.matchAll(/<script src="([^"]*)"/g), ([, name]) => name)
-    .filter((name) => !/theme|wasm|playground(_grid|_text|_fields)?\.js/.test(name));
+    .filter((name) => !/theme|wasm|playground(_grid|_text|_traffic|_fields)?\.js/.test(name));
 for (const name of scripts) {
     runInThisContext(readFileSync(join(VIEWER, name), "utf8"), name);
 }
@@ -39,12 +39,19 @@ function told(call) {
 
 /** All that a playground shows, as text. */
 function shown(model) {
-    const slots = model.history.map(({ slot, cells, edits, inputs, used, waits, before, after }) => {
+    const slots = model.history.map(({ slot, cells, edits, inputs, used, waits, before, after, dropped, sums }) => {
         const pointers = [before, after].map(({ grant, accept }) => [[...grant], [...accept]]);
-        return [slot, [...cells], [...edits].sort(), [...inputs], used, [...waits], pointers];
+        return [slot, [...cells], [...edits].sort(), [...inputs], used, [...waits], pointers, dropped, sums];
     });
-    const now = [[...model.cells], [...model.edits].sort(), [...model.pointers.grant], [...model.pointers.accept]];
-    return JSON.stringify([model.ports, model.rounds, model.rule, model.queues, model.begin, model.script, slots, now]);
+    const now = [[...model.cells], model.arrivals.lists, model.dropped, [...model.edits].sort(), [...model.pointers.grant], [...model.pointers.accept]];
+    return JSON.stringify([model.ports, model.rounds, model.rule, model.queues, model.begin, model.script, model.traffic, slots, now]);
+}
+
+/** A traffic whose numbers `below` draws. */
+function madeTraffic(below) {
+    const { name, isWeighed } = viewer.TRAFFIC[below(viewer.TRAFFIC.length)];
+    const weight = isWeighed ? below(1000001) : 0;
+    return { pattern: name, load: below(1000001), weight, burst: 1 + below(20), seed: below(1000000001), depth: 1 + below(5) };
 }
 
 /** A playground with clicks, loads and slots that a seed makes. */
@@ -62,6 +69,7 @@ function madeModel(seed) {
         queues: viewer.QUEUES[below(2)].name,
         begin: below(2) === 0 ? null : { grant: list(), accept: list() },
         script: { lines, again: lines.length > 0 && below(2) === 0 ? below(lines.length) : null },
+        traffic: below(3) === 0 ? madeTraffic(below) : null,
     };
     const model = new viewer.Playground(null, settings);
     for (let slot = below(12); slot >= 0; slot -= 1) {
@@ -164,6 +172,29 @@ const ASKED = {
             });
             const isAsked = model.queues === "cells" || made.history.every(({ cells }, slot) => cells.join() === model.history[slot].cells.join());
             return shown(made) !== shown(straight) || made.slot !== model.slot || !isAsked;
+        });
+    },
+    words({ state, count }) {
+        const stream = new viewer.RandomStream(0, 0);
+        stream.state = BigInt(state);
+        return Array.from({ length: count }, () => `${stream.next()}`);
+    },
+    /** Of each traffic what comes to each input in each slot. */
+    coming({ traffics, slots }) {
+        return traffics.map(({ ports, ...traffic }) => {
+            const made = new viewer.MadeTraffic(traffic, ports);
+            return Array.from({ length: slots }, (_, slot) => made.coming(slot));
+        });
+    },
+    /** Of each job what is counted behind some of its slots, with the longest wait up to there. */
+    sums({ jobs, slots }) {
+        return jobs.map((settings) => {
+            const model = new viewer.Playground(null, settings);
+            while (model.slot < Math.max(...slots)) {
+                model.step();
+            }
+            const longest = (count) => Math.max(...model.history.slice(0, count).flatMap(({ waits }) => [...waits]));
+            return slots.map((count) => ({ ...model.history[count - 1].sums, longest: longest(count) }));
         });
     },
     random({ seeds }) {

@@ -1,11 +1,16 @@
 """Tests of the playground's scripts under node: links, slots back, requests as text, other settings, random requests."""
 
+import dataclasses
 import json
 import pathlib
 import shutil
 import struct
 import subprocess
 import tempfile
+
+from tests.model.simulation.runs import simulate
+from tests.model.simulation.sources import Source, Stream
+from tests.model.simulation.words import PATTERNS, WEIGHED, Job
 
 from . import files
 from .browser import expect
@@ -14,6 +19,8 @@ STARVING = files.ROOT / "examples/starving/expected"
 SCRIPT = files.ROOT / "viewer/tests/playground_node.js"
 FREE = 255
 MOST_LETTERS = 8000
+# Behind so many slots the sums of made traffic are compared.
+COUNTED_SLOTS = (1, 10, 100, 1000)
 
 
 def ask(asks, **given):
@@ -186,3 +193,60 @@ def test_playground_texts(_):
     for (text, want), found in zip(TEXTS, ask("scripts", texts=[text for text, _ in TEXTS])):
         expect(found == want, f"{text!r}: {found}")
     return f"{len(TEXTS)} texts"
+
+
+def settings_of(job):
+    """What the playground calls the words of a simulation."""
+    traffic = {name: getattr(job, name) for name in ("pattern", "load", "weight", "burst", "seed", "depth")}
+    return {"ports": job.ports, "rounds": job.rounds, "rule": job.scheduler, "traffic": traffic}
+
+
+def sums_of(job):
+    """What the model of `simulate` prints of all slots of a job, by the playground's names."""
+    lines = dict(line.split(" ", 1) for line in simulate(job) if not line.startswith(("port", "batch")))
+    told = {name: int(lines[name]) for name in ("arrived", "dropped", "departed", "delays", "longest")}
+    return {**told, "waiting": int(lines["waiting"].split()[0])}
+
+
+def test_made_words(_):
+    """The random words are those that the authors of SplitMix64 publish, and those of the model's streams."""
+    if no_node():
+        return no_node()
+    published = [16_294_208_416_658_607_535, 7_960_286_522_194_355_700, 487_617_019_471_545_679]
+    expect(ask("words", state=0, count=3) == [str(word) for word in published], "other words than the published ones")
+    stream = Stream(1_000_000_000, 63)
+    given = str(stream.state)
+    return expect(ask("words", state=given, count=100) == [str(stream.next()) for _ in range(100)], "other words than the model's")
+
+
+def test_made_traffic(_):
+    """What comes to each input in each slot is what the model of `simulate` has, for all patterns, at the least and the most of each number too."""
+    if no_node():
+        return no_node()
+    numbers = ((0, 1, 900_000, 1, 0), (1, 4, 500_000, 16, 400_000), (2, 5, 950_000, 4096, 1_000_000), (1_000_000_000, 64, 1_000_000, 4096, 50_000),
+               (7, 3, 1, 1, 999_999), (8, 7, 123_457, 3, 1), (9, 16, 0, 16, 500_000), (10, 64, 999_999, 4095, 123_456))
+    jobs = [Job(seed, 200, ports, load=load, burst=burst, pattern=pattern, weight=weight if pattern in WEIGHED else 0)
+            for pattern in PATTERNS for seed, ports, load, burst, weight in numbers]
+    found = ask("coming", traffics=[{"ports": job.ports, **settings_of(job)["traffic"]} for job in jobs], slots=200)
+    for job, made in zip(jobs, found):
+        sources = [Source(job, port) for port in range(job.ports)]
+        expect(made == [[source.next() for source in sources] for _ in range(200)], f"{job}")
+    return f"{len(jobs)} traffics of 200 slots"
+
+
+def test_made_sums(_):
+    """The sums and the longest wait up to slot 1000 are those of the model of `simulate` with the same words."""
+    if no_node():
+        return no_node()
+    jobs = [Job(seed, 1000, 4, scheduler=scheduler, rounds=rounds, load=load, burst=burst, pattern=pattern, weight=weight, depth=depth)
+            for scheduler in ("islip", "firm", "rrm")
+            for seed, rounds, load, burst, pattern, weight, depth in (
+                (1, 4, 900_000, 1, "uniform", 0, 4096), (2, 1, 950_000, 1, "diagonal", 0, 4096), (3, 1, 1_000_000, 16, "hot-spot", 300_000, 9),
+                (4, 2, 700_000, 8, "unbalanced", 500_000, 4), (5, 1, 800_000, 1, "log-diagonal", 0, 1))]
+    dropped = 0
+    for job, found in zip(jobs, ask("sums", jobs=[settings_of(job) for job in jobs], slots=COUNTED_SLOTS)):
+        for slots, sums in zip(COUNTED_SLOTS, found):
+            want = sums_of(dataclasses.replace(job, slots=slots))
+            expect(sums == want, f"{job}, {slots} slots: {sums}, not {want}")
+        dropped += found[-1]["dropped"]
+    return f"{len(jobs)} runs of 1000 slots, {dropped} cells dropped"

@@ -1,12 +1,14 @@
 """Tests of the playground's page: what is shown of the last slot and of the next, and what its buttons do."""
 
+import dataclasses
 import re
 
+from tests.model.simulation.words import Job
 from tests.module.playground_page import Page
 
 from . import files
 from .browser import RIGHT, expect
-from .test_playground import FREE, STARVING, slots_of, text_of
+from .test_playground import FREE, STARVING, slots_of, sums_of, text_of
 
 GROWING = files.ROOT / "examples/growth/expected/out.journal"
 
@@ -267,6 +269,46 @@ def test_random_requests(viewer):
     expect(made[0] == made[2] != made[1] and page.is_shown("share"), f"{made}")
     page.set("pattern", "full")
     expect(not page.is_shown("seed"), "the seed stands beside other requests")
+
+
+def sums_line(job):
+    """What the page tells of the cells of a simulation."""
+    sums = sums_of(job)
+    mean = f"{sums['delays']} / {sums['departed']} = {sums['delays'] / sums['departed']:.2f}"
+    return (f"{sums['arrived']} cells came: {sums['departed']} left, {sums['waiting']} wait, {sums['dropped']} dropped at full queues. "
+            f"Mean delay so far: {mean} slots.")
+
+
+def test_traffic_of_the_page(viewer):
+    """Made traffic, decided by the scheduler of the page: its numbers are those of `simulate`, also after a slot back, and in a link."""
+    page = Playground(viewer)
+    for name, value in (("rounds", 4), ("traffic", "unbalanced"), ("traffic-load", "0.987654"), ("traffic-weight", "0.25"), ("traffic-burst", 8),
+                        ("traffic-seed", 77), ("traffic-depth", 12)):
+        page.set(name, value)
+        page.settled()
+    job = Job(77, 0, 4, load=987_654, burst=8, pattern="unbalanced", weight=250_000, depth=12)
+    for rule in ("islip", "firm", "rrm"):
+        page.set("rule", rule)
+        page.settled()
+        page.run("const { model } = SlotViewer.playground; while (model.slot < 999) { model.step(); }")
+        for slots, button in ((1000, "step"), (999, "back")):
+            page.many(1, button)
+            told, want = page.text("sums-line"), sums_line(dataclasses.replace(job, scheduler=rule, slots=slots))
+            expect(told == want, f"{rule}, {slots} slots: {told}, not {want}")
+    page.push("link")
+    link = page.run("return location.hash")
+    expect("&traffic=unbalanced&load=987654&weight=250000&burst=8&seed=77&depth=12&slots=999&" in link, link)
+    other = Playground(viewer, link)
+    other.wait("document.getElementById('told-text').innerText === 'This is what the link holds.'", "the link")
+    other.settled()
+    expect(other.text("sums-line") == want and other.run("return document.getElementById('traffic-load').value") == "0.987654", "another state")
+    other.push("again")
+    other.push("play")
+    other.wait("SlotViewer.playground.model.slot > 2", "slots that are played", 60)
+    other.push("play")
+    expect(not other.run("return SlotViewer.playground.player.isPlaying"), "slots are still played")
+    other.set("traffic", "none")
+    expect(not other.is_shown("traffic-part") and other.text("slot-title") == "Slot 0, not decided yet: 16 requests", other.text("slot-title"))
 
 
 # Drops a text file on the page.
