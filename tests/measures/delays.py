@@ -112,6 +112,11 @@ class Delays(unittest.TestCase):
         self.assertEqual(self.rows(self.prefix), {})
         self.assertEqual(run_here("delays", self.prefix)[0], 0)
 
+    def test_no_run(self):
+        """Captures may be left out, and a run is asked for alone."""
+        status, told = run_here("delays")
+        self.assertEqual((status, told.splitlines()[-1].split("error: ")[1]), (2, "the following arguments are required: PREFIX"))
+
     def test_faults(self):
         told = f"tools/delays: there is no {self.prefix}.packets.csv: give the run the option --packets\n"
         self.assertEqual(run_here("delays", self.prefix), (1, told))

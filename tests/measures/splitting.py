@@ -204,6 +204,11 @@ class Splits(unittest.TestCase):
             "no port: 2 of 9 packets", "  2 without IPv4 addresses: ARP",
         ]))
 
+    def test_no_folder(self):
+        """Ports may be left out, and a folder is asked for alone."""
+        status, told = run_here("split", self.whole)
+        self.assertEqual((status, told.splitlines()[-1].split("error: ")[1]), (2, "the following arguments are required: FOLDER"))
+
     def test_faults(self):
         two = section() + interface() + interface(101) + packet(0, 1, b"") + packet(1, 1, b"")
         for data, fault in (
