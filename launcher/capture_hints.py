@@ -56,12 +56,12 @@ def is_capture(name):
     return begin.startswith(LITTLE + BIG + tuple(magic for magic, *_ in MAGICS))
 
 
-def converted(command, name):
+def converted(command, name, added=".classic", form=".pcap"):
     """A command with the name of a file for IN, and for OUT a name that no file has, in a folder that may be written. Of a
-    capture in nanoseconds it makes one in nanoseconds."""
+    capture in nanoseconds it makes one in nanoseconds. The new name is that of an unpacked file, or else ends as is said."""
     if first_bytes(name).startswith((LITTLE[1], BIG[1])):
         command = command.replace("-F pcap", "-F nsecpcap").replace("tcpdump", "tcpdump --time-stamp-precision=nano")
-    names = {"IN": name, "OUT": _new_name(name)}
+    names = {"IN": name, "OUT": _new_name(name, added, form)}
     return re.sub(r"\b(IN|OUT)\b", lambda it: shlex.quote(as_file(names[it[0]])), command)
 
 
@@ -81,13 +81,13 @@ def shell_word(word):
     return f"$'{''.join(letters)}'"
 
 
-def _new_name(name):
+def _new_name(name, added, form):
     """A name for what is made of a file: beside it, or else in the current folder or that for temporary files."""
     folder, own = os.path.split(name)
     unpacked = re.sub(r"\.(gz|xz|zst|bz2)$", "", own)
     stem, end = os.path.splitext(unpacked)
     if unpacked == own or not unpacked:
-        stem, end = (stem if end in (".pcap", ".pcapng") else own) + ".classic", ".pcap"
+        stem, end = (stem if end in (form, ".pcapng") else own) + added, form
     place = next((it for it in (folder, "", TEMPORARY) if os.access(it or ".", os.W_OK)), folder)
     made = os.path.join(place, stem + end)
     number = 1

@@ -18,7 +18,8 @@ def on_journal(name, at):
     if is_capture(name):
         kind = kind_of(name)
         if kind and kind[1].endswith("> OUT"):
-            return f"{name} {kind[0]}: {converted(kind[1], name)}"
+            command = converted(kind[1], name, ".unpacked", ".journal")
+            return f"{name} {kind[0]}: {command}"
         return f"{name} is a capture; {WANTED}"
     for front, what in OTHERS.items():
         if begin.startswith(front):

@@ -324,10 +324,12 @@ class Hints(Scene):
             (b"input,packet,bytes,cells,state\n", 0, f"j is a packets file; {other}"),
             (b"journal ports 2 rounds 4\n", 0, "j is the text of a journal; tools/journal make TEXT JOURNAL makes the journal of it"),
             (b"TTJ2", 0, f"j does not begin with the bytes TTJ1; {other}"),
-            (gzip.compress(journal, mtime=0), 0, "j is compressed by gzip: zcat j > j.classic.pcap"),
+            (gzip.compress(journal, mtime=0), 0, "j is compressed by gzip: zcat j > j.unpacked.journal"),
             (journal[:13] + b"\x02" + journal[14:], 13, None),
         ):
             self.check(["check", "j"], 4, f"journal: bad at {at}", hint, {"j": data})
+        hint = "my.journal is compressed by gzip: zcat my.journal > my.unpacked.journal"
+        self.check(["check", "my.journal"], 4, "journal: bad at 0", hint, {"my.journal": gzip.compress(journal, mtime=0)})
 
     def test_captures_that_cannot_be_read_again(self):
         """No command is given for what the shell has opened."""
