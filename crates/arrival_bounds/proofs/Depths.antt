@@ -1,4 +1,5 @@
--- The same plan with queues of another depth: the same packets arrive. And the deepest queue of a run, where none is longer than a number.
+-- The same plan with queues of another depth: the same packets arrive. And the deepest queue of a run, where none is longer
+-- than a number.
 use Rattle.std.proofs.Common.{◌≡◌, ◌∙◌, ℕ, zero, suc, ◌+◌, ◌<◌, ◌≤◌, List, [], ◌∷◌, map, max, Some, slice_get, refl, sym, ap, subst, arith}
 use Rattle.std.specs.Prelude.{sum_by}
 use Rattle.std.specs.List.{fold, range_with_len}
