@@ -53,7 +53,7 @@ module _ (scheduler : Scheduler) (plan : SwitchPlan) (run : IsUnicastRun schedul
 
   pub buffers_by_lines : (slots cells : ℕ) → 0 < slots → IsShaped plan slots cells → 3 * cells ≤ slots + 1 → HoldsAtMost scheduler plan cells
   buffers_by_lines slots cells some shaped few =
-      holds_most scheduler run.scheduling plan run.good cells
+      holds_most scheduler run.scheduling plan run.good run.unicast cells
       (lines_hold (ports_of plan) LEVELS slots (came_under scheduler plan) (gone_under scheduler plan) served (λ x. cells) (λ x. cells)
       (record {
         inputs = λ i t i_in. input_window scheduler plan slots cells shaped i t i_in;

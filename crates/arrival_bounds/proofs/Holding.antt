@@ -20,6 +20,8 @@ use Rattle.run_laws.specs.Runs.{ports_of, card_at, parts_under}
 use Rattle.run_laws.proofs.Base.{good-card, queue_in-same, servable}
 use Rattle.arrival_bounds.specs.Counts.{Counts, of_input, for_output, HoldAtMost}
 use Rattle.arrival_bounds.specs.Waits.{came_under, gone_under, waiting_under, HoldsAtMost}
+use Rattle.arrival_bounds.specs.Arrivals.{AreUnicast}
+use Rattle.arrival_bounds.proofs.UnicastRuns.{levels_empty}
 use Rattle.arrival_bounds.proofs.Lines.{line-le}
 use Rattle.arrival_bounds.proofs.Coming.{lines-plus}
 
@@ -31,7 +33,7 @@ goes_there card j l (c ∷ cells) are =
     let goes : has c.fan j ≡ true = (Decides-has c.fan j).1 (subst (λ f. Has f j) (sym fan) (bit_at-pow_same j)) in
     ap (λ (b : Bool). if b then c ∷ to_output j cells else to_output j cells) goes ∙ ap (λ xs. c ∷ xs) (goes_there card j l cells are.1)
 
-module _ (scheduler : Scheduler) (scheduling : IsScheduler scheduler) (plan : SwitchPlan) (good : IsGood plan) where
+module _ (scheduler : Scheduler) (scheduling : IsScheduler scheduler) (plan : SwitchPlan) (good : IsGood plan) (unicast : AreUnicast plan) where
   abbrev came : Counts
   came = came_under scheduler plan
 
@@ -85,6 +87,7 @@ module _ (scheduler : Scheduler) (scheduling : IsScheduler scheduler) (plan : Sw
   holds_most most holds = record {
     inputs = λ i t i_in. left _ _ _ _ (both_held i t i_in) (holds.inputs i t i_in);
     outputs = λ j t j_in. left _ _ _ _ (both_held_for j t) (holds.outputs j t j_in);
+    others = levels_empty scheduler scheduling plan good unicast;
   } where
     left : (g h c m : ℕ) → g + h ≤ c → c ≤ g + m → h ≤ m
     left g h c m few most = omega arith

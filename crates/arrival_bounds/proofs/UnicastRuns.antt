@@ -1,5 +1,6 @@
 -- Where no packet goes to several outputs, a run matches unicast alone.
 use Rattle.std.proofs.Common.{◌≡◌, ◌≢◌, ℕ, suc, ◌^◌, ◌<◌, ◌==◌, not, Bool, true, false, refl, sym, subst, arith, inl, inr}
+use Rattle.std.proofs.Common.{List, [], ◌∷◌, ap, length}
 use Rattle.std.proofs.lemmas.Bool.{eq-eqb}
 use Rattle.std.proofs.lemmas.Nat.Bits.{bit_at-pow_same}
 use Rattle.std_lemmas.proofs.Numbers.{below_power}
@@ -12,11 +13,14 @@ use Rattle.eslip_rounds.specs.Schedulers.{Scheduler, IsScheduler}
 use Rattle.slot_histories.specs.Slots.{decision_under}
 use Rattle.card_core.specs.declared.plan.Planned.{Planned}
 use Rattle.card_core.specs.Plans.{Queue, OfOutput, OfLevel, queue_of}
-use Rattle.card_core.specs.Queues.{is_routed}
+use Rattle.card_core.specs.Queues.{waiting, queue_in, is_routed}
+use Rattle.card_core.specs.Posts.{has_cells}
+use Rattle.queue_lengths.specs.Lengths.{length_in}
+use Rattle.multicast_queue.specs.FanQueues.{FanCell}
 use Rattle.card_core.proofs.Arriving.{queue-unicast}
 use Rattle.card_core.proofs.Posted.{one_or_several}
 use Rattle.switch_plan.specs.GoodPlans.{SwitchPlan, IsGood}
-use Rattle.run_laws.specs.Runs.{setup_for, card_at, parts_under, posts_under}
+use Rattle.run_laws.specs.Runs.{ports_of, setup_for, card_at, parts_under, posts_under}
 use Rattle.run_laws.proofs.Base.{good-card, sound, is-slot, pair-named}
 use Rattle.run_laws.proofs.WaitingPackets.{named-waits, waiting-admitted}
 use Rattle.arrival_bounds.specs.Arrivals.{AreUnicast}
@@ -60,3 +64,17 @@ module _ (scheduler : Scheduler) (scheduling : IsScheduler scheduler) (plan : Sw
       let of = found.1 in
       let small = below_power (card_at plan i).ports p.fan card.good.size (card.good.packets of.place p of.found).fan in
       absurd (of_level p l small of.routed found.2 (unicast i of.place p inside of.found))
+
+  -- and no cell waits in a queue of a level
+  pub levels_empty : (i l t : ℕ) → i < ports_of plan → length_in (card_at plan i) (OfLevel l) (parts_under scheduler plan i t) t ≡ 0
+  levels_empty i l t inside = by_cells (waiting (queue_in (card_at plan i) (OfLevel l) (parts_under scheduler plan i t) t)) refl where
+    by_cells : (w : List FanCell) → waiting (queue_in (card_at plan i) (OfLevel l) (parts_under scheduler plan i t) t) ≡ w
+        → length_in (card_at plan i) (OfLevel l) (parts_under scheduler plan i t) t ≡ 0
+    by_cells [] is = ap length is
+    by_cells (c ∷ w) is =
+        let found = waiting-admitted scheduler scheduling plan good (suc t) i t inside (omega arith) (OfLevel l) (ap has_cells is) in
+        let p = found.0 in
+        let of = found.1 in
+        let card = good-card plan good i inside in
+        let small = below_power (card_at plan i).ports p.fan card.good.size (card.good.packets of.place p of.found).fan in
+        absurd (of_level p l small of.routed found.2 (unicast i of.place p inside of.found))

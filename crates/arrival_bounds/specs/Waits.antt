@@ -1,8 +1,8 @@
 -- The unicast cells of a run that enter the queues, that wait in them, and that are granted.
-use Rattle.std.specs.Prelude.{ℕ, ◌<◌, ◌≤◌, length}
+use Rattle.std.specs.Prelude.{◌≡◌, ℕ, ◌<◌, ◌≤◌, length}
 use Rattle.rotating_pick.specs.declared.limits.TheConstants.{LEVELS}
 use Rattle.eslip_rounds.specs.Schedulers.{Scheduler, IsScheduler}
-use Rattle.card_core.specs.Plans.{OfOutput}
+use Rattle.card_core.specs.Plans.{OfOutput, OfLevel}
 use Rattle.card_core.specs.Queues.{before}
 use Rattle.card_core.specs.Grants.{granted_to, to_output}
 use Rattle.queue_lengths.specs.Lengths.{length_in}
@@ -34,7 +34,8 @@ waiting_under scheduler plan i j l t = length_in (card_at plan i) (OfOutput j l)
 abbrev pub WaitsAtMost : Scheduler → SwitchPlan → ℕ → Type 0
 WaitsAtMost scheduler plan most = WaitAtMost (ports_of plan) LEVELS (came_under scheduler plan) (gone_under scheduler plan) most
 
--- in each slot at most `most` cells wait at each input, and at most `most` wait for each output
+-- in each slot at most `most` cells wait at each input, and at most `most` wait for each output: all in unicast queues
 pub record HoldsAtMost (scheduler : Scheduler) (plan : SwitchPlan) (most : ℕ) : Type 0 where
   pub inputs : (i t : ℕ) → i < ports_of plan → of_input (ports_of plan) LEVELS (waiting_under scheduler plan) i t ≤ most
   pub outputs : (j t : ℕ) → j < ports_of plan → for_output (ports_of plan) LEVELS (waiting_under scheduler plan) j t ≤ most
+  pub others : (i l t : ℕ) → i < ports_of plan → length_in (card_at plan i) (OfLevel l) (parts_under scheduler plan i t) t ≡ 0

@@ -5,7 +5,7 @@ ghost use Rattle.eslip_rounds.specs.Schedulers.{Scheduler};
 ghost use Rattle.switch_plan.specs.GoodPlans.{SwitchPlan, packets_in};
 ghost use Rattle.switch_plan.specs.Totals.{greatest_slots};
 ghost use Rattle.run_laws.specs.Ends.{IsLengthUnder};
-ghost use Rattle.buffer_sizing.specs.Sizing.{DropsNothing};
+ghost use Rattle.buffer_sizing.specs.Sizing.{deepest_under, DropsNothing};
 ghost use Rattle.arrival_bounds.specs.Arrivals.{IsShaped, ArePairsShaped, ArePairsFew};
 ghost use Rattle.arrival_bounds.specs.Waits.{IsUnicastRun, WaitsAtMost, HoldsAtMost};
 
@@ -27,12 +27,15 @@ pub fn run_delays_are_short()
 {}
 
 /// Where in any `3 * cells - 1` slots in a row at most `cells` cells arrive at each input, and at most `cells` for each
-/// output, no input ever holds more than `cells` cells, and no more than `cells` ever wait for an output.
+/// output, no input ever holds more than `cells` cells, and no more than `cells` ever wait for an output. And where no input
+/// holds more than so many, no queue of the run is ever deeper.
 pub fn run_buffers_are_small()
     ensures any { (scheduler : Scheduler) (plan : SwitchPlan) (slots cells : ℕ) → IsUnicastRun scheduler plan → 0 < slots
         → IsShaped plan slots cells → 3 * cells ≤ slots + 1 → HoldsAtMost scheduler plan cells }
     ensures window { (scheduler : Scheduler) (plan : SwitchPlan) (cells : ℕ) → IsUnicastRun scheduler plan → 0 < cells
         → IsShaped plan (3 * cells - 1) cells → HoldsAtMost scheduler plan cells }
+    ensures deepest { (scheduler : Scheduler) (plan : SwitchPlan) (cells slots : ℕ) → IsUnicastRun scheduler plan
+        → HoldsAtMost scheduler plan cells → deepest_under scheduler plan slots ≤ cells }
 {}
 
 /// Where no cell waits more than `most` slots, the run ends within `most + 1` slots after the arrival slots. So it ends, where all
