@@ -15,6 +15,7 @@ TOP = Path(__file__).resolve().parents[2]
 TOOL = TOP / "tools/journal"
 JOURNALS = sorted([*TOP.glob("examples/*/expected/*.journal"), *TOP.glob("tests/jobs/*/expected/*.journal")])
 KNOWN = TOP / "crates/known_formats/data/journals.txt"
+MAKES = "tools/journal make TEXT JOURNAL makes the journal of it"
 # By hand: one cell of input 0 for output 1, at level 0; then all levels and kinds.
 ONE_CELL = """\
 journal ports 2 rounds 1
@@ -137,6 +138,6 @@ def test_tool_refuses(tmp_path):
     told = f"tools/journal: {text}: line 3: expected: slot 1 requests .. more .. matches ..\n"
     assert run("make", text, made) == (1, b"", told) and not made.exists()
     status, _, told = run("show", text)
-    assert (status, told) == (1, f"tools/journal: {text}: bad at 0; hint: {text} is the text of a journal; a journal is what run --journal writes\n")
+    assert (status, told) == (1, f"tools/journal: {text}: bad at 0; hint: {text} is the text of a journal; {MAKES}\n")
     status, _, told = run("show", tmp_path / "none")
     assert status == 1 and told.count("\n") == 1 and "Traceback" not in told
