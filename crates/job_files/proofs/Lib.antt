@@ -4,3 +4,4 @@ pub mod StoppingReads
 pub mod Putting
 pub mod Holding
 pub mod MadeSizes
+pub mod RefusedCalls

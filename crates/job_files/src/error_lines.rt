@@ -1,6 +1,6 @@
 ghost use Rattle.std.specs.Prelude.{◌≡◌, [], ◌∷◌, ◌++◌, codes, decimal, map, OnErr, OnOk};
 ghost use Rattle.std.specs.List.{concat};
-ghost use Rattle.outside.specs.Faults.{ToErr, NeverFall, NoneRose, Rose};
+ghost use Rattle.outside.specs.Faults.{ToErr, NeverFall, NoneRose, OnlyRose, Rose, of_err};
 ghost use Rattle.pcap_records.specs.Texts.{hex_text};
 ghost use Rattle.switch_words.specs.Reading.{job_words};
 ghost use Rattle.job_files.specs.ErrorLines.{check_line, checked_line, line_of, name_read, name_written, named_line, reason_parts, usage_line};
@@ -42,6 +42,7 @@ fn give_bytes<F: Files>(files: &mut F, bytes: &[u8]) -> Result<(), Failed>
     ensures told { Gives result bytes.now (F.told files.old) (F.told files.new) }
     ensures cause { OnErr result (Rose (F.faults files.old ToErr) (F.faults files.new ToErr)) }
     ensures no_fault { OnOk result (NoneRose (F.faults files.old) (F.faults files.new)) }
+    ensures no_others { OnlyRose of_err (F.faults files.old) (F.faults files.new) }
     ensures never_fall { NeverFall (F.faults files.old) (F.faults files.new) }
 {
     let mut at = 0;
@@ -64,6 +65,7 @@ fn give_part<F: Files>(files: &mut F, part: &Part) -> Result<(), Failed>
     ensures told { Gives result (part_text part.now) (F.told files.old) (F.told files.new) }
     ensures cause { OnErr result (Rose (F.faults files.old ToErr) (F.faults files.new ToErr)) }
     ensures no_fault { OnOk result (NoneRose (F.faults files.old) (F.faults files.new)) }
+    ensures no_others { OnlyRose of_err (F.faults files.old) (F.faults files.new) }
     ensures never_fall { NeverFall (F.faults files.old) (F.faults files.new) }
 {
     match *part {
@@ -76,6 +78,7 @@ fn give_part<F: Files>(files: &mut F, part: &Part) -> Result<(), Failed>
 // Gives the parts to standard error, one after the other, up to a call that fails.
 fn give_parts<F: Files>(files: &mut F, parts: &[Part])
     ensures line { GivesLine (concat (map part_text parts.now)) (F.told files.old) (F.told files.new) (F.faults files.old ToErr) (F.faults files.new ToErr) }
+    ensures no_others { OnlyRose of_err (F.faults files.old) (F.faults files.new) }
     ensures never_fall { NeverFall (F.faults files.old) (F.faults files.new) }
 {
     for part in parts {
@@ -88,6 +91,7 @@ fn give_parts<F: Files>(files: &mut F, parts: &[Part])
 // Prints the line for a text that is no table.
 fn print_table<F: Files>(files: &mut F, fault: TableFault)
     ensures line { GivesLine (table_line fault) (F.told files.old) (F.told files.new) (F.faults files.old ToErr) (F.faults files.new ToErr) }
+    ensures no_others { OnlyRose of_err (F.faults files.old) (F.faults files.new) }
     ensures never_fall { NeverFall (F.faults files.old) (F.faults files.new) }
 {
     let (at, end) = (Text("table line "), Text("\n"));
@@ -123,6 +127,7 @@ fn print_table<F: Files>(files: &mut F, fault: TableFault)
 // Prints the line for the file of a port that is no capture.
 fn print_capture<F: Files>(files: &mut F, port: u32, fault: PcapFault)
     ensures line { GivesLine (capture_line port fault) (F.told files.old) (F.told files.new) (F.faults files.old ToErr) (F.faults files.new ToErr) }
+    ensures no_others { OnlyRose of_err (F.faults files.old) (F.faults files.new) }
     ensures never_fall { NeverFall (F.faults files.old) (F.faults files.new) }
 {
     let (file, port, colon) = (Text("capture "), Number(u64::from(port)), Text(": "));
@@ -165,6 +170,7 @@ fn print_capture<F: Files>(files: &mut F, port: u32, fault: PcapFault)
 
 fn print_refusal<F: Files>(files: &mut F, fault: PlanFault)
     ensures line { GivesLine (refusal_line fault) (F.told files.old) (F.told files.new) (F.faults files.old ToErr) (F.faults files.new ToErr) }
+    ensures no_others { OnlyRose of_err (F.faults files.old) (F.faults files.new) }
     ensures never_fall { NeverFall (F.faults files.old) (F.faults files.new) }
 {
     match fault {
@@ -201,6 +207,7 @@ fn print_refusal<F: Files>(files: &mut F, fault: PlanFault)
 /// Gives standard error the usage line. Where a call fails, the rest of the line is left out.
 pub fn print_usage<F: Files>(files: &mut F)
     ensures line { GivesLine usage_line (F.told files.old) (F.told files.new) (F.faults files.old ToErr) (F.faults files.new ToErr) }
+    ensures no_others { OnlyRose of_err (F.faults files.old) (F.faults files.new) }
     ensures never_fall { NeverFall (F.faults files.old) (F.faults files.new) }
 {
     give_parts(files, &[Text(USAGE)]);
@@ -209,6 +216,7 @@ pub fn print_usage<F: Files>(files: &mut F)
 /// Gives standard error the line for want of memory. Where a call fails, the rest of the line is left out.
 pub fn print_memory<F: Files>(files: &mut F)
     ensures line { GivesLine memory_line (F.told files.old) (F.told files.new) (F.faults files.old ToErr) (F.faults files.new ToErr) }
+    ensures no_others { OnlyRose of_err (F.faults files.old) (F.faults files.new) }
     ensures never_fall { NeverFall (F.faults files.old) (F.faults files.new) }
 {
     give_parts(files, &[Text(MEMORY)]);
@@ -229,6 +237,7 @@ fn name_read(job: &Job, input: InputFile) -> &str
 fn print_write_fault<F: Files>(files: &mut F, job: &Job, written: Written)
     ensures line { GivesLine (named_line (codes "write fault: ") (name_written (job_words job.now) written)) (F.told files.old) (F.told files.new)
         (F.faults files.old ToErr) (F.faults files.new ToErr) }
+    ensures no_others { OnlyRose of_err (F.faults files.old) (F.faults files.new) }
     ensures never_fall { NeverFall (F.faults files.old) (F.faults files.new) }
 {
     let (what, end) = (Text("write fault: "), Text("\n"));
@@ -261,6 +270,7 @@ fn print_write_fault<F: Files>(files: &mut F, job: &Job, written: Written)
 fn print_no<F: Files>(files: &mut F, slot: u32, reason: Reason)
     ensures line { GivesLine (concat (codes "no: slot " ∷ decimal slot ∷ (reason_parts reason ++ codes "\n" ∷ []))) (F.told files.old) (F.told files.new)
         (F.faults files.old ToErr) (F.faults files.new ToErr) }
+    ensures no_others { OnlyRose of_err (F.faults files.old) (F.faults files.new) }
     ensures never_fall { NeverFall (F.faults files.old) (F.faults files.new) }
 {
     let (no, slot, end) = (Text("no: slot "), Number(u64::from(slot)), Text("\n"));
@@ -286,6 +296,7 @@ fn print_no<F: Files>(files: &mut F, slot: u32, reason: Reason)
 fn print_check<F: Files>(files: &mut F, file: &str, ending: CheckEnding)
     ensures line { GivesLine (check_line file.now ending) (F.told files.old) (F.told files.new) (F.faults files.old ToErr) (F.faults files.new ToErr) }
     ensures no_fault { check_status ending ≡ 0 → NoneRose (F.faults files.old) (F.faults files.new) }
+    ensures no_others { OnlyRose of_err (F.faults files.old) (F.faults files.new) }
     ensures never_fall { NeverFall (F.faults files.old) (F.faults files.new) }
 {
     let end = Text("\n");
@@ -313,6 +324,7 @@ fn print_checked<F: Files>(files: &mut F, job: &Job, ending: CheckEnding)
     ensures line { GivesLine (checked_line (job_words job.now) ending) (F.told files.old) (F.told files.new) (F.faults files.old ToErr)
         (F.faults files.new ToErr) }
     ensures no_fault { check_status ending ≡ 0 → NoneRose (F.faults files.old) (F.faults files.new) }
+    ensures no_others { OnlyRose of_err (F.faults files.old) (F.faults files.new) }
     ensures never_fall { NeverFall (F.faults files.old) (F.faults files.new) }
 {
     if let Job::Check(job) = job {
@@ -325,6 +337,7 @@ fn print_checked<F: Files>(files: &mut F, job: &Job, ending: CheckEnding)
 pub fn print_line<F: Files>(files: &mut F, job: &Job, ending: Ending)
     ensures line { GivesLine (line_of (job_words job.now) ending) (F.told files.old) (F.told files.new) (F.faults files.old ToErr) (F.faults files.new ToErr) }
     ensures no_fault { status_of ending ≡ 0 → NoneRose (F.faults files.old) (F.faults files.new) }
+    ensures no_others { OnlyRose of_err (F.faults files.old) (F.faults files.new) }
     ensures never_fall { NeverFall (F.faults files.old) (F.faults files.new) }
 {
     match ending {

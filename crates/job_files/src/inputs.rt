@@ -1,5 +1,5 @@
 ghost use Rattle.std.specs.Prelude.{◌≡◌, ◌≤◌, ◌<◌, Some, length, vec_len, IfErr, IfOk, IfSome, OnOk};
-ghost use Rattle.outside.specs.Faults.{NeverFall, NoneRose};
+ghost use Rattle.outside.specs.Faults.{NeverFall, NoneRose, OnlyRose};
 ghost use Rattle.outside.specs.WholeFiles.{Fits};
 ghost use Rattle.switch_words.specs.Limits.{IsGenWithinLimits};
 ghost use Rattle.switch_words.specs.Reading.{run_words, firm_words};
@@ -8,6 +8,7 @@ ghost use Rattle.switch_plan.specs.ReadingSteps.{bytes_of_files};
 ghost use Rattle.job_files.specs.Inputs.{AreFilesRead, CapturesRead, EarlierFit};
 ghost use Rattle.job_files.specs.Jobs.{IsInput, input_name, run_reads, firm_reads};
 ghost use Rattle.job_files.specs.FileSteps.{AreOfSize, StopsReading, reads_words};
+ghost use Rattle.job_files.specs.Statuses.{refused_by};
 
 use crate::ending::Ending;
 use outside::{Files, ReadFailure, read_buffer, read_whole};
@@ -87,6 +88,7 @@ fn read_input<F: Files>(
     requires earlier { IfSome (F.told files.old) (EarlierFit (reads_words reads.now) input) }
     ensures told { F.told files.new ≡ F.told files.old }
     ensures no_fault { OnOk result (NoneRose (F.faults files.old) (F.faults files.new)) }
+    ensures refused { IfErr result (λ ending. OnlyRose (refused_by ending) (F.faults files.old) (F.faults files.new)) }
     ensures never_fall { NeverFall (F.faults files.old) (F.faults files.new) }
     ensures bytes { IfOk result (λ v. IfSome (F.told files.old) (λ c. c.file (input_name (reads_words reads.now) input) ≡ Some v.items)) }
     ensures fits { IfOk result (λ v. length v.items ≤ MAX_FILE_BYTES) }
@@ -112,6 +114,7 @@ fn read_captures<F: Files>(
     requires table { IfSome (F.told files.old) (λ c. Fits c (reads_words reads.now).table) }
     ensures told { F.told files.new ≡ F.told files.old }
     ensures no_fault { OnOk result (NoneRose (F.faults files.old) (F.faults files.new)) }
+    ensures refused { IfErr result (λ ending. OnlyRose (refused_by ending) (F.faults files.old) (F.faults files.new)) }
     ensures never_fall { NeverFall (F.faults files.old) (F.faults files.new) }
     ensures read { IfOk result (λ v. CapturesRead (reads_words reads.now).inputs (F.told files.old) (bytes_of_files v)) }
     ensures stops { IfErr result (StopsReading (reads_words reads.now) (F.told files.old) (F.faults files.old) (F.faults files.new)) }
@@ -134,6 +137,7 @@ pub fn read_inputs<F: Files>(
     requires { length reads.now.inputs.now ≤ MAX_PORTS }
     ensures told { F.told files.new ≡ F.told files.old }
     ensures no_fault { OnOk result (NoneRose (F.faults files.old) (F.faults files.new)) }
+    ensures refused { IfErr result (λ ending. OnlyRose (refused_by ending) (F.faults files.old) (F.faults files.new)) }
     ensures never_fall { NeverFall (F.faults files.old) (F.faults files.new) }
     ensures read { IfOk result (λ i. AreFilesRead (reads_words reads.now) (F.told files.old) i.table.items (bytes_of_files i.captures)) }
     ensures stops { IfErr result (StopsReading (reads_words reads.now) (F.told files.old) (F.faults files.old) (F.faults files.new)) }

@@ -1,7 +1,7 @@
 ghost use Rattle.std.specs.Prelude.{◌≡◌, ◌≤◌, ◌<◌, ◌+◌, ◌∷◌, ◌++◌, [], length, map, slice_index_or, string_bytes, take, IfErr, IfOk, OnOk};
 ghost use Rattle.std.specs.Option.{option_map};
 ghost use Rattle.outside.specs.Contents.{append_out};
-ghost use Rattle.outside.specs.Faults.{NeverFall, NoneRose};
+ghost use Rattle.outside.specs.Faults.{NeverFall, NoneRose, OnlyRose, of_writes};
 ghost use Rattle.outside.specs.WholeFiles.{Puts, StopsAt};
 ghost use Rattle.switch_plan.specs.ReadingSteps.{bytes_of_files};
 ghost use Rattle.job_files.specs.FileSteps.{StopsPutting, written_at};
@@ -105,6 +105,7 @@ pub fn run_files(
 fn put_file<F: Files>(files: &mut F, file: &OutputFile) -> Result<(), Failed>
     ensures told { Puts result (shown file.now) (F.faults files.old) (F.faults files.new) (F.told files.old) (F.told files.new) }
     ensures no_fault { OnOk result (NoneRose (F.faults files.old) (F.faults files.new)) }
+    ensures no_others { OnlyRose of_writes (F.faults files.old) (F.faults files.new) }
     ensures never_fall { NeverFall (F.faults files.old) (F.faults files.new) }
 {
     put_whole(files, file.name.as_str(), file.bytes.as_slice())
@@ -118,6 +119,7 @@ fn put_all<F: Files>(files: &mut F, output_files: &[OutputFile]) -> Result<(), u
     ensures err { IfErr result (λ place. StopsAt (slice_index_or (map shown output_files.now) place nameless) (F.faults files.old) (F.faults files.new)
         (option_map (put_files (take place (map shown output_files.now))) (F.told files.old)) (F.told files.new)) }
     ensures no_fault { OnOk result (NoneRose (F.faults files.old) (F.faults files.new)) }
+    ensures no_others { OnlyRose of_writes (F.faults files.old) (F.faults files.new) }
     ensures never_fall { NeverFall (F.faults files.old) (F.faults files.new) }
 {
     for (place, file) in output_files.iter().enumerate() {
@@ -153,6 +155,7 @@ pub fn put_texts<F: Files>(files: &mut F, texts: &JobTexts) -> Result<(), Writte
     ensures err { IfErr result (λ written. StopsPutting texts.now.outputs texts.now.with_journal (map shown texts.now.files.items)
         (string_bytes texts.now.summary) written (F.told files.old) (F.faults files.old) (F.faults files.new) (F.told files.new)) }
     ensures no_fault { OnOk result (NoneRose (F.faults files.old) (F.faults files.new)) }
+    ensures no_others { OnlyRose of_writes (F.faults files.old) (F.faults files.new) }
     ensures never_fall { NeverFall (F.faults files.old) (F.faults files.new) }
 {
     if let Err(place) = put_all(files, texts.files.as_slice()) {

@@ -1,8 +1,8 @@
 -- What checking a journal file by a scheduler comes to, and what it leaves.
-use Rattle.std.specs.Prelude.{◌≡◌, ◌≤◌, ℕ, List, [], ◌∷◌, take, length, map, Option, Some, Result, Ok, Err, IfSome, option_map, codes, decimal}
+use Rattle.std.specs.Prelude.{◌≡◌, ◌≤◌, ℕ, Bool, List, [], ◌∷◌, take, length, map, Option, Some, Result, Ok, Err, IfSome, option_map, codes, decimal}
 use Rattle.eslip_rounds.specs.Schedulers.{Scheduler}
 use Rattle.outside.specs.Contents.{Contents, append_out}
-use Rattle.outside.specs.Faults.{Place, ReadOf, ToOut, Rose}
+use Rattle.outside.specs.Faults.{Place, ReadOf, ToOut, Rose, of_none, of_reads, of_writes}
 use Rattle.outside.specs.WholeFiles.{IsLongerThan}
 use Rattle.slot_report.specs.Lines.{lines_text}
 use Rattle.journal_check.specs.declared.limits.TheConstants.{MAX_JOURNAL_BYTES}
@@ -52,3 +52,13 @@ MeansCheck scheduler name old new was now ReadFault = Rose (was (ReadOf name)) (
 MeansCheck scheduler name old new was now OutOfMemory = new ≡ old
 MeansCheck scheduler name old new was now OutFault = (text : List ℕ) × (given : ℕ) × IsYes scheduler name old text × Rose (was ToOut) (now ToOut)
     × (new ≡ option_map (append_out (take given text)) old)
+
+-- of which calls one was refused where a check ends so
+abbrev pub refused_by : CheckEnding → Place → Bool
+refused_by Yes = of_none
+refused_by (No slot reason) = of_none
+refused_by (Bad at) = of_none
+refused_by TooLong = of_none
+refused_by ReadFault = of_reads
+refused_by OutOfMemory = of_none
+refused_by OutFault = of_writes

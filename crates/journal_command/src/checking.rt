@@ -1,10 +1,10 @@
 ghost use Rattle.std.specs.Prelude.{◌≡◌, ℕ, List, Ok};
 ghost use Rattle.eslip_rounds.specs.Schedulers.{Scheduler};
 ghost use Rattle.named_schedulers.specs.Named.{decision_named};
-ghost use Rattle.outside.specs.Faults.{NeverFall, NoneRose};
+ghost use Rattle.outside.specs.Faults.{NeverFall, NoneRose, OnlyRose};
 ghost use Rattle.journal_check.specs.declared.verdict.Verdict.TheVariants as verdict;
 ghost use Rattle.journal_command.specs.declared.ending.CheckEnding.TheVariants.{Yes};
-ghost use Rattle.journal_command.specs.Checks.{IsAnswered, MeansCheck};
+ghost use Rattle.journal_command.specs.Checks.{IsAnswered, MeansCheck, refused_by};
 
 use crate::ending::CheckEnding;
 use crate::reading::read_journal;
@@ -26,6 +26,7 @@ pub fn check_file<F: Files>(
 ) -> CheckEnding
     ensures meaning { MeansCheck (decision_named scheduler) name.now (F.told files.old) (F.told files.new) (F.faults files.old) (F.faults files.new) result }
     ensures no_fault { result ≡ Yes → NoneRose (F.faults files.old) (F.faults files.new) }
+    ensures refused { OnlyRose (refused_by result) (F.faults files.old) (F.faults files.new) }
     ensures never_fall { NeverFall (F.faults files.old) (F.faults files.new) }
 {
     let bytes = match read_journal(alloc, name, files) {
@@ -51,6 +52,7 @@ fn tell_yes<F: Files>(
     ensures meaning { (scheduler : Scheduler) → IsAnswered scheduler name.now (F.told files.old) (Ok (verdict.Yes slots longest.now))
         → MeansCheck scheduler name.now (F.told files.old) (F.told files.new) (F.faults files.old) (F.faults files.new) result }
     ensures no_fault { result ≡ Yes → NoneRose (F.faults files.old) (F.faults files.new) }
+    ensures refused { OnlyRose (refused_by result) (F.faults files.old) (F.faults files.new) }
     ensures never_fall { NeverFall (F.faults files.old) (F.faults files.new) }
 {
     let Ok(text) = yes_lines(alloc, slots, longest) else {

@@ -1,8 +1,8 @@
 ghost use Rattle.std.specs.Prelude.{◌≡◌, ◌≢◌, ◌≤◌, Some, length, IfErr, IfOk, IfSome, OnOk};
 ghost use Rattle.eslip_rounds.specs.Schedulers.{Scheduler};
-ghost use Rattle.outside.specs.Faults.{NeverFall, NoneRose};
+ghost use Rattle.outside.specs.Faults.{NeverFall, NoneRose, OnlyRose};
 ghost use Rattle.journal_command.specs.declared.ending.CheckEnding.TheVariants.{Yes};
-ghost use Rattle.journal_command.specs.Checks.{MeansCheck};
+ghost use Rattle.journal_command.specs.Checks.{MeansCheck, refused_by};
 
 use crate::ending::CheckEnding;
 use journal_check::MAX_JOURNAL_BYTES;
@@ -17,6 +17,7 @@ pub(crate) fn read_journal<F: Files>(
 ) -> Result<Vec<u8>, CheckEnding>
     ensures told { F.told files.new ≡ F.told files.old }
     ensures no_fault { OnOk result (NoneRose (F.faults files.old) (F.faults files.new)) }
+    ensures refused { IfErr result (λ ending. OnlyRose (refused_by ending) (F.faults files.old) (F.faults files.new)) }
     ensures never_fall { NeverFall (F.faults files.old) (F.faults files.new) }
     ensures bytes { IfOk result (λ v. IfSome (F.told files.old) (λ c. c.file name.now ≡ Some v.items)) }
     ensures fits { IfOk result (λ v. length v.items ≤ MAX_JOURNAL_BYTES) }

@@ -1,5 +1,6 @@
 -- How often calls of each kind were made, or failed.
 use Rattle.std.specs.Prelude.{◌≡◌, ◌+◌, ◌^◌, ℕ, List, Any, nat_lt, if◌then◌else◌}
+use Rattle.outside.specs.Faults.{Place, ReadOf, BeginOf, WriteOf, ToOut, ToErr}
 use Rattle.outside.specs.declared.memory_files.calls.Call.{Call}
 use Rattle.outside.specs.declared.memory_files.calls.Call.TheVariants.{Read, Begin, Write, Out, Err}
 use Rattle.outside.specs.declared.memory_files.calls.CallCounts.{CallCounts}
@@ -28,6 +29,14 @@ one_more Begin c = record c { begin = raised c.begin }
 one_more Write c = record c { write = raised c.write }
 one_more Out c = record c { out = raised c.out }
 one_more Err c = record c { err = raised c.err }
+
+-- the counts where each kind of call has one for all names
+abbrev pub counts_of_kinds : CallCounts → Place → ℕ
+counts_of_kinds c (ReadOf name) = c.read
+counts_of_kinds c (BeginOf name) = c.begin
+counts_of_kinds c (WriteOf name) = c.write
+counts_of_kinds c ToOut = c.out
+counts_of_kinds c ToErr = c.err
 
 -- one of these entries names the call of this kind and number
 abbrev pub Names : List Fail → Call → ℕ → Type 0

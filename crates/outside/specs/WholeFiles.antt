@@ -1,8 +1,10 @@
 -- Whole files, read and written in as many calls as it takes, and whole texts given to standard output.
-use Rattle.std.specs.Prelude.{◌≡◌, ◌<◌, ◌≤◌, ℕ, List, take, length, Option, Some, Result, Ok, Err, option_map}
+use Rattle.std.specs.Prelude.{◌≡◌, ◌<◌, ◌≤◌, ℕ, Bool, List, take, length, Option, Some, Result, Ok, Err, option_map}
 use Rattle.rotating_pick.specs.declared.limits.TheConstants.{MAX_FILE_BYTES}
 use Rattle.outside.specs.Contents.{Contents, begin_file, append_file, append_out}
-use Rattle.outside.specs.Faults.{Place, BeginOf, WriteOf, Rose}
+use Rattle.outside.specs.Faults.{Place, BeginOf, WriteOf, Rose, of_none, of_reads}
+use Rattle.outside.specs.declared.whole_file.ReadFailure.{ReadFailure}
+use Rattle.outside.specs.declared.whole_file.ReadFailure.TheVariants as failure
 
 -- the file is there, and not too long
 abbrev pub Fits : Contents → List ℕ → Type 0
@@ -15,6 +17,12 @@ IsLongerThan limit c name = (bytes : List ℕ) × (c.file name ≡ Some bytes) �
 -- the file is there, and has more bytes than a file may have
 abbrev pub IsTooLong : Contents → List ℕ → Type 0
 IsTooLong c name = IsLongerThan MAX_FILE_BYTES c name
+
+-- of which calls one was refused where a file was not read so
+abbrev pub refused_by : ReadFailure → Place → Bool
+refused_by failure.Fault = of_reads
+refused_by failure.TooLong = of_none
+refused_by failure.OutOfMemory = of_none
 
 -- A name, and the bytes of the file of that name.
 pub record NamedBytes : Type 0 where

@@ -1,7 +1,8 @@
 ghost use Rattle.std.specs.Prelude.{◌≡◌, ◌≤◌, None, length, IfOk};
-ghost use Rattle.outside.specs.Faults.{Rose};
+ghost use Rattle.outside.specs.Calls.{counts_of_kinds, no_calls, one_more};
 
 use crate::files::{Failed, Files};
+use crate::memory_files::{Call, CallCounts};
 use crate::standard_error::StandardError;
 use std::fs::OpenOptions;
 use std::io::{Read, Seek, SeekFrom, Write};
@@ -9,13 +10,13 @@ use std::marker::Model;
 use std::{fs, io, rt};
 
 /// The files of the system, standard output and standard error. Nothing is told of what they hold,
-/// and one count stands for the faults of all kinds and names: after 2^64 - 1 of them it stays.
+/// and for each kind of call one count stands for the faults of all names: after 2^64 - 1 of them it stays.
 ///
 /// The file that is read and the file that is written are left open from one piece to the next.
 #[derive(Drop)]
 pub struct DiskFiles<'r, R: rt::Files + Print + StandardError + AllocGlobal> {
     rt: &'r R,
-    faults: u64,
+    faults: CallCounts,
     reading: Option<OpenFile<R::File>>,
     writing: Option<OpenFile<R::File>>,
 }
@@ -30,10 +31,10 @@ struct OpenFile<F: Drop> {
 }
 
 impl<'r, R: rt::Files + Print + StandardError + AllocGlobal> Model for DiskFiles<'r, R> {
-    ghost use Rattle.std.specs.Prelude.{ℕ};
+    ghost use Rattle.outside.specs.declared.memory_files.calls.CallCounts.{CallCounts};
 
-    // the count of faults
-    ghost Value = { ℕ };
+    // the counts of faults
+    ghost Value = { CallCounts };
 
     ghost view = { λ files. files.faults };
 }
@@ -51,22 +52,21 @@ impl<'r, R: rt::Files + Print + StandardError + AllocGlobal> DiskFiles<'r, R> {
     /// Over the runtime's files, standard output and standard error. No file is opened yet, and no
     /// fault is counted.
     pub fn make(rt: &'r R) -> DiskFiles<'r, R>
-        ensures { result ≡ 0 }
+        ensures { result ≡ no_calls }
     {
         DiskFiles {
             rt,
-            faults: 0,
+            faults: CallCounts::NONE,
             reading: None,
             writing: None,
         }
     }
 
-    // Counts a fault.
-    fn fail(&mut self) -> Failed
-        ensures rose { Rose self.old self.new }
-        ensures never_fall { self.old ≤ self.new }
+    // Counts a fault of this kind of call.
+    fn fail(&mut self, call: Call) -> Failed
+        ensures { self.new ≡ one_more call self.old }
     {
-        self.faults = self.faults.saturating_add(1);
+        self.faults.raise(call);
         Failed
     }
 
@@ -131,40 +131,40 @@ impl<'r, R: rt::Files + Print + StandardError + AllocGlobal> DiskFiles<'r, R> {
 impl<'r, R: rt::Files + Print + StandardError + AllocGlobal> Files for DiskFiles<'r, R> {
     ghost told = { λ _. None };
 
-    ghost faults = { λ faults _. faults };
+    ghost faults = { counts_of_kinds };
 
     fn read(&mut self, name: &str, at: u64, buf: &mut [u8]) -> Result<usize, Failed> {
         match self.read_at(name, at, buf) {
             Ok(count) => Ok(count),
-            Err(_) => Err(self.fail()),
+            Err(_) => Err(self.fail(Call::Read)),
         }
     }
 
     fn begin(&mut self, name: &str) -> Result<(), Failed> {
         match self.create(name) {
             Ok(()) => Ok(()),
-            Err(_) => Err(self.fail()),
+            Err(_) => Err(self.fail(Call::Begin)),
         }
     }
 
     fn write(&mut self, name: &str, bytes: &[u8]) -> Result<usize, Failed> {
         match self.append(name, bytes) {
             Ok(count) if count > 0 || bytes.is_empty() => Ok(count),
-            _ => Err(self.fail()),
+            _ => Err(self.fail(Call::Write)),
         }
     }
 
     fn out(&mut self, bytes: &[u8]) -> Result<usize, Failed> {
         match self.rt.write_some(bytes) {
             Ok(count) if count > 0 || bytes.is_empty() => Ok(count),
-            _ => Err(self.fail()),
+            _ => Err(self.fail(Call::Out)),
         }
     }
 
     fn err(&mut self, bytes: &[u8]) -> Result<usize, Failed> {
         match self.rt.write_error(bytes) {
             Ok(count) if count > 0 || bytes.is_empty() => Ok(count),
-            _ => Err(self.fail()),
+            _ => Err(self.fail(Call::Err)),
         }
     }
 }

@@ -1,6 +1,6 @@
 ghost use Rattle.std.specs.Prelude.{◌≡◌, ◌≤◌, ◌<◌, ℕ, Option, true, length, IfOk, IfSome, OnErr, OnOk};
 ghost use Rattle.outside.specs.Contents.{Contents, GivesPiece, after_begin, after_err, after_out, after_write};
-ghost use Rattle.outside.specs.Faults.{Place, ReadOf, BeginOf, WriteOf, ToOut, ToErr, NeverFall, NoneRose, Rose};
+ghost use Rattle.outside.specs.Faults.{Place, ReadOf, BeginOf, WriteOf, ToOut, ToErr, NeverFall, NoneRose, OnlyRose, Rose, of_err, of_reads, of_writes};
 
 use std::error::Error;
 use std::fmt;
@@ -20,8 +20,9 @@ impl Error for Failed {}
 /// Files, standard output and standard error.
 ///
 /// Each call may fail at any time, and a failure is counted: for each kind of call and each name there
-/// is a count of faults, which never falls. A call that goes well raises no count. What the files hold
-/// is told, or it is not.
+/// is a count of faults, which never falls. A call that goes well raises no count, and one that fails none
+/// but of its own side: of reads, of what is written, or of standard error. What the files hold is told, or
+/// it is not.
 pub trait Files {
     /// What the files hold, which names were begun, and what standard output and standard error
     /// were given; None where it is not told.
@@ -39,6 +40,7 @@ pub trait Files {
         ensures room { IfOk result (λ k. k ≤ length buf.old) }
         ensures cause { OnErr result (Rose (faults self.old (ReadOf name.now)) (faults self.new (ReadOf name.now))) }
         ensures no_fault { OnOk result (NoneRose (faults self.old) (faults self.new)) }
+        ensures no_others { OnlyRose of_reads (faults self.old) (faults self.new) }
         ensures never_fall { NeverFall (faults self.old) (faults self.new) };
 
     /// Makes the named file empty and begun, also where it was there.
@@ -46,6 +48,7 @@ pub trait Files {
         ensures told { told self.new ≡ after_begin result name.now (told self.old) }
         ensures cause { OnErr result (Rose (faults self.old (BeginOf name.now)) (faults self.new (BeginOf name.now))) }
         ensures no_fault { OnOk result (NoneRose (faults self.old) (faults self.new)) }
+        ensures no_others { OnlyRose of_writes (faults self.old) (faults self.new) }
         ensures never_fall { NeverFall (faults self.old) (faults self.new) };
 
     /// Appends a first part of `bytes` to a file, which must have been begun, and answers its length in
@@ -57,6 +60,7 @@ pub trait Files {
         ensures some { IfOk result (λ k. 0 < length bytes.now → 0 < k) }
         ensures cause { OnErr result (Rose (faults self.old (WriteOf name.now)) (faults self.new (WriteOf name.now))) }
         ensures no_fault { OnOk result (NoneRose (faults self.old) (faults self.new)) }
+        ensures no_others { OnlyRose of_writes (faults self.old) (faults self.new) }
         ensures never_fall { NeverFall (faults self.old) (faults self.new) };
 
     /// Gives a first part of `bytes` to standard output, and answers its length in bytes: at least 1
@@ -67,6 +71,7 @@ pub trait Files {
         ensures some { IfOk result (λ k. 0 < length bytes.now → 0 < k) }
         ensures cause { OnErr result (Rose (faults self.old ToOut) (faults self.new ToOut)) }
         ensures no_fault { OnOk result (NoneRose (faults self.old) (faults self.new)) }
+        ensures no_others { OnlyRose of_writes (faults self.old) (faults self.new) }
         ensures never_fall { NeverFall (faults self.old) (faults self.new) };
 
     /// Gives a first part of `bytes` to standard error, and answers its length in bytes: at least 1
@@ -77,5 +82,6 @@ pub trait Files {
         ensures some { IfOk result (λ k. 0 < length bytes.now → 0 < k) }
         ensures cause { OnErr result (Rose (faults self.old ToErr) (faults self.new ToErr)) }
         ensures no_fault { OnOk result (NoneRose (faults self.old) (faults self.new)) }
+        ensures no_others { OnlyRose of_err (faults self.old) (faults self.new) }
         ensures never_fall { NeverFall (faults self.old) (faults self.new) };
 }

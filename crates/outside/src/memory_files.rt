@@ -3,11 +3,11 @@ ghost use Rattle.std.specs.Prelude.{AllPairs, IfOk, IsErr, IsNone, IsTrue, OnErr
 ghost use Rattle.std.specs.Option.{option_copied};
 ghost use Rattle.outside.specs.Calls.{no_calls, one_more};
 ghost use Rattle.outside.specs.Contents.{GivesPiece, after_begin, after_err, after_out, after_write};
-ghost use Rattle.outside.specs.Faults.{Place, ReadOf, BeginOf, WriteOf, ToOut, ToErr, NeverFall, NoneRose, Rose};
+ghost use Rattle.outside.specs.Faults.{Place, ReadOf, BeginOf, WriteOf, ToOut, ToErr, NeverFall, NoneRose, OnlyRose, Rose, of_err, of_reads, of_writes};
 ghost use Rattle.outside.specs.MemoryFiles.{contents_of, contents_given, faults_of, faults_after, piece_length, HasNoRoom, IsToFail, MakesCall};
 
 use crate::files::{Failed, Files};
-use crate::memory_files::calls::{CallCounts, FailPlan};
+use crate::memory_files::calls::FailPlan;
 use crate::memory_files::file_list::{append_to, begin_file, bytes_of, count_fault};
 use crate::memory_files::given_files::stored;
 use crate::memory_files::stored_file::StoredFile;
@@ -20,6 +20,7 @@ mod file_list;
 mod given_files;
 mod stored_file;
 
+pub(crate) use calls::CallCounts;
 pub use calls::{Call, Fail};
 pub use given_files::names_differ;
 
@@ -169,6 +170,7 @@ impl Files for MemFiles {
         ensures room { IfOk result (λ k. k ≤ length buf.old) }
         ensures cause { OnErr result (Rose (faults_of self.old (ReadOf name.now)) (faults_of self.new (ReadOf name.now))) }
         ensures no_fault { OnOk result (NoneRose (faults_of self.old) (faults_of self.new)) }
+        ensures no_others { OnlyRose of_reads (faults_of self.old) (faults_of self.new) }
         ensures never_fall { NeverFall (faults_of self.old) (faults_of self.new) }
 
         ensures count { IfOk result (λ k. k ≡ piece_length self.old.piece at (length buf.old) ((contents_of self.old).file name.now)) }
@@ -189,6 +191,7 @@ impl Files for MemFiles {
         ensures told { Some (contents_of self.new) ≡ after_begin result name.now (Some (contents_of self.old)) }
         ensures cause { OnErr result (Rose (faults_of self.old (BeginOf name.now)) (faults_of self.new (BeginOf name.now))) }
         ensures no_fault { OnOk result (NoneRose (faults_of self.old) (faults_of self.new)) }
+        ensures no_others { OnlyRose of_writes (faults_of self.old) (faults_of self.new) }
         ensures never_fall { NeverFall (faults_of self.old) (faults_of self.new) }
 
         ensures planned { IsToFail Call.Begin self.old → IsErr result }
@@ -212,6 +215,7 @@ impl Files for MemFiles {
         ensures some { IfOk result (λ k. 0 < length bytes.now → 0 < k) }
         ensures cause { OnErr result (Rose (faults_of self.old (WriteOf name.now)) (faults_of self.new (WriteOf name.now))) }
         ensures no_fault { OnOk result (NoneRose (faults_of self.old) (faults_of self.new)) }
+        ensures no_others { OnlyRose of_writes (faults_of self.old) (faults_of self.new) }
         ensures never_fall { NeverFall (faults_of self.old) (faults_of self.new) }
 
         ensures count { IfOk result (λ k. k ≡ min self.old.piece (length bytes.now)) }
@@ -236,6 +240,7 @@ impl Files for MemFiles {
         ensures some { IfOk result (λ k. 0 < length bytes.now → 0 < k) }
         ensures cause { OnErr result (Rose (faults_of self.old ToOut) (faults_of self.new ToOut)) }
         ensures no_fault { OnOk result (NoneRose (faults_of self.old) (faults_of self.new)) }
+        ensures no_others { OnlyRose of_writes (faults_of self.old) (faults_of self.new) }
         ensures never_fall { NeverFall (faults_of self.old) (faults_of self.new) }
 
         ensures count { IfOk result (λ k. k ≡ min self.old.piece (length bytes.now)) }
@@ -260,6 +265,7 @@ impl Files for MemFiles {
         ensures some { IfOk result (λ k. 0 < length bytes.now → 0 < k) }
         ensures cause { OnErr result (Rose (faults_of self.old ToErr) (faults_of self.new ToErr)) }
         ensures no_fault { OnOk result (NoneRose (faults_of self.old) (faults_of self.new)) }
+        ensures no_others { OnlyRose of_err (faults_of self.old) (faults_of self.new) }
         ensures never_fall { NeverFall (faults_of self.old) (faults_of self.new) }
 
         ensures count { IfOk result (λ k. k ≡ min self.old.piece (length bytes.now)) }

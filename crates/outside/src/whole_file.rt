@@ -1,6 +1,6 @@
-ghost use Rattle.std.specs.Prelude.{◌≡◌, ◌≤◌, ◌<◌, [], Some, true, length, All, IfOk, OnOk, OnErr, IfSome, IsErrOf};
-ghost use Rattle.outside.specs.Faults.{ReadOf, ToOut, NeverFall, NoneRose, Rose};
-ghost use Rattle.outside.specs.WholeFiles.{Appends, GivesOut, IsLongerThan, Puts};
+ghost use Rattle.std.specs.Prelude.{◌≡◌, ◌≤◌, ◌<◌, [], Some, true, length, All, IfErr, IfOk, OnOk, OnErr, IfSome, IsErrOf};
+ghost use Rattle.outside.specs.Faults.{ReadOf, ToOut, NeverFall, NoneRose, OnlyRose, Rose, of_writes};
+ghost use Rattle.outside.specs.WholeFiles.{Appends, GivesOut, IsLongerThan, Puts, refused_by};
 
 use crate::files::{Failed, Files};
 use std::alloc::{AllocError, Global};
@@ -58,6 +58,7 @@ fn read_into<F: Files>(
     requires empty { bytes.old.items ≡ [] }
     ensures told { F.told files.new ≡ F.told files.old }
     ensures no_fault { OnOk result (NoneRose (F.faults files.old) (F.faults files.new)) }
+    ensures refused { IfErr result (λ failure. OnlyRose (refused_by failure) (F.faults files.old) (F.faults files.new)) }
     ensures never_fall { NeverFall (F.faults files.old) (F.faults files.new) }
     ensures bytes { OnOk result (IfSome (F.told files.old) (λ c. c.file name.now ≡ Some bytes.new.items)) }
     ensures fits { OnOk result (length bytes.new.items ≤ limit) }
@@ -90,6 +91,7 @@ pub fn read_whole<F: Files>(
     requires { 0 < length buf.old }
     ensures told { F.told files.new ≡ F.told files.old }
     ensures no_fault { OnOk result (NoneRose (F.faults files.old) (F.faults files.new)) }
+    ensures refused { IfErr result (λ failure. OnlyRose (refused_by failure) (F.faults files.old) (F.faults files.new)) }
     ensures never_fall { NeverFall (F.faults files.old) (F.faults files.new) }
     ensures bytes { IfOk result (λ v. IfSome (F.told files.old) (λ c. c.file name.now ≡ Some v.items)) }
     ensures fits { IfOk result (λ v. length v.items ≤ limit) }
@@ -107,6 +109,7 @@ fn append_all<F: Files>(files: &mut F, name: &str, bytes: &[u8]) -> Result<(), F
     ensures told { Appends result (record { name = name.now; bytes = bytes.now }) (F.faults files.old) (F.faults files.new) (F.told files.old)
         (F.told files.new) }
     ensures no_fault { OnOk result (NoneRose (F.faults files.old) (F.faults files.new)) }
+    ensures no_others { OnlyRose of_writes (F.faults files.old) (F.faults files.new) }
     ensures never_fall { NeverFall (F.faults files.old) (F.faults files.new) }
 {
     let mut at = 0;
@@ -121,6 +124,7 @@ fn append_all<F: Files>(files: &mut F, name: &str, bytes: &[u8]) -> Result<(), F
 pub fn put_whole<F: Files>(files: &mut F, name: &str, bytes: &[u8]) -> Result<(), Failed>
     ensures told { Puts result (record { name = name.now; bytes = bytes.now }) (F.faults files.old) (F.faults files.new) (F.told files.old) (F.told files.new) }
     ensures no_fault { OnOk result (NoneRose (F.faults files.old) (F.faults files.new)) }
+    ensures no_others { OnlyRose of_writes (F.faults files.old) (F.faults files.new) }
     ensures never_fall { NeverFall (F.faults files.old) (F.faults files.new) }
 {
     files.begin(name)?;
@@ -133,6 +137,7 @@ pub fn put_out<F: Files>(files: &mut F, bytes: &[u8]) -> Result<(), Failed>
     ensures told { GivesOut result bytes.now (F.told files.old) (F.told files.new) }
     ensures cause { OnErr result (Rose (F.faults files.old ToOut) (F.faults files.new ToOut)) }
     ensures no_fault { OnOk result (NoneRose (F.faults files.old) (F.faults files.new)) }
+    ensures no_others { OnlyRose of_writes (F.faults files.old) (F.faults files.new) }
     ensures never_fall { NeverFall (F.faults files.old) (F.faults files.new) }
 {
     let mut at = 0;

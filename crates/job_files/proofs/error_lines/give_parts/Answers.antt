@@ -15,5 +15,6 @@ loop-part-preserved g c = record {
   told = given_more part_text c.args.parts.now c.loop-part.part-index _ c.give_part.result _ _ _ c.loop-part-test.true
       (sym c.is_err.ensures.value ∙ c.if-is_err.false)
       c.loop-part.invariant.told c.give_part.ensures.told;
+  no_others = λ p other. c.give_part.ensures.no_others p other ∙ c.loop-part.invariant.no_others p other;
   never_fall = λ p. omega (arith, c.loop-part.invariant.never_fall p, c.give_part.ensures.never_fall p);
 }
