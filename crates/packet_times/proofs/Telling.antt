@@ -120,10 +120,10 @@ module _ (scheduler : Scheduler) (plan : SwitchPlan) (slots i k : ℕ) (p : Plan
       → list_any (tells s) (packet_rows scheduler plan slots i k p) ≡ is_state state s
   rows-tell s some = elim (cases_Bool (is_routed p)) [
     | inl routed ↦
-        ap (list_any (tells s)) (cond-true (is_routed p) (rows_to scheduler plan slots i k p (ports_of plan)) aside routed)
+        ap (list_any (tells s)) (cond-true (is_routed p) (rows_to scheduler plan slots i k p p.fan) aside routed)
         ∙ any-same (tells s) (row_to scheduler plan slots i k p) (is_state state s) (λ j. tells-routed s i k p state j _) outputs (some routed)
     | inr nowhere ↦
-        ap (list_any (tells s)) (cond-false (is_routed p) (rows_to scheduler plan slots i k p (ports_of plan)) aside nowhere)
+        ap (list_any (tells s)) (cond-false (is_routed p) (rows_to scheduler plan slots i k p p.fan) aside nowhere)
         ∙ or-false (tells s (aside_row i k p state))
         ∙ tells-aside s i k p state
   ]

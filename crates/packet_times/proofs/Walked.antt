@@ -98,7 +98,7 @@ module _ (scheduler : Scheduler) (plan : SwitchPlan) (slots k : ℕ) (p : Planne
 
     module _ (counts new : List ℕ) (was : slice_index counts (own_place flow.output flow.level flow.kind) ≡ earlier_by scheduler plan slots flow k)
         (admitted : was_admitted (card_at plan flow.input) (parts_under scheduler plan flow.input slots) p ≡ true)
-        (counted : IsCounted p.fan p.level (kind_of (queue_of p)) MAX_PORTS counts new) where
+        (counted : IsCounted (Has p.fan) p.level (kind_of (queue_of p)) counts new) where
       step-yes : goes_by scheduler plan slots flow p ≡ true
           → slice_index new (own_place flow.output flow.level flow.kind) ≡ earlier_by scheduler plan slots flow (k + 1)
       step-yes goes =
@@ -108,9 +108,7 @@ module _ (scheduler : Scheduler) (plan : SwitchPlan) (slots k : ℕ) (p : Planne
           let kind : flow.kind ≡ kind_of (queue_of p) = sym (kind_to flow.output flow.level flow.kind) ∙ ap kind_of same in
           let place : own_place flow.output flow.level flow.kind ≡ own_place flow.output p.level (kind_of (queue_of p)) =
           ap (λ l. own_place flow.output l flow.kind) level ∙ ap (own_place flow.output p.level) kind in
-          let size = good.size.most in
-          let output = is.output in
-          let more = counted.here flow.output (omega (arith, size, output)) (eqb-true _ 1 (both.1)) in
+          let more = counted.here flow.output (eqb-true _ 1 (both.1)) in
           ap (slice_index new) place
           ∙ more
           ∙ ap (λ n. one_more (slice_index counts n)) (sym place)
@@ -122,7 +120,7 @@ module _ (scheduler : Scheduler) (plan : SwitchPlan) (slots k : ℕ) (p : Planne
           → slice_index new (own_place flow.output flow.level flow.kind) ≡ earlier_by scheduler plan slots flow (k + 1)
       step-no goes =
           counted.others (own_place flow.output flow.level flow.kind)
-          (λ j less member at.
+          (λ j member at.
           let a = kind_few flow.kind in
           let b = kind_few (kind_of (queue_of p)) in
           let low = is.level in
@@ -149,7 +147,7 @@ module _ (scheduler : Scheduler) (plan : SwitchPlan) (slots k : ℕ) (p : Planne
 
   module _ (input : ℕ) (counts : List ℕ) (at : slice_get (card_at plan input).packets k ≡ Some p) (was : HasGone scheduler plan slots input k counts) where
     pub gone-more : (new : List ℕ) → was_admitted (card_at plan input) (parts_under scheduler plan input slots) p ≡ true
-        → IsCounted p.fan p.level (kind_of (queue_of p)) MAX_PORTS counts new
+        → IsCounted (Has p.fan) p.level (kind_of (queue_of p)) counts new
         → HasGone scheduler plan slots input (k + 1) new
     gone-more new admitted counted = record {
       long = counted.long ∙ was.long;

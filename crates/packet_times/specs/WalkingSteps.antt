@@ -1,7 +1,6 @@
 -- The walk over the packets of an input: how many of them went by each of its flows.
 use Rattle.std.specs.Prelude.{◌≡◌, ◌≢◌, ◌<◌, ◌+◌, ◌*◌, ℕ, nat_lt, if◌then◌else◌, List, map, length, Some, slice_get, slice_set, slice_index}
 use Rattle.std.specs.List.{flat_map}
-use Rattle.rotating_pick.specs.PortSets.{Has}
 use Rattle.rotating_pick.specs.declared.kinds.Kind.{Kind}
 use Rattle.reassembly.specs.declared.limits.TheConstants.{FLOWS_PER_INPUT}
 use Rattle.eslip_rounds.specs.Schedulers.{Scheduler}
@@ -26,11 +25,11 @@ one_more n = if nat_lt n 4294967295 then n + 1 else n
 abbrev pub with_one : List ℕ → ℕ → List ℕ
 with_one counts place = slice_set counts place (one_more (slice_index counts place))
 
--- one more is counted at the flow to each of the first outputs that is in the fan-out
-pub record IsCounted (fan level : ℕ) (kind : Kind) (outputs : ℕ) (old new : List ℕ) : Type 0 where
+-- one more is counted at the flow to each of these outputs
+pub record IsCounted (to : ℕ → Type 0) (level : ℕ) (kind : Kind) (old new : List ℕ) : Type 0 where
   pub long : length new ≡ length old
-  pub here : (j : ℕ) → j < outputs → Has fan j → slice_index new (own_place j level kind) ≡ one_more (slice_index old (own_place j level kind))
-  pub others : (place : ℕ) → ((j : ℕ) → j < outputs → Has fan j → place ≢ own_place j level kind) → slice_index new place ≡ slice_index old place
+  pub here : (j : ℕ) → to j → slice_index new (own_place j level kind) ≡ one_more (slice_index old (own_place j level kind))
+  pub others : (place : ℕ) → ((j : ℕ) → to j → place ≢ own_place j level kind) → slice_index new place ≡ slice_index old place
 
 -- the first packets of an input are counted at each of its flows
 pub record HasGone (scheduler : Scheduler) (plan : SwitchPlan) (slots input k : ℕ) (counts : List ℕ) : Type 0 where
@@ -50,9 +49,9 @@ row_to scheduler plan slots i k packet j =
     let state = state_of (card_at plan i) (parts_under scheduler plan i slots) packet in
     routed_row i k packet state j (departure_if state (departure_under scheduler plan slots i j k packet))
 
--- the rows of a routed packet to the first outputs
+-- the rows of a routed packet to the outputs of a set
 abbrev pub rows_to : Scheduler → SwitchPlan → ℕ → ℕ → ℕ → Planned → ℕ → List (List (List ℕ))
-rows_to scheduler plan slots i k packet outputs = map (row_to scheduler plan slots i k packet) (outputs_in outputs packet.fan)
+rows_to scheduler plan slots i k packet outputs = map (row_to scheduler plan slots i k packet) (outputs_in (ports_of plan) outputs)
 
 -- the lines of a packet
 abbrev pub outcome_text : Scheduler → SwitchPlan → ℕ → Outcome → List ℕ

@@ -1,4 +1,5 @@
 ghost use Rattle.std.specs.Prelude.{◌≡◌, ◌<◌, length};
+ghost use Rattle.rotating_pick.specs.PortSets.{Has};
 ghost use Rattle.rotating_pick.specs.declared.limits.TheConstants.{LEVELS, MAX_PORTS};
 ghost use Rattle.card_core.specs.Plans.{kind_of as queue_kind, queue_of};
 ghost use Rattle.packet_times.specs.WalkingSteps.{own_place, with_one, IsCounted};
@@ -6,7 +7,7 @@ ghost use Rattle.packet_times.specs.WalkingSteps.{own_place, with_one, IsCounted
 use crate::rows::kind_of;
 use card_core::Planned;
 use reassembly::FLOWS_PER_INPUT;
-use rotating_pick::{Kind, MAX_PORTS, contains};
+use rotating_pick::{Kind, lowest, without};
 
 /// How many flows an input has at most.
 pub(crate) const MOST_FLOWS: usize = 512;
@@ -35,12 +36,12 @@ fn count_one(counts: &mut [u32], place: usize)
 /// Counts a packet at its flow to each of its outputs.
 pub(crate) fn count_packet(counts: &mut [u32], packet: &Planned)
     ensures { packet.now.level < LEVELS → length counts.old ≡ MOST_FLOWS
-        → IsCounted packet.now.fan packet.now.level (queue_kind (queue_of packet.now)) MAX_PORTS counts.old counts.new }
+        → IsCounted (Has packet.now.fan) packet.now.level (queue_kind (queue_of packet.now)) counts.old counts.new }
 {
     let kind = kind_of(packet.fan);
-    for output in 0..MAX_PORTS {
-        if contains(packet.fan, output) {
-            count_one(counts, place_of_own(output, packet.level, kind));
-        }
+    let mut left = packet.fan;
+    while let Some(output) = lowest(left) {
+        count_one(counts, place_of_own(output, packet.level, kind));
+        left = without(left, output);
     }
 }

@@ -15,7 +15,7 @@ use crate::going::{MOST_FLOWS, count_packet, place_of_own};
 use crate::rows::{aside_fields, kind_of, routed_fields, state_of};
 use crate::times::PacketTimes;
 use card_core::Planned;
-use rotating_pick::{LEVELS, MAX_PORTS, contains, is_empty};
+use rotating_pick::{LEVELS, MAX_PORTS, is_empty, lowest, without};
 use std::alloc::AllocError;
 
 /// A packet of an input, its number there, and whether it was admitted.
@@ -68,12 +68,12 @@ impl PacketTimes {
         } = outcome;
         let state = state_of(&packet, admitted);
         let kind = kind_of(packet.fan);
-        for output in 0..self.ports() {
-            if contains(packet.fan, output) {
-                let departure = self.departure(counts, outcome, output);
-                let fields = routed_fields(number, &packet, state, kind, output, departure);
-                put_row(text, input, &fields)?;
-            }
+        let mut left = packet.fan;
+        while let Some(output) = lowest(left) {
+            let departure = self.departure(counts, outcome, output);
+            let fields = routed_fields(number, &packet, state, kind, output, departure);
+            put_row(text, input, &fields)?;
+            left = without(left, output);
         }
         Ok(())
     }

@@ -2,7 +2,8 @@ use Rattle.std.proofs.Common.{◌≡◌, ◌∙◌, ◌<◌, ◌≤◌, ◌+◌,
 use Rattle.std.proofs.Common.{ap, subst, arith, string_bytes}
 use Rattle.std.specs.List.{flat_map, enumerate_from}
 use Rattle.std.proofs.lemmas.List.{append-nil}
-use Rattle.rotating_pick.specs.declared.limits.TheConstants.{LEVELS, MAX_PORTS}
+use Rattle.rotating_pick.specs.PortSets.{Has}
+use Rattle.rotating_pick.specs.declared.limits.TheConstants.{LEVELS}
 use Rattle.card_core.specs.declared.plan.Planned.{Planned}
 use Rattle.card_core.specs.Plans.{IsSmallPlan, kind_of, queue_of, no_packet}
 use Rattle.run_laws.specs.Runs.{ports_of, card_at}
@@ -55,7 +56,7 @@ loop-number-preserved c scheduler plan slots noted come =
             subst (HasGone scheduler plan slots input (k + 1)) (sym w.counts-is)
             (gone-more scheduler plan slots k p noted.good small input c.loop-number.counts outcome.packet now.gone w.count_packet.new.counts
             (sym outcome.admitted ∙ w.if-admitted.true)
-            (subst (λ (x : Planned). IsCounted x.fan x.level (kind_of (queue_of x)) MAX_PORTS c.loop-number.counts w.count_packet.new.counts) same counted))
+            (subst (λ (x : Planned). IsCounted (Has x.fan) x.level (kind_of (queue_of x)) c.loop-number.counts w.count_packet.new.counts) same counted))
         | else-admitted w ↦
             subst (HasGone scheduler plan slots input (k + 1)) (sym w.counts-is)
             (gone-same scheduler plan slots k p noted.good small input c.loop-number.counts outcome.packet now.gone
