@@ -1,13 +1,15 @@
 -- What enters the queues of a run is no more than what arrives.
 use Rattle.std.proofs.Common.{◌≡◌, ◌∙◌, ℕ, zero, suc, ◌+◌, ◌<◌, ◌≤◌, ◌==◌, ◌&&◌, Bool, true, false, length, Option, None, Some, slice_index_or}
-use Rattle.std.proofs.Common.{sym, ap, subst, arith, add-one, if◌then◌else◌, length-append}
+use Rattle.std.proofs.Common.{refl, sym, ap, subst, arith, add-one, if◌then◌else◌, length-append, inl, inr}
 use Rattle.std.specs.Prelude.{sum_by}
 use Rattle.std.specs.List.{range_with_len}
+use Rattle.std.proofs.lemmas.Bool.{cases_lt}
 use Rattle.std.proofs.lemmas.List.Elements.{filter-append}
 use Rattle.std.proofs.lemmas.List.Sums.{sum_by-cons}
 use Rattle.std_lemmas.proofs.Sums.{sum_by-zero, sum_by-same, sum_by-plus, sum_by-none, range_sum-le, range_sum-one}
 use Rattle.rotating_pick.specs.declared.limits.TheConstants.{LEVELS}
 use Rattle.slot_histories.specs.Tests.{has}
+use Rattle.slot_histories.proofs.SetTests.{Decides-has}
 use Rattle.multicast_queue.specs.FanQueues.{FanCell}
 use Rattle.eslip_rounds.specs.Schedulers.{Scheduler}
 use Rattle.card_core.specs.declared.plan.Planned.{Planned}
@@ -16,12 +18,13 @@ use Rattle.card_core.specs.Queues.{Passed, waiting, before, queue_in, coming, fi
 use Rattle.card_core.specs.Grants.{to_output}
 use Rattle.card_core.proofs.Admitting.{entered_stays}
 use Rattle.card_core.proofs.CellCounts.{packet_goes}
+use Rattle.card_core.proofs.Passing.{arriving-there}
 use Rattle.switch_plan.specs.GoodPlans.{SwitchPlan}
 use Rattle.run_laws.specs.Runs.{ports_of, card_at, parts_under}
 use Rattle.run_laws.proofs.Base.{before-same}
 use Rattle.arrival_bounds.specs.Counts.{Counts, of_input, for_output}
 use Rattle.arrival_bounds.specs.Waits.{came_under}
-use Rattle.arrival_bounds.specs.Arrivals.{cells_of, cells_to, arriving_at, arriving_for, IsShaped, ArePairsShaped}
+use Rattle.arrival_bounds.specs.Arrivals.{IsInUse, cells_of, cells_to, cells_for, arriving_at, arriving_for, arriving_in}
 
 -- ---- one packet enters one queue
 one_level : (r : Queue) (j x : ℕ) → sum_by (λ l. if is_queue (OfOutput j l) r then x else 0) (range_with_len 0 LEVELS) ≤ x
@@ -59,6 +62,13 @@ fewer_to true true false d x = omega arith
 fewer_to true false c d x = omega arith
 fewer_to false b c d x = omega arith
 
+fewer_for : (a b c d : Bool) (x : ℕ) → (if (a && b && c) && d then x else 0) ≤ (if a && b then x else 0)
+fewer_for true true true true x = omega arith
+fewer_for true true true false x = omega arith
+fewer_for true true false d x = omega arith
+fewer_for true false c d x = omega arith
+fewer_for false b c d x = omega arith
+
 -- the cells that enter a queue
 abbrev enter : Plan → ℕ → ℕ → Passed → Option (ℕ × Planned) → ℕ
 enter card j l s o = length (to_output j (coming card (OfOutput j l) s o))
@@ -93,6 +103,22 @@ enter_column card s j (Some (k, p)) =
     (fewer_to (is_routed p) (is_queue (OfOutput j l) (queue_of p)) (fits card (s l) p) (has p.fan j) (size_of p))) in
     let one = one_level (queue_of p) j x in
     omega (arith, few, one)
+
+enter_few : (card : Plan) (s : Passed) (j l : ℕ) (o : Option (ℕ × Planned)) → enter card j l s o ≤ cells_for (OfOutput j l) o
+enter_few card s j l None = omega arith
+enter_few card s j l (Some (k, p)) =
+    subst (λ e. e ≤ cells_for (OfOutput j l) (Some (k, p))) (sym (enter-is card j l k s p))
+    (fewer_for (is_routed p) (is_queue (OfOutput j l) (queue_of p)) (fits card s p) (has p.fan j) (size_of p))
+
+-- where some enter, the packet goes to the queue's output
+enter_goes : (card : Plan) (s : Passed) (j l k : ℕ) (p : Planned) → 0 < enter card j l s (Some (k, p)) → has p.fan j ≡ true
+enter_goes card s j l k p some =
+    by_tests (is_routed p && is_queue (OfOutput j l) (queue_of p) && fits card s p) (has p.fan j) (size_of p)
+    (subst (λ e. 0 < e) (enter-is card j l k s p) some) where
+      by_tests : (a b : Bool) (x : ℕ) → 0 < (if a && b then x else 0) → b ≡ true
+      by_tests a true x some = refl
+      by_tests true false x some = absurd (omega arith)
+      by_tests false false x some = absurd (omega arith)
 
 -- ---- of two tables
 pub lines-plus : (a b : ℕ → ℕ → ℕ) (n m : ℕ) → sum_by (λ j. sum_by (λ l. a j l + b j l) (range_with_len 0 m)) (range_with_len 0 n)
@@ -139,6 +165,25 @@ module _ (scheduler : Scheduler) (plan : SwitchPlan) where
       let fresh_none : fresh i j l t ≡ 0 = ap (enter (card_at plan i) j l (old i j l t)) none in
       omega arith
 
+  -- a queue that a cell entered is in use
+  pub in_use : (i j l t : ℕ) → 0 < came i j l t → IsInUse plan i j
+  in_use i j l zero some = absurd (omega arith)
+  in_use i j l (suc t) some = elim (cases_lt 0 (came i j l t)) [
+    | inl before ↦ in_use i j l t before
+    | inr none ↦ let more = came-more i j l t in now (arriving (card_at plan i) t) refl (omega arith)
+  ] where
+    now : (o : Option (ℕ × Planned)) → arriving (card_at plan i) t ≡ o → 0 < enter (card_at plan i) j l (old i j l t) o → IsInUse plan i j
+    now None is enters = absurd (omega arith)
+    now (Some (k, p)) is enters =
+        let found = arriving-there 0 (card_at plan i).packets t k p is in
+        record { number = found.0; packet = p; found = found.2; goes = (Decides-has p.fan j).0 (enter_goes (card_at plan i) (old i j l t) j l k p enters) }
+
+  queue_more : (i j l t : ℕ) → came i j l (suc t) ≤ came i j l t + arriving_in plan i j l t
+  queue_more i j l t =
+      let more = came-more i j l t in
+      let few = enter_few (card_at plan i) (old i j l t) j l (arriving (card_at plan i) t) in
+      omega arith
+
   input_more : (i t : ℕ) → of_input (ports_of plan) LEVELS came i (suc t) ≤ of_input (ports_of plan) LEVELS came i t + arriving_at plan i t
   input_more i t =
       let same = lines-same (λ j l. came i j l (suc t)) (λ j l. came i j l t + fresh i j l t) (ports_of plan) LEVELS (λ j l. came-more i j l t) in
@@ -176,30 +221,14 @@ module _ (scheduler : Scheduler) (plan : SwitchPlan) (slots : ℕ) where
   abbrev n : ℕ
   n = ports_of plan
 
-  abbrev in_all : ℕ → ℕ → ℕ
-  in_all = of_input n LEVELS (came_under scheduler plan)
+  pub queue_grows : (i j l t : ℕ) → came_under scheduler plan i j l (t + slots) ≤ came_under scheduler plan i j l t
+      + sum_by (arriving_in plan i j l) (range_with_len t slots)
+  queue_grows i j l t = grows (came_under scheduler plan i j l) (arriving_in plan i j l) (queue_more scheduler plan i j l) slots t
 
-  abbrev out_all : ℕ → ℕ → ℕ
-  out_all = for_output n LEVELS (came_under scheduler plan)
+  pub in_grows : (i t : ℕ) → of_input n LEVELS (came_under scheduler plan) i (t + slots) ≤ of_input n LEVELS (came_under scheduler plan) i t
+      + sum_by (arriving_at plan i) (range_with_len t slots)
+  in_grows i t = grows (of_input n LEVELS (came_under scheduler plan) i) (arriving_at plan i) (input_more scheduler plan i) slots t
 
-  in_grows : (i t : ℕ) → in_all i (t + slots) ≤ in_all i t + sum_by (arriving_at plan i) (range_with_len t slots)
-  in_grows i t = grows (in_all i) (arriving_at plan i) (input_more scheduler plan i) slots t
-
-  out_grows : (j t : ℕ) → out_all j (t + slots) ≤ out_all j t + sum_by (arriving_for plan j) (range_with_len t slots)
-  out_grows j t = grows (out_all j) (arriving_for plan j) (output_more scheduler plan j) slots t
-
-  wide : (a b x y : ℕ) → a ≤ b + x → x ≤ y → a ≤ b + y
-  wide a b x y p q = omega arith
-
-  wide_both : (a b c d x y m : ℕ) → a ≤ b + x → c ≤ d + y → x + y ≤ m → a + c ≤ b + d + m
-  wide_both a b c d x y m p q r = omega arith
-
-  pub input_window : (most : ℕ) → IsShaped plan slots most → (i t : ℕ) → i < n → in_all i (t + slots) ≤ in_all i t + most
-  input_window most shaped i t i_in = wide _ _ _ most (in_grows i t) (shaped.inputs i t i_in)
-
-  pub output_window : (most : ℕ) → IsShaped plan slots most → (j t : ℕ) → j < n → out_all j (t + slots) ≤ out_all j t + most
-  output_window most shaped j t j_in = wide _ _ _ most (out_grows j t) (shaped.outputs j t j_in)
-
-  pub pair_window : (most : ℕ) → ArePairsShaped plan slots most → (i j t : ℕ) → i < n → j < n
-      → in_all i (t + slots) + out_all j (t + slots) ≤ in_all i t + out_all j t + most
-  pair_window most shaped i j t i_in j_in = wide_both _ _ _ _ _ _ most (in_grows i t) (out_grows j t) (shaped i j t i_in j_in)
+  pub out_grows : (j t : ℕ) → for_output n LEVELS (came_under scheduler plan) j (t + slots) ≤ for_output n LEVELS (came_under scheduler plan) j t
+      + sum_by (arriving_for plan j) (range_with_len t slots)
+  out_grows j t = grows (for_output n LEVELS (came_under scheduler plan) j) (arriving_for plan j) (output_more scheduler plan j) slots t

@@ -19,7 +19,7 @@ use Rattle.switch_plan.specs.GoodPlans.{SwitchPlan, IsGood}
 use Rattle.run_laws.specs.Runs.{ports_of, card_at, parts_under}
 use Rattle.run_laws.proofs.Base.{good-card, queue_in-same, servable}
 use Rattle.arrival_bounds.specs.Counts.{Counts, of_input, for_output, HoldAtMost}
-use Rattle.arrival_bounds.specs.Waits.{came_under, gone_under, waiting_under, HoldsAtMost}
+use Rattle.arrival_bounds.specs.Waits.{came_under, gone_under, waiting_under, HoldByLine}
 use Rattle.arrival_bounds.specs.Arrivals.{AreUnicast}
 use Rattle.arrival_bounds.proofs.UnicastRuns.{levels_empty}
 use Rattle.arrival_bounds.proofs.Lines.{line-le}
@@ -43,8 +43,8 @@ module _ (scheduler : Scheduler) (scheduling : IsScheduler scheduler) (plan : Sw
   abbrev held : Counts
   held = waiting_under scheduler plan
 
-  held-few : (i j l t : ℕ) → i < ports_of plan → gone i j l t + held i j l t ≤ came i j l (suc t)
-  held-few i j l t i_in =
+  held-is : (i j l t : ℕ) → i < ports_of plan → gone i j l t + held i j l t ≡ came i j l (suc t)
+  held-is i j l t i_in =
       let card = card_at plan i in
       let is = (good-card plan good i i_in).good in
       let q = OfOutput j l in
@@ -65,7 +65,18 @@ module _ (scheduler : Scheduler) (scheduling : IsScheduler scheduler) (plan : Sw
       let within = (kept-before card is q parts t).within in
       omega arith
 
-  both_held : (i t : ℕ) → i < ports_of plan
+  pub held-few : (i j l t : ℕ) → i < ports_of plan → gone i j l t + held i j l t ≤ came i j l (suc t)
+  held-few i j l t i_in = few (held-is i j l t i_in) where
+    few : {x y : ℕ} → x ≡ y → x ≤ y
+    few same = omega arith
+
+  -- and no fewer
+  held-all : (i j l t : ℕ) → i < ports_of plan → came i j l (t + 1) ≤ gone i j l t + held i j l t
+  held-all i j l t i_in = subst (λ u. came i j l u ≤ gone i j l t + held i j l t) (sym (add-one t)) (few (held-is i j l t i_in)) where
+    few : {x y : ℕ} → x ≡ y → y ≤ x
+    few same = omega arith
+
+  pub both_held : (i t : ℕ) → i < ports_of plan
       → of_input (ports_of plan) LEVELS gone i t + of_input (ports_of plan) LEVELS held i t ≤ of_input (ports_of plan) LEVELS came i (t + 1)
   both_held i t i_in =
       let n = ports_of plan in
@@ -74,7 +85,7 @@ module _ (scheduler : Scheduler) (scheduling : IsScheduler scheduler) (plan : Sw
       (λ j l j_in l_in. subst (λ u. gone i j l t + held i j l t ≤ came i j l u) (sym (add-one t)) (held-few i j l t i_in)) in
       omega (arith, plus, few)
 
-  both_held_for : (j t : ℕ) → for_output (ports_of plan) LEVELS gone j t + for_output (ports_of plan) LEVELS held j t
+  pub both_held_for : (j t : ℕ) → for_output (ports_of plan) LEVELS gone j t + for_output (ports_of plan) LEVELS held j t
       ≤ for_output (ports_of plan) LEVELS came j (t + 1)
   both_held_for j t =
       let n = ports_of plan in
@@ -83,8 +94,21 @@ module _ (scheduler : Scheduler) (scheduling : IsScheduler scheduler) (plan : Sw
       (λ i l i_in l_in. subst (λ u. gone i j l t + held i j l t ≤ came i j l u) (sym (add-one t)) (held-few i j l t i_in)) in
       omega (arith, plus, few)
 
-  pub holds_most : (most : ℕ) → HoldAtMost (ports_of plan) LEVELS came gone (λ x. most) (λ x. most) → HoldsAtMost scheduler plan most
-  holds_most most holds = record {
+  pub come_most : (most_in most_out : ℕ → ℕ) → HoldByLine scheduler plan most_in most_out → HoldAtMost (ports_of plan) LEVELS came gone most_in most_out
+  come_most most_in most_out holds = record {
+    inputs = λ i t i_in. under _ _ _ _ _
+        (line-le (ports_of plan) LEVELS came (λ x y m u. gone x y m u + held x y m u) i (t + 1) t (λ j l j_in l_in. held-all i j l t i_in))
+        (lines-plus (λ j l. gone i j l t) (λ j l. held i j l t) (ports_of plan) LEVELS) (holds.inputs i t i_in);
+    outputs = λ j t j_in. under _ _ _ _ _
+        (line-le (ports_of plan) LEVELS (λ y x m u. came x y m u) (λ y x m u. gone x y m u + held x y m u) j (t + 1) t
+        (λ i l i_in l_in. held-all i j l t i_in))
+        (lines-plus (λ i l. gone i j l t) (λ i l. held i j l t) (ports_of plan) LEVELS) (holds.outputs j t j_in);
+  } where
+    under : (c s g h m : ℕ) → c ≤ s → s ≡ g + h → h ≤ m → c ≤ g + m
+    under c s g h m few same most = omega arith
+
+  pub holds_most : (most_in most_out : ℕ → ℕ) → HoldAtMost (ports_of plan) LEVELS came gone most_in most_out → HoldByLine scheduler plan most_in most_out
+  holds_most most_in most_out holds = record {
     inputs = λ i t i_in. left _ _ _ _ (both_held i t i_in) (holds.inputs i t i_in);
     outputs = λ j t j_in. left _ _ _ _ (both_held_for j t) (holds.outputs j t j_in);
     others = levels_empty scheduler scheduling plan good unicast;

@@ -1,3 +1,5 @@
+mod Ranges
+mod ContractCurves
 mod Lines
 mod Delays
 mod Buffers
@@ -7,6 +9,7 @@ mod Coming
 mod Bounded
 mod Holding
 mod Bounds
+mod Recent
 mod RunEnd
 mod Depths
 mod Dropping

@@ -1,0 +1,4 @@
+mod FirstCells
+mod Latest
+mod Unicast
+mod Soon
