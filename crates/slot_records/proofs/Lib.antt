@@ -1,0 +1,4 @@
+pub mod NextNames
+pub mod Ended
+pub mod Granted
+pub mod Adding
