@@ -33,7 +33,8 @@ use Rattle.reference_run.specs.MeetingSteps.{IsReferenceOf, run_rows_under}
 use Rattle.reference_run.specs.RunLines.{run_matches_under}
 use Rattle.reference_run.proofs.Matches.{run-few}
 use Rattle.reference_run.proofs.Told.{line-told}
-use Rattle.run_notes.specs.NotingSteps.{IsJournalOf, IsReferenceAfter, IsRunSlot}
+use Rattle.run_sinks.specs.NotedSlots.{IsRunSlot}
+use Rattle.run_notes.specs.NotingSteps.{IsJournalOf, IsReferenceAfter}
 
 -- f of each place and of what g makes there
 places-range : {X Y : Type 0} (f : ℕ → X → Y) (g : ℕ → X) (a n : ℕ)

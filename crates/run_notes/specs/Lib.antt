@@ -1,2 +1,3 @@
 pub mod Told
 pub mod NotingSteps
+pub mod UnwantedSteps

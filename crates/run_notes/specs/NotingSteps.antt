@@ -1,14 +1,10 @@
 -- Steps of proofs: what the notes of a run hold after so many of its slots, and why its texts are not made.
 use Rattle.std.specs.Prelude.{◌≡◌, ℕ, ◌<◌, ◌≤◌, if◌then◌else◌, Bool, true, List, Option, None, Some, IfSome, is_some, length, option_map, string_bytes}
-use Rattle.slot_match.specs.declared.matching.Fed.{Fed}
-use Rattle.islip_rounds.specs.declared.numbers.RoundsUsed.{RoundsUsed}
-use Rattle.crossbar.specs.declared.cards.Post.{Post}
 use Rattle.eslip_rounds.specs.Schedulers.{Scheduler}
-use Rattle.slot_histories.specs.Slots.{decision_under}
 use Rattle.slot_report.specs.Lines.{lines_text}
 use Rattle.slot_report.specs.Texts.{journal_line, map_with_place}
 use Rattle.switch_plan.specs.GoodPlans.{SwitchPlan, IsGood, IsBurst}
-use Rattle.run_laws.specs.Runs.{setup_for, posts_under, journal_under, IsSlotUnder}
+use Rattle.run_laws.specs.Runs.{journal_under}
 use Rattle.journal_check.specs.declared.limits.TheConstants.{MAX_JOURNAL_BYTES}
 use Rattle.journal_check.specs.WritingSteps.{WriterValue, IsWriting}
 use Rattle.output_queued.specs.NotingSteps.{State}
@@ -25,8 +21,9 @@ use Rattle.run_notes.specs.declared.texts.NotedTexts.{NotedTexts}
 use Rattle.run_notes.specs.declared.texts.NotesFault.{NotesFault}
 use Rattle.run_notes.specs.declared.texts.NotesFault.TheVariants.{JournalTooLong, PacketsTooLong, OutOfMemory}
 
--- what is noted, each where it is wanted
+-- what is wanted, and what is noted, each where it is wanted
 pub record Notes : Type 0 where
+  pub wanted : Wanted
   pub slots : Option (List ℕ)
   pub journal : Option WriterValue
   pub reference : Option State
@@ -59,19 +56,14 @@ abbrev pub AreTimesAfter : Scheduler → SwitchPlan → ℕ → Times → Type 0
 AreTimesAfter scheduler plan t times = HasNotedTimes scheduler plan times t
 
 -- The first t slots of the plan's run under the scheduler are noted.
-pub record HasNoted (scheduler : Scheduler) (wanted : Wanted) (plan : SwitchPlan) (notes : Notes) (t : ℕ) : Type 0 where
+pub record HasNoted (scheduler : Scheduler) (plan : SwitchPlan) (notes : Notes) (t : ℕ) : Type 0 where
   pub good : IsGood plan
   pub burst : IsBurst plan
-  pub slots : IsKept wanted.slots (AreLinesOf scheduler plan t) notes.slots
-  pub journal : IsKept wanted.journal (IsJournalOf scheduler plan t) notes.journal
-  pub reference : IsKept wanted.reference (IsReferenceAfter scheduler plan t) notes.reference
-  pub queues : IsKept wanted.queues (AreQueuesAfter scheduler plan t) notes.queues
-  pub packets : IsKept wanted.packets (AreTimesAfter scheduler plan t) notes.packets
-
--- These are the posts, the match and the numbers of slot t of the plan's run.
-pub record IsRunSlot (scheduler : Scheduler) (plan : SwitchPlan) (t : ℕ) (posts : List Post) (matched : List (Option Fed)) (numbers : RoundsUsed) : Type 0 where
-  pub slot : IsSlotUnder scheduler plan t posts matched
-  pub numbers_are : numbers ≡ (decision_under scheduler (setup_for plan) (posts_under scheduler plan) t).numbers
+  pub slots : IsKept notes.wanted.slots (AreLinesOf scheduler plan t) notes.slots
+  pub journal : IsKept notes.wanted.journal (IsJournalOf scheduler plan t) notes.journal
+  pub reference : IsKept notes.wanted.reference (IsReferenceAfter scheduler plan t) notes.reference
+  pub queues : IsKept notes.wanted.queues (AreQueuesAfter scheduler plan t) notes.queues
+  pub packets : IsKept notes.wanted.packets (AreTimesAfter scheduler plan t) notes.packets
 
 -- what the texts tell
 abbrev pub told_by : NotedTexts → Told

@@ -6,9 +6,10 @@ ghost use Rattle.run_laws.specs.Ends.{IsLength, IsLengthUnder};
 ghost use Rattle.run_laws.specs.Runs.{run_journal};
 ghost use Rattle.journal_check.specs.declared.limits.TheConstants.{MAX_JOURNAL_BYTES};
 ghost use Rattle.packet_times.specs.declared.limits.TheConstants.{MAX_PACKETS_BYTES};
-ghost use Rattle.run_notes.specs.declared.wanted.Wanted.{Wanted as AWanted};
-ghost use Rattle.run_notes.specs.NotingSteps.{HasNoted, IsRunSlot, StopsTold, told_by};
+ghost use Rattle.run_sinks.specs.NotedSlots.{IsRunSlot};
+ghost use Rattle.run_notes.specs.NotingSteps.{HasNoted, StopsTold, told_by};
 ghost use Rattle.run_notes.specs.Told.{told_under};
+ghost use Rattle.run_notes.specs.UnwantedSteps.{wants_any, still_noted};
 
 use crate::journal::{bytes_of, journal_for, put_slot_into};
 use crate::packets::{note_times, packets_file, times_for};
@@ -24,6 +25,7 @@ use output_queued::Reference;
 use packet_times::PacketTimes;
 use queue_measures::QueueMeasures;
 use rotating_pick::OutOfMemory;
+use run_sinks::SlotSink;
 use slot_board::Journal;
 use slot_match::{Match, Row};
 use std::alloc::Global;
@@ -34,6 +36,7 @@ use switch_plan::Plan;
 /// one slot.
 #[derive(Drop)]
 pub struct RunNotes {
+    wanted: Wanted,
     slots: Option<String>,
     journal: Option<JournalWriter>,
     reference: Option<Reference>,
@@ -50,6 +53,7 @@ impl Model for RunNotes {
     ghost Value = { Notes };
 
     ghost view = { λ n. record {
+      wanted = n.wanted;
       slots = option_map string_bytes n.slots;
       journal = n.journal;
       reference = n.reference;
@@ -64,7 +68,8 @@ impl RunNotes {
     pub fn make(alloc: Global, wanted: Wanted, plan: &Plan) -> Result<RunNotes, OutOfMemory>
         requires good { IsGood (switch_plan_of plan.now) }
         requires burst { IsBurst (switch_plan_of plan.now) }
-        ensures { IfOk result (λ notes. (scheduler : Scheduler) → HasNoted scheduler wanted (switch_plan_of plan.now) notes 0) }
+        ensures wanted { IfOk result (λ notes. notes.wanted ≡ wanted) }
+        ensures noted { IfOk result (λ notes. (scheduler : Scheduler) → HasNoted scheduler (switch_plan_of plan.now) notes 0) }
     {
         let slots = lines_for(alloc, wanted.slots);
         let journal = journal_for(alloc, wanted.journal, plan)?;
@@ -72,6 +77,7 @@ impl RunNotes {
         let queues = measures_for(alloc, wanted.queues, plan)?;
         let packets = times_for(alloc, wanted.packets, plan)?;
         Ok(RunNotes {
+            wanted,
             slots,
             journal,
             reference,
@@ -81,36 +87,14 @@ impl RunNotes {
         })
     }
 
-    /// Notes the next slot of the run, from slot 0 on and before its end: what its ports posted, its match, and how its
-    /// rounds were used. Want of memory is the only error; after it no text can be made of these notes.
-    pub fn note(
-        &mut self,
-        slot: u32,
-        posts: &[Post],
-        matched: &Match,
-        numbers: RoundsUsed,
-    ) -> Result<(), OutOfMemory>
-        requires { (scheduler : Scheduler) × (wanted : AWanted) × (plan : SwitchPlan) × (slots : ℕ) × IsScheduler scheduler
-            × IsLengthUnder scheduler plan slots × (slot < slots) × HasNoted scheduler wanted plan self.old slot
-            × IsRunSlot scheduler plan slot posts.now matched.now numbers }
-        ensures { (scheduler : Scheduler) (wanted : AWanted) (plan : SwitchPlan) → HasNoted scheduler wanted plan self.old slot
-            → IsRunSlot scheduler plan slot posts.now matched.now numbers → OnOk result (HasNoted scheduler wanted plan self.new (slot + 1)) }
-    {
-        reference_run::laws::slots_may_be_noted();
-        put_line_of(&mut self.slots, slot, matched, numbers)?;
-        put_slot_into(&mut self.journal, posts, matched)?;
-        note_matched(&mut self.reference, &mut self.rows, posts, matched)?;
-        note_queues(&mut self.queues, slot, posts, matched);
-        note_times(&mut self.packets, slot, posts, matched)
-    }
-
     /// Notes all slots of the journal of a run at the board, of which none is noted. Want of memory is the only error;
     /// after it no text can be made of these notes.
     pub fn note_journal(&mut self, journal: &Journal) -> Result<(), OutOfMemory>
-        requires { (wanted : AWanted) × (plan : SwitchPlan) × (slots : ℕ) × IsLength plan slots × (journal.now.slots ≡ run_journal plan slots)
-            × HasNoted decision_of wanted plan self.old 0 }
-        ensures { (wanted : AWanted) (plan : SwitchPlan) (slots : ℕ) → IsLength plan slots → journal.now.slots ≡ run_journal plan slots
-            → HasNoted decision_of wanted plan self.old 0 → OnOk result (HasNoted decision_of wanted plan self.new slots) }
+        requires { (plan : SwitchPlan) × (slots : ℕ) × IsLength plan slots × (journal.now.slots ≡ run_journal plan slots)
+            × HasNoted decision_of plan self.old 0 }
+        ensures wanted { OnOk result (self.new.wanted ≡ self.old.wanted) }
+        ensures noted { (plan : SwitchPlan) (slots : ℕ) → IsLength plan slots → journal.now.slots ≡ run_journal plan slots
+            → HasNoted decision_of plan self.old 0 → OnOk result (HasNoted decision_of plan self.new slots) }
     {
         for slot in 0..journal.slots() {
             self.note(
@@ -126,14 +110,13 @@ impl RunNotes {
     /// The texts of a run that has come to its end, of which all slots are noted. The journal's length is tested first, then
     /// that of the packets file; the other error is want of memory.
     pub fn texts(self, alloc: Global) -> Result<NotedTexts, NotesFault>
-        requires { (scheduler : Scheduler) × (wanted : AWanted) × (plan : SwitchPlan) × (slots : ℕ) × IsLengthUnder scheduler plan slots
-            × HasNoted scheduler wanted plan self slots }
-        ensures made { (scheduler : Scheduler) (wanted : AWanted) (plan : SwitchPlan) (slots : ℕ) → IsLengthUnder scheduler plan slots
-            → HasNoted scheduler wanted plan self slots → IfOk result (λ texts. told_by texts ≡ told_under scheduler wanted plan slots) }
+        requires { (scheduler : Scheduler) × (plan : SwitchPlan) × (slots : ℕ) × IsLengthUnder scheduler plan slots × HasNoted scheduler plan self slots }
+        ensures made { (scheduler : Scheduler) (plan : SwitchPlan) (slots : ℕ) → IsLengthUnder scheduler plan slots
+            → HasNoted scheduler plan self slots → IfOk result (λ texts. told_by texts ≡ told_under scheduler self.wanted plan slots) }
         ensures small_journal { IfOk result (λ texts. IfSome (told_by texts).journal (λ bytes. length bytes ≤ MAX_JOURNAL_BYTES)) }
         ensures small_packets { IfOk result (λ texts. IfSome (told_by texts).packets (λ bytes. length bytes ≤ MAX_PACKETS_BYTES)) }
-        ensures stops { (scheduler : Scheduler) (wanted : AWanted) (plan : SwitchPlan) (slots : ℕ) → IsLengthUnder scheduler plan slots
-            → HasNoted scheduler wanted plan self slots → IfErr result (StopsTold scheduler wanted plan slots) }
+        ensures stops { (scheduler : Scheduler) (plan : SwitchPlan) (slots : ℕ) → IsLengthUnder scheduler plan slots
+            → HasNoted scheduler plan self slots → IfErr result (StopsTold scheduler self.wanted plan slots) }
     {
         let journal = bytes_of(self.journal)?;
         let packets = packets_file(alloc, &self.packets)?;
@@ -147,5 +130,37 @@ impl RunNotes {
             queues,
             packets,
         })
+    }
+}
+
+impl SlotSink for RunNotes {
+    type Wanted = Wanted;
+
+    ghost wanted = { λ notes. notes.wanted };
+
+    ghost wants_any = { wants_any };
+
+    ghost noted = { λ notes scheduler plan t. HasNoted scheduler plan notes t };
+
+    ghost unwanted = { still_noted };
+
+    fn wants_slots(&self) -> bool {
+        self.wanted.is_any()
+    }
+
+    // After want of memory no text can be made of these notes.
+    fn note(
+        &mut self,
+        slot: u32,
+        posts: &[Post],
+        matched: &Match,
+        numbers: RoundsUsed,
+    ) -> Result<(), OutOfMemory> {
+        reference_run::laws::slots_may_be_noted();
+        put_line_of(&mut self.slots, slot, matched, numbers)?;
+        put_slot_into(&mut self.journal, posts, matched)?;
+        note_matched(&mut self.reference, &mut self.rows, posts, matched)?;
+        note_queues(&mut self.queues, slot, posts, matched);
+        note_times(&mut self.packets, slot, posts, matched)
     }
 }

@@ -5,7 +5,8 @@ ghost use Rattle.slot_report.specs.Lines.{lines_text};
 ghost use Rattle.slot_report.specs.Texts.{journal_line, map_with_place};
 ghost use Rattle.switch_plan.specs.GoodPlans.{SwitchPlan};
 ghost use Rattle.run_laws.specs.Runs.{journal_under};
-ghost use Rattle.run_notes.specs.NotingSteps.{AreLinesOf, IsKept, IsRunSlot};
+ghost use Rattle.run_sinks.specs.NotedSlots.{IsRunSlot};
+ghost use Rattle.run_notes.specs.NotingSteps.{AreLinesOf, IsKept};
 
 use islip_rounds::RoundsUsed;
 use slot_match::Match;

@@ -1,3 +1,6 @@
+ghost use Rattle.std.specs.Prelude.{◌≡◌};
+ghost use Rattle.run_notes.specs.UnwantedSteps.{wants_any};
+
 /// What a run is to tell beside its captures, the report's numbers and the summary.
 #[derive(Clone, Copy, Debug, PartialEq, Eq)]
 pub struct Wanted {
@@ -14,12 +17,10 @@ pub struct Wanted {
 }
 
 impl Wanted {
-    /// None of these.
-    pub const NOTHING: Wanted = Wanted {
-        slots: false,
-        journal: false,
-        reference: false,
-        queues: false,
-        packets: false,
-    };
+    /// Whether any of these is wanted.
+    pub(crate) fn is_any(self) -> bool
+        ensures { result ≡ wants_any self }
+    {
+        self.slots || self.journal || self.reference || self.queues || self.packets
+    }
 }

@@ -1,8 +1,8 @@
 use Rattle.switch_plan.specs.GoodPlans.{switch_plan_of}
 use Rattle.run_notes.proofs.notes.RunNotes.make.Goals as goal
 
-pub returns : goal.returns
-returns c = λ scheduler. record {
+pub returns-clause-noted : goal.returns-clause-noted
+returns-clause-noted c = λ scheduler. record {
   good = c.requires.good;
   burst = c.requires.burst;
   slots = c.lines_for-slots.ensures scheduler (switch_plan_of c.args.plan.now);

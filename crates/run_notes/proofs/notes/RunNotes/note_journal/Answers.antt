@@ -1,4 +1,4 @@
-use Rattle.std.proofs.Common.{◌≡◌, ◌<◌, ℕ, subst, arith}
+use Rattle.std.proofs.Common.{◌≡◌, ◌<◌, ◌∙◌, ℕ, subst, arith}
 use Rattle.eslip_rounds.specs.Decisions.{decision_of}
 use Rattle.eslip_rounds.proofs.Scheduling.{IsScheduler-decision_of}
 use Rattle.run_notes.specs.NotingSteps.{HasNoted}
@@ -7,13 +7,12 @@ use Rattle.run_notes.proofs.notes.RunNotes.note_journal.Goals as goal
 
 pub note-requires : goal.note-requires
 note-requires c =
-    let (wanted, plan, slots, ends, are, first) = c.requires in
+    let (plan, slots, ends, are, first) = c.requires in
     let t = c.loop-slot.slot in
     let journal = c.args.journal.now.slots in
-    let noted = c.loop-slot.invariant wanted plan slots ends are first in
+    let noted = c.loop-slot.invariant.noted plan slots ends are first in
     let below : t < slots = omega (arith, count_of_run plan slots journal are) in (
       decision_of,
-      wanted,
       plan,
       slots,
       IsScheduler-decision_of,
@@ -25,16 +24,19 @@ note-requires c =
     )
 
 pub loop-slot-preserved : goal.loop-slot-preserved
-loop-slot-preserved c = λ wanted plan slots ends are first.
-    let t = c.loop-slot.slot in
-    let journal = c.args.journal.now.slots in
-    let noted = c.loop-slot.invariant wanted plan slots ends are first in
-    let below : t < slots = omega (arith, count_of_run plan slots journal are) in
-    c.in_ok-note.ensures decision_of wanted plan noted
-    (slot_of_journal plan slots t journal c.posts.result.now c.decided.result.now c.used.result noted.good are below c.posts.ensures.posts
-    c.decided.ensures.matched c.used.ensures)
+loop-slot-preserved c = record {
+  wanted = c.in_ok-note.ensures.wanted ∙ c.loop-slot.invariant.wanted;
+  noted = λ plan slots ends are first.
+      let t = c.loop-slot.slot in
+      let journal = c.args.journal.now.slots in
+      let noted = c.loop-slot.invariant.noted plan slots ends are first in
+      let below : t < slots = omega (arith, count_of_run plan slots journal are) in
+      c.in_ok-note.ensures.noted decision_of plan noted
+      (slot_of_journal plan slots t journal c.posts.result.now c.decided.result.now c.used.result noted.good are below c.posts.ensures.posts
+      c.decided.ensures.matched c.used.ensures);
+}
 
-pub returns : goal.returns
-returns c = λ wanted plan slots ends are first.
+pub returns-clause-noted : goal.returns-clause-noted
+returns-clause-noted c = λ plan slots ends are first.
     let last : c.loop-slot.slot ≡ slots = omega (arith, count_of_run plan slots c.args.journal.now.slots are) in
-    subst (λ (t : ℕ). HasNoted decision_of wanted plan c.loop-slot.self t) last (c.loop-slot.invariant wanted plan slots ends are first)
+    subst (λ (t : ℕ). HasNoted decision_of plan c.loop-slot.self t) last (c.loop-slot.invariant.noted plan slots ends are first)
