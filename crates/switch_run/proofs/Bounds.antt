@@ -10,7 +10,7 @@ use Rattle.switch_plan.specs.GoodPlans.{SwitchPlan}
 use Rattle.run_laws.specs.Runs.{ports_of}
 use Rattle.run_laws.specs.Ends.{IsLengthUnder}
 use Rattle.run_laws.specs.Promises.{ServesUnder, ServesWaiting, WaitsAreShort, WaitsUnder, bound_of}
-use Rattle.one_thread.specs.FirmRuns.{FirmPromises}
+use Rattle.scheduler_runs.specs.FirmRuns.{FirmPromises}
 use Rattle.switch_run.specs.Causes.{bound_named}
 
 pub serves_named : (name : SchedulerName) (plan : SwitchPlan) (slots : ℕ) → IsLengthUnder (decision_named name) plan slots → ServesWaiting plan slots

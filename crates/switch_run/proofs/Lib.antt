@@ -5,6 +5,7 @@ pub mod Answering
 pub mod Refusing
 pub mod Completing
 pub mod Cutting
+pub mod BoardRuns
 pub mod RunTexts
 pub mod OnePlan
 pub mod Checking

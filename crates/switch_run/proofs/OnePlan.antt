@@ -27,7 +27,7 @@ use Rattle.run_outcomes.specs.Outcomes.{summary_under}
 use Rattle.run_journals.specs.RunFiles.{journal_text_under}
 use Rattle.packet_times.specs.declared.limits.TheConstants.{MAX_PACKETS_BYTES}
 use Rattle.packet_times.specs.Rows.{packets_text_under}
-use Rattle.one_thread.specs.FirmRuns.{IsFirmRun}
+use Rattle.scheduler_runs.specs.FirmRuns.{IsFirmRun}
 use Rattle.run_notes.specs.declared.wanted.Wanted.{Wanted}
 use Rattle.job_files.specs.OutputFiles.{Texts}
 use Rattle.switch_run.specs.Switched.{AreTexts, IsLongJournal, IsLongPackets, IsPlanned, IsRunOf, IsSwitched, IsSwitchedByFirm, firm_texts}

@@ -1,36 +1,32 @@
--- What the ways of a run leave, and why the texts of a run are not made.
-use Rattle.std.proofs.Common.{ℕ, List, arith}
+-- What comes of a run where its texts are made, and why they are not made.
+use Rattle.std.proofs.Common.{◌≤◌, ◌∙◌, ℕ, List, length, ap, arith}
 use Rattle.std.specs.Prelude.{Result, Ok, Err, IfErr, IfOk}
+use Rattle.std.proofs.lemmas.List.FromFn.{length-map-range_with_len}
+use Rattle.rotating_pick.specs.declared.limits.TheConstants.{MAX_PORTS}
 use Rattle.eslip_rounds.specs.Schedulers.{Scheduler}
-use Rattle.eslip_rounds.specs.Decisions.{decision_of}
 use Rattle.switch_words.specs.declared.job.Settings.{Settings}
 use Rattle.switch_plan.specs.GoodPlans.{SwitchPlan, IsGood}
-use Rattle.run_outcomes.specs.declared.outcome.Outcome.{Outcome}
-use Rattle.run_outcomes.specs.Outcomes.{IsOutcome}
 use Rattle.run_laws.specs.Ends.{IsLengthUnder}
+use Rattle.run_laws.specs.Runs.{ports_of}
+use Rattle.descriptor_runs.specs.declared.running.RunOutcome.{RunOutcome}
+use Rattle.descriptor_runs.specs.Outcomes.{IsRunOutcome, line_under}
 use Rattle.run_notes.specs.declared.wanted.Wanted.{Wanted}
 use Rattle.run_notes.specs.declared.texts.NotesFault.{NotesFault}
 use Rattle.run_notes.specs.declared.texts.NotesFault.TheVariants as fault
 use Rattle.run_notes.specs.NotingSteps.{StopsTold}
 use Rattle.switch_run.specs.declared.making.EndedRun.{EndedRun}
-use Rattle.switch_run.specs.MakingSteps.{IsLeft, IsRan, IsRanOf, StopsPlan, StopsRun, StopsTexts, ending_of}
+use Rattle.switch_run.specs.MakingSteps.{IsRan, IsRanOf, StopsPlan, StopsRun, StopsTexts, ending_of}
 use Rattle.switch_run.specs.Switched.{IsPlanned}
 use Rattle.job_files.specs.declared.ending.Ending.{Ending}
 use Rattle.job_files.specs.declared.ending.Ending.TheVariants.{Done, Usage, ReadFault, TooLong, Refused, JournalTooLong, PacketsTooLong, OutOfMemory}
 use Rattle.job_files.specs.declared.ending.Ending.TheVariants.{WriteFault, Checked}
-use Rattle.switch_run.proofs.Cutting.{cut_outputs}
 use Rattle.switch_run.proofs.OnePlan.{journal_of_run}
 
--- what a run at the board leaves
-pub left_at_board : (plan : SwitchPlan) (outcome : Outcome) → IsGood plan → (is : IsOutcome plan outcome)
-    → IsLeft decision_of plan is.slots outcome.summary outcome.outputs.items
-left_at_board plan outcome good is = record {
-  ends = is.ends;
-  ports = is.ports;
-  outputs_are = is.outputs;
-  cut = cut_outputs plan outcome good is;
-  summary_is = is.summary;
-}
+-- a run has few outputs
+pub few_lines : (scheduler : Scheduler) (plan : SwitchPlan) (slots : ℕ) (outcome : RunOutcome) → IsGood plan → IsRunOutcome scheduler plan slots outcome
+    → length outcome.lines.items ≤ MAX_PORTS
+few_lines scheduler plan slots outcome good is =
+    omega (arith, ap length is.lines ∙ length-map-range_with_len (line_under scheduler plan slots) 0 (ports_of plan), good.size.most)
 
 -- why the texts of a run are not made, as the ending says it
 pub stops_told : (scheduler : Scheduler) (wanted : Wanted) (plan : SwitchPlan) (slots : ℕ) (why : NotesFault) → IsLengthUnder scheduler plan slots

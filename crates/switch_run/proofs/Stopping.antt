@@ -2,7 +2,6 @@
 use Rattle.std.proofs.Common.{◌≡◌, ◌≤◌, ◌+◌, ℕ, Bool, true, false, List, [], ◌∷◌, ◌++◌, length, Option, Some, None, inl, inr, refl, sym, ◌∙◌, ap, subst}
 use Rattle.std.proofs.Common.{arith, length-append}
 use Rattle.std.specs.Prelude.{is_some, if◌then◌else◌, option_map}
-use Rattle.std.proofs.lemmas.Bool.{false≢true}
 use Rattle.outside.specs.Contents.{Contents, append_err, append_out}
 use Rattle.outside.specs.Faults.{Place, ReadOf, ToOut, ToErr, NeverFall}
 use Rattle.outside.specs.WholeFiles.{NamedBytes}
@@ -14,7 +13,6 @@ use Rattle.named_schedulers.specs.Named.{decision_named}
 use Rattle.journal_command.specs.Checks.{MeansCheck}
 use Rattle.journal_command.specs.declared.ending.CheckEnding.{CheckEnding}
 use Rattle.journal_command.specs.declared.ending.CheckEnding.TheVariants as check_ending
-use Rattle.switch_words.specs.declared.job.GenJob.{GenJob}
 use Rattle.switch_words.specs.Reading.{JobWords, run, gen, check, firm, RunWords}
 use Rattle.job_files.specs.Jobs.{ReadWords, reads_of, speed_in, input_name}
 use Rattle.job_files.specs.OutputFiles.{Texts, files_from, files_of, journal_files, packets_files, packets_place, put_files, put_texts, report_name, run_files}
@@ -24,7 +22,7 @@ use Rattle.job_files.specs.ErrorLines.{line_of}
 use Rattle.job_files.specs.RefusalLines.{memory_line}
 use Rattle.switch_run.specs.Endings.{Command, IsDone, IsMade, IsStopped, IsWriteFault, Means, Stops, StopsAtFile, StopsWriting, captures_made}
 use Rattle.switch_run.specs.MakingSteps.{AreMade, AreToWrite, IsEndOf, StopsPlan, StopsTexts, ToWrite}
-use Rattle.switch_run.specs.Switched.{nothing_wanted, wanted_by}
+use Rattle.switch_run.specs.Switched.{wanted_by}
 use Rattle.job_files.specs.FileSteps.{StopsPutting, StopsReading}
 use Rattle.job_files.specs.declared.ending.Written.{Written}
 use Rattle.job_files.specs.declared.ending.Written.TheVariants.{Output, Report, Journal, Packets, StandardOutput}
@@ -136,22 +134,6 @@ texts_stop r old told was now table captures (PacketsTooLong size) same inputs s
 texts_stop r old told was now table captures OutOfMemory same inputs stops = same
 texts_stop r old told was now table captures (WriteFault written) same inputs stops = absurd stops
 texts_stop r old told was now table captures (Checked ending) same inputs stops = absurd stops
-
--- nor were those of a `gen` job, of which nothing is wanted
-pub gen_stops : (g : GenJob) (told : Option Contents) (was now : Place → ℕ) (table : List ℕ) (captures : List (List ℕ)) (ending : Ending)
-    → AreInputs (gen g) told table captures
-    → StopsTexts (decision_named g.scheduler) g.settings nothing_wanted table captures ending → Stops (gen g) told was now told ending
-gen_stops g told was now table captures Done inputs stops = stops
-gen_stops g told was now table captures Usage inputs stops = stops
-gen_stops g told was now table captures (ReadFault input) inputs stops = absurd stops
-gen_stops g told was now table captures (TooLong input) inputs stops = absurd stops
-gen_stops g told was now table captures (Refused fault) inputs stops =
-    plan_stops (gen g) told told was now table captures (Refused fault) refl inputs stops
-gen_stops g told was now table captures (JournalTooLong size) inputs stops = absurd (false≢true stops.0)
-gen_stops g told was now table captures (PacketsTooLong size) inputs stops = absurd (false≢true stops.0)
-gen_stops g told was now table captures OutOfMemory inputs stops = refl
-gen_stops g told was now table captures (WriteFault written) inputs stops = absurd stops
-gen_stops g told was now table captures (Checked ending) inputs stops = absurd stops
 
 -- What a command makes of its job and of its texts
 

@@ -26,9 +26,17 @@ pub gen_makes : (g : GenJob) (old : Option Contents) (counts : Place → ℕ) (m
     → IfErr made (λ ending. (told : Option Contents) (was now : Place → ℕ) → Stops (gen g) told was now told ending)
     → Makes (gen g) old counts counts old made
 gen_makes g old counts (Ok texts) made stops =
-    record { runs = tt; told_is = refl; never_fall = NeverFall-refl counts; no_fault = NoneRose-refl counts; texts = made old; stops = tt }
+    record { runs = tt; told_is = refl; never_fall = NeverFall-refl counts; no_fault = NoneRose-refl counts; refused = tt; texts = made old; stops = tt }
 gen_makes g old counts (Err ending) made stops =
-    record { runs = tt; told_is = refl; never_fall = NeverFall-refl counts; no_fault = tt; texts = tt; stops = stops old counts counts }
+    record {
+      runs = tt;
+      told_is = refl;
+      never_fall = NeverFall-refl counts;
+      no_fault = tt;
+      refused = λ p none. refl;
+      texts = tt;
+      stops = stops old counts counts;
+    }
 
 -- the texts of a job that were made have no more files than can be written
 pub few_texts : (job : JobWords) (old : Option Contents) (made : Result JobTexts Ending) → IfOk made (λ texts. AreToWrite job old (to_write texts))

@@ -29,18 +29,19 @@ use Rattle.run_outcomes.specs.Departures.{InterleavesFlowsUnder}
 use Rattle.buffer_sizing.specs.Sizing.{IsSized}
 use Rattle.queue_measures.specs.Sums.{QueuesAddUpUnder}
 use Rattle.packet_departures.specs.Promises.{HasDeparturesUnder, CountsDepartures}
+use Rattle.departure_bounds.specs.Bounds.{ArrivalBounds}
 use Rattle.packet_times.specs.Sums.{RowsAddUp}
 use Rattle.run_journals.specs.RunFiles.{journal_text_under}
 use Rattle.output_queued.specs.Lines.{ideal, ran}
 use Rattle.reference_run.specs.RunLines.{run_matches_under}
 use Rattle.reference_run.specs.Promises.{EndsNoLaterUnder, ExtraIsDelaysUnder}
-use Rattle.one_thread.specs.FirmRuns.{FirmPromises}
+use Rattle.scheduler_runs.specs.FirmRuns.{FirmPromises}
 use Rattle.job_files.specs.Jobs.{ReadWords, reads_of, speed_in, input_name, IsInput, RunsSwitch}
 use Rattle.switch_run.specs.Switched.{IsLongJournal, IsLongPackets, IsPlanned, IsRunOf, JournalFits}
 use Rattle.job_files.specs.Inputs.{EarlierFit, AreInputs}
 use Rattle.job_files.specs.OutputFiles.{output_name, report_name, journal_name, packets_name}
 use Rattle.switch_run.specs.Endings.{Command, Means}
-use Rattle.job_files.specs.Statuses.{status_of}
+use Rattle.job_files.specs.Statuses.{RefusedCallsEnd, status_of}
 use Rattle.job_files.specs.declared.inputs.InputFile.{InputFile}
 use Rattle.job_files.specs.declared.ending.Ending.{Ending}
 use Rattle.job_files.specs.declared.ending.Ending.TheVariants.{TooLong, Refused, JournalTooLong, PacketsTooLong, OutOfMemory, Checked}
@@ -217,6 +218,7 @@ pub record RunPromises (name : SchedulerName) (plan : SwitchPlan) (slots : ℕ) 
   pub departures : HasDeparturesUnder (decision_named name) plan slots
   pub copies : CountsDepartures (decision_named name) plan slots
   pub rows : RowsAddUp (decision_named name) plan slots
+  pub bounds : ArrivalBounds (decision_named name) plan slots
 
 -- the run under the second scheduler of the `firm` job that the words mean
 pub record IsFirmRunBy (c : Command) (plan : SwitchPlan) (slots : ℕ) : Type 0 where
@@ -241,11 +243,13 @@ pub record HasRun (c : Command) (status : ℕ) : Type 0 where
   pub second : (job : FirmWords) → c.job ≡ Some (firm job) → status ≡ 0 → (plan : SwitchPlan) × (slots : ℕ) × IsFirmRunBy c plan slots
 
 -- The switch theorem: what a command answers with this status, that at status 0 no count of refused calls rose, of any kind
--- or name, when each answer comes, that a job which was done has a run, and what holds of it.
+-- or name, that a refused call ends it at the status of its kind, when each answer comes, that a job which was done has a run,
+-- and what holds of it.
 pub record SwitchTheorem (c : Command) (status : ℕ) : Type 0 where
   pub meaning : (ending : Ending) × Answers c status ending
   pub never_fall : NeverFall c.was c.now
   pub no_fault : status ≡ 0 → NoneRose c.was c.now
+  pub refused : RefusedCallsEnd c.was c.now status
   pub usage : UsageIsExact c status
   pub too_long : TooLongIsExact c status
   pub refusal : RefusalIsExact c status

@@ -1,10 +1,10 @@
 -- What is made of a job's inputs, and what stops that: the words of the calls inside.
-use Rattle.std.specs.Prelude.{◌≡◌, ◌≤◌, ℕ, true, Bool, List, length, map, All, Option, Some, Result, Ok, IfErr, IfOk, IfSome, OnOk, is_some}
+use Rattle.std.specs.Prelude.{◌≡◌, ◌≤◌, ℕ, true, Bool, List, length, map, Option, Some, Result, Ok, IfErr, IfOk, IfSome, OnOk, is_some}
 use Rattle.std.specs.Prelude.{slice_get, string_bytes}
 use Rattle.std.specs.List.{concat}
 use Rattle.rotating_pick.specs.declared.limits.TheConstants.{MAX_PORTS}
 use Rattle.outside.specs.Contents.{Contents}
-use Rattle.outside.specs.Faults.{NeverFall, NoneRose, Place}
+use Rattle.outside.specs.Faults.{NeverFall, NoneRose, OnlyRose, Place}
 use Rattle.outside.specs.WholeFiles.{NamedBytes}
 use Rattle.eslip_rounds.specs.Schedulers.{Scheduler}
 use Rattle.card_core.specs.declared.outcome.CardOut.{CardOut}
@@ -15,21 +15,20 @@ use Rattle.switch_words.specs.declared.job.Settings.{Settings}
 use Rattle.switch_words.specs.Reading.{JobWords, run, RunWords}
 use Rattle.switch_plan.specs.Refusals.{IsRefusal}
 use Rattle.switch_plan.specs.GoodPlans.{SwitchPlan}
-use Rattle.run_laws.specs.Runs.{ports_of}
 use Rattle.run_laws.specs.Ends.{IsLengthUnder}
+use Rattle.run_outcomes.specs.Outcomes.{summary_under}
 use Rattle.journal_check.specs.declared.limits.TheConstants.{MAX_JOURNAL_BYTES}
 use Rattle.packet_times.specs.declared.limits.TheConstants.{MAX_PACKETS_BYTES}
-use Rattle.switch_jobs.specs.Captures.{IsCut}
-use Rattle.run_outcomes.specs.Outcomes.{IsOutputUnder, summary_under}
 use Rattle.run_notes.specs.declared.wanted.Wanted.{Wanted}
 use Rattle.run_notes.specs.declared.texts.NotesFault.{NotesFault}
 use Rattle.run_notes.specs.declared.texts.NotesFault.TheVariants as fault
 use Rattle.run_notes.specs.NotingSteps.{HasNoted, StopsTold, told_by}
 use Rattle.run_notes.specs.Told.{told_under}
-use Rattle.one_thread.specs.FirmRuns.{IsFirmRun, HasShortWaits}
+use Rattle.descriptor_runs.specs.Outcomes.{IsRunOutcome}
 use Rattle.job_files.specs.Inputs.{AreInputs}
 use Rattle.job_files.specs.Jobs.{RunsSwitch}
 use Rattle.job_files.specs.OutputFiles.{Texts, files_of, shown}
+use Rattle.job_files.specs.Statuses.{refused_by}
 use Rattle.job_files.specs.declared.output_files.JobTexts.{JobTexts}
 use Rattle.switch_run.specs.declared.making.NotedRun.{NotedRun}
 use Rattle.switch_run.specs.declared.making.EndedRun.{EndedRun}
@@ -38,28 +37,18 @@ use Rattle.switch_run.specs.Endings.{IsDone, Stops, captures_made}
 use Rattle.job_files.specs.declared.ending.Ending.{Ending}
 use Rattle.job_files.specs.declared.ending.Ending.TheVariants.{Done, Refused, JournalTooLong, PacketsTooLong, OutOfMemory}
 
--- What the run of a plan leaves that ends after so many slots: its numbers, and what each port is left with, which is cut
--- into messages.
-pub record IsLeft (scheduler : Scheduler) (plan : SwitchPlan) (slots : ℕ) (summary : Summary) (outputs : List CardOut) : Type 0 where
-  pub ends : IsLengthUnder scheduler plan slots
-  pub ports : length outputs ≡ ports_of plan
-  pub outputs_are : (j : ℕ) (out : CardOut) → slice_get outputs j ≡ Some out → IsOutputUnder scheduler plan slots j out
-  pub cut : All IsCut outputs
-  pub summary_is : summary ≡ summary_under scheduler plan slots
-
--- The run of the plan under the scheduler came to its end: its numbers, what each port is left with, and its notes.
+-- The run of the plan under the scheduler came to its end: what it leaves, and its notes.
 pub record IsNotedRun (scheduler : Scheduler) (plan : SwitchPlan) (wanted : Wanted) (is : NotedRun) : Type 0 where
   pub slots : ℕ
-  pub left : IsLeft scheduler plan slots is.summary is.outputs.items
-  pub noted : HasNoted scheduler wanted plan is.notes slots
+  pub left : IsRunOutcome scheduler plan slots is.outcome
+  pub wanted_is : is.notes.wanted ≡ wanted
+  pub noted : HasNoted scheduler plan is.notes slots
 
--- The same, with what it tells in place of its notes, and with the unit and the link type of its outputs.
+-- The same, with what it tells in place of its notes.
 pub record IsRanOf (scheduler : Scheduler) (plan : SwitchPlan) (wanted : Wanted) (is : EndedRun) : Type 0 where
-  pub nano_is : is.nano ≡ plan.nano
-  pub link_is : is.link ≡ plan.link
   pub slots : ℕ
-  pub left : IsLeft scheduler plan slots is.summary is.outputs.items
-  pub few : length is.outputs.items ≤ MAX_PORTS
+  pub left : IsRunOutcome scheduler plan slots is.outcome
+  pub few : length is.outcome.lines.items ≤ MAX_PORTS
   pub told : told_by is.told ≡ told_under scheduler wanted plan slots
   pub small : IfSome (told_by is.told).journal (λ bytes. length bytes ≤ MAX_JOURNAL_BYTES)
   pub packets_small : IfSome (told_by is.told).packets (λ bytes. length bytes ≤ MAX_PACKETS_BYTES)
@@ -70,12 +59,12 @@ pub record IsRan (scheduler : Scheduler) (settings : Settings) (wanted : Wanted)
   pub planned : IsPlanned settings table files plan
   pub ran : IsRanOf scheduler plan wanted is
 
--- the outputs got these messages
+-- the outputs of a board got these messages
 abbrev pub HaveMessages : (ℕ → List (List ℕ)) → List CardOut → Type 0
 HaveMessages messages outputs = (j : ℕ) (out : CardOut) → slice_get outputs j ≡ Some out → (out.body.items ≡ concat (messages j))
     × (out.lens.items ≡ map length (messages j))
 
--- the report's numbers of an output
+-- the report's numbers of an output of a board
 abbrev pub line_of_card : CardOut → OutLine
 line_of_card out = record { packets = out.packets; cells = out.cells }
 
@@ -136,12 +125,18 @@ StopsTexts scheduler settings wanted table captures (PacketsTooLong size) =
     × ((other : ℕ) → wanted.journal ≡ true → IsLongJournal scheduler settings table captures other → ⊥)
 StopsTexts scheduler settings wanted table captures ending = StopsPlan settings.speed table captures ending
 
--- the numbers of the run under the second scheduler, of a table and captures
-pub record IsFirmRan (settings : Settings) (table : List ℕ) (files : List (List ℕ)) (summary : Summary) : Type 0 where
+-- these are the numbers of the plan's run under the scheduler, to its end
+pub record AreNumbers (scheduler : Scheduler) (plan : SwitchPlan) (summary : Summary) : Type 0 where
+  pub slots : ℕ
+  pub ends : IsLengthUnder scheduler plan slots
+  pub within : slots ≤ plan.max_slots
+  pub are : summary ≡ summary_under scheduler plan slots
+
+-- the same of a table and captures
+pub record AreNumbersOf (scheduler : Scheduler) (settings : Settings) (table : List ℕ) (files : List (List ℕ)) (summary : Summary) : Type 0 where
   pub plan : SwitchPlan
   pub planned : IsPlanned settings table files plan
-  pub run : IsFirmRun plan summary
-  pub waits : HasShortWaits plan summary
+  pub ran : AreNumbers scheduler plan summary
 
 -- What a job is to write of inputs that are there.
 pub record AreToWrite (job : JobWords) (told : Option Contents) (written : ToWrite) : Type 0 where
@@ -152,12 +147,13 @@ pub record AreToWrite (job : JobWords) (told : Option Contents) (written : ToWri
   pub made : AreMade job table captures written
 
 -- What making the texts of a job left and answered. Nothing was written and no count fell; where the texts are made none rose,
--- and they are to be written, and where they are not the job stops.
+-- and they are to be written, and where they are not the job stops, and none rose but those of its ending.
 pub record Makes (job : JobWords) (old : Option Contents) (was now : Place → ℕ) (told : Option Contents) (made : Result JobTexts Ending) : Type 0 where
   pub runs : RunsSwitch job
   pub told_is : told ≡ old
   pub never_fall : NeverFall was now
   pub no_fault : OnOk made (NoneRose was now)
+  pub refused : IfErr made (λ ending. OnlyRose (refused_by ending) was now)
   pub texts : IfOk made (λ texts. AreToWrite job old (to_write texts))
   pub stops : IfErr made (Stops job old was now told)
 

@@ -25,7 +25,7 @@ use Rattle.packet_times.specs.Rows.{packets_text_under}
 use Rattle.run_journals.specs.RunFiles.{journal_text_under}
 use Rattle.run_notes.specs.declared.wanted.Wanted.{Wanted}
 use Rattle.run_notes.specs.Told.{told_under}
-use Rattle.one_thread.specs.FirmRuns.{IsFirmRun, HasShortWaits}
+use Rattle.scheduler_runs.specs.FirmRuns.{IsFirmRun, HasShortWaits}
 use Rattle.job_files.specs.OutputFiles.{Texts}
 use Rattle.job_files.specs.Jobs.{speed_in}
 

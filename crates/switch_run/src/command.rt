@@ -1,7 +1,7 @@
 ghost use Rattle.std.specs.Prelude.{◌≡◌, ◌≤◌, ◌+◌, ℕ, Bool, Option, None, Some, length, map, string_bytes, IfOk};
 ghost use Rattle.outside.specs.Contents.{Contents};
-ghost use Rattle.outside.specs.Faults.{NeverFall, NoneRose, Place};
-ghost use Rattle.job_files.specs.Statuses.{status_of};
+ghost use Rattle.outside.specs.Faults.{NeverFall, NoneRose, OnlyRose, Place};
+ghost use Rattle.job_files.specs.Statuses.{RefusedCallsEnd, refused_by, status_of};
 ghost use Rattle.switch_words.specs.Limits.{IsWithinLimits};
 ghost use Rattle.switch_words.specs.Options.{command_in};
 ghost use Rattle.switch_words.specs.Reading.{JobWords, job_words};
@@ -14,9 +14,9 @@ ghost use Rattle.job_files.specs.declared.ending.Ending.TheVariants.{Usage};
 use crate::job_texts::{end_of_check, texts_of_firm, texts_of_gen, texts_of_run};
 use buffer_sizing::laws as sizes;
 use card_worker::Gate;
+use departure_bounds::laws as bounds;
 use job_files::{Ending, JobTexts, print_line, print_memory, print_usage, put_texts};
 use named_schedulers::laws as schedulers;
-use one_thread::laws as second_runs;
 use outside::Files;
 use packet_departures::laws as departures;
 use packet_times::laws as packets;
@@ -26,6 +26,7 @@ use rotating_pick::MAX_PORTS;
 use run_journals::laws as journals;
 use run_laws::{deliveries, ends, waits};
 use run_outcomes::laws as numbers;
+use scheduler_runs::laws as second_runs;
 use std::alloc::Global;
 use std::thread::Threads;
 use switch_words::{Job, WordsFault, read_words};
@@ -37,6 +38,8 @@ fn end_of_writing<F: Files>(made: Result<JobTexts, Ending>, files: &mut F) -> En
         → IsEndOf job old was (F.faults files.new) (F.told files.new) result }
     ensures no_fault { (job : JobWords) (old : Option Contents) (was : Place → ℕ) → Makes job old was (F.faults files.old) (F.told files.old) made
         → status_of result ≡ 0 → NoneRose was (F.faults files.new) }
+    ensures refused { (job : JobWords) (old : Option Contents) (was : Place → ℕ) → Makes job old was (F.faults files.old) (F.told files.old) made
+        → OnlyRose (refused_by result) was (F.faults files.new) }
     ensures never_fall { NeverFall (F.faults files.old) (F.faults files.new) }
 {
     match made {
@@ -59,13 +62,14 @@ fn attempt<R: Threads + Sync, F: Files, G: Gate + Sync>(
     requires { IsWithinLimits job.now }
     ensures meaning { IsEndOf (job_words job.now) (F.told files.old) (F.faults files.old) (F.faults files.new) (F.told files.new) result }
     ensures no_fault { status_of result ≡ 0 → NoneRose (F.faults files.old) (F.faults files.new) }
+    ensures refused { OnlyRose (refused_by result) (F.faults files.old) (F.faults files.new) }
     ensures never_fall { NeverFall (F.faults files.old) (F.faults files.new) }
 {
     match job {
         Job::Run(job) => end_of_writing(texts_of_run(rt, alloc, job, files, gate), files),
         Job::Gen(job) => end_of_writing(texts_of_gen(rt, alloc, job, gate), files),
         Job::Check(job) => end_of_check(alloc, job, files),
-        Job::Firm(job) => end_of_writing(texts_of_firm(rt, alloc, job, files), files),
+        Job::Firm(job) => end_of_writing(texts_of_firm(rt, alloc, job, files, gate), files),
     }
 }
 
@@ -87,6 +91,7 @@ fn run<R: Threads + Sync, F: Files, G: Gate + Sync>(
       now = F.faults files.new;
     }) result }
     ensures no_fault { status_of result ≡ 0 → NoneRose (F.faults files.old) (F.faults files.new) }
+    ensures refused { RefusedCallsEnd (F.faults files.old) (F.faults files.new) (status_of result) }
     ensures never_fall { NeverFall (F.faults files.old) (F.faults files.new) }
 {
     let ending = attempt(rt, alloc, job, files, gate);
@@ -105,6 +110,7 @@ fn end_of<R: Threads + Sync, F: Files, G: Gate + Sync>(
     ensures meaning { Means (command_of (map string_bytes words.now) (F.told files.old) (F.told files.new) (F.faults files.old) (F.faults files.new)) result }
     ensures unnamed { command_in (map string_bytes words.now) ≡ None → result ≡ Usage }
     ensures no_fault { status_of result ≡ 0 → NoneRose (F.faults files.old) (F.faults files.new) }
+    ensures refused { RefusedCallsEnd (F.faults files.old) (F.faults files.new) (status_of result) }
     ensures never_fall { NeverFall (F.faults files.old) (F.faults files.new) }
 {
     match read_words(alloc, words) {
@@ -161,10 +167,13 @@ fn end_of<R: Threads + Sync, F: Files, G: Gate + Sync>(
 /// with each smaller depth a packet is dropped. Each admitted packet has one departure at each of its outputs, no two
 /// have the same at one output, those of a flow are in the order of arrival, the messages of each output's capture are
 /// in the order of departures, and there are as many as the summary has copies. The rows of the packets file tell as
-/// many packets of each state as the summary, and those of forwarded packets are as many as it has copies. Of the run
-/// of a `firm` job, under the second scheduler, the same is promised of what is delivered, of arrivals and counts, of
-/// how soon a unicast queue is served and a multicast head completes, of how long waits are, and of its slots.
+/// many packets of each state as the summary, and those of forwarded packets are as many as it has copies. Where each
+/// packet goes to one output and a slot has as many rounds as ports, or more, what arrives bounds how long cells wait and
+/// packets take, how many cells inputs hold and wait for outputs, the depth with which nothing is dropped, and the run's
+/// end. Of the run of a `firm` job, under the second scheduler, the same is promised of what is delivered, of arrivals and
+/// counts, of how soon a unicast queue is served and a multicast head completes, of how long waits are, and of its slots.
 ///
+/// Where a count of refused reads rose the status is 3, and where one of what is written or of standard output did it is 6.
 /// At 2 to 5 and at 7 every file is as before. Each status but 0 gives one line to standard error; where a call
 /// of that is refused, the rest of the line is left out, and the status stays.
 pub fn switch_main<R: Threads + Sync, F: Files, G: Gate + Sync>(
@@ -196,5 +205,6 @@ pub fn switch_main<R: Threads + Sync, F: Files, G: Gate + Sync>(
     departures::runs_have_departures();
     departures::departures_are_counted();
     packets::rows_add_up();
+    bounds::arrivals_bound_runs();
     end_of(rt, alloc, words, files, gate).status()
 }

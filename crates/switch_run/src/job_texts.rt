@@ -1,20 +1,21 @@
 ghost use Rattle.std.specs.Prelude.{◌≡◌, ℕ, Option, IfErr, IfOk, OnOk};
 ghost use Rattle.outside.specs.Contents.{Contents};
-ghost use Rattle.outside.specs.Faults.{NeverFall, NoneRose, Place};
-ghost use Rattle.job_files.specs.Statuses.{status_of};
+ghost use Rattle.outside.specs.Faults.{NeverFall, NoneRose, OnlyRose, Place};
+ghost use Rattle.job_files.specs.Statuses.{refused_by, status_of};
 ghost use Rattle.switch_words.specs.Limits.{IsFirmWithinLimits, IsGenWithinLimits, IsRunWithinLimits};
 ghost use Rattle.switch_words.specs.Reading.{run, gen, check, firm, run_words, check_words, firm_words};
 ghost use Rattle.switch_run.specs.Endings.{Stops};
 ghost use Rattle.switch_run.specs.MakingSteps.{AreToWrite, IsEndOf, to_write};
 ghost use Rattle.switch_run.specs.Switched.{wanted_by};
 
-use crate::making::{RunWay, plan_and_run, plan_and_run_firm};
+use crate::making::{RunWay, plan_and_run, summary_of_job};
 use crate::texts::{run_texts, summary_alone};
 use card_worker::Gate;
 use job_files::{Ending, JobTexts, made_inputs, read_inputs, reads_of_firm, reads_of_run};
 use journal_command::{CheckEnding, check_file};
 use outside::Files;
 use run_notes::Wanted;
+use scheduler_names::SchedulerName;
 use std::alloc::Global;
 use std::thread::Threads;
 use switch_words::{CheckJob, FirmJob, GenJob, RunJob};
@@ -43,6 +44,7 @@ pub(crate) fn texts_of_run<R: Threads + Sync, F: Files, G: Gate + Sync>(
     requires { IsRunWithinLimits job.now }
     ensures told { F.told files.new ≡ F.told files.old }
     ensures no_fault { OnOk result (NoneRose (F.faults files.old) (F.faults files.new)) }
+    ensures refused { IfErr result (λ ending. OnlyRose (refused_by ending) (F.faults files.old) (F.faults files.new)) }
     ensures never_fall { NeverFall (F.faults files.old) (F.faults files.new) }
     ensures made { IfOk result (λ texts. AreToWrite (run (run_words job.now)) (F.told files.old) (to_write texts)) }
     ensures stops { IfErr result (Stops (run (run_words job.now)) (F.told files.old) (F.faults files.old) (F.faults files.new) (F.told files.new)) }
@@ -69,31 +71,29 @@ pub(crate) fn texts_of_gen<R: Threads + Sync, G: Gate + Sync>(
     ensures stops { IfErr result (λ ending. (told : Option Contents) (was now : Place → ℕ) → Stops (gen job.now) told was now told ending) }
 {
     let inputs = made_inputs(alloc, job)?;
-    let way = RunWay {
-        scheduler: job.scheduler,
-        alone: false,
-        wanted: Wanted::NOTHING,
-    };
-    let ran = plan_and_run(rt, alloc, &job.settings, way, inputs, gate)?;
-    Ok(summary_alone(alloc, &ran.summary)?)
+    let summary = summary_of_job(rt, alloc, &job.settings, job.scheduler, inputs, gate)?;
+    Ok(summary_alone(alloc, &summary)?)
 }
 
 /// What a `firm` job writes: its inputs are read, and run under the second scheduler.
-pub(crate) fn texts_of_firm<R: Threads + Sync, F: Files>(
+pub(crate) fn texts_of_firm<R: Threads + Sync, F: Files, G: Gate + Sync>(
     rt: &R,
     alloc: Global,
     job: &FirmJob,
     files: &mut F,
+    gate: &G,
 ) -> Result<JobTexts, Ending>
     requires { IsFirmWithinLimits job.now }
     ensures told { F.told files.new ≡ F.told files.old }
     ensures no_fault { OnOk result (NoneRose (F.faults files.old) (F.faults files.new)) }
+    ensures refused { IfErr result (λ ending. OnlyRose (refused_by ending) (F.faults files.old) (F.faults files.new)) }
     ensures never_fall { NeverFall (F.faults files.old) (F.faults files.new) }
     ensures made { IfOk result (λ texts. AreToWrite (firm (firm_words job.now)) (F.told files.old) (to_write texts)) }
     ensures stops { IfErr result (Stops (firm (firm_words job.now)) (F.told files.old) (F.faults files.old) (F.faults files.new) (F.told files.new)) }
 {
     let inputs = read_inputs(alloc, &reads_of_firm(job), files)?;
-    let summary = plan_and_run_firm(rt, alloc, &job.settings, inputs)?;
+    let scheduler = SchedulerName::Firm;
+    let summary = summary_of_job(rt, alloc, &job.settings, scheduler, inputs, gate)?;
     Ok(summary_alone(alloc, &summary)?)
 }
 
@@ -101,6 +101,7 @@ pub(crate) fn texts_of_firm<R: Threads + Sync, F: Files>(
 pub(crate) fn end_of_check<F: Files>(alloc: Global, job: &CheckJob, files: &mut F) -> Ending
     ensures meaning { IsEndOf (check (check_words job.now)) (F.told files.old) (F.faults files.old) (F.faults files.new) (F.told files.new) result }
     ensures no_fault { status_of result ≡ 0 → NoneRose (F.faults files.old) (F.faults files.new) }
+    ensures refused { OnlyRose (refused_by result) (F.faults files.old) (F.faults files.new) }
     ensures never_fall { NeverFall (F.faults files.old) (F.faults files.new) }
 {
     match check_file(alloc, job.file.as_str(), job.scheduler, files) {

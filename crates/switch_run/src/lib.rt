@@ -1,6 +1,7 @@
 //! The whole command: from the words of a command line to the files that its job writes.
 #![tactic(auto)]
 
+mod captures;
 mod command;
 mod job_texts;
 pub mod laws;

@@ -5,17 +5,18 @@ ghost use Rattle.switch_words.specs.Limits.{AreWithinLimits};
 ghost use Rattle.switch_plan.specs.GoodPlans.{IsGood, IsBurst, switch_plan_of};
 ghost use Rattle.switch_plan.specs.ReadingSteps.{bytes_of_files};
 ghost use Rattle.job_files.specs.FileSteps.{AreOfSize};
-ghost use Rattle.switch_run.specs.MakingSteps.{IsFirmRan, IsNotedRun, IsRan, IsRanOf, StopsPlan, StopsRun, StopsTexts, ending_of};
+ghost use Rattle.switch_run.specs.MakingSteps.{AreNumbers, AreNumbersOf, IsNotedRun, IsRan, IsRanOf, StopsPlan, StopsRun, StopsTexts, ending_of};
 ghost use Rattle.switch_run.specs.Switched.{IsPlanned};
 
-use card_core::CardOut;
+use crate::captures::{out_lines, output_captures};
 use card_worker::Gate;
+use descriptor_runs::laws::bursts_are_countable;
+use descriptor_runs::{RunOutcome, run_by_descriptors};
 use job_files::{Ending, Inputs};
-use one_thread::{AloneOutcome, run_alone, run_firm};
-use pcap_records::Link;
 use rotating_pick::OutOfMemory;
 use run_notes::{NotedTexts, NotesFault, RunNotes, Wanted};
 use run_outcomes::Outcome;
+use run_sinks::NoSink;
 use scheduler_names::SchedulerName;
 use slot_report::Summary;
 use std::alloc::Global;
@@ -38,23 +39,16 @@ pub(crate) struct RunWay {
 // A run that came to its end, with the notes of its slots.
 #[derive(Drop)]
 struct NotedRun {
-    summary: Summary,
-    outputs: Vec<CardOut>,
+    outcome: RunOutcome,
     notes: RunNotes,
 }
 
 /// A run that came to its end.
 #[derive(Drop)]
 pub(crate) struct EndedRun {
-    /// Whether the outputs are written in nanoseconds.
-    pub(crate) nano: bool,
-    /// Their link type.
-    pub(crate) link: Link,
-    /// The numbers of the run.
-    pub(crate) summary: Summary,
-    /// What the card of each port is left with, by port.
-    pub(crate) outputs: Vec<CardOut>,
-    /// What the run tells beside these.
+    /// What the run leaves.
+    pub(crate) outcome: RunOutcome,
+    /// What it tells beside this.
     pub(crate) told: NotedTexts,
 }
 
@@ -78,7 +72,7 @@ fn planned<R: Threads + Sync>(
     }
 }
 
-// Runs the plan at a board, whose journal is noted.
+// Runs the plan at a board, whose journal is noted, and writes the captures of its outputs.
 fn run_at_board<R: Threads + Sync, G: Gate + Sync>(
     rt: &R,
     alloc: Global,
@@ -91,18 +85,22 @@ fn run_at_board<R: Threads + Sync, G: Gate + Sync>(
     ensures { IfOk result (IsNotedRun decision_of (switch_plan_of plan) wanted) }
 {
     let mut notes = RunNotes::make(alloc, wanted, &plan)?;
-    let outcome = run_job(rt, alloc, plan, gate)?;
-    notes.note_journal(&outcome.journal)?;
+    let (nano, link) = (plan.nano, plan.link);
     let Outcome {
         outputs,
+        journal,
         summary,
-        ..
-    } = outcome;
-    Ok(NotedRun {
+    } = run_job(rt, alloc, plan, gate)?;
+    notes.note_journal(&journal)?;
+    drop(journal);
+    let lines = out_lines(alloc, &outputs)?;
+    let captures = output_captures(alloc, nano, link, outputs)?;
+    let outcome = RunOutcome {
         summary,
-        outputs,
-        notes,
-    })
+        captures,
+        lines,
+    };
+    Ok(NotedRun { outcome, notes })
 }
 
 // Runs the plan on this thread under the scheduler.
@@ -116,16 +114,30 @@ fn run_on_thread(
     requires burst { IsBurst (switch_plan_of plan) }
     ensures { IfOk result (IsNotedRun (decision_named scheduler) (switch_plan_of plan) wanted) }
 {
-    let AloneOutcome {
-        summary,
-        outputs,
-        notes,
-    } = run_alone(alloc, plan, scheduler, wanted)?;
-    Ok(NotedRun {
-        summary,
-        outputs,
-        notes,
-    })
+    bursts_are_countable();
+    let mut notes = RunNotes::make(alloc, wanted, &plan)?;
+    let outcome = run_by_descriptors(alloc, plan, scheduler, &mut notes)?;
+    Ok(NotedRun { outcome, notes })
+}
+
+// Runs the plan to its end under the scheduler, at a board where it is the board's and else on this thread: the numbers of the
+// run. Nothing is noted, and the board's outputs make no captures.
+fn summary_of_run<R: Threads + Sync, G: Gate + Sync>(
+    rt: &R,
+    alloc: Global,
+    plan: Plan,
+    scheduler: SchedulerName,
+    gate: &G,
+) -> Result<Summary, OutOfMemory>
+    requires good { IsGood (switch_plan_of plan) }
+    requires burst { IsBurst (switch_plan_of plan) }
+    ensures { IfOk result (AreNumbers (decision_named scheduler) (switch_plan_of plan)) }
+{
+    bursts_are_countable();
+    match scheduler {
+        SchedulerName::Islip => Ok(run_job(rt, alloc, plan, gate)?.summary),
+        scheduler => Ok(run_by_descriptors(alloc, plan, scheduler, &mut NoSink)?.summary),
+    }
 }
 
 // Runs the plan to its end: at a board where its scheduler is the board's and it is not to be run alone, else on this
@@ -171,20 +183,9 @@ fn run_plan<R: Threads + Sync, G: Gate + Sync>(
     ensures ran { IfOk result (IsRanOf (decision_named way.scheduler) (switch_plan_of plan) way.wanted) }
     ensures stops { IfErr result (StopsRun (decision_named way.scheduler) (switch_plan_of plan) way.wanted) }
 {
-    let (nano, link) = (plan.nano, plan.link);
-    let NotedRun {
-        summary,
-        outputs,
-        notes,
-    } = run_noted(rt, alloc, plan, way, gate)?;
+    let NotedRun { outcome, notes } = run_noted(rt, alloc, plan, way, gate)?;
     match notes.texts(alloc) {
-        Ok(told) => Ok(EndedRun {
-            nano,
-            link,
-            summary,
-            outputs,
-            told,
-        }),
+        Ok(told) => Ok(EndedRun { outcome, told }),
         Err(fault) => Err(ending_of(fault)),
     }
 }
@@ -207,18 +208,20 @@ pub(crate) fn plan_and_run<R: Threads + Sync, G: Gate + Sync>(
     run_plan(rt, alloc, plan, way, gate)
 }
 
-/// Plans the job of the inputs, runs it under the second scheduler, and answers its summary.
-pub(crate) fn plan_and_run_firm<R: Threads + Sync>(
+/// Plans the job of the inputs, runs it under the scheduler, and answers its summary.
+pub(crate) fn summary_of_job<R: Threads + Sync, G: Gate + Sync>(
     rt: &R,
     alloc: Global,
     settings: &Settings,
+    scheduler: SchedulerName,
     inputs: Inputs,
+    gate: &G,
 ) -> Result<Summary, Ending>
     requires limits { AreWithinLimits settings.now }
     requires size { AreOfSize inputs.table.items (bytes_of_files inputs.captures) }
-    ensures ran { IfOk result (IsFirmRan settings.now inputs.table.items (bytes_of_files inputs.captures)) }
+    ensures ran { IfOk result (AreNumbersOf (decision_named scheduler) settings.now inputs.table.items (bytes_of_files inputs.captures)) }
     ensures stops { IfErr result (StopsPlan settings.now.speed inputs.table.items (bytes_of_files inputs.captures)) }
 {
     let plan = planned(rt, alloc, settings, inputs)?;
-    Ok(run_firm(alloc, plan)?)
+    Ok(summary_of_run(rt, alloc, plan, scheduler, gate)?)
 }

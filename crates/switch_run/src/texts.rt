@@ -1,77 +1,38 @@
-ghost use Rattle.std.specs.Prelude.{◌≡◌, ◌≤◌, ℕ, ◌++◌, List, [], All, length, map, string_bytes, IfOk};
-ghost use Rattle.std.specs.List.{range_with_len};
+ghost use Rattle.std.specs.Prelude.{◌≡◌, ◌≤◌, ℕ, ◌++◌, List, [], length, string_bytes, IfOk};
 ghost use Rattle.named_schedulers.specs.Named.{decision_named};
-ghost use Rattle.pcap_records.specs.Output.{capture_text};
 ghost use Rattle.slot_histories.specs.Answers.{JournalSlot};
 ghost use Rattle.slot_report.specs.Lines.{lines_text};
 ghost use Rattle.slot_report.specs.Texts.{journal_line, map_with_place, report_bytes, summary_lines};
 ghost use Rattle.switch_words.specs.Reading.{run, run_words};
-ghost use Rattle.switch_plan.specs.ReadingSteps.{bytes_of_files};
-ghost use Rattle.switch_jobs.specs.Captures.{IsCut};
-ghost use Rattle.switch_run.specs.MakingSteps.{AreMade, HaveMessages, IsRan, line_of_card, to_write};
+ghost use Rattle.switch_run.specs.MakingSteps.{AreMade, IsRan, to_write};
 ghost use Rattle.switch_run.specs.Switched.{wanted_by};
 
 use crate::making::EndedRun;
-use card_core::CardOut;
+use descriptor_runs::RunOutcome;
 use job_files::{JobTexts, run_files};
-use pcap_records::Link;
 use rotating_pick::{MAX_PORTS, OutOfMemory};
 use run_notes::NotedTexts;
 use slot_report::{OutLine, Summary, report_with_lines, summary_text};
-use std::alloc::{AllocError, Global};
-use switch_jobs::output_bytes;
+use std::alloc::Global;
 use switch_words::RunJob;
-
-// The capture of each output.
-fn output_captures(
-    alloc: Global,
-    nano: bool,
-    link: Link,
-    outputs: &[CardOut],
-) -> Result<Vec<Vec<u8>>, OutOfMemory>
-    requires { All IsCut outputs.now }
-    ensures { (messages : ℕ → List (List ℕ)) → HaveMessages messages outputs.now
-        → IfOk result (λ v. bytes_of_files v ≡ map (λ j. capture_text nano link (messages j)) (range_with_len 0 (length outputs.now))) }
-{
-    let mut captures = Vec::new(alloc);
-    for output in outputs {
-        captures.push(output_bytes(alloc, output, nano, link)?)?;
-    }
-    Ok(captures)
-}
-
-// The report's numbers of each output.
-fn out_lines(alloc: Global, outputs: &[CardOut]) -> Result<Vec<OutLine>, AllocError>
-    ensures { IfOk result (λ v. v.items ≡ map line_of_card outputs.now) }
-{
-    let mut lines = Vec::new(alloc);
-    for output in outputs {
-        lines.push(OutLine {
-            packets: output.packets,
-            cells: output.cells,
-        })?;
-    }
-    Ok(lines)
-}
 
 // The report of a run, with the lines of its queues, a line for each slot where these are told, and then the lines of the
 // reference.
 fn report(
     alloc: Global,
     summary: &Summary,
-    outputs: &[CardOut],
+    lines: &[OutLine],
     told: &NotedTexts,
 ) -> Result<String, OutOfMemory>
-    requires { length outputs.now ≤ MAX_PORTS }
+    requires { length lines.now ≤ MAX_PORTS }
     ensures { (slots : List JournalSlot) → string_bytes told.now.slots ≡ lines_text (map_with_place journal_line slots)
-        → IfOk result (λ text. string_bytes text ≡ report_bytes summary.now (map line_of_card outputs.now) (string_bytes told.now.queues) slots
+        → IfOk result (λ text. string_bytes text ≡ report_bytes summary.now lines.now (string_bytes told.now.queues) slots
         ++ string_bytes told.now.reference) }
 {
-    let lines = out_lines(alloc, outputs)?;
     let mut text = report_with_lines(
         alloc,
         summary,
-        &lines,
+        lines,
         told.queues.as_str(),
         told.slots.as_str(),
     )?;
@@ -81,21 +42,18 @@ fn report(
 
 /// What a `run` job writes of its run. It takes all memory that the job needs from here on, and want of it is the only error.
 pub(crate) fn run_texts(alloc: Global, job: &RunJob, ran: EndedRun) -> Result<JobTexts, OutOfMemory>
-    requires cut { All IsCut ran.outputs.items }
-    requires few { length ran.outputs.items ≤ MAX_PORTS }
+    requires few { length ran.outcome.lines.items ≤ MAX_PORTS }
     ensures { (table : List ℕ) (captures : List (List ℕ))
         → IsRan (decision_named job.now.scheduler) job.now.settings (wanted_by (run_words job.now)) table captures ran
         → IfOk result (λ texts. AreMade (run (run_words job.now)) table captures (to_write texts)) }
 {
-    let EndedRun {
-        nano,
-        link,
+    let EndedRun { outcome, told } = ran;
+    let RunOutcome {
         summary,
-        outputs,
-        told,
-    } = ran;
-    let captures = output_captures(alloc, nano, link, &outputs)?;
-    let report = report(alloc, &summary, &outputs, &told)?;
+        captures,
+        lines,
+    } = outcome;
+    let report = report(alloc, &summary, &lines, &told)?;
     let summary = summary_text(alloc, &summary)?;
     let outputs = captures.len();
     let NotedTexts {

@@ -16,10 +16,11 @@ returns-in-Run g c =
     let is = c.texts_of_run.ensures in
     let makes : Makes job (told c.args.files.now) (counts c.args.files.now) (counts c.texts_of_run.new.files) (told c.texts_of_run.new.files)
     c.texts_of_run.result =
-    record { runs = tt; told_is = is.told; never_fall = is.never_fall; no_fault = is.no_fault; texts = is.made; stops = is.stops } in
+    record { runs = tt; told_is = is.told; never_fall = is.never_fall; no_fault = is.no_fault; refused = is.refused; texts = is.made; stops = is.stops } in
     record {
       meaning = rw c.in-Run.is (c.end_of_writing.ensures.meaning job (told c.args.files.now) (counts c.args.files.now) makes);
       no_fault = c.end_of_writing.ensures.no_fault job (told c.args.files.now) (counts c.args.files.now) makes;
+      refused = c.end_of_writing.ensures.refused job (told c.args.files.now) (counts c.args.files.now) makes;
       never_fall = NeverFall-trans _ _ _ is.never_fall c.end_of_writing.ensures.never_fall;
     }
 
@@ -39,6 +40,7 @@ returns-in-Gen g c =
     record {
       meaning = rw c.in-Gen.is (is.meaning (gen c.in-Gen.job) told counts makes);
       no_fault = is.no_fault (gen c.in-Gen.job) told counts makes;
+      refused = is.refused (gen c.in-Gen.job) told counts makes;
       never_fall = is.never_fall;
     }
 
@@ -54,9 +56,10 @@ returns-in-Firm g c =
     let is = c.texts_of_firm.ensures in
     let makes : Makes job (told c.args.files.now) (counts c.args.files.now) (counts c.texts_of_firm.new.files) (told c.texts_of_firm.new.files)
     c.texts_of_firm.result =
-    record { runs = tt; told_is = is.told; never_fall = is.never_fall; no_fault = is.no_fault; texts = is.made; stops = is.stops } in
+    record { runs = tt; told_is = is.told; never_fall = is.never_fall; no_fault = is.no_fault; refused = is.refused; texts = is.made; stops = is.stops } in
     record {
       meaning = rw c.in-Firm.is (c.end_of_writing-in-Firm.ensures.meaning job (told c.args.files.now) (counts c.args.files.now) makes);
       no_fault = c.end_of_writing-in-Firm.ensures.no_fault job (told c.args.files.now) (counts c.args.files.now) makes;
+      refused = c.end_of_writing-in-Firm.ensures.refused job (told c.args.files.now) (counts c.args.files.now) makes;
       never_fall = NeverFall-trans _ _ _ is.never_fall c.end_of_writing-in-Firm.ensures.never_fall;
     }

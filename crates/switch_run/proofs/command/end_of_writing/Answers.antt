@@ -17,6 +17,11 @@ returns-in-Ok-put_texts-clause-no_fault g c job old was makes zero p =
     let kept = rw c.in-Ok.is at makes.no_fault in
     c.in-Ok-put_texts.ensures.no_fault p ∙ kept p
 
+pub returns-in-Ok-put_texts-clause-refused : goal.returns-in-Ok-put_texts-clause-refused
+returns-in-Ok-put_texts-clause-refused g c job old was makes p none =
+    let kept = rw c.in-Ok.is at makes.no_fault in
+    c.in-Ok-put_texts.ensures.no_fault p ∙ kept p
+
 pub returns-in-Ok-clause-meaning : goal.returns-in-Ok-clause-meaning
 returns-in-Ok-clause-meaning g c job old was makes =
     let counts = g.F.Files.faults in
@@ -26,6 +31,11 @@ returns-in-Ok-clause-meaning g c job old was makes =
 
 pub returns-in-Ok-clause-no_fault : goal.returns-in-Ok-clause-no_fault
 returns-in-Ok-clause-no_fault g c job old was makes zero = absurd (omega (arith, zero))
+
+pub returns-in-Ok-clause-refused : goal.returns-in-Ok-clause-refused
+returns-in-Ok-clause-refused g c job old was makes p none =
+    let kept = rw c.in-Ok.is at makes.no_fault in
+    c.put_texts.ensures.no_others p none ∙ kept p
 
 pub returns-clause-meaning : goal.returns-clause-meaning
 returns-clause-meaning g c job old was makes =
@@ -39,3 +49,6 @@ returns-clause-no_fault g c job old was makes zero =
     let contents = g.F.Files.told in
     absurd (other_status job old (contents c.args.files.now) was (counts c.args.files.now) c.in-Err.ending makes.runs
     (rw c.in-Err.is at makes.stops) zero)
+
+pub returns-clause-refused : goal.returns-clause-refused
+returns-clause-refused g c job old was makes = rw c.in-Err.is at makes.refused

@@ -1,5 +1,6 @@
 use Rattle.std.proofs.Common.{refl, ◌∙◌}
 use Rattle.switch_words.specs.Reading.{job_words}
+use Rattle.job_files.proofs.RefusedCalls.{refused_calls_end}
 use Rattle.switch_run.proofs.Stopping.{ended}
 use Rattle.switch_run.proofs.command.run.Goals as goal
 
@@ -11,3 +12,6 @@ returns-clause-meaning g c named =
 
 pub returns-clause-no_fault : goal.returns-clause-no_fault
 returns-clause-no_fault g c same p = c.print_line.ensures.no_fault same p ∙ c.attempt-ending.ensures.no_fault same p
+
+pub returns-clause-refused : goal.returns-clause-refused
+returns-clause-refused g c = refused_calls_end c.attempt-ending.result _ _ _ c.attempt-ending.ensures.refused c.print_line.ensures.no_others

@@ -26,6 +26,7 @@ returns g c =
       meaning = (ending, answers);
       never_fall = c.end_of.ensures.never_fall;
       no_fault = λ same. c.end_of.ensures.no_fault (sym c.status.ensures ∙ same);
+      refused = rw c.status.ensures c.end_of.ensures.refused;
       usage = usage_exact command status ending answers (λ none. c.end_of.ensures.unnamed (none_of _ none));
       too_long = too_long_exact command status ending answers;
       refusal = refusal_exact command status ending answers;
@@ -67,6 +68,7 @@ returns g c =
             departures = c.runs_have_departures.ensures scheduler plan slots fair good ends;
             copies = c.departures_are_counted.ensures scheduler plan slots fair good ends;
             rows = c.rows_add_up.ensures scheduler made.0 is.captures made.1.lines made.1.captures plan slots fair good made.1.planned ends;
+            bounds = c.arrivals_bound_runs.ensures scheduler plan slots fair good ends;
           };
       firm_runs = λ plan slots is. c.runs_are_as_promised.ensures plan slots is.planned.good is.ends;
     }

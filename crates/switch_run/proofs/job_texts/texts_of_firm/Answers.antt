@@ -11,8 +11,8 @@ use Rattle.switch_run.proofs.RunTexts.{firm_made}
 use Rattle.switch_run.proofs.Stopping.{plan_stops, reading_stops}
 use Rattle.switch_run.proofs.job_texts.texts_of_firm.Goals as goal
 
-pub plan_and_run_firm-requires-clause-size : goal.plan_and_run_firm-requires-clause-size
-plan_and_run_firm-requires-clause-size g c κs alive =
+pub summary_of_job-requires-clause-size : goal.summary_of_job-requires-clause-size
+summary_of_job-requires-clause-size g c κs alive =
     let read = rw c.reads_of_firm.ensures.names at c.in_ok-inputs.ensures.read in
     let names = c.args.job.now.inputs.items in
     read_of_size (firm_reads (firm_words c.args.job.now)) (g.F.Files.told c.args.files.now) _ _ read

@@ -1,18 +1,19 @@
-use Rattle.std.proofs.Common.{ap, map}
+use Rattle.std.proofs.Common.{ap, map, refl}
 use Rattle.switch_plan.specs.ReadingSteps.{bytes_of_files}
+use Rattle.switch_words.specs.Reading.{gen}
 use Rattle.job_files.specs.OutputFiles.{shown}
 use Rattle.switch_run.specs.MakingSteps.{to_write}
 use Rattle.std.proofs.lemmas.Result.{err_from_is_err_and}
 use Rattle.switch_run.proofs.RunTexts.{gen_made}
-use Rattle.switch_run.proofs.Stopping.{gen_stops}
+use Rattle.switch_run.proofs.Stopping.{plan_stops}
 use Rattle.switch_run.proofs.job_texts.texts_of_gen.Goals as goal
 
-pub returns-in_err-ran-clause-stops : goal.returns-in_err-ran-clause-stops
-returns-in_err-ran-clause-stops g c =
-    let failed = err_from_is_err_and c.from_residual-in_err-ran.result c.from_residual-in_err-ran.ensures.1 in
+pub returns-in_err-summary-clause-stops : goal.returns-in_err-summary-clause-stops
+returns-in_err-summary-clause-stops g c =
+    let failed = err_from_is_err_and c.from_residual-in_err-summary.result c.from_residual-in_err-summary.ensures.1 in
     rw (failed.1, failed.2)
-    (λ told was now. gen_stops c.args.job.now told was now _ _ c.in_err-ran.field-0.0 (c.in_ok-inputs.ensures.table, c.in_ok-inputs.ensures.captures)
-    c.in_err-ran.ensures.stops)
+    (λ told was now. plan_stops (gen c.args.job.now) told told was now _ _ c.in_err-summary.field-0.0 refl
+    (c.in_ok-inputs.ensures.table, c.in_ok-inputs.ensures.captures) c.in_err-summary.ensures.stops)
 
 pub returns-clause-made : goal.returns-clause-made
 returns-clause-made g c told =
@@ -23,6 +24,6 @@ returns-clause-made g c told =
       captures = bytes_of_files inputs.captures;
       inputs = (c.in_ok-inputs.ensures.table, c.in_ok-inputs.ensures.captures);
       few = c.in_ok-inputs.ensures.size.ports.most;
-      made = gen_made c.args.job.now inputs.table.items (bytes_of_files inputs.captures) _ c.in_ok-ran.ensures.ran (to_write texts)
+      made = gen_made c.args.job.now inputs.table.items (bytes_of_files inputs.captures) c.in_ok-summary.summary c.in_ok-summary.ensures.ran (to_write texts)
           (ap (map shown) c.in_ok-summary_alone.ensures.files) c.in_ok-summary_alone.ensures.summary;
     }

@@ -1,16 +1,15 @@
+use Rattle.std.proofs.Common.{◌∙◌}
+use Rattle.named_schedulers.specs.Named.{decision_named}
+use Rattle.switch_plan.specs.GoodPlans.{switch_plan_of}
 use Rattle.switch_run.proofs.making.run_on_thread.Goals as goal
+
+pub run_by_descriptors-requires-clause-countable : goal.run_by_descriptors-requires-clause-countable
+run_by_descriptors-requires-clause-countable c = c.bursts_are_countable.ensures (switch_plan_of c.args.plan) c.requires.good c.requires.burst
+
+pub run_by_descriptors-requires-clause-noted : goal.run_by_descriptors-requires-clause-noted
+run_by_descriptors-requires-clause-noted c = c.in_ok-notes.ensures.noted (decision_named c.args.scheduler)
 
 pub returns : goal.returns
 returns c =
-    let is = c.in_ok-summary.ensures.run in
-    record {
-      slots = is.slots;
-      left = record {
-        ends = is.left.ends;
-        ports = is.left.ports;
-        outputs_are = is.left.outputs_are;
-        cut = is.left.cut;
-        summary_is = is.left.summary_is;
-      };
-      noted = is.noted;
-    }
+    let is = c.in_ok-outcome.ensures.run in
+    record { slots = is.0; left = is.1; wanted_is = c.in_ok-outcome.ensures.wanted ∙ c.in_ok-notes.ensures.wanted; noted = is.2 }

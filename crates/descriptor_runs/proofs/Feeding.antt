@@ -1,0 +1,218 @@
+-- What a slot brings to the outputs: each takes the cell of the input that feeds it.
+use Rattle.std.proofs.Common.{◌≡◌, ◌∙◌, ℕ, ◌+◌, ◌^◌, ◌<◌, ◌≤◌, Bool, List, ◌++◌, map, length, set, Option, None, Some, sym, ap, subst, arith, inl, inr}
+use Rattle.std.specs.Prelude.{slice_get, slice_index_or}
+use Rattle.std.proofs.lemmas.Bool.{cases_eq}
+use Rattle.std.proofs.lemmas.List.{get_or-map, length-append, length-map, length-set}
+use Rattle.std.proofs.lemmas.Option.{slice_get_within, slice_get-get_or}
+use Rattle.std_lemmas.proofs.Lists.{got_set}
+use Rattle.cell_cutter.specs.declared.cell.CellName.{CellName}
+use Rattle.slot_match.specs.declared.matching.Fed.{Fed}
+use Rattle.slot_match.specs.Matches.{fed_of}
+use Rattle.pcap_records.specs.Output.{capture_text}
+use Rattle.eslip_rounds.specs.Schedulers.{Scheduler, IsScheduler}
+use Rattle.card_core.specs.Plans.{Plan as CardPlan, IsGoodPlan}
+use Rattle.switch_plan.specs.GoodPlans.{SwitchPlan, IsGood}
+use Rattle.run_laws.specs.Runs.{ports_of, card_at, no_plan}
+use Rattle.run_laws.specs.Crossings.{cells_under}
+use Rattle.run_laws.proofs.Base.{good-card, sound}
+use Rattle.run_outcomes.specs.Outcomes.{messages_under}
+use Rattle.slot_records.specs.Slots.{match_under, packet_named, AddsNothing, AddsCell, AddsBy, AddsInSlot}
+use Rattle.descriptor_runs.specs.InputSteps.{InputValue}
+use Rattle.descriptor_runs.specs.Limits.{IsCountable}
+use Rattle.descriptor_runs.specs.OutputSteps.{OutputValue, HasCome, HasTaken, messages_with}
+use Rattle.descriptor_runs.specs.SwitchSteps.{AreGranted, AreOutputs}
+
+-- The first outputs, so many, have what slot t brings to them, and the others what came before.
+pub record AreFed (scheduler : Scheduler) (plan : SwitchPlan) (t k : ℕ) (outputs : List OutputValue) : Type 0 where
+  pub count : length outputs ≡ ports_of plan
+  pub fed : (j : ℕ) (output : OutputValue) → j < k → slice_get outputs j ≡ Some output → HasCome scheduler plan (t + 2) j output
+  pub rest : (j : ℕ) (output : OutputValue) → k ≤ j → slice_get outputs j ≡ Some output → HasCome scheduler plan (t + 1) j output
+
+-- These are the inputs of the plan's ports, the names of the cells that they are granted in slot t, its match, and the unit of
+-- captures.
+pub record IsFeeding (scheduler : Scheduler) (plan : SwitchPlan) (t : ℕ) (inputs : List InputValue) (names : List (Option CellName))
+    (matched : List (Option Fed)) (nano : Bool) : Type 0 where
+  pub scheduling : IsScheduler scheduler
+  pub good : IsGood plan
+  pub plans : map (λ (input : InputValue). input.plan) inputs ≡ plan.cards
+  pub granted : AreGranted scheduler plan t names
+  pub matched_is : matched ≡ match_under scheduler plan t
+  pub nano_is : nano ≡ plan.nano
+
+-- What is known where the outputs take what slot t brings.
+pub record Feeding (inputs : List InputValue) (names : List (Option CellName)) (matched : List (Option Fed)) (nano : Bool)
+    (outputs : List OutputValue) : Type 0 where
+  pub scheduler : Scheduler
+  pub plan : SwitchPlan
+  pub t : ℕ
+  pub is : IsFeeding scheduler plan t inputs names matched nano
+  pub slots : plan.max_slots < 2 ^ 32
+  pub below : t < plan.max_slots
+  pub outputs_are : AreOutputs scheduler plan (t + 1) outputs
+
+-- what slots add to outputs, as the law says it
+abbrev pub Law : Type 0
+Law = (scheduler : Scheduler) (plan : SwitchPlan) (j t : ℕ) → IsScheduler scheduler → IsGood plan → j < ports_of plan → AddsInSlot scheduler plan j t
+
+pub feeding : (inputs : List InputValue) (names : List (Option CellName)) (matched : List (Option Fed)) (nano : Bool) (outputs : List OutputValue)
+    → ((scheduler : Scheduler) × (plan : SwitchPlan) × (t : ℕ) × IsScheduler scheduler × IsGood plan × IsCountable plan × (t < plan.max_slots)
+    × (map (λ (input : InputValue). input.plan) inputs ≡ plan.cards) × AreGranted scheduler plan t names × (matched ≡ match_under scheduler plan t)
+    × (nano ≡ plan.nano) × AreOutputs scheduler plan (t + 1) outputs) → Feeding inputs names matched nano outputs
+feeding inputs names matched nano outputs (scheduler, plan, t, scheduling, good, countable, below, plans, granted, matched-is, nano-is, are) = record {
+  scheduler = scheduler;
+  plan = plan;
+  t = t;
+  is = record { scheduling = scheduling; good = good; plans = plans; granted = granted; matched_is = matched-is; nano_is = nano-is };
+  slots = countable.slots;
+  below = below;
+  outputs_are = are;
+}
+
+-- An input feeds output j, and is granted the cell of this name, which is the cell that the slot adds to the output.
+pub record IsFed (scheduler : Scheduler) (plan : SwitchPlan) (t j : ℕ) (names : List (Option CellName)) (fed : Fed) : Type 0 where
+  pub name : CellName
+  pub named : slice_index_or names fed.input None ≡ Some name
+  pub adds : AddsCell scheduler plan j fed.input name (t + 1) (t + 2)
+
+module _ (scheduler : Scheduler) (plan : SwitchPlan) (t : ℕ) where
+  -- ---- one output
+  come_nothing : (j : ℕ) (output : OutputValue) → AddsNothing scheduler plan j (t + 1) (t + 2) → HasCome scheduler plan (t + 1) j output
+      → HasCome scheduler plan (t + 2) j output
+  come_nothing j output adds come = record {
+    text = come.text ∙ ap (capture_text plan.nano plan.link) (sym adds.messages);
+    packets = come.packets ∙ ap length (sym adds.messages);
+    cells = come.cells ∙ ap length (sym adds.cells);
+  }
+
+  come_cell : (j i : ℕ) (name : CellName) (card : CardPlan) (nano : Bool) (before after : OutputValue) → card_at plan i ≡ card → nano ≡ plan.nano
+      → AddsCell scheduler plan j i name (t + 1) (t + 2) → HasTaken nano (messages_with card name) before after
+      → HasCome scheduler plan (t + 1) j before → HasCome scheduler plan (t + 2) j after
+  come_cell j i name card nano before after card-is nano-is adds taken come =
+      let earlier = messages_under scheduler plan j (t + 1) in
+      let added = messages_with card name in
+      let more : earlier ++ added ≡ messages_under scheduler plan j (t + 2) = sym (adds.messages ∙ ap (λ c. earlier ++ messages_with c name) card-is) in
+      let own : before.text ≡ capture_text nano plan.link earlier = come.text ∙ ap (λ n. capture_text n plan.link earlier) (sym nano-is) in
+      record {
+        text = taken.text plan.link earlier own ∙ ap (λ n. capture_text n plan.link (earlier ++ added)) nano-is ∙ ap (capture_text plan.nano plan.link) more;
+        packets = taken.packets ∙ ap (λ n. n + length added) come.packets ∙ sym (length-append earlier added) ∙ ap length more;
+        cells = taken.cells ∙ ap (λ n. n + 1) come.cells ∙ sym adds.cells;
+      }
+
+  -- ---- all outputs
+  pub fed_none : (outputs : List OutputValue) → AreOutputs scheduler plan (t + 1) outputs → AreFed scheduler plan t 0 outputs
+  fed_none outputs are = record {
+    count = are.count;
+    fed = λ j output below. absurd (omega arith);
+    rest = λ j output from. are.come j output;
+  }
+
+  pub fed_all : (outputs : List OutputValue) (k : ℕ) → AreFed scheduler plan t k outputs → length outputs ≤ k → AreOutputs scheduler plan (t + 2) outputs
+  fed_all outputs k are all = record {
+    count = are.count;
+    come = λ j output at. are.fed j output (let inside = slice_get_within outputs j output at in omega arith) at;
+  }
+
+  fed_same : (outputs : List OutputValue) (k : ℕ) → AreFed scheduler plan t k outputs
+      → ((output : OutputValue) → HasCome scheduler plan (t + 1) k output → HasCome scheduler plan (t + 2) k output) → AreFed scheduler plan t (k + 1) outputs
+  fed_same outputs k are here = record {
+    count = are.count;
+    fed = λ j output below at. elim (cases_eq j k) [
+      | inl same ↦
+          subst (λ i. HasCome scheduler plan (t + 2) i output) (sym same)
+          (here output (are.rest k output (omega arith) (ap (slice_get outputs) (sym same) ∙ at)))
+      | inr other ↦ are.fed j output (omega arith) at
+    ];
+    rest = λ j output from. are.rest j output (omega arith);
+  }
+
+  fed_set : (outputs : List OutputValue) (k : ℕ) (new : OutputValue) → AreFed scheduler plan t k outputs → HasCome scheduler plan (t + 2) k new
+      → AreFed scheduler plan t (k + 1) (set outputs k new)
+  fed_set outputs k new are here = record {
+    count = length-set outputs k new ∙ are.count;
+    fed = λ j output below at. elim (got_set outputs k j new output at) [
+      | inl (same, is) ↦
+          subst (λ i. HasCome scheduler plan (t + 2) i output) (sym same) (subst (HasCome scheduler plan (t + 2) k) (sym is) here)
+      | inr (other, there) ↦ are.fed j output (omega arith) there
+    ];
+    rest = λ j output from at. elim (got_set outputs k j new output at) [
+      | inl (same, is) ↦ absurd (omega arith)
+      | inr (other, there) ↦ are.rest j output (omega arith) there
+    ];
+  }
+
+  -- ---- a slot
+  module _ (inputs : List InputValue) (names : List (Option CellName)) (matched : List (Option Fed)) (nano : Bool)
+      (is : IsFeeding scheduler plan t inputs names matched nano) where
+    pub match-long : length matched ≡ ports_of plan
+    match-long = ap length is.matched_is ∙ (sound scheduler is.scheduling plan is.good t).matches.count
+
+    pub inputs-long : length inputs ≡ ports_of plan
+    inputs-long = sym (length-map inputs (λ (input : InputValue). input.plan)) ∙ ap length is.plans
+
+    pub card-is : (i : ℕ) (input : InputValue) → input ≡ slice_index_or inputs i input → i < ports_of plan → card_at plan i ≡ input.plan
+    card-is i input own inside =
+        ap (λ cards. slice_index_or cards i no_plan) (sym is.plans)
+        ∙ get_or-map (λ (x : InputValue). x.plan) inputs i input no_plan (omega (arith, inputs-long))
+        ∙ ap (λ (x : InputValue). x.plan) (sym own)
+
+    module _ (law : Law) (given : List OutputValue) (are-given : AreOutputs scheduler plan (t + 1) given) (j : ℕ) (below : j < length given) where
+      feeds : (feed : Option Fed) → fed_of matched j ≡ feed → AddsBy scheduler plan j t feed
+      feeds feed at =
+          subst (AddsBy scheduler plan j t) (sym (ap (λ m. fed_of m j) is.matched_is) ∙ at)
+          (law scheduler plan j t is.scheduling is.good (omega (arith, are-given.count)))
+
+      -- an input that feeds the output is granted the cell that the output takes
+      pub fed_from : (fed : Fed) → fed_of matched j ≡ Some fed → IsFed scheduler plan t j names fed
+      fed_from fed at =
+          let (name, granted, adds) = feeds (Some fed) at in
+          record { name = name; named = is.granted fed.input adds.input ∙ granted; adds = adds }
+
+      pub some_name : (fed : Fed) → fed_of matched j ≡ Some fed → slice_index_or names fed.input None ≡ None → ⊥
+      some_name fed at none = let named = (fed_from fed at).named in cc
+
+      adds_named : (fed : Fed) (name : CellName) → fed_of matched j ≡ Some fed → slice_index_or names fed.input None ≡ Some name
+          → AddsCell scheduler plan j fed.input name (t + 1) (t + 2)
+      adds_named fed name at named =
+          let from = fed_from fed at in
+          let same : from.name ≡ name = let own = from.named in cc in
+          subst (λ n. AddsCell scheduler plan j fed.input n (t + 1) (t + 2)) same from.adds
+
+      -- the input can hand its packet on
+      pub good-input : (fed : Fed) (input : InputValue) → fed_of matched j ≡ Some fed → input ≡ slice_index_or inputs fed.input input → IsGoodPlan input.plan
+      good-input fed input at own =
+          let inside = (fed_from fed at).adds.input in
+          subst IsGoodPlan (card-is fed.input input own inside) (good-card plan is.good fed.input inside).good
+
+      pub packet-there : (fed : Fed) (name : CellName) (input : InputValue) → fed_of matched j ≡ Some fed → slice_index_or names fed.input None ≡ Some name
+          → input ≡ slice_index_or inputs fed.input input → name.packet < length input.plan.packets
+      packet-there fed name input at named own =
+          let adds = adds_named fed name at named in
+          subst (λ (card : CardPlan). name.packet < length card.packets) (card-is fed.input input own adds.input)
+          (slice_get_within (card_at plan fed.input).packets name.packet (packet_named plan fed.input name) adds.there)
+
+      -- ---- what the slot makes of the output
+      pub fed_free : (outputs : List OutputValue) → AreFed scheduler plan t j outputs → fed_of matched j ≡ None → AreFed scheduler plan t (j + 1) outputs
+      fed_free outputs are free = fed_same outputs j are (λ output. come_nothing j output (feeds None free))
+
+      pub fed_more : (outputs : List OutputValue) (before after : OutputValue) (fed : Fed) (name : CellName) (input : InputValue)
+          → AreFed scheduler plan t j outputs → HasCome scheduler plan (t + 1) j before → fed_of matched j ≡ Some fed
+          → slice_index_or names fed.input None ≡ Some name → input ≡ slice_index_or inputs fed.input input
+          → HasTaken nano (messages_with input.plan name) before after → AreFed scheduler plan t (j + 1) (set outputs j after)
+      fed_more outputs before after fed name input are come at named own taken =
+          let adds = adds_named fed name at named in
+          fed_set outputs j after are
+          (come_cell j fed.input name input.plan nano before after (card-is fed.input input own adds.input) is.nano_is adds taken come)
+
+  -- ---- an output that is next
+  pub come_before : (outputs : List OutputValue) (k : ℕ) (d : OutputValue) → AreFed scheduler plan t k outputs → k < length outputs
+      → HasCome scheduler plan (t + 1) k (slice_index_or outputs k d)
+  come_before outputs k d are inside = are.rest k (slice_index_or outputs k d) (omega arith) (slice_get-get_or outputs k d inside)
+
+  -- its numbers are of 32 bits
+  pub few_cells : (j : ℕ) (output : OutputValue) → HasCome scheduler plan (t + 1) j output → t < plan.max_slots → plan.max_slots < 2 ^ 32
+      → length (cells_under scheduler plan j (t + 1)) ≤ t → output.cells + 1 < 2 ^ 32
+  few_cells j output come slot slots cells = omega (arith, come.cells)
+
+  pub few_packets : (j : ℕ) (output : OutputValue) → HasCome scheduler plan (t + 1) j output
+      → length (messages_under scheduler plan j (t + 1)) ≤ length (cells_under scheduler plan j (t + 1)) → output.packets ≤ output.cells
+  few_packets j output come fewer = omega (arith, come.cells, come.packets)

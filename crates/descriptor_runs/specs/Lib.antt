@@ -1,0 +1,7 @@
+pub mod Limits
+pub mod InputSteps
+pub mod OutputSteps
+pub mod SwitchSteps
+pub mod RunningSteps
+pub mod Outcomes
+pub mod FinishingSteps

@@ -1,0 +1,16 @@
+//! The run of a plan by packet descriptors, on one thread and under any of the schedulers.
+//!
+//! Queues keep the numbers of packets. No byte of a packet is touched until its last cell crosses: then its record is copied
+//! from the bytes of its input to the end of each output's capture.
+#![tactic(auto)]
+
+mod finishing;
+mod inputs;
+pub mod laws;
+mod noting;
+mod outputs;
+mod running;
+mod serving;
+mod switch;
+
+pub use running::{RunOutcome, run_by_descriptors};

@@ -1,5 +1,0 @@
-use Rattle.one_thread.proofs.Promised.{promises-of}
-use Rattle.one_thread.proofs.laws.runs_are_as_promised.Goals as goal
-
-pub returns : goal.returns
-returns c plan slots good ends = promises-of plan good slots ends

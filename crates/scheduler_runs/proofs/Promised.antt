@@ -1,0 +1,101 @@
+-- What holds of every run under the second scheduler.
+use Rattle.std.proofs.Common.{◌≡◌, ◌∙◌, ℕ, ◌+◌, ◌*◌, map, take, drop, length, ap, sym, subst, arith}
+use Rattle.std.specs.List.{range_with_len}
+use Rattle.std.specs.Prelude.{◌<◌, ◌≤◌, slice_index}
+use Rattle.std.proofs.lemmas.List.FromFn.{length-map-range_with_len, get_or-map-range_with_len}
+use Rattle.std_lemmas.proofs.Ranges.{middle}
+use Rattle.rotating_pick.specs.declared.limits.TheConstants.{LEVELS}
+use Rattle.slot_report.specs.declared.summary.Summary.{Summary}
+use Rattle.rotating_pick.specs.declared.kinds.Kind.TheVariants.{Uni}
+use Rattle.slot_match.specs.Rows.{Names, row_of}
+use Rattle.pointer_state.specs.Places.{places_at_first}
+use Rattle.slot_histories.proofs.PostedRows.{row_of-slot_rows}
+use Rattle.slot_board.specs.Schedules.{decided_under}
+use Rattle.service_bound.specs.Windows.{IsWindowBy, InFirst, places_after}
+use Rattle.service_bound.proofs.PartsOfSchedules.{part_is_window_by}
+use Rattle.firm_rounds.specs.Slots.{AreMovedByFirm}
+use Rattle.firm_rounds.specs.Decisions.{firm_decision}
+use Rattle.firm_rounds.proofs.InTime.{firm_longest_wait, firm_served_in_time}
+use Rattle.firm_rounds.proofs.PointersKept.{firm_keep}
+use Rattle.switch_plan.specs.GoodPlans.{SwitchPlan, IsGood}
+use Rattle.run_laws.specs.Runs.{ports_of, setup_for, posts_under}
+use Rattle.run_laws.specs.Ends.{IsLengthUnder}
+use Rattle.run_laws.specs.Sums.{schedule_under}
+use Rattle.run_laws.specs.Promises.{ServesUnder, WaitsUnder}
+use Rattle.run_laws.proofs.Arrivals.{arrivals_first}
+use Rattle.run_laws.proofs.BusySlots.{busy_matches}
+use Rattle.run_laws.proofs.Emptied.{packets_delivered}
+use Rattle.run_laws.proofs.OfFlows.{all_of_flows}
+use Rattle.run_laws.proofs.RunEnds.{run_bound}
+use Rattle.run_laws.proofs.RunSchedule.{run-schedule, run-within, run-kept}
+use Rattle.run_laws.proofs.RunWindows.{begins, in_first, best-window, best-alone}
+use Rattle.run_outcomes.proofs.Counted.{counted-once}
+use Rattle.run_outcomes.specs.Outcomes.{longest_under, summary_under}
+use Rattle.scheduler_runs.specs.FirmRuns.{IsFirmRun, HasShortWaits, FirmPromises}
+use Rattle.scheduler_runs.proofs.Completing.{completes-firm}
+use Rattle.named_schedulers.proofs.SecondScheduler.{IsSchedulerBy-firm_decision, IsScheduler-firm_decision}
+
+module _ (plan : SwitchPlan) (good : IsGood plan) (slots : ℕ) where
+  -- a unicast queue is served
+  firm-serves : ServesUnder firm_decision plan slots (ports_of plan * ports_of plan)
+  firm-serves first level i j below inside few quiet named =
+      let n = ports_of plan in
+      let count = n * n in
+      let slot = decided_under firm_decision (setup_for plan) (posts_under firm_decision plan) in
+      let all = schedule_under firm_decision plan slots in
+      let part = take count (drop first all) in
+      let is : part ≡ map slot (range_with_len first count) = middle slot first count slots few in
+      let window : IsWindowBy AreMovedByFirm n plan.rounds (0 + first) level (places_after (places_at_first n) (take first all)) part =
+      part_is_window_by AreMovedByFirm n plan.rounds 0 level first count (places_at_first n) all (firm_keep n level) (begins plan good level below)
+      (run-schedule firm_decision IsScheduler-firm_decision plan good AreMovedByFirm IsSchedulerBy-firm_decision slots)
+      (run-within firm_decision IsScheduler-firm_decision plan good slots) (run-kept firm_decision IsScheduler-firm_decision plan good slots)
+      (λ k d short. (quiet k d short).0) in
+      let there : Names (row_of (slot first).rows i) level Uni j = subst (λ row. Names row level Uni j)
+      (sym (row_of-slot_rows n (posts_under firm_decision plan) first i inside)) named in
+      let long : length part ≡ count = ap length is ∙ length-map-range_with_len slot first count in
+      firm_served_in_time n plan.rounds (0 + first) level i j (places_after (places_at_first n) (take first all)) part good.rounds.some inside window
+      (λ k d short. (quiet k d short).1)
+      (subst (InFirst (λ rows. Names (row_of rows i) level Uni j)) (sym is)
+      (in_first (λ rows. Names (row_of rows i) level Uni j) slot first count there)) (omega (arith, long))
+
+  -- no wait of the best level is longer
+  firm-waits : WaitsUnder firm_decision plan slots (ports_of plan * ports_of plan)
+  firm-waits level best =
+      firm_longest_wait (ports_of plan) plan.rounds 0 level (places_at_first (ports_of plan))
+      (schedule_under firm_decision plan slots) good.size.some good.rounds.some
+      (best-window firm_decision IsScheduler-firm_decision plan good slots level best AreMovedByFirm IsSchedulerBy-firm_decision)
+      (best-alone firm_decision IsScheduler-firm_decision plan good slots level best)
+
+  pub promises-of : IsLengthUnder firm_decision plan slots → FirmPromises plan slots
+  promises-of ends = record {
+    delivers = λ i j level kind inside to below. packets_delivered firm_decision IsScheduler-firm_decision plan good i j level kind slots ends inside to below;
+    no_others = λ j. all_of_flows firm_decision IsScheduler-firm_decision plan good j slots;
+    arrivals = arrivals_first firm_decision plan slots ends;
+    counts = counted-once firm_decision plan slots good ends;
+    serves = firm-serves;
+    waits = firm-waits;
+    completes = completes-firm plan slots good;
+    few_slots = run_bound firm_decision IsScheduler-firm_decision plan good slots ends;
+    busy_slots = λ i t inside busy. busy_matches firm_decision IsScheduler-firm_decision plan good i t inside busy;
+  }
+
+-- the longest wait of the best level in the numbers of a run
+pub short-waits : (plan : SwitchPlan) (summary : Summary) → IsGood plan → IsFirmRun plan summary → HasShortWaits plan summary
+unfolding summary_under
+short-waits plan summary good run level best =
+    let at : slice_index summary.longest level ≡ longest_under firm_decision plan summary.slots level =
+    ap (λ (s : Summary). slice_index s.longest level) run.numbers
+    ∙ get_or-map-range_with_len (longest_under firm_decision plan summary.slots) 0 LEVELS level level 0 best.level_in (omega arith) in
+    subst (λ k. k < ports_of plan * ports_of plan) (sym at) (firm-waits plan good summary.slots level best)
+
+-- the numbers of a run under the second scheduler, of so many slots
+pub firm-run : (plan : SwitchPlan) (slots : ℕ) (summary : Summary) → IsLengthUnder firm_decision plan slots → slots ≤ plan.max_slots
+    → summary ≡ summary_under firm_decision plan slots → IsFirmRun plan summary
+unfolding summary_under
+firm-run plan slots summary ends within is =
+    let slots_are : summary.slots ≡ slots = ap (λ (s : Summary). s.slots) is in
+    record {
+      ends = subst (IsLengthUnder firm_decision plan) (sym slots_are) ends;
+      within = subst (λ k. k ≤ plan.max_slots) (sym slots_are) within;
+      numbers = is ∙ ap (summary_under firm_decision plan) (sym slots_are);
+    }

@@ -1,0 +1,18 @@
+use Rattle.scheduler_names.specs.declared.names.SchedulerName.{SchedulerName}
+use Rattle.std.proofs.Common.{subst, sym}
+use Rattle.named_schedulers.specs.Named.{decision_named}
+use Rattle.switch_plan.specs.GoodPlans.{switch_plan_of}
+use Rattle.switch_run.specs.MakingSteps.{AreNumbers}
+use Rattle.switch_run.proofs.BoardRuns.{within}
+use Rattle.switch_run.proofs.making.summary_of_run.Goals as goal
+
+pub run_by_descriptors-requires-clause-countable : goal.run_by_descriptors-requires-clause-countable
+run_by_descriptors-requires-clause-countable g c = c.bursts_are_countable.ensures (switch_plan_of c.args.plan) c.requires.good c.requires.burst
+
+pub returns-in_ok-run_job-in-Islip : goal.returns-in_ok-run_job-in-Islip
+returns-in_ok-run_job-in-Islip g c =
+    let plan = switch_plan_of c.args.plan in
+    let run = c.in_ok-run_job-in-Islip.field-0 in
+    let is = c.in_ok-run_job-in-Islip.ensures.run in
+    subst (λ (name : SchedulerName). AreNumbers (decision_named name) plan run.summary) (sym c.in-Islip.is)
+    (record { slots = is.slots; ends = is.ends; within = within plan run is c.requires.good; are = is.summary })
