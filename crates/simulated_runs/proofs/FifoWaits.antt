@@ -30,7 +30,7 @@ use Rattle.arrival_queues.specs.declared.queueing.Queueing.TheVariants.{ByInput}
 use Rattle.arrival_queues.specs.Queues.{head_of, queue_of}
 use Rattle.simulated_slots.specs.declared.discipline.Discipline.{Discipline}
 use Rattle.simulated_slots.specs.declared.discipline.Discipline.TheVariants.{Fifo}
-use Rattle.simulated_slots.specs.Jobs.{IsJob, JobValue, is_ideal, queueing_of, rounds_by, scheduler_of}
+use Rattle.simulated_slots.specs.Jobs.{IsJob, JobValue, is_ideal, is_random, queueing_of, rounds_by, scheduler_of}
 use Rattle.simulated_slots.specs.Slots.{slot_of}
 use Rattle.simulated_runs.specs.Numbers.{numbers_after}
 use Rattle.simulated_runs.proofs.ScheduledSlots.{named-first, place, places_in, rounds_in, rows_in, slot-moved, slots_in}
@@ -105,14 +105,15 @@ pub waits-fifo : (job : JobValue) (t : ℕ) → IsTraffic job.traffic → IsJob 
     → (numbers_after job t).longest_wait < job.traffic.ports
 waits-fifo job t traffic good is =
     let scheduled = ap is_ideal is in
+    let named = ap is_random is in
     let n = job.traffic.ports in
     let rounds = rounds_in job traffic scheduled in
     let one : rounds ≡ 1 = ap (λ (d : Discipline). rounds_by d job.settings.rounds) is in
     let some : 0 < rounds = omega (arith, one) in
     let moving = subst (λ (d : Discipline). IsSchedulerBy AreMoved (decision_named (scheduler_of d))) (sym is) IsSchedulerBy-decision_of in
     let each : (u : ℕ) → IsSlotBy MoveByOne n rounds u (rows_in job u) (places_in job u) (slot_of job u).decision =
-    λ u. IsSlotBy-moved MoveByOne n rounds u (rows_in job u) (places_in job u) (slot_of job u).decision (slot-moved job traffic scheduled AreMoved moving u)
+    λ u. IsSlotBy-moved MoveByOne n rounds u (rows_in job u) (places_in job u) (slot_of job u).decision (slot-moved job traffic scheduled named AreMoved moving u)
     (λ first_match moved. (moved, ask-for_one job u (ap queueing_of is))) in
     let below = longest_by_falling MoveByOne n rounds 0 0 n (AsksNear n) (places_in job 0) (slots_in job 0 t) (keep-by_one n) traffic.some
-    (one-falling n rounds some) (slots-window job traffic scheduled MoveByOne each t) (slots-alone job traffic scheduled t) in
+    (one-falling n rounds some) (slots-window job traffic scheduled named MoveByOne each t) (slots-alone job traffic scheduled t) in
     subst (λ (wait : ℕ). wait < n) (sym (wait-told job traffic scheduled t)) below

@@ -10,7 +10,7 @@ use Rattle.made_traffic.specs.Sources.{SourceValue, next_source, source_before, 
 use Rattle.arrival_queues.specs.Queues.{rows_of}
 use Rattle.simulated_slots.specs.Jobs.{JobValue}
 use Rattle.simulated_slots.specs.Slots.{all_entered, all_left, cell_at, coming, decision_by, departing, dropped, lengths}
-use Rattle.simulated_slots.specs.Slots.{served_queues, slot_from, slot_of, switch_before}
+use Rattle.simulated_slots.specs.Slots.{picks_by, served_queues, slot_from, slot_of, switch_before}
 use Rattle.simulated_slots.specs.ArrivalSteps.{AreSources, cell_from, cells_from}
 use Rattle.simulated_runs.specs.SimulationSteps.{sources_before}
 
@@ -38,12 +38,18 @@ module _ (job : JobValue) (t : ℕ) where
 
   pub decision-is : (slot_of job t).decision
       ≡ decision_by job.settings.discipline job.traffic.ports job.settings.rounds t (rows_of (slot_of job t).filled) (switch_before job t).places
+      (switch_before job t).picks
   unfolding slot_from
   decision-is = refl
 
   pub places-is : (slot_of job t).after.places ≡ (slot_of job t).decision.places
   unfolding slot_from
   places-is = refl
+
+  pub picks-is : (slot_of job t).after.picks
+      ≡ picks_by job.settings.discipline job.traffic.ports job.settings.rounds (rows_of (slot_of job t).filled) (switch_before job t).picks
+  unfolding slot_from
+  picks-is = refl
 
   -- the queues that it serves
   abbrev pub served_in : List ℕ

@@ -1,8 +1,8 @@
 -- The slots of a simulation are a schedule of rows that are kept.
-use Rattle.std.proofs.Common.{◌≡◌, ◌≢◌, ◌∙◌, ◌+◌, ◌<◌, ◌==◌, ◌&&◌, ap, refl, sym, subst, arith, ℕ, zero, suc, add-one, Bool, true, false, List, map}
+use Rattle.std.proofs.Common.{◌≡◌, ◌≢◌, ◌∙◌, ◌+◌, ◌<◌, ◌==◌, ◌&&◌, ap, refl, sym, subst, arith, ℕ, zero, suc, add-one, Bool, true, false, List, map, inl, inr}
 use Rattle.std.specs.Prelude.{All, Option, None, Some, IfSome, option_map, slice_index_or}
 use Rattle.std.specs.List.{range_with_len}
-use Rattle.std.proofs.lemmas.Bool.{eq-eqb, eqb-true}
+use Rattle.std.proofs.lemmas.Bool.{cases_Bool, eq-eqb, eqb-true}
 use Rattle.std.proofs.lemmas.List.FromFn.{get_or-map-range_with_len, length-map-range_with_len}
 use Rattle.std.proofs.lemmas.Option.{same_Some}
 use Rattle.rotating_pick.specs.PortSets.{Has}
@@ -14,12 +14,12 @@ use Rattle.slot_match.specs.declared.rows.Row.{Row}
 use Rattle.slot_match.specs.declared.matching.Fed.{Fed}
 use Rattle.slot_match.specs.Rows.{AreWithin, Names, no_row, row_of}
 use Rattle.slot_match.specs.Parts.{set_of}
-use Rattle.slot_match.specs.Matches.{IsMatch, Serves, fed_of}
+use Rattle.slot_match.specs.Matches.{Serves, fed_of}
 use Rattle.slot_match.specs.Keeping.{Keeps}
 use Rattle.slot_match.proofs.Sets.{Has-set_of}
 use Rattle.pointer_state.specs.Places.{AreAtPorts, Places, places_at_first}
 use Rattle.pointer_state.proofs.Moves.{AreAtPorts-at_first}
-use Rattle.eslip_rounds.specs.Slots.{IsSlotBy, Moving}
+use Rattle.eslip_rounds.specs.Slots.{Decision, IsSlotBy, Moving}
 use Rattle.eslip_rounds.specs.Schedules.{DecidedSlot, IsScheduleBy}
 use Rattle.eslip_rounds.specs.Schedulers.{IsSchedulerBy, Scheduler, StayAtPorts}
 use Rattle.eslip_rounds.proofs.Unique.{IsMatch-slot_by, Serves-named_by}
@@ -27,11 +27,12 @@ use Rattle.named_schedulers.specs.Named.{decision_named}
 use Rattle.named_schedulers.proofs.Schedulers.{IsScheduler-named}
 use Rattle.service_bound.specs.Windows.{AreKept, IsWithoutMulticast}
 use Rattle.made_traffic.specs.Sources.{IsTraffic}
+use Rattle.random_picks.proofs.Asked.{pairs-asked}
 use Rattle.arrival_queues.specs.declared.cell.ArrivedCell.{ArrivedCell}
 use Rattle.arrival_queues.specs.Queues.{Queues, head_of, is_asked, is_between, queue_of, row_asking, rows_of}
 use Rattle.arrival_queues.proofs.Asking.{rows-within}
-use Rattle.simulated_slots.specs.Jobs.{JobValue, is_ideal, queueing_of, rounds_by, scheduler_of}
-use Rattle.simulated_slots.specs.Slots.{coming, served_queue, slot_of, switch_before}
+use Rattle.simulated_slots.specs.Jobs.{JobValue, is_ideal, is_random, queueing_of, rounds_by, scheduler_of}
+use Rattle.simulated_slots.specs.Slots.{coming, random_decision, served_queue, slot_of, switch_before}
 use Rattle.simulated_runs.proofs.Coming.{All-given, All-range}
 use Rattle.simulated_runs.proofs.HeadCells.{head-entered, head-left, owns, place-of}
 use Rattle.simulated_runs.proofs.MadeSlots.{after-is, decision-is, filled-is, left-is, places-is, served_in}
@@ -145,53 +146,68 @@ module _ (job : JobValue) where
     abbrev pub scheduler_in : Scheduler
     scheduler_in = decision_named (scheduler_of job.settings.discipline)
 
-    decided : (t : ℕ) → (slot_of job t).decision ≡ scheduler_in job.traffic.ports rounds_in t (rows_in t) (places_in t)
-    decided t = decision-is job t ∙ rw scheduled refl
+    -- ---- where a scheduler decides
+    module _ (named : is_random job.settings.discipline ≡ false) where
+      decided : (t : ℕ) → (slot_of job t).decision ≡ scheduler_in job.traffic.ports rounds_in t (rows_in t) (places_in t)
+      decided t = decision-is job t ∙ rw (scheduled, named) refl
 
-    at_ports-next : (t : ℕ) → AreAtPorts (places_in t) × ((places_in t).ports ≡ job.traffic.ports)
-        → AreAtPorts (places_in (t + 1)) × ((places_in (t + 1)).ports ≡ job.traffic.ports)
-    at_ports-next t at =
-        let slot = IsScheduler-named (scheduler_of job.settings.discipline) job.traffic.ports rounds_in t (rows_in t) (places_in t) (within-in t) at.0 at.1 in
-        let next = places-next t ∙ ap (λ decision. decision.places) (decided t) in
-        (subst AreAtPorts (sym next) slot.moved.0, ap (λ (p : Places). p.ports) next ∙ slot.moved.1 ∙ at.1)
+      at_ports-next : (t : ℕ) → AreAtPorts (places_in t) × ((places_in t).ports ≡ job.traffic.ports)
+          → AreAtPorts (places_in (t + 1)) × ((places_in (t + 1)).ports ≡ job.traffic.ports)
+      at_ports-next t at =
+          let slot = IsScheduler-named (scheduler_of job.settings.discipline) job.traffic.ports rounds_in t (rows_in t) (places_in t) (within-in t) at.0 at.1 in
+          let next = places-next t ∙ ap (λ decision. decision.places) (decided t) in
+          (subst AreAtPorts (sym next) slot.moved.0, ap (λ (p : Places). p.ports) next ∙ slot.moved.1 ∙ at.1)
 
-    pub at_ports : (t : ℕ) → AreAtPorts (places_in t) × ((places_in t).ports ≡ job.traffic.ports)
-    at_ports zero = (
-      subst AreAtPorts (sym places-first) (AreAtPorts-at_first job.traffic.ports traffic.some traffic.ports),
-      ap (λ (p : Places). p.ports) places-first ∙ ports-at_first job.traffic.ports,
-    )
-    at_ports (suc t) = subst (λ (s : ℕ). AreAtPorts (places_in s) × ((places_in s).ports ≡ job.traffic.ports)) (add-one t) (at_ports-next t (at_ports t))
+      pub at_ports : (t : ℕ) → AreAtPorts (places_in t) × ((places_in t).ports ≡ job.traffic.ports)
+      at_ports zero = (
+        subst AreAtPorts (sym places-first) (AreAtPorts-at_first job.traffic.ports traffic.some traffic.ports),
+        ap (λ (p : Places). p.ports) places-first ∙ ports-at_first job.traffic.ports,
+      )
+      at_ports (suc t) = subst (λ (s : ℕ). AreAtPorts (places_in s) × ((places_in s).ports ≡ job.traffic.ports)) (add-one t) (at_ports-next t (at_ports t))
 
-    pub slot-moved : (Moves : Moving) → IsSchedulerBy Moves scheduler_in → (t : ℕ)
-        → IsSlotBy Moves job.traffic.ports rounds_in t (rows_in t) (places_in t) (slot_of job t).decision
-    slot-moved Moves moving t = subst (IsSlotBy Moves job.traffic.ports rounds_in t (rows_in t) (places_in t)) (sym (decided t))
-        (moving job.traffic.ports rounds_in t (rows_in t) (places_in t) (within-in t) (at_ports t).0 (at_ports t).1)
+      pub slot-moved : (Moves : Moving) → IsSchedulerBy Moves scheduler_in → (t : ℕ)
+          → IsSlotBy Moves job.traffic.ports rounds_in t (rows_in t) (places_in t) (slot_of job t).decision
+      slot-moved Moves moving t = subst (IsSlotBy Moves job.traffic.ports rounds_in t (rows_in t) (places_in t)) (sym (decided t))
+          (moving job.traffic.ports rounds_in t (rows_in t) (places_in t) (within-in t) (at_ports t).0 (at_ports t).1)
 
-    -- what is so of each slot is so of a schedule
-    pub slots-scheduled : (Moves : Moving)
-        → ((u : ℕ) → IsSlotBy Moves job.traffic.ports rounds_in u (rows_in u) (places_in u) (slot_of job u).decision)
-        → (t count : ℕ) → IsScheduleBy Moves job.traffic.ports rounds_in t (places_in t) (slots_in t count)
-    slots-scheduled Moves each t zero = tt
-    slots-scheduled Moves each t (suc count) = (
-      each t,
-      subst (λ (places : Places). IsScheduleBy Moves job.traffic.ports rounds_in (t + 1) places (slots_in (t + 1) count)) (places-next t)
-          (slots-scheduled Moves each (t + 1) count),
-    )
+      -- what is so of each slot is so of a schedule
+      pub slots-scheduled : (Moves : Moving)
+          → ((u : ℕ) → IsSlotBy Moves job.traffic.ports rounds_in u (rows_in u) (places_in u) (slot_of job u).decision)
+          → (t count : ℕ) → IsScheduleBy Moves job.traffic.ports rounds_in t (places_in t) (slots_in t count)
+      slots-scheduled Moves each t zero = tt
+      slots-scheduled Moves each t (suc count) = (
+        each t,
+        subst (λ (places : Places). IsScheduleBy Moves job.traffic.ports rounds_in (t + 1) places (slots_in (t + 1) count)) (places-next t)
+            (slots-scheduled Moves each (t + 1) count),
+      )
+
+      served-named : (t i j level : ℕ) (kind : Kind) → Serves (slot_of job t).decision.matched i j level kind → (level ≡ 0) × (kind ≡ Uni) × IsFirst t i j
+      served-named t i j level kind serves =
+          let slot = slot-moved StayAtPorts (IsScheduler-named (scheduler_of job.settings.discipline)) t in
+          let matched = IsMatch-slot_by job.traffic.ports rounds_in t (rows_in t) (places_in t) (within-in t) (at_ports t).0 (at_ports t).1 StayAtPorts
+          (slot_of job t).decision slot in
+          named-first t i (matched.input_in i j level kind serves) level j kind
+          (Serves-named_by StayAtPorts job.traffic.ports rounds_in t (rows_in t) (places_in t) (slot_of job t).decision slot i j level kind serves)
+
+    -- ---- where ports pick at random
+    served-picked : is_random job.settings.discipline ≡ true → (t i j level : ℕ) (kind : Kind) → Serves (slot_of job t).decision.matched i j level kind
+        → (level ≡ 0) × (kind ≡ Uni) × IsFirst t i j
+    served-picked random t i j level kind serves =
+        let decision : (slot_of job t).decision
+        ≡ random_decision job.traffic.ports job.settings.rounds (rows_in t) (places_in t) (switch_before job t).picks =
+        decision-is job t ∙ rw (scheduled, random) refl in
+        let asked = pairs-asked job.traffic.ports (rows_in t) job.settings.rounds (switch_before job t).picks i j level kind
+        (subst (λ (d : Decision). Serves d.matched i j level kind) decision serves) in
+        (asked.1, asked.2, (named-first t i asked.0 0 j Uni asked.3).2)
 
     -- ---- a pair that is served is a first cell
     module _ (t : ℕ) where
-      slot-any : IsSlotBy StayAtPorts job.traffic.ports rounds_in t (rows_in t) (places_in t) (slot_of job t).decision
-      slot-any = slot-moved StayAtPorts (IsScheduler-named (scheduler_of job.settings.discipline)) t
-
-      pub matched-in : IsMatch job.traffic.ports (slot_of job t).decision.matched
-      matched-in = IsMatch-slot_by job.traffic.ports rounds_in t (rows_in t) (places_in t) (within-in t) (at_ports t).0 (at_ports t).1 StayAtPorts
-          (slot_of job t).decision slot-any
-
       pub served-first : (i j level : ℕ) (kind : Kind) → Serves (slot_of job t).decision.matched i j level kind
           → (level ≡ 0) × (kind ≡ Uni) × IsFirst t i j
-      served-first i j level kind serves =
-          named-first t i (matched-in.input_in i j level kind serves) level j kind
-          (Serves-named_by StayAtPorts job.traffic.ports rounds_in t (rows_in t) (places_in t) (slot_of job t).decision slot-any i j level kind serves)
+      served-first i j level kind serves = elim (cases_Bool (is_random job.settings.discipline)) [
+        | inl random ↦ served-picked random t i j level kind serves
+        | inr named ↦ served-named named t i j level kind serves
+      ]
 
       -- the queue of a first cell that is not served is not served
       unserved : (i j : ℕ) → IsFirst t i j → (Serves (slot_of job t).decision.matched i j 0 Uni → ⊥) → All (λ k. place i j ≢ k) (served_in job t)

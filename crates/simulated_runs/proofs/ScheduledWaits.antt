@@ -27,7 +27,7 @@ use Rattle.arrival_queues.specs.declared.queueing.Queueing.TheVariants.{ByPair}
 use Rattle.arrival_queues.specs.Queues.{Queues, head_of, queue_at, queue_of}
 use Rattle.simulated_slots.specs.declared.discipline.Discipline.{Discipline}
 use Rattle.simulated_slots.specs.declared.discipline.Discipline.TheVariants.{Scheduled}
-use Rattle.simulated_slots.specs.Jobs.{IsJob, JobValue, is_ideal, queueing_of, rounds_by, scheduler_of}
+use Rattle.simulated_slots.specs.Jobs.{IsJob, JobValue, is_ideal, is_random, queueing_of, rounds_by, scheduler_of}
 use Rattle.simulated_slots.specs.Slots.{cell_at, coming, slot_of, switch_before}
 use Rattle.simulated_runs.specs.Numbers.{numbers_after}
 use Rattle.simulated_runs.proofs.Coming.{All-given, All-range}
@@ -106,13 +106,13 @@ module _ (job : JobValue) (by : queueing_of job.settings.discipline ≡ ByPair) 
 
 -- ---- the slots are a window
 module _ (job : JobValue) (traffic : IsTraffic job.traffic) (scheduled : is_ideal job.settings.discipline ≡ false) where
-  pub slots-window : (Moves : Moving) → ((u : ℕ) → IsSlotBy Moves job.traffic.ports (rounds_in job traffic scheduled) u (rows_in job u) (places_in job u)
+  pub slots-window : (named : is_random job.settings.discipline ≡ false) → (Moves : Moving) → ((u : ℕ) → IsSlotBy Moves job.traffic.ports (rounds_in job traffic scheduled) u (rows_in job u) (places_in job u)
       (slot_of job u).decision)
       → (count : ℕ) → IsWindowBy Moves job.traffic.ports (rounds_in job traffic scheduled) 0 0 (places_in job 0) (slots_in job 0 count)
-  slots-window Moves each count = record {
-    pointing = subst (λ (n : ℕ). ArePointing n 0 (places_in job 0)) (at_ports job traffic scheduled 0).1
-        ((at_ports job traffic scheduled 0).0.pointing 0 (omega arith));
-    schedule = slots-scheduled job traffic scheduled Moves each 0 count;
+  slots-window named Moves each count = record {
+    pointing = subst (λ (n : ℕ). ArePointing n 0 (places_in job 0)) (at_ports job traffic scheduled named 0).1
+        ((at_ports job traffic scheduled named 0).0.pointing 0 (omega arith));
+    schedule = slots-scheduled job traffic scheduled named Moves each 0 count;
     within = all-slots job (AreWithin job.traffic.ports) (within-in job) 0 count;
     kept = slots-kept job traffic scheduled 0 count;
     clean = all-slots job (IsClean job.traffic.ports 0) (λ u i better j kind i_in less names. absurd (omega (arith, less))) 0 count;
@@ -129,11 +129,12 @@ pub waits-islip : (job : JobValue) (t : ℕ) → IsTraffic job.traffic → IsJob
     → (numbers_after job t).longest_wait < longest_service_at_line_rate job.traffic.ports job.settings.rounds
 waits-islip job t traffic good is =
     let scheduled = ap is_ideal is in
+    let named = ap is_random is in
     let rounds = ap (λ (d : Discipline). rounds_by d job.settings.rounds) is in
     let moving = subst (λ (d : Discipline). IsSchedulerBy AreMoved (decision_named (scheduler_of d))) (sym is) IsSchedulerBy-decision_of in
     let some : 0 < rounds_in job traffic scheduled = omega (arith, rounds, good.settings.some_rounds) in
     let below = longest_wait-below_at_line_rate job.traffic.ports (rounds_in job traffic scheduled) 0 0 (places_in job 0) (slots_in job 0 t) traffic.some some
-    (slots-window job traffic scheduled AreMoved (slot-moved job traffic scheduled AreMoved moving) t)
+    (slots-window job traffic scheduled named AreMoved (slot-moved job traffic scheduled named AreMoved moving) t)
     (slots-alone job traffic scheduled t) (slots-line_rate job (ap queueing_of is) 0 t) in
     subst (λ (wait : ℕ). wait < longest_service_at_line_rate job.traffic.ports job.settings.rounds) (sym (wait-told job traffic scheduled t))
     (subst (λ (r : ℕ). longest_wait job.traffic.ports 0 (map noted_of (slots_in job 0 t)) < longest_service_at_line_rate job.traffic.ports r) rounds below)
@@ -142,10 +143,11 @@ pub waits-firm : (job : JobValue) (t : ℕ) → IsTraffic job.traffic → IsJob 
     → (numbers_after job t).longest_wait < job.traffic.ports * job.traffic.ports
 waits-firm job t traffic good is =
     let scheduled = ap is_ideal is in
+    let named = ap is_random is in
     let rounds = ap (λ (d : Discipline). rounds_by d job.settings.rounds) is in
     let moving = subst (λ (d : Discipline). IsSchedulerBy AreMovedByFirm (decision_named (scheduler_of d))) (sym is) IsSchedulerBy-firm_decision in
     let some : 0 < rounds_in job traffic scheduled = omega (arith, rounds, good.settings.some_rounds) in
     let below = firm_longest_wait job.traffic.ports (rounds_in job traffic scheduled) 0 0 (places_in job 0) (slots_in job 0 t) traffic.some some
-    (slots-window job traffic scheduled AreMovedByFirm (slot-moved job traffic scheduled AreMovedByFirm moving) t)
+    (slots-window job traffic scheduled named AreMovedByFirm (slot-moved job traffic scheduled named AreMovedByFirm moving) t)
     (slots-alone job traffic scheduled t) in
     subst (λ (wait : ℕ). wait < job.traffic.ports * job.traffic.ports) (sym (wait-told job traffic scheduled t)) below

@@ -4,6 +4,8 @@ use Rattle.std.specs.Prelude.{flat_map, sum_by}
 use Rattle.std.proofs.lemmas.List.Elements.{All-replicate}
 use Rattle.pointer_state.specs.Places.{Places, places_at_first}
 use Rattle.service_bound.specs.MeterSteps.{HasNoted}
+use Rattle.made_traffic.specs.Streams.{stream_at_first}
+use Rattle.random_picks.specs.declared.picks.TheConstants.{PICKS_STREAM}
 use Rattle.delay_counts.specs.CountSteps.{HasCounted as HasDelays}
 use Rattle.arrival_queues.specs.Queues.{Queues, empty_queues, held_count, queue_count}
 use Rattle.simulated_slots.specs.declared.arrivals.Arrivals.{Arrivals}
@@ -36,6 +38,10 @@ places-first : (job : JobValue) → (switch_before job 0).places ≡ places_at_f
 unfolding switch_before
 places-first job = refl
 
+picks-first : (job : JobValue) → (switch_before job 0).picks ≡ stream_at_first job.seed PICKS_STREAM
+unfolding switch_before
+picks-first job = refl
+
 ports-first : (n : ℕ) → (places_at_first n).ports ≡ n
 unfolding places_at_first
 ports-first n = refl
@@ -67,11 +73,13 @@ HasTakenIn-first job taken queues arrived dropped peak sizes = record {
 }
 
 pub HasDecided-first : (job : JobValue) (arbiter : ArbiterValue) → arbiter.discipline ≡ job.settings.discipline → arbiter.rounds ≡ job.settings.rounds
-    → arbiter.places ≡ places_at_first job.traffic.ports → arbiter.meter.count ≡ 0 → HasNoted arbiter.meter [] → HasDecided job 0 arbiter
-HasDecided-first job arbiter discipline rounds places few noted = record {
+    → arbiter.places ≡ places_at_first job.traffic.ports → arbiter.picks ≡ stream_at_first job.seed PICKS_STREAM → arbiter.meter.count ≡ 0
+    → HasNoted arbiter.meter [] → HasDecided job 0 arbiter
+HasDecided-first job arbiter discipline rounds places picks few noted = record {
   discipline = discipline;
   rounds = rounds;
   places = places ∙ sym (places-first job);
+  picks = picks ∙ sym (picks-first job);
   ports = ap (λ (p : Places). p.ports) places ∙ ports-first job.traffic.ports;
   few = omega (arith, few);
   noted = λ scheduled. noted;

@@ -23,7 +23,7 @@ use Rattle.simulated_slots.specs.declared.arrivals.Arrivals.{Arrivals}
 use Rattle.simulated_slots.specs.declared.departed.Departed.{Departed}
 use Rattle.simulated_slots.specs.declared.discipline.Discipline.{Discipline}
 use Rattle.simulated_slots.specs.Jobs.{JobValue, batch_at, batch_of, is_ideal, is_measured, queueing_of}
-use Rattle.simulated_slots.specs.Slots.{all_entered, coming, decision_by, dropped, lengths, served_queues, slot_of, switch_before}
+use Rattle.simulated_slots.specs.Slots.{all_entered, coming, decision_by, dropped, lengths, picks_by, served_queues, slot_of, switch_before}
 use Rattle.simulated_slots.specs.ArbiterSteps.{ArbiterValue}
 use Rattle.simulated_slots.specs.ArrivalSteps.{AllCame, AreArrivals, HaveCome, where_measured}
 use Rattle.simulated_slots.specs.DepartureSteps.{AreDeparted, HaveDeparted, delay_in, where_batched}
@@ -34,7 +34,7 @@ use Rattle.simulated_runs.specs.Numbers.{Departure, arrivals, delay_of, departed
 use Rattle.simulated_runs.specs.Numbers.{measured, noted_in, outputs, waiting_before}
 use Rattle.simulated_runs.specs.SimulationSteps.{HasCountedDeparted, HasDecided, HasSummed, HasTakenIn, batch_delays}
 use Rattle.simulated_runs.specs.SlotSteps.{begun, ended, filled}
-use Rattle.simulated_runs.proofs.MadeSlots.{after-is, came-is, decision-is, dropped-is, filled-is, lengths-is, places-is, served_in}
+use Rattle.simulated_runs.proofs.MadeSlots.{after-is, came-is, decision-is, dropped-is, filled-is, lengths-is, picks-is, places-is, served_in}
 use Rattle.simulated_runs.proofs.MeasuredSlots.{map_flat_map-measured, sum_by-measured}
 
 greatest-append : (xs ys : List ℕ) → greatest (xs ++ ys) ≡ max (greatest xs) (greatest ys)
@@ -93,35 +93,49 @@ HasTakenIn-more job t old mid after size has come sizes left ports queueing came
     lengths_same = ap (λ (queues : Queues). lengths queues (coming job t)) has.queues ∙ sym (lengths-is job t)
 
 -- what is decided by the same is the same
-same_decision : (d e : Discipline) (n m r s t : ℕ) (queues filled : Queues) (p q : Places) → d ≡ e → n ≡ m → r ≡ s → queues ≡ filled → p ≡ q
-    → decision_by d n r t (rows_of queues) p ≡ decision_by e m s t (rows_of filled) q
-same_decision d e n m r s t queues filled p q discipline ports rounds same places =
-    ap (λ (d : Discipline). decision_by d n r t (rows_of queues) p) discipline ∙ (ap (λ (n : ℕ). decision_by e n r t (rows_of queues) p) ports
-    ∙ (ap (λ (r : ℕ). decision_by e m r t (rows_of queues) p) rounds ∙ (ap (λ (queues : Queues). decision_by e m s t (rows_of queues) p) same
-    ∙ ap (λ (p : Places). decision_by e m s t (rows_of filled) p) places)))
+same_decision : (d e : Discipline) (n m r s t : ℕ) (queues filled : Queues) (p q : Places) (w x : ℕ) → d ≡ e → n ≡ m → r ≡ s → queues ≡ filled → p ≡ q
+    → w ≡ x → decision_by d n r t (rows_of queues) p w ≡ decision_by e m s t (rows_of filled) q x
+same_decision d e n m r s t queues filled p q w x discipline ports rounds same places picks =
+    λ i. decision_by (discipline i) (ports i) (rounds i) t (rows_of (same i)) (places i) (picks i)
+
+same_picks : (d e : Discipline) (n m r s : ℕ) (queues filled : Queues) (w x : ℕ) → d ≡ e → n ≡ m → r ≡ s → queues ≡ filled → w ≡ x
+    → picks_by d n r (rows_of queues) w ≡ picks_by e m s (rows_of filled) x
+same_picks d e n m r s queues filled w x discipline ports rounds same picks =
+    λ i. picks_by (discipline i) (ports i) (rounds i) (rows_of (same i)) (picks i)
 
 -- the decision of the slot
 pub decided-is : (job : JobValue) (t : ℕ) (old : ArbiterValue) (queues : Queues) (decision : Decision) → HasDecided job t old
     → queues ≡ (slot_of job t).filled
-    → decision ≡ decision_by old.discipline old.places.ports old.rounds t (rows_of queues) old.places
+    → decision ≡ decision_by old.discipline old.places.ports old.rounds t (rows_of queues) old.places old.picks
     → decision ≡ (slot_of job t).decision
 decided-is job t old queues decision has same is =
     is ∙ (same_decision old.discipline job.settings.discipline old.places.ports job.traffic.ports old.rounds job.settings.rounds t queues (slot_of job t).filled
-    old.places (switch_before job t).places has.discipline has.ports has.rounds same has.places ∙ sym (decision-is job t))
+    old.places (switch_before job t).places old.picks (switch_before job t).picks has.discipline has.ports has.rounds same has.places has.picks
+    ∙ sym (decision-is job t))
+
+-- and where the stream of picks is after it
+picked-is : (job : JobValue) (t : ℕ) (old : ArbiterValue) (queues : Queues) (picks : ℕ) → HasDecided job t old → queues ≡ (slot_of job t).filled
+    → picks ≡ picks_by old.discipline old.places.ports old.rounds (rows_of queues) old.picks → picks ≡ (switch_before job (t + 1)).picks
+picked-is job t old queues picks has same is =
+    is ∙ (same_picks old.discipline job.settings.discipline old.places.ports job.traffic.ports old.rounds job.settings.rounds queues (slot_of job t).filled
+    old.picks (switch_before job t).picks has.discipline has.ports has.rounds same has.picks
+    ∙ (sym (picks-is job t) ∙ sym (ap (λ switch. switch.picks) (after-is job t))))
 
 -- the arbiter
 pub HasDecided-more : (job : JobValue) (t : ℕ) (old new : ArbiterValue) (queues : Queues) (used : RoundsUsed)
     → HasDecided job t old → queues ≡ (slot_of job t).filled
     → (new.discipline ≡ old.discipline) × (new.rounds ≡ old.rounds) × (new.places.ports ≡ old.places.ports)
     → record { matched = new.matched; numbers = used; places = new.places } ≡ (slot_of job t).decision
+    → new.picks ≡ picks_by old.discipline old.places.ports old.rounds (rows_of queues) old.picks
     → new.meter.count ≤ old.meter.count + 1
     → (is_ideal old.discipline ≡ false → (slots : List NotedSlot) → HasNoted old.meter slots
     → HasNoted new.meter (slots ++ record { rows = rows_of queues; matched = new.matched } ∷ []))
     → HasDecided job (t + 1) new
-HasDecided-more job t old new queues used has same kept decided count noted = record {
+HasDecided-more job t old new queues used has same kept decided picked count noted = record {
   discipline = kept.0 ∙ has.discipline;
   rounds = kept.1 ∙ has.rounds;
   places = ap (λ (d : Decision). d.places) decided ∙ (sym (places-is job t) ∙ sym (ap (λ switch. switch.places) (after-is job t)));
+  picks = picked-is job t old queues new.picks has same picked;
   ports = kept.2 ∙ has.ports;
   few = omega (arith, count, has.few);
   noted = λ scheduled. subst (HasNoted new.meter)

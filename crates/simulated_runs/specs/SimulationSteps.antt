@@ -49,6 +49,7 @@ pub record HasDecided (job : JobValue) (t : ℕ) (arbiter : ArbiterValue) : Type
   pub discipline : arbiter.discipline ≡ job.settings.discipline
   pub rounds : arbiter.rounds ≡ job.settings.rounds
   pub places : arbiter.places ≡ (switch_before job t).places
+  pub picks : arbiter.picks ≡ (switch_before job t).picks
   pub ports : arbiter.places.ports ≡ job.traffic.ports
   pub few : arbiter.meter.count ≤ t
   pub noted : is_ideal job.settings.discipline ≡ false → HasNoted arbiter.meter (map (noted_in job) (range_with_len 0 t))

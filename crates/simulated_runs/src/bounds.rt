@@ -11,7 +11,8 @@ ghost use Rattle.simulated_runs.specs.Numbers.{numbers_after};
 
 /// The longest wait that is told of a simulation, whatever its traffic, its depth and the number of its slots, is below
 /// what `longest_service_at_line_rate()` of `service_bound` tells under iSLIP, and below `n * n` of `n` ports under FIRM.
-/// Dropped cells do not matter. Of RRM no bound is proved: a queue of its can ask for ever (`rrm_starves()` of `rrm_rounds`).
+/// Dropped cells do not matter. Of RRM no bound is proved: a queue of its can ask for ever (`rrm_starves()` of `rrm_rounds`);
+/// nor of PIM, whose picks can pass a queue over as often as random words say.
 pub fn longest_waits_are_bounded()
     ensures islip { (job : JobValue) (t : ℕ) → IsTraffic job.traffic → IsJob job → job.settings.discipline ≡ Scheduled Islip
         → (numbers_after job t).longest_wait < longest_service_at_line_rate job.traffic.ports job.settings.rounds }

@@ -52,7 +52,13 @@ impl Simulation {
             slot: 0,
             sources: sources(alloc, job)?,
             arrivals: Arrivals::make(alloc, settings.discipline.queueing(), ports, settings.depth)?,
-            arbiter: Arbiter::make(alloc, settings.discipline, settings.rounds, ports)?,
+            arbiter: Arbiter::make(
+                alloc,
+                settings.discipline,
+                settings.rounds,
+                ports,
+                job.seed(),
+            )?,
             departed: Departed::make(alloc, ports, settings.batches)?,
             counts: SlotCounts::none(),
         })

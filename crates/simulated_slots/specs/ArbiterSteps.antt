@@ -13,6 +13,7 @@ pub record ArbiterValue : Type 0 where
   pub discipline : Discipline
   pub rounds : ℕ
   pub places : Places
+  pub picks : ℕ
   pub matched : List (Option Fed)
   pub meter : Meter
 

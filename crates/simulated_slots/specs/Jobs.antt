@@ -8,7 +8,7 @@ use Rattle.arrival_queues.specs.declared.queueing.Queueing.{Queueing}
 use Rattle.arrival_queues.specs.declared.queueing.Queueing.TheVariants.{ByPair, ByInput, ByOutput}
 use Rattle.arrival_queues.specs.Queues.{queue_count}
 use Rattle.simulated_slots.specs.declared.discipline.Discipline.{Discipline}
-use Rattle.simulated_slots.specs.declared.discipline.Discipline.TheVariants.{Scheduled, Fifo, Ideal}
+use Rattle.simulated_slots.specs.declared.discipline.Discipline.TheVariants.{Scheduled, Pim, Fifo, Ideal}
 use Rattle.simulated_slots.specs.declared.job.Settings.{Settings}
 use Rattle.simulated_slots.specs.declared.limits.TheConstants.{MAX_SEED, MAX_SLOTS, MAX_DEPTH, MAX_BATCHES}
 
@@ -28,24 +28,35 @@ job_of traffic seed slots settings = record { traffic = traffic; seed = seed; sl
 -- how a switch of the discipline queues its cells
 abbrev pub queueing_of : Discipline → Queueing
 queueing_of (Scheduled name) = ByPair
+queueing_of Pim = ByPair
 queueing_of Fifo = ByInput
 queueing_of Ideal = ByOutput
 
 -- whether it is the ideal switch, which has no scheduler
 abbrev pub is_ideal : Discipline → Bool
 is_ideal (Scheduled name) = false
+is_ideal Pim = false
 is_ideal Fifo = false
 is_ideal Ideal = true
 
+-- whether its ports pick at random, and no scheduler does
+abbrev pub is_random : Discipline → Bool
+is_random (Scheduled name) = false
+is_random Pim = true
+is_random Fifo = false
+is_random Ideal = false
+
 -- the scheduler of the discipline, and how many rounds it has where the job says so many: the heads of the queues of fifo ask
--- by iSLIP with one round; that of an ideal switch has nothing to do
+-- by iSLIP with one round; that of an ideal switch has nothing to do, nor that of one whose ports pick at random
 abbrev pub scheduler_of : Discipline → SchedulerName
 scheduler_of (Scheduled name) = name
+scheduler_of Pim = Islip
 scheduler_of Fifo = Islip
 scheduler_of Ideal = Islip
 
 abbrev pub rounds_by : Discipline → ℕ → ℕ
 rounds_by (Scheduled name) rounds = rounds
+rounds_by Pim rounds = rounds
 rounds_by Fifo rounds = 1
 rounds_by Ideal rounds = rounds
 

@@ -4,27 +4,32 @@ use Rattle.std.specs.Prelude.{ℕ, zero, suc, if◌then◌else◌, List, [], ◌
 use Rattle.std.specs.List.{range_with_len}
 use Rattle.islip_rounds.specs.Numbers.{numbers_of}
 use Rattle.slot_match.specs.declared.matching.Fed.{Fed}
+use Rattle.slot_match.specs.declared.rows.Row.{Row}
 use Rattle.slot_match.specs.Matches.{fed_of, unmatched}
 use Rattle.pointer_state.specs.Places.{Places, places_at_first}
 use Rattle.eslip_rounds.specs.Slots.{Decision}
-use Rattle.eslip_rounds.specs.Schedulers.{Scheduler}
 use Rattle.named_schedulers.specs.Named.{decision_named}
 use Rattle.made_traffic.specs.Sources.{comes}
+use Rattle.made_traffic.specs.Streams.{stream_at_first}
+use Rattle.random_picks.specs.declared.picks.TheConstants.{PICKS_STREAM}
+use Rattle.random_picks.specs.Rounds.{pim_decision}
 use Rattle.arrival_queues.specs.declared.cell.ArrivedCell.{ArrivedCell}
 use Rattle.arrival_queues.specs.Queues.{Queues, empty_queues, has_room, head_of, length_with, queue_of, queues_with, queues_without_head, rows_of}
 use Rattle.simulated_slots.specs.declared.discipline.Discipline.{Discipline}
-use Rattle.simulated_slots.specs.Jobs.{JobValue, is_ideal, queueing_of, rounds_by, scheduler_of}
+use Rattle.simulated_slots.specs.Jobs.{JobValue, is_ideal, is_random, queueing_of, rounds_by, scheduler_of}
 
--- a switch between two slots: its queues, and the pointers of its scheduler
+-- a switch between two slots: its queues, the pointers of its scheduler, and where the stream of its random picks is
 pub record Switch : Type 0 where
   pub queues : Queues
   pub places : Places
+  pub picks : ℕ
 
--- before slot 0 nothing waits, and all pointers are at port 0
+-- before slot 0 nothing waits, all pointers are at port 0, and no word of the picks has been drawn
 abbrev pub at_first : JobValue → Switch
 at_first job = record {
   queues = empty_queues (queueing_of job.settings.discipline) job.traffic.ports job.settings.depth;
   places = places_at_first job.traffic.ports;
+  picks = stream_at_first job.seed PICKS_STREAM;
 }
 
 -- the cell that comes to input i in slot t, if one comes
@@ -58,11 +63,24 @@ abbrev pub dropped : Queues → List ArrivedCell → List ArrivedCell
 dropped queues [] = []
 dropped queues (cell ∷ cells) = dropped_one queues cell ++ dropped (queues_with queues cell) cells
 
--- What a discipline decides in a slot. An ideal switch has nothing to decide.
-abbrev pub decision_by : Discipline → Scheduler
-decision_by discipline n rounds t rows places =
+-- what random picks decide, which move no pointers
+abbrev pub random_decision : ℕ → ℕ → List Row → Places → ℕ → Decision
+random_decision n rounds rows places picks = record {
+  matched = (pim_decision n rounds rows picks).matched;
+  numbers = (pim_decision n rounds rows picks).numbers;
+  places = places;
+}
+
+-- What a discipline decides in a slot, and where the stream of random picks is after it. An ideal switch has nothing to
+-- decide.
+abbrev pub decision_by : Discipline → ℕ → ℕ → ℕ → List Row → Places → ℕ → Decision
+decision_by discipline n rounds t rows places picks =
     if is_ideal discipline then record { matched = unmatched n; numbers = numbers_of []; places = places }
-    else decision_named (scheduler_of discipline) n (rounds_by discipline rounds) t rows places
+    else (if is_random discipline then random_decision n rounds rows places picks
+    else decision_named (scheduler_of discipline) n (rounds_by discipline rounds) t rows places)
+
+abbrev pub picks_by : Discipline → ℕ → ℕ → List Row → ℕ → ℕ
+picks_by discipline n rounds rows picks = if is_random discipline then (pim_decision n rounds rows picks).stream else picks
 
 -- the queue that output j is served from, if it is: that of the pair in the match; of an ideal switch its own, if a cell
 -- waits there
@@ -100,7 +118,9 @@ pub record Slot : Type 0 where
 unfoldable pub slot_from : JobValue → ℕ → Switch → Slot
 slot_from job t switch =
     let filled = all_entered switch.queues (coming job t) in
-    let decision = decision_by job.settings.discipline job.traffic.ports job.settings.rounds t (rows_of filled) switch.places in
+    let rows = rows_of filled in
+    let decision = decision_by job.settings.discipline job.traffic.ports job.settings.rounds t rows switch.places switch.picks in
+    let picks = picks_by job.settings.discipline job.traffic.ports job.settings.rounds rows switch.picks in
     let served = served_queues job.settings.discipline job.traffic.ports decision.matched job.traffic.ports in
     record {
       came = coming job t;
@@ -109,7 +129,7 @@ slot_from job t switch =
       filled = filled;
       decision = decision;
       departed = departing filled served;
-      after = record { queues = all_left filled served; places = decision.places };
+      after = record { queues = all_left filled served; places = decision.places; picks = picks };
     }
 
 -- the switch before slot t

@@ -8,13 +8,16 @@ ghost use Rattle.service_bound.specs.MeterSteps.{HasNoted};
 ghost use Rattle.service_bound.specs.declared.limits.TheConstants.{MAX_NOTED};
 ghost use Rattle.arrival_queues.specs.Queues.{queue_of};
 ghost use Rattle.simulated_slots.specs.Jobs.{is_ideal, queueing_of};
-ghost use Rattle.simulated_slots.specs.Slots.{decision_by, served_queue};
+ghost use Rattle.made_traffic.specs.Streams.{stream_at_first};
+ghost use Rattle.random_picks.specs.declared.picks.TheConstants.{PICKS_STREAM};
+ghost use Rattle.simulated_slots.specs.Slots.{decision_by, picks_by, served_queue};
 
 use crate::discipline::Discipline;
 use islip_rounds::RoundsUsed;
 use named_schedulers::NamedScheduler;
 use named_schedulers::laws::each_is_a_scheduler;
 use pointer_state::Pointers;
+use random_picks::RandomPicks;
 use rotating_pick::OutOfMemory;
 use scheduler_names::SchedulerName;
 use service_bound::WaitMeter;
@@ -22,13 +25,15 @@ use slot_match::{Match, Row};
 use std::alloc::Global;
 use std::marker::Model;
 
-/// What decides the slots of a switch: a scheduler with its pointers, and a meter of waits. An ideal switch uses neither.
+/// What decides the slots of a switch: a scheduler with its pointers, or random picks; and a meter of waits. An ideal switch
+/// uses none of them.
 #[derive(Drop)]
 pub struct Arbiter {
     discipline: Discipline,
     rounds: u32,
     scheduler: NamedScheduler,
     pointers: Pointers,
+    picks: RandomPicks,
     matched: Match,
     meter: WaitMeter,
 }
@@ -38,19 +43,33 @@ impl Model for Arbiter {
 
     ghost Value = { ArbiterValue };
 
-    ghost view = { λ a. record { discipline = a.discipline; rounds = a.rounds; places = a.pointers; matched = a.matched; meter = a.meter } };
+    ghost view = { λ a. record {
+      discipline = a.discipline;
+      rounds = a.rounds;
+      places = a.pointers;
+      picks = a.picks;
+      matched = a.matched;
+      meter = a.meter;
+    } };
 
-    ghost invariant = { λ a. IsArbiter a.scheduler
-        (record { discipline = a.discipline; rounds = a.rounds; places = a.pointers; matched = a.matched; meter = a.meter }) };
+    ghost invariant = { λ a. IsArbiter a.scheduler (record {
+      discipline = a.discipline;
+      rounds = a.rounds;
+      places = a.pointers;
+      picks = a.picks;
+      matched = a.matched;
+      meter = a.meter;
+    }) };
 }
 
 impl Arbiter {
-    /// That of a switch of `n` ports, before slot 0. It takes all memory that it needs.
+    /// That of a switch of `n` ports, before slot 0, with the random words of the seed. It takes all memory that it needs.
     pub fn make(
         alloc: Global,
         discipline: Discipline,
         rounds: u32,
         n: u32,
+        seed: u32,
     ) -> Result<Arbiter, OutOfMemory>
         requires some { 0 < n }
         requires size { n ≤ MAX_PORTS }
@@ -59,6 +78,7 @@ impl Arbiter {
         ensures discipline { IfOk result (λ arbiter. arbiter.discipline ≡ discipline) }
         ensures rounds { IfOk result (λ arbiter. arbiter.rounds ≡ rounds) }
         ensures places { IfOk result (λ arbiter. arbiter.places ≡ places_at_first n) }
+        ensures picks { IfOk result (λ arbiter. arbiter.picks ≡ stream_at_first seed PICKS_STREAM) }
         ensures noted { IfOk result (λ arbiter. HasNoted arbiter.meter []) }
         ensures count { IfOk result (λ arbiter. arbiter.meter.count ≡ 0) }
     {
@@ -67,6 +87,7 @@ impl Arbiter {
             rounds,
             scheduler: NamedScheduler::new(discipline.scheduler()),
             pointers: Pointers::new(n),
+            picks: RandomPicks::new(seed),
             matched: Match::new(n),
             meter: WaitMeter::make(alloc, n)?,
         })
@@ -78,7 +99,8 @@ impl Arbiter {
         requires few { self.old.meter.count < MAX_NOTED }
         ensures kept { (self.new.discipline ≡ self.old.discipline) × (self.new.rounds ≡ self.old.rounds) × (self.new.places.ports ≡ self.old.places.ports) }
         ensures decision { record { matched = self.new.matched; numbers = result; places = self.new.places }
-            ≡ decision_by self.old.discipline self.old.places.ports self.old.rounds slot rows.now self.old.places }
+            ≡ decision_by self.old.discipline self.old.places.ports self.old.rounds slot rows.now self.old.places self.old.picks }
+        ensures picks { self.new.picks ≡ picks_by self.old.discipline self.old.places.ports self.old.rounds rows.now self.old.picks }
         ensures count { self.new.meter.count ≤ self.old.meter.count + 1 }
         ensures noted { is_ideal self.old.discipline ≡ false → (slots : List NotedSlot) → HasNoted self.old.meter slots
             → HasNoted self.new.meter (slots ++ record { rows = rows.now; matched = self.new.matched } ∷ []) }
@@ -86,9 +108,14 @@ impl Arbiter {
         if self.discipline.is_ideal() {
             return RoundsUsed::none();
         }
+        let n = self.pointers.ports();
+        if self.discipline.is_random() {
+            let used = self.picks.decide(n, self.rounds, rows, &mut self.matched);
+            self.meter.note(rows, &self.matched);
+            return used;
+        }
         // Tells the proof that the pointers stay those of as many ports.
         each_is_a_scheduler();
-        let n = self.pointers.ports();
         let rounds = self.discipline.rounds(self.rounds);
         let used = self.scheduler.decide(
             n,

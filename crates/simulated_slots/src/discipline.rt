@@ -1,5 +1,5 @@
 ghost use Rattle.std.specs.Prelude.{◌≡◌};
-ghost use Rattle.simulated_slots.specs.Jobs.{is_ideal, queueing_of, rounds_by, scheduler_of};
+ghost use Rattle.simulated_slots.specs.Jobs.{is_ideal, is_random, queueing_of, rounds_by, scheduler_of};
 
 use arrival_queues::Queueing;
 use scheduler_names::SchedulerName;
@@ -9,6 +9,10 @@ use scheduler_names::SchedulerName;
 pub enum Discipline {
     /// Virtual output queues, one for each input and output, and this scheduler.
     Scheduled(SchedulerName),
+    /// Virtual output queues, and parallel iterative matching: rounds in which each port that has a choice takes any with the
+    /// same chance (T. E. Anderson, S. S. Owicki, J. B. Saxe and C. P. Thacker, ACM Transactions on Computer Systems 11(4),
+    /// 1993).
+    Pim,
     /// One queue for each input, whose first cell alone asks, by iSLIP with one round (M. J. Karol, M. G. Hluchyj and
     /// S. P. Morgan, IEEE Transactions on Communications 35(12), 1987, have the throughput of such a switch).
     Fifo,
@@ -23,7 +27,7 @@ impl Discipline {
         ensures { result ≡ queueing_of self }
     {
         match self {
-            Discipline::Scheduled(_) => Queueing::ByPair,
+            Discipline::Scheduled(_) | Discipline::Pim => Queueing::ByPair,
             Discipline::Fifo => Queueing::ByInput,
             Discipline::Ideal => Queueing::ByOutput,
         }
@@ -34,18 +38,28 @@ impl Discipline {
         ensures { result ≡ is_ideal self }
     {
         match self {
-            Discipline::Scheduled(_) | Discipline::Fifo => false,
+            Discipline::Scheduled(_) | Discipline::Pim | Discipline::Fifo => false,
             Discipline::Ideal => true,
         }
     }
 
-    /// Its scheduler; that of an ideal switch has nothing to do.
+    /// Whether its ports pick at random, and no scheduler does.
+    pub fn is_random(self) -> bool
+        ensures { result ≡ is_random self }
+    {
+        match self {
+            Discipline::Pim => true,
+            Discipline::Scheduled(_) | Discipline::Fifo | Discipline::Ideal => false,
+        }
+    }
+
+    /// Its scheduler; that of an ideal switch has nothing to do, nor that of one whose ports pick at random.
     pub fn scheduler(self) -> SchedulerName
         ensures { result ≡ scheduler_of self }
     {
         match self {
             Discipline::Scheduled(name) => name,
-            Discipline::Fifo | Discipline::Ideal => SchedulerName::Islip,
+            Discipline::Pim | Discipline::Fifo | Discipline::Ideal => SchedulerName::Islip,
         }
     }
 
@@ -54,7 +68,7 @@ impl Discipline {
         ensures { result ≡ rounds_by self rounds }
     {
         match self {
-            Discipline::Scheduled(_) | Discipline::Ideal => rounds,
+            Discipline::Scheduled(_) | Discipline::Pim | Discipline::Ideal => rounds,
             Discipline::Fifo => 1,
         }
     }

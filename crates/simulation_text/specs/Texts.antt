@@ -5,7 +5,7 @@ use Rattle.scheduler_names.specs.Words.{scheduler_word}
 use Rattle.made_traffic.specs.Patterns.{pattern_word, weight_of}
 use Rattle.delay_counts.specs.declared.counts.DelayCount.{DelayCount}
 use Rattle.simulated_slots.specs.declared.discipline.Discipline.{Discipline}
-use Rattle.simulated_slots.specs.declared.discipline.Discipline.TheVariants.{Scheduled, Fifo, Ideal}
+use Rattle.simulated_slots.specs.declared.discipline.Discipline.TheVariants.{Scheduled, Pim, Fifo, Ideal}
 use Rattle.simulated_slots.specs.Jobs.{JobValue}
 use Rattle.simulated_runs.specs.declared.numbers.BatchNumbers.{BatchNumbers}
 use Rattle.simulated_runs.specs.declared.numbers.PortNumbers.{PortNumbers}
@@ -22,6 +22,7 @@ line name numbers = name ++ flat_map number_text numbers ++ codes "\n"
 -- the name of a discipline
 abbrev pub discipline_word : Discipline → List ℕ
 discipline_word (Scheduled name) = scheduler_word name
+discipline_word Pim = codes "pim"
 discipline_word Fifo = codes "fifo"
 discipline_word Ideal = codes "ideal"
 

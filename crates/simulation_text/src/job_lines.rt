@@ -13,6 +13,7 @@ fn discipline_word(discipline: Discipline) -> &'static str
 {
     match discipline {
         Discipline::Scheduled(name) => name.word(),
+        Discipline::Pim => "pim",
         Discipline::Fifo => "fifo",
         Discipline::Ideal => "ideal",
     }

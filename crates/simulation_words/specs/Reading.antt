@@ -9,7 +9,7 @@ use Rattle.made_traffic.specs.Patterns.{pattern_named}
 use Rattle.made_traffic.specs.Sources.{TrafficValue, traffic_of}
 use Rattle.simulated_slots.specs.declared.limits.TheConstants.{MAX_BATCHES, MAX_DEPTH, MAX_SEED, MAX_SLOTS}
 use Rattle.simulated_slots.specs.declared.discipline.Discipline.{Discipline}
-use Rattle.simulated_slots.specs.declared.discipline.Discipline.TheVariants.{Scheduled, Fifo, Ideal}
+use Rattle.simulated_slots.specs.declared.discipline.Discipline.TheVariants.{Scheduled, Pim, Fifo, Ideal}
 use Rattle.simulated_slots.specs.declared.job.Settings.{Settings}
 use Rattle.simulated_slots.specs.Jobs.{job_of}
 use Rattle.command_words.specs.Numbers.{number_within}
@@ -39,9 +39,10 @@ number_or default low high (Some text) = number_within low high text
 -- how cells are queued and served, by a name
 abbrev pub discipline_named : List ℕ → Option Discipline
 discipline_named word =
-    if bytes_eq word (codes "fifo") then Some Fifo
+    if bytes_eq word (codes "pim") then Some Pim
+    else (if bytes_eq word (codes "fifo") then Some Fifo
     else (if bytes_eq word (codes "ideal") then Some Ideal
-    else option_map Scheduled (scheduler_named word))
+    else option_map Scheduled (scheduler_named word)))
 
 -- the discipline that an option's text names; iSLIP where the option is not given
 abbrev pub discipline_given : Option (List ℕ) → Option Discipline

@@ -3,7 +3,7 @@
 //! ```text
 //! SEED SLOTS PORTS        0 to 1,000,000,000; 1 to 4,000,000,000; 1 to 64
 //!
-//! --scheduler NAME        islip, firm, rrm, fifo or ideal      islip
+//! --scheduler NAME        islip, firm, rrm, pim, fifo or ideal    islip
 //! --rounds R              rounds of a slot, 1 to 64            4
 //! --load-ppm P            cells of an input in a million slots, 0 to 1,000,000    900,000
 //! --burst B               mean cells of a burst, 1 to 4,096    1

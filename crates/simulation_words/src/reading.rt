@@ -142,6 +142,7 @@ fn discipline_named(name: &str) -> Option<Discipline>
     ensures { result ≡ discipline_named name.now }
 {
     match name {
+        "pim" => Some(Discipline::Pim),
         "fifo" => Some(Discipline::Fifo),
         "ideal" => Some(Discipline::Ideal),
         _ => Some(Discipline::Scheduled(SchedulerName::named(name)?)),

@@ -1,5 +1,6 @@
 """Compares the program `simulate` with the model on random simulations. It is the one that the variable SIMULATE names,
-as `tests/run_model` sets it, else the one that was built here; without one this is skipped."""
+as `tests/run_model` sets it, else the one that was built here; without one this is skipped. The variable SIMULATIONS says how
+many there are, where it is set."""
 
 import os
 import random
@@ -12,8 +13,7 @@ from .words import PATTERNS, SCHEDULERS, WEIGHED
 
 TOP = Path(__file__).resolve().parents[3]
 VARIABLE, BUILT = "SIMULATE", TOP / "crates/simulate/out/simulate"
-JOBS = 60
-MADE = [name for name in SCHEDULERS if name != "pim"]  # Those that the program has.
+JOBS = int(os.environ.get("SIMULATIONS", 60))
 
 
 def program():
@@ -22,15 +22,15 @@ def program():
     return found if found.is_file() and os.access(found, os.X_OK) else None
 
 
-def random_words(rng, schedulers=SCHEDULERS):
-    """The words of a small simulation under one of these schedulers."""
+def random_words(rng):
+    """The words of a small simulation."""
     ports, pattern = rng.choice((1, 2, 2, 3, 4, 4, 5, 8, 16, 17, 33, 64)), rng.choice(PATTERNS)
     slots = rng.randrange(1, 12) if rng.random() < 0.1 else rng.randrange(1, max(2, 1_600 // ports))
     words = ["simulate", str(rng.randrange(10 ** 9 + 1)), str(slots), str(ports), "--pattern", pattern]
     if pattern in WEIGHED:
         words += ["--weight-ppm", str(rng.choice((0, 50_000, 500_000, 1_000_000)))]
     for name, values, chance in (
-        ("scheduler", schedulers, 0.95), ("rounds", (1, 1, 2, 3, 4, 64), 0.7), ("burst", (1, 2, 16, 100, 4_096), 0.7),
+        ("scheduler", SCHEDULERS, 0.95), ("rounds", (1, 1, 2, 3, 4, 64), 0.7), ("burst", (1, 2, 16, 100, 4_096), 0.7),
         ("load-ppm", (0, 1, 100_000, 500_000, 800_000, 950_000, 999_999, 1_000_000), 0.7),
         ("depth", (1, 2, 3, 10, 1_000), 0.5), ("warm-up", (rng.randrange(slots),), 0.7),
         ("batches", (1, 2, 3, 7, 1_000), 0.7),
@@ -46,7 +46,7 @@ class Program(unittest.TestCase):
     def test_random_simulations(self):
         rng = random.Random(1)
         for _ in range(JOBS):
-            words = random_words(rng, MADE)
+            words = random_words(rng)
             expected = run_words(words)
             printed = dict(stdout=subprocess.PIPE, stderr=subprocess.PIPE, universal_newlines=True)
             ended = subprocess.run([str(program()), *words], **printed)

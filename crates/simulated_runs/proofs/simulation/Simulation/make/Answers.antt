@@ -1,6 +1,8 @@
 use Rattle.std.proofs.Common.{◌∙◌, ◌≤◌, ℕ, ap, arith, refl, subst, sym}
 use Rattle.rotating_pick.specs.declared.limits.TheConstants.{MAX_PORTS}
 use Rattle.pointer_state.specs.Places.{places_at_first}
+use Rattle.made_traffic.specs.Streams.{stream_at_first}
+use Rattle.random_picks.specs.declared.picks.TheConstants.{PICKS_STREAM}
 use Rattle.simulated_slots.specs.declared.limits.TheConstants.{MAX_SLOTS}
 use Rattle.simulated_slots.specs.Jobs.{queueing_of}
 use Rattle.simulated_slots.specs.ArrivalSteps.{AreArrivals}
@@ -32,7 +34,8 @@ invariant_of-result c =
       taken = HasTakenIn-first job c.in_ok-make.field-0 (taken.queues ∙ rw (queueing, ports, settings) refl) taken.arrived taken.dropped taken.peak
           (subst (λ (n : ℕ). AreArrivals n 0 c.in_ok-make.field-0) ports taken.sizes);
       decided = HasDecided-first job c.in_ok-make-2.field-0 (decides.discipline ∙ ap (λ s. s.discipline) settings)
-          (decides.rounds ∙ ap (λ s. s.rounds) settings) (decides.places ∙ ap places_at_first ports) decides.count decides.noted;
+          (decides.rounds ∙ ap (λ s. s.rounds) settings) (decides.places ∙ ap places_at_first ports)
+          (decides.picks ∙ ap (λ (seed : ℕ). stream_at_first seed PICKS_STREAM) c.seed.ensures) decides.count decides.noted;
       departed = HasCountedDeparted-first job c.in_ok-make-3.field-0 left.left left.fed left.batches left.delays (rw (← ports, ← settings) left.sizes);
       summed = subst (HasSummed job 0) (sym counts) (HasSummed-first job);
     }

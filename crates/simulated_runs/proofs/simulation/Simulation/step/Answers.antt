@@ -49,6 +49,7 @@ invariant_of-self c =
     (record {
       kept = c.decide-used.ensures.kept;
       decision = c.decide-used.ensures.decision;
+      picks = c.decide-used.ensures.picks;
       count = c.decide-used.ensures.count;
       noted = c.decide-used.ensures.noted;
     }) in

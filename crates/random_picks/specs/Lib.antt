@@ -1,0 +1,3 @@
+pub mod Picks
+pub mod Rounds
+pub mod PickSteps
