@@ -40,7 +40,7 @@ BAD_WORDS = [
     (["--burst", "4097"], "'4097' is not a whole number from 1 to 4096"),
     (["--cores", "0"], "'0' is not a whole number from 1"),
     (["--schedulers", "islip,"], "'islip,' is no list of names"),
-    (["--schedulers", "islip,wave"], "--schedulers: wave is none of islip, firm, rrm, fifo, ideal"),
+    (["--schedulers", "islip,wave"], "--schedulers: wave is none of islip, firm, rrm, pim, fifo, ideal"),
     (["--slots", "2"], "'2' is not a whole number from 3 to 4000000000"),
     (["--loads", "0.0000001"], "--loads: 0.0000001 has more than 6 places"),
     (["--kinds", "unbalanced", "--weights", "0.0000001"], "--weights: 0.0000001 has more than 6 places"),
@@ -70,6 +70,32 @@ status=$?
 rmdir {folder}/busy 2>/dev/null
 exit $status
 """
+# In the place of Slurm's commands: each job runs while it is submitted, and its state is kept.
+SLURM = {
+    "sbatch": """\
+echo "$*" >>{room}/asked
+job=$(wc -l <{room}/asked)
+for script; do :; done
+if sh "$script" >slurm/$job.log 2>&1; then state=COMPLETED; else state=FAILED; fi
+echo $state >{room}/$job.state
+echo $job
+""",
+    "squeue": 'for word; do :; done\ncat {room}/"${{word#--jobs=}}".state\n',
+    "scancel": "exit 0\n",
+}
+
+
+def put_commands(folder, texts):
+    """Writes commands for a shell into a folder, by their names."""
+    folder.mkdir(exist_ok=True)
+    for name, text in texts.items():
+        (folder / name).write_text("#!/bin/sh\n" + text)
+        (folder / name).chmod(0o755)
+
+
+def with_commands(folder):
+    """The variables under which the commands of a folder come before all others."""
+    return {**os.environ, "PATH": f"{folder}{os.pathsep}{os.environ['PATH']}"}
 
 
 class Words(unittest.TestCase):
@@ -104,9 +130,20 @@ class Words(unittest.TestCase):
         self.assertEqual(progress.read("Trying to restart job 1."), "a/x.json")
         self.assertEqual((progress.has_failed, progress.causes), (False, {}))
         causes = ["run_result: a/x.report: no packet came\n", "tools/traffic: b/traffic is not empty\n", "tiny_tera: it is not built\n"]
+        causes.append("sbatch: error: there is no such partition\n")
         for line in (*causes, "Error in rule run:", *causes):
             self.assertIsNone(progress.read(line))
         self.assertEqual((progress.has_failed, list(progress.causes)), (True, [it.partition(": ")[2].rstrip("\n") for it in causes]))
+
+    @unittest.skipIf(lacks("tqdm"), lacks("tqdm"))
+    def test_failures(self):
+        """A job that fails, one of a group, and one that a cluster does not take."""
+        from measure.engine import Progress
+
+        for line in ("Error in rule run:", "Error in group job simulate:", "Error submitting jobscript (exit code 1):"):
+            progress = Progress()
+            progress.read(line)
+            self.assertTrue(progress.has_failed, line)
 
     @unittest.skipIf(lacks("tqdm"), lacks("tqdm"))
     def test_end_without_a_failed_job_is_that_of_snakemake(self):
@@ -256,6 +293,58 @@ class Sweeps(unittest.TestCase):
         self.assertEqual((runs["kind"].tolist(), runs["ports"].tolist()), (["trace", "uniform"], [2, 2]))
         self.assertIn("--program program --trace a.pcap b.pcap", provenance.commands[0])
         self.check_journal(self.folder / "trace-ports-2-load-0.5-seed-1/islip-rounds-2.report")
+
+
+    def test_profile_of_slurm(self):
+        """Commands in the place of Slurm's run each job at once: what they are asked for, and that a failed job tells why."""
+        self.folder = self.room / "a sweep"
+        put_commands(self.room / "bin", {name: text.format(room=self.room) for name, text in SLURM.items()})
+        (self.room / "broken").touch()
+        words = [*self.words, "--to", self.folder, "--rounds", "2", "--", f"--profile={os.path.relpath(TOOLS / 'profiles/slurm')}"]
+        variables = with_commands(self.room / "bin")
+        status, told = run(*words, env=variables)
+        log = (self.folder / "snakemake.log").read_text()
+        self.assertEqual((status, told.splitlines()[0]), (1, f"tools/sweep: failed, and is tried again: {TEXT.format(2, 1)}"), log)
+        self.assertIn("\n| Error in rule simulate:", log)
+        asked = (self.room / "asked").read_text().splitlines()
+        self.assertEqual(
+            [line.rpartition(" --cpus-per-task=1 ")[2].split(" /")[0] for line in asked], ["--mem=300 --time=2", "--mem=600 --time=4"],
+        )
+        (self.room / "broken").unlink()
+        status, told = run(*words, env=variables)
+        self.assertEqual((status, len(self.rows()[0])), (0, 1), told)
+
+
+class Profile(unittest.TestCase):
+    """What the profile of Slurm says of a job, by what Slurm says."""
+
+    # What `squeue` and `sacct` print, with their statuses, the word for Snakemake, and what is told beside it.
+    STATES = [
+        (("COMPLETED", 0), ("", 1), "success", ""),
+        (("PENDING", 0), ("", 1), "running", ""),
+        (("COMPLETING", 0), ("", 1), "running", ""),
+        (("FAILED", 0), ("", 1), "failed", "| a line\ntiny_tera: a cause\n"),
+        (("TIMEOUT", 0), ("", 1), "failed", "| a line\ntiny_tera: a cause\ntools/sweep: Slurm ended its job 7: TIMEOUT\n"),
+        (("slurm_load_jobs error: Unable to contact slurm controller", 1), ("FAILED", 0), "running", ""),
+        (("slurm_load_jobs error: Invalid job id specified", 1), ("COMPLETED", 0), "success", ""),
+        (("", 0), ("CANCELLED by 0", 0), "failed", "| a line\ntiny_tera: a cause\ntools/sweep: Slurm ended its job 7: CANCELLED by 0\n"),
+        (("slurm_load_jobs error: Invalid job id specified", 1), ("", 1), "failed",
+         "| a line\ntiny_tera: a cause\ntools/sweep: Slurm ended its job 7: no state is known\n"),
+    ]
+
+    def test_states(self):
+        with tempfile.TemporaryDirectory() as name:
+            room = Path(name)
+            (room / "slurm").mkdir()
+            (room / "slurm/7.log").write_text("a line\ntiny_tera: a cause\n")
+            for squeue, sacct, word, told in self.STATES:
+                answers = {"squeue": squeue, "sacct": sacct}
+                put_commands(room / "bin", {name: f"echo '{text}'\nexit {status}\n" for name, (text, status) in answers.items()})
+                ended = subprocess.run(
+                    [TOOLS / "profiles/slurm/status", "7"], cwd=room, env=with_commands(room / "bin"), capture_output=True, text=True,
+                )
+                with self.subTest(squeue=squeue, sacct=sacct):
+                    self.assertEqual((ended.returncode, ended.stdout, ended.stderr), (0, f"{word}\n", told))
 
 
 class Simulations(unittest.TestCase):

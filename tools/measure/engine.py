@@ -14,8 +14,8 @@ RULE = re.compile(r"(?:local)?(?:rule|checkpoint) (\w+):")
 JOB = re.compile(r"    (jobid|output): (.*)")
 FINISHED = re.compile(r"Finished job (\d+)\.")
 AGAIN = re.compile(r"Trying to restart job (\d+)\.")
-FAILED = re.compile(r"Error in (?:rule|group) ")
-CAUSE = re.compile(r"(?:tools/\w+|run_result|tiny_tera|hint): (.*)")
+FAILED = re.compile(r"Error (?:in (?:rule|group)|submitting jobscript) ")
+CAUSE = re.compile(r"(?:tools/\w+|run_result|tiny_tera|hint|sbatch): (.*)")
 COUNT = re.compile(r"(run|simulate) +(\d+)\b")
 RUNS = ("run", "simulate")  # The jobs that are counted.
 PATIENCE = 60  # Seconds in which the jobs under way may end after an interrupt.
@@ -75,14 +75,15 @@ class Progress:
             self.jobs[value.strip()] = (self.rule, self.output)
 
 
-def run(command, folder, handle):
-    """Runs the command of Snakemake with a bar; an interrupt, or that nobody reads the bar, lets the jobs under way end."""
+def run(command, folder, handle, variables=None):
+    """Runs the command of Snakemake with a bar, with these variables in place of one's own; an interrupt, or that nobody reads
+    the bar, lets the jobs under way end."""
     progress = Progress()
     with open(folder / LOG, "w") as log:
         # A group of its own, so that an interrupt at the terminal comes to this process alone.
         process = subprocess.Popen(
             command, pass_fds=[handle], stdout=subprocess.PIPE, stderr=subprocess.STDOUT, text=True,
-            start_new_session=True,
+            start_new_session=True, env=variables,
         )
         try:
             _follow(process.stdout, log, progress)

@@ -10,7 +10,7 @@ from tiny_tera.simulated import NoneLeft, interval_of, read_simulation
 BURSTY = "bursty"  # Uniform traffic in bursts; in all other kinds each cell is a burst.
 KINDS = ("uniform", BURSTY, "diagonal", "log-diagonal", "hot-spot", "unbalanced")
 WEIGHED = ("hot-spot", "unbalanced")
-SCHEDULERS = ("islip", "firm", "rrm", "fifo", "ideal")
+SCHEDULERS = ("islip", "firm", "rrm", "pim", "fifo", "ideal")
 WITHOUT_ROUNDS = ("fifo", "ideal")
 MOST_SLOTS, MOST_BURST = 4_000_000_000, 4_096
 PLACES = 6  # Of a load and a weight.
