@@ -241,10 +241,11 @@ class Told(unittest.TestCase):
         """Slots are those of the program, at line pace, at a pace and at a line rate; numbers are told with their time."""
         folder = TOP / "examples/incast"
         names = [folder / "table.txt", *sorted(folder.glob("*.pcap"))]
-        found = read_arrivals(names[0], names[1:], of_rate(15868))
+        found, others = read_arrivals(names[0], names[1:], of_rate(15868))
         rows = csv.DictReader(io.StringIO((folder / "expected/out.packets.csv").read_text()))
         told = [tuple(int(row[name]) for name in ("packet", "arrival", "input", "output", "level", "cells")) for row in rows]
         self.assertEqual([(number, it.slot, it.input, it.outputs[0], it.level, it.cells) for number, it in found], told)
+        self.assertEqual(others, 0)
         status, text = run_here("bound", "--most", 1, *names, "--ethernet", 10000)
         self.assertEqual((status, text), (0, """\
 4 ports, 12 packets of 258 cells for queues in 169 slots (5.453 us)
@@ -252,7 +253,7 @@ no packet takes more than 335 slots (10.809 us) from its arrival to its departur
 no input holds more than 84 cells (5,376 bytes)
 no more than 252 cells (16,128 bytes) wait for an output
 no queue holds more than 84 cells (5,376 bytes): --depth 84 drops nothing
-This is for the worst order of these arrivals, under each scheduler, with --rounds 4 or more.
+This holds of each run of these arrivals, under each scheduler, with --rounds 4 or more.
 
 line        cells     bytes
 output 0      252     16128
@@ -270,12 +271,12 @@ at most 4 cells to each input and for each output in any 13 slots (26 us) in a r
 no packet takes more than 7 slots (14 us) from its arrival to its departure
 no input holds more than 4 cells (256 bytes), and no more wait for an output
 --depth 4 drops nothing
-This is for the worst order of what keeps the contract, under each scheduler, with --rounds 16 or more.
+This holds of all that keeps the contract, under each scheduler, with --rounds 16 or more.
 """))
         status, text = run_here("bound", "--contract", 40, 60, "--ports", 16)
         self.assertEqual((status, text), (0, """\
 at most 40 cells to each input and for each output in any 60 slots in a row: a load of 0.667
-no number follows: for buffers it takes 119 slots, for the shortest delay 157
+no number follows: 40 cells must have 119 slots for a buffer, 157 for the shortest delay
 traffic that keeps it makes one queue of 16 ports grow for ever, under islip with any number of rounds
 """))
 
@@ -299,10 +300,29 @@ traffic that keeps it makes one queue of 16 ports grow for ever, under islip wit
         self.assertEqual((status, f"The run: the longest delay {longest} slots ({longest} us) of {found.delay}.\n" in text), (0, True), text)
         told = f"tools/bound: {prefix} is no run of these captures with this table, in slots of this time\n"
         self.assertEqual(run_here("bound", "--pace-us", 2, "--packets", prefix, *names), (1, told))
+        Path(f"{prefix}.report").write_bytes(made["out.report"])
+        told = f"tools/bound: {prefix} is a run of 4 ports, and here are 5 captures\n"
+        self.assertEqual(run_here("bound", "--pace-us", 1, "--packets", prefix, *names, names[1]), (1, told))
 
     def test_nothing_comes(self):
         names = self.files([], 2)
         self.assertEqual(run_here("bound", *names), (0, "2 ports, 0 packets of 0 cells for queues in 0 slots\n"))
+
+    def test_others(self):
+        """Packets that go nowhere are told: they have no route, or are longer than any that is forwarded."""
+        names = self.files([Arrival(slot, 0, (output,), 0, 1) for slot, output in enumerate((0, 1, 1))], 2)
+        counts = "2 ports, {} for queues in {}\n{} without a route, or too long: not counted\n"
+        names[0].write_text("10.0.0.0/24 0\n")
+        status, text = run_here("bound", *names)
+        self.assertEqual((status, text.startswith(counts.format("1 packet of 1 cell", "1 slot", "2 more packets"))), (0, True), text)
+        names[0].write_text("")
+        told = counts.format("0 packets of 0 cells", "0 slots", "3 more packets")
+        self.assertEqual(run_here("bound", *names), (0, told))
+
+    def test_closed_output(self):
+        words = [str(TOP / "tools/bound"), "--contract", "4", "13", "--ports", "16"]
+        ended = subprocess.run(["sh", "-c", '"$@" >&-', "sh", *words], stderr=subprocess.PIPE, text=True)
+        self.assertEqual((ended.returncode, ended.stderr), (1, "tools/bound: standard output: Bad file descriptor\n"))
 
     def test_faults(self):
         """One line with the file, and for multicast the first packet."""
@@ -324,6 +344,8 @@ traffic that keeps it makes one queue of 16 ports grow for ever, under islip wit
             ((), "the words are TABLE INPUT.., or --contract CELLS SLOTS --ports N"),
             (("table.txt",), "the words are TABLE INPUT.., or --contract CELLS SLOTS --ports N"),
             (("--contract", 1, 2), "--contract takes --ports N"),
+            (("--contract", 1, 2, "--contract", 3, 9, "--ports", 2),
+             "--contract goes once; ask of each contract alone: the least of each number holds"),
             (("--contract", 0, 2, "--ports", 2), "argument --contract: '0' is not a whole number from 1 to 1000000000"),
             (("--contract", 1, 2, "--ports", 65), "argument --ports: '65' is not a whole number from 1 to 64"),
             (("--contract", 1, 2, "--ports", 2, "table.txt"), "--contract goes without TABLE, INPUT and --packets"),

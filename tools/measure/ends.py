@@ -1,5 +1,6 @@
 """How a tool ends: with 0, or with another status and a line that says why."""
 
+import errno
 import os
 import signal
 import sys
@@ -29,6 +30,8 @@ def _written(work):
 
 
 def _flush():
+    if sys.stdout is None:  # As Python has it where the descriptor is closed.
+        raise OSError(errno.EBADF, os.strerror(errno.EBADF), "standard output")
     try:
         sys.stdout.flush()
     except OSError as fault:

@@ -2,13 +2,12 @@
 
 from __future__ import annotations
 
-from typing import Dict, Iterator, List, NamedTuple, Optional, Sequence, Tuple
+from typing import Dict, Iterator, List, NamedTuple, Optional, Tuple
 
-from launcher.captures import Arrival
 from launcher.slot_lengths import CELL_BYTES, short
 
 from .bounds import Bounds, bounds_of, may_grow, promise_of
-from .sizing import Run
+from .sizing import Offered, Run
 
 
 class Switch(NamedTuple):
@@ -24,7 +23,7 @@ class Switch(NamedTuple):
 
     def premise(self, what: str) -> str:
         """For which runs the bounds are."""
-        return f"This is for the worst order of {what}, under each scheduler, with --rounds {self.ports} or more."
+        return f"This holds of {what}, under each scheduler, with --rounds {self.ports} or more."
 
 
 def counted(number: int, what: str) -> str:
@@ -43,22 +42,25 @@ def contract_lines(cells: int, slots: int, switch: Switch) -> Iterator[str]:
     yield f"{row}: a load of {short(cells / slots, 3)}"
     promise = promise_of(cells, slots)
     if promise is None:
-        yield f"no number follows: for buffers it takes {3 * cells - 1:,} slots, for the shortest delay {4 * cells - 3:,}"
+        yield f"no number follows: {counted(cells, 'cell')} must have {3 * cells - 1:,} slots for a buffer, {4 * cells - 3:,} for the shortest delay"
         if may_grow(cells, slots, switch.ports):
             yield f"traffic that keeps it makes one queue of {switch.ports} ports grow for ever, under islip with any number of rounds"
         return
     yield f"no packet takes more than {switch.slots(promise.delay)} from its arrival to its departure"
     yield f"no input holds more than {cells_text(promise.cells)}, and no more wait for an output"
     yield f"--depth {promise.cells} drops nothing"
-    yield switch.premise("what keeps the contract")
+    yield switch.premise("all that keeps the contract")
 
 
-def arrival_lines(arrivals: Sequence[Arrival], switch: Switch, run: Optional[Run], most: int) -> Iterator[str]:
+def arrival_lines(offered: Offered, switch: Switch, run: Optional[Run], most: int) -> Iterator[str]:
     """What is told of arrivals, with so many lines and queues at most."""
+    arrivals = [packet for _, packet in offered.packets]
     slots = max((packet.slot + 1 for packet in arrivals), default=0)
     cells = sum(packet.cells for packet in arrivals)
     came = f"{counted(len(arrivals), 'packet')} of {counted(cells, 'cell')}"
     yield f"{counted(switch.ports, 'port')}, {came} for queues in {switch.slots(slots)}"
+    if offered.others:
+        yield f"{counted(offered.others, 'more packet')} without a route, or too long: not counted"
     if not arrivals:
         return
     found = bounds_of(arrivals)
@@ -66,7 +68,7 @@ def arrival_lines(arrivals: Sequence[Arrival], switch: Switch, run: Optional[Run
     yield f"no input holds more than {cells_text(max(found.inputs.values()))}"
     yield f"no more than {cells_text(max(found.outputs.values()))} wait for an output"
     yield f"no queue holds more than {cells_text(found.depth)}: --depth {found.depth} drops nothing"
-    yield switch.premise("these arrivals")
+    yield switch.premise("each run of these arrivals")
     if run:
         yield from run_lines(run, found, switch)
     yield from table("line", [*of_ports("input", found.inputs), *of_ports("output", found.outputs)], most)
