@@ -6,3 +6,4 @@ pub mod Queues
 pub mod Runs
 pub mod Fed
 pub mod Load
+pub mod MovedPairs

@@ -12,15 +12,15 @@ use Rattle.slot_match.specs.Matches.{unmatched, fed_of, Serves}
 use Rattle.slot_match.proofs.Pairs.{Serves-once, Serves-from, Serves-along}
 use Rattle.pointer_state.specs.Places.{Places, ArePointing, grant_of, accept_of}
 use Rattle.eslip_rounds.specs.Rounds.{Grants}
-use Rattle.eslip_rounds.specs.Slots.{AreMoved, IsSlot}
+use Rattle.eslip_rounds.specs.Slots.{Moving, IsSlotBy}
 use Rattle.eslip_rounds.specs.Schedules.{DecidedSlot}
-use Rattle.eslip_rounds.proofs.FirstRounds.{AreAccepted-round}
+use Rattle.eslip_rounds.proofs.FirstRounds.{AreAccepted, AreAccepted-round}
 use Rattle.eslip_rounds.proofs.Unique.{Serves-named_by}
 use Rattle.service_bound.specs.Windows.{IsClean, IsWithoutMulticast}
 use Rattle.service_bound.proofs.Distances.{distance-own, distance-below}
 use Rattle.service_bound.proofs.FirstRound.{IsFirstKind, grants_first, first_granted}
 use Rattle.service_bound.proofs.Granting.{kind_is_first, served_by_first}
-use Rattle.service_bound.proofs.InWindows.{pointing_by, AreMoved-keep}
+use Rattle.service_bound.proofs.InWindows.{KeepPointing, pointing_by}
 use Rattle.service_bound.proofs.LaterRounds.{first_of, BeginsWith, BeginsWith-slot}
 use Rattle.fed_slots.specs.FedSlots.{taken_by}
 
@@ -32,17 +32,30 @@ IsAsked a b i j = ((i ≡ 0) × (j ≡ 0)) ⊎ ((i ≡ a) × (j ≡ b))
 abbrev pub AskFor : ℕ → ℕ → ℕ → List Row → Type 0
 AskFor n a b rows = (i j level : ℕ) (kind : Kind) → i < n → j < n → Names (row_of rows i) level kind j ↔ ((level ≡ 0) × (kind ≡ Uni) × IsAsked a b i j)
 
--- Input a and output b have one line of queue (0, 0), whose pointers are at them.
+-- Input a and output b have one line of queue (0, 0). Where they share the output it points at the input, and where they
+-- share the input that points at the output.
 pub record ArePointedAt (n a b : ℕ) (places : Places) : Type 0 where
   pub input_in : a < n
   pub output_in : b < n
   pub line : (b ≡ 0) ⊎ (a ≡ 0)
   pub pointing : ArePointing n 0 places
-  pub grant : grant_of places 0 0 ≡ a
+  pub grant : 0 < a → grant_of places 0 0 ≡ a
   pub accept : 0 < b → accept_of places 0 0 ≡ b
 
-module _ (n rounds t a b : ℕ) (places : Places) (slot : DecidedSlot) (some : 0 < rounds) (at : ArePointedAt n a b places)
-    (within : AreWithin n slot.rows) (asks : AskFor n a b slot.rows) (decided : IsSlot n rounds t slot.rows places slot.decision) where
+-- Where pointers move so: those of the pairs that were accepted in the first round move one beyond each other, the accept
+-- pointer of an input that took nothing in it stays, and pointers stay at ports.
+pub record MovePairs (Moves : Moving) : Type 0 where
+  pub keep : (n : ℕ) → KeepPointing Moves n 0
+  pub granted : (n t : ℕ) (rows : List Row) (first matched : List (Option Fed)) (before after : Places) → Moves n t rows first matched before after
+      → AreAccepted n t rows before first → (i j : ℕ) → Serves first i j 0 Uni → grant_of after j 0 ≡ (i + 1) % n
+  pub accepted : (n t : ℕ) (rows : List Row) (first matched : List (Option Fed)) (before after : Places) → Moves n t rows first matched before after
+      → (i j : ℕ) → Serves first i j 0 Uni → accept_of after i 0 ≡ (j + 1) % n
+  pub accept_stays : (n t : ℕ) (rows : List Row) (first matched : List (Option Fed)) (before after : Places) → Moves n t rows first matched before after
+      → (i : ℕ) → ((j : ℕ) → Serves first i j 0 Uni → ⊥) → accept_of after i 0 ≡ accept_of before i 0
+
+module _ (Moves : Moving) (pairs : MovePairs Moves) (n rounds t a b : ℕ) (places : Places) (slot : DecidedSlot) (some : 0 < rounds)
+    (at : ArePointedAt n a b places) (within : AreWithin n slot.rows) (asks : AskFor n a b slot.rows)
+    (decided : IsSlotBy Moves n rounds t slot.rows places slot.decision) where
   named : (i j level : ℕ) (kind : Kind) → i < n → Names (row_of slot.rows i) level kind j → (level ≡ 0) × (kind ≡ Uni) × IsAsked a b i j
   named i j level kind i_in there = (asks i j level kind i_in (within.ports i i_in level j kind there)).0 there
 
@@ -56,7 +69,10 @@ module _ (n rounds t a b : ℕ) (places : Places) (slot : DecidedSlot) (some : 0
   first = first_of n decided.steps
 
   begins : BeginsWith n t slot.rows places first slot.decision.matched
-  begins = BeginsWith-slot n t slot.rows places AreMoved rounds slot.decision some decided
+  begins = BeginsWith-slot n t slot.rows places Moves rounds slot.decision some decided
+
+  all_accepted : AreAccepted n t slot.rows places first
+  all_accepted = AreAccepted-round n t slot.rows places first begins.opening
 
   unicast_first : IsFirstKind n t slot.rows 0 Uni
   unicast_first = kind_is_first n t 0 slot.rows first places (omega arith) begins.opening at.pointing clean alone
@@ -66,14 +82,15 @@ module _ (n rounds t a b : ℕ) (places : Places) (slot : DecidedSlot) (some : 0
 
   -- no input that asks output b is nearer to its pointer
   nearest : (z : ℕ) → z < n → Names (row_of slot.rows z) 0 Uni b → distance n (grant_of places b 0) a ≤ distance n (grant_of places b 0) z
-  nearest z z_in there = elim at.line [
-    | inl first_output ↦
-        let here : grant_of places b 0 ≡ a = ap (λ j. grant_of places j 0) first_output ∙ at.grant in
-        let none : distance n (grant_of places b 0) a ≡ 0 = subst (λ g. distance n g a ≡ 0) (sym here) (distance-own n a at.input_in) in
-        omega arith
-    | inr first_input ↦
-        let same : z ≡ a = elim (named z b 0 Uni z_in there).2 [ inl zero ↦ zero.0 ∙ sym first_input | inr it ↦ it.0 ] in
+  nearest z z_in there = elim (cases_eq a 0) [
+    | inl first_input ↦
+        let same : z ≡ a = elim (named z b 0 Uni z_in there).2 [ inl both ↦ both.0 ∙ sym first_input | inr it ↦ it.0 ] in
         let e = ap (distance n (grant_of places b 0)) same in
+        omega arith
+    | inr later ↦
+        let first_output : b ≡ 0 = elim at.line [ inl is ↦ is | inr is ↦ absurd (later is) ] in
+        let here : grant_of places b 0 ≡ a = ap (λ j. grant_of places j 0) first_output ∙ at.grant (omega arith) in
+        let none : distance n (grant_of places b 0) a ≡ 0 = subst (λ g. distance n g a ≡ 0) (sym here) (distance-own n a at.input_in) in
         omega arith
   ]
 
@@ -111,14 +128,14 @@ module _ (n rounds t a b : ℕ) (places : Places) (slot : DecidedSlot) (some : 0
   -- an input takes one output in the first round
   once : (j : ℕ) → Serves first a j 0 Uni → j ≡ b
   once j s =
-      let one = AreAccepted-round n t slot.rows places first begins.opening a j 0 Uni s in
-      let other = AreAccepted-round n t slot.rows places first begins.opening a b 0 Uni served_first in
+      let one = all_accepted a j 0 Uni s in
+      let other = all_accepted a b 0 Uni served_first in
       IsFirstFrom-only n (accept_of places a 0) (λ y. Granted a y) j b (at.pointing.accept a at.input_in) one.taken other.taken
 
   -- nothing else is served
   pub only : (i j level : ℕ) (kind : Kind) → i < n → Serves slot.decision.matched i j level kind → (i ≡ a) × (j ≡ b)
   only i j level kind i_in s =
-      let there = Serves-named_by AreMoved n rounds t slot.rows places slot.decision decided i j level kind s in
+      let there = Serves-named_by Moves n rounds t slot.rows places slot.decision decided i j level kind s in
       let is = named i j level kind i_in there in
       elim is.2 [
         | inr it ↦ it
@@ -139,7 +156,7 @@ module _ (n rounds t a b : ℕ) (places : Places) (slot : DecidedSlot) (some : 0
 
   only_first : (i j : ℕ) → Serves first i j 0 Uni → (i ≡ a) × (j ≡ b)
   only_first i j s =
-      let accepted = AreAccepted-round n t slot.rows places first begins.opening i j 0 Uni s in
+      let accepted = all_accepted i j 0 Uni s in
       only i j 0 Uni accepted.taken.member.first.below (begins.stays i j 0 Uni s)
 
   -- one cell leaves the queue of the pair
@@ -160,16 +177,15 @@ module _ (n rounds t a b : ℕ) (places : Places) (slot : DecidedSlot) (some : 0
 
   -- the pointers after the slot
   pub pointing_after : ArePointing n 0 slot.decision.places
-  pointing_after = pointing_by AreMoved n rounds t 0 places slot (AreMoved-keep n 0) at.pointing within decided
+  pointing_after = pointing_by Moves n rounds t 0 places slot (pairs.keep n) at.pointing within decided
 
   pub grant_moves : grant_of slot.decision.places b 0 ≡ (a + 1) % n
-  grant_moves = decided.moved.granted a b 0 served_first
+  grant_moves = pairs.granted n t slot.rows first slot.decision.matched places slot.decision.places decided.moved all_accepted a b served_first
 
   pub accept_moves : accept_of slot.decision.places a 0 ≡ (b + 1) % n
-  accept_moves = decided.moved.accepted a b 0 served_first
-
-  pub grant_stays : 0 < b → grant_of slot.decision.places 0 0 ≡ grant_of places 0 0
-  grant_stays more = decided.moved.grant_stays 0 0 (λ i s. let e = (only_first i 0 s).1 in omega arith)
+  accept_moves = pairs.accepted n t slot.rows first slot.decision.matched places slot.decision.places decided.moved a b served_first
 
   pub accept_stays : 0 < a → accept_of slot.decision.places 0 0 ≡ accept_of places 0 0
-  accept_stays more = decided.moved.accept_stays 0 0 (λ j s. let e = (only_first 0 j s).0 in omega arith)
+  accept_stays more =
+      pairs.accept_stays n t slot.rows first slot.decision.matched places slot.decision.places decided.moved 0
+      (λ j s. let e = (only_first 0 j s).0 in omega arith)

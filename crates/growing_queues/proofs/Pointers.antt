@@ -3,23 +3,21 @@ use Rattle.std.proofs.Common.{◌≡◌, ℕ, ◌+◌, ◌%◌, ◌<◌, ◌≤�
 use Rattle.std.proofs.Math.Nat.{mod-eq_of_lt}
 use Rattle.std.proofs.lemmas.Bool.{cases_eq}
 use Rattle.std.proofs.lemmas.Nat.{mod_below}
-use Rattle.std_lemmas.proofs.Numbers.{mod_once}
 use Rattle.slot_match.specs.Rows.{AreWithin}
 use Rattle.pointer_state.specs.Places.{Places, ArePointing, grant_of, accept_of}
-use Rattle.eslip_rounds.specs.Slots.{IsSlot}
+use Rattle.eslip_rounds.specs.Slots.{Moving, IsSlotBy}
 use Rattle.eslip_rounds.specs.Schedules.{DecidedSlot}
 use Rattle.growing_queues.specs.Growth.{cycle}
 use Rattle.growing_queues.proofs.Counting.{next_place}
 use Rattle.growing_queues.proofs.Turns.{IsPair, input_at, output_at, pair_at}
-use Rattle.growing_queues.proofs.OneSlot.{AskFor, ArePointedAt, pointing_after, grant_moves, grant_stays, accept_moves, accept_stays}
+use Rattle.growing_queues.proofs.OneSlot.{MovePairs, AskFor, ArePointedAt, pointing_after, grant_moves, accept_moves, accept_stays}
 
--- Output 0 points at the input that slot s of a cycle serves. Input 0 points at output 0, from slot 1 on at output 1, and
--- from slot n on at the output that the slot serves.
+-- In slots 1 to n - 1 of a cycle output 0 points at the input that the slot serves, and input 0 at output 1; in the slots
+-- after them input 0 points at the output that the slot serves. In slot 0 all pointers will do.
 pub record AreTurned (n s : ℕ) (places : Places) : Type 0 where
   pub pointing : ArePointing n 0 places
-  pub first : s ≡ 0 → (grant_of places 0 0 ≡ 0) × (accept_of places 0 0 ≡ 0)
   pub low : 0 < s → s < n → (grant_of places 0 0 ≡ s) × (accept_of places 0 0 ≡ 1)
-  pub high : n ≤ s → (grant_of places 0 0 ≡ 0) × (accept_of places 0 0 + n ≡ s + 1)
+  pub high : n ≤ s → accept_of places 0 0 + n ≡ s + 1
 
 -- so they point at the pair of the slot
 pub pointed_at : (n s a b : ℕ) (places : Places) → 1 < n → s < cycle n → IsPair n s a b → AreTurned n s places → ArePointedAt n a b places
@@ -31,10 +29,7 @@ pointed_at n s a b places more s_in (inl low) turned =
       output_in = omega arith;
       line = inl none;
       pointing = turned.pointing;
-      grant = elim (cases_eq s 0) [
-        | inl zero ↦ (turned.first zero).0 ∙ omega arith
-        | inr some ↦ (turned.low (omega arith) low.0).0 ∙ sym is
-      ];
+      grant = λ some. (turned.low (omega arith) low.0).0 ∙ sym is;
       accept = λ some. omega arith;
     }
 pointed_at n s a b places more s_in (inr high) turned =
@@ -45,8 +40,8 @@ pointed_at n s a b places more s_in (inr high) turned =
       output_in = omega arith;
       line = inr none;
       pointing = turned.pointing;
-      grant = (turned.high high.0).0 ∙ sym none;
-      accept = λ some. let there = (turned.high high.0).1 in omega arith;
+      grant = λ some. omega arith;
+      accept = λ some. let there = turned.high high.0 in omega arith;
     }
 
 -- after a slot of the first n
@@ -55,38 +50,26 @@ after_low : (n s next : ℕ) (after : Places) → 1 < n → s < n → next ≡ s
 after_low n s next after more low moved pointing grant accept =
     record {
       pointing = pointing;
-      first = λ zero. absurd (omega arith);
       low = λ some below. (grant ∙ mod-eq_of_lt (omega arith) ∙ sym moved, accept);
-      high = λ above. (grant ∙ mod_once n (s + 1) (omega arith) (omega arith) ∙ omega arith, omega arith);
+      high = λ above. omega arith;
     }
 
 -- after one of the n - 1 after them
-after_high : (n s b next : ℕ) (after : Places) → 1 < n → b < n → b + n ≡ s + 1 → n ≤ s → ((s + 1 < cycle n) × (next ≡ s + 1)) ⊎ ((s + 1 ≡ cycle n) × (next ≡ 0))
-    → ArePointing n 0 after → grant_of after 0 0 ≡ 0 → accept_of after 0 0 ≡ (b + 1) % n → AreTurned n next after
-after_high n s b next after more b_in is high (inl on) pointing grant accept =
+after_high : (n s b next : ℕ) (after : Places) → 1 < n → b + n ≡ s + 1 → n ≤ s → ((s + 1 < cycle n) × (next ≡ s + 1)) ⊎ ((s + 1 ≡ cycle n) × (next ≡ 0))
+    → ArePointing n 0 after → accept_of after 0 0 ≡ (b + 1) % n → AreTurned n next after
+after_high n s b next after more is high (inl on) pointing accept =
     let moved = on.1 in
     let room = on.0 in
     let one_on : (b + 1) % n ≡ b + 1 = mod-eq_of_lt (omega arith) in
-    record {
-      pointing = pointing;
-      first = λ zero. absurd (omega arith);
-      low = λ some below. absurd (omega arith);
-      high = λ above. (grant, omega arith);
-    }
-after_high n s b next after more b_in is high (inr round) pointing grant accept =
+    record { pointing = pointing; low = λ some below. absurd (omega arith); high = λ above. omega arith }
+after_high n s b next after more is high (inr round) pointing accept =
     let moved = round.1 in
-    let whole = round.0 in
-    let none : (b + 1) % n ≡ 0 = mod_once n (b + 1) (omega arith) (omega arith) ∙ omega arith in
-    record {
-      pointing = pointing;
-      first = λ zero. (grant, accept ∙ none);
-      low = λ some below. absurd (omega arith);
-      high = λ above. absurd (omega arith);
-    }
+    record { pointing = pointing; low = λ some below. absurd (omega arith); high = λ above. absurd (omega arith) }
 
-module _ (n rounds t : ℕ) (places : Places) (slot : DecidedSlot) (more : 1 < n) (some : 0 < rounds) (turned : AreTurned n (t % cycle n) places)
-    (within : AreWithin n slot.rows) (asks : AskFor n (input_at n (t % cycle n)) (output_at n (t % cycle n)) slot.rows)
-    (decided : IsSlot n rounds t slot.rows places slot.decision) where
+module _ (Moves : Moving) (pairs : MovePairs Moves) (n rounds t : ℕ) (places : Places) (slot : DecidedSlot) (more : 1 < n) (some : 0 < rounds)
+    (turned : AreTurned n (t % cycle n) places) (within : AreWithin n slot.rows)
+    (asks : AskFor n (input_at n (t % cycle n)) (output_at n (t % cycle n)) slot.rows)
+    (decided : IsSlotBy Moves n rounds t slot.rows places slot.decision) where
   abbrev s : ℕ
   s = t % cycle n
 
@@ -102,20 +85,17 @@ module _ (n rounds t : ℕ) (places : Places) (slot : DecidedSlot) (more : 1 < n
   pub pointed : ArePointedAt n (input_at n (t % cycle n)) (output_at n (t % cycle n)) places
   pointed = pointed_at n s a b places more (mod_below t (cycle n) (omega arith)) pair turned
 
-  after : Places
-  after = slot.decision.places
-
   grant_after : grant_of slot.decision.places b 0 ≡ (a + 1) % n
-  grant_after = grant_moves n rounds t a b places slot some pointed within asks decided
+  grant_after = grant_moves Moves pairs n rounds t a b places slot some pointed within asks decided
 
   accept_after : accept_of slot.decision.places a 0 ≡ (b + 1) % n
-  accept_after = accept_moves n rounds t a b places slot some pointed within asks decided
+  accept_after = accept_moves Moves pairs n rounds t a b places slot some pointed within asks decided
 
   -- the pointers before the next slot
   pub turned_after : AreTurned n ((t + 1) % cycle n) slot.decision.places
   turned_after =
       let next = next_place (cycle n) t (omega arith) in
-      let pointing = pointing_after n rounds t a b places slot some pointed within asks decided in
+      let pointing = pointing_after Moves pairs n rounds t a b places slot some pointed within asks decided in
       elim pair [
         | inl low ↦
             let input : a ≡ s = low.1 in
@@ -126,15 +106,11 @@ module _ (n rounds t : ℕ) (places : Places) (slot : DecidedSlot) (more : 1 < n
             let accept : accept_of slot.decision.places 0 0 ≡ 1 = elim (cases_eq a 0) [
               | inl zero ↦ ap (λ i. accept_of slot.decision.places i 0) (sym zero) ∙ accept_after ∙ ap (λ j. (j + 1) % n) output ∙ mod-eq_of_lt (omega arith)
               | inr above ↦
-                  accept_stays n rounds t a b places slot some pointed within asks decided (omega arith) ∙ (turned.low (omega arith) low.0).1
+                  accept_stays Moves pairs n rounds t a b places slot some pointed within asks decided (omega arith) ∙ (turned.low (omega arith) low.0).1
             ] in
             after_low n s ((t + 1) % cycle n) slot.decision.places more low.0 moved pointing grant accept
         | inr high ↦
-            let input : a ≡ 0 = high.1 in
-            let output : b + n ≡ s + 1 = high.2 in
-            let above = high.0 in
-            let grant : grant_of slot.decision.places 0 0 ≡ 0 = grant_stays n rounds t a b places slot some pointed within asks decided (omega arith)
-            ∙ (turned.high high.0).0 in
-            let accept : accept_of slot.decision.places 0 0 ≡ (b + 1) % n = ap (λ i. accept_of slot.decision.places i 0) (sym input) ∙ accept_after in
-            after_high n s b ((t + 1) % cycle n) slot.decision.places more pointed.output_in output high.0 next pointing grant accept
+            let accept : accept_of slot.decision.places 0 0 ≡ (b + 1) % n =
+            ap (λ i. accept_of slot.decision.places i 0) (sym high.1) ∙ accept_after in
+            after_high n s b ((t + 1) % cycle n) slot.decision.places more high.2 high.0 next pointing accept
       ]

@@ -1,11 +1,12 @@
-//! Laws of queues that grow, as the contracts of functions that do nothing. They hold of the scheduler's definitions.
+//! Laws of queues that grow, as the contracts of functions that do nothing. They hold of the schedulers' definitions.
 
-ghost use Rattle.std.specs.Prelude.{◌≡◌, ℕ, ◌+◌, ◌/◌, ◌<◌, ◌≤◌, List, length};
-ghost use Rattle.rotating_pick.specs.declared.limits.TheConstants.{MAX_PORTS};
-ghost use Rattle.pointer_state.specs.Places.{places_at_first};
-ghost use Rattle.eslip_rounds.specs.Schedules.{DecidedSlot, IsSchedule};
-ghost use Rattle.fed_slots.specs.FedSlots.{IsAtLineRate, AreFed, waiting};
-ghost use Rattle.growing_queues.specs.Growth.{period, growing, IsOfLoad};
+ghost use Rattle.std.specs.Prelude.{◌≡◌, ℕ, ◌<◌, ◌≤◌};
+ghost use Rattle.pointer_state.specs.Places.{Places, AreAtPorts};
+ghost use Rattle.eslip_rounds.specs.Slots.{AreMoved};
+ghost use Rattle.firm_rounds.specs.Slots.{AreMovedByFirm};
+ghost use Rattle.rrm_rounds.specs.Slots.{AreMovedByRrm};
+ghost use Rattle.fed_slots.specs.FedSlots.{IsAtLineRate};
+ghost use Rattle.growing_queues.specs.Growth.{growing, IsOfLoad, GrowsForEver};
 
 /// The traffic `growing n m` is at line rate, and periodic: in each period of `m * (2 * n - 1)` slots at most `m * n + 1`
 /// cells come to an input or for an output.
@@ -14,13 +15,14 @@ pub fn growing_traffic_has_its_load()
     ensures load { (n m : ℕ) → 2 ≤ n → 0 < m → IsOfLoad n m (growing n m) }
 {}
 
-/// Under it a queue of iSLIP grows for ever, for 2 to 64 ports and any number of rounds: from pointers all at port 0 there
-/// are slots that this traffic feeds, as many as one wants.
-/// In all such slots the cells that wait in queue (0, 0) are one more than the periods that have passed.
+/// Under it a queue of iSLIP grows for ever, for 2 to 64 ports and any number of rounds: from any pointers at ports, as
+/// from all at port 0, each period leaves one cell more in queue (0, 0). So it does under the second scheduler, in the manner
+/// of FIRM, and under round-robin matching.
 pub fn a_queue_grows_for_ever()
-    ensures fed { (n m rounds count : ℕ) → 2 ≤ n → n ≤ MAX_PORTS → 0 < m → 0 < rounds
-        → (slots : List DecidedSlot) × IsSchedule n rounds 0 (places_at_first n) slots × AreFed n (growing n m) slots × (length slots ≡ count) }
-    ensures grows { (n m rounds t : ℕ) (slots : List DecidedSlot) → 2 ≤ n → n ≤ MAX_PORTS → 0 < m → 0 < rounds
-        → IsSchedule n rounds 0 (places_at_first n) slots → AreFed n (growing n m) slots → t < length slots
-        → waiting (growing n m) slots 0 0 t ≡ t / period n m + 1 }
+    ensures by_islip { (n m rounds : ℕ) (places : Places) → 2 ≤ n → 0 < m → 0 < rounds → AreAtPorts places → places.ports ≡ n
+        → GrowsForEver AreMoved n m rounds places }
+    ensures by_firm { (n m rounds : ℕ) (places : Places) → 2 ≤ n → 0 < m → 0 < rounds → AreAtPorts places → places.ports ≡ n
+        → GrowsForEver AreMovedByFirm n m rounds places }
+    ensures by_rrm { (n m rounds : ℕ) (places : Places) → 2 ≤ n → 0 < m → 0 < rounds → AreAtPorts places → places.ports ≡ n
+        → GrowsForEver AreMovedByRrm n m rounds places }
 {}
