@@ -3,7 +3,6 @@ use Rattle.std.proofs.Common.{◌≡◌, ℕ, zero, suc, ◌+◌, ◌%◌, ◌<�
 use Rattle.std.specs.Prelude.{slice_get}
 use Rattle.std.specs.List.{sum_by}
 use Rattle.std.proofs.lemmas.List.{take_more}
-use Rattle.std.proofs.lemmas.List.Elements.{All-head, All-tail}
 use Rattle.std.proofs.lemmas.List.Sums.{sum_by-append, sum_by-cons}
 use Rattle.std.proofs.lemmas.Option.{slice_get_within, get_or_from_slice_get, same_Some}
 use Rattle.std.proofs.Math.Nat.{mod-eq_of_lt}
@@ -22,8 +21,9 @@ use Rattle.growing_queues.proofs.Pointers.{AreTurned, pair, pointed, turned_afte
 use Rattle.growing_queues.proofs.Queues.{has_left, left_next}
 
 -- a slot of a schedule is decided from the pointers after those before it
-decided_at : (Moves : Moving) (n rounds : ℕ) (slots : List DecidedSlot) (k t : ℕ) (places : Places) (slot : DecidedSlot) → IsScheduleBy Moves n rounds t places slots
-    → slice_get slots k ≡ Some slot → IsSlotBy Moves n rounds (t + k) slot.rows (places_after places (take k slots)) slot.decision
+decided_at : (Moves : Moving) (n rounds : ℕ) (slots : List DecidedSlot) (k t : ℕ) (places : Places) (slot : DecidedSlot)
+    → IsScheduleBy Moves n rounds t places slots → slice_get slots k ≡ Some slot
+    → IsSlotBy Moves n rounds (t + k) slot.rows (places_after places (take k slots)) slot.decision
 decided_at Moves n rounds [] k t places slot schedule there = absurd (let none = slice_get_within [] k slot there in omega arith)
 decided_at Moves n rounds (first ∷ slots) zero t places slot schedule there =
     let same : first ≡ slot = same_Some first slot there in
@@ -34,12 +34,6 @@ decided_at Moves n rounds (first ∷ slots) (suc k) t places slot schedule there
     let now : t + 1 + k ≡ t + suc k = omega arith in
     subst (λ u. IsSlotBy Moves n rounds u slot.rows (places_after first.decision.places (take k slots)) slot.decision) now
     (decided_at Moves n rounds slots k (t + 1) first.decision.places slot schedule.1 there)
-
--- what all have, each has
-all_at : (P : DecidedSlot → Type 0) (slots : List DecidedSlot) (k : ℕ) (slot : DecidedSlot) → All P slots → slice_get slots k ≡ Some slot → P slot
-all_at P [] k slot all there = absurd (let none = slice_get_within [] k slot there in omega arith)
-all_at P (first ∷ slots) zero slot all there = subst P (same_Some first slot there) (All-head P first slots all)
-all_at P (first ∷ slots) (suc k) slot all there = all_at P slots k slot (All-tail P first slots all) there
 
 -- the pointers after a last slot are those that it left
 places_last : (slots : List DecidedSlot) (places : Places) (slot : DecidedSlot) → places_after places (slots ++ slot ∷ []) ≡ slot.decision.places
@@ -87,7 +81,8 @@ module _ (Moves : Moving) (pairs : MovePairs Moves) (n rounds : ℕ) (places : P
         subst (λ u. IsSlotBy Moves n rounds u slot.rows before_it slot.decision) now (decided_at Moves n rounds slots k 0 places slot schedule there)
 
     inside : AreWithin n slot.rows
-    inside = all_at (λ x. AreWithin n x.rows) slots k slot within there
+    inside =
+        subst (λ x. AreWithin n x.rows) (get_or_from_slice_get slots k slot slot there) (within k slot (slice_get_within slots k slot there))
 
     taken : (i j : ℕ) → i < n → j < n → taken_by i (fed_of slot.decision.matched j) ≡ leaving n i j k
     taken i j i_in j_in =
@@ -106,8 +101,9 @@ module _ (Moves : Moving) (pairs : MovePairs Moves) (n rounds : ℕ) (places : P
     going_next =
         let after : places_after places (take (k + 1) slots) ≡ slot.decision.places =
         ap (places_after places) (take_next slots k slot there) ∙ places_last (take k slots) places slot in
+        let turned = turned_after Moves pairs n rounds k before_it slot more some going.turned inside asks here in
         record {
-          turned = subst (AreTurned n ((k + 1) % cycle n)) (sym after) (turned_after Moves pairs n rounds k before_it slot more some going.turned inside asks here);
+          turned = subst (AreTurned n ((k + 1) % cycle n)) (sym after) turned;
           left = λ i j i_in j_in.
               let before = going.left i j i_in j_in in
               let now = taken i j i_in j_in in
@@ -117,8 +113,8 @@ module _ (Moves : Moving) (pairs : MovePairs Moves) (n rounds : ℕ) (places : P
         }
 
   -- so it is before every slot, and after the last
-  pub going_on : ((k : ℕ) (slot : DecidedSlot) → slice_get slots k ≡ Some slot → AreGoing n places slots k → AskInTurn n k slot) → (k : ℕ) → k ≤ length slots
-      → AreGoing n places slots k
+  pub going_on : ((k : ℕ) (slot : DecidedSlot) → slice_get slots k ≡ Some slot → AreGoing n places slots k → AskInTurn n k slot)
+      → (k : ℕ) → k ≤ length slots → AreGoing n places slots k
   going_on asking zero long = going_first
   going_on asking (suc k) long =
       let before = going_on asking k (omega arith) in
