@@ -1,5 +1,5 @@
 -- Counted slots: the cells that come where so many wait in each slot, and that they feed the slots at line rate.
-use Rattle.std.proofs.Common.{◌≡◌, ◌≢◌, ℕ, zero, suc, ◌+◌, ◌-◌, ◌<◌, ◌≤◌, ◌↔◌, ◌∙◌, List, [], ◌∷◌, Option, None, Some, All, take}
+use Rattle.std.proofs.Common.{◌≡◌, ◌≢◌, ℕ, zero, suc, ◌+◌, ◌-◌, ◌<◌, ◌≤◌, ◌↔◌, ◌∙◌, List, [], ◌∷◌, Some, All, take}
 use Rattle.std.proofs.Common.{refl, ap, subst, add-one, inl, inr, arith}
 use Rattle.std.specs.Prelude.{sum_by, slice_get}
 use Rattle.std.specs.List.{range_with_len}
@@ -13,7 +13,7 @@ use Rattle.slot_match.specs.Rows.{Names, row_of, AreWithin}
 use Rattle.slot_match.specs.Matches.{fed_of}
 use Rattle.eslip_rounds.specs.Schedules.{DecidedSlot}
 use Rattle.fed_slots.specs.FedSlots.{Traffic, came, IsAtLineRate, taken_by, gone, waiting, AreFed}
-use Rattle.fed_slots.specs.Counts.{Counts, left_after, IsCounted, AreCounted}
+use Rattle.fed_slots.specs.Counts.{Counts, left_after, AreCounted}
 
 -- how many cells come in slot t of these, where so many are left before the first
 abbrev arrivals : Counts → List DecidedSlot → List Counts → Traffic

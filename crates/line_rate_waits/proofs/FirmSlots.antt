@@ -18,7 +18,7 @@ use Rattle.firm_rounds.specs.Decisions.{firm_decision}
 use Rattle.firm_rounds.proofs.Computed.{IsFirmSlot-firm_decision, AreAtPorts-firm_decision}
 use Rattle.line_rate_waits.specs.Reached.{AreFedAtLineRate}
 use Rattle.line_rate_waits.specs.ReachedByFirm.{ComesLastByFirmAtLineRate}
-use Rattle.line_rate_waits.proofs.Plans.{In, IsServing, Plan, rows_of, names, AreWithin-rows, IsClean-rows, IsWithoutMulticast-rows}
+use Rattle.line_rate_waits.proofs.Plans.{In, IsServing, each, Plan, rows_of, names, AreWithin-rows, IsClean-rows, IsWithoutMulticast-rows}
 use Rattle.line_rate_waits.proofs.PlannedSlots.{Suits, IsPlaced, AreNear, served_it, only_it, grants_nearest}
 use Rattle.line_rate_waits.proofs.FedRuns.{fed_at_line_rate}
 use Rattle.line_rate_waits.proofs.Shapes.{nothing}
@@ -90,6 +90,7 @@ module _ (n t : ℕ) (places : Places) (p : Plan) (some : 0 < n) (switch : IsSwi
     serving = record {
       serves = λ i j is. subst (λ m. Serves m i j 0 Uni) first_is (served i j is);
       only = λ i j level kind s. only i j level kind (subst (λ m. Serves m i j level kind) (sym first_is) s);
+      asking = λ i j is. let at = each (IsPlaced n p) p.serves suits.placed i j is in at.2;
     };
     granted = λ i j is. moves.granted i j 0 (served i j is);
     accepted = λ i j is. moves.accepted i j 0 (served i j is);
@@ -154,7 +155,7 @@ firm_comes n count ps after rest switch one first leads later late =
     let all = kept_all n (firm_decided n) from ps count after rest leads late.run_kept in
     let served : IsServedLastByFirm n 1 count 0 0 0 after (run n (firm_decided n) count after rest) = IsServedLast-run n count after rest later late in (
       slots,
-      fed_at_line_rate n ps slots (all.fed nothing first) (All-run n (firm_decided n) 0 from (AreWithin n) (AreWithin-rows n) ps),
+      fed_at_line_rate n ps slots (all.fed nothing first),
       record {
         schedule = IsSchedule-run n 0 from ps switch;
         within = All-run n (firm_decided n) 0 from (AreWithin n) (AreWithin-rows n) ps;

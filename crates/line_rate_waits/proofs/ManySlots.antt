@@ -100,11 +100,15 @@ module _ (rounds n t : ℕ) (places : Places) (p : Plan) (some : 0 < n) (switch 
       → Each (IsSettled q) (asked q) → IsServing q (decided_in rounds n t places p).matched
   serving_by q same serves settled =
       let matched = (decided_in rounds n t places p).matched in
+      let asked_it = λ (i j level : ℕ) (kind : Kind) (s : Serves matched i j level kind).
+      posted n q i j level kind (whole.input_in i j level kind s)
+      (subst (λ rows. Names (row_of rows i) level kind j) (sym same)
+      (Serves-named n rounds t (rows_of n p) places (decided_in rounds n t places p) now i j level kind s)) in
       record {
         serves = serves;
+        asking = λ i j is. (asked_it i j 0 Uni (serves i j is)).3;
         only = λ i j level kind s.
-            let named = Serves-named n rounds t (rows_of n p) places (decided_in rounds n t places p) now i j level kind s in
-            let is = posted n q i j level kind (whole.input_in i j level kind s) (subst (λ rows. Names (row_of rows i) level kind j) (sym same) named) in
+            let is = asked_it i j level kind s in
             let it : Serves matched i j 0 Uni = subst (λ k. Serves matched i j 0 k) is.1 (subst (λ l. Serves matched i j l kind) is.0 s) in
             elim (each (IsSettled q) (asked q) settled i j is.3) [
               | inl mine ↦ subst (λ y. In i y q.serves) (sym (once_unicast n matched whole i j mine.0 0 it (serves i mine.0 mine.1))) mine.1

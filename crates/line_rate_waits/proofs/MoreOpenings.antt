@@ -295,7 +295,7 @@ module _ (rounds n : ℕ) (two : 1 < rounds) (ports : 1 < n) (rest : List Plan) 
       let served : IsServedLast n rounds (suc n) 0 0 0 after (run n rule (suc n) after rest) =
       IsServedLast-run rounds n (suc n) after rest begins.base.switch late in (
         slots,
-        fed_at_line_rate n ps slots (all.fed nothing (starts_first n rest ports)) (All-run n rule 0 from (AreWithin n) (AreWithin-rows n) ps),
+        fed_at_line_rate n ps slots (all.fed nothing (starts_first n rest ports)),
         record {
           comes = record {
             schedule = IsSchedule-run rounds n 0 from ps opened.switch;

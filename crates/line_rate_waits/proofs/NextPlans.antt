@@ -80,7 +80,7 @@ pub is_some : (i j : ℕ) (ps : List Pair) → 0 < count_in i j ps → In i j ps
 is_some i j ps some = elim (counted i j ps) [ inl found ↦ found.0 | inr missing ↦ let e = missing.1 in absurd (omega arith) ]
 
 -- at most once
-few : (i j : ℕ) (ps : List Pair) → count_in i j ps ≤ 1
+pub few : (i j : ℕ) (ps : List Pair) → count_in i j ps ≤ 1
 few i j ps = elim (counted i j ps) [ inl found ↦ let e = found.1 in omega arith | inr missing ↦ let e = missing.1 in omega arith ]
 
 -- how many cells wait in the slot
@@ -97,7 +97,6 @@ none_of i j ps none is = each (IsNot i j) ps none i j is refl refl
 
 -- how many cells wait in the next slot: at most one more than are left, and that only for a pair of `gains`
 pub record AreNext (p next : Plan) (gains : List Pair) (i j : ℕ) : Type 0 where
-  pub served : count_in i j p.serves ≤ cells p i j
   pub kept : left p i j ≤ cells next i j
   pub one : cells next i j ≤ left p i j + 1
   pub gained : left p i j < cells next i j → In i j gains
@@ -187,7 +186,6 @@ module _ (p next : Plan) (follows : Follows p next) (i j : ℕ) where
       let few_gains = few i j follows.gains in
       let few_served = few i j p.serves in
       record {
-        served = omega arith;
         kept = omega arith;
         one = omega arith;
         gained = λ less. is_some i j follows.gains (omega arith);

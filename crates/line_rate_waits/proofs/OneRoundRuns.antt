@@ -68,7 +68,7 @@ comes n count ps after rest switch one first leads later late =
     let all = kept_all n (decided n) from ps count after rest leads late.run_kept in
     let served : IsServedLast n 1 count 0 0 0 after (run n (decided n) count after rest) = IsServedLast-run n count after rest later late in (
       slots,
-      fed_at_line_rate n ps slots (all.fed nothing first) (All-run n (decided n) 0 from (AreWithin n) (AreWithin-rows n) ps),
+      fed_at_line_rate n ps slots (all.fed nothing first),
       record {
         comes = record {
           schedule = IsSchedule-run n 0 from ps switch;

@@ -16,7 +16,7 @@ use Rattle.service_bound.specs.Latest.{ServeLast}
 use Rattle.line_rate_waits.specs.Reached.{AskAtMostOne}
 use Rattle.line_rate_waits.proofs.Plans.{In, IsServing, Each, each, Plan, asked, rows_of, posted, names}
 use Rattle.line_rate_waits.proofs.NextPlans.{IsOn, IsGained, IsApart, AreApart, Follows, Starts}
-use Rattle.line_rate_waits.proofs.FedRuns.{IsFedRun, IsFedRun-none, IsFedRun-last, IsFedRun-before}
+use Rattle.line_rate_waits.proofs.FedRuns.{IsFedRun, IsFedRun-before}
 
 -- ---- one slot and the next
 -- the next row keeps the one before
@@ -88,25 +88,24 @@ pub record IsKeptRun (n : ℕ) (rule : Rule) (t : ℕ) (places : Places) (ps : L
 
 -- there are no slots
 IsKeptRun-none : (n : ℕ) (rule : Rule) (t : ℕ) (places : Places) → IsKeptRun n rule t places []
-IsKeptRun-none n rule t places = record { kept = tt; line = tt; fed = λ before none. IsFedRun-none n before }
+IsKeptRun-none n rule t places = record { kept = tt; line = tt; fed = λ before none. tt }
 
 -- one slot more in front
 pub IsKeptRun-before : (n : ℕ) (rule : Rule) (t : ℕ) (places : Places) (p : Plan) (ps : List Plan) → IsServing p (rule t places p).matched
     → Starts (Follows p) ps → IsKeptRun n rule (t + 1) (rule t places p).places ps → IsKeptRun n rule t places (p ∷ ps)
-IsKeptRun-before n rule t places p [] serving follows run_kept =
-    record {
-      kept = (tt, tt);
-      line = (tt, tt);
-      fed = λ before first. IsFedRun-last n before p (rule t places p) first;
-    }
-IsKeptRun-before n rule t places p (next ∷ ps) serving follows run_kept =
-    let places_next = (rule t places p).places in
-    record {
-      kept = (keeps_on n (rule t places p).matched p next serving follows, run_kept.kept);
-      line = (gains_on n p next follows, run_kept.line);
-      fed = λ before first. IsFedRun-before n before p next ps (rule t places p) (run n rule (t + 1) places_next (next ∷ ps)) first follows serving
-          (run_kept.fed p follows);
-    }
+IsKeptRun-before n rule t places p ps serving follows run_kept = record {
+  kept = kept ps follows run_kept;
+  line = line ps follows run_kept;
+  fed = λ before first. IsFedRun-before n before p ps (rule t places p) (run n rule (t + 1) (rule t places p).places ps) first serving
+      (run_kept.fed p follows);
+} where
+  kept : (ps : List Plan) → Starts (Follows p) ps → IsKeptRun n rule (t + 1) (rule t places p).places ps → AreKept n (run n rule t places (p ∷ ps))
+  kept [] follows run_kept = (tt, tt)
+  kept (next ∷ ps) follows run_kept = (keeps_on n (rule t places p).matched p next serving follows, run_kept.kept)
+
+  line : (ps : List Plan) → Starts (Follows p) ps → IsKeptRun n rule (t + 1) (rule t places p).places ps → AreAtLineRate n 0 (run n rule t places (p ∷ ps))
+  line [] follows run_kept = (tt, tt)
+  line (next ∷ ps) follows run_kept = (gains_on n p next follows, run_kept.line)
 
 -- and queue (0, 0) is served in its last slot alone
 pub record IsLateBy (n : ℕ) (rule : Rule) (t : ℕ) (places : Places) (ps : List Plan) : Type 0 where

@@ -255,6 +255,7 @@ module _ (n t : ℕ) (places : Places) (p : Plan) (some : 0 < n) (switch : IsSwi
     serving = record {
       serves = λ i j is. subst (λ m. Serves m i j 0 Uni) first_is (served i j is);
       only = λ i j level kind s. only i j level kind (subst (λ m. Serves m i j level kind) (sym first_is) s);
+      asking = λ i j is. let at = each (IsPlaced n p) p.serves suits.placed i j is in at.2;
     };
     granted = λ i j is. moves.granted i j 0 (served i j is);
     accepted = λ i j is. moves.accepted i j 0 (served i j is);

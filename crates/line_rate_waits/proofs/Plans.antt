@@ -67,10 +67,11 @@ pub record Plan : Type 0 where
 abbrev pub asked : Plan → List Pair
 asked p = pair 0 0 ∷ p.asks
 
--- the match serves the pairs of the plan, and no others
+-- the match serves the pairs of the plan, which are asked for, and no others
 pub record IsServing (p : Plan) (matched : List (Option Fed)) : Type 0 where
   pub serves : (i j : ℕ) → In i j p.serves → Serves matched i j 0 Uni
   pub only : (i j level : ℕ) (kind : Kind) → Serves matched i j level kind → In i j p.serves
+  pub asking : (i j : ℕ) → In i j p.serves → In i j (asked p)
 
 -- the row of input i, where these are the requests
 row_at : ℕ → List Pair → ℕ → Row
