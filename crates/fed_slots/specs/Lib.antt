@@ -1,1 +1,2 @@
 pub mod FedSlots
+pub mod Counts

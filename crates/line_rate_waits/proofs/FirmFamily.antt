@@ -16,24 +16,31 @@ use Rattle.pointer_state.proofs.Moves.{AreAtPorts-at_first}
 use Rattle.pointer_state.proofs.Tables.{place_of-at_first}
 use Rattle.eslip_rounds.specs.Schedules.{DecidedSlot}
 use Rattle.service_bound.proofs.PostedRuns.{IsSwitch}
+use Rattle.line_rate_waits.specs.Reached.{AreFedAtLineRate}
 use Rattle.line_rate_waits.specs.ReachedByFirm.{ComesLastByFirmAtLineRate}
 use Rattle.line_rate_waits.proofs.Plans.{pair, Plan}
 use Rattle.line_rate_waits.proofs.PlannedSlots.{Suits, AreNear}
-use Rattle.line_rate_waits.proofs.PlannedRuns.{Follows, Starts, IsOneEach, LeadsBy, leads_none, leads_before}
+use Rattle.line_rate_waits.proofs.NextPlans.{Follows, Starts}
+use Rattle.line_rate_waits.proofs.PlannedRuns.{IsOneEach, LeadsBy, leads_none, leads_before}
 use Rattle.line_rate_waits.proofs.FirmSlots.{firm_decided, IsFirmStep, firm_step_of, IsSwitch-after_firm, IsFirmLate, IsFirmLate-before}
 use Rattle.line_rate_waits.proofs.FirmSlots.{IsFirmLate-last, firm_comes}
-use Rattle.line_rate_waits.proofs.Shapes.{takes, ends, suits_takes, suits_ends, at_first}
-use Rattle.line_rate_waits.proofs.Followings.{takes_ends, ends_ends, one_apart}
+use Rattle.line_rate_waits.proofs.Shapes.{nothing, takes, ends, suits_takes, suits_ends, at_first}
+use Rattle.line_rate_waits.proofs.Followings.{takes_ends, nothing_ends, ends_first, ends_ends}
 use Rattle.line_rate_waits.proofs.OneRoundFamily.{downs, length-downs, starts_more, follows_downs}
 
 -- input x takes output 0, which input w begins to ask
 abbrev hands : ℕ → ℕ → Plan
-hands x w = record { asks = pair x 0 ∷ pair w 0 ∷ []; serves = pair x 0 ∷ [] }
+hands x w = record { asks = pair x 0 ∷ pair w 0 ∷ []; serves = pair x 0 ∷ []; twice = [] }
 
 -- the input whose turn is first, of the k inputs from x on and input 0
 abbrev whose : ℕ → ℕ → ℕ
 whose x zero = 0
 whose x (suc k) = x
+
+-- that is not the input before
+whose_other : (k x : ℕ) → 0 < x → whose (x + 1) k ≡ x → ⊥
+whose_other zero x some e = omega arith
+whose_other (suc k) x some e = omega arith
 
 -- the turns of the k inputs from x on, and that of input 0
 abbrev turns : ℕ → ℕ → ℕ → List Plan
@@ -58,30 +65,63 @@ starts_turns P n zero x two here = starts_more P 0 (n - 1) 1 (ends 0 ∷ []) (om
 starts_turns P n (suc k) x two here = starts_more P x (n - 1) 1 (hands x (whose (x + 1) k) ∷ turns n (x + 1) k) (omega arith) here
 
 -- after the last output of an input
-takes_hands : (x a w : ℕ) → Follows (takes x a) (hands x w)
-takes_hands x a w = record {
+takes_hands : (x a w : ℕ) → 0 < a → Follows (takes x a) (hands x w)
+takes_hands x a w some = record {
+  asking = (inr (inr (inl (refl, refl))), tt);
   kept = (inr (inl (refl, refl)), (inr (inr (inl (refl, refl))), (inl (inl (refl, refl)), tt)));
   gains = pair w 0 ∷ [];
-  gained = (inl (inl (refl, refl)), (inl (inr (inl (refl, refl))), (inr (inl (refl, refl)), tt)));
-  apart = one_apart w 0;
+  gained = (
+    inl (inl (refl, refl), inl (λ e f. omega arith, tt)),
+    (inl (inr (inl (refl, refl)), inl (λ e f. omega arith, tt)), (inr (inl (refl, refl)), tt)),
+  );
+  apart = ((λ e. refl, tt), tt);
+  held = tt;
+  doubled = tt;
 }
 
 -- before the first output of the next input
-hands_takes : (x w : ℕ) → Follows (hands x w) (takes w 1)
-hands_takes x w = record {
+hands_takes : (x w : ℕ) → 0 < x → (w ≡ x → ⊥) → Follows (hands x w) (takes w 1)
+hands_takes x w some other = record {
+  asking = (inr (inl (refl, refl)), tt);
   kept = (inr (inl (refl, refl)), (inl (inl (refl, refl)), (inr (inr (inl (refl, refl))), tt)));
   gains = pair w 1 ∷ [];
-  gained = (inl (inl (refl, refl)), (inl (inr (inr (inl (refl, refl)))), (inr (inl (refl, refl)), tt)));
-  apart = one_apart w 1;
+  gained = (
+    inl (inl (refl, refl), inl (λ e f. omega arith, tt)),
+    (inl (inr (inr (inl (refl, refl))), inl (λ e f. other e, tt)), (inr (inl (refl, refl)), tt)),
+  );
+  apart = ((λ e. refl, tt), tt);
+  held = tt;
+  doubled = tt;
+}
+
+-- before the first of all
+hands_first : (w : ℕ) → 0 < w → Follows (hands 0 w) (takes w 1)
+hands_first w some = record {
+  asking = (inl (refl, refl), tt);
+  kept = (inl (inl (refl, refl)), (inl (inl (refl, refl)), (inr (inr (inl (refl, refl))), tt)));
+  gains = pair 0 0 ∷ pair w 1 ∷ [];
+  gained = (
+    inr (inl (refl, refl)),
+    (inl (inr (inr (inl (refl, refl))), inl (λ e f. omega arith, tt)), (inr (inr (inl (refl, refl))), tt)),
+  );
+  apart = ((λ e. refl, (λ e. absurd (omega arith), tt)), ((λ e. absurd (omega arith), (λ e. refl, tt)), tt));
+  held = tt;
+  doubled = tt;
 }
 
 -- as the window begins
-ends_hands : (x w : ℕ) → Follows (ends x) (hands 0 w)
-ends_hands x w = record {
+ends_hands : (x w : ℕ) → 0 < x → Follows (ends x) (hands 0 w)
+ends_hands x w some = record {
+  asking = (inr (inl (refl, refl)), tt);
   kept = (inr (inl (refl, refl)), (inl (inl (refl, refl)), tt));
   gains = pair w 0 ∷ [];
-  gained = (inl (inl (refl, refl)), (inl (inl (refl, refl)), (inr (inl (refl, refl)), tt)));
-  apart = one_apart w 0;
+  gained = (
+    inl (inl (refl, refl), inl (λ e f. omega arith, tt)),
+    (inl (inl (refl, refl), inl (λ e f. omega arith, tt)), (inr (inl (refl, refl)), tt)),
+  );
+  apart = ((λ e. refl, tt), tt);
+  held = tt;
+  doubled = tt;
 }
 
 -- output 0 points at the input
@@ -126,7 +166,7 @@ module _ (n : ℕ) (two : 1 < n) where
         accept = step.accepted x a (inl (refl, refl));
         fresh = λ i i_in other late. step.accept_stays i (λ j is. elim is [ inl s ↦ other s.0 | inr none ↦ none ]) ∙ turn.fresh i i_in other late;
       } in
-      IsFirmLate-before n t places (takes x a) (downs x (a + 1) k rest) step (follows_downs x a k (n - 1) rest sum starts)
+      IsFirmLate-before n t places (takes x a) (downs x (a + 1) k rest) step (follows_downs x a k (n - 1) rest some_a sum starts)
       (λ is. elim is [ inl s ↦ let e = s.1 in omega arith | inr none ↦ none ])
       (late_downs x rest x_in starts then k (a + 1) (t + 1) (firm_decided n t places (takes x a)).places (omega arith) (omega arith) next)
 
@@ -161,7 +201,7 @@ module _ (n : ℕ) (two : 1 < n) where
   -- the turns of the k inputs from x on, and that of input 0
   late_turns : (k x t : ℕ) (places : Places) → 0 < x → x + k ≡ n → IsTurn n places (whose x k) 1 → IsFirmLate n t places (turns n x k)
   late_turns zero x t places some_x sum turn =
-      late_downs 0 (ends 0 ∷ []) some (takes_ends (n - 1))
+      late_downs 0 (ends 0 ∷ []) some (takes_ends (n - 1) (omega arith))
       (λ t places turn. IsFirmLate-last n t places (ends 0) (firm_step_of n t places (ends 0) some turn.switch (suits_ends n places 0 some turn.grant))
       (inl (refl, refl)))
       (n - 1) 1 t places (omega arith) (omega arith) turn
@@ -169,10 +209,10 @@ module _ (n : ℕ) (two : 1 < n) where
       let x_in : x < n = omega arith in
       let it = hands x (whose (x + 1) k) in
       let later = turns n (x + 1) k in
-      late_downs x (it ∷ later) x_in (takes_hands x (n - 1) (whose (x + 1) k))
+      late_downs x (it ∷ later) x_in (takes_hands x (n - 1) (whose (x + 1) k) (omega arith))
       (λ t places turn.
       let step = firm_step_of n t places it some turn.switch (suits_hands n places x (whose (x + 1) k) x_in turn.grant) in
-      IsFirmLate-before n t places it later step (starts_turns (Follows it) n k (x + 1) two (hands_takes x (whose (x + 1) k)))
+      IsFirmLate-before n t places it later step (starts_turns (Follows it) n k (x + 1) two (hands_takes x (whose (x + 1) k) some_x (whose_other k x some_x)))
       (λ is. elim is [ inl s ↦ let e = s.0 in omega arith | inr none ↦ none ])
       (late_turns k (x + 1) (t + 1) (firm_decided n t places it).places (omega arith) (omega arith) (next_turn k x (n - 1 + 1) t places some_x sum turn step)))
       (n - 1) 1 t places (omega arith) (omega arith) turn
@@ -184,9 +224,11 @@ openings x zero rest = hands 0 1 ∷ rest
 openings x (suc k) rest = ends x ∷ openings (x + 1) k rest
 
 -- the opening is at line rate
-follows_openings : (x k : ℕ) (rest : List Plan) → Starts (Follows (ends x)) (openings (x + 1) k rest)
-follows_openings x zero rest = ends_hands x 1
-follows_openings x (suc k) rest = ends_ends x
+follows_openings : (x k : ℕ) (rest : List Plan) → 1 < x + suc k → Starts (Follows (ends x)) (openings (x + 1) k rest)
+follows_openings zero zero rest more = absurd (omega arith)
+follows_openings zero (suc k) rest more = ends_first
+follows_openings (suc x) zero rest more = ends_hands (suc x) 1 (omega arith)
+follows_openings (suc x) (suc k) rest more = ends_ends (suc x) (omega arith)
 
 -- each input asks for one output at most
 starts_openings : (x k : ℕ) (rest : List Plan) → Starts IsOneEach (openings x (suc k) rest)
@@ -222,7 +264,7 @@ module _ (n : ℕ) (two : 1 < n) (rest : List Plan) (starts : Starts (Follows (h
             | inr more ↦ let above = more.1 in stays i (omega arith) i_in
           ];
         },
-        leads_before n (firm_decided n) t places it rest 0 after rest step.serves starts (leads_none n (firm_decided n) (t + 1) after rest),
+        leads_before n (firm_decided n) t places it rest 0 after rest step.serving starts (leads_none n (firm_decided n) (t + 1) after rest),
       )
   opens (suc k) x t places sum opened =
       let x_in : x < n = omega arith in
@@ -239,8 +281,8 @@ module _ (n : ℕ) (two : 1 < n) (rest : List Plan) (starts : Starts (Follows (h
       let later = opens k (x + 1) (t + 1) after (omega arith) next in (
         later.0,
         later.1,
-        leads_before n (firm_decided n) t places (ends x) (openings (x + 1) k rest) (suc k) later.0 rest step.serves
-            (follows_openings x k rest) later.2,
+        leads_before n (firm_decided n) t places (ends x) (openings (x + 1) k rest) (suc k) later.0 rest step.serving
+            (follows_openings x k rest (omega arith)) later.2,
       )
 
   -- all pointers are at port 0 at first
@@ -254,24 +296,28 @@ module _ (n : ℕ) (two : 1 < n) (rest : List Plan) (starts : Starts (Follows (h
 
 -- so many slots from slot `count` on, which is slot n + 1
 counted : (n count : ℕ) (rest : List Plan) → length rest ≡ n * n → count ≡ n + 1
-    → (slots : List DecidedSlot) × ComesLastByFirmAtLineRate n 1 count slots × (length (drop count slots) ≡ length rest)
-    → (slots : List DecidedSlot) × ComesLastByFirmAtLineRate n 1 (n + 1) slots × (length (drop (n + 1) slots) ≡ n * n)
-counted n count rest long e all = subst (λ m. (slots : List DecidedSlot) × ComesLastByFirmAtLineRate n 1 m slots × (length (drop m slots) ≡ n * n)) e
-    (all.0, all.1, all.2 ∙ long)
+    → (slots : List DecidedSlot) × AreFedAtLineRate n slots × ComesLastByFirmAtLineRate n 1 count slots × (length (drop count slots) ≡ length rest)
+    → (slots : List DecidedSlot) × AreFedAtLineRate n slots × ComesLastByFirmAtLineRate n 1 (n + 1) slots × (length (drop (n + 1) slots) ≡ n * n)
+counted n count rest long e all =
+    subst
+    (λ m. (slots : List DecidedSlot) × AreFedAtLineRate n slots × ComesLastByFirmAtLineRate n 1 m slots × (length (drop m slots) ≡ n * n)) e
+    (all.0, all.1, all.2, all.3 ∙ long)
 
 -- the turns of all inputs come at line rate
 pub firm_comes_at_line_rate : (n : ℕ) → 1 < n → n ≤ MAX_PORTS
-    → (slots : List DecidedSlot) × ComesLastByFirmAtLineRate n 1 (n + 1) slots × (length (drop (n + 1) slots) ≡ n * n)
+    → (slots : List DecidedSlot) × AreFedAtLineRate n slots × ComesLastByFirmAtLineRate n 1 (n + 1) slots × (length (drop (n + 1) slots) ≡ n * n)
 firm_comes_at_line_rate n two size =
     let rest = turns n 1 (n - 1) in
     let e : n - 1 ≡ suc (n - 2) = omega arith in
     let whose_is : whose 1 (n - 1) ≡ 1 = ap (whose 1) e in
-    let starts = starts_turns (Follows (hands 0 1)) n (n - 1) 1 two (subst (λ w. Follows (hands 0 1) (takes w 1)) (sym whose_is) (hands_takes 0 1)) in
+    let starts = starts_turns (Follows (hands 0 1)) n (n - 1) 1 two
+    (subst (λ w. Follows (hands 0 1) (takes w 1)) (sym whose_is) (hands_first 1 (omega arith))) in
     let opened = IsOpened-at_first n two rest starts size in
     let found = opens n two rest starts n 0 0 (places_at_first n) (omega arith) opened in
     let turn : IsTurn n found.0 1 1 = found.1 in
     let late = late_turns n two (n - 1) 1 (suc n) found.0 (omega arith) (omega arith) (subst (λ w. IsTurn n found.0 w 1) (sym whose_is) turn) in
     let d : n ≡ suc (n - 1) = omega arith in
     let one : Starts IsOneEach (openings 0 n rest) = subst (λ k. Starts IsOneEach (openings 0 k rest)) (sym d) (starts_openings 0 (n - 1) rest) in
+    let first : Starts (Follows nothing) (openings 0 n rest) = subst (λ k. Starts (Follows nothing) (openings 0 k rest)) (sym d) nothing_ends in
     counted n (suc n) rest (length-family n (omega arith)) (omega arith)
-    (firm_comes n (suc n) (openings 0 n rest) found.0 rest opened.switch one found.2 turn.switch late)
+    (firm_comes n (suc n) (openings 0 n rest) found.0 rest opened.switch one first found.2 turn.switch late)

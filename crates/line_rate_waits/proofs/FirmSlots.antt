@@ -16,10 +16,14 @@ use Rattle.firm_rounds.specs.Slots.{AreMovedByFirm, IsFirmSlot}
 use Rattle.firm_rounds.specs.Latest.{IsServedLastByFirm}
 use Rattle.firm_rounds.specs.Decisions.{firm_decision}
 use Rattle.firm_rounds.proofs.Computed.{IsFirmSlot-firm_decision, AreAtPorts-firm_decision}
+use Rattle.line_rate_waits.specs.Reached.{AreFedAtLineRate}
 use Rattle.line_rate_waits.specs.ReachedByFirm.{ComesLastByFirmAtLineRate}
-use Rattle.line_rate_waits.proofs.Plans.{In, Plan, rows_of, names, AreWithin-rows, IsClean-rows, IsWithoutMulticast-rows}
+use Rattle.line_rate_waits.proofs.Plans.{In, IsServing, each, Plan, rows_of, names, AreWithin-rows, IsClean-rows, IsWithoutMulticast-rows}
 use Rattle.line_rate_waits.proofs.PlannedSlots.{Suits, IsPlaced, AreNear, served_it, only_it, grants_nearest}
-use Rattle.line_rate_waits.proofs.PlannedRuns.{Follows, Starts, IsOneEach, run, length-run, All-run, IsLateBy, IsLateBy-before, IsLateBy-last}
+use Rattle.line_rate_waits.proofs.FedRuns.{fed_at_line_rate}
+use Rattle.line_rate_waits.proofs.Shapes.{nothing}
+use Rattle.line_rate_waits.proofs.NextPlans.{Follows, Starts}
+use Rattle.line_rate_waits.proofs.PlannedRuns.{IsOneEach, run, length-run, All-run, IsLateBy, IsLateBy-before, IsLateBy-last}
 use Rattle.line_rate_waits.proofs.PlannedRuns.{opens_run, LeadsBy, led, kept_all}
 
 -- what the slot of a plan decides
@@ -29,8 +33,7 @@ firm_decided n t places p = firm_decision n 1 t (rows_of n p) places
 -- The slot of a plan serves its pairs and no others, and moves their pointers. An output that grants an input which does
 -- not take it points at that input after it.
 pub record IsFirmStep (n t : ℕ) (places : Places) (p : Plan) : Type 0 where
-  pub serves : (i j : ℕ) → In i j p.serves → Serves (firm_decided n t places p).matched i j 0 Uni
-  pub only : (i j level : ℕ) (kind : Kind) → Serves (firm_decided n t places p).matched i j level kind → In i j p.serves
+  pub serving : IsServing p (firm_decided n t places p).matched
   pub granted : (i j : ℕ) → In i j p.serves → grant_of (firm_decided n t places p).places j 0 ≡ (i + 1) % n
   pub accepted : (i j : ℕ) → In i j p.serves → accept_of (firm_decided n t places p).places i 0 ≡ (j + 1) % n
   pub held : (i j : ℕ) → IsPlaced n p i j → AreNear n places p i j → (In i j p.serves → ⊥) → grant_of (firm_decided n t places p).places j 0 ≡ i
@@ -84,8 +87,11 @@ module _ (n t : ℕ) (places : Places) (p : Plan) (some : 0 < n) (switch : IsSwi
   -- where the pointers suit the plan
   pub firm_step_of : IsFirmStep n t places p
   firm_step_of = record {
-    serves = λ i j is. subst (λ m. Serves m i j 0 Uni) first_is (served i j is);
-    only = λ i j level kind s. only i j level kind (subst (λ m. Serves m i j level kind) (sym first_is) s);
+    serving = record {
+      serves = λ i j is. subst (λ m. Serves m i j 0 Uni) first_is (served i j is);
+      only = λ i j level kind s. only i j level kind (subst (λ m. Serves m i j level kind) (sym first_is) s);
+      asking = λ i j is. let at = each (IsPlaced n p) p.serves suits.placed i j is in at.2;
+    };
     granted = λ i j is. moves.granted i j 0 (served i j is);
     accepted = λ i j is. moves.accepted i j 0 (served i j is);
     held = λ i j at near left. moves.held i j 0 (
@@ -111,11 +117,11 @@ IsFirmLate n = IsLateBy n (firm_decided n)
 pub IsFirmLate-before : (n t : ℕ) (places : Places) (p : Plan) (ps : List Plan) → IsFirmStep n t places p → Starts (Follows p) ps → (In 0 0 p.serves → ⊥)
     → IsFirmLate n (t + 1) (firm_decided n t places p).places ps → IsFirmLate n t places (p ∷ ps)
 IsFirmLate-before n t places p ps step follows left late =
-    IsLateBy-before n (firm_decided n) t places p ps step.serves follows (λ served. left (step.only 0 0 0 Uni served)) late
+    IsLateBy-before n (firm_decided n) t places p ps step.serving follows (λ served. left (step.serving.only 0 0 0 Uni served)) late
 
 -- the last slot, which serves it
 pub IsFirmLate-last : (n t : ℕ) (places : Places) (p : Plan) → IsFirmStep n t places p → In 0 0 p.serves → IsFirmLate n t places (p ∷ [])
-IsFirmLate-last n t places p step served = IsLateBy-last n (firm_decided n) t places p step.serves served
+IsFirmLate-last n t places p step served = IsLateBy-last n (firm_decided n) t places p step.serving served
 
 -- What is late from pointers of a switch is a window in which queue (0, 0) is served in the last slot alone.
 IsServedLast-run : (n t : ℕ) (places : Places) (ps : List Plan) → IsSwitch n places → IsFirmLate n t places ps
@@ -138,16 +144,18 @@ IsServedLast-run n t places ps switch late =
     }
 
 -- what is late from where the first slots lead comes in a schedule at line rate, from all pointers at port 0 on
-pub firm_comes : (n count : ℕ) (ps : List Plan) (after : Places) (rest : List Plan) → IsSwitch n (places_at_first n) → Starts IsOneEach ps
+pub firm_comes : (n count : ℕ) (ps : List Plan) (after : Places) (rest : List Plan) → IsSwitch n (places_at_first n)
+    → Starts IsOneEach ps → Starts (Follows nothing) ps
     → LeadsBy n (firm_decided n) 0 (places_at_first n) ps count after rest → IsSwitch n after → IsFirmLate n count after rest
-    → (slots : List DecidedSlot) × ComesLastByFirmAtLineRate n 1 count slots × (length (drop count slots) ≡ length rest)
-firm_comes n count ps after rest switch one leads later late =
+    → (slots : List DecidedSlot) × AreFedAtLineRate n slots × ComesLastByFirmAtLineRate n 1 count slots × (length (drop count slots) ≡ length rest)
+firm_comes n count ps after rest switch one first leads later late =
     let from = places_at_first n in
     let slots = run n (firm_decided n) 0 from ps in
     let dropped : drop count slots ≡ run n (firm_decided n) count after rest = led n (firm_decided n) from ps count after rest leads in
     let all = kept_all n (firm_decided n) from ps count after rest leads late.run_kept in
     let served : IsServedLastByFirm n 1 count 0 0 0 after (run n (firm_decided n) count after rest) = IsServedLast-run n count after rest later late in (
       slots,
+      fed_at_line_rate n ps slots (all.fed nothing first),
       record {
         schedule = IsSchedule-run n 0 from ps switch;
         within = All-run n (firm_decided n) 0 from (AreWithin n) (AreWithin-rows n) ps;

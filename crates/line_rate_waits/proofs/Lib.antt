@@ -1,5 +1,7 @@
 pub mod Plans
 pub mod PlannedSlots
+pub mod NextPlans
+pub mod FedRuns
 pub mod PlannedRuns
 pub mod OneRoundRuns
 pub mod Shapes
@@ -10,8 +12,10 @@ pub mod FirmSlots
 pub mod FirmFamily
 pub mod ManySlots
 pub mod MoreShapes
+pub mod Settled
 pub mod MoreFollowings
 pub mod MoreRoundsFamily
 pub mod MoreLevels
+pub mod ThreeShapes
 pub mod ThreePorts
 pub mod MoreOpenings

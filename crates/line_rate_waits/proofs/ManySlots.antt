@@ -5,27 +5,33 @@ use Rattle.rotating_pick.specs.Rotation.{distance, IsFirstFrom}
 use Rattle.rotating_pick.specs.declared.kinds.Kind.{Kind}
 use Rattle.rotating_pick.specs.declared.kinds.Kind.TheVariants.{Uni, Multi}
 use Rattle.slot_match.specs.declared.matching.Fed.{Fed}
+use Rattle.slot_match.specs.Rows.{Names, row_of}
 use Rattle.slot_match.specs.Matches.{fed_of, Serves, IsMatch, IsFreeInput, IsFreeOutput}
-use Rattle.slot_match.proofs.Pairs.{Serves-from}
+use Rattle.slot_match.proofs.Pairs.{Serves-from, Serves-once}
 use Rattle.pointer_state.specs.Places.{Places, grant_of, accept_of}
 use Rattle.eslip_rounds.specs.Rounds.{Requests, Grants, Accepts, preferred}
 use Rattle.eslip_rounds.specs.Slots.{Decision, AreMoved, IsSlot}
 use Rattle.eslip_rounds.specs.Decisions.{decision_of}
 use Rattle.eslip_rounds.proofs.Running.{once_unicast}
 use Rattle.eslip_rounds.proofs.Settling.{IsSlot-decision_of, AreAtPorts-decision_of}
-use Rattle.eslip_rounds.proofs.Unique.{IsMatch-slot}
+use Rattle.eslip_rounds.proofs.Unique.{IsMatch-slot, Serves-named}
 use Rattle.service_bound.proofs.LaterRounds.{first_of, second_of, BeginsWith, BeginsWith-slot}
 use Rattle.service_bound.proofs.PostedRuns.{IsSwitch}
-use Rattle.line_rate_waits.proofs.Plans.{In, Each, each, Plan, asked, rows_of, posted, names, AreWithin-rows}
+use Rattle.line_rate_waits.proofs.Plans.{In, IsServing, Each, each, Plan, asked, rows_of, posted, names, AreWithin-rows}
 use Rattle.line_rate_waits.proofs.PlannedSlots.{Suits, served_it, only_it}
 
 -- what the slot of a plan decides in some rounds
 abbrev pub decided_in : ℕ → ℕ → ℕ → Places → Plan → Decision
 decided_in rounds n t places p = decision_of n rounds t (rows_of n p) places
 
--- The slot serves the pairs of the plan, and moves their pointers alone.
+-- input i or output j is served
+abbrev pub IsSettled : Plan → ℕ → ℕ → Type 0
+IsSettled p i j = ((y : ℕ) × In i y p.serves) ⊎ ((z : ℕ) × In z j p.serves)
+
+-- The slot serves the pairs of the plan, and no others where these leave nothing to serve; it moves their pointers alone.
 pub record IsManyStep (rounds n t : ℕ) (places : Places) (p : Plan) : Type 0 where
   pub serves : (i j : ℕ) → In i j p.serves → Serves (decided_in rounds n t places p).matched i j 0 Uni
+  pub serving : Each (IsSettled p) (asked p) → IsServing p (decided_in rounds n t places p).matched
   pub granted : (i j : ℕ) → In i j p.serves → grant_of (decided_in rounds n t places p).places j 0 ≡ (i + 1) % n
   pub accepted : (i j : ℕ) → In i j p.serves → accept_of (decided_in rounds n t places p).places i 0 ≡ (j + 1) % n
   pub grant_stays : (j : ℕ) → ((i : ℕ) → In i j p.serves → ⊥) → grant_of (decided_in rounds n t places p).places j 0 ≡ grant_of places j 0
@@ -85,19 +91,41 @@ module _ (rounds n t : ℕ) (places : Places) (p : Plan) (some : 0 < n) (switch 
   only : (i j level : ℕ) (kind : Kind) → Serves First i j level kind → In i j p.serves
   only = only_it n t p places some switch suits First begins.opening
 
+  -- the match is one
+  whole : IsMatch n (decided_in rounds n t places p).matched
+  whole = IsMatch-slot n rounds t (rows_of n p) places (AreWithin-rows n p) switch.at_ports switch.ports (decided_in rounds n t places p) now
+
+  -- it serves no others than the pairs of a plan of these rows, where it serves these and they leave nothing to serve
+  pub serving_by : (q : Plan) → rows_of n q ≡ rows_of n p → ((i j : ℕ) → In i j q.serves → Serves (decided_in rounds n t places p).matched i j 0 Uni)
+      → Each (IsSettled q) (asked q) → IsServing q (decided_in rounds n t places p).matched
+  serving_by q same serves settled =
+      let matched = (decided_in rounds n t places p).matched in
+      let asked_it = λ (i j level : ℕ) (kind : Kind) (s : Serves matched i j level kind).
+      posted n q i j level kind (whole.input_in i j level kind s)
+      (subst (λ rows. Names (row_of rows i) level kind j) (sym same)
+      (Serves-named n rounds t (rows_of n p) places (decided_in rounds n t places p) now i j level kind s)) in
+      record {
+        serves = serves;
+        asking = λ i j is. (asked_it i j 0 Uni (serves i j is)).3;
+        only = λ i j level kind s.
+            let is = asked_it i j level kind s in
+            let it : Serves matched i j 0 Uni = subst (λ k. Serves matched i j 0 k) is.1 (subst (λ l. Serves matched i j l kind) is.0 s) in
+            elim (each (IsSettled q) (asked q) settled i j is.3) [
+              | inl mine ↦ subst (λ y. In i y q.serves) (sym (once_unicast n matched whole i j mine.0 0 it (serves i mine.0 mine.1))) mine.1
+              | inr its ↦ subst (λ x. In x j q.serves) (sym (Serves-once matched j i its.0 0 0 Uni Uni it (serves its.0 j its.1)).0) its.1
+            ];
+      }
+
   -- where the pointers suit the plan
   pub many_step_of : IsManyStep rounds n t places p
   many_step_of = record {
     serves = λ i j is. begins.stays i j 0 Uni (served i j is);
+    serving = serving_by p refl (λ i j is. begins.stays i j 0 Uni (served i j is));
     granted = λ i j is. moves.granted i j 0 (served i j is);
     accepted = λ i j is. moves.accepted i j 0 (served i j is);
     grant_stays = λ j nobody. moves.grant_stays j 0 (λ i s. nobody i (only i j 0 Uni s));
     accept_stays = λ i nothing. moves.accept_stays i 0 (λ j s. nothing j (only i j 0 Uni s));
   }
-
-  -- the match is one
-  whole : IsMatch n (decided_in rounds n t places p).matched
-  whole = IsMatch-slot n rounds t (rows_of n p) places (AreWithin-rows n p) switch.at_ports switch.ports (decided_in rounds n t places p) now
 
   -- queue (0, 0) is not served where input 0 takes another output
   pub left_by_input : (y : ℕ) → 0 < y → In 0 y p.serves → Serves (decided_in rounds n t places p).matched 0 0 0 Uni → ⊥

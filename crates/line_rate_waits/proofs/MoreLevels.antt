@@ -6,11 +6,13 @@ use Rattle.std_lemmas.proofs.Numbers.{mod_once}
 use Rattle.rotating_pick.specs.Rotation.{distance}
 use Rattle.pointer_state.specs.Places.{Places, grant_of, accept_of}
 use Rattle.line_rate_waits.proofs.Plans.{Plan}
-use Rattle.line_rate_waits.proofs.PlannedRuns.{Follows, Starts, IsLateBy-before, IsLateBy-last}
+use Rattle.line_rate_waits.proofs.NextPlans.{Follows, Starts}
+use Rattle.line_rate_waits.proofs.PlannedRuns.{IsLateBy-before, IsLateBy-last}
 use Rattle.line_rate_waits.proofs.ManySlots.{decided_in, IsSwitch-after_in, many_step_of, left_by_input}
 use Rattle.line_rate_waits.proofs.Shapes.{takes, ends, passes, suits_takes, suits_ends}
 use Rattle.line_rate_waits.proofs.MoreShapes.{shares, closes, resets, readies, readies_too, crosses_by, suits_readies, suits_readies_too, suits_crosses_by}
 use Rattle.line_rate_waits.proofs.Followings.{takes_takes, passes_takes, takes_ends}
+use Rattle.line_rate_waits.proofs.Settled.{settles_takes, settles_ends, settles_crosses, settles_readies, settles_readies_too}
 use Rattle.line_rate_waits.proofs.MoreFollowings.{shares_shares, shares_closes, passes_resets, resets_resets, resets_takes, resets_readies}
 use Rattle.line_rate_waits.proofs.MoreFollowings.{takes_readies, resets_readies_too, readies_shares, readies_too_shares, crosses_by_shares}
 use Rattle.line_rate_waits.proofs.OneRoundFamily.{downs, starts_more}
@@ -42,7 +44,7 @@ module _ (rounds n l : ℕ) (two : 1 < rounds) (sum : l + 1 ≡ n) (high : 2 < l
         grant = step.grant_stays 0 (λ i is. elim is [ inl s ↦ let e = s.1 in omega arith | inr none ↦ none ]) ∙ base.grant;
         fresh = λ i i_low i_high. step.accept_stays i (λ j is. elim is [ inl s ↦ let e = s.0 in omega arith | inr none ↦ none ]) ∙ base.fresh i i_low i_high;
       } in
-      IsLateBy-before n (decided_in rounds n) t places it rest step.serves starts
+      IsLateBy-before n (decided_in rounds n) t places it rest (step.serving (settles_takes y)) starts
       (left_by_input rounds n t places it some base.switch suits some_rounds y some_y (inl (refl, refl)))
       (then after next (step.accepted 0 y (inl (refl, refl))) (step.granted 0 y (inl (refl, refl)) ∙ mod-eq_of_lt (omega arith))
       (λ j other. step.grant_stays j (λ i is. elim is [ inl s ↦ other s.1 | inr none ↦ none ])))
@@ -65,7 +67,7 @@ module _ (rounds n l : ℕ) (two : 1 < rounds) (sum : l + 1 ≡ n) (high : 2 < l
       ])) where
         follows : (k : ℕ) → y + suc k ≡ stop → Starts (Follows (takes 0 y)) (downs 0 (y + 1) k rest)
         follows zero all = starts y (omega arith)
-        follows (suc k) all = takes_takes 0 y
+        follows (suc k) all = takes_takes 0 y some_y
 
   -- input 0 goes down from output y to `stop`, while the k inputs from w on take output 1
   late_backs : (p w stop : ℕ) (rest : List Plan) → 0 < w → stop ≤ l → ((y v : ℕ) → y + 1 ≡ stop → Starts (Follows (resets y v)) rest)
@@ -85,7 +87,7 @@ module _ (rounds n l : ℕ) (two : 1 < rounds) (sum : l + 1 ≡ n) (high : 2 < l
       (omega arith) next at held) where
         follows : (k : ℕ) → y + suc k ≡ stop → Starts (Follows (resets y (w + k))) (backs w (y + 1) k rest)
         follows zero all = starts y (w + 0) (omega arith)
-        follows (suc k) all = resets_resets y (w + suc k) (y + 1) (w + k) (omega arith)
+        follows (suc k) all = resets_resets y (w + suc k) (y + 1) (w + k) (omega arith) (omega arith)
 
   -- input 0 takes the last output, and input 1 output 2, so that the last input's request for it waits
   late_readies : (p w t : ℕ) (places : Places) (rest : List Plan) → 1 < w → IsBase n places p w n 2 → accept_of places 0 0 ≡ l → grant_of places 2 0 ≡ 1
@@ -96,7 +98,7 @@ module _ (rounds n l : ℕ) (two : 1 < rounds) (sum : l + 1 ≡ n) (high : 2 < l
       let suits = suits_readies n places l high (omega arith) at held in
       let step = many_step_of rounds n t places it some base.switch suits some_rounds in
       let after = (decided_in rounds n t places it).places in
-      IsLateBy-before n (decided_in rounds n) t places it rest step.serves starts
+      IsLateBy-before n (decided_in rounds n) t places it rest (step.serving (settles_readies l)) starts
       (left_by_input rounds n t places it some base.switch suits some_rounds l (omega arith) (inl (refl, refl)))
       (then after (record {
         switch = IsSwitch-after_in rounds n t places it base.switch;
@@ -117,7 +119,7 @@ module _ (rounds n l : ℕ) (two : 1 < rounds) (sum : l + 1 ≡ n) (high : 2 < l
       let suits = suits_readies_too n places l 2 high (omega arith) (omega arith) high at held in
       let step = many_step_of rounds n t places it some base.switch suits some_rounds in
       let after = (decided_in rounds n t places it).places in
-      IsLateBy-before n (decided_in rounds n) t places it rest step.serves starts
+      IsLateBy-before n (decided_in rounds n) t places it rest (step.serving (settles_readies_too l 2)) starts
       (left_by_input rounds n t places it some base.switch suits some_rounds l (omega arith) (inl (refl, refl)))
       (then after (record {
         switch = IsSwitch-after_in rounds n t places it base.switch;
@@ -144,40 +146,44 @@ module _ (rounds n l : ℕ) (two : 1 < rounds) (sum : l + 1 ≡ n) (high : 2 < l
       let narrow : IsBase n places p p l 2 = record { switch = base.switch; grant = base.grant; fresh = λ i i_low i_high. base.fresh i i_low (omega arith) } in
       late_shares rounds n l two sum (omega arith) p p l 2 l 2 t places (level l p 2 k rest) (omega arith) (omega arith) (omega arith) (omega arith)
       (inr (omega arith)) (omega arith) high narrow (base.fresh l (omega arith) (omega arith))
-      (starts_sharings (Follows (shares l l 2)) l l (2 + 1) (l - (2 + 1)) (closes l l 2 u ∷ climbs l p 2 k (passes p ∷ rest)) (shares_shares l l 2)
-      (shares_closes l l 2 2 u (omega arith) (before_other p k l (omega arith) (sym all))))
+      (starts_sharings (Follows (shares l l 2)) l l (2 + 1) (l - (2 + 1)) (closes l l 2 u ∷ climbs l p 2 k (passes p ∷ rest))
+      (shares_shares l l 2 (omega arith) (omega arith) (omega arith))
+      (shares_closes l l 2 2 u (omega arith) (omega arith) (omega arith) (before_other p k l (omega arith) (sym all))))
       (λ after next at granted stays. late_level rounds n l two sum (omega arith) p 2 k rest (omega arith) all (omega arith) high starts then
       (t + 1) after next at granted)
 
   -- the slot of input p is followed by slots in which others take output 1
-  starts_passes : (p w k : ℕ) (rest : List Plan) → 0 < k → 0 < w → Starts (Follows (passes p)) (backs w 2 k rest)
-  starts_passes p w zero rest some_k some_w = absurd (omega arith)
-  starts_passes p w (suc k) rest some_k some_w = passes_resets p 2 (w + k) (omega arith)
+  starts_passes : (p w k : ℕ) (rest : List Plan) → 0 < k → 0 < w → 0 < p → Starts (Follows (passes p)) (backs w 2 k rest)
+  starts_passes p w zero rest some_k some_w some_p = absurd (omega arith)
+  starts_passes p w (suc k) rest some_k some_w some_p = passes_resets p 2 (w + k) some_p (omega arith)
 
   -- the levels from p on
   late_levels : (k p t : ℕ) (places : Places) → 1 < p → p + k ≡ l → IsBase n places p p n 2 → IsLateIn rounds n t places (levels l p k)
   late_levels zero p t places more all base =
-      late_enters p 0 (downs 0 2 (l - 1) (ends 0 ∷ [])) more all (starts_more (Follows (passes p)) 0 (l - 1) 2 (ends 0 ∷ []) (omega arith) (passes_takes p))
-      (λ t after next at. late_lowers (p + 1) n n 2 n (ends 0 ∷ []) some (omega arith) (λ a e. takes_ends a)
+      late_enters p 0 (downs 0 2 (l - 1) (ends 0 ∷ [])) more all
+      (starts_more (Follows (passes p)) 0 (l - 1) 2 (ends 0 ∷ []) (omega arith) (passes_takes p (omega arith)))
+      (λ t after next at. late_lowers (p + 1) n n 2 n (ends 0 ∷ []) some (omega arith) (λ a e. takes_ends a (omega arith))
       (λ t places next at held.
       let same : p + 1 ≡ n = omega arith in
       let round : n % n ≡ 0 = mod_once n n (omega arith) (omega arith) ∙ omega arith in
       let suits = suits_ends n places 0 some (next.grant ∙ ap (λ v. v % n) same ∙ round) in
-      IsLateBy-last n (decided_in rounds n) t places (ends 0) (many_step_of rounds n t places (ends 0) some next.switch suits some_rounds).serves
+      IsLateBy-last n (decided_in rounds n) t places (ends 0)
+      ((many_step_of rounds n t places (ends 0) some next.switch suits some_rounds).serving (settles_ends 0))
       (inl (refl, refl)))
       (l - 1) 2 t after (omega arith) (omega arith) next (at ∙ sym (mod-eq_of_lt (omega arith))) (λ none. absurd (omega arith)))
       t places base
   late_levels (suc k) p t places more all base =
       let later = readies l ∷ levels l (p + 1) k in
       let back = downs 0 (2 + suc k) (l - (2 + suc k)) later in
-      late_enters p (suc k) (backs (p + 1) 2 (suc k) back) more all (starts_passes p (p + 1) (suc k) back (omega arith) (omega arith))
+      late_enters p (suc k) (backs (p + 1) 2 (suc k) back) more all (starts_passes p (p + 1) (suc k) back (omega arith) (omega arith) (omega arith))
       (λ t after next at.
       let e : n ≡ p + 1 + suc k = omega arith in
       late_backs (p + 1) (p + 1) (2 + suc k) back (omega arith) (omega arith)
-      (λ y v stop. starts_lowers (Follows (resets y v)) (2 + suc k) (l - (2 + suc k)) later (resets_takes y v (2 + suc k)) (resets_readies y v l (omega arith)))
-      (λ t places next at held. late_lowers (p + 1) (p + 1) n 2 l later (omega arith) (omega arith) (λ a e. takes_readies a l (omega arith))
+      (λ y v stop. starts_lowers (Follows (resets y v)) (2 + suc k) (l - (2 + suc k)) later (resets_takes y v (2 + suc k) (omega arith))
+      (resets_readies y v l (omega arith) (omega arith)))
+      (λ t places next at held. late_lowers (p + 1) (p + 1) n 2 l later (omega arith) (omega arith) (λ a e. takes_readies a l (omega arith) (omega arith))
       (λ t places next at held. late_readies (p + 1) (p + 1) t places (levels l (p + 1) k) (omega arith) next (at ∙ mod-eq_of_lt (omega arith)) (held high)
-      (starts_levels (Follows (readies l)) l (p + 1) k (readies_shares l))
+      (starts_levels (Follows (readies l)) l (p + 1) k (readies_shares l (omega arith)))
       (λ after next. late_levels k (p + 1) (t + 1) after (omega arith) (omega arith) next))
       (l - (2 + suc k)) (2 + suc k) t places (omega arith) (omega arith) next (at ∙ sym (mod-eq_of_lt (omega arith))) held)
       (suc k) 2 t after (omega arith) refl (omega arith) (subst (λ v. IsBase n after (p + 1) v n 2) e next) at (λ none. absurd (omega arith)))
@@ -189,12 +195,12 @@ module _ (rounds n l : ℕ) (two : 1 < rounds) (sum : l + 1 ≡ n) (high : 2 < l
   late_body t places base at held =
       let rest = readies_too l 2 ∷ levels l 2 (l - 2) in
       late_level rounds n l two sum (omega arith) 1 1 (l - 1) (backs 3 2 (l - 2) rest) (omega arith) (omega arith) (omega arith) (omega arith)
-      (starts_passes 1 3 (l - 2) rest (omega arith) (omega arith))
+      (starts_passes 1 3 (l - 2) rest (omega arith) (omega arith) (omega arith))
       (λ t after next at.
       let e : n ≡ 3 + (l - 2) = omega arith in
-      late_backs 2 3 l rest (omega arith) (omega arith) (λ y v stop. resets_readies_too y v l 2 (omega arith) high)
+      late_backs 2 3 l rest (omega arith) (omega arith) (λ y v stop. resets_readies_too y v l 2 (omega arith) (omega arith) high)
       (λ t places next at held. late_readies_too 2 t places (levels l 2 (l - 2)) next at (held high)
-      (starts_levels (Follows (readies_too l 2)) l 2 (l - 2) (readies_too_shares l 2))
+      (starts_levels (Follows (readies_too l 2)) l 2 (l - 2) (readies_too_shares l 2 (omega arith)))
       (λ after next. late_levels (l - 2) 2 (t + 1) after (omega arith) (omega arith) next))
       (l - 2) 2 t after (omega arith) (omega arith) (omega arith) (subst (λ v. IsBase n after 2 v n 2) e next) at (λ none. absurd (omega arith)))
       t places base at held
@@ -208,9 +214,10 @@ module _ (rounds n l : ℕ) (two : 1 < rounds) (sum : l + 1 ≡ n) (high : 2 < l
       let step = many_step_of rounds n t places it some base.switch suits some_rounds in
       let after = (decided_in rounds n t places it).places in
       let u = before 1 (l - 1) in
-      IsLateBy-before n (decided_in rounds n) t places it (body l) step.serves
+      IsLateBy-before n (decided_in rounds n) t places it (body l) (step.serving (settles_crosses l l))
       (starts_more_sharings (Follows it) l l (1 + 1) (l - (1 + 1))
-      (closes l l 1 u ∷ climbs l 1 1 (l - 1) (passes 1 ∷ backs 3 2 (l - 2) (readies_too l 2 ∷ levels l 2 (l - 2)))) (omega arith) (crosses_by_shares l l))
+      (closes l l 1 u ∷ climbs l 1 1 (l - 1) (passes 1 ∷ backs 3 2 (l - 2) (readies_too l 2 ∷ levels l 2 (l - 2)))) (omega arith)
+      (crosses_by_shares l l (omega arith) (omega arith)))
       (left_by_input rounds n t places it some base.switch suits some_rounds l (omega arith) (inl (refl, refl)))
       (late_body (t + 1) after (record {
         switch = IsSwitch-after_in rounds n t places it base.switch;

@@ -16,19 +16,23 @@ use Rattle.service_bound.specs.Latest.{IsServedLast}
 use Rattle.service_bound.specs.Waits.{longest_service}
 use Rattle.service_bound.proofs.Distances.{distance-below, distance-own}
 use Rattle.service_bound.proofs.PostedRuns.{IsSwitch}
-use Rattle.line_rate_waits.specs.Reached.{ComesLastAtLineRate}
+use Rattle.line_rate_waits.specs.Reached.{AreFedAtLineRate, ComesLastAtLineRate}
 use Rattle.line_rate_waits.proofs.Plans.{Plan, names, AreWithin-rows, IsClean-rows, IsWithoutMulticast-rows}
-use Rattle.line_rate_waits.proofs.PlannedRuns.{Follows, Starts, IsOneEach, run, length-run, All-run, IsLateBy-before, opens_run, LeadsBy, leads_none}
+use Rattle.line_rate_waits.proofs.NextPlans.{Follows, Starts}
+use Rattle.line_rate_waits.proofs.PlannedRuns.{run, length-run, All-run, IsLateBy-before, opens_run, LeadsBy, leads_none}
 use Rattle.line_rate_waits.proofs.PlannedRuns.{leads_before, led, kept_all}
 use Rattle.line_rate_waits.proofs.ManySlots.{decided_in, slot_decided_in, IsSwitch-after_in, many_step_of, left_by_input}
-use Rattle.line_rate_waits.proofs.Shapes.{takes, ends, passes, suits_ends}
-use Rattle.line_rate_waits.proofs.MoreShapes.{closes, readies, readies_too, both_by, wins_by, crosses_by, suits_both_by, suits_wins_by}
-use Rattle.line_rate_waits.proofs.Followings.{ends_ends, ends_zero, ends_takes}
-use Rattle.line_rate_waits.proofs.MoreFollowings.{takes_both_by, both_by_crosses, takes_wins_by, wins_by_crosses}
-use Rattle.line_rate_waits.proofs.OneRoundFamily.{downs, length-downs, starts_more}
+use Rattle.line_rate_waits.proofs.Shapes.{nothing, takes, ends, again, passes, wins, both, suits_ends, suits_again, suits_both, suits_wins}
+use Rattle.line_rate_waits.proofs.MoreShapes.{closes, readies, readies_too, crosses_by}
+use Rattle.line_rate_waits.proofs.Settled.{settles_ends, settles_again, settles_wins, settles_both}
+use Rattle.line_rate_waits.proofs.Followings.{again_takes, again_wins, takes_wins, wins_both, both_both}
+use Rattle.line_rate_waits.proofs.MoreFollowings.{both_crosses_by, wins_crosses_by}
+use Rattle.line_rate_waits.proofs.FedRuns.{fed_at_line_rate}
+use Rattle.line_rate_waits.proofs.Openings.{openings, starts_openings, follows_openings, starts_first}
+use Rattle.line_rate_waits.proofs.OneRoundFamily.{downs, length-downs, boths, length-boths, starts_boths}
 use Rattle.line_rate_waits.proofs.MoreRoundsFamily.{sharings, goes, before, climbs, level, backs, levels, body, IsBase, IsLateIn}
-use Rattle.line_rate_waits.proofs.ThreePorts.{three, late_three, ends_wins_by}
-use Rattle.line_rate_waits.proofs.MoreLevels.{late_takes, late_lowers, late_crosses}
+use Rattle.line_rate_waits.proofs.ThreePorts.{three, late_three}
+use Rattle.line_rate_waits.proofs.MoreLevels.{late_takes, late_crosses}
 
 -- ---- how many slots these are
 length-sharings : (l x k y : ℕ) (rest : List Plan) → length (sharings l x y k rest) ≡ k + length rest
@@ -110,13 +114,9 @@ length-all l high =
     (sum-is j l (length (body l)) (length (levels l 2 j)) el eb (twice_levels (j + 1) l (omega arith) (omega arith) j 2 (omega arith)))
 
 -- ---- the slots before the levels
--- the window of five ports or more
-abbrev five : ℕ → List Plan
-five l = downs 0 1 (l - 2) (both_by (l - 1) l ∷ crosses_by l l ∷ body l)
-
--- and that of four
-abbrev four : List Plan
-four = takes 0 1 ∷ wins_by 2 3 ∷ crosses_by 3 3 ∷ body 3
+-- the window of four ports or more
+abbrev four_on : ℕ → List Plan
+four_on l = takes 0 1 ∷ wins 2 l ∷ boths l 3 (l - 3) (crosses_by l l ∷ body l)
 
 -- all inputs and output 0 point at port 1, and the other outputs at port 0
 record IsBeginning (n : ℕ) (places : Places) : Type 0 where
@@ -124,75 +124,66 @@ record IsBeginning (n : ℕ) (places : Places) : Type 0 where
   at : accept_of places 0 0 ≡ 1
   others : (m : ℕ) → 0 < m → grant_of places m 0 ≡ 0
 
--- it is late from the beginning
-late_five : (rounds n l t : ℕ) (places : Places) → 1 < rounds → l + 1 ≡ n → 3 < l → IsBeginning n places → IsLateIn rounds n t places (five l)
-late_five rounds n l t places two sum high begins =
-    let it = both_by (l - 1) l in
-    let rest = crosses_by l l ∷ body l in
-    late_lowers rounds n l two sum (omega arith) 1 1 n 1 (l - 1) (it ∷ rest) (omega arith) (omega arith) (λ a e. takes_both_by a (l - 1) l (omega arith))
-    (λ t places base at held.
-    let suits = suits_both_by n places (l - 1) l (omega arith) (omega arith) (omega arith) (λ e. omega arith) (omega arith) (omega arith)
-    (at ∙ mod-eq_of_lt (omega arith)) in
-    let step = many_step_of rounds n t places it (omega arith) base.switch suits (omega arith) in
-    let after = (decided_in rounds n t places it).places in
-    let three : accept_of after l 0 ≡ 3 = step.accepted l 2 (inr (inl (refl, refl))) ∙ mod-eq_of_lt (omega arith) in
-    let near : distance n (accept_of after l 0) 1 + 3 ≡ 1 + n = ap (λ f. distance n f 1 + 3) three ∙ distance-below n 3 1 (omega arith) (omega arith)
-    (omega arith) in
-    let far : distance n (accept_of after l 0) 2 + 3 ≡ 2 + n = ap (λ f. distance n f 2 + 3) three ∙ distance-below n 3 2 (omega arith) (omega arith)
-    (omega arith) in
-    let last : accept_of after 0 0 ≡ l = step.accepted 0 (l - 1) (inl (refl, refl)) ∙ mod-eq_of_lt (omega arith) ∙ omega arith in
-    IsLateBy-before n (decided_in rounds n) t places it rest step.serves (both_by_crosses (l - 1) l l (omega arith))
-    (left_by_input rounds n t places it (omega arith) base.switch suits (omega arith) (l - 1) (omega arith) (inl (refl, refl)))
-    (late_crosses rounds n l two sum (omega arith) (t + 1) after (record {
-      switch = IsSwitch-after_in rounds n t places it base.switch;
-      grant = step.grant_stays 0
-          (λ i is. elim is [ inl s ↦ let e = s.1 in omega arith | inr more ↦ elim more [ inl s ↦ let e = s.1 in omega arith | inr none ↦ none ] ]) ∙ base.grant;
-      fresh = λ i i_low i_high. step.accept_stays i
-          (λ j is. elim is [ inl s ↦ let e = s.0 in omega arith | inr more ↦ elim more [ inl s ↦ let e = s.0 in omega arith | inr none ↦ none ] ])
-          ∙ base.fresh i i_low (omega arith);
-    }) last (omega arith)))
-    (l - 2) 1 t places (omega arith) (omega arith) begins.base (begins.at ∙ sym (mod-eq_of_lt (omega arith))) (λ none. absurd (omega arith))
+module _ (rounds n l : ℕ) (two : 1 < rounds) (sum : l + 1 ≡ n) (high : 2 < l) where
+  -- input 0 goes on down, while the last input takes output 2 and has one cell more for it
+  late_boths : (k y t : ℕ) (places : Places) → 2 < y → y + k ≡ l → IsBase n places 1 1 l 1 → accept_of places 0 0 ≡ y
+      → distance n (accept_of places l 0) 1 ≤ distance n (accept_of places l 0) 2
+      → IsLateIn rounds n t places (boths l y k (crosses_by l l ∷ body l))
+  late_boths zero y t places some_y all base at near = late_crosses rounds n l two sum high t places base (at ∙ omega arith) near
+  late_boths (suc k) y t places some_y all base at near =
+      let it = both y l in
+      let suits = suits_both n places y l (omega arith) (omega arith) (omega arith) (λ e. omega arith) (omega arith) (omega arith) at in
+      let step = many_step_of rounds n t places it (omega arith) base.switch suits (omega arith) in
+      let after = (decided_in rounds n t places it).places in
+      let three : accept_of after l 0 ≡ 3 = step.accepted l 2 (inr (inl (refl, refl))) ∙ mod-eq_of_lt (omega arith) in
+      let one : distance n (accept_of after l 0) 1 + 3 ≡ 1 + n = ap (λ f. distance n f 1 + 3) three ∙ distance-below n 3 1 (omega arith) (omega arith)
+      (omega arith) in
+      let other : distance n (accept_of after l 0) 2 + 3 ≡ 2 + n = ap (λ f. distance n f 2 + 3) three ∙ distance-below n 3 2 (omega arith) (omega arith)
+      (omega arith) in
+      let next : IsBase n after 1 1 l 1 = record {
+        switch = IsSwitch-after_in rounds n t places it base.switch;
+        grant = step.grant_stays 0
+            (λ i is. elim is [ inl s ↦ let e = s.1 in omega arith | inr more ↦ elim more [ inl s ↦ let e = s.1 in omega arith | inr none ↦ none ] ])
+            ∙ base.grant;
+        fresh = λ i i_low i_high. step.accept_stays i
+            (λ j is. elim is [ inl s ↦ let e = s.0 in omega arith | inr more ↦ elim more [ inl s ↦ let e = s.0 in omega arith | inr none ↦ none ] ])
+            ∙ base.fresh i i_low i_high;
+      } in
+      IsLateBy-before n (decided_in rounds n) t places it (boths l (y + 1) k (crosses_by l l ∷ body l)) (step.serving (settles_both y l)) (follows k all)
+      (left_by_input rounds n t places it (omega arith) base.switch suits (omega arith) y (omega arith) (inl (refl, refl)))
+      (late_boths k (y + 1) (t + 1) after (omega arith) (omega arith) next (step.accepted 0 y (inl (refl, refl)) ∙ mod-eq_of_lt (omega arith))
+      (omega arith)) where
+        follows : (k : ℕ) → y + suc k ≡ l → Starts (Follows (both y l)) (boths l (y + 1) k (crosses_by l l ∷ body l))
+        follows zero all = let e : y + 1 ≡ l = omega arith in
+            subst (λ v. Follows (both y l) (crosses_by v l)) e (both_crosses_by y l (omega arith) (omega arith))
+        follows (suc k) all = both_both y l (omega arith) (omega arith)
 
--- it is late from the beginning
-late_four : (rounds t : ℕ) (places : Places) → 1 < rounds → IsBeginning 4 places → IsLateIn rounds 4 t places four
-late_four rounds t places two begins =
-    let it = wins_by 2 3 in
-    let rest = crosses_by 3 3 ∷ body 3 in
-    late_takes rounds 4 3 two refl (omega arith) 1 1 4 1 1 t places (it ∷ rest) (omega arith) (omega arith) (omega arith) begins.base begins.at
-    (takes_wins_by 1 2 3 (omega arith))
-    (λ before base at granted stays.
-    let zero_at : grant_of before 2 0 ≡ 0 = stays 2 (λ e. omega arith) ∙ begins.others 2 (omega arith) in
-    let suits = suits_wins_by 4 before 2 3 (omega arith) (omega arith) (omega arith) at zero_at in
-    let step = many_step_of rounds 4 (t + 1) before it (omega arith) base.switch suits (omega arith) in
-    let after = (decided_in rounds 4 (t + 1) before it).places in
-    let fresh : (i : ℕ) → 1 ≤ i → i < 4 → accept_of after i 0 ≡ 1 = λ i i_low i_high. step.accept_stays i
-    (λ j is. elim is [ inl s ↦ let e = s.0 in omega arith | inr none ↦ none ]) ∙ base.fresh i i_low i_high in
-    let near : distance 4 (accept_of after 3 0) 1 ≡ 0 = ap (λ f. distance 4 f 1) (fresh 3 (omega arith) (omega arith)) ∙ distance-own 4 1 (omega arith) in
-    let last : accept_of after 0 0 ≡ 3 = step.accepted 0 2 (inl (refl, refl)) in
-    IsLateBy-before 4 (decided_in rounds 4) (t + 1) before it rest step.serves (wins_by_crosses 3 3 (omega arith))
-    (left_by_input rounds 4 (t + 1) before it (omega arith) base.switch suits (omega arith) 2 (omega arith) (inl (refl, refl)))
-    (late_crosses rounds 4 3 two refl (omega arith) (t + 1 + 1) after (record {
-      switch = IsSwitch-after_in rounds 4 (t + 1) before it base.switch;
-      grant = step.grant_stays 0 (λ i is. elim is [ inl s ↦ let e = s.1 in omega arith | inr none ↦ none ]) ∙ base.grant;
-      fresh = λ i i_low i_high. fresh i i_low (omega arith);
-    }) last (omega arith)))
+  -- it is late from the beginning
+  late_four_on : (t : ℕ) (places : Places) → IsBeginning n places → IsLateIn rounds n t places (four_on l)
+  late_four_on t places begins =
+      let it = wins 2 l in
+      let last = crosses_by l l ∷ body l in
+      let rest = boths l 3 (l - 3) last in
+      late_takes rounds n l two sum high 1 1 n 1 1 t places (it ∷ rest) (omega arith) (omega arith) (omega arith) begins.base begins.at
+      (takes_wins 1 2 l (omega arith) (omega arith))
+      (λ before base at granted stays.
+      let zero_at : grant_of before 2 0 ≡ 0 = stays 2 (λ e. omega arith) ∙ begins.others 2 (omega arith) in
+      let suits = suits_wins n before 2 l (omega arith) (omega arith) (omega arith) (at ∙ mod-eq_of_lt (omega arith)) zero_at in
+      let step = many_step_of rounds n (t + 1) before it (omega arith) base.switch suits (omega arith) in
+      let after = (decided_in rounds n (t + 1) before it).places in
+      let fresh : (i : ℕ) → 1 ≤ i → i < n → accept_of after i 0 ≡ 1 = λ i i_low i_high. step.accept_stays i
+      (λ j is. elim is [ inl s ↦ let e = s.0 in omega arith | inr none ↦ none ]) ∙ base.fresh i i_low i_high in
+      let near : distance n (accept_of after l 0) 1 ≡ 0 = ap (λ f. distance n f 1) (fresh l (omega arith) (omega arith)) ∙ distance-own n 1 (omega arith) in
+      IsLateBy-before n (decided_in rounds n) (t + 1) before it rest (step.serving (settles_wins 2 l))
+      (starts_boths (Follows it) l (l - 3) 3 last (wins_both 3 l (omega arith)) (wins_crosses_by l l (omega arith)))
+      (left_by_input rounds n (t + 1) before it (omega arith) base.switch suits (omega arith) 2 (omega arith) (inl (refl, refl)))
+      (late_boths (l - 3) 3 (t + 1 + 1) after (omega arith) (omega arith) (record {
+        switch = IsSwitch-after_in rounds n (t + 1) before it base.switch;
+        grant = step.grant_stays 0 (λ i is. elim is [ inl s ↦ let e = s.1 in omega arith | inr none ↦ none ]) ∙ base.grant;
+        fresh = λ i i_low i_high. fresh i i_low (omega arith);
+      }) (step.accepted 0 2 (inl (refl, refl)) ∙ mod-eq_of_lt (omega arith)) (omega arith)))
 
 -- ---- the opening
--- the k inputs from x on take output 0, then input 0 does, and then come the rest
-abbrev openings : ℕ → ℕ → List Plan → List Plan
-openings x zero rest = ends 0 ∷ rest
-openings x (suc k) rest = ends x ∷ openings (x + 1) k rest
-
--- each input asks for one output at most
-starts_openings : (x k : ℕ) (rest : List Plan) → Starts IsOneEach (openings x k rest)
-starts_openings x zero rest = ((λ e. refl, (λ e. refl, tt)), ((λ e. refl, (λ e. refl, tt)), tt))
-starts_openings x (suc k) rest = ((λ e. refl, (λ e. refl, tt)), ((λ e. refl, (λ e. refl, tt)), tt))
-
--- the opening is at line rate
-follows_openings : (x k : ℕ) (rest : List Plan) → Starts (Follows (ends x)) (openings (x + 1) k rest)
-follows_openings x zero rest = ends_zero x
-follows_openings x (suc k) rest = ends_ends x
-
 -- Output 0 points at port x, the other outputs at port 0, and the inputs below x at port 1. A port n is port 0.
 record IsOpened (n : ℕ) (places : Places) (x : ℕ) : Type 0 where
   switch : IsSwitch n places
@@ -230,20 +221,20 @@ IsServedLast-run rounds n t places ps switch late =
       last = late.last;
     }
 
-module _ (rounds n : ℕ) (two : 1 < rounds) (ports : 1 < n) (rest : List Plan) (starts : Starts (Follows (ends 0)) rest) where
+module _ (rounds n : ℕ) (two : 1 < rounds) (ports : 1 < n) (rest : List Plan) (starts : Starts (Follows again) rest) where
   -- the opening leads to where the window begins
   opens : (k x t : ℕ) (places : Places) → x + k ≡ n → IsOpened n places x
       → (after : Places) × IsBeginning n after × LeadsBy n (decided_in rounds n) t places (openings x k rest) (suc k) after rest
   opens zero x t places sum opened =
       let same : x ≡ n = omega arith in
       let round : x % n ≡ 0 = ap (λ v. v % n) same ∙ mod_once n n (omega arith) (omega arith) ∙ omega arith in
-      let step = many_step_of rounds n t places (ends 0) (omega arith) opened.switch (suits_ends n places 0 (omega arith) (opened.grant ∙ round))
+      let step = many_step_of rounds n t places again (omega arith) opened.switch (suits_again n places (omega arith) (opened.grant ∙ round))
       (omega arith) in
-      let after = (decided_in rounds n t places (ends 0)).places in (
+      let after = (decided_in rounds n t places again).places in (
         after,
         record {
           base = record {
-            switch = IsSwitch-after_in rounds n t places (ends 0) opened.switch;
+            switch = IsSwitch-after_in rounds n t places again opened.switch;
             grant = step.granted 0 0 (inl (refl, refl));
             fresh = λ i late i_in. step.accept_stays i (λ j is. elim is [ inl s ↦ let e = s.0 in omega arith | inr none ↦ none ])
                 ∙ opened.accepts i (omega arith);
@@ -251,7 +242,8 @@ module _ (rounds n : ℕ) (two : 1 < rounds) (ports : 1 < n) (rest : List Plan) 
           at = step.accepted 0 0 (inl (refl, refl)) ∙ mod-eq_of_lt ports;
           others = λ m yes. step.grant_stays m (λ i is. elim is [ inl s ↦ let e = s.1 in omega arith | inr none ↦ none ]) ∙ opened.others m yes;
         },
-        leads_before n (decided_in rounds n) t places (ends 0) rest 0 after rest step.serves starts (leads_none n (decided_in rounds n) (t + 1) after rest),
+        leads_before n (decided_in rounds n) t places again rest 0 after rest (step.serving settles_again) starts
+            (leads_none n (decided_in rounds n) (t + 1) after rest),
       )
   opens (suc k) x t places sum opened =
       let x_in : x < n = omega arith in
@@ -270,8 +262,8 @@ module _ (rounds n : ℕ) (two : 1 < rounds) (ports : 1 < n) (rest : List Plan) 
       let later = opens k (x + 1) (t + 1) after (omega arith) next in (
         later.0,
         later.1,
-        leads_before n (decided_in rounds n) t places (ends x) (openings (x + 1) k rest) (suc k) later.0 rest step.serves
-            (follows_openings x k rest) later.2,
+        leads_before n (decided_in rounds n) t places (ends x) (openings (x + 1) k rest) (suc k) later.0 rest (step.serving (settles_ends x))
+            (follows_openings x k rest (omega arith)) later.2,
       )
 
   -- all pointers are at port 0 at first
@@ -286,7 +278,7 @@ module _ (rounds n : ℕ) (two : 1 < rounds) (ports : 1 < n) (rest : List Plan) 
 
   -- what is late from where the openings lead comes in a schedule at line rate, from all pointers at port 0 on
   late_comes : n ≤ MAX_PORTS → ((t : ℕ) (places : Places) → IsBeginning n places → IsLateIn rounds n t places rest)
-      → (slots : List DecidedSlot) × ComesLastAtLineRate n rounds (suc n) slots × (length (drop (suc n) slots) ≡ length rest)
+      → (slots : List DecidedSlot) × AreFedAtLineRate n slots × ComesLastAtLineRate n rounds (suc n) slots × (length (drop (suc n) slots) ≡ length rest)
   late_comes size lates =
       let from = places_at_first n in
       let rule = decided_in rounds n in
@@ -303,6 +295,7 @@ module _ (rounds n : ℕ) (two : 1 < rounds) (ports : 1 < n) (rest : List Plan) 
       let served : IsServedLast n rounds (suc n) 0 0 0 after (run n rule (suc n) after rest) =
       IsServedLast-run rounds n (suc n) after rest begins.base.switch late in (
         slots,
+        fed_at_line_rate n ps slots (all.fed nothing (starts_first n rest ports)),
         record {
           comes = record {
             schedule = IsSchedule-run rounds n 0 from ps opened.switch;
@@ -319,47 +312,42 @@ module _ (rounds n : ℕ) (two : 1 < rounds) (ports : 1 < n) (rest : List Plan) 
 
 -- the window is reached at line rate
 abbrev Reached : ℕ → ℕ → Type 0
-Reached rounds n = (slots : List DecidedSlot) × ComesLastAtLineRate n rounds (n + 1) slots × (length (drop (n + 1) slots) + 1 ≡ longest_service n)
+Reached rounds n = (slots : List DecidedSlot) × AreFedAtLineRate n slots × ComesLastAtLineRate n rounds (n + 1) slots
+    × (length (drop (n + 1) slots) + 1 ≡ longest_service n)
 
 -- so many slots from slot `count` on, which is slot n + 1
 counted : (rounds n count : ℕ) (rest : List Plan) → length rest + 1 ≡ longest_service n → count ≡ n + 1
-    → (slots : List DecidedSlot) × ComesLastAtLineRate n rounds count slots × (length (drop count slots) ≡ length rest) → Reached rounds n
+    → (slots : List DecidedSlot) × AreFedAtLineRate n slots × ComesLastAtLineRate n rounds count slots × (length (drop count slots) ≡ length rest)
+    → Reached rounds n
 counted rounds n count rest long e all =
-    subst (λ m. (slots : List DecidedSlot) × ComesLastAtLineRate n rounds m slots × (length (drop m slots) + 1 ≡ longest_service n)) e
-    (all.0, all.1, ap (λ v. v + 1) all.2 ∙ long)
+    subst
+    (λ m. (slots : List DecidedSlot) × AreFedAtLineRate n slots × ComesLastAtLineRate n rounds m slots × (length (drop m slots) + 1 ≡ longest_service n)) e
+    (all.0, all.1, all.2, ap (λ v. v + 1) all.3 ∙ long)
 
--- so many slots are those of five ports or more
-length-five : (l : ℕ) → 3 < l → length (five l) ≡ l + length (body l)
-length-five l high = let all = length-downs 0 (l - 2) 1 (both_by (l - 1) l ∷ crosses_by l l ∷ body l) in omega arith
+-- so many slots are those of four ports or more
+length-four_on : (l : ℕ) → 2 < l → length (four_on l) ≡ l + length (body l)
+length-four_on l high = let all = length-boths l (l - 3) 3 (crosses_by l l ∷ body l) in omega arith
 
--- five ports or more
-five_comes : (rounds n : ℕ) → 1 < rounds → 4 < n → n ≤ MAX_PORTS → Reached rounds n
-five_comes rounds n two high size =
+-- four ports or more
+four_on_comes : (rounds n : ℕ) → 1 < rounds → 3 < n → n ≤ MAX_PORTS → Reached rounds n
+four_on_comes rounds n two high size =
     let l = n - 1 in
     let sum : l + 1 ≡ n = omega arith in
-    let starts = starts_more (Follows (ends 0)) 0 (l - 2) 1 (both_by (l - 1) l ∷ crosses_by l l ∷ body l) (omega arith) ends_takes in
-    let long : length (five l) + 1 ≡ longest_service n = ap (λ v. v + 1) (length-five l (omega arith)) ∙ length-all l (omega arith) ∙ ap longest_service sum in
-    counted rounds n (suc n) (five l) long (omega arith)
-    (late_comes rounds n two (omega arith) (five l) starts size (λ t places begins. late_five rounds n l t places two sum (omega arith) begins))
-
--- four ports
-four_comes : (rounds : ℕ) → 1 < rounds → Reached rounds 4
-four_comes rounds two = counted rounds 4 5 four (length-all 3 (omega arith)) refl
-    (late_comes rounds 4 two (omega arith) four ends_takes (omega arith) (λ t places begins. late_four rounds t places two begins))
+    let long : length (four_on l) + 1 ≡ longest_service n =
+    ap (λ v. v + 1) (length-four_on l (omega arith)) ∙ length-all l (omega arith) ∙ ap longest_service sum in
+    counted rounds n (suc n) (four_on l) long (omega arith)
+    (late_comes rounds n two (omega arith) (four_on l) again_takes size (λ t places begins. late_four_on rounds n l two sum (omega arith) t places begins))
 
 -- three ports
 three_comes : (rounds : ℕ) → 1 < rounds → Reached rounds 3
 three_comes rounds two =
     counted rounds 3 4 three refl refl
-    (late_comes rounds 3 two (omega arith) three ends_wins_by (omega arith)
+    (late_comes rounds 3 two (omega arith) three (again_wins 1 2 (omega arith)) (omega arith)
     (λ t places begins. late_three rounds t places two begins.base begins.at (begins.others 1 (omega arith))))
 
 -- for three ports or more
 pub more_come_at_line_rate : (n rounds : ℕ) → 2 < n → n ≤ MAX_PORTS → 1 < rounds → Reached rounds n
-more_come_at_line_rate n rounds high size two = elim (cases_lt 4 n) [
-  | inl more ↦ five_comes rounds n two more size
-  | inr few ↦ elim (cases_lt 3 n) [
-    | inl more ↦ let e : 4 ≡ n = omega arith in subst (Reached rounds) e (four_comes rounds two)
-    | inr fewer ↦ let e : 3 ≡ n = omega arith in subst (Reached rounds) e (three_comes rounds two)
-  ]
+more_come_at_line_rate n rounds high size two = elim (cases_lt 3 n) [
+  | inl more ↦ four_on_comes rounds n two more size
+  | inr few ↦ let e : 3 ≡ n = omega arith in subst (Reached rounds) e (three_comes rounds two)
 ]

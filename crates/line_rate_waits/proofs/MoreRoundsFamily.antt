@@ -2,7 +2,8 @@
 -- can be.
 --
 -- Input l = n - 1 is the last. Output 0 and all inputs point at port 1, and input 0 asks output 0 in every slot. First input
--- 0 goes down from output 1; at the end of it input l takes output 1 while its request for output 2 waits. Then come the
+-- 0 goes down from output 1; input l asks output 2 in the slot in which input 0 takes that, and from then on has a cell for
+-- it; at the end it takes output 1 while its request for output 2 waits. Then come the
 -- levels p = 1, 2, .., l. In level p the inputs l, .., p go down one after the other, while input 0 takes the last output.
 -- Where the next input begins, output 0 serves the one before it in the second round, so that no pointer moves. In its last
 -- slot, input 0 takes an output that the next input asks too, so that the request of that one waits. Then input p takes
@@ -19,12 +20,14 @@ use Rattle.slot_match.proofs.Pairs.{Serves-once}
 use Rattle.pointer_state.specs.Places.{Places, grant_of, accept_of}
 use Rattle.service_bound.proofs.Distances.{distance-above, distance-below}
 use Rattle.service_bound.proofs.PostedRuns.{IsSwitch}
-use Rattle.line_rate_waits.proofs.Plans.{Plan}
-use Rattle.line_rate_waits.proofs.PlannedRuns.{Follows, Starts, AreServed, IsLateBy, IsLateBy-before}
-use Rattle.line_rate_waits.proofs.ManySlots.{decided_in, IsSwitch-after_in, many_step_of, left_by_input, served_second}
+use Rattle.line_rate_waits.proofs.Plans.{In, Plan}
+use Rattle.line_rate_waits.proofs.NextPlans.{Follows, Starts}
+use Rattle.line_rate_waits.proofs.PlannedRuns.{IsLateBy, IsLateBy-before}
+use Rattle.line_rate_waits.proofs.ManySlots.{decided_in, IsSwitch-after_in, many_step_of, serving_by, left_by_input, served_second}
 use Rattle.line_rate_waits.proofs.Shapes.{takes, ends, passes, suits_passes, at_first}
 use Rattle.line_rate_waits.proofs.MoreShapes.{shares, closes, joins, joins_first, resets, readies, readies_too, suits_shares, suits_closes, suits_joins}
 use Rattle.line_rate_waits.proofs.MoreShapes.{second_joins, suits_resets}
+use Rattle.line_rate_waits.proofs.Settled.{settles_passes, settles_shares, settles_closes, settles_joins, settles_resets}
 use Rattle.line_rate_waits.proofs.MoreFollowings.{shares_shares, shares_closes, joins_shares, joins_closes, closes_joins, closes_passes}
 use Rattle.line_rate_waits.proofs.OneRoundFamily.{downs}
 
@@ -86,9 +89,11 @@ pub before_other : (p k x : ℕ) → 0 < p → x ≡ p + k → before p k ≡ x 
 before_other p k x some e same = elim (before_is p k) [ inl none ↦ omega arith | inr next ↦ omega arith ]
 
 -- at the end of an input's slots comes the next one, or the slot of input p
-starts_climbs : (l p f k x : ℕ) (rest : List Plan) → x ≡ p + k → Starts (Follows (closes l x f (before p k))) (climbs l p f k (passes p ∷ rest))
-starts_climbs l p f zero x rest e = let same : x ≡ p = omega arith in subst (λ v. Follows (closes l x f 0) (passes v)) same (closes_passes l x f)
-starts_climbs l p f (suc k) x rest e = closes_joins l x f (p + k) (omega arith)
+starts_climbs : (l p f k x : ℕ) (rest : List Plan) → 0 < l → 0 < f → 0 < p → x ≡ p + k
+    → Starts (Follows (closes l x f (before p k))) (climbs l p f k (passes p ∷ rest))
+starts_climbs l p f zero x rest more some_f some e = let same : x ≡ p = omega arith in
+    subst (λ v. Follows (closes l x f 0) (passes v)) same (closes_passes l x f more some_f)
+starts_climbs l p f (suc k) x rest more some_f some e = closes_joins l x f (p + k) more some_f (omega arith) (omega arith)
 
 -- a level begins with the last input
 pub starts_levels : (P : Plan → Type 0) (l p k : ℕ) → P (shares l l 2) → Starts P (levels l p k)
@@ -174,7 +179,7 @@ module _ (rounds n l : ℕ) (two : 1 < rounds) (sum : l + 1 ≡ n) (high : 1 < l
           | inr more ↦ elim more [ inl s ↦ let e = s.0 in omega arith | inr none ↦ none ]
         ]) ∙ base.fresh i i_low i_high;
       } in
-      IsLateBy-before n (decided_in rounds n) t places it rest step.serves starts
+      IsLateBy-before n (decided_in rounds n) t places it rest (step.serving (settles_shares l x y)) starts
       (left_by_input rounds n t places it some base.switch suits some_rounds l (omega arith) (inr (inl (refl, refl))))
       (then after next (step.accepted x y (inl (refl, refl)) ∙ mod-eq_of_lt (omega arith)) (step.granted x y (inl (refl, refl)))
       (λ j not_y not_l. step.grant_stays j (λ i is. elim is [ inl s ↦ not_y s.1 | inr more ↦ elim more [ inl s ↦ not_l s.1 | inr none ↦ none ] ])))
@@ -182,7 +187,8 @@ module _ (rounds n l : ℕ) (two : 1 < rounds) (sum : l + 1 ≡ n) (high : 1 < l
   -- input x takes the last output, and input 0 output f
   pub late_closes : (p b x f u t : ℕ) (places : Places) (rest : List Plan) → 0 < p → p ≤ x → x < n → 0 < f → f < l → (u ≡ 0) ⊎ (u + 1 ≡ x)
       → IsBase n places p p x b → accept_of places x 0 ≡ l → grant_of places f 0 ≡ (x + 1) % n → Starts (Follows (closes l x f u)) rest
-      → ((after : Places) → IsBase n after p p x b → IsLateIn rounds n (t + 1) after rest) → IsLateIn rounds n t places (closes l x f u ∷ rest)
+      → ((after : Places) → IsBase n after p p x b → grant_of after l 0 ≡ (x + 1) % n → IsLateIn rounds n (t + 1) after rest)
+      → IsLateIn rounds n t places (closes l x f u ∷ rest)
   late_closes p b x f u t places rest some_p x_above x_in some_f f_in how base at held starts then =
       let it = closes l x f u in
       let suits = suits_closes n places l x f u (omega arith) x_in some_f f_in (omega arith)
@@ -198,8 +204,9 @@ module _ (rounds n l : ℕ) (two : 1 < rounds) (sum : l + 1 ≡ n) (high : 1 < l
             (λ j is. elim is [ inl s ↦ let e = s.0 in omega arith | inr more ↦ elim more [ inl s ↦ let e = s.0 in omega arith | inr none ↦ none ] ])
             ∙ base.fresh i i_low i_high;
       } in
-      IsLateBy-before n (decided_in rounds n) t places it rest step.serves starts
-      (left_by_input rounds n t places it some base.switch suits some_rounds f some_f (inr (inl (refl, refl)))) (then after next)
+      IsLateBy-before n (decided_in rounds n) t places it rest (step.serving (settles_closes l x f u)) starts
+      (left_by_input rounds n t places it some base.switch suits some_rounds f some_f (inr (inl (refl, refl))))
+      (then after next (step.granted x l (inl (refl, refl))))
 
   -- input x goes down
   late_goes : (p x f u : ℕ) (rest : List Plan) → 0 < p → p ≤ x → x < n → 0 < f → f < l → (u ≡ 0) ⊎ (u + 1 ≡ x) → (u ≡ x → ⊥)
@@ -208,11 +215,12 @@ module _ (rounds n l : ℕ) (two : 1 < rounds) (sum : l + 1 ≡ n) (high : 1 < l
       → (k y t : ℕ) (places : Places) → f < y → y + k ≡ l → IsBase n places p p x f → accept_of places x 0 ≡ y → grant_of places f 0 ≡ (x + 1) % n
       → IsLateIn rounds n t places (sharings l x y k (closes l x f u ∷ rest))
   late_goes p x f u rest some_p x_above x_in some_f f_in how other starts then zero y t places above all base at held =
-      late_closes p f x f u t places rest some_p x_above x_in some_f f_in how base (at ∙ omega arith) held starts (λ after next. then (t + 1) after next)
+      late_closes p f x f u t places rest some_p x_above x_in some_f f_in how base (at ∙ omega arith) held starts (λ after next last. then (t + 1) after next)
   late_goes p x f u rest some_p x_above x_in some_f f_in how other starts then (suc k) y t places above all base at held =
       late_shares p p x f x y t places (sharings l x (y + 1) k (closes l x f u ∷ rest)) some_p x_above x_in some_p (inr (omega arith)) (omega arith)
       (omega arith) base at
-      (starts_sharings (Follows (shares l x y)) l x (y + 1) k (closes l x f u ∷ rest) (shares_shares l x y) (shares_closes l x y f u (omega arith) other))
+      (starts_sharings (Follows (shares l x y)) l x (y + 1) k (closes l x f u ∷ rest) (shares_shares l x y (omega arith) (omega arith) (omega arith))
+      (shares_closes l x y f u (omega arith) (omega arith) (omega arith) other))
       (λ after next at granted stays. late_goes p x f u rest some_p x_above x_in some_f f_in how other starts then k (y + 1) (t + 1) after (omega arith)
       (omega arith) next at
       (stays f (λ e. omega arith) (λ e. omega arith) ∙ held))
@@ -220,7 +228,8 @@ module _ (rounds n l : ℕ) (two : 1 < rounds) (sum : l + 1 ≡ n) (high : 1 < l
   -- input x begins to ask, and the input after it is served in the second round
   pub late_joins : (p f x t : ℕ) (places : Places) (rest : List Plan) → 0 < p → p ≤ x → x + 1 < n → 0 < f → f < l → IsBase n places p p (x + 1) f
       → Starts (Follows (joins x f)) rest
-      → ((after : Places) → IsBase n after p p x f → accept_of after x 0 ≡ f + 1 → grant_of after f 0 ≡ (x + 1) % n → IsLateIn rounds n (t + 1) after rest)
+      → ((after : Places) → IsBase n after p p x f → accept_of after x 0 ≡ f + 1 → grant_of after f 0 ≡ (x + 1) % n
+      → ((j : ℕ) → (j ≡ f → ⊥) → grant_of after j 0 ≡ grant_of places j 0) → IsLateIn rounds n (t + 1) after rest)
       → IsLateIn rounds n t places (joins x f ∷ rest)
   late_joins p f x t places rest some_p x_above next_in some_f f_in base starts then =
       let it = joins_first x f in
@@ -232,7 +241,7 @@ module _ (rounds n l : ℕ) (two : 1 < rounds) (sum : l + 1 ≡ n) (high : 1 < l
       let second = served_second rounds n t places it some base.switch suits some_rounds (x + 1) (second_joins n places x f next_in some_f (omega arith)) two in
       let after = (decided_in rounds n t places it).places in
       let matched = (decided_in rounds n t places it).matched in
-      let serves : AreServed (joins x f) matched = λ i j is. elim is [
+      let serves : (i j : ℕ) → In i j (joins x f).serves → Serves matched i j 0 Uni = λ i j is. elim is [
         | inl s ↦ step.serves i j (inl s)
         | inr more ↦ elim more [
           | inl s ↦ subst (λ v. Serves matched v j 0 Uni) (sym s.0)
@@ -246,9 +255,11 @@ module _ (rounds n l : ℕ) (two : 1 < rounds) (sum : l + 1 ≡ n) (high : 1 < l
         fresh = λ i i_low i_high. step.accept_stays i (λ j is. elim is [ inl s ↦ let e = s.0 in omega arith | inr none ↦ none ])
             ∙ base.fresh i i_low (omega arith);
       } in
-      IsLateBy-before n (decided_in rounds n) t places (joins x f) rest serves starts
+      IsLateBy-before n (decided_in rounds n) t places (joins x f) rest
+      (serving_by rounds n t places it some base.switch suits some_rounds (joins x f) refl serves (settles_joins x f)) starts
       (λ zero_served. let e = (Serves-once matched 0 (x + 1) 0 0 0 Uni Uni second zero_served).0 in omega arith)
-      (then after next (step.accepted x f (inl (refl, refl)) ∙ mod-eq_of_lt (omega arith)) (step.granted x f (inl (refl, refl))))
+      (then after next (step.accepted x f (inl (refl, refl)) ∙ mod-eq_of_lt (omega arith)) (step.granted x f (inl (refl, refl)))
+      (λ j other. step.grant_stays j (λ i is. elim is [ inl s ↦ other s.1 | inr none ↦ none ])))
 
   -- the k inputs from p on go down
   late_climbs : (p f : ℕ) (rest : List Plan) → 0 < p → 0 < f → f < l
@@ -263,9 +274,10 @@ module _ (rounds n l : ℕ) (two : 1 < rounds) (sum : l + 1 ≡ n) (high : 1 < l
       let later = climbs l p f k (passes p ∷ rest) in
       let other = before_other p k x some_p refl in
       late_joins p f x t places (goes l x f u later) some_p (omega arith) (omega arith) some_f f_in (subst (λ v. IsBase n places p p v f) e base)
-      (starts_sharings (Follows (joins x f)) l x (f + 1) (l - (f + 1)) (closes l x f u ∷ later) (joins_shares l x f (omega arith))
-      (joins_closes l x f u (omega arith) other))
-      (λ after next at held. late_goes p x f u later some_p (omega arith) (omega arith) some_f f_in (before_is p k) other (starts_climbs l p f k x rest refl)
+      (starts_sharings (Follows (joins x f)) l x (f + 1) (l - (f + 1)) (closes l x f u ∷ later) (joins_shares l x f (omega arith) some_f)
+      (joins_closes l x f u (omega arith) some_f other))
+      (λ after next at held stays. late_goes p x f u later some_p (omega arith) (omega arith) some_f f_in (before_is p k) other
+      (starts_climbs l p f k x rest (omega arith) some_f some_p refl)
       (λ t places next. late_climbs p f rest some_p some_f f_in then k t places (omega arith) next)
       (l - (f + 1)) (f + 1) (t + 1) after (omega arith) (omega arith) next at held)
 
@@ -279,7 +291,7 @@ module _ (rounds n l : ℕ) (two : 1 < rounds) (sum : l + 1 ≡ n) (high : 1 < l
       let suits = suits_passes n places p some_p p_in (grant ∙ mod-eq_of_lt p_in) in
       let step = many_step_of rounds n t places it some switch suits some_rounds in
       let after = (decided_in rounds n t places it).places in
-      IsLateBy-before n (decided_in rounds n) t places it rest step.serves starts
+      IsLateBy-before n (decided_in rounds n) t places it rest (step.serving (settles_passes p)) starts
       (left_by_input rounds n t places it some switch suits some_rounds 1 (omega arith) (inr (inl (refl, refl))))
       (then after (record {
         switch = IsSwitch-after_in rounds n t places it switch;
@@ -296,7 +308,7 @@ module _ (rounds n l : ℕ) (two : 1 < rounds) (sum : l + 1 ≡ n) (high : 1 < l
   late_level p f k rest some_p all some_f f_in starts then t places base at held =
       let how : (before p k ≡ 0) ⊎ (before p k + 1 ≡ l) = elim (before_is p k) [ inl none ↦ inl none | inr next ↦ inr (omega arith) ] in
       late_goes p l f (before p k) (climbs l p f k (passes p ∷ rest)) some_p (omega arith) (omega arith) some_f f_in how
-      (before_other p k l some_p (sym all)) (starts_climbs l p f k l rest (sym all))
+      (before_other p k l some_p (sym all)) (starts_climbs l p f k l rest (omega arith) some_f some_p (sym all))
       (λ t places next. late_climbs p f rest some_p some_f f_in
       (λ t places next. late_passes p t places rest some_p (omega arith) next.switch next.grant starts (λ after last zero_at. then (t + 1) after last zero_at))
       k t places (omega arith) (subst (λ v. IsBase n places p p v f) (sym all) next))
@@ -332,6 +344,6 @@ module _ (rounds n l : ℕ) (two : 1 < rounds) (sum : l + 1 ≡ n) (high : 1 < l
         | inr now ↦ let same : y ≡ 2 = omega arith in
             subst (λ v. grant_of after v 0 ≡ 1) same (step.granted 0 y (inl (refl, refl)) ∙ mod-eq_of_lt (omega arith))
       ] in
-      IsLateBy-before n (decided_in rounds n) t places it rest step.serves starts
+      IsLateBy-before n (decided_in rounds n) t places it rest (step.serving (settles_resets y w)) starts
       (left_by_input rounds n t places it some base.switch suits some_rounds y (omega arith) (inl (refl, refl)))
       (then after next (step.accepted 0 y (inl (refl, refl)) ∙ mod-eq_of_lt (omega arith)) held_on)

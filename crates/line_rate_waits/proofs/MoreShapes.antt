@@ -9,43 +9,35 @@ use Rattle.line_rate_waits.proofs.Shapes.{at_first}
 
 -- input x takes output y, and input 0 the last output
 abbrev pub shares : ℕ → ℕ → ℕ → Plan
-shares l x y = record { asks = pair x 0 ∷ pair x y ∷ pair 0 l ∷ []; serves = pair x y ∷ pair 0 l ∷ [] }
+shares l x y = record { asks = pair x 0 ∷ pair x y ∷ pair 0 l ∷ []; serves = pair x y ∷ pair 0 l ∷ []; twice = [] }
 
 -- input x takes the last output, and input 0 output f, which input u asks too
 abbrev pub closes : ℕ → ℕ → ℕ → ℕ → Plan
-closes l x f u = record { asks = pair x 0 ∷ pair x l ∷ pair 0 f ∷ pair u f ∷ []; serves = pair x l ∷ pair 0 f ∷ [] }
+closes l x f u = record { asks = pair x 0 ∷ pair x l ∷ pair 0 f ∷ pair u f ∷ []; serves = pair x l ∷ pair 0 f ∷ []; twice = [] }
 
 -- the requests of a slot in which input x takes output f, and output 0 the next input in the second round
 abbrev pub joins_first : ℕ → ℕ → Plan
-joins_first x f = record { asks = pair x 0 ∷ pair x f ∷ pair (x + 1) 0 ∷ []; serves = pair x f ∷ [] }
+joins_first x f = record { asks = pair x 0 ∷ pair x f ∷ pair (x + 1) 0 ∷ []; serves = pair x f ∷ []; twice = [] }
 
 -- the same with what the second round serves
 abbrev pub joins : ℕ → ℕ → Plan
-joins x f = record { asks = pair x 0 ∷ pair x f ∷ pair (x + 1) 0 ∷ []; serves = pair x f ∷ pair (x + 1) 0 ∷ [] }
+joins x f = record { asks = pair x 0 ∷ pair x f ∷ pair (x + 1) 0 ∷ []; serves = pair x f ∷ pair (x + 1) 0 ∷ []; twice = [] }
 
 -- input 0 takes output y, and input w output 1
 abbrev pub resets : ℕ → ℕ → Plan
-resets y w = record { asks = pair 0 y ∷ pair w 1 ∷ []; serves = pair 0 y ∷ pair w 1 ∷ [] }
+resets y w = record { asks = pair 0 y ∷ pair w 1 ∷ []; serves = pair 0 y ∷ pair w 1 ∷ []; twice = [] }
 
 -- input 0 takes the last output, and input 1 output 2, which the last input asks too
 abbrev pub readies : ℕ → Plan
-readies l = record { asks = pair 0 l ∷ pair 1 2 ∷ pair l 2 ∷ []; serves = pair 0 l ∷ pair 1 2 ∷ [] }
+readies l = record { asks = pair 0 l ∷ pair 1 2 ∷ pair l 2 ∷ []; serves = pair 0 l ∷ pair 1 2 ∷ []; twice = [] }
 
 -- the same while input w takes output 1
 abbrev pub readies_too : ℕ → ℕ → Plan
-readies_too l w = record { asks = pair 0 l ∷ pair 1 2 ∷ pair l 2 ∷ pair w 1 ∷ []; serves = pair 0 l ∷ pair 1 2 ∷ pair w 1 ∷ [] }
-
--- input 0 takes output y, and input w output 2
-abbrev pub both_by : ℕ → ℕ → Plan
-both_by y w = record { asks = pair 0 y ∷ pair w 2 ∷ []; serves = pair 0 y ∷ pair w 2 ∷ [] }
-
--- input 0 takes output y, which input w asks too
-abbrev pub wins_by : ℕ → ℕ → Plan
-wins_by y w = record { asks = pair 0 y ∷ pair w y ∷ []; serves = pair 0 y ∷ [] }
+readies_too l w = record { asks = pair 0 l ∷ pair 1 2 ∷ pair l 2 ∷ pair w 1 ∷ []; serves = pair 0 l ∷ pair 1 2 ∷ pair w 1 ∷ []; twice = [] }
 
 -- input 0 takes output y, and input w output 1 and not output 2
 abbrev pub crosses_by : ℕ → ℕ → Plan
-crosses_by y w = record { asks = pair 0 y ∷ pair w 1 ∷ pair w 2 ∷ []; serves = pair 0 y ∷ pair w 1 ∷ [] }
+crosses_by y w = record { asks = pair 0 y ∷ pair w 1 ∷ pair w 2 ∷ []; serves = pair 0 y ∷ pair w 1 ∷ []; twice = [] }
 
 -- input x is nearer to the pointer of output 0 than input z
 abbrev pub IsBefore : ℕ → Places → ℕ → ℕ → Type 0
@@ -200,32 +192,6 @@ suits_readies_too n places l w more l_in some_w w_in at granting = record {
     inl (l, inl (refl, refl)),
     (inl (l, inl (refl, refl)), (inl (2, inr (inl (refl, refl))), (inr (inl (1, inr (inl (refl, refl)))), (inl (1, inr (inr (inl (refl, refl)))), tt)))),
   );
-}
-
--- input 0 points at output y
-pub suits_both_by : (n : ℕ) (places : Places) (y w : ℕ) → 0 < y → y < n → 2 < n → (y ≡ 2 → ⊥) → 0 < w → w < n → accept_of places 0 0 ≡ y
-    → Suits n places (both_by y w)
-suits_both_by n places y w some y_in more other some_w w_in at = record {
-  placed = ((omega arith, y_in, inr (inl (refl, refl))), ((w_in, more, inr (inr (inl (refl, refl)))), tt));
-  near = (
-    (λ e. absurd (omega arith), (λ e. omega arith, (λ e. absurd (omega arith), tt))),
-    ((λ e. absurd (omega arith), (λ e. absurd (omega arith), (λ e. omega arith, tt))), tt),
-  );
-  taken = (
-    (λ e. inl (at_first n (accept_of places 0 0) y 0 y_in at), (λ e. inl (omega arith), (λ e. absurd (omega arith), tt))),
-    ((λ e. absurd (omega arith), (λ e. absurd (omega arith), (λ e. inl (omega arith), tt))), tt),
-  );
-  done = (inl (y, inl (refl, refl)), (inl (y, inl (refl, refl)), (inl (2, inr (inl (refl, refl))), tt)));
-}
-
--- input 0 points at output y, which points at input 0
-pub suits_wins_by : (n : ℕ) (places : Places) (y w : ℕ) → 0 < y → y < n → 0 < w → accept_of places 0 0 ≡ y → grant_of places y 0 ≡ 0
-    → Suits n places (wins_by y w)
-suits_wins_by n places y w some y_in some_w at granting = record {
-  placed = ((omega arith, y_in, inr (inl (refl, refl))), tt);
-  near = ((λ e. absurd (omega arith), (λ e. omega arith, (λ e. at_first n (grant_of places y 0) 0 w (omega arith) granting, tt))), tt);
-  taken = ((λ e. inl (at_first n (accept_of places 0 0) y 0 y_in at), (λ e. inl (omega arith), (λ e. absurd (omega arith), tt))), tt);
-  done = (inl (y, inl (refl, refl)), (inl (y, inl (refl, refl)), (inr (inl (0, inl (refl, refl))), tt)));
 }
 
 -- input 0 points at output y, and output 1 is nearer to the other input's pointer than output 2

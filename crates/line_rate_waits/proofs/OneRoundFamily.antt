@@ -2,10 +2,11 @@
 --
 -- At first each input in turn takes output 0, and input 0 once more, so that output 0 and all inputs point at port 1. Then
 -- input 0 asks output 0 in every slot. "Input x goes down from output a": in each slot it asks output 0 and the output that
--- it points at, a, a + 1, .., n - 1, and takes the latter. Input 0 goes down from 1; at the end of it input 1 takes output 1
--- while its request for output 2 waits. Then each other input x in turn goes down, input 1 from output 2 and the others
--- from output 1, and takes output 0 in a slot in which input 0 takes output 1, and input 0 goes down again from output 2; in
--- its last slot the next input begins to ask output 1, which takes input 1.
+-- it points at, a, a + 1, .., n - 1, and takes the latter. Input 0 goes down from 1. Input 1 begins to ask output 2 in the
+-- slot in which input 0 takes that, and from then on has a cell for it; at the end it takes output 1 while its request for
+-- output 2 waits. Then each other input x in turn goes down, input 1 from output 2 and the others from output 1, and takes
+-- output 0 in a slot in which input 0 takes output 1, and input 0 goes down again from output 2; in its last slot the next
+-- input begins to ask output 1, which takes input 1.
 use Rattle.std.proofs.Common.{◌≡◌, ℕ, zero, suc, ◌+◌, ◌-◌, ◌*◌, ◌%◌, ◌<◌, ◌≤◌, ◌⊎◌, ◌∙◌, List, [], ◌∷◌, length, refl, ap, sym, subst, inl, inr, arith}
 use Rattle.std.proofs.Math.Nat.{mod-eq_of_lt}
 use Rattle.std_lemmas.proofs.Numbers.{mod_once}
@@ -16,18 +17,23 @@ use Rattle.service_bound.proofs.Distances.{distance-below, distance-own}
 use Rattle.service_bound.proofs.PostedRuns.{IsSwitch}
 use Rattle.line_rate_waits.proofs.Plans.{Plan}
 use Rattle.line_rate_waits.proofs.PlannedSlots.{decided, step_of, IsSwitch-after}
-use Rattle.line_rate_waits.proofs.PlannedRuns.{Follows, Starts}
+use Rattle.line_rate_waits.proofs.NextPlans.{Follows, Starts}
 use Rattle.line_rate_waits.proofs.OneRoundRuns.{IsLate, IsLate-before, IsLate-last}
 use Rattle.line_rate_waits.proofs.Shapes.{takes, ends, passes, crosses, wins, both, suits_takes, suits_ends, suits_passes, suits_crosses, suits_wins}
 use Rattle.line_rate_waits.proofs.Shapes.{suits_both}
 use Rattle.line_rate_waits.proofs.Followings.{takes_takes, takes_passes, passes_takes, takes_ends, passes_crosses, takes_crosses, crosses_takes}
-use Rattle.line_rate_waits.proofs.Followings.{takes_both, both_crosses, takes_wins, wins_crosses, wins_crosses_zero, crosses_zero_takes}
+use Rattle.line_rate_waits.proofs.Followings.{takes_wins, wins_both, both_both, both_crosses, wins_crosses, wins_crosses_zero, crosses_zero_takes}
 
 -- ---- the plans
 -- input x goes down from output a in k slots, and then come the rest
 abbrev pub downs : ℕ → ℕ → ℕ → List Plan → List Plan
 downs x a zero rest = rest
 downs x a (suc k) rest = takes x a ∷ downs x (a + 1) k rest
+
+-- input 0 takes k outputs from y on, while input w takes output 2, and then come the rest
+abbrev pub boths : ℕ → ℕ → ℕ → List Plan → List Plan
+boths w y zero rest = rest
+boths w y (suc k) rest = both y w ∷ boths w (y + 1) k rest
 
 -- the turn of input x, which goes down from output f, those of the k inputs after it, and the last slot
 abbrev pub turns : ℕ → ℕ → ℕ → ℕ → List Plan
@@ -38,6 +44,11 @@ turns n x f (suc k) = downs x f (n - f) (passes x ∷ downs 0 2 (n - 3) (crosses
 pub length-downs : (x k a : ℕ) (rest : List Plan) → length (downs x a k rest) ≡ k + length rest
 length-downs x zero a rest = omega arith
 length-downs x (suc k) a rest = let e = length-downs x k (a + 1) rest in omega arith
+
+-- and so many are these
+pub length-boths : (w k y : ℕ) (rest : List Plan) → length (boths w y k rest) ≡ k + length rest
+length-boths w zero y rest = omega arith
+length-boths w (suc k) y rest = let e = length-boths w k (y + 1) rest in omega arith
 
 -- so many slots are the turns
 length-turns : (n k x f : ℕ) → 2 < n → length (turns n x f k) ≡ n - f + (n - 1) + k * (n - 1 + (n - 1)) + 1
@@ -70,6 +81,11 @@ pub starts_more : (P : Plan → Type 0) (x k a : ℕ) (rest : List Plan) → 0 <
 starts_more P x zero a rest some here = absurd (omega arith)
 starts_more P x (suc k) a rest some here = here
 
+-- these begin so, if there are some
+pub starts_boths : (P : Plan → Type 0) (w k y : ℕ) (rest : List Plan) → P (both y w) → Starts P rest → Starts P (boths w y k rest)
+starts_boths P w zero y rest here starts = starts
+starts_boths P w (suc k) y rest here starts = here
+
 -- the turns begin with the first output of the first input
 starts_turns : (P : Plan → Type 0) (n k x f : ℕ) → f < n → P (takes x f) → Starts P (turns n x f k)
 starts_turns P n zero x f f_in here = starts_more P x (n - f) f (passes x ∷ downs 0 2 (n - 2) (ends 0 ∷ [])) (omega arith) here
@@ -77,10 +93,10 @@ starts_turns P n (suc k) x f f_in here = starts_more P x (n - f) f (passes x ∷
     (omega arith) here
 
 -- going down is at line rate
-pub follows_downs : (x a k last : ℕ) (rest : List Plan) → a + suc k ≡ last + 1 → Starts (Follows (takes x last)) rest
+pub follows_downs : (x a k last : ℕ) (rest : List Plan) → 0 < a → a + suc k ≡ last + 1 → Starts (Follows (takes x last)) rest
     → Starts (Follows (takes x a)) (downs x (a + 1) k rest)
-follows_downs x a zero last rest sum starts = let e : last ≡ a = omega arith in subst (λ v. Starts (Follows (takes x v)) rest) e starts
-follows_downs x a (suc k) last rest sum starts = takes_takes x a
+follows_downs x a zero last rest some sum starts = let e : last ≡ a = omega arith in subst (λ v. Starts (Follows (takes x v)) rest) e starts
+follows_downs x a (suc k) last rest some sum starts = takes_takes x a some
 
 -- ---- the pointers along the window
 -- Output 0 points at p, input x at output a, the inputs from `low` on at output 1, and output m, if that is not 0, at g. A
@@ -121,7 +137,7 @@ module _ (n : ℕ) (two : 2 < n) where
             (λ i is. elim is [ inl s ↦ let e = s.1 in elim (aside some_m) [ inl l ↦ omega arith | inr h ↦ omega arith ] | inr none ↦ none ])
             ∙ standing.held some_m;
       } in
-      IsLate-before n t places (takes x a) (downs x (a + 1) k rest) step (follows_downs x a k last rest sum starts)
+      IsLate-before n t places (takes x a) (downs x (a + 1) k rest) step (follows_downs x a k last rest some_a sum starts)
       (λ is. elim is [ inl s ↦ let e = s.1 in omega arith | inr none ↦ none ])
       (late_downs p low x m g last rest x_in under front last_in starts then k (a + 1) (t + 1) after (omega arith)
       (λ some_m. elim (aside some_m) [ inl l ↦ inl (omega arith) | inr h ↦ inr h ]) (omega arith) next)
@@ -183,10 +199,10 @@ module _ (n : ℕ) (two : 2 < n) where
   late_turns zero x f t places some_x sum some_f f_in standing =
       let back = downs 0 2 (n - 2) (ends 0 ∷ []) in
       let e : x + 1 ≡ n = omega arith in
-      late_downs x (x + 1) x 0 0 (n - 1) (passes x ∷ back) (omega arith) (omega arith) (inr (some_x, refl)) (omega arith) (takes_passes x (n - 1))
+      late_downs x (x + 1) x 0 0 (n - 1) (passes x ∷ back) (omega arith) (omega arith) (inr (some_x, refl)) (omega arith) (takes_passes x (n - 1) (omega arith))
       (λ t places standing. late_passes x (n - 1 + 1) t places back some_x (omega arith) standing
-      (starts_more (Follows (passes x)) 0 (n - 2) 2 (ends 0 ∷ []) (omega arith) (passes_takes x))
-      (λ places standing. late_downs (x + 1) (x + 1) 0 1 1 (n - 1) (ends 0 ∷ []) some (omega arith) (inl refl) (omega arith) (takes_ends (n - 1))
+      (starts_more (Follows (passes x)) 0 (n - 2) 2 (ends 0 ∷ []) (omega arith) (passes_takes x some_x))
+      (λ places standing. late_downs (x + 1) (x + 1) 0 1 1 (n - 1) (ends 0 ∷ []) some (omega arith) (inl refl) (omega arith) (takes_ends (n - 1) (omega arith))
       (λ t places standing. late_ends t places (subst (λ v. IsStanding n places v v 0 (n - 1 + 1) 1 1) e standing))
       (n - 2) 2 (t + 1) places (omega arith) (λ yes. inl (omega arith)) (omega arith) standing))
       (n - f) f t places some_f (λ none. absurd (omega arith)) (omega arith) standing
@@ -194,14 +210,16 @@ module _ (n : ℕ) (two : 2 < n) where
       let later = turns n (x + 1) 1 k in
       let rest = crosses (n - 1) (x + 1) 1 ∷ later in
       let back = downs 0 2 (n - 3) rest in
-      late_downs x (x + 1) x 0 0 (n - 1) (passes x ∷ back) (omega arith) (omega arith) (inr (some_x, refl)) (omega arith) (takes_passes x (n - 1))
+      late_downs x (x + 1) x 0 0 (n - 1) (passes x ∷ back) (omega arith) (omega arith) (inr (some_x, refl)) (omega arith) (takes_passes x (n - 1) (omega arith))
       (λ t places standing. late_passes x (n - 1 + 1) t places back some_x (omega arith) standing
-      (starts_downs (Follows (passes x)) 0 (n - 3) 2 rest (passes_takes x) (passes_crosses x (n - 1) some_x))
-      (λ places standing. late_downs (x + 1) (x + 1) 0 1 1 (n - 2) rest some (omega arith) (inl refl) (omega arith) (takes_crosses (n - 2) x (n - 1) some_x)
+      (starts_downs (Follows (passes x)) 0 (n - 3) 2 rest (passes_takes x some_x) (passes_crosses x (n - 1) some_x))
+      (λ places standing. late_downs (x + 1) (x + 1) 0 1 1 (n - 2) rest some (omega arith) (inl refl) (omega arith)
+      (takes_crosses (n - 2) x (n - 1) some_x (omega arith))
       (λ t places standing. late_crosses (x + 1) (x + 1) (x + 1) 1 t places later (omega arith) (omega arith) (λ e. omega arith)
       (λ e. standing.held (omega arith)) (λ e. absurd (omega arith)) (inl refl)
       standing.switch standing.grant (standing.accept ∙ mod-eq_of_lt (omega arith) ∙ omega arith) standing.fresh
-      (starts_turns (Follows (crosses (n - 1) (x + 1) 1)) n k (x + 1) 1 (omega arith) (crosses_takes (n - 1) (x + 1) 1))
+      (starts_turns (Follows (crosses (n - 1) (x + 1) 1)) n k (x + 1) 1 (omega arith)
+      (crosses_takes (n - 1) (x + 1) 1 (omega arith) (omega arith) (λ e f. omega arith)))
       (λ places standing. late_turns k (x + 1) 1 (t + 1) places (omega arith) (omega arith) (omega arith) (omega arith)
       (record {
         switch = standing.switch;
@@ -228,76 +246,89 @@ module _ (n : ℕ) (two : 2 < n) where
 abbrev pub IsBeginning : ℕ → Places → Type 0
 IsBeginning n places = (m : ℕ) → IsStanding n places 1 1 0 1 m 0
 
--- the window of five ports or more
-abbrev pub five : ℕ → List Plan
-five n = downs 0 1 (n - 3) (both (n - 2) ∷ crosses (n - 1) 1 2 ∷ turns n 1 2 (n - 2))
-
--- that of four
-abbrev pub four : List Plan
-four = takes 0 1 ∷ wins 2 ∷ crosses 3 1 2 ∷ turns 4 1 2 2
+-- the window of four ports or more
+abbrev pub four_on : ℕ → List Plan
+four_on n = takes 0 1 ∷ wins 2 1 ∷ boths 1 3 (n - 4) (crosses (n - 1) 1 2 ∷ turns n 1 2 (n - 2))
 
 -- and that of three
 abbrev pub three : List Plan
-three = wins 1 ∷ crosses 2 1 0 ∷ turns 3 1 2 1
+three = wins 1 1 ∷ crosses 2 1 0 ∷ turns 3 1 2 1
 
--- it is late from the beginning
-pub late_five : (n t : ℕ) (places : Places) → 4 < n → IsBeginning n places → IsLate n t places (five n)
-late_five n t places more begins =
-    let rest = crosses (n - 1) 1 2 ∷ turns n 1 2 (n - 2) in
-    let it = both (n - 2) in
-    late_downs n (omega arith) 1 1 0 0 0 (n - 3) (it ∷ rest) (omega arith) (omega arith) (inl refl) (omega arith) (takes_both (n - 3) (n - 2))
-    (λ t places standing.
-    let suits = suits_both n places (n - 2) (omega arith) (omega arith) (omega arith) (λ e. omega arith)
-    (standing.accept ∙ mod-eq_of_lt (omega arith) ∙ omega arith) in
+-- where input 1 asks output y too, which takes input 0
+late_wins : (n y t : ℕ) (places : Places) (rest : List Plan) → 2 < n → 0 < y → y < n → IsStanding n places 1 1 0 y y 0 → Starts (Follows (wins y 1)) rest
+    → ((after : Places) → IsStanding n after 1 2 0 (y + 1) 0 0 → accept_of after 1 0 ≡ 1 → IsLate n (t + 1) after rest)
+    → IsLate n t places (wins y 1 ∷ rest)
+late_wins n y t places rest two some_y y_in standing starts then =
+    let it = wins y 1 in
+    let suits = suits_wins n places y 1 some_y y_in (omega arith) (standing.accept ∙ mod-eq_of_lt y_in) (standing.held some_y) in
     let step = step_of n t places it (omega arith) standing.switch suits in
     let after = (decided n t places it).places in
-    let at : accept_of after 1 0 ≡ 3 = step.accepted 1 2 (inr (inl (refl, refl))) ∙ mod-eq_of_lt (omega arith) in
-    let near : distance n (accept_of after 1 0) 1 + 3 ≡ 1 + n = ap (λ f. distance n f 1 + 3) at ∙ distance-below n 3 1 (omega arith) (omega arith)
-    (omega arith) in
-    let far : distance n (accept_of after 1 0) 2 + 3 ≡ 2 + n = ap (λ f. distance n f 2 + 3) at ∙ distance-below n 3 2 (omega arith) (omega arith)
-    (omega arith) in
-    IsLate-before n t places it rest step (both_crosses (n - 2) (n - 1))
-    (λ is. elim is [ inl s ↦ let e = s.1 in omega arith | inr later ↦ elim later [ inl s ↦ let e = s.0 in omega arith | inr none ↦ none ] ])
-    (late_first n (omega arith) 2 (t + 1) after (λ e. omega arith) (λ e. omega arith) (omega arith) (IsSwitch-after n t places it standing.switch)
-    (step.grant_stays 0 (λ i is. elim is [
-      | inl s ↦ let e = s.1 in
-          omega arith
-      | inr later ↦ elim later [ inl s ↦ let e = s.1 in omega arith | inr none ↦ none ]
-    ]) ∙ standing.grant)
-    (step.accepted 0 (n - 2) (inl (refl, refl)) ∙ mod-eq_of_lt (omega arith) ∙ omega arith)
-    (λ i late i_in. step.accept_stays i
-    (λ j is. elim is [ inl s ↦ let e = s.0 in omega arith | inr later ↦ elim later [ inl s ↦ let e = s.0 in omega arith | inr none ↦ none ] ])
-    ∙ standing.fresh i (omega arith) i_in)
-    (crosses_takes (n - 1) 1 2)))
-    (n - 3) 1 t places (omega arith) (λ none. absurd (omega arith)) (omega arith) (begins 0)
-
--- where input 1 asks output n - 2 too, which takes input 0
-late_wins : (n y v t : ℕ) (places : Places) → 2 < n → y + 2 ≡ n → (v ≡ n - 1 → ⊥) → (v ≡ 1 → ⊥) → IsStanding n places 1 1 0 y y 0
-    → Follows (wins y) (crosses (n - 1) 1 v) → Follows (crosses (n - 1) 1 v) (takes 1 2)
-    → IsLate n t places (wins y ∷ crosses (n - 1) 1 v ∷ turns n 1 2 (n - 2))
-late_wins n y v t places two sum other not_one standing first second =
-    let suits = suits_wins n places y (omega arith) (omega arith) (omega arith) (standing.accept ∙ mod-eq_of_lt (omega arith)) (standing.held (omega arith)) in
-    let step = step_of n t places (wins y) (omega arith) standing.switch suits in
-    let after = (decided n t places (wins y)).places in
     let stays : (i : ℕ) → 1 ≤ i → i < n → accept_of after i 0 ≡ 1 = λ i late i_in. step.accept_stays i
     (λ j is. elim is [ inl s ↦ let e = s.0 in omega arith | inr none ↦ none ]) ∙ standing.fresh i late i_in in
-    let near : distance n (accept_of after 1 0) 1 ≡ 0 = ap (λ f. distance n f 1) (stays 1 (omega arith) (omega arith)) ∙ distance-own n 1 (omega arith) in
-    IsLate-before n t places (wins y) (crosses (n - 1) 1 v ∷ turns n 1 2 (n - 2)) step first
-    (λ is. elim is [ inl s ↦ let e = s.1 in omega arith | inr none ↦ none ])
-    (late_first n two v (t + 1) after other not_one (omega arith) (IsSwitch-after n t places (wins y) standing.switch)
-    (step.grant_stays 0 (λ i is. elim is [ inl s ↦ let e = s.1 in omega arith | inr none ↦ none ]) ∙ standing.grant)
-    (step.accepted 0 y (inl (refl, refl)) ∙ mod-eq_of_lt (omega arith) ∙ omega arith)
-    (λ i late i_in. stays i (omega arith) i_in) second)
+    let next : IsStanding n after 1 2 0 (y + 1) 0 0 = record {
+      switch = IsSwitch-after n t places it standing.switch;
+      grant = step.grant_stays 0 (λ i is. elim is [ inl s ↦ let e = s.1 in omega arith | inr none ↦ none ]) ∙ standing.grant;
+      accept = step.accepted 0 y (inl (refl, refl));
+      fresh = λ i late i_in. stays i (omega arith) i_in;
+      held = λ none. absurd (omega arith);
+    } in
+    IsLate-before n t places it rest step starts (λ is. elim is [ inl s ↦ let e = s.1 in omega arith | inr none ↦ none ])
+    (then after next (stays 1 (omega arith) (omega arith)))
+
+-- input 0 goes on down, while input 1 takes output 2 and has one cell more for it
+late_boths : (n : ℕ) → 3 < n → (k y t : ℕ) (places : Places) → 2 < y → y + k ≡ n - 1 → IsStanding n places 1 2 0 y 0 0
+    → distance n (accept_of places 1 0) 1 ≤ distance n (accept_of places 1 0) 2
+    → IsLate n t places (boths 1 y k (crosses (n - 1) 1 2 ∷ turns n 1 2 (n - 2)))
+late_boths n more zero y t places high sum standing near =
+    late_first n (omega arith) 2 t places (λ e. omega arith) (λ e. omega arith) near standing.switch standing.grant
+    (standing.accept ∙ mod-eq_of_lt (omega arith) ∙ omega arith) standing.fresh
+    (crosses_takes (n - 1) 1 2 (omega arith) (omega arith) (λ e f. omega arith))
+late_boths n more (suc k) y t places high sum standing near =
+    let it = both y 1 in
+    let suits = suits_both n places y 1 (omega arith) (omega arith) (omega arith) (λ e. omega arith) (omega arith) (omega arith)
+    (standing.accept ∙ mod-eq_of_lt (omega arith)) in
+    let step = step_of n t places it (omega arith) standing.switch suits in
+    let after = (decided n t places it).places in
+    let at : accept_of after 1 0 ≡ 3 = step.accepted 1 2 (inr (inl (refl, refl))) ∙ mod-eq_of_lt more in
+    let one : distance n (accept_of after 1 0) 1 + 3 ≡ 1 + n = ap (λ f. distance n f 1 + 3) at ∙ distance-below n 3 1 more (omega arith) (omega arith) in
+    let two : distance n (accept_of after 1 0) 2 + 3 ≡ 2 + n = ap (λ f. distance n f 2 + 3) at ∙ distance-below n 3 2 more (omega arith) (omega arith) in
+    let next : IsStanding n after 1 2 0 (y + 1) 0 0 = record {
+      switch = IsSwitch-after n t places it standing.switch;
+      grant = step.grant_stays 0
+          (λ i is. elim is [ inl s ↦ let e = s.1 in omega arith | inr more ↦ elim more [ inl s ↦ let e = s.1 in omega arith | inr none ↦ none ] ])
+          ∙ standing.grant;
+      accept = step.accepted 0 y (inl (refl, refl));
+      fresh = λ i late i_in. step.accept_stays i
+          (λ j is. elim is [ inl s ↦ let e = s.0 in omega arith | inr more ↦ elim more [ inl s ↦ let e = s.0 in omega arith | inr none ↦ none ] ])
+          ∙ standing.fresh i late i_in;
+      held = λ none. absurd (omega arith);
+    } in
+    IsLate-before n t places it (boths 1 (y + 1) k (crosses (n - 1) 1 2 ∷ turns n 1 2 (n - 2))) step (follows k sum)
+    (λ is. elim is [ inl s ↦ let e = s.1 in omega arith | inr later ↦ elim later [ inl s ↦ let e = s.0 in omega arith | inr none ↦ none ] ])
+    (late_boths n more k (y + 1) (t + 1) after (omega arith) (omega arith) next (omega arith)) where
+      follows : (k : ℕ) → y + suc k ≡ n - 1 → Starts (Follows (both y 1)) (boths 1 (y + 1) k (crosses (n - 1) 1 2 ∷ turns n 1 2 (n - 2)))
+      follows zero sum = let e : y + 1 ≡ n - 1 = omega arith in subst (λ v. Follows (both y 1) (crosses v 1 2)) e (both_crosses y (omega arith))
+      follows (suc k) sum = both_both y 1 (omega arith) (omega arith)
+
+-- where an input points at output 1, that is no farther than any other
+near_one : (n from v : ℕ) → 1 < n → from ≡ 1 → distance n from 1 ≤ distance n from v
+near_one n from v more at = let none : distance n from 1 ≡ 0 = ap (λ f. distance n f 1) at ∙ distance-own n 1 more in omega arith
 
 -- it is late from the beginning
-pub late_four : (t : ℕ) (places : Places) → IsBeginning 4 places → IsLate 4 t places four
-late_four t places begins =
-    late_downs 4 (omega arith) 1 1 0 2 0 1 (wins 2 ∷ crosses 3 1 2 ∷ turns 4 1 2 2) (omega arith) (omega arith) (inl refl) (omega arith) (takes_wins 1 2)
-    (λ t places standing. late_wins 4 2 2 t places (omega arith) (omega arith) (λ e. omega arith) (λ e. omega arith) standing (wins_crosses 2 3)
-    (crosses_takes 3 1 2))
+pub late_four_on : (n t : ℕ) (places : Places) → 3 < n → IsBeginning n places → IsLate n t places (four_on n)
+late_four_on n t places more begins =
+    let last = crosses (n - 1) 1 2 ∷ turns n 1 2 (n - 2) in
+    let rest = boths 1 3 (n - 4) last in
+    late_downs n (omega arith) 1 1 0 2 0 1 (wins 2 1 ∷ rest) (omega arith) (omega arith) (inl refl) (omega arith)
+    (takes_wins 1 2 1 (omega arith) (omega arith))
+    (λ t places standing. late_wins n 2 t places rest (omega arith) (omega arith) (omega arith) standing
+    (starts_boths (Follows (wins 2 1)) 1 (n - 4) 3 last (wins_both 3 1 (omega arith)) (wins_crosses (n - 1)))
+    (λ after next at. late_boths n more (n - 4) 3 (t + 1) after (omega arith) (omega arith) next (near_one n (accept_of after 1 0) 2 (omega arith) at)))
     1 1 t places (omega arith) (λ yes. inr (omega arith)) (omega arith) (begins 2)
 
 -- it is late from the beginning
 pub late_three : (t : ℕ) (places : Places) → IsBeginning 3 places → IsLate 3 t places three
-late_three t places begins = late_wins 3 1 0 t places (omega arith) (omega arith) (λ e. omega arith) (λ e. omega arith) (begins 1) (wins_crosses_zero 2)
-    (crosses_zero_takes 2)
+late_three t places begins =
+    late_wins 3 1 t places (crosses 2 1 0 ∷ turns 3 1 2 1) (omega arith) (omega arith) (omega arith) (begins 1) (wins_crosses_zero 2)
+    (λ after next at. late_first 3 (omega arith) 0 (t + 1) after (λ e. omega arith) (λ e. omega arith) (near_one 3 (accept_of after 1 0) 0 (omega arith) at)
+    next.switch next.grant next.accept next.fresh (crosses_zero_takes 2 (omega arith)))

@@ -7,10 +7,13 @@ use Rattle.eslip_rounds.specs.Schedules.{DecidedSlot, IsSchedule}
 use Rattle.service_bound.specs.Windows.{IsClean, IsWithoutMulticast}
 use Rattle.service_bound.specs.Latest.{IsServedLast}
 use Rattle.service_bound.proofs.PostedRuns.{IsSwitch}
-use Rattle.line_rate_waits.specs.Reached.{ComesLastAtLineRate}
+use Rattle.line_rate_waits.specs.Reached.{AreFedAtLineRate, ComesLastAtLineRate}
 use Rattle.line_rate_waits.proofs.Plans.{In, Plan, names, AreWithin-rows, IsClean-rows, IsWithoutMulticast-rows}
 use Rattle.line_rate_waits.proofs.PlannedSlots.{decided, IsStep, slot_decided, IsSwitch-after}
-use Rattle.line_rate_waits.proofs.PlannedRuns.{Follows, Starts, IsOneEach, run, length-run, All-run, IsLateBy, IsLateBy-before, IsLateBy-last}
+use Rattle.line_rate_waits.proofs.NextPlans.{Follows, Starts}
+use Rattle.line_rate_waits.proofs.PlannedRuns.{IsOneEach, run, length-run, All-run, IsLateBy, IsLateBy-before, IsLateBy-last}
+use Rattle.line_rate_waits.proofs.FedRuns.{fed_at_line_rate}
+use Rattle.line_rate_waits.proofs.Shapes.{nothing}
 use Rattle.line_rate_waits.proofs.PlannedRuns.{opens_run, LeadsBy, led, kept_all}
 
 -- the run is a schedule
@@ -27,11 +30,11 @@ IsLate n = IsLateBy n (decided n)
 pub IsLate-before : (n t : ℕ) (places : Places) (p : Plan) (ps : List Plan) → IsStep n t places p → Starts (Follows p) ps → (In 0 0 p.serves → ⊥)
     → IsLate n (t + 1) (decided n t places p).places ps → IsLate n t places (p ∷ ps)
 IsLate-before n t places p ps step follows left late =
-    IsLateBy-before n (decided n) t places p ps step.serves follows (λ served. left (step.only 0 0 0 Uni served)) late
+    IsLateBy-before n (decided n) t places p ps step.serving follows (λ served. left (step.serving.only 0 0 0 Uni served)) late
 
 -- the last slot, which serves it
 pub IsLate-last : (n t : ℕ) (places : Places) (p : Plan) → IsStep n t places p → In 0 0 p.serves → IsLate n t places (p ∷ [])
-IsLate-last n t places p step served = IsLateBy-last n (decided n) t places p step.serves served
+IsLate-last n t places p step served = IsLateBy-last n (decided n) t places p step.serving served
 
 -- What is late from pointers of a switch is a window in which queue (0, 0) is served in the last slot alone.
 IsServedLast-run : (n t : ℕ) (places : Places) (ps : List Plan) → IsSwitch n places → IsLate n t places ps
@@ -54,16 +57,18 @@ IsServedLast-run n t places ps switch late =
     }
 
 -- what is late from where the first slots lead comes in a schedule at line rate, from all pointers at port 0 on
-pub comes : (n count : ℕ) (ps : List Plan) (after : Places) (rest : List Plan) → IsSwitch n (places_at_first n) → Starts IsOneEach ps
+pub comes : (n count : ℕ) (ps : List Plan) (after : Places) (rest : List Plan) → IsSwitch n (places_at_first n)
+    → Starts IsOneEach ps → Starts (Follows nothing) ps
     → LeadsBy n (decided n) 0 (places_at_first n) ps count after rest → IsSwitch n after → IsLate n count after rest
-    → (slots : List DecidedSlot) × ComesLastAtLineRate n 1 count slots × (length (drop count slots) ≡ length rest)
-comes n count ps after rest switch one leads later late =
+    → (slots : List DecidedSlot) × AreFedAtLineRate n slots × ComesLastAtLineRate n 1 count slots × (length (drop count slots) ≡ length rest)
+comes n count ps after rest switch one first leads later late =
     let from = places_at_first n in
     let slots = run n (decided n) 0 from ps in
     let dropped : drop count slots ≡ run n (decided n) count after rest = led n (decided n) from ps count after rest leads in
     let all = kept_all n (decided n) from ps count after rest leads late.run_kept in
     let served : IsServedLast n 1 count 0 0 0 after (run n (decided n) count after rest) = IsServedLast-run n count after rest later late in (
       slots,
+      fed_at_line_rate n ps slots (all.fed nothing first),
       record {
         comes = record {
           schedule = IsSchedule-run n 0 from ps switch;

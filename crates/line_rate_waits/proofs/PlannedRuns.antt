@@ -1,6 +1,6 @@
 -- Runs of plans: the slots that some plans make one after the other, where `rule` tells what each decides, and what each
 -- leaves to the next.
-use Rattle.std.proofs.Common.{◌≡◌, ℕ, suc, Option, ◌+◌, ◌<◌, ◌⊎◌, ◌∙◌, List, [], ◌∷◌, length, take, drop, All, refl, ap, sym, subst, inl, inr, arith}
+use Rattle.std.proofs.Common.{◌≡◌, ℕ, suc, Option, ◌+◌, ◌<◌, ◌∙◌, List, [], ◌∷◌, length, take, drop, All, refl, ap, sym, subst, inl, inr, arith}
 use Rattle.std.proofs.lemmas.List.Elements.{All-nil, All-cons}
 use Rattle.rotating_pick.specs.declared.kinds.Kind.TheVariants.{Uni, Multi}
 use Rattle.slot_match.specs.declared.rows.Row.{Row}
@@ -14,49 +14,19 @@ use Rattle.eslip_rounds.specs.Schedules.{DecidedSlot}
 use Rattle.service_bound.specs.Windows.{AreKept, GainAtMostOne, AreAtLineRate, InFirst, places_after}
 use Rattle.service_bound.specs.Latest.{ServeLast}
 use Rattle.line_rate_waits.specs.Reached.{AskAtMostOne}
-use Rattle.line_rate_waits.proofs.Plans.{Pair, In, Each, each, Plan, asked, rows_of, posted, names}
+use Rattle.line_rate_waits.proofs.Plans.{In, IsServing, Each, each, Plan, asked, rows_of, posted, names}
+use Rattle.line_rate_waits.proofs.NextPlans.{IsOn, IsGained, IsApart, AreApart, Follows, Starts}
+use Rattle.line_rate_waits.proofs.FedRuns.{IsFedRun, IsFedRun-before}
 
 -- ---- one slot and the next
--- a request is served in the slot, or stands in the next one too
-abbrev pub IsOn : Plan → Plan → ℕ → ℕ → Type 0
-IsOn p next i j = In i j p.serves ⊎ In i j (asked next)
-
--- a request stood in the slot before, or is one of those that begin
-abbrev pub IsGained : Plan → List Pair → ℕ → ℕ → Type 0
-IsGained p gains i j = In i j (asked p) ⊎ In i j gains
-
--- two pairs are of two inputs, or are one
-abbrev pub IsApart : ℕ → ℕ → ℕ → ℕ → Type 0
-IsApart i j z y = i ≡ z → j ≡ y
-
--- no two of the pairs are of one input
-abbrev pub AreApart : List Pair → ℕ → ℕ → Type 0
-AreApart ps i j = Each (IsApart i j) ps
-
--- the next plan keeps what the plan leaves, and at most one request of each input begins
-pub record Follows (p next : Plan) : Type 0 where
-  pub kept : Each (IsOn p next) (asked p)
-  pub gains : List Pair
-  pub gained : Each (IsGained p gains) (asked next)
-  pub apart : Each (AreApart gains) gains
-
--- the first plan, if there is one, has P
-abbrev pub Starts : (Plan → Type 0) → List Plan → Type 0
-Starts P [] = Unit {0}
-Starts P (p ∷ ps) = P p
-
--- the match serves the pairs of the plan
-abbrev pub AreServed : Plan → List (Option Fed) → Type 0
-AreServed p matched = (i j : ℕ) → In i j p.serves → Serves matched i j 0 Uni
-
 -- the next row keeps the one before
-keeps_on : (n : ℕ) (matched : List (Option Fed)) (p next : Plan) → AreServed p matched → Follows p next → (i : ℕ) → i < n
+keeps_on : (n : ℕ) (matched : List (Option Fed)) (p next : Plan) → IsServing p matched → Follows p next → (i : ℕ) → i < n
     → Keeps matched i (row_of (rows_of n p) i) (row_of (rows_of n next) i)
 keeps_on n matched p next serving follows i i_in = record {
   uni = λ level j named left.
       let is = posted n p i j level Uni i_in named in
       elim (each (IsOn p next) (asked p) follows.kept i j is.3) [
-        | inl served ↦ absurd (left (subst (λ l. Serves matched i j l Uni) (sym is.0) (serving i j served)))
+        | inl served ↦ absurd (left (subst (λ l. Serves matched i j l Uni) (sym is.0) (serving.serves i j served)))
         | inr again ↦ subst (λ l. Names (row_of (rows_of n next) i) l Uni j) (sym is.0) (names n next i j i_in is.2 again)
       ];
   multi = λ level j named left. let kind = (posted n p i j level Multi i_in named).1 in absurd (cc);
@@ -68,9 +38,9 @@ gains_on n p next follows i i_in j k named also new too =
     let a = posted n next i j 0 Uni i_in named in
     let b = posted n next i k 0 Uni i_in also in
     elim (each (IsGained p follows.gains) (asked next) follows.gained i j a.3) [
-      | inl old ↦ absurd (new (names n p i j i_in a.2 old))
+      | inl old ↦ absurd (new (names n p i j i_in a.2 old.0))
       | inr first ↦ elim (each (IsGained p follows.gains) (asked next) follows.gained i k b.3) [
-        | inl old ↦ absurd (too (names n p i k i_in b.2 old))
+        | inl old ↦ absurd (too (names n p i k i_in b.2 old.0))
         | inr second ↦ each (IsApart i j) follows.gains (each (AreApart follows.gains) follows.gains follows.apart i j first) i k second refl
       ]
     ]
@@ -113,13 +83,29 @@ All-run n rule t places P all (p ∷ ps) =
 pub record IsKeptRun (n : ℕ) (rule : Rule) (t : ℕ) (places : Places) (ps : List Plan) : Type 0 where
   pub kept : AreKept n (run n rule t places ps)
   pub line : AreAtLineRate n 0 (run n rule t places ps)
+  -- and whatever comes before it, cells that come at line rate feed it
+  pub fed : (before : Plan) → Starts (Follows before) ps → IsFedRun n before ps (run n rule t places ps)
+
+-- there are no slots
+IsKeptRun-none : (n : ℕ) (rule : Rule) (t : ℕ) (places : Places) → IsKeptRun n rule t places []
+IsKeptRun-none n rule t places = record { kept = tt; line = tt; fed = λ before none. tt }
 
 -- one slot more in front
-pub IsKeptRun-before : (n : ℕ) (rule : Rule) (t : ℕ) (places : Places) (p : Plan) (ps : List Plan) → AreServed p (rule t places p).matched
+pub IsKeptRun-before : (n : ℕ) (rule : Rule) (t : ℕ) (places : Places) (p : Plan) (ps : List Plan) → IsServing p (rule t places p).matched
     → Starts (Follows p) ps → IsKeptRun n rule (t + 1) (rule t places p).places ps → IsKeptRun n rule t places (p ∷ ps)
-IsKeptRun-before n rule t places p [] serving follows run_kept = record { kept = (tt, tt); line = (tt, tt) }
-IsKeptRun-before n rule t places p (next ∷ ps) serving follows run_kept =
-    record { kept = (keeps_on n (rule t places p).matched p next serving follows, run_kept.kept); line = (gains_on n p next follows, run_kept.line) }
+IsKeptRun-before n rule t places p ps serving follows run_kept = record {
+  kept = kept ps follows run_kept;
+  line = line ps follows run_kept;
+  fed = λ before first. IsFedRun-before n before p ps (rule t places p) (run n rule (t + 1) (rule t places p).places ps) first serving
+      (run_kept.fed p follows);
+} where
+  kept : (ps : List Plan) → Starts (Follows p) ps → IsKeptRun n rule (t + 1) (rule t places p).places ps → AreKept n (run n rule t places (p ∷ ps))
+  kept [] follows run_kept = (tt, tt)
+  kept (next ∷ ps) follows run_kept = (keeps_on n (rule t places p).matched p next serving follows, run_kept.kept)
+
+  line : (ps : List Plan) → Starts (Follows p) ps → IsKeptRun n rule (t + 1) (rule t places p).places ps → AreAtLineRate n 0 (run n rule t places (p ∷ ps))
+  line [] follows run_kept = (tt, tt)
+  line (next ∷ ps) follows run_kept = (gains_on n p next follows, run_kept.line)
 
 -- and queue (0, 0) is served in its last slot alone
 pub record IsLateBy (n : ℕ) (rule : Rule) (t : ℕ) (places : Places) (ps : List Plan) : Type 0 where
@@ -127,7 +113,7 @@ pub record IsLateBy (n : ℕ) (rule : Rule) (t : ℕ) (places : Places) (ps : Li
   pub last : ServeLast 0 0 0 (run n rule t places ps)
 
 -- one slot more in front, which does not serve the queue
-pub IsLateBy-before : (n : ℕ) (rule : Rule) (t : ℕ) (places : Places) (p : Plan) (ps : List Plan) → AreServed p (rule t places p).matched
+pub IsLateBy-before : (n : ℕ) (rule : Rule) (t : ℕ) (places : Places) (p : Plan) (ps : List Plan) → IsServing p (rule t places p).matched
     → Starts (Follows p) ps → (Serves (rule t places p).matched 0 0 0 Uni → ⊥) → IsLateBy n rule (t + 1) (rule t places p).places ps
     → IsLateBy n rule t places (p ∷ ps)
 IsLateBy-before n rule t places p [] serving follows left late = absurd late.last
@@ -135,10 +121,13 @@ IsLateBy-before n rule t places p (next ∷ ps) serving follows left late =
     record { run_kept = IsKeptRun-before n rule t places p (next ∷ ps) serving follows late.run_kept; last = (left, late.last) }
 
 -- the last slot, which serves it
-pub IsLateBy-last : (n : ℕ) (rule : Rule) (t : ℕ) (places : Places) (p : Plan) → AreServed p (rule t places p).matched → In 0 0 p.serves
+pub IsLateBy-last : (n : ℕ) (rule : Rule) (t : ℕ) (places : Places) (p : Plan) → IsServing p (rule t places p).matched → In 0 0 p.serves
     → IsLateBy n rule t places (p ∷ [])
 IsLateBy-last n rule t places p serving served =
-    record { run_kept = IsKeptRun-before n rule t places p [] serving tt (record { kept = tt; line = tt }); last = serving 0 0 served }
+    record {
+      run_kept = IsKeptRun-before n rule t places p [] serving tt (IsKeptRun-none n rule (t + 1) (rule t places p).places);
+      last = serving.serves 0 0 served;
+    }
 
 -- in the first slot each input asks for one output at most, where its plan says so
 pub opens_run : (n : ℕ) (rule : Rule) (t : ℕ) (places : Places) (ps : List Plan) → Starts IsOneEach ps → InFirst (AskAtMostOne n 0) (run n rule t places ps)
@@ -160,7 +149,7 @@ leads_none n rule t places ps =
 
 -- one slot more in front
 pub leads_before : (n : ℕ) (rule : Rule) (t : ℕ) (places : Places) (p : Plan) (ps : List Plan) (count : ℕ) (after : Places) (rest : List Plan)
-    → AreServed p (rule t places p).matched → Starts (Follows p) ps → LeadsBy n rule (t + 1) (rule t places p).places ps count after rest
+    → IsServing p (rule t places p).matched → Starts (Follows p) ps → LeadsBy n rule (t + 1) (rule t places p).places ps count after rest
     → LeadsBy n rule t places (p ∷ ps) (suc count) after rest
 leads_before n rule t places p ps count after rest serving follows leads =
     let same : t + 1 + count ≡ t + suc count = omega arith in

@@ -23,7 +23,7 @@ use Rattle.service_bound.proofs.Granting.{kind_is_first, served_by_first}
 use Rattle.service_bound.proofs.LaterRounds.{first_of, BeginsWith, BeginsWith-slot}
 use Rattle.service_bound.proofs.OneRound.{one_is_first}
 use Rattle.service_bound.proofs.PostedRuns.{IsSwitch}
-use Rattle.line_rate_waits.proofs.Plans.{In, Each, each, Plan, asked, rows_of, posted, names, AreWithin-rows, IsClean-rows, IsWithoutMulticast-rows}
+use Rattle.line_rate_waits.proofs.Plans.{In, IsServing, Each, each, Plan, asked, rows_of, posted, names, AreWithin-rows, IsClean-rows, IsWithoutMulticast-rows}
 
 -- input i and output j are of the switch, and the input asks it
 abbrev pub IsPlaced : ℕ → Plan → ℕ → ℕ → Type 0
@@ -199,8 +199,7 @@ decided n t places p = decision_of n 1 t (rows_of n p) places
 
 -- the slot of a plan serves its pairs and no others, and moves their pointers alone
 pub record IsStep (n t : ℕ) (places : Places) (p : Plan) : Type 0 where
-  pub serves : (i j : ℕ) → In i j p.serves → Serves (decided n t places p).matched i j 0 Uni
-  pub only : (i j level : ℕ) (kind : Kind) → Serves (decided n t places p).matched i j level kind → In i j p.serves
+  pub serving : IsServing p (decided n t places p).matched
   pub granted : (i j : ℕ) → In i j p.serves → grant_of (decided n t places p).places j 0 ≡ (i + 1) % n
   pub accepted : (i j : ℕ) → In i j p.serves → accept_of (decided n t places p).places i 0 ≡ (j + 1) % n
   pub grant_stays : (j : ℕ) → ((i : ℕ) → In i j p.serves → ⊥) → grant_of (decided n t places p).places j 0 ≡ grant_of places j 0
@@ -253,8 +252,11 @@ module _ (n t : ℕ) (places : Places) (p : Plan) (some : 0 < n) (switch : IsSwi
   -- where the pointers suit the plan
   pub step_of : IsStep n t places p
   step_of = record {
-    serves = λ i j is. subst (λ m. Serves m i j 0 Uni) first_is (served i j is);
-    only = λ i j level kind s. only i j level kind (subst (λ m. Serves m i j level kind) (sym first_is) s);
+    serving = record {
+      serves = λ i j is. subst (λ m. Serves m i j 0 Uni) first_is (served i j is);
+      only = λ i j level kind s. only i j level kind (subst (λ m. Serves m i j level kind) (sym first_is) s);
+      asking = λ i j is. let at = each (IsPlaced n p) p.serves suits.placed i j is in at.2;
+    };
     granted = λ i j is. moves.granted i j 0 (served i j is);
     accepted = λ i j is. moves.accepted i j 0 (served i j is);
     grant_stays = λ j nobody. moves.grant_stays j 0 (λ i s. nobody i (only i j 0 Uni s));

@@ -1,5 +1,6 @@
 -- Plans: slots by the requests that stand in them and the pairs that they serve, all of level 0.
-use Rattle.std.proofs.Common.{◌≡◌, ℕ, zero, suc, ◌<◌, ◌⊎◌, ◌==◌, ◌&&◌, ◌||◌, Bool, false, List, [], ◌∷◌, map, replicate, refl, subst, sym, inl, inr, arith}
+use Rattle.std.proofs.Common.{◌≡◌, ℕ, zero, suc, ◌<◌, ◌⊎◌, ◌==◌, ◌&&◌, ◌||◌, Bool, false, List, Option, [], ◌∷◌, map, replicate, refl}
+use Rattle.std.proofs.Common.{subst, sym, inl, inr, arith}
 use Rattle.std.specs.Bool.{Decides}
 use Rattle.std.specs.List.{range_with_len}
 use Rattle.std.proofs.lemmas.Bool.Decides.{Decides-eqb, Decides-and, Decides-or}
@@ -10,6 +11,8 @@ use Rattle.rotating_pick.specs.declared.limits.TheConstants.{LEVELS}
 use Rattle.rotating_pick.proofs.Tables.{no_members}
 use Rattle.slot_match.specs.declared.rows.Row.{Row}
 use Rattle.slot_match.specs.Rows.{Names, row_of, no_row, AreWithin}
+use Rattle.slot_match.specs.declared.matching.Fed.{Fed}
+use Rattle.slot_match.specs.Matches.{Serves}
 use Rattle.slot_match.specs.Parts.{set_of}
 use Rattle.slot_match.proofs.Sets.{Has-set_of}
 use Rattle.service_bound.specs.Windows.{IsClean, IsWithoutMulticast}
@@ -29,12 +32,12 @@ In i j [] = ⊥
 In i j (p ∷ ps) = ((i ≡ p.input) × (j ≡ p.output)) ⊎ In i j ps
 
 -- whether they are
-abbrev is_in : ℕ → ℕ → List Pair → Bool
+abbrev pub is_in : ℕ → ℕ → List Pair → Bool
 is_in i j [] = false
 is_in i j (p ∷ ps) = (i == p.input && j == p.output) || is_in i j ps
 
 -- the test decides it
-Decides-in : (i j : ℕ) (ps : List Pair) → Decides (is_in i j ps) (In i j ps)
+pub Decides-in : (i j : ℕ) (ps : List Pair) → Decides (is_in i j ps) (In i j ps)
 Decides-in i j [] = (λ e. absurd (cc), λ none. absurd none)
 Decides-in i j (p ∷ ps) =
     Decides-or (i == p.input && j == p.output) (is_in i j ps) (Decides-and (i == p.input) (j == p.output) (Decides-eqb i p.input) (Decides-eqb j p.output))
@@ -53,14 +56,22 @@ each P (p ∷ ps) all i j is = elim is [
   | inr later ↦ each P ps all.1 i j later
 ]
 
--- A slot: which input asks which output, beside input 0, which asks output 0 in every slot; and which pairs it serves.
+-- A slot: which input asks which output, beside input 0, which asks output 0 in every slot; which pairs it serves; and for
+-- which of the requests two cells wait, and not one.
 pub record Plan : Type 0 where
   pub asks : List Pair
   pub serves : List Pair
+  pub twice : List Pair
 
 -- all requests of the slot
 abbrev pub asked : Plan → List Pair
 asked p = pair 0 0 ∷ p.asks
+
+-- the match serves the pairs of the plan, which are asked for, and no others
+pub record IsServing (p : Plan) (matched : List (Option Fed)) : Type 0 where
+  pub serves : (i j : ℕ) → In i j p.serves → Serves matched i j 0 Uni
+  pub only : (i j level : ℕ) (kind : Kind) → Serves matched i j level kind → In i j p.serves
+  pub asking : (i j : ℕ) → In i j p.serves → In i j (asked p)
 
 -- the row of input i, where these are the requests
 row_at : ℕ → List Pair → ℕ → Row

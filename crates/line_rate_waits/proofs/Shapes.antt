@@ -6,29 +6,37 @@ use Rattle.service_bound.proofs.Distances.{distance-below, distance-own}
 use Rattle.line_rate_waits.proofs.Plans.{pair, In, Plan, asked}
 use Rattle.line_rate_waits.proofs.PlannedSlots.{Suits, IsPassed}
 
+-- before all slots: nothing is left
+abbrev pub nothing : Plan
+nothing = record { asks = []; serves = pair 0 0 ∷ []; twice = [] }
+
 -- input x asks outputs 0 and y, and takes y
 abbrev pub takes : ℕ → ℕ → Plan
-takes x y = record { asks = pair x 0 ∷ pair x y ∷ []; serves = pair x y ∷ [] }
+takes x y = record { asks = pair x 0 ∷ pair x y ∷ []; serves = pair x y ∷ []; twice = [] }
 
 -- input x asks output 0 alone, and takes it
 abbrev pub ends : ℕ → Plan
-ends x = record { asks = pair x 0 ∷ []; serves = pair x 0 ∷ [] }
+ends x = record { asks = pair x 0 ∷ []; serves = pair x 0 ∷ []; twice = [] }
+
+-- input 0 takes output 0, for which two cells wait
+abbrev pub again : Plan
+again = record { asks = pair 0 0 ∷ []; serves = pair 0 0 ∷ []; twice = pair 0 0 ∷ [] }
 
 -- input x takes output 0, and input 0 takes output 1
 abbrev pub passes : ℕ → Plan
-passes x = record { asks = pair x 0 ∷ pair 0 1 ∷ []; serves = pair x 0 ∷ pair 0 1 ∷ [] }
+passes x = record { asks = pair x 0 ∷ pair 0 1 ∷ []; serves = pair x 0 ∷ pair 0 1 ∷ []; twice = [] }
 
 -- input 0 takes output y and input 1 output 1, while one more request stands
 abbrev pub crosses : ℕ → ℕ → ℕ → Plan
-crosses y u v = record { asks = pair 0 y ∷ pair 1 1 ∷ pair u v ∷ []; serves = pair 0 y ∷ pair 1 1 ∷ [] }
+crosses y u v = record { asks = pair 0 y ∷ pair 1 1 ∷ pair u v ∷ []; serves = pair 0 y ∷ pair 1 1 ∷ []; twice = [] }
 
--- input 0 takes output y, which input 1 asks too
-abbrev pub wins : ℕ → Plan
-wins y = record { asks = pair 0 y ∷ pair 1 y ∷ []; serves = pair 0 y ∷ [] }
+-- input 0 takes output y, which input w asks too
+abbrev pub wins : ℕ → ℕ → Plan
+wins y w = record { asks = pair 0 y ∷ pair w y ∷ []; serves = pair 0 y ∷ []; twice = [] }
 
--- input 0 takes output y, and input 1 output 2
-abbrev pub both : ℕ → Plan
-both y = record { asks = pair 0 y ∷ pair 1 2 ∷ []; serves = pair 0 y ∷ pair 1 2 ∷ [] }
+-- input 0 takes output y, and input w output 2, for which two cells wait
+abbrev pub both : ℕ → ℕ → Plan
+both y w = record { asks = pair 0 y ∷ pair w 2 ∷ []; serves = pair 0 y ∷ pair w 2 ∷ []; twice = pair w 2 ∷ [] }
 
 -- from where a pointer stands it is no step
 no_step : (n from x : ℕ) → x < n → from ≡ x → distance n from x ≡ 0
@@ -74,6 +82,15 @@ suits_ends n places x x_in at = record {
   near = ((λ e. at_first n (grant_of places 0 0) x 0 x_in at, (λ e. omega arith, tt)), tt);
   taken = ((λ e. inl (omega arith), (λ e. inl (omega arith), tt)), tt);
   done = (inr (inl (x, inl (refl, refl))), (inl (0, inl (refl, refl)), tt));
+}
+
+-- the same of input 0
+pub suits_again : (n : ℕ) (places : Places) → 0 < n → grant_of places 0 0 ≡ 0 → Suits n places again
+suits_again n places some at = record {
+  placed = ((some, some, inr (inl (refl, refl))), tt);
+  near = ((λ e. omega arith, (λ e. omega arith, tt)), tt);
+  taken = ((λ e. inl (omega arith), (λ e. inl (omega arith), tt)), tt);
+  done = (inl (0, inl (refl, refl)), (inl (0, inl (refl, refl)), tt));
 }
 
 -- output 0 points at the input
@@ -126,26 +143,28 @@ suits_crosses n places y u v more y_in some other at granting accepting how = re
   );
 }
 
--- input 0 points at output y, which points at input 0
-pub suits_wins : (n : ℕ) (places : Places) (y : ℕ) → 0 < y → y < n → 1 < n → accept_of places 0 0 ≡ y → grant_of places y 0 ≡ 0 → Suits n places (wins y)
-suits_wins n places y some y_in more at granting = record {
-  placed = ((omega arith, y_in, inr (inl (refl, refl))), tt);
-  near = ((λ e. absurd (omega arith), (λ e. omega arith, (λ e. at_first n (grant_of places y 0) 0 1 (omega arith) granting, tt))), tt);
-  taken = ((λ e. inl (at_first n (accept_of places 0 0) y 0 y_in at), (λ e. inl (omega arith), (λ e. absurd (omega arith), tt))), tt);
-  done = (inl (y, inl (refl, refl)), (inl (y, inl (refl, refl)), (inr (inl (0, inl (refl, refl))), tt)));
-}
-
 -- input 0 points at output y
-pub suits_both : (n : ℕ) (places : Places) (y : ℕ) → 0 < y → y < n → 2 < n → (y ≡ 2 → ⊥) → accept_of places 0 0 ≡ y → Suits n places (both y)
-suits_both n places y some y_in more other at = record {
-  placed = ((omega arith, y_in, inr (inl (refl, refl))), ((omega arith, more, inr (inr (inl (refl, refl)))), tt));
+pub suits_both : (n : ℕ) (places : Places) (y w : ℕ) → 0 < y → y < n → 2 < n → (y ≡ 2 → ⊥) → 0 < w → w < n → accept_of places 0 0 ≡ y
+    → Suits n places (both y w)
+suits_both n places y w some y_in more other some_w w_in at = record {
+  placed = ((omega arith, y_in, inr (inl (refl, refl))), ((w_in, more, inr (inr (inl (refl, refl)))), tt));
   near = (
-    (λ e. absurd (omega arith), (λ e. omega arith, (λ e. absurd (other (sym e)), tt))),
-    ((λ e. absurd (omega arith), (λ e. absurd (other e), (λ e. omega arith, tt))), tt),
+    (λ e. absurd (omega arith), (λ e. omega arith, (λ e. absurd (omega arith), tt))),
+    ((λ e. absurd (omega arith), (λ e. absurd (omega arith), (λ e. omega arith, tt))), tt),
   );
   taken = (
     (λ e. inl (at_first n (accept_of places 0 0) y 0 y_in at), (λ e. inl (omega arith), (λ e. absurd (omega arith), tt))),
     ((λ e. absurd (omega arith), (λ e. absurd (omega arith), (λ e. inl (omega arith), tt))), tt),
   );
   done = (inl (y, inl (refl, refl)), (inl (y, inl (refl, refl)), (inl (2, inr (inl (refl, refl))), tt)));
+}
+
+-- input 0 points at output y, which points at input 0
+pub suits_wins : (n : ℕ) (places : Places) (y w : ℕ) → 0 < y → y < n → 0 < w → accept_of places 0 0 ≡ y → grant_of places y 0 ≡ 0
+    → Suits n places (wins y w)
+suits_wins n places y w some y_in some_w at granting = record {
+  placed = ((omega arith, y_in, inr (inl (refl, refl))), tt);
+  near = ((λ e. absurd (omega arith), (λ e. omega arith, (λ e. at_first n (grant_of places y 0) 0 w (omega arith) granting, tt))), tt);
+  taken = ((λ e. inl (at_first n (accept_of places 0 0) y 0 y_in at), (λ e. inl (omega arith), (λ e. absurd (omega arith), tt))), tt);
+  done = (inl (y, inl (refl, refl)), (inl (y, inl (refl, refl)), (inr (inl (0, inl (refl, refl))), tt)));
 }

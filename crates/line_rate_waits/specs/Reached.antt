@@ -4,8 +4,14 @@ use Rattle.rotating_pick.specs.declared.kinds.Kind.TheVariants.{Uni}
 use Rattle.slot_match.specs.declared.rows.Row.{Row}
 use Rattle.slot_match.specs.Rows.{Names, row_of}
 use Rattle.eslip_rounds.specs.Schedules.{DecidedSlot}
+use Rattle.fed_slots.specs.FedSlots.{Traffic, IsAtLineRate, AreFed}
 use Rattle.service_bound.specs.Windows.{InFirst, AreAtLineRate}
 use Rattle.service_bound.specs.Latest.{ComesLast}
+
+-- there are cells, at most one to each of the n inputs in a slot, for which these slots ask: in each slot each input asks
+-- for exactly the outputs for which cells wait
+abbrev pub AreFedAtLineRate : ℕ → List DecidedSlot → Type 0
+AreFedAtLineRate n slots = (traffic : Traffic) × IsAtLineRate n traffic × AreFed n traffic slots
 
 -- each of the n inputs asks for at most one output of the level as unicast
 abbrev pub AskAtMostOne : ℕ → ℕ → List Row → Type 0

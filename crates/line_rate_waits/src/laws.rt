@@ -5,7 +5,7 @@ ghost use Rattle.std.specs.Prelude.{◌≡◌, ℕ, ◌+◌, ◌*◌, ◌<◌, �
 ghost use Rattle.rotating_pick.specs.declared.limits.TheConstants.{MAX_PORTS};
 ghost use Rattle.eslip_rounds.specs.Schedules.{DecidedSlot};
 ghost use Rattle.service_bound.specs.Waits.{longest_service, longest_service_in_one_round};
-ghost use Rattle.line_rate_waits.specs.Reached.{ComesLastAtLineRate};
+ghost use Rattle.line_rate_waits.specs.Reached.{AreFedAtLineRate, ComesLastAtLineRate};
 ghost use Rattle.line_rate_waits.specs.ReachedByFirm.{ComesLastByFirmAtLineRate};
 
 /// With one round the bound at line rate is reached, for three ports or more: in slots at line rate, from all pointers at
@@ -28,4 +28,25 @@ pub fn more_rounds_are_reached_at_line_rate()
 pub fn firm_is_reached_at_line_rate()
     ensures { (n : ℕ) → 1 < n → n ≤ MAX_PORTS
         → (slots : List DecidedSlot) × ComesLastByFirmAtLineRate n 1 (n + 1) slots × (length (drop (n + 1) slots) ≡ n * n) }
+{}
+
+/// The bound of one round is reached by cells too: in slots as above to which cells come, at most one to each input in a slot,
+/// and in which each input asks for exactly the outputs for which cells wait.
+pub fn one_round_is_reached_by_cells()
+    ensures { (n : ℕ) → 2 < n → n ≤ MAX_PORTS
+        → (slots : List DecidedSlot) × AreFedAtLineRate n slots × ComesLastAtLineRate n 1 (n + 1) slots
+        × (length (drop (n + 1) slots) + 1 ≡ longest_service_in_one_round n) }
+{}
+
+/// So is that of two rounds or more.
+pub fn more_rounds_are_reached_by_cells()
+    ensures { (n rounds : ℕ) → 2 < n → n ≤ MAX_PORTS → 1 < rounds
+        → (slots : List DecidedSlot) × AreFedAtLineRate n slots × ComesLastAtLineRate n rounds (n + 1) slots
+        × (length (drop (n + 1) slots) + 1 ≡ longest_service n) }
+{}
+
+/// And so is that of the second scheduler with one round, for two ports or more.
+pub fn firm_is_reached_by_cells()
+    ensures { (n : ℕ) → 1 < n → n ≤ MAX_PORTS
+        → (slots : List DecidedSlot) × AreFedAtLineRate n slots × ComesLastByFirmAtLineRate n 1 (n + 1) slots × (length (drop (n + 1) slots) ≡ n * n) }
 {}
