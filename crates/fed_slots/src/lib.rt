@@ -1,5 +1,5 @@
-//! Slots of a switch to which cells come, as many as its queues ask room for: definitions, and laws as the contracts of
-//! functions that do nothing.
+//! Slots of a switch whose inputs ask exactly for the outputs for which cells wait: definitions, and laws as the contracts
+//! of functions that do nothing.
 #![tactic(auto)]
 
 pub mod laws;

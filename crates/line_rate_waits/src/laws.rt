@@ -8,44 +8,25 @@ ghost use Rattle.service_bound.specs.Waits.{longest_service, longest_service_in_
 ghost use Rattle.line_rate_waits.specs.Reached.{AreFedAtLineRate, ComesLastAtLineRate};
 ghost use Rattle.line_rate_waits.specs.ReachedByFirm.{ComesLastByFirmAtLineRate};
 
-/// With one round the bound at line rate is reached, for three ports or more: in slots at line rate, from all pointers at
-/// port 0 and no requests on, queue (0, 0) at level 0 is posted in every slot from slot `n + 1` on and served in the last
-/// of these alone, which are `2 * n * n - 3 * n + 1` slots.
-pub fn one_round_is_reached_at_line_rate()
-    ensures { (n : ℕ) → 2 < n → n ≤ MAX_PORTS
-        → (slots : List DecidedSlot) × ComesLastAtLineRate n 1 (n + 1) slots × (length (drop (n + 1) slots) + 1 ≡ longest_service_in_one_round n) }
-{}
-
-/// With two rounds or more it is reached too, by `n * (n * n - n + 2) / 2 - 1` slots.
-pub fn more_rounds_are_reached_at_line_rate()
-    ensures { (n rounds : ℕ) → 2 < n → n ≤ MAX_PORTS → 1 < rounds
-        → (slots : List DecidedSlot) × ComesLastAtLineRate n rounds (n + 1) slots × (length (drop (n + 1) slots) + 1 ≡ longest_service n) }
-{}
-
-/// Under the second scheduler, in the manner of FIRM, line rate costs nothing where each slot has one round: for two ports
-/// or more, in slots at line rate, from all pointers at port 0 and no requests on, queue (0, 0) at level 0 is posted in
-/// every slot from slot `n + 1` on and served in the last of these alone, which are `n * n` slots.
-pub fn firm_is_reached_at_line_rate()
-    ensures { (n : ℕ) → 1 < n → n ≤ MAX_PORTS
-        → (slots : List DecidedSlot) × ComesLastByFirmAtLineRate n 1 (n + 1) slots × (length (drop (n + 1) slots) ≡ n * n) }
-{}
-
-/// The bound of one round is reached by cells too: in slots as above to which cells come, at most one to each input in a slot,
-/// and in which each input asks for exactly the outputs for which cells wait.
+/// With one round the bound at line rate is reached, for three ports or more: from all pointers at port 0 and no requests on
+/// there are slots to which cells come, at most one to each input in a slot, and in which each input asks for exactly the
+/// outputs for which cells wait. In them queue (0, 0) at level 0 is posted in every slot from slot `n + 1` on and served in
+/// the last of these alone, which are `2 * n * n - 3 * n + 1` slots.
 pub fn one_round_is_reached_by_cells()
     ensures { (n : ℕ) → 2 < n → n ≤ MAX_PORTS
         → (slots : List DecidedSlot) × AreFedAtLineRate n slots × ComesLastAtLineRate n 1 (n + 1) slots
         × (length (drop (n + 1) slots) + 1 ≡ longest_service_in_one_round n) }
 {}
 
-/// So is that of two rounds or more.
+/// With two rounds or more it is reached too, by `n * (n * n - n + 2) / 2 - 1` slots.
 pub fn more_rounds_are_reached_by_cells()
     ensures { (n rounds : ℕ) → 2 < n → n ≤ MAX_PORTS → 1 < rounds
         → (slots : List DecidedSlot) × AreFedAtLineRate n slots × ComesLastAtLineRate n rounds (n + 1) slots
         × (length (drop (n + 1) slots) + 1 ≡ longest_service n) }
 {}
 
-/// And so is that of the second scheduler with one round, for two ports or more.
+/// Under the second scheduler, in the manner of FIRM, line rate costs nothing where each slot has one round: for two ports
+/// or more such slots are `n * n`.
 pub fn firm_is_reached_by_cells()
     ensures { (n : ℕ) → 1 < n → n ≤ MAX_PORTS
         → (slots : List DecidedSlot) × AreFedAtLineRate n slots × ComesLastByFirmAtLineRate n 1 (n + 1) slots × (length (drop (n + 1) slots) ≡ n * n) }
