@@ -28,6 +28,9 @@ def _on_slots(job, port, found):
     base = first_time(found, MOST_PACKETS)
     times = [packet.time for packet in found[port]]
     fits = _that_fits(job, _times_and_room(found, base, limit))
+    count = _count_that_fit(found[port], base, limit, job.slot)
+    if count:
+        fits += f"; to keep its first packets that fit: {converted(f'editcap -F pcap -r IN OUT 1-{count}', name)}"
     if min(times) > base and job.slot.at(max(times) - min(times)) + sum(cells) <= limit:
         fix = f"editcap -F pcap -t -{short((min(times) - base) / SECOND, 6).replace(',', '')} IN OUT"
         fits += f"; to begin it with the first packet of all: {converted(fix, name)}"
@@ -83,7 +86,12 @@ def _first_that_fit(name, most, limit, slot):
             records = list(_whole_records(file.read(most)))
     except (OSError, BadCapture):
         return None
-    ends = (it.first + it.cells for it in on_line(records, first_time([records[:1]]), slot))
+    return _count_that_fit(records, first_time([records[:1]]), limit, slot)
+
+
+def _count_that_fit(packets, base, limit, slot):
+    """How many packets of a port from the first on have no more arrival slots than the limit."""
+    ends = (it.first + it.cells for it in on_line(packets, base, slot))
     return sum(1 for _ in takewhile(lambda end: end <= limit, ends))
 
 

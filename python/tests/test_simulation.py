@@ -191,7 +191,10 @@ def test_example(monkeypatch):
     """The example of docs/SIMULATE.md holds together, and runs where there is a program."""
     block = re.search(r"## In Python\n.*?```python\n(.*?)```", (TOP / "docs/SIMULATE.md").read_text(), re.S)[1]
     compile(block, "docs/SIMULATE.md", "exec")
-    program = os.environ.get("SIMULATE") or TOP / "crates/simulate/out/simulate"
+    monkeypatch.syspath_prepend(TOP)
+    from launcher import builds, there
+
+    program = there.program(TOP, builds.SIMULATION)
     if not os.access(program, os.X_OK):
         pytest.skip("there is no program simulate")
     pytest.importorskip("pandas")

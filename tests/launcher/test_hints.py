@@ -18,6 +18,7 @@ RUN = ["run", "table.txt", "out", "a.pcap", "b.pcap"]
 ORDER = "tiny_tera run [options] TABLE PREFIX INPUT.."
 TOO_LONG = "a port may have at most 131,072 arrival slots, and b.pcap lasts longer than so many slots of"
 AFTER = "after the first packet of all captures"
+FIRST = "; to keep its first packets that fit: editcap -F pcap -r b.pcap b.classic.pcap 1-1"
 
 # The words, and the hint.
 USAGE = [
@@ -253,7 +254,7 @@ class Hints(Scene):
         self.check(RUN, 4, "too many slots: port 0 has 131152", hint, files)
         # The last of two packets of two cells comes after 400,000 microseconds: in slot 130,718 at most at a pace of 4.
         files = {**GOOD, "b.pcap": capture(frame(), frame(), times=[0, 400_000])}
-        hint = f"{TOO_LONG} 2 us, to 0.4 s {AFTER}: at --pace-us 4 the packets fit"
+        hint = f"{TOO_LONG} 2 us, to 0.4 s {AFTER}: at --pace-us 4 the packets fit{FIRST}"
         words = ["run", "--pace-us", "2", "table.txt", "out", "a.pcap", "b.pcap"]
         self.check(words, 4, "too many slots: port 1 has 200002", hint, files)
 
@@ -267,11 +268,11 @@ class Hints(Scene):
         ):
             files = {**GOOD, "b.pcap": capture(frame(), frame(), times=[0, apart])}
             words = ["run", "--line-rate", str(rate), "table.txt", "out", "a.pcap", "b.pcap"]
-            self.check(words, 4, f"too many slots: port 1 has {slots}", f"{TOO_LONG} {told}", files)
+            self.check(words, 4, f"too many slots: port 1 has {slots}", f"{TOO_LONG} {told}{FIRST}", files)
         self.files(table_txt="* 0\n", b_pcap=capture(frame(), frame(), times=[0, 5_000]), a_pcap=capture())
         said = "too many slots: port 1 has 154962"
         told = self.launch("run", "--ethernet", "10000", "table.txt", "out", "a.pcap", "b.pcap", SAID=said, STATUS="4").stderr.splitlines()
-        self.assertEqual(told[1:], [said, f"hint: {TOO_LONG} 32.266 ns, to 0.005 s {AFTER}: at --line-rate 13421 the packets fit"])
+        self.assertEqual(told[1:], [said, f"hint: {TOO_LONG} 32.266 ns, to 0.005 s {AFTER}: at --line-rate 13421 the packets fit{FIRST}"])
 
     def test_captures_of_different_days(self):
         """A capture that fits alone is to be moved in time; the name of what is made of it is new."""
@@ -291,7 +292,7 @@ class Hints(Scene):
         told = self.launch("run", "table.txt", "out", *["a.pcap"] * 10, SAID="too many slots: port 7 has 131152", STATUS="4").stderr
         self.assertTrue(told.endswith("; to keep the first that fit: editcap -F pcap -r a.pcap a.classic.pcap 1-111\n"), told)
         files = {**GOOD, "b.pcap": capture(frame(), frame(), times=[0, 400_000]), "a.pcap": capture()}
-        hint = f"{TOO_LONG} 2 us, to 0.4 s {AFTER}: at --pace-us 4 the packets fit"
+        hint = f"{TOO_LONG} 2 us, to 0.4 s {AFTER}: at --pace-us 4 the packets fit{FIRST}"
         words = ["run", "--pace-us", "2", "table.txt", "out", "a.pcap", "b.pcap"]
         self.check(words, 4, "too many slots: port 1 has 200002", hint, files)
 

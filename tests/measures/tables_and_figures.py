@@ -244,7 +244,9 @@ class Figures(unittest.TestCase):
 
     def test_names_are_plain_text(self):
         """A title has the letters of a name, also those that mark formulas, and of a name that is no text what there is."""
-        for folder, stem, shown in (("x$y", "$\\foo$", "x$y/$\\foo$"), ("mine", b"\xff", "mine/\N{REPLACEMENT CHARACTER}")):
+        for folder, stem, shown in (
+            ("mine", "$\\foo$", "mine/$\\foo$"), ("x$y", "o$", "x$y/o$"), ("mine", b"\xff", "mine/\N{REPLACEMENT CHARACTER}"),
+        ):
             with self.subTest(stem), tempfile.TemporaryDirectory() as name:
                 room = Path(name, folder)
                 room.mkdir()
@@ -255,6 +257,7 @@ class Figures(unittest.TestCase):
                 drawn = report_file.with_suffix(".queues.svg").read_text()
                 comments = re.findall("<!-- (.*?) -->", drawn)  # Of each text as it was given.
                 self.assertIn(f"{shown}: 3 ports, 2 rounds", comments)
+                self.assertNotIn("Oblique", drawn)  # Which is the type of formulas.
                 self.assertIn(f"{shown}.report", "".join(drawn.split("<metadata>")[1].split("</metadata>")[0].split("\n")))
 
     def test_queues_without_packets(self):

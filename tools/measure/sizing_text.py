@@ -8,6 +8,7 @@ from launcher.slot_lengths import CELL_BYTES, short
 
 from .bounds import Bounds, bounds_of, may_grow, promise_of
 from .sizing import Offered, Run
+from .words import counted
 
 
 class Switch(NamedTuple):
@@ -24,11 +25,6 @@ class Switch(NamedTuple):
     def premise(self, what: str) -> str:
         """For which runs the bounds are."""
         return f"This holds of {what}, under each scheduler, with --rounds {self.ports} or more."
-
-
-def counted(number: int, what: str) -> str:
-    """A number of something."""
-    return f"{number:,} {what}" if number == 1 else f"{number:,} {what}s"
 
 
 def cells_text(cells: int) -> str:

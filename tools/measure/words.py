@@ -67,6 +67,11 @@ def share(word):
     return number
 
 
+def counted(number, what):
+    """A number of something."""
+    return f"{number:,} {what}" if number == 1 else f"{number:,} {what}s"
+
+
 def decimal(number):
     """A number of at most six digits beyond leading zeros, as text without an exponent: names of files have it."""
     return format(Decimal(f"{number:g}"), "f")

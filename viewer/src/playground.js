@@ -176,6 +176,7 @@
                 const made = await this.work(model.replay(edits), "Deciding the slots of the link");
                 this.matches = [];
                 this.replace(made === null ? model : made, made === null ? "Stopped." : "This is what the link holds.");
+                viewer.showScript(model);
             } catch (fault) {
                 this.refuse(fault, "Nothing is shown of the link");
             }

@@ -149,6 +149,14 @@
         viewer.watchTheme(by("theme"), () => {});
     }
 
+    /** Shows the text of a link, if requests come from one. */
+    function showScript(model) {
+        if (model.script.lines.length > 0) {
+            by("script").value = viewer.scriptAgain(model);
+            by("again-from").value = model.script.again === null ? "" : model.script.again;
+        }
+    }
+
     /** Shows the settings in their fields. */
     function showFields(page) {
         const { model, isNext } = page;
@@ -173,5 +181,5 @@
         by("show-next").setAttribute("aria-pressed", isNext);
     }
 
-    Object.assign(viewer, { within, chosenPattern, watchPlayground, showFields });
+    Object.assign(viewer, { within, chosenPattern, watchPlayground, showFields, showScript });
 })(globalThis.SlotViewer = globalThis.SlotViewer || {});

@@ -119,34 +119,38 @@
         read.matches.push(match);
     }
 
-    /** What an input asks, as a word, or none. */
-    function requestWord(model, cells, input) {
-        const outputs = d3.range(model.ports).filter((output) => cells[model.place(input, output)] > 0);
-        return outputs.length === 0 ? [] : [`${input}>${outputs.join(",")}:0u`];
+    /** The words of the requests of a slot; `isAsked` is called for each input and output, one after the other. */
+    function requestWords(ports, isAsked) {
+        return d3.range(ports).flatMap((input) => {
+            const outputs = d3.range(ports).filter((output) => isAsked(input, output));
+            return outputs.length === 0 ? [] : [`${input}>${outputs.join(",")}:0u`];
+        });
+    }
+
+    /** The text of slots, of which each is a list of words. */
+    function textOf({ ports, rounds }, slots) {
+        const lines = slots.map((words, slot) => ["slot", slot, "requests", ...words].join(" "));
+        return [`journal ports ${ports} rounds ${rounds}`, ...lines].map((line) => `${line}\n`).join("");
     }
 
     /** The slots so far as text, with their matches. */
     function writeScript(model) {
-        const { ports, rounds, history } = model;
-        const lines = history.map(({ slot, cells, inputs }) => {
-            const asked = d3.range(ports).flatMap((input) => requestWord(model, cells, input));
+        return textOf(model, model.history.map(({ cells, inputs }) => {
+            const asked = requestWords(model.ports, (input, output) => cells[model.place(input, output)] > 0);
             const matched = viewer.pairsOfInputs(inputs).map(({ input, output }) => `${input}>${output}:0u`);
-            return ["slot", slot, "requests", ...asked, "matches", ...matched].join(" ");
-        });
-        return [`journal ports ${ports} rounds ${rounds}`, ...lines].map((line) => `${line}\n`).join("");
+            return [...asked, "matches", ...matched];
+        }));
     }
 
     /** The text of so many slots of random requests, each queue with the share. */
-    function randomScript({ ports, rounds }, slots, { seed, share }) {
+    function randomScript(model, slots, { seed, share }) {
         const next = viewer.randomNumbers(seed);
-        const lines = d3.range(slots).map((slot) => {
-            const asked = d3.range(ports).flatMap((input) => {
-                const outputs = d3.range(ports).filter(() => next() < share / 100);
-                return outputs.length === 0 ? [] : [`${input}>${outputs.join(",")}:0u`];
-            });
-            return ["slot", slot, "requests", ...asked].join(" ");
-        });
-        return [`journal ports ${ports} rounds ${rounds}`, ...lines].map((line) => `${line}\n`).join("");
+        return textOf(model, d3.range(slots).map(() => requestWords(model.ports, () => next() < share / 100)));
+    }
+
+    /** The text from which requests come, written anew. */
+    function scriptAgain(model) {
+        return textOf(model, model.script.lines.map((asked) => requestWords(model.ports, (input, output) => asked.includes(model.place(input, output)))));
     }
 
     /** The first slot whose match is another than that of the text, or -1. */
@@ -157,5 +161,5 @@
         });
     }
 
-    Object.assign(viewer, { readScript, writeScript, randomScript, firstUnlike });
+    Object.assign(viewer, { readScript, writeScript, randomScript, scriptAgain, firstUnlike });
 })(globalThis.SlotViewer = globalThis.SlotViewer || {});

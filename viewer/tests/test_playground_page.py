@@ -205,6 +205,10 @@ def test_starving_link(viewer):
         expect(len(found) == 26, f"{len(found)} slots")
         same = [slot for slot in range(26) if found[slot] == slots[slot][1]]
         expect(same == list(range(26)) if rule == "rrm" else same[:4] == [0, 1, 2, 3], f"{rule}: {same}")
+    text = ["journal ports 3 rounds 1", *(f"slot {slot} requests {words}" for slot, words in enumerate(
+        ("0>0:0u", "0>0:0u 1>0:0u", "0>0,2:0u 1>0:0u", "0>0,1:0u 1>0:0u")))]
+    shown = page.run("return ['script', 'again-from'].map((id) => document.getElementById(id).value)")
+    expect(shown == ["\n".join(text) + "\n", "2"], f"the text of the link: {shown}")
     served = page.run("return SlotViewer.playground.model.history.filter(({ slot, inputs }) => slot > 0 && inputs[0] === 0).length")
     expect(served > 5, f"under iSLIP output 0 feeds from input 0 {served} times")
 
