@@ -80,24 +80,35 @@ def delays_figure(title, counts):
     return _shares(figure, axes)
 
 
-def distribution_figure(title, runs):
-    """For each simulation the share of cells with at least each delay, with both axes logarithmic."""
+def distribution_figure(runs):
+    """For each simulation the share of cells with at least each delay, with both axes logarithmic. The title has what is the
+    same in all."""
+    said = [_said(run.words) for run in runs]
+    common = [parts[0] for parts in zip(*said) if len(set(parts)) == 1]
+    title = ", ".join(part for part in common if part)
     figure, axes = _one(title, "delay of a cell (slots)", "share of cells with at least this delay")
-    for number, run in enumerate(runs):
+    for number, (run, parts) in enumerate(zip(runs, said)):
         delays, shares, left = [], [], run.departed
         for delay, cells in run.count_rows:
             delays.append(delay)
             shares.append(left / run.departed)
             left -= cells
-        words = run.words
-        rounds = "" if words.scheduler in WITHOUT_ROUNDS else f" {words.rounds}"
-        label = f"{words.scheduler}{rounds}, {words.pattern}, load {float(words.load):g}, burst {words.burst}, {words.ports} ports"
+        label = ", ".join(part for part in parts if part and part not in common) or parts[0]
         axes.step(delays, shares, where="pre", color=COLOURS[number % len(COLOURS)], label=label)
     _plain_log(axes)
     axes.set_xscale("log")
     axes.xaxis.set_major_formatter(PLAIN)
     axes.legend(fontsize=8)
     return figure
+
+
+def _said(words):
+    """What is said of a simulation by its words, in parts, of which one may be empty."""
+    weight = f" {float(words.weight):g}" if words.weight else ""
+    return (
+        _line_name(words.scheduler, words.rounds), f"{words.pattern}{weight} traffic", f"bursts of {words.burst}" if words.burst > 1 else "",
+        f"load {float(words.load):g}", "1 port" if words.ports == 1 else f"{words.ports} ports", f"{words.slots:,} slots", f"seed {words.seed}",
+    )
 
 
 def _shares(figure, axes):
@@ -245,19 +256,17 @@ def save_sweep(points, told, folder):
         save(throughput_figure(part, "weight", f"unbalanced traffic, load 1, {ports} ports"), folder, name, told)
 
 
-def _line_name(scheduler, rounds, schedulers):
+def _line_name(scheduler, rounds):
     if scheduler in WITHOUT_ROUNDS:
         return "output-queued (ideal)" if scheduler == "ideal" else scheduler
-    name = "1 round" if rounds == 1 else f"{rounds} rounds"
-    return name if set(schedulers) <= {"islip", *WITHOUT_ROUNDS} else f"{scheduler}, {name}"
+    return f"{scheduler}, 1 round" if rounds == 1 else f"{scheduler}, {rounds} rounds"
 
 
 def _lines(points, across):
     """For each scheduler and number of rounds, and each weight but on its axis, its style and its points, in rising order."""
-    schedulers = sorted(points["scheduler"].unique())
     apart = ["scheduler", "rounds", *(name for name in ("burst", "weight") if name != across and points[name].nunique() > 1)]
     for number, (words, part) in enumerate(points.groupby(apart)):
-        name = _line_name(words[0], words[1], schedulers)
+        name = _line_name(words[0], words[1])
         name += "".join(f", {word} {value:g}" for word, value in zip(apart[2:], words[2:]))
         # Where the colours begin again, each has another marker.
         marker = MARKERS[(number + number // len(COLOURS)) % len(MARKERS)]
