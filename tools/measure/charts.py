@@ -15,7 +15,7 @@ from matplotlib.ticker import MaxNLocator, StrMethodFormatter  # noqa: E402
 FORMATS = ("png", "svg")
 DOTS_PER_INCH = 120
 LETTERS_OF_AN_INCH = 20  # In the lines under a figure.
-COLOURS = ("#0072b2", "#d55e00", "#009e73", "#cc79a7", "#56b4e9", "#e69f00")
+COLOURS = ("#0072b2", "#d55e00", "#009e73", "#cc79a7", "#56b4e9", "#e69f00", "#8c510a", "#7f7f7f")
 MARKERS = ("o", "s", "^", "D", "v", "P")
 PLAIN = StrMethodFormatter("{x:g}")  # As 0.01, and not as a power of ten.
 KINDS = ("uniform", "bursty", "diagonal", "log-diagonal", "hot-spot", "unbalanced", "trace")  # The order of the parts.
@@ -265,7 +265,9 @@ def _line_name(scheduler, rounds):
 def _lines(points, across):
     """For each scheduler and number of rounds, and each weight but on its axis, its style and its points, in rising order."""
     apart = ["scheduler", "rounds", *(name for name in ("burst", "weight") if name != across and points[name].nunique() > 1)]
-    for number, (words, part) in enumerate(points.groupby(apart)):
+    number = -1
+    for words, part in points.groupby(apart):
+        number += words[0] != "ideal"  # It has a colour of its own.
         name = _line_name(words[0], words[1])
         name += "".join(f", {word} {value:g}" for word, value in zip(apart[2:], words[2:]))
         # Where the colours begin again, each has another marker.
