@@ -330,5 +330,5 @@ def throughput_figure(points, across, title):
         axes.set_xscale("log", base=2)
         ports = sorted(points["ports"].unique())
         axes.set_xticks(ports, labels=[str(number) for number in ports])
-    axes.legend(loc="lower left")
+    axes.legend(fontsize=8)
     return figure
