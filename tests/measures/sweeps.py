@@ -44,6 +44,8 @@ BAD_WORDS = [
     (["--slots", "2"], "'2' is not a whole number from 3 to 4000000000"),
     (["--loads", "0.0000001"], "--loads: 0.0000001 has more than 6 places"),
     (["--kinds", "unbalanced", "--weights", "0.0000001"], "--weights: 0.0000001 has more than 6 places"),
+    (["--kinds", "unbalanced", "--weights", "0", "1.1"], "argument --weights: '1.1' is not a number from 0 to 1"),
+    (["--kinds", "hot-spot", "--hot", "none"], "argument --hot: 'none' is not a number from 0 to 1"),
     (["--journals"], "--reports and --journals go with --kinds trace"),
     (["--kinds", "trace"], "--kinds trace and --trace go together"),
     (["--kinds", "trace", "--trace", "/none"], "--trace: [Errno 2] No such file or directory: '/none'"),

@@ -35,6 +35,9 @@ class Words(unittest.TestCase):
         self.assertEqual((words.share("1"), words.share("0.05")), (1.0, 0.05))
         for wrong in ("0", "1.5", "-0.5", "nan", "x"):
             self.assertRaises(argparse.ArgumentTypeError, words.share, wrong)
+        self.assertEqual((words.weight("0"), words.weight("1")), (0.0, 1.0))
+        for wrong in ("1.5", "-0.5", "nan", "x"):
+            self.assertRaises(argparse.ArgumentTypeError, words.weight, wrong)
 
     def test_words_of_a_run(self):
         """A result has them; any other file may be the user's own."""
@@ -220,8 +223,16 @@ class Figures(unittest.TestCase):
         with tempfile.TemporaryDirectory() as name:
             self.check_drawn(["distribution"], Path(name), ["--simulated", *texts])
             drawn = Path(name, "figures/distribution.svg").read_text()
-            for label in ("islip 4, uniform, load 0.9, burst 1, 4 ports", "fifo, uniform, load 0.9"):
-                self.assertIn(label, drawn)
+            for told in (
+                "4 ports", "islip, 4 rounds, uniform traffic, load 0.9, 400 slots, seed 7", "output-queued (ideal), hot-spot 1 traffic, load 1, 6,000 slots",
+                "tiny_tera simulate --scheduler islip --rounds 4 --load 0.9 --histogram 7 400 4", "tools/plot --simulated with 3 texts",
+                "tiny_tera simulate --scheduler ideal --pattern hot-spot --weight 1 --load 1 --depth 1048576 --warm-up 5900 --histogram 5 6000 4",
+            ):
+                self.assertIn(told, drawn)
+            self.check_drawn(["distribution"], Path(name), ["--simulated", texts[0]])
+            drawn = Path(name, "figures/distribution.svg").read_text()
+            for told in ("islip, 4 rounds, uniform traffic, load 0.9, 4 ports, 400 slots, seed 7", "tools/plot --simulated expected/stdout"):
+                self.assertIn(told, drawn)
             without = TOP / "tests/simulations/ports_64/expected/stdout"
             told = f"tools/plot: {without}: it has no lines `count`: simulate with --histogram\n"
             self.assertEqual(run(TOOLS / "plot", "--simulated", without), (1, told))

@@ -15,7 +15,7 @@ from matplotlib.ticker import MaxNLocator, StrMethodFormatter  # noqa: E402
 FORMATS = ("png", "svg")
 DOTS_PER_INCH = 120
 LETTERS_OF_AN_INCH = 20  # In the lines under a figure.
-COLOURS = ("#0072b2", "#d55e00", "#009e73", "#cc79a7", "#56b4e9", "#e69f00")
+COLOURS = ("#0072b2", "#d55e00", "#009e73", "#cc79a7", "#56b4e9", "#e69f00", "#8c510a", "#7f7f7f")
 MARKERS = ("o", "s", "^", "D", "v", "P")
 PLAIN = StrMethodFormatter("{x:g}")  # As 0.01, and not as a power of ten.
 KINDS = ("uniform", "bursty", "diagonal", "log-diagonal", "hot-spot", "unbalanced", "trace")  # The order of the parts.
@@ -80,24 +80,35 @@ def delays_figure(title, counts):
     return _shares(figure, axes)
 
 
-def distribution_figure(title, runs):
-    """For each simulation the share of cells with at least each delay, with both axes logarithmic."""
+def distribution_figure(runs):
+    """For each simulation the share of cells with at least each delay, with both axes logarithmic. The title has what is the
+    same in all."""
+    said = [_said(run.words) for run in runs]
+    common = [parts[0] for parts in zip(*said) if len(set(parts)) == 1]
+    title = ", ".join(part for part in common if part)
     figure, axes = _one(title, "delay of a cell (slots)", "share of cells with at least this delay")
-    for number, run in enumerate(runs):
+    for number, (run, parts) in enumerate(zip(runs, said)):
         delays, shares, left = [], [], run.departed
         for delay, cells in run.count_rows:
             delays.append(delay)
             shares.append(left / run.departed)
             left -= cells
-        words = run.words
-        rounds = "" if words.scheduler in WITHOUT_ROUNDS else f" {words.rounds}"
-        label = f"{words.scheduler}{rounds}, {words.pattern}, load {float(words.load):g}, burst {words.burst}, {words.ports} ports"
+        label = ", ".join(part for part in parts if part and part not in common) or parts[0]
         axes.step(delays, shares, where="pre", color=COLOURS[number % len(COLOURS)], label=label)
     _plain_log(axes)
     axes.set_xscale("log")
     axes.xaxis.set_major_formatter(PLAIN)
     axes.legend(fontsize=8)
     return figure
+
+
+def _said(words):
+    """What is said of a simulation by its words, in parts, of which one may be empty."""
+    weight = f" {float(words.weight):g}" if words.weight else ""
+    return (
+        _line_name(words.scheduler, words.rounds), f"{words.pattern}{weight} traffic", f"bursts of {words.burst}" if words.burst > 1 else "",
+        f"load {float(words.load):g}", "1 port" if words.ports == 1 else f"{words.ports} ports", f"{words.slots:,} slots", f"seed {words.seed}",
+    )
 
 
 def _shares(figure, axes):
@@ -245,19 +256,19 @@ def save_sweep(points, told, folder):
         save(throughput_figure(part, "weight", f"unbalanced traffic, load 1, {ports} ports"), folder, name, told)
 
 
-def _line_name(scheduler, rounds, schedulers):
+def _line_name(scheduler, rounds):
     if scheduler in WITHOUT_ROUNDS:
         return "output-queued (ideal)" if scheduler == "ideal" else scheduler
-    name = "1 round" if rounds == 1 else f"{rounds} rounds"
-    return name if set(schedulers) <= {"islip", *WITHOUT_ROUNDS} else f"{scheduler}, {name}"
+    return f"{scheduler}, 1 round" if rounds == 1 else f"{scheduler}, {rounds} rounds"
 
 
 def _lines(points, across):
     """For each scheduler and number of rounds, and each weight but on its axis, its style and its points, in rising order."""
-    schedulers = sorted(points["scheduler"].unique())
     apart = ["scheduler", "rounds", *(name for name in ("burst", "weight") if name != across and points[name].nunique() > 1)]
-    for number, (words, part) in enumerate(points.groupby(apart)):
-        name = _line_name(words[0], words[1], schedulers)
+    number = -1
+    for words, part in points.groupby(apart):
+        number += words[0] != "ideal"  # It has a colour of its own.
+        name = _line_name(words[0], words[1])
         name += "".join(f", {word} {value:g}" for word, value in zip(apart[2:], words[2:]))
         # Where the colours begin again, each has another marker.
         marker = MARKERS[(number + number // len(COLOURS)) % len(MARKERS)]
@@ -319,5 +330,5 @@ def throughput_figure(points, across, title):
         axes.set_xscale("log", base=2)
         ports = sorted(points["ports"].unique())
         axes.set_xticks(ports, labels=[str(number) for number in ports])
-    axes.legend(loc="lower left")
+    axes.legend(fontsize=8)
     return figure

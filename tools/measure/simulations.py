@@ -7,6 +7,8 @@ from itertools import product
 
 from tiny_tera.simulated import NoneLeft, interval_of, read_simulation
 
+from .words import decimal
+
 BURSTY = "bursty"  # Uniform traffic in bursts; in all other kinds each cell is a burst.
 KINDS = ("uniform", BURSTY, "diagonal", "log-diagonal", "hot-spot", "unbalanced")
 WEIGHED = ("hot-spot", "unbalanced")
@@ -39,6 +41,19 @@ def words(found):
     if found.kind in WEIGHED:
         options["weight-ppm"] = millionths(found.weight)
     return " ".join(f"--{name} {value}" for name, value in options.items())
+
+
+def command_of(words):
+    """The command that prints the text of a simulation of these words, with the delays."""
+    options = [("scheduler", words.scheduler)]
+    options += [] if words.scheduler in WITHOUT_ROUNDS else [("rounds", words.rounds)]
+    options += [("pattern", words.pattern)] if words.pattern != "uniform" else []
+    options += [("weight", decimal(float(words.weight)))] if words.pattern in WEIGHED else []
+    options += [("load", decimal(float(words.load)))]
+    usual = {"burst": 1, "depth": 4_096, "warm_up": words.slots // 10, "batches": 10}
+    options += [(name.replace("_", "-"), getattr(words, name)) for name, value in usual.items() if getattr(words, name) != value]
+    told = " ".join(f"--{name} {value}" for name, value in options)
+    return f"tiny_tera simulate {told} --histogram {words.seed} {words.slots} {words.ports}"
 
 
 def millionths(text):

@@ -5,6 +5,7 @@ A word that is refused is told with what it may be.
 
 import argparse
 import json
+import math
 import shlex
 from decimal import Decimal
 from pathlib import Path
@@ -58,13 +59,26 @@ def whole(low, high):
 
 def share(word):
     """A number over 0 and at most 1, as a load."""
-    try:
-        number = float(word)
-    except ValueError:
-        number = 0.0
+    number = _number(word)
     if not 0 < number <= 1:
         raise argparse.ArgumentTypeError(f"{word!r} is not a number over 0 and at most 1")
     return number
+
+
+def weight(word):
+    """A number from 0 to 1, as the share of the cells that go to one output."""
+    number = _number(word)
+    if not 0 <= number <= 1:
+        raise argparse.ArgumentTypeError(f"{word!r} is not a number from 0 to 1")
+    return number
+
+
+def _number(word):
+    """The number that a word spells, NaN where it is none."""
+    try:
+        return float(word)
+    except ValueError:
+        return math.nan
 
 
 def counted(number, what):
