@@ -1,0 +1,12 @@
+pub mod Options
+pub mod Ids
+pub mod Forms
+pub mod Adding
+pub mod Walks
+pub mod Values
+pub mod Jobs
+pub mod Few
+pub mod Meanings
+pub mod Orders
+pub mod Refusals
+pub mod Dashes
