@@ -8,6 +8,7 @@ pub mod OneRoundFamily
 pub mod Openings
 pub mod FirmSlots
 pub mod FirmFamily
+pub mod SecondRounds
 pub mod ManySlots
 pub mod MoreShapes
 pub mod MoreFollowings
