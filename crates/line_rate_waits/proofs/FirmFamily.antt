@@ -27,7 +27,7 @@ use Rattle.line_rate_waits.proofs.Followings.{takes_ends, ends_ends, one_apart}
 use Rattle.line_rate_waits.proofs.OneRoundFamily.{downs, length-downs, starts_more, follows_downs}
 
 -- input x takes output 0, which input w begins to ask
-abbrev hands : ℕ → ℕ → Plan
+abbrev pub hands : ℕ → ℕ → Plan
 hands x w = record { asks = pair x 0 ∷ pair w 0 ∷ []; serves = pair x 0 ∷ [] }
 
 -- the input whose turn is first, of the k inputs from x on and input 0
@@ -85,7 +85,7 @@ ends_hands x w = record {
 }
 
 -- output 0 points at the input
-suits_hands : (n : ℕ) (places : Places) (x w : ℕ) → x < n → grant_of places 0 0 ≡ x → Suits n places (hands x w)
+pub suits_hands : (n : ℕ) (places : Places) (x w : ℕ) → x < n → grant_of places 0 0 ≡ x → Suits n places (hands x w)
 suits_hands n places x w x_in at = record {
   placed = ((x_in, omega arith, inr (inl (refl, refl))), tt);
   near = ((λ e. at_first n (grant_of places 0 0) x 0 x_in at, (λ e. omega arith, (λ e. at_first n (grant_of places 0 0) x w x_in at, tt))), tt);
@@ -179,17 +179,17 @@ module _ (n : ℕ) (two : 1 < n) where
 
 -- ---- the opening
 -- the k inputs from x on take output 0, then input 0 does, and then come the rest
-abbrev openings : ℕ → ℕ → List Plan → List Plan
+abbrev pub openings : ℕ → ℕ → List Plan → List Plan
 openings x zero rest = hands 0 1 ∷ rest
 openings x (suc k) rest = ends x ∷ openings (x + 1) k rest
 
 -- the opening is at line rate
-follows_openings : (x k : ℕ) (rest : List Plan) → Starts (Follows (ends x)) (openings (x + 1) k rest)
+pub follows_openings : (x k : ℕ) (rest : List Plan) → Starts (Follows (ends x)) (openings (x + 1) k rest)
 follows_openings x zero rest = ends_hands x 1
 follows_openings x (suc k) rest = ends_ends x
 
 -- each input asks for one output at most
-starts_openings : (x k : ℕ) (rest : List Plan) → Starts IsOneEach (openings x (suc k) rest)
+pub starts_openings : (x k : ℕ) (rest : List Plan) → Starts IsOneEach (openings x (suc k) rest)
 starts_openings x k rest = ((λ e. refl, (λ e. refl, tt)), ((λ e. refl, (λ e. refl, tt)), tt))
 
 -- Output 0 points at port x, and the inputs below x at port 1. A port n is port 0.

@@ -16,3 +16,9 @@ pub mod MoreRoundsFamily
 pub mod MoreLevels
 pub mod ThreePorts
 pub mod MoreOpenings
+pub mod FirmMoreSlots
+pub mod FirmMoreShapes
+pub mod FirmMoreFollowings
+pub mod FirmMoreFamily
+pub mod FirmMoreLast
+pub mod FirmMoreFew

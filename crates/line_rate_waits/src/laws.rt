@@ -29,3 +29,11 @@ pub fn firm_is_reached_at_line_rate()
     ensures { (n : ℕ) → 1 < n → n ≤ MAX_PORTS
         → (slots : List DecidedSlot) × ComesLastByFirmAtLineRate n 1 (n + 1) slots × (length (drop (n + 1) slots) ≡ n * n) }
 {}
+
+/// With two rounds or more line rate costs nothing either, from five ports on; with fewer ports one slot.
+pub fn firm_is_reached_in_more_rounds()
+    ensures square { (n rounds : ℕ) → 4 < n → n ≤ MAX_PORTS → 1 < rounds
+        → (slots : List DecidedSlot) × ComesLastByFirmAtLineRate n rounds (n + 1) slots × (length (drop (n + 1) slots) ≡ n * n) }
+    ensures one_less { (n rounds : ℕ) → 1 < n → n < 5 → 1 < rounds
+        → (slots : List DecidedSlot) × ComesLastByFirmAtLineRate n rounds (n + 1) slots × (length (drop (n + 1) slots) + 1 ≡ n * n) }
+{}
